@@ -14,7 +14,8 @@ module _ (m : Memory) (eui : Eui) (index now : ℕ) where
   pub not_allowed : None ≡ allowed_entry m eui → refused {H = Unit {0}} orders m NotAllowed ≡ activate m eui index now
   not_allowed e = rw (← e) refl
 
-  pub not_known : (entry : BookEntry) → Some entry ≡ allowed_entry m eui → None ≡ address_of m.book eui → refused {H = Unit {0}} orders m NotAllowed ≡ activate m eui index now
+  pub not_known : (entry : BookEntry) → Some entry ≡ allowed_entry m eui → None ≡ address_of m.book eui
+      → refused {H = Unit {0}} orders m NotAllowed ≡ activate m eui index now
   not_known entry e a = rw (← e, ← a) refl
 
   pub not_issued : (entry : BookEntry) (to : ℕ) → Some entry ≡ allowed_entry m eui → Some to ≡ address_of m.book eui → false ≡ was_issued m entry index

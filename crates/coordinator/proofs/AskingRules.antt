@@ -42,7 +42,8 @@ module _ (own : CoordinatorIdentity) (m : Memory) (way : Way) (eui : Eui) (now :
   unfolding checked
   no_random f v = rw (← f, ← v) refl
 
-  pub opens : (value : Rand) → false ≡ sessions_full m eui → Some value ≡ oldest m → challenges m way (server_for eui own.eui value) now ≡ open_session own m way eui now
+  pub opens : (value : Rand) → false ≡ sessions_full m eui → Some value ≡ oldest m
+      → challenges m way (server_for eui own.eui value) now ≡ open_session own m way eui now
   unfolding checked
   opens value f v = rw (← f, ← v) refl
 
@@ -57,7 +58,8 @@ module _ (own : CoordinatorIdentity) (m : Memory) (way : Way) (eui : Eui) (now :
 -- # Declined
 
 module _ (m : Memory) (way : Way) (eui : Eui) (now : ℕ) where
-  decline_plan : (tags : TagList) → tags ≡ no_tags → said_after m way (message eui body.Decline) now (done_by [] m tags) Declined ≡ declines m way (message eui body.Decline) now
+  decline_plan : (tags : TagList) → tags ≡ no_tags
+      → said_after m way (message eui body.Decline) now (done_by [] m tags) Declined ≡ declines m way (message eui body.Decline) now
   unfolding empty_draft
   decline_plan tags none = ap (λ (k : TagList). said_after m way (message eui body.Decline) now (done_by [] m k) Declined) none
 
@@ -66,11 +68,13 @@ module _ (m : Memory) (way : Way) (eui : Eui) (now : ℕ) where
   decline_lacks s reason h fault =
       lacks_plan m m [] no_tags (message eui body.Decline) now Declined refl h.home way reason fault ∙ decline_plan no_tags refl
 
-  pub declined : (s t : State Memory) (tags : TagList) (r : Result (Unit {0}) Dropped) (out : Out) → HoldsWith m s.store.records → s.memory ≡ Some m → tags ≡ no_tags
+  pub declined : (s t : State Memory) (tags : TagList) (r : Result (Unit {0}) Dropped) (out : Out) → HoldsWith m s.store.records → s.memory ≡ Some m
+      → tags ≡ no_tags
       → RoomToSay m way (message eui body.Decline) → IfSome s.memory (λ k. Carries s (saying k way (message eui body.Decline) tags now) r out t)
       → Carries s (declines m way (message eui body.Decline) now) (answered Declined r) out t
   declined s t tags r out h running none room c =
-      carried_by s t (said_after m way (message eui body.Decline) now (done_by [] m tags) Declined) (declines m way (message eui body.Decline) now) (answered Declined r) out (decline_plan tags none)
+      carried_by s t (said_after m way (message eui body.Decline) now (done_by [] m tags) Declined) (declines m way (message eui body.Decline) now)
+      (answered Declined r) out (decline_plan tags none)
       (said m m [] tags (message eui body.Decline) now Declined refl h.home way s s t r out room (wrote_none s.store) refl running c)
 
 -- # Challenged
@@ -85,28 +89,35 @@ module _ (m : Memory) (way : Way) (server : Server) (now : ℕ) where
   unfolding empty_draft with_memory_by
   challenge_plan join tags same none = λ i. said_after m way (same i) now (done_by [] Opened (none i)) Challenged
 
-  pub challenge_lacks : (s : State Memory) (join : JoinMessage) (reason : Dropped) → HoldsWith m s.store.records → join ≡ message server.eui (body.Challenge (first_packet server))
+  pub challenge_lacks : (s : State Memory) (join : JoinMessage) (reason : Dropped) → HoldsWith m s.store.records
+      → join ≡ message server.eui (body.Challenge (first_packet server))
       → say_fault m way join ≡ Some reason → refused {H = CoordinatorHeard} dropped m reason ≡ challenges m way server now
   challenge_lacks s join reason h same fault =
       lacks_plan m Opened [] no_tags join now Challenged refl h.home way reason fault ∙ challenge_plan join no_tags same refl
 
-  pub opened_room : (s mid : State Memory) (join : JoinMessage) → mid ≡ record s { memory = Some Opened } → RoomToSay m way join → IfSome mid.memory (λ k. RoomToSay k way join)
+  pub opened_room : (s mid : State Memory) (join : JoinMessage) → mid ≡ record s { memory = Some Opened } → RoomToSay m way join
+      → IfSome mid.memory (λ k. RoomToSay k way join)
   opened_room s mid join is room = room_held mid m Opened way join (ap (λ (x : State Memory). x.memory) is) refl room
 
   pub challenged : (s mid t : State Memory) (join : JoinMessage) (tags : TagList) (r : Result (Unit {0}) Dropped) (out : Out) → HoldsWith m s.store.records
       → join ≡ message server.eui (body.Challenge (first_packet server)) → tags ≡ no_tags → RoomToSay m way join → mid ≡ record s { memory = Some Opened }
       → IfSome mid.memory (λ k. Carries mid (saying k way join tags now) r out t) → Carries s (challenges m way server now) (answered Challenged r) out t
   challenged s mid t join tags r out h same none room is c =
-      carried_by s t (said_after m way join now (done_by [] Opened tags) Challenged) (challenges m way server now) (answered Challenged r) out (challenge_plan join tags same none)
-      (said m Opened [] tags join now Challenged refl h.home way s mid t r out room (subst (λ (k : Store). Wrote s.store [] true k) (sym (ap (λ (x : State Memory). x.store) is)) (wrote_none s.store))
+      carried_by s t (said_after m way join now (done_by [] Opened tags) Challenged) (challenges m way server now) (answered Challenged r) out
+      (challenge_plan join tags same none)
+      (said m Opened [] tags join now Challenged refl h.home way s mid t r out room
+      (subst (λ (k : Store). Wrote s.store [] true k) (sym (ap (λ (x : State Memory). x.store) is)) (wrote_none s.store))
       (ap (λ (x : State Memory). x.eui) is) (ap (λ (x : State Memory). x.memory) is) c)
 
   -- the same by the session as it was read again
-  pub opened_room_by : (x : CoordinatorSession) → record { server = server; way = way; since = now } ≡ x → (s mid : State Memory) (join : JoinMessage) → mid ≡ record s { memory = Some Opened } → RoomToSay m way join
+  pub opened_room_by : (x : CoordinatorSession) → record { server = server; way = way; since = now } ≡ x → (s mid : State Memory) (join : JoinMessage)
+      → mid ≡ record s { memory = Some Opened } → RoomToSay m way join
       → IfSome mid.memory (λ k. RoomToSay k x.way join)
-  opened_room_by x same s mid join is room = subst (λ (y : CoordinatorSession). IfSome mid.memory (λ k. RoomToSay k y.way join)) same (opened_room s mid join is room)
+  opened_room_by x same s mid join is room =
+      subst (λ (y : CoordinatorSession). IfSome mid.memory (λ k. RoomToSay k y.way join)) same (opened_room s mid join is room)
 
-  pub challenged_by : (x : CoordinatorSession) → record { server = server; way = way; since = now } ≡ x → (s mid t : State Memory) (join : JoinMessage) (tags : TagList) (r : Result (Unit {0}) Dropped) (out : Out) → HoldsWith m s.store.records
+  pub challenged_by : (x : CoordinatorSession) → record { server = server; way = way; since = now } ≡ x
+      → (s mid t : State Memory) (join : JoinMessage) (tags : TagList) (r : Result (Unit {0}) Dropped) (out : Out) → HoldsWith m s.store.records
       → join ≡ message server.eui (body.Challenge (first_packet server)) → tags ≡ no_tags → RoomToSay m way join → mid ≡ record s { memory = Some Opened }
       → IfSome mid.memory (λ k. Carries mid (saying k x.way join tags x.since) r out t) → Carries s (challenges m way server now) (answered Challenged r) out t
   challenged_by x same s mid t join tags r out h is none room began c =

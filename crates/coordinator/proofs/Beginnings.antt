@@ -64,15 +64,28 @@ module _ (m : Memory) (g : Granted) where
   planned : Bool → Plan Memory (Result (Unit {0}) RingFault)
   planned has = choose has (resting m (Ok tt) (Err rings.Store)) (within (λ l. with_station l m) (λ r. r) (install m.station g))
 
-  halted_by : (s : State Memory) (eui : Eui) (has : Bool) (reason : RingFault) (left : Store) (done : Bool) → s.eui ≡ eui → Wrote s.store (planned has).puts done left
+  halted_by : (s : State Memory) (eui : Eui) (has : Bool) (reason : RingFault) (left : Store) (done : Bool) → s.eui ≡ eui
+      → Wrote s.store (planned has).puts done left
       → Err reason ≡ (if done then (planned has).answer else (planned has).failed) → Carries s (planned has) (Err rings.Store) nothing (halted_state left eui)
   unfolding planned choose resting with_ring empty_draft
   halted_by s eui true reason left true own wrote is = absurd (cc)
   halted_by s eui false reason left true own wrote is = absurd (cc)
   halted_by s eui true reason left false own wrote is =
-      record { done = false; wrote = wrote; answer_is = refl; out_is = refl; new_is = λ i. record { store = left; eui = sym own i; memory = None; replied = None } }
+      record {
+        done = false;
+        wrote = wrote;
+        answer_is = refl;
+        out_is = refl;
+        new_is = λ i. record { store = left; eui = sym own i; memory = None; replied = None };
+      }
   halted_by s eui false reason left false own wrote is =
-      record { done = false; wrote = wrote; answer_is = refl; out_is = refl; new_is = λ i. record { store = left; eui = sym own i; memory = None; replied = None } }
+      record {
+        done = false;
+        wrote = wrote;
+        answer_is = refl;
+        out_is = refl;
+        new_is = λ i. record { store = left; eui = sym own i; memory = None; replied = None };
+      }
 
   -- nothing is left of it but its store, where it was refused
   halted_carries : (s : State Memory) (eui : Eui) (reason : RingFault) (new : State Memory) → s.eui ≡ eui → Carries s (begin m g) (Err reason) nothing new
@@ -80,7 +93,8 @@ module _ (m : Memory) (g : Granted) where
   unfolding planned
   halted_carries s eui reason new own h = halted_by s eui (is_some m.station.ring) reason new.store h.done own h.wrote h.answer_is
 
-  runs_by : (has done : Bool) (o : Option Memory) → Ok tt ≡ (if done then (planned has).answer else (planned has).failed) → o ≡ (if done then Some (planned has).memory else None) → IsSome o
+  runs_by : (has done : Bool) (o : Option Memory) → Ok tt ≡ (if done then (planned has).answer else (planned has).failed)
+      → o ≡ (if done then Some (planned has).memory else None) → IsSome o
   unfolding planned choose resting
   runs_by true false o is held = absurd (cc)
   runs_by false false o is held = absurd (cc)
@@ -105,50 +119,62 @@ module _ (s : State StationMemory) (l : StationMemory) (running : s.memory ≡ S
   module _ (key : Key) (before left : Store) (same : before ≡ s.store) (x : Granted) (first : x ≡ first_grant key) where
     put : (done : Bool) → Stores before (ring.ring_write (Some x)) done left → Stores s.store (ring.ring_write (Some (first_grant key))) done left
     put done stores =
-        subst (λ (k : Store). Stores k (ring.ring_write (Some (first_grant key))) done left) same (subst (λ (g : Granted). Stores before (ring.ring_write (Some g)) done left) first stores)
+        subst (λ (k : Store). Stores k (ring.ring_write (Some (first_grant key))) done left) same
+        (subst (λ (g : Granted). Stores before (ring.ring_write (Some g)) done left) first stores)
 
     kept_first : (r : ring.Ring) → r ≡ Some x → ring.IsKept r left.records → ring.IsKept (Some (first_grant key)) left.records
     kept_first r is kept = subst (λ (k : ring.Ring). ring.IsKept k left.records) (is ∙ ap (λ (g : Granted). Some g) first) kept
 
-    reads : (r : ring.Ring) → r ≡ Some x → ring.IsKept r left.records → OutsideStays 1 1 before left → station_of left.records ≡ Ok (record l { ring = Some (first_grant key) })
+    reads : (r : ring.Ring) → r ≡ Some x → ring.IsKept r left.records → OutsideStays 1 1 before left
+        → station_of left.records ≡ Ok (record l { ring = Some (first_grant key) })
     reads r is kept apart =
-        read_again s.store.records left.records (subst (λ (k : Store). OutsideStays 1 1 k left) same apart) l (Some (first_grant key)) read (kept_first r is kept)
+        read_again s.store.records left.records (subst (λ (k : Store). OutsideStays 1 1 k left) same apart) l (Some (first_grant key)) read
+        (kept_first r is kept)
 
-    pub store_reads : (r : ring.Ring) → r ≡ Some x → ring.IsKept r left.records → OutsideStays 1 1 before left → (o : Result (Unit {0}) BadStore) (bad : BadStore)
+    pub store_reads : (r : ring.Ring) → r ≡ Some x → ring.IsKept r left.records → OutsideStays 1 1 before left
+        → (o : Result (Unit {0}) BadStore) (bad : BadStore)
         → o ≡ stations.read_answer (station_of left.records) → o ≡ Err bad → ⊥
     store_reads r is kept apart o bad answer e = not_both o bad tt e (answer ∙ ap stations.read_answer (reads r is kept apart))
 
     module _ (randoms : List Rand) (sessions : List CoordinatorSession) (b : book.Book) (new : State StationMemory) (reply : Option Reply) where
       -- it was stored, and the store was read again
-      pub first_stored : is_some l.ring ≡ false → Stores before (ring.ring_write (Some x)) true left → (r : ring.Ring) → r ≡ Some x → ring.IsKept r left.records → OutsideStays 1 1 before left
+      pub first_stored : is_some l.ring ≡ false → Stores before (ring.ring_write (Some x)) true left → (r : ring.Ring) → r ≡ Some x → ring.IsKept r left.records
+          → OutsideStays 1 1 before left
           → new ≡ record { store = left; eui = s.eui; memory = stations.if_read (station_of left.records); replied = reply }
           → Carries (state_in s randoms sessions b) (begin (memory_in randoms sessions b l) (first_grant key)) (Ok tt) nothing (state_in new randoms sessions b)
       unfolding on_station with_ring empty_draft
       first_stored none stores r is kept apart now =
           carried_by _ _ _ _ _ _ (installs (memory_in randoms sessions b l) (first_grant key) none)
-          (stored ringing_ends (state_in s randoms sessions b) (state_in new randoms sessions b) (on_station (with_ring (Some (first_grant key))) (empty_draft (memory_in randoms sessions b l))) tt nothing refl
+          (stored ringing_ends (state_in s randoms sessions b) (state_in new randoms sessions b)
+          (on_station (with_ring (Some (first_grant key))) (empty_draft (memory_in randoms sessions b l))) tt nothing refl
           (read_below s.store.records l read)
           (record {
             wrote = wrote_one s.store new.store (ring.ring_write (Some (first_grant key))) true
-                (subst (λ (k : Store). Stores s.store (ring.ring_write (Some (first_grant key))) true k) (sym (ap (λ (k : State StationMemory). k.store) now)) (put true stores));
+                (subst (λ (k : Store). Stores s.store (ring.ring_write (Some (first_grant key))) true k) (sym (ap (λ (k : State StationMemory). k.store) now))
+                (put true stores));
             state = λ i. record {
               store = new.store;
               eui = ap (λ (k : State StationMemory). k.eui) now i;
-              memory = option_map (memory_in randoms sessions b) ((ap (λ (k : State StationMemory). k.memory) now ∙ ap stations.if_read (reads r is kept apart)) i);
+              memory =
+                  option_map (memory_in randoms sessions b) ((ap (λ (k : State StationMemory). k.memory) now ∙ ap stations.if_read (reads r is kept apart)) i);
               replied = new.replied;
             };
           }) refl)
 
       -- it was not
-      pub first_unstored : is_some l.ring ≡ false → Stores before (ring.ring_write (Some x)) false left → new ≡ record { store = left; eui = s.eui; memory = None; replied = reply }
-          → Carries (state_in s randoms sessions b) (begin (memory_in randoms sessions b l) (first_grant key)) (Err rings.Store) nothing (state_in new randoms sessions b)
+      pub first_unstored : is_some l.ring ≡ false → Stores before (ring.ring_write (Some x)) false left
+          → new ≡ record { store = left; eui = s.eui; memory = None; replied = reply }
+          → Carries (state_in s randoms sessions b) (begin (memory_in randoms sessions b l) (first_grant key)) (Err rings.Store) nothing
+          (state_in new randoms sessions b)
       unfolding on_station with_ring empty_draft
       first_unstored none stores now =
           carried_by _ _ _ _ _ _ (installs (memory_in randoms sessions b l) (first_grant key) none)
-          (unstored ringing_ends (state_in s randoms sessions b) (state_in new randoms sessions b) (on_station (with_ring (Some (first_grant key))) (empty_draft (memory_in randoms sessions b l))) tt nothing
+          (unstored ringing_ends (state_in s randoms sessions b) (state_in new randoms sessions b)
+          (on_station (with_ring (Some (first_grant key))) (empty_draft (memory_in randoms sessions b l))) tt nothing
           (record {
             wrote = wrote_one s.store new.store (ring.ring_write (Some (first_grant key))) false
-                (subst (λ (k : Store). Stores s.store (ring.ring_write (Some (first_grant key))) false k) (sym (ap (λ (k : State StationMemory). k.store) now)) (put false stores));
+                (subst (λ (k : Store). Stores s.store (ring.ring_write (Some (first_grant key))) false k) (sym (ap (λ (k : State StationMemory). k.store) now))
+                (put false stores));
             state = λ i. record {
               store = new.store;
               eui = ap (λ (k : State StationMemory). k.eui) now i;
@@ -158,13 +184,15 @@ module _ (s : State StationMemory) (l : StationMemory) (running : s.memory ≡ S
           }) refl)
 
       -- so it holds what is stored
-      pub first_holds : AgreesWith l s.store.records → book.IsKept b s.store.records → (r : ring.Ring) → r ≡ Some x → ring.IsKept r left.records → OutsideStays 1 1 before left
+      pub first_holds : AgreesWith l s.store.records → book.IsKept b s.store.records → (r : ring.Ring) → r ≡ Some x → ring.IsKept r left.records
+          → OutsideStays 1 1 before left
           → new ≡ record { store = left; eui = s.eui; memory = stations.if_read (station_of left.records); replied = reply }
           → IfSome (option_map (memory_in randoms sessions b) new.memory) (λ m. HoldsWith m new.store.records)
       first_holds agrees stays r is kept apart now =
           let outside = subst (λ (k : Store). OutsideStays 1 1 k left) same apart in
           subst (λ (k : State StationMemory). IfSome (option_map (memory_in randoms sessions b) k.memory) (λ m. HoldsWith m k.store.records)) (sym now)
-          (subst (λ (o : Result StationMemory BadStore). IfSome (option_map (memory_in randoms sessions b) (stations.if_read o)) (λ m. HoldsWith m left.records)) (sym (reads r is kept apart))
+          (subst (λ (o : Result StationMemory BadStore). IfSome (option_map (memory_in randoms sessions b) (stations.if_read o))
+          (λ m. HoldsWith m left.records)) (sym (reads r is kept apart))
           (record {
             station = agrees_ringed l (Some (first_grant key)) s.store.records left.records agrees (kept_first r is kept) outside;
             book = stored_elsewhere book.entries b s.store.records left.records 1 1 stays outside (inl (omega arith));
@@ -178,9 +206,11 @@ module _ (store : Store) (eui : Eui) (key : Key) (x : CoordinatorState) where
   abbrev pub started : Result StationMemory BadStore → State StationMemory
   started o = record { store = store; eui = eui; memory = stations.if_read o; replied = None }
 
-  begins_by : (answer : Result (Unit {0}) RingFault) (new : State Memory) (o : Result StationMemory BadStore) → station_of store.records ≡ o → slots.opened book.entries store.records ≡ Ok x.book
+  begins_by : (answer : Result (Unit {0}) RingFault) (new : State Memory) (o : Result StationMemory BadStore) → station_of store.records ≡ o
+      → slots.opened book.entries store.records ≡ Ok x.book
       → IsSome (stations.if_read o)
-      → IfSome (state_in (started o) [] [] x.book).memory (λ m. Carries (state_in (started o) [] [] x.book) (begin m (first_grant key)) answer nothing new) → Begins store eui key answer new
+      → IfSome (state_in (started o) [] [] x.book).memory (λ m. Carries (state_in (started o) [] [] x.book) (begin m (first_grant key)) answer nothing new)
+      → Begins store eui key answer new
   begins_by answer new (Err bad) e opened running h = absurd (cc)
   begins_by answer new (Ok l) e opened running h = record {
     memory = memory_in [] [] x.book l;
@@ -191,19 +221,23 @@ module _ (store : Store) (eui : Eui) (key : Key) (x : CoordinatorState) where
   module _ (s : State StationMemory) (is : s ≡ started (station_of store.records)) (running : IsSome s.memory)
       (over : x.station ≡ s) (empty : (x.randoms ≡ []) × (x.sessions ≡ [])) (opened : slots.opened book.entries s.store.records ≡ Ok x.book) where
     -- what the records give was read, and the plan carried out
-    pub begins : (answer : Result (Unit {0}) RingFault) (new : State Memory) → IfSome (node_of x).memory (λ m. Carries (node_of x) (begin m (first_grant key)) answer nothing new) → Begins store eui key answer new
+    pub begins : (answer : Result (Unit {0}) RingFault) (new : State Memory)
+        → IfSome (node_of x).memory (λ m. Carries (node_of x) (begin m (first_grant key)) answer nothing new) → Begins store eui key answer new
     begins answer new h =
         begins_by answer new (station_of store.records) refl
         (subst (λ (k : State StationMemory). slots.opened book.entries k.store.records ≡ Ok x.book) is opened)
         (subst (λ (k : State StationMemory). IsSome k.memory) is running)
-        (subst (λ (n : State Memory). IfSome n.memory (λ m. Carries n (begin m (first_grant key)) answer nothing new)) (λ i. state_in ((over ∙ is) i) (empty.0 i) (empty.1 i) x.book) h)
+        (subst (λ (n : State Memory). IfSome n.memory (λ m. Carries n (begin m (first_grant key)) answer nothing new))
+        (λ i. state_in ((over ∙ is) i) (empty.0 i) (empty.1 i) x.book) h)
 
     -- the first ring was not stored
-    pub refuses : (reason : RingFault) (new : State Memory) → IfSome (node_of x).memory (λ m. Carries (node_of x) (begin m (first_grant key)) (Err reason) nothing new)
+    pub refuses : (reason : RingFault) (new : State Memory)
+        → IfSome (node_of x).memory (λ m. Carries (node_of x) (begin m (first_grant key)) (Err reason) nothing new)
         → Begins store eui key (Err rings.Store) (halted_state new.store eui)
     refuses reason new h =
         begins (Err rings.Store) (halted_state new.store eui)
-        (if_some (node_of x).memory _ (λ m at. halted_carries m (first_grant key) (node_of x) eui reason new (ap (λ (k : State StationMemory). k.eui) (over ∙ is)) (at_some (node_of x).memory _ m at h)))
+        (if_some (node_of x).memory _ (λ m at. halted_carries m (first_grant key) (node_of x) eui reason new
+        (ap (λ (k : State StationMemory). k.eui) (over ∙ is)) (at_some (node_of x).memory _ m at h)))
 
     -- else it runs
     pub begun : (new : State Memory) → IfSome (node_of x).memory (λ m. Carries (node_of x) (begin m (first_grant key)) (Ok tt) nothing new) → IsSome new.memory

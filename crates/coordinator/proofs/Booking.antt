@@ -17,12 +17,14 @@ use Rattle.coordinator.specs.CoordinatorAgreement.{HoldsWith, Holds}
 use Rattle.coordinator.specs.Doings.{Does}
 use Rattle.coordinator.proofs.Agreeing.{agrees_booked}
 
-module _ (s : State StationMemory) (randoms : List Rand) (sessions : List CoordinatorSession) (b after : book.Book) (e : BookEntry) (before now : Store) (same : before ≡ s.store) where
+module _ (s : State StationMemory) (randoms : List Rand) (sessions : List CoordinatorSession) (b after : book.Book) (e : BookEntry) (before now : Store)
+    (same : before ≡ s.store) where
   wrote : (done : Bool) → Stores before (book.change_write b e) done now → Wrote s.store (puts_of (book.change_write b e)) done now
   wrote done stores = subst (λ (k : Store). Wrote k (puts_of (book.change_write b e)) done now) same (wrote_one before now (book.change_write b e) done stores)
 
   pub booked : (l : StationMemory) → s.memory ≡ Some l → Stores before (book.change_write b e) true now → after ≡ book.with_entry b e
-      → Does (state_in s randoms sessions b) (with_book_entry e (empty_draft (memory_in randoms sessions b l))) true (state_in (record s { store = now }) randoms sessions after)
+      → Does (state_in s randoms sessions b) (with_book_entry e (empty_draft (memory_in randoms sessions b l))) true
+      (state_in (record s { store = now }) randoms sessions after)
   unfolding with_book_entry empty_draft
   booked l running stores is = record {
     wrote = wrote true stores;
@@ -30,11 +32,13 @@ module _ (s : State StationMemory) (randoms : List Rand) (sessions : List Coordi
   }
 
   pub unbooked : (l : StationMemory) → Stores before (book.change_write b e) false now
-      → Does (state_in s randoms sessions b) (with_book_entry e (empty_draft (memory_in randoms sessions b l))) false (state_in (record s { store = now; memory = None }) randoms sessions after)
+      → Does (state_in s randoms sessions b) (with_book_entry e (empty_draft (memory_in randoms sessions b l))) false
+      (state_in (record s { store = now; memory = None }) randoms sessions after)
   unfolding with_book_entry empty_draft
   unbooked l stores = record { wrote = wrote false stores; state = refl }
 
-  pub booked_holds : (l : StationMemory) → s.memory ≡ Some l → HoldsWith (memory_in randoms sessions b l) s.store.records → OutsideStays 0x1000 0x13E6 before now → book.IsKept after now.records
+  pub booked_holds : (l : StationMemory) → s.memory ≡ Some l → HoldsWith (memory_in randoms sessions b l) s.store.records
+      → OutsideStays 0x1000 0x13E6 before now → book.IsKept after now.records
       → Holds (state_in (record s { store = now }) randoms sessions after)
   booked_holds l running h stays kept =
       subst (λ (o : Option StationMemory). IfSome (option_map (memory_in randoms sessions after) o) (λ m. HoldsWith m now.records)) (sym running) (record {

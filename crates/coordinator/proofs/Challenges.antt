@@ -41,7 +41,8 @@ module _ (own : Eui) (m : Memory) (eui : Eui) (now : ℕ) where
   unfolding checked
   full to e f = rw (← e, ← f) refl
 
-  pub no_random : (to : ℕ) → Some to ≡ allowed_address m eui → false ≡ sessions_full m eui → None ≡ oldest m → refused {H = Unit {0}} orders m NoRandom ≡ challenge own m eui now
+  pub no_random : (to : ℕ) → Some to ≡ allowed_address m eui → false ≡ sessions_full m eui → None ≡ oldest m
+      → refused {H = Unit {0}} orders m NoRandom ≡ challenge own m eui now
   unfolding checked
   no_random to e f v = rw (← e, ← f, ← v) refl
 
@@ -71,14 +72,16 @@ module _ (own : Eui) (m : Memory) (to now : ℕ) (server : Server) where
   long home = ap (λ o. length (from_address o).units) home ∙ command_units 0 to (command_of first) now [] opened [] [] []
 
   pub told_plan : address_of m.station ≡ Some 0 → RoomFor m to (message server.eui (Challenge (first_packet server)))
-      → telling (with_session (record { server = server; way = Mesh to; since = now }) (without_oldest m)) to (message server.eui (Challenge (first_packet server))) now
+      → telling (with_session (record { server = server; way = Mesh to; since = now }) (without_oldest m)) to
+      (message server.eui (Challenge (first_packet server))) now
       ≡ challenge_by own m to now server
   unfolding from_address begins opened first is_commanded with_memory_by empty_draft
   told_plan home room =
       command_plan orders [] opened [] [] [] 0 to (Command (command_of first)) now tt ∙ (λ i. sealing in_memory orders (from_address (sym home i)) tt)
       ∙ room_seals to (length (command_of first)) orders lacking m (from_address (address_of m.station)) tt room (long home)
 
-  first_lacks : (reason : CoordinatorRefusal) → address_of m.station ≡ Some 0 → lacks m to (length (command_of (message server.eui (Challenge (first_packet server))))) ≡ Some reason
+  first_lacks : (reason : CoordinatorRefusal) → address_of m.station ≡ Some 0
+      → lacks m to (length (command_of (message server.eui (Challenge (first_packet server))))) ≡ Some reason
       → refused {H = Unit {0}} orders m reason ≡ challenge_by own m to now server
   unfolding from_address begins opened first is_commanded with_memory_by empty_draft
   first_lacks reason home fault =
@@ -93,16 +96,20 @@ module _ (own : Eui) (m : Memory) (to now : ℕ) (server : Server) where
   first_done s mid t answer out h room is tells =
       let held : mid.memory ≡ Some opened = ap (λ (x : State Memory). x.memory) is in
       carried_by s t (telling opened to first now) (challenge_by own m to now server) answer out (told_plan h.home room)
-      (carries_behind s mid t [] (telling opened to first now) answer out (subst (λ (k : Store). Wrote s.store [] true k) (sym (ap (λ (x : State Memory). x.store) is)) (wrote_none s.store))
+      (carries_behind s mid t [] (telling opened to first now) answer out
+      (subst (λ (k : Store). Wrote s.store [] true k) (sym (ap (λ (x : State Memory). x.store) is)) (wrote_none s.store))
       (sym (ap (λ (x : State Memory). x.eui) is)) (subst (λ (o : Option Memory). IfSome o (λ n. Carries mid (telling n to first now) answer out t)) held tells))
 
   -- the same of a message that is this one
-  pub lacking_plan : (join : JoinMessage) (reason : CoordinatorRefusal) → join ≡ message server.eui (Challenge (first_packet server)) → address_of m.station ≡ Some 0
+  pub lacking_plan : (join : JoinMessage) (reason : CoordinatorRefusal) → join ≡ message server.eui (Challenge (first_packet server))
+      → address_of m.station ≡ Some 0
       → lacks m to (length (command_of join)) ≡ Some reason → refused {H = Unit {0}} orders m reason ≡ challenge_by own m to now server
   lacking_plan join reason same home fault = first_lacks reason home (subst (λ (j : JoinMessage). lacks m to (length (command_of j)) ≡ Some reason) same fault)
 
-  pub told_done : (join : JoinMessage) (s mid t : State Memory) (answer : Result (Unit {0}) CoordinatorRefusal) (out : Out) → join ≡ message server.eui (Challenge (first_packet server))
-      → HoldsWith m s.store.records → RoomFor m to join → mid ≡ record s { memory = Some (with_session (record { server = server; way = Mesh to; since = now }) (without_oldest m)) }
+  pub told_done : (join : JoinMessage) (s mid t : State Memory) (answer : Result (Unit {0}) CoordinatorRefusal) (out : Out)
+      → join ≡ message server.eui (Challenge (first_packet server))
+      → HoldsWith m s.store.records → RoomFor m to join
+      → mid ≡ record s { memory = Some (with_session (record { server = server; way = Mesh to; since = now }) (without_oldest m)) }
       → IfSome mid.memory (λ n. Carries mid (telling n to join now) answer out t) → Carries s (challenge_by own m to now server) answer out t
   told_done join s mid t answer out same h room is tells =
       first_done s mid t answer out h (subst (λ (j : JoinMessage). RoomFor m to j) same room) is
@@ -116,19 +123,22 @@ some_value (x ∷ xs) there = omega arith
 
 module _ (s : State StationMemory) (randoms after : List Rand) (sessions next : List CoordinatorSession) (b : book.Book) where
   pub began : (session : CoordinatorSession) (l : StationMemory) → s.memory ≡ Some l → after ≡ drop 1 randoms → next ≡ placed session sessions
-      → state_in s after next b ≡ record (state_in s randoms sessions b) { memory = Some (with_session session (without_oldest (memory_in randoms sessions b l))) }
+      → state_in s after next b ≡ record (state_in s randoms sessions b)
+      { memory = Some (with_session session (without_oldest (memory_in randoms sessions b l))) }
   began session l running taken put =
       λ i. record { store = s.store; eui = s.eui; memory = option_map (memory_in (taken i) (put i) b) (running i); replied = s.replied }
 
   pub beside_holds : Holds (state_in s randoms sessions b) → Holds (state_in s after next b)
   beside_holds h = by s.memory h
     where
-      by : (o : Option StationMemory) → IfSome (option_map (memory_in randoms sessions b) o) (λ m. HoldsWith m s.store.records) → IfSome (option_map (memory_in after next b) o) (λ m. HoldsWith m s.store.records)
+      by : (o : Option StationMemory) → IfSome (option_map (memory_in randoms sessions b) o) (λ m. HoldsWith m s.store.records)
+          → IfSome (option_map (memory_in after next b) o) (λ m. HoldsWith m s.store.records)
       by None h = tt
       by (Some l) h = record { station = h.station; book = h.book; home = h.home }
 
   pub has_value : (l : StationMemory) → s.memory ≡ Some l → IfSome (state_in s randoms sessions b).memory (λ m. IsSome (oldest m)) → 1 ≤ length randoms
-  has_value l running there = some_value randoms (subst (λ (o : Option StationMemory). IfSome (option_map (memory_in randoms sessions b) o) (λ m. IsSome (oldest m))) running there)
+  has_value l running there =
+      some_value randoms (subst (λ (o : Option StationMemory). IfSome (option_map (memory_in randoms sessions b) o) (λ m. IsSome (oldest m))) running there)
 
 pub session_runs : (s mid : State Memory) (m : Memory) → mid ≡ record s { memory = Some m } → IsSome mid.memory
 session_runs s mid m is = subst (λ (o : Option Memory). IsSome o) (sym (ap (λ (x : State Memory). x.memory) is)) refl

@@ -10,7 +10,8 @@ use Rattle.node_rules.specs.declared.refusal.SendRefusal.TheVariants as sends
 use Rattle.node_rules.specs.Memory.{StationMemory, Memory, Command, address_of, next_hop}
 use Rattle.node_rules.specs.MemoryDrafts.{in_memory, with_station, on_station, is_commanded}
 use Rattle.node_rules.specs.Plans.{Plan, within, resting}
-use Rattle.node_rules.specs.Drafts.{Draft, Lack, OfRoom, OfNumbers, alone, empty_draft, sets_out, lack, is_awaited, counters_left, refused, sealing, sealed, checked, waits, seeks_once, body_goes, goes, with_own_number}
+use Rattle.node_rules.specs.Drafts.{Draft, Lack, OfRoom, OfNumbers, alone, empty_draft, sets_out, lack, is_awaited, counters_left, refused, sealing, sealed}
+use Rattle.node_rules.specs.Drafts.{checked, waits, seeks_once, body_goes, goes, with_own_number}
 use Rattle.node_rules.specs.Calls.{sending_ends, lacking, how, send_command, command_from}
 use Rattle.node_rules.specs.Joining.{command_of}
 use Rattle.node_rules.specs.Coordinators as rules
@@ -44,7 +45,8 @@ module _ (m : Memory) (to : ℕ) (join : JoinMessage) (now : ℕ) where
   by_lack own (Some OfRoom) = refl
   by_lack own (Some OfNumbers) = refl
 
-  pub order_plan : address_of m.station ≡ Some 0 → within (λ l. with_station l m) order_answer (send_command m.station to (command_of join) now) ≡ rules.activate_at m to join now
+  pub order_plan : address_of m.station ≡ Some 0
+      → within (λ l. with_station l m) order_answer (send_command m.station to (command_of join) now) ≡ rules.activate_at m to join now
   unfolding sending commanding empty_draft is_commanded on_station
   order_plan home =
       rw home (by_lack 0 (lack m.station to (length (command_of join))))
@@ -88,7 +90,8 @@ module _ (l : StationMemory) (home : address_of l ≡ Some 0) where
     keeps_few true = keeps_refused sends.CounterSpent
     keeps_few false = keeps_hop (next_hop l to) refl
 
-    keeps_lack : (o : Option Lack) → KeepsHome (checked sending_ends l (option_map lacking o) (sealed alone sending_ends l (sets_out own to 0 (Command octets) now (empty_draft l)) (how l to)))
+    keeps_lack : (o : Option Lack) → KeepsHome
+        (checked sending_ends l (option_map lacking o) (sealed alone sending_ends l (sets_out own to 0 (Command octets) now (empty_draft l)) (how l to)))
     unfolding checked sealed sent
     keeps_lack None = keeps_few (nat_lt (counters_left l) (length (sets_out own to 0 (Command octets) now (empty_draft l)).units))
     keeps_lack (Some reason) = keeps_refused (lacking reason)

@@ -25,7 +25,8 @@ use Rattle.coordinator.proofs.Storing.{stored, unstored, carried_by}
 use Rattle.coordinator.proofs.Entering.{IsQuiet, changed_quiet, below_limit, allowed_eui}
 
 -- an entry of the book after what was done before
-pub then_booked : (s mid t : State Memory) (d : Draft Memory) (e : BookEntry) (done : Bool) → Does s d true mid → Does mid (with_book_entry e (empty_draft d.memory)) done t
+pub then_booked : (s mid t : State Memory) (d : Draft Memory) (e : BookEntry) (done : Bool) → Does s d true mid
+    → Does mid (with_book_entry e (empty_draft d.memory)) done t
     → Does s (with_book_entry e d) done t
 unfolding with_book_entry empty_draft
 then_booked s mid t d e done first second = record {
@@ -81,7 +82,8 @@ pub may_issue : (s mid : State Memory) (m : Memory) (eui : Eui) (psk : Key) (ent
     → Does s (changed m entry) true mid → IfSome mid.memory (λ n. IsSome (allowed_entry n eui))
 may_issue s mid m eui psk entry is does =
     let held : mid.memory ≡ Some (changed m entry).memory = ap (λ (x : State Memory). x.memory) does.state in
-    subst (λ (o : Option Memory). IfSome o (λ n. IsSome (allowed_entry n eui))) (sym held) (subst (λ (o : Option BookEntry). IsSome o) (sym (found m eui psk entry is)) refl)
+    subst (λ (o : Option Memory). IfSome o (λ n. IsSome (allowed_entry n eui))) (sym held)
+    (subst (λ (o : Option BookEntry). IsSome o) (sym (found m eui psk entry is)) refl)
 
 pub runs : (s mid : State Memory) (d : Draft Memory) → Does s d true mid → IsSome mid.memory
 runs s mid d does = subst (λ (o : Option Memory). IsSome o) (sym (ap (λ (x : State Memory). x.memory) does.state)) refl
@@ -91,7 +93,8 @@ runs s mid d does = subst (λ (o : Option Memory). IsSome o) (sym (ap (λ (x : S
 pub no_grant : (n : Memory) (eui : Eui) → IsSome (allowed_entry n eui) → address_of n.station ≡ Some 0 → None ≡ grant_for n eui → ⊥
 no_grant n eui may home none = by_place (book.place_of n.book eui) n.station.ring may home none
   where
-    by_place : (o : Option ℕ) (r : Ring) → IsSome (option_map_or (λ (e : BookEntry). if e.allowed then Some e else None) (option_and_then (slice_get n.book) o) None)
+    by_place : (o : Option ℕ) (r : Ring)
+        → IsSome (option_map_or (λ (e : BookEntry). if e.allowed then Some e else None) (option_and_then (slice_get n.book) o) None)
         → option_map (λ (g : Granted). g.address) r ≡ Some 0
         → None ≡ option_and_then (λ (address : ℕ). option_map (λ (g : Granted). record g { address = address }) r) (option_map (λ place. place + 1) o) → ⊥
     by_place None r may home none = cc
@@ -102,7 +105,8 @@ no_grant n eui may home none = by_place (book.place_of n.book eui) n.station.rin
 
 issuing : Memory → Eui → Draft Memory → Option Granted → Option BookEntry → Ordering Granted
 issuing m eui d granted entry =
-    option_map_or (λ g. option_map_or (λ e. sealing in_memory orders (with_book_entry (book.issued_entry eui g e) d) g) entry (refused orders m MetersFull)) granted
+    option_map_or (λ g. option_map_or (λ e. sealing in_memory orders (with_book_entry (book.issued_entry eui g e) d) g) entry (refused orders m MetersFull))
+    granted
     (refused orders m MetersFull)
 
 pub depot_full : (m : Memory) (eui : Eui) (psk : Key) → false ≡ book.has_room m.book eui → refused {H = Granted} orders m MetersFull ≡ depot m eui psk
@@ -110,7 +114,8 @@ unfolding choose
 depot_full m eui psk e = rw (← e) refl
 
 depot_is : (m : Memory) (eui : Eui) (psk : Key) (entry e : BookEntry) (granted : Granted) → true ≡ book.has_room m.book eui
-    → entry ≡ book.allowed_entry eui psk (book.entry_for m.book eui) → grant_for (changed m entry).memory eui ≡ Some granted → allowed_entry (changed m entry).memory eui ≡ Some e
+    → entry ≡ book.allowed_entry eui psk (book.entry_for m.book eui) → grant_for (changed m entry).memory eui ≡ Some granted
+    → allowed_entry (changed m entry).memory eui ≡ Some e
     → sealing in_memory orders (with_book_entry (book.issued_entry eui granted e) (changed m entry)) granted ≡ depot m eui psk
 unfolding choose issuing
 depot_is m eui psk entry e granted room is grants may =
@@ -126,22 +131,27 @@ at_left : (s mid : State Memory) (d : Draft Memory) (P : Memory → Type 0) → 
 at_left s mid d P does h = at_some mid.memory P d.memory (ap (λ (x : State Memory). x.memory) does.state) h
 
 Issues : State Memory → Eui → Bool → State Memory → Memory → Type 0
-Issues mid eui done t n = IfSome (grant_for n eui) (λ granted. IfSome (allowed_entry n eui) (λ e. Does mid (with_book_entry (book.issued_entry eui granted e) (empty_draft n)) done t))
+Issues mid eui done t n = IfSome (grant_for n eui)
+    (λ granted. IfSome (allowed_entry n eui) (λ e. Does mid (with_book_entry (book.issued_entry eui granted e) (empty_draft n)) done t))
 
 pub depot_done : (s mid t : State Memory) (m : Memory) (eui : Eui) (psk : Key) (entry : BookEntry) (granted : Granted) → HoldsWith m s.store.records
     → true ≡ book.has_room m.book eui → entry ≡ book.allowed_entry eui psk (book.entry_for m.book eui) → Does s (changed m entry) true mid
     → IfSome mid.memory (λ n. grant_for n eui ≡ Some granted)
-    → IfSome mid.memory (λ n. IfSome (grant_for n eui) (λ granted. IfSome (allowed_entry n eui) (λ e. Does mid (with_book_entry (book.issued_entry eui granted e) (empty_draft n)) true t)))
+    → IfSome mid.memory (λ n. IfSome (grant_for n eui)
+    (λ granted. IfSome (allowed_entry n eui) (λ e. Does mid (with_book_entry (book.issued_entry eui granted e) (empty_draft n)) true t)))
     → Carries s (depot m eui psk) (Ok granted) nothing t
 unfolding Issues
 depot_done s mid t m eui psk entry granted h room is first grants second =
     let n = (changed m entry).memory in
     let granting : grant_for n eui ≡ Some granted = at_left s mid (changed m entry) (λ n. grant_for n eui ≡ Some granted) first grants in
-    let does = at_some (allowed_entry n eui) _ entry (found m eui psk entry is) (at_some (grant_for n eui) _ granted granting (at_left s mid (changed m entry) (Issues mid eui true t) first second)) in
+    let does = at_some (allowed_entry n eui) _ entry (found m eui psk entry is)
+    (at_some (grant_for n eui) _ granted granting (at_left s mid (changed m entry) (Issues mid eui true t) first second)) in
     let d = with_book_entry (book.issued_entry eui granted entry) (changed m entry) in
     let q = issued_quiet m (book.issued_entry eui granted entry) (changed m entry) (changed_quiet m entry) in
-    carried_by s t (sealing in_memory orders d granted) (depot m eui psk) (Ok granted) nothing (depot_is m eui psk entry entry granted room is granting (found m eui psk entry is))
-    (stored orders s t d granted nothing q.units (below_limit s m d h q.station) (then_booked s mid t (changed m entry) (book.issued_entry eui granted entry) true first does) q.told)
+    carried_by s t (sealing in_memory orders d granted) (depot m eui psk) (Ok granted) nothing
+    (depot_is m eui psk entry entry granted room is granting (found m eui psk entry is))
+    (stored orders s t d granted nothing q.units (below_limit s m d h q.station)
+    (then_booked s mid t (changed m entry) (book.issued_entry eui granted entry) true first does) q.told)
 
 -- the address of the coordinator stays, so there is a grant
 pub home_left : (m : Memory) (entry : BookEntry) → address_of m.station ≡ Some 0 → address_of (changed m entry).memory.station ≡ Some 0
@@ -150,16 +160,19 @@ home_left m entry home = ap address_of (changed_quiet m entry).station ∙ home
 -- the first put failed, or the second one did
 pub depot_failed : (s t : State Memory) (m : Memory) (eui : Eui) (psk : Key) (entry : BookEntry) → HoldsWith m s.store.records
     → true ≡ book.has_room m.book eui → entry ≡ book.allowed_entry eui psk (book.entry_for m.book eui)
-    → ((granted : Granted) → grant_for (changed m entry).memory eui ≡ Some granted → Does s (with_book_entry (book.issued_entry eui granted entry) (changed m entry)) false t)
+    → ((granted : Granted) → grant_for (changed m entry).memory eui ≡ Some granted
+    → Does s (with_book_entry (book.issued_entry eui granted entry) (changed m entry)) false t)
     → Carries s (depot m eui psk) (Err Failed) nothing t
 depot_failed s t m eui psk entry h room is does = by_grant (grant_for (changed m entry).memory eui) refl
   where
     by_grant : (o : Option Granted) → grant_for (changed m entry).memory eui ≡ o → Carries s (depot m eui psk) (Err Failed) nothing t
-    by_grant None none = absurd (no_grant (changed m entry).memory eui (subst (λ (o : Option BookEntry). IsSome o) (sym (found m eui psk entry is)) refl) (home_left m entry h.home) (sym none))
+    by_grant None none = absurd (no_grant (changed m entry).memory eui (subst (λ (o : Option BookEntry). IsSome o) (sym (found m eui psk entry is)) refl)
+        (home_left m entry h.home) (sym none))
     by_grant (Some granted) grants =
         let d = with_book_entry (book.issued_entry eui granted entry) (changed m entry) in
         let q = issued_quiet m (book.issued_entry eui granted entry) (changed m entry) (changed_quiet m entry) in
-        carried_by s t (sealing in_memory orders d granted) (depot m eui psk) (Err Failed) nothing (depot_is m eui psk entry entry granted room is grants (found m eui psk entry is))
+        carried_by s t (sealing in_memory orders d granted) (depot m eui psk) (Err Failed) nothing
+        (depot_is m eui psk entry entry granted room is grants (found m eui psk entry is))
         (unstored orders s t d granted nothing (does granted grants) q.untold)
 
 pub depot_stopped : (s t : State Memory) (m : Memory) (eui : Eui) (psk : Key) (entry : BookEntry) → HoldsWith m s.store.records
@@ -169,7 +182,8 @@ depot_stopped s t m eui psk entry h room is first = depot_failed s t m eui psk e
 
 pub depot_unissued : (s mid t : State Memory) (m : Memory) (eui : Eui) (psk : Key) (entry : BookEntry) → HoldsWith m s.store.records
     → true ≡ book.has_room m.book eui → entry ≡ book.allowed_entry eui psk (book.entry_for m.book eui) → Does s (changed m entry) true mid
-    → IfSome mid.memory (λ n. IfSome (grant_for n eui) (λ granted. IfSome (allowed_entry n eui) (λ e. Does mid (with_book_entry (book.issued_entry eui granted e) (empty_draft n)) false t)))
+    → IfSome mid.memory (λ n. IfSome (grant_for n eui)
+    (λ granted. IfSome (allowed_entry n eui) (λ e. Does mid (with_book_entry (book.issued_entry eui granted e) (empty_draft n)) false t)))
     → Carries s (depot m eui psk) (Err Failed) nothing t
 unfolding Issues
 depot_unissued s mid t m eui psk entry h room is first second =
@@ -177,4 +191,5 @@ depot_unissued s mid t m eui psk entry h room is first second =
     (λ granted grants.
     let n = (changed m entry).memory in
     then_booked s mid t (changed m entry) (book.issued_entry eui granted entry) false first
-    (at_some (allowed_entry n eui) _ entry (found m eui psk entry is) (at_some (grant_for n eui) _ granted grants (at_left s mid (changed m entry) (Issues mid eui false t) first second))))
+    (at_some (allowed_entry n eui) _ entry (found m eui psk entry is)
+    (at_some (grant_for n eui) _ granted grants (at_left s mid (changed m entry) (Issues mid eui false t) first second))))

@@ -60,7 +60,8 @@ pub held_same : (m : Memory) (e : BookEntry) → true ≡ book.holds m.book e �
 unfolding change_by
 held_same m e is = held_rests m e (sym is) ∙ ap (change_by m e) is
 
-pub held_other : (m : Memory) (e : BookEntry) → false ≡ book.holds m.book e → with_memory_by (without_session e.eui) (with_book_entry e (empty_draft m)) ≡ changed m e
+pub held_other : (m : Memory) (e : BookEntry) → false ≡ book.holds m.book e
+    → with_memory_by (without_session e.eui) (with_book_entry e (empty_draft m)) ≡ changed m e
 unfolding change_by
 held_other m e is = ap (change_by m e) is
 

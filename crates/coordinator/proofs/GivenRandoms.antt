@@ -26,7 +26,8 @@ full : (m : Memory) (value : Rand) → nat_lt 7 (length m.randoms) ≡ true → 
 unfolding choose
 full m value many = rw many refl
 
-module _ (s : State StationMemory) (l : StationMemory) (running : s.memory ≡ Some l) (randoms after : List Rand) (sessions : List CoordinatorSession) (b : book.Book) (value : Rand) where
+module _ (s : State StationMemory) (l : StationMemory) (running : s.memory ≡ Some l) (randoms after : List Rand) (sessions : List CoordinatorSession)
+    (b : book.Book) (value : Rand) where
   held : (state_in s randoms sessions b).memory ≡ Some (memory_in randoms sessions b l)
   held = ap (option_map (memory_in randoms sessions b)) running
 
@@ -37,8 +38,14 @@ module _ (s : State StationMemory) (l : StationMemory) (running : s.memory ≡ S
   random_carried (Ok u) below more room same =
       carried_by _ _ _ _ _ _ (given (memory_in randoms sessions b l) value room)
       (stored given_ends (state_in s randoms sessions b) (state_in s after sessions b) (one_more (memory_in randoms sessions b l) value) tt nothing refl below
-      (record { wrote = wrote_none s.store; state = λ i. record { store = s.store; eui = s.eui; memory = option_map (memory_in (more i) sessions b) (running i); replied = s.replied } }) refl)
+      (record {
+        wrote = wrote_none s.store;
+        state = λ i. record { store = s.store; eui = s.eui; memory = option_map (memory_in (more i) sessions b) (running i); replied = s.replied };
+      }) refl)
   random_carried (Err e) below more many same =
-      subst (λ (k : List Rand). Carries (state_in s randoms sessions b) (give_random (memory_in randoms sessions b l) value) (Err e) nothing (state_in s k sessions b)) (sym same)
-      (subst (λ (k : RandomFault). Carries (state_in s randoms sessions b) (give_random (memory_in randoms sessions b l) value) (Err k) nothing (state_in s randoms sessions b)) (sym many.0)
-      (refusal given_ends (state_in s randoms sessions b) (memory_in randoms sessions b l) RandomsFull _ nothing held (full (memory_in randoms sessions b l) value many.1) refl))
+      subst (λ (k : List Rand). Carries (state_in s randoms sessions b) (give_random (memory_in randoms sessions b l) value) (Err e) nothing
+      (state_in s k sessions b)) (sym same)
+      (subst (λ (k : RandomFault). Carries (state_in s randoms sessions b) (give_random (memory_in randoms sessions b l) value) (Err k) nothing
+      (state_in s randoms sessions b)) (sym many.0)
+      (refusal given_ends (state_in s randoms sessions b) (memory_in randoms sessions b l) RandomsFull _ nothing held
+      (full (memory_in randoms sessions b l) value many.1) refl))

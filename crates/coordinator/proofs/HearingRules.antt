@@ -47,7 +47,8 @@ pub record Rested {A : Type 0} (s : State StationMemory) (l : StationMemory) (a 
 true_false : (d : Bool) → d ≡ true → d ≡ false → ⊥
 true_false d a b = cc
 
-rested : {A : Type 0} (s t : State StationMemory) (l : StationMemory) (a f answer : A) (out : Out) → Carries s (resting l a f) answer out t → Rested s l a answer out t
+rested : {A : Type 0} (s t : State StationMemory) (l : StationMemory) (a f answer : A) (out : Out) → Carries s (resting l a f) answer out t
+    → Rested s l a answer out t
 unfolding resting
 rested {A} s t l a f answer out c = by c.done refl
   where
@@ -68,7 +69,8 @@ none_some u h = cc
 
 unread_is : (h : Result Heard Dropped) (way : Way) (body : List ℕ) → unread h ≡ Some (record { way = way; body = body }) → h ≡ Ok (Joining way body)
 unread_is (Err reason) way body e = absurd (none_some _ e)
-unread_is (Ok (Joining w b)) way body e = ap (λ (u : Unread). Ok (Joining u.way u.body)) (same_unread (record { way = w; body = b }) (record { way = way; body = body }) e)
+unread_is (Ok (Joining w b)) way body e =
+    ap (λ (u : Unread). Ok (Joining u.way u.body)) (same_unread (record { way = w; body = b }) (record { way = way; body = body }) e)
   where
     same_unread : (u v : Unread) → ◌≡◌ {A = Option Unread} (Some u) (Some v) → u ≡ v
     same_unread u v k = cc
@@ -92,9 +94,11 @@ module _ (l : StationMemory) (got : Accepted) (cost note now : ℕ) where
           failed_never k = cc
 
           by : (d : Bool) → c.done ≡ d → (hear l got cost note now).answer ≡ Ok (Joining way body)
-          by true e = sym (c.answer_is ∙ ap (λ (d : Bool). if d then (hear l got cost note now).answer else (hear l got cost note now).failed) e) ∙ unread_is h way body is
+          by true e = sym (c.answer_is ∙ ap (λ (d : Bool). if d then (hear l got cost note now).answer else (hear l got cost note now).failed) e)
+              ∙ unread_is h way body is
           by false e = absurd (failed_never
-              (sym (c.answer_is ∙ ap (λ (d : Bool). if d then (hear l got cost note now).answer else (hear l got cost note now).failed) e ∙ (drops_cleanly l got cost note now).0)
+              (sym (c.answer_is ∙ ap (λ (d : Bool). if d then (hear l got cost note now).answer else (hear l got cost note now).failed) e
+              ∙ (drops_cleanly l got cost note now).0)
               ∙ unread_is h way body is))
 
       pub at_rest : Rested s l (Ok (Joining way body)) h out t
@@ -117,7 +121,8 @@ module _ (l : StationMemory) (got : Accepted) (cost note now : ℕ) where
 
             calm : Rested s l (Ok (Joining u.way u.body)) h out t
             calm = rested s t l (Ok (Joining u.way u.body)) (Err drops.Store) h out
-                (subst (λ (p : Plan StationMemory (Result Heard Dropped)). Carries s p h out t) ((hear_hands_on l got cost note now).rests u.way u.body answer).1 c)
+                (subst (λ (p : Plan StationMemory (Result Heard Dropped)). Carries s p h out t)
+                ((hear_hands_on l got cost note now).rests u.way u.body answer).1 c)
 
             again : h ≡ (hear l got cost note now).answer
             again = calm.answer_is ∙ sym answer
@@ -125,7 +130,8 @@ module _ (l : StationMemory) (got : Accepted) (cost note now : ℕ) where
 -- # What the coordinator hears
 
 -- what the station did leaves what stands beside it
-module _ (x y : CoordinatorState) (got : Accepted) (cost note now : ℕ) (h : Result Heard Dropped) (between : Out) (beside : y ≡ record x { station = y.station }) (l : StationMemory) (running : x.station.memory ≡ Some l)
+module _ (x y : CoordinatorState) (got : Accepted) (cost note now : ℕ) (h : Result Heard Dropped) (between : Out)
+    (beside : y ≡ record x { station = y.station }) (l : StationMemory) (running : x.station.memory ≡ Some l)
     (c : Carries x.station (hear l got cost note now) h between y.station) where
   module _ (way : Way) (octets : List ℕ) (is : unread h ≡ Some (record { way = way; body = octets })) where
     calm : Rested x.station l (Ok (Joining way octets)) h between y.station
@@ -143,30 +149,40 @@ module _ (x y : CoordinatorState) (got : Accepted) (cost note now : ℕ) (h : Re
         → Carries (node_of x) (rules.hear_coordinator (identity_of x) (memory_in x.randoms x.sessions x.book l) got cost note now) r out u
     unfolding calm
     heard_joining u r out k =
-        let answer : unread (hear l got cost note now).answer ≡ Some (record { way = way; body = octets }) = ap unread (handed_on l got cost note now x.station y.station h between c way octets is) in
-        let after : IfSome (option_map (memory_in x.randoms x.sessions x.book) y.station.memory) (λ m. Carries (node_of y) (rules.hear_join_in (identity_of y) m way (join_in octets) now) r out u) =
-        subst (λ (z : CoordinatorState). IfSome (option_map (memory_in z.randoms z.sessions z.book) y.station.memory) (λ m. Carries (node_of y) (rules.hear_join_in (identity_of y) m way (join_in octets) now) r out u)) beside k in
+        let answer : unread (hear l got cost note now).answer
+        ≡ Some (record { way = way; body = octets }) = ap unread (handed_on l got cost note now x.station y.station h between c way octets is) in
+        let after : IfSome (option_map (memory_in x.randoms x.sessions x.book) y.station.memory)
+        (λ m. Carries (node_of y) (rules.hear_join_in (identity_of y) m way (join_in octets) now) r out u) =
+        subst (λ (z : CoordinatorState). IfSome (option_map (memory_in z.randoms z.sessions z.book) y.station.memory)
+        (λ m. Carries (node_of y) (rules.hear_join_in (identity_of y) m way (join_in octets) now) r out u)) beside k in
         let there : Carries (node_of y) (rules.hear_join_in (identity_of y) (memory_in x.randoms x.sessions x.book l) way (join_in octets) now) r out u =
-        at_some (option_map (memory_in x.randoms x.sessions x.book) y.station.memory) (λ m. Carries (node_of y) (rules.hear_join_in (identity_of y) m way (join_in octets) now) r out u) (memory_in x.randoms x.sessions x.book l)
+        at_some (option_map (memory_in x.randoms x.sessions x.book) y.station.memory)
+        (λ m. Carries (node_of y) (rules.hear_join_in (identity_of y) m way (join_in octets) now) r out u) (memory_in x.randoms x.sessions x.book l)
         (ap (option_map (memory_in x.randoms x.sessions x.book)) calm.memory) after in
         let named : Carries (node_of y) (rules.hear_join_in (identity_of x) (memory_in x.randoms x.sessions x.book l) way (join_in octets) now) r out u =
-        subst (λ (e : Eui). Carries (node_of y) (rules.hear_join_in (record { eui = e; ciphers = network }) (memory_in x.randoms x.sessions x.book l) way (join_in octets) now) r out u) calm.eui there in
+        subst (λ (e : Eui). Carries (node_of y) (rules.hear_join_in (record { eui = e; ciphers = network }) (memory_in x.randoms x.sessions x.book l) way
+        (join_in octets) now) r out u) calm.eui there in
         subst (λ (p : rules.Hearing). Carries (node_of x) p r out u)
         (ap (λ o. rules.heard_by (identity_of x) (memory_in x.randoms x.sessions x.book l) now (hear l got cost note now) o) (sym answer))
-        (carries_behind (node_of x) (node_of y) u [] (rules.hear_join_in (identity_of x) (memory_in x.randoms x.sessions x.book l) way (join_in octets) now) r out
+        (carries_behind (node_of x) (node_of y) u [] (rules.hear_join_in (identity_of x) (memory_in x.randoms x.sessions x.book l) way (join_in octets) now) r
+        out
         (subst (λ (k : Store). Wrote x.station.store [] true k) (sym calm.store) (wrote_none x.station.store)) (sym calm.eui) named)
 
   -- all else is what its station made of it
-  pub heard_other : unread h ≡ None → Carries (node_of x) (rules.hear_coordinator (identity_of x) (memory_in x.randoms x.sessions x.book l) got cost note now) (rules.heard_by_station h) between (node_of y)
+  pub heard_other : unread h ≡ None → Carries (node_of x) (rules.hear_coordinator (identity_of x) (memory_in x.randoms x.sessions x.book l) got cost note now)
+      (rules.heard_by_station h) between (node_of y)
   heard_other none =
-      subst (λ (z : CoordinatorState). Carries (node_of x) (rules.hear_coordinator (identity_of x) (memory_in x.randoms x.sessions x.book l) got cost note now) (rules.heard_by_station h) between (node_of z)) (sym beside)
+      subst (λ (z : CoordinatorState). Carries (node_of x) (rules.hear_coordinator (identity_of x) (memory_in x.randoms x.sessions x.book l) got cost note now)
+      (rules.heard_by_station h) between (node_of z)) (sym beside)
       (subst (λ (p : rules.Hearing). Carries (node_of x) p (rules.heard_by_station h) between (node_of (record x { station = y.station })))
-      (ap (λ o. rules.heard_by (identity_of x) (memory_in x.randoms x.sessions x.book l) now (hear l got cost note now) o) (sym (kept l got cost note now x.station y.station h between c none)))
+      (ap (λ o. rules.heard_by (identity_of x) (memory_in x.randoms x.sessions x.book l) now (hear l got cost note now) o)
+      (sym (kept l got cost note now x.station y.station h between c none)))
       (within_carried (memory_in x.randoms x.sessions x.book) rules.heard_by_station x.station y.station (hear l got cost note now) h between c))
 
   -- a joining command is handed on
   pub never_itself : (way : Way) (octets : List ℕ) → unread h ≡ Some (record { way = way; body = octets }) → unread (hear l got cost note now).answer ≡ None → ⊥
-  never_itself way octets is none = none_some (record { way = way; body = octets }) (sym none ∙ ap unread (handed_on l got cost note now x.station y.station h between c way octets is))
+  never_itself way octets is none =
+      none_some (record { way = way; body = octets }) (sym none ∙ ap unread (handed_on l got cost note now x.station y.station h between c way octets is))
 
   is_left : (o : Option StationMemory) → is_some o ≡ is_some (option_map (memory_in y.randoms y.sessions y.book) o)
   is_left None = refl
@@ -189,11 +205,13 @@ module _ (own : rules.CoordinatorIdentity) (m : Memory) (way : Way) (now : ℕ) 
   by_coming : JoinMessage → Bool → rules.Hearing
   by_coming join may = choose may (rules.hear_join own m way join.eui join.body now) (rules.drop_it m drops.BadUnit)
 
-  pub may_not_come : (o : Option JoinMessage) (join : JoinMessage) → Some join ≡ o → false ≡ rules.may_come way join.eui → refused {H = CoordinatorHeard} dropped m drops.BadUnit ≡ rules.hear_join_in own m way o now
+  pub may_not_come : (o : Option JoinMessage) (join : JoinMessage) → Some join ≡ o → false ≡ rules.may_come way join.eui
+      → refused {H = CoordinatorHeard} dropped m drops.BadUnit ≡ rules.hear_join_in own m way o now
   unfolding choose by_coming
   may_not_come o join is may = ap (by_coming join) may ∙ ap (λ (k : Option JoinMessage). rules.hear_join_in own m way k now) is
 
-  pub comes : (o : Option JoinMessage) (join : JoinMessage) → Some join ≡ o → true ≡ rules.may_come way join.eui → rules.hear_join own m way join.eui join.body now ≡ rules.hear_join_in own m way o now
+  pub comes : (o : Option JoinMessage) (join : JoinMessage) → Some join ≡ o → true ≡ rules.may_come way join.eui
+      → rules.hear_join own m way join.eui join.body now ≡ rules.hear_join_in own m way o now
   unfolding choose by_coming
   comes o join is may = ap (by_coming join) may ∙ ap (λ (k : Option JoinMessage). rules.hear_join_in own m way k now) is
 

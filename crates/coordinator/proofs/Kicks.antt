@@ -47,7 +47,8 @@ room_of b eui e may = by_place (book.place_of b eui) refl may
     some_is : (x y : BookEntry) → Some x ≡ Some y → x ≡ y
     some_is x y h = cc
 
-    by_entry : (place : ℕ) (o : Option BookEntry) → book.place_of b eui ≡ Some place → slice_get b place ≡ o → Some e ≡ option_map_or one o None → book.has_room b e.eui ≡ true
+    by_entry : (place : ℕ) (o : Option BookEntry) → book.place_of b eui ≡ Some place → slice_get b place ≡ o → Some e ≡ option_map_or one o None
+        → book.has_room b e.eui ≡ true
     by_entry place None is got h = absurd (cc)
     by_entry place (Some x) is got h =
         let f = found book.entries b (book.eui_number eui) place x is in
@@ -66,7 +67,8 @@ module _ (m : Memory) (eui : Eui) where
   pub not_allowed : None ≡ allowed_entry m eui → refused {H = Unit {0}} orders m NotAllowed ≡ kick m eui
   not_allowed e = rw (← e) refl
 
-  pub not_known : (entry : BookEntry) → Some entry ≡ allowed_entry m eui → None ≡ book.address_of m.book eui → refused {H = Unit {0}} orders m NotAllowed ≡ kick m eui
+  pub not_known : (entry : BookEntry) → Some entry ≡ allowed_entry m eui → None ≡ book.address_of m.book eui
+      → refused {H = Unit {0}} orders m NotAllowed ≡ kick m eui
   not_known entry e a = rw (← e, ← a) refl
 
   pub kicks : (entry : BookEntry) (to : ℕ) → Some entry ≡ allowed_entry m eui → Some to ≡ book.address_of m.book eui → kick_by m entry to ≡ kick m eui
@@ -92,7 +94,8 @@ module _ (m : Memory) (e : BookEntry) (to : ℕ) where
 
 -- # What was done
 
-opened_by : (l : StationMemory) (own to : ℕ) (load : Load) (now : ℕ) (hop : Option ℕ) (b : Bool) → next_hop l to ≡ hop → is_awaited l to ≡ b → (command_alone l own to load now).opened ≡ []
+opened_by : (l : StationMemory) (own to : ℕ) (load : Load) (now : ℕ) (hop : Option ℕ) (b : Bool) → next_hop l to ≡ hop → is_awaited l to ≡ b
+    → (command_alone l own to load now).opened ≡ []
 unfolding empty_draft body_goes waits seeks_once goes with_own_number
 opened_by l own to load now (Some hop) b e a = rw e refl
 opened_by l own to load now None true e a = rw (e, a) refl
@@ -118,17 +121,25 @@ module _ (s : State Memory) (m : Memory) (e : BookEntry) where
   told_stopped t to out h reached empty does =
       carried_by s t _ (kick_by m e to) (Err Failed) out (told_plan m e to h.home reached)
       (carries_stopped s t (shut_out m e).puts _ (behind (shut_out m e).puts (telling (shut_out m e).memory to (message e.eui Kick) 0)) out does.wrote refl
-      (empty ∙ (λ i. record { frames = []; tags = record { made = []; opened = sym (alone_opened (shut_out m e).memory.station 0 to (Command (command_of (message e.eui Kick))) 0) i } }))
+      (empty ∙ (λ i. record {
+        frames = [];
+        tags = record { made = []; opened = sym (alone_opened (shut_out m e).memory.station 0 to (Command (command_of (message e.eui Kick))) 0) i };
+      }))
       (ap (λ (x : State Memory). x.eui) does.state) (ap (λ (x : State Memory). x.memory) does.state))
 
-  pub told_done : (mid t : State Memory) (to : ℕ) (answer : Result (Unit {0}) CoordinatorRefusal) (out : Out) → HoldsWith m s.store.records → reaches m to ≡ true
-      → Does s (shut_out m e) true mid → IfSome mid.memory (λ n. Carries mid (telling n to (message e.eui Kick) 0) answer out t) → Carries s (kick_by m e to) answer out t
+  pub told_done : (mid t : State Memory) (to : ℕ) (answer : Result (Unit {0}) CoordinatorRefusal) (out : Out) → HoldsWith m s.store.records
+      → reaches m to ≡ true
+      → Does s (shut_out m e) true mid → IfSome mid.memory (λ n. Carries mid (telling n to (message e.eui Kick) 0) answer out t)
+      → Carries s (kick_by m e to) answer out t
   told_done mid t to answer out h reached does tells =
       carried_by s t _ (kick_by m e to) answer out (told_plan m e to h.home reached)
-      (carries_behind s mid t (shut_out m e).puts (telling (shut_out m e).memory to (message e.eui Kick) 0) answer out does.wrote (sym (ap (λ (x : State Memory). x.eui) does.state))
-      (at_some mid.memory (λ n. Carries mid (telling n to (message e.eui Kick) 0) answer out t) (shut_out m e).memory (ap (λ (x : State Memory). x.memory) does.state) tells))
+      (carries_behind s mid t (shut_out m e).puts (telling (shut_out m e).memory to (message e.eui Kick) 0) answer out does.wrote
+      (sym (ap (λ (x : State Memory). x.eui) does.state))
+      (at_some mid.memory (λ n. Carries mid (telling n to (message e.eui Kick) 0) answer out t) (shut_out m e).memory
+      (ap (λ (x : State Memory). x.memory) does.state) tells))
 
-  pub room_left : (mid : State Memory) (to : ℕ) → reaches m to ≡ true → Does s (shut_out m e) true mid → IfSome mid.memory (λ n. RoomFor n to (message e.eui Kick))
+  pub room_left : (mid : State Memory) (to : ℕ) → reaches m to ≡ true → Does s (shut_out m e) true mid
+      → IfSome mid.memory (λ n. RoomFor n to (message e.eui Kick))
   unfolding with_memory_by with_book_entry empty_draft
   room_left mid to reached does =
       subst (λ (o : Option Memory). IfSome o (λ n. RoomFor n to (message e.eui Kick))) (sym (ap (λ (x : State Memory). x.memory) does.state))

@@ -23,8 +23,11 @@ use Rattle.node_rules.specs.declared.refusal.Dropped.{Dropped}
 use Rattle.node_rules.specs.declared.refusal.Dropped.TheVariants as drops
 use Rattle.node_rules.specs.Memory.{StationMemory, address_of, next_hop}
 use Rattle.node_rules.specs.Plans.{resting}
-use Rattle.node_rules.specs.Drafts.{Draft, alone, empty_draft, with_rank, with_own_number, with_routing_by, goes, leave, refused, sealing, sealed, checked, choose}
-use Rattle.node_rules.specs.Hearing.{Hearing, dropped, drop_it, hear_request, hear_reply_for, hear_reply, hear_error, tells_on, loses, forward_by, forward, report_by, gathered, hear_message, hear_message_in, hear_command, hear_over_mesh, hear_sealed, hear_plain, is_joining, hear_unit, hear_unit_in, hear}
+use Rattle.node_rules.specs.Drafts.{Draft, alone, empty_draft, with_rank, with_own_number, with_routing_by, goes, leave, refused, sealing, sealed, checked}
+use Rattle.node_rules.specs.Drafts.{choose}
+use Rattle.node_rules.specs.Hearing.{Hearing, dropped, drop_it, hear_request, hear_reply_for, hear_reply, hear_error, tells_on, loses, forward_by, forward}
+use Rattle.node_rules.specs.Hearing.{report_by, gathered, hear_message, hear_message_in, hear_command, hear_over_mesh, hear_sealed, hear_plain, is_joining}
+use Rattle.node_rules.specs.Hearing.{hear_unit, hear_unit_in, hear}
 use Rattle.coordinator.proofs.Within.{AreBelow, KeepsHome, append_below, number_below, counter_below}
 
 -- the plan keeps the address, and puts below the book
@@ -109,7 +112,8 @@ module _ (l : StationMemory) (home : address_of l ≡ Some 0) (short : length l.
   sealing_kept : (d : Draft StationMemory) (h : Heard) → Drafted d → Kept (sealing alone dropped d h)
   sealing_kept d h (ByDraft e below at) = ByPlan _ (record { below = append_below e.puts _ below (counter_below e.memory.counter (length e.units)); home = at })
 
-  sealed_when : (test : Bool) (d : Draft StationMemory) (h : Heard) → Drafted d → Kept (if test then refused dropped l dropped.spent else sealing alone dropped d h)
+  sealed_when : (test : Bool) (d : Draft StationMemory) (h : Heard) → Drafted d
+      → Kept (if test then refused dropped l dropped.spent else sealing alone dropped d h)
   sealed_when true d h k = refused_kept dropped.spent
   sealed_when false d h k = sealing_kept d h k
 
@@ -133,16 +137,19 @@ module _ (l : StationMemory) (home : address_of l ≡ Some 0) (short : length l.
   request_kept : (own by origin dest : ℕ) (rank : Rank) (now : ℕ) → Kept (hear_request l own by origin dest rank now)
   request_kept own by origin dest rank now =
       checked_kept l home short _ _ (choose_kept _ _ _
-      (choose_kept _ _ _ (drop _) (sealed_kept l home short _ _ (goes_drafted _ _ _ _ (leave_drafted _ _ _ _ (number_drafted _ (rank_drafted l home short origin rank by now))))))
+      (choose_kept _ _ _ (drop _) (sealed_kept l home short _ _
+      (goes_drafted _ _ _ _ (leave_drafted _ _ _ _ (number_drafted _ (rank_drafted l home short origin rank by now))))))
       (sealed_kept l home short _ _ (goes_drafted _ _ _ _ (offered_drafted own origin rank by now))))
 
   reply_for_kept : (own by origin to : ℕ) (rank : Rank) (now : ℕ) (hop : Option ℕ) → Kept (hear_reply_for l own by origin to rank now hop)
   reply_for_kept own by origin to rank now None = drop _
-  reply_for_kept own by origin to rank now (Some hop) = checked_kept l home short _ _ (sealed_kept l home short _ _ (goes_drafted _ _ _ _ (offered_drafted own origin rank by now)))
+  reply_for_kept own by origin to rank now (Some hop) =
+      checked_kept l home short _ _ (sealed_kept l home short _ _ (goes_drafted _ _ _ _ (offered_drafted own origin rank by now)))
 
   reply_kept : (own by origin to : ℕ) (rank : Rank) (now : ℕ) → Kept (hear_reply l own by origin to rank now)
   reply_kept own by origin to rank now =
-      choose_kept _ _ _ (checked_kept l home short _ _ (sealed_kept l home short _ _ (offered_drafted own origin rank by now))) (reply_for_kept own by origin to rank now (next_hop l to))
+      choose_kept _ _ _ (checked_kept l home short _ _ (sealed_kept l home short _ _ (offered_drafted own origin rank by now)))
+      (reply_for_kept own by origin to rank now (next_hop l to))
 
   tells_drafted : (lost to by : ℕ) (hop : Option ℕ) → Drafted (tells_on lost to hop (loses lost by l))
   tells_drafted lost to by None = routing_drafted _ _ (empty_drafted l home short)
@@ -179,7 +186,8 @@ module _ (l : StationMemory) (home : address_of l ≡ Some 0) (short : length l.
   message_in_kept own by all cost now (Some message) = message_kept own by all cost now message
 
   command_kept : (own by : ℕ) (all : Bool) (code : ℕ) (body : List ℕ) (cost now : ℕ) → Kept (hear_command l own by all code body cost now)
-  command_kept own by all code body cost now = choose_kept _ _ _ (message_in_kept own by all cost now (message_in body)) (choose_kept _ _ _ (drop _) (resting_kept l home short _ _))
+  command_kept own by all code body cost now =
+      choose_kept _ _ _ (message_in_kept own by all cost now (message_in body)) (choose_kept _ _ _ (drop _) (resting_kept l home short _ _))
 
   mesh_kept : (own : ℕ) (unit : MeshUnit) (note now : ℕ) → Kept (hear_over_mesh l own unit note now)
   mesh_kept own (units.Whole mesh octets) note now = choose_kept _ _ _ (resting_kept l home short _ _) (forward_kept own mesh _ note)
@@ -197,7 +205,8 @@ module _ (l : StationMemory) (home : address_of l ≡ Some 0) (short : length l.
   plain_kept answer None = drop _
   plain_kept answer (Some body) = resting_kept l home short _ _
 
-  addressed_kept : (own : Option ℕ) (by : ℕ) (all : Bool) (unit : MeshUnit) (cost note now : ℕ) → Kept (option_map_or (λ a. hear_sealed l a by all unit cost note now) own (drop_it l drops.BadUnit))
+  addressed_kept : (own : Option ℕ) (by : ℕ) (all : Bool) (unit : MeshUnit) (cost note now : ℕ)
+      → Kept (option_map_or (λ a. hear_sealed l a by all unit cost note now) own (drop_it l drops.BadUnit))
   addressed_kept None by all unit cost note now = drop _
   addressed_kept (Some own) by all unit cost note now = sealed_unit_kept own by all unit cost note now
 

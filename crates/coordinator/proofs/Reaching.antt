@@ -46,7 +46,8 @@ module _ (l : StationMemory) (to : ℕ) where
   pub no_route : address_of l ≡ Some 0 → None ≡ valid_route l to → false ≡ (is_some (next_hop l to) && nat_lt 0 (counters_left l))
   no_route home none = by (λ hop. (hop, (held l.routing to).cost)) l.ring (next_hop l to) home none
     where
-      by : (f : ℕ → ℕ × ℕ) (r : Ring) (hop : Option ℕ) → option_map (λ (g : Granted). g.address) r ≡ Some 0 → ◌≡◌ {A = Option (ℕ × ℕ)} None (option_map f (option_and_then (λ _. hop) r))
+      by : (f : ℕ → ℕ × ℕ) (r : Ring) (hop : Option ℕ) → option_map (λ (g : Granted). g.address) r ≡ Some 0
+          → ◌≡◌ {A = Option (ℕ × ℕ)} None (option_map f (option_and_then (λ _. hop) r))
           → false ≡ (is_some hop && nat_lt 0 (counters_left l))
       by f None hop h n = absurd (cc)
       by f (Some g) None h n = refl
@@ -55,7 +56,8 @@ module _ (l : StationMemory) (to : ℕ) where
   pub route : (x : ℕ × ℕ) → address_of l ≡ Some 0 → Some x ≡ valid_route l to → is_some (next_hop l to) ≡ true
   route x home some = by (λ hop. (hop, (held l.routing to).cost)) l.ring (next_hop l to) home some
     where
-      by : (f : ℕ → ℕ × ℕ) (r : Ring) (hop : Option ℕ) → option_map (λ (g : Granted). g.address) r ≡ Some 0 → Some x ≡ option_map f (option_and_then (λ _. hop) r) → is_some hop ≡ true
+      by : (f : ℕ → ℕ × ℕ) (r : Ring) (hop : Option ℕ) → option_map (λ (g : Granted). g.address) r ≡ Some 0
+          → Some x ≡ option_map f (option_and_then (λ _. hop) r) → is_some hop ≡ true
       by f None hop h n = absurd (cc)
       by f (Some g) None h n = absurd (cc)
       by f (Some g) (Some y) h n = refl
@@ -76,7 +78,8 @@ module _ (l : StationMemory) (to : ℕ) where
   is_enough true u h = absurd (cc)
   is_enough false u h = refl
 
-  pub no_counter : (x : ℕ × ℕ) (octets : ℕ) (reason : SendRefusal) → address_of l ≡ Some 0 → Some x ≡ valid_route l to → Err reason ≡ room_answer (calls.room l to octets)
+  pub no_counter : (x : ℕ × ℕ) (octets : ℕ) (reason : SendRefusal) → address_of l ≡ Some 0 → Some x ≡ valid_route l to
+      → Err reason ≡ room_answer (calls.room l to octets)
       → false ≡ (is_some (next_hop l to) && nat_lt 0 (counters_left l))
   no_counter x octets reason home some room =
       let hop = route x home some in
@@ -107,7 +110,8 @@ module _ (l : StationMemory) (to : ℕ) where
   pub command_room : (octets : ℕ) (u : Unit {0}) → address_of l ≡ Some 0 → Ok u ≡ room_answer (calls.room l to octets) → HasRoom l to octets
   command_room octets u home room = has_room to octets l (sym (at_home octets home) ∙ is_none (calls.room l to octets) u room)
 
-  pub command_lacks : (octets : ℕ) (reason : SendRefusal) (said : CoordinatorRefusal) → address_of l ≡ Some 0 → Err reason ≡ room_answer (calls.room l to octets) → said ≡ order_refusal reason
+  pub command_lacks : (octets : ℕ) (reason : SendRefusal) (said : CoordinatorRefusal) → address_of l ≡ Some 0
+      → Err reason ≡ room_answer (calls.room l to octets) → said ≡ order_refusal reason
       → command_fault orders lacking l to octets ≡ Some said
   command_lacks octets reason said home room is =
       sym (room_fault_as to octets orders lacking order_refusal l same_lack refl)

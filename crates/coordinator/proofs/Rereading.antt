@@ -30,7 +30,8 @@ parts o oc on ot or om =
     })))))))
 
 station_parts : (records : Records) → station_of records
-    ≡ parts (ring.opened records) (counter.opened records) (own_number.opened records) (tag_in (get records 4)) (routing.opened records) (slots.opened marks.peers records)
+    ≡ parts (ring.opened records) (counter.opened records) (own_number.opened records) (tag_in (get records 4)) (routing.opened records)
+    (slots.opened marks.peers records)
 unfolding station_of
 station_parts records = refl
 
@@ -47,7 +48,8 @@ with_ring_in r (Ok l) = Ok (record l { ring = r })
 with_ring_in r (Err bad) = Err bad
 
 first_parts : (o : Result ring.Ring BadStore) (oc : Result counter.Counting BadStore) (on : Result own_number.Numbering BadStore) (ot : Result ℕ BadStore)
-    (or : Result routing.Routing BadStore) (om : Result marks.Table BadStore) (l : StationMemory) → parts o oc on ot or om ≡ Ok l → (o ≡ Ok l.ring) × (oc ≡ Ok l.counter)
+    (or : Result routing.Routing BadStore) (om : Result marks.Table BadStore) (l : StationMemory) → parts o oc on ot or om ≡ Ok l
+    → (o ≡ Ok l.ring) × (oc ≡ Ok l.counter)
 unfolding ring_of counter_of
 first_parts (Err b) oc on ot or om l e = absurd (cc)
 first_parts (Ok r) (Err b) on ot or om l e = absurd (cc)
@@ -76,12 +78,15 @@ limit_below (Some limit) c e = below (cc)
 
 -- a station that was read has the ring of its store, and a counter within its limit
 pub read_ring : (records : Records) (l : StationMemory) → station_of records ≡ Ok l → ring.opened records ≡ Ok l.ring
-read_ring records l read = (first_parts (ring.opened records) (counter.opened records) (own_number.opened records) (tag_in (get records 4)) (routing.opened records) (slots.opened marks.peers records)
+read_ring records l read = (first_parts (ring.opened records) (counter.opened records) (own_number.opened records) (tag_in (get records 4))
+    (routing.opened records) (slots.opened marks.peers records)
     l (sym (station_parts records) ∙ read)).0
 
 pub read_below : (records : Records) (l : StationMemory) → station_of records ≡ Ok l → l.counter.next ≤ l.counter.limit
 read_below records l read =
-    limit_below (counter.limit_in (get records counter.limit_slot)) l.counter (first_parts (ring.opened records) (counter.opened records) (own_number.opened records) (tag_in (get records 4)) (routing.opened records) (slots.opened marks.peers records)
+    limit_below (counter.limit_in (get records counter.limit_slot)) l.counter
+    (first_parts (ring.opened records) (counter.opened records) (own_number.opened records) (tag_in (get records 4)) (routing.opened records)
+    (slots.opened marks.peers records)
     l (sym (station_parts records) ∙ read)).1
 
 -- # Another ring
@@ -97,10 +102,12 @@ module _ (old new : Records) (same : SameOutside 1 1 old new) where
       here = same (slots.slot_of layout place) (inr (omega arith))
 
       by_next : ((next : List A) → slots.opened_from layout left (place + 1) new next ≡ slots.opened_from layout left (place + 1) old next)
-          → (octets : List ℕ) → get old (slots.slot_of layout place) ≡ Some octets → (next : Option (List A)) → slots.with_record layout place table octets ≡ next
+          → (octets : List ℕ) → get old (slots.slot_of layout place) ≡ Some octets → (next : Option (List A))
+          → slots.with_record layout place table octets ≡ next
           → slots.opened_from layout (suc left) place new table ≡ slots.opened_from layout (suc left) place old table
       by_next later octets o None w =
-          opened_from-damaged layout (suc left) place new table octets (omega arith) (here ∙ o) w ∙ sym (opened_from-damaged layout (suc left) place old table octets (omega arith) o w)
+          opened_from-damaged layout (suc left) place new table octets (omega arith) (here ∙ o) w
+          ∙ sym (opened_from-damaged layout (suc left) place old table octets (omega arith) o w)
       by_next later octets o (Some next) w =
           opened_from-more layout (suc left) left place new table next octets (omega arith) (here ∙ o) w ∙ later next
           ∙ sym (opened_from-more layout (suc left) left place old table next octets (omega arith) o w)

@@ -29,7 +29,8 @@ module _ (records : Records) where
       by_station (Err b) h = cc
 
   -- the book has no reading
-  pub book_bad : (bad : BadStore) (u : Unit {0}) → Ok u ≡ stations.read_answer (station_of records) → Err bad ≡ slots.opened book.entries records → memory_of Coordinator records ≡ Err bad
+  pub book_bad : (bad : BadStore) (u : Unit {0}) → Ok u ≡ stations.read_answer (station_of records) → Err bad ≡ slots.opened book.entries records
+      → memory_of Coordinator records ≡ Err bad
   unfolding read_by
   book_bad bad u is h = by_station (station_of records) is
     where
@@ -52,7 +53,8 @@ module _ (records : Records) where
   unfolding read_by
   memory_read b h = by_station (station_of records)
     where
-      by_station : (o : Result StationMemory BadStore) → option_map (memory_in [] [] b) (stations.if_read o) ≡ if_read (read_by o (slots.opened book.entries records))
+      by_station : (o : Result StationMemory BadStore)
+          → option_map (memory_in [] [] b) (stations.if_read o) ≡ if_read (read_by o (slots.opened book.entries records))
       by_station (Ok l) = ap (λ k. if_read (read_by (Ok l) k)) h
       by_station (Err c) = refl
 
@@ -67,7 +69,8 @@ module _ (records : Records) where
   }
 
   -- a station whose store has no reading holds nothing
-  pub unread_holds : (bad : BadStore) (o : Option StationMemory) (f : StationMemory → Memory) (P : Memory → Type 0) → Err bad ≡ stations.read_answer (station_of records)
+  pub unread_holds : (bad : BadStore) (o : Option StationMemory) (f : StationMemory → Memory) (P : Memory → Type 0)
+      → Err bad ≡ stations.read_answer (station_of records)
       → o ≡ stations.if_read (station_of records) → IfSome (option_map f o) P
   unread_holds bad o f P is e = subst (λ (k : Option StationMemory). IfSome (option_map f k) P) (sym e) (by_station (station_of records) is)
     where

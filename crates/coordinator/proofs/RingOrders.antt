@@ -22,7 +22,8 @@ pub drawn : (m : Memory) (index : ℕ) (key : Key) → false ≡ option_map_or (
 unfolding choose
 drawn m index key e = rw (← e) refl
 
-pub key_missing : (m : Memory) (index : ℕ) → false ≡ is_some (key_in_ring m.station.ring index) → refused {H = Unit {0}} orders m NotHeld ≡ activate_self m index
+pub key_missing : (m : Memory) (index : ℕ) → false ≡ is_some (key_in_ring m.station.ring index)
+    → refused {H = Unit {0}} orders m NotHeld ≡ activate_self m index
 unfolding choose
 key_missing m index e = rw (← e) refl
 

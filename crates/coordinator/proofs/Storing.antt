@@ -42,19 +42,23 @@ begun_is d none = λ i. record { puts = d.puts; memory = d.memory; units = sym n
 
 -- all of it was done
 pub stored : {H E : Type 0} (ends : Ends E) (s t : State Memory) (d : Draft Memory) (answer : H) (out : Out) → d.units ≡ []
-    → d.memory.station.counter.next ≤ d.memory.station.counter.limit → Does s d true t → out ≡ told d → Carries s (sealing in_memory ends d answer) (Ok answer) out t
+    → d.memory.station.counter.next ≤ d.memory.station.counter.limit → Does s d true t → out ≡ told d
+    → Carries s (sealing in_memory ends d answer) (Ok answer) out t
 stored {H} {E} ends s t d answer out none below does is =
     subst (λ (x : Draft Memory). Carries s (sealing in_memory ends x answer) (Ok answer) out t) (begun_is d none)
-    (carries_quiet ends s t d.puts d.memory d.plain d.made d.opened answer out below does.wrote is (ap (λ (x : State Memory). x.eui) does.state) (ap (λ (x : State Memory). x.memory) does.state))
+    (carries_quiet ends s t d.puts d.memory d.plain d.made d.opened answer out below does.wrote is (ap (λ (x : State Memory). x.eui) does.state)
+    (ap (λ (x : State Memory). x.memory) does.state))
 
 -- a put failed
 pub unstored : {H E : Type 0} (ends : Ends E) (s t : State Memory) (d : Draft Memory) (answer : H) (out : Out) → Does s d false t → out ≡ untold d
     → Carries s (sealing in_memory ends d answer) (Err ends.store) out t
 unstored {H} {E} ends s t d answer out does is =
-    carries_unsealed ends s t d d.puts [] answer out does.wrote (sym (append-nil d.puts)) is (ap (λ (x : State Memory). x.eui) does.state) (ap (λ (x : State Memory). x.memory) does.state)
+    carries_unsealed ends s t d d.puts [] answer out does.wrote (sym (append-nil d.puts)) is (ap (λ (x : State Memory). x.eui) does.state)
+    (ap (λ (x : State Memory). x.memory) does.state)
 
 -- nothing is done, for this reason
-pub refusal : {H E : Type 0} (ends : Ends E) (s : State Memory) (m : Memory) (reason : E) (p : Plan Memory (Result H E)) (out : Out) → s.memory ≡ Some m → refused {H = H} ends m reason ≡ p → out ≡ nothing
+pub refusal : {H E : Type 0} (ends : Ends E) (s : State Memory) (m : Memory) (reason : E) (p : Plan Memory (Result H E)) (out : Out) → s.memory ≡ Some m
+    → refused {H = H} ends m reason ≡ p → out ≡ nothing
     → Carries s p (Err reason) out s
 refusal {H} {E} ends s m reason p out running e o =
     subst (λ (q : Plan Memory (Result H E)). Carries s q (Err reason) out s) e

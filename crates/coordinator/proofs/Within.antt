@@ -28,12 +28,14 @@ use Rattle.node_rules.specs.Carrying.{Carries}
 use Rattle.coordinator.specs.CoordinatorAgreement.{HoldsWith, Holds, HasHome}
 
 -- so its station did
-pub within_carried : {A B : Type 0} (f : StationMemory → Memory) (reads : A → B) (s t : State StationMemory) (p : Plan StationMemory A) (answer : A) (out : Out) → Carries s p answer out t
+pub within_carried : {A B : Type 0} (f : StationMemory → Memory) (reads : A → B) (s t : State StationMemory) (p : Plan StationMemory A) (answer : A) (out : Out)
+    → Carries s p answer out t
     → Carries (seen f s) (within f reads p) (reads answer) out (seen f t)
 within_carried f reads s t p answer out c = carries_within f reads (seen f s) s t p answer out refl refl c
 
 -- another ring of the coordinator
-pub ring_plan : (m : Memory) (r : Ring) → within (λ l. with_station l m) (λ (a : Result (Unit {0}) CoordinatorRefusal). a) (sealing alone orders (with_ring r (empty_draft m.station)) tt)
+pub ring_plan : (m : Memory) (r : Ring)
+    → within (λ l. with_station l m) (λ (a : Result (Unit {0}) CoordinatorRefusal). a) (sealing alone orders (with_ring r (empty_draft m.station)) tt)
     ≡ sealing in_memory orders (on_station (with_ring r) (empty_draft m)) tt
 unfolding on_station with_ring empty_draft
 ring_plan m r = refl
@@ -44,14 +46,18 @@ abbrev pub AreBelow : List Write → Type 0
 AreBelow [] = ⊤
 AreBelow (w ∷ rest) = (w.slot < 0x1000) × AreBelow rest
 
-writes_below : (s t : Store) (ps : List Write) (done : Bool) → AreBelow ps → Writes s ps done t → (slot : ℕ) → 0x1000 ≤ slot → get t.records slot ≡ get s.records slot
+writes_below : (s t : Store) (ps : List Write) (done : Bool) → AreBelow ps → Writes s ps done t → (slot : ℕ) → 0x1000 ≤ slot
+    → get t.records slot ≡ get s.records slot
 writes_below s t [] done below h slot high = ap (λ (k : Store). get k.records slot) h.1
 writes_below s t (w ∷ rest) done below (true, mid, p, more, u) slot high =
-    writes_below mid t rest done below.1 more slot high ∙ stores_elsewhere s mid (Some w) true w.slot w.slot p (omega arith, omega arith) slot (inr (omega (arith, below.0)))
+    writes_below mid t rest done below.1 more slot high
+    ∙ stores_elsewhere s mid (Some w) true w.slot w.slot p (omega arith, omega arith) slot (inr (omega (arith, below.0)))
 writes_below s t (w ∷ rest) done below (false, mid, p, u, stop) slot high =
-    ap (λ (k : Store). get k.records slot) stop.1 ∙ stores_elsewhere s mid (Some w) false w.slot w.slot p (omega arith, omega arith) slot (inr (omega (arith, below.0)))
+    ap (λ (k : Store). get k.records slot) stop.1
+    ∙ stores_elsewhere s mid (Some w) false w.slot w.slot p (omega arith, omega arith) slot (inr (omega (arith, below.0)))
 
-pub book_beside : (b : book.Book) (s t : Store) (ps : List Write) (done : Bool) → AreBelow ps → Wrote s ps done t → book.IsKept b s.records → book.IsKept b t.records
+pub book_beside : (b : book.Book) (s t : Store) (ps : List Write) (done : Bool) → AreBelow ps → Wrote s ps done t → book.IsKept b s.records
+    → book.IsKept b t.records
 book_beside b s t ps done below h kept = record {
   short = kept.short;
   each = λ q inside. ap (option_map (book.entries.read q)) (writes_below s t ps done below h.by (slot_of book.entries q) (omega arith)) ∙ kept.each q inside;
@@ -93,7 +99,8 @@ home_holds s t p f answer out b at_station at_book c keeps kept agrees = by_done
     by_done false wrote held = subst P (sym held) (λ a. tt) agrees
     by_done true wrote held = subst P (sym held) (λ a. record {
       station = subst (λ (k : StationMemory). AgreesWith k t.store.records) (sym (at_station p.memory)) a;
-      book = subst (λ (k : book.Book). book.IsKept k t.store.records) (sym (at_book p.memory)) (book_beside b s.store t.store p.puts true keeps.below wrote kept);
+      book =
+          subst (λ (k : book.Book). book.IsKept k t.store.records) (sym (at_book p.memory)) (book_beside b s.store t.store p.puts true keeps.below wrote kept);
       home = ap address_of (at_station p.memory) ∙ keeps.home;
     }) agrees
 
@@ -102,7 +109,8 @@ pub ring_keeps : {H E : Type 0} (ends : Ends E) (answer : H) (l : StationMemory)
 unfolding with_ring empty_draft
 ring_keeps ends answer l r home = record { below = (omega arith, counter_below l.counter 0); home = home }
 
-pub keyed_home : (r : Ring) (index : ℕ) (key : Key) → option_map (λ (g : Granted). g.address) r ≡ Some 0 → option_map (λ (g : Granted). g.address) (with_key r index key) ≡ Some 0
+pub keyed_home : (r : Ring) (index : ℕ) (key : Key) → option_map (λ (g : Granted). g.address) r ≡ Some 0
+    → option_map (λ (g : Granted). g.address) (with_key r index key) ≡ Some 0
 keyed_home None index key home = home
 keyed_home (Some g) index key home = by_index (index == 0)
   where
@@ -110,7 +118,8 @@ keyed_home (Some g) index key home = by_index (index == 0)
     by_index true = home
     by_index false = home
 
-pub active_home : (r : Ring) (index : ℕ) → option_map (λ (g : Granted). g.address) r ≡ Some 0 → option_map (λ (g : Granted). g.address) (with_active r index) ≡ Some 0
+pub active_home : (r : Ring) (index : ℕ) → option_map (λ (g : Granted). g.address) r ≡ Some 0
+    → option_map (λ (g : Granted). g.address) (with_active r index) ≡ Some 0
 active_home None index home = home
 active_home (Some g) index home = home
 

@@ -22,7 +22,8 @@ flights_push (s ∷ strings) [] octets kept e = absurd (omega (arith, e))
 flights_push (s ∷ strings) (k ∷ items) octets kept e = ap (λ (fs : List Flight). flight_of s k ∷ fs) (flights_push strings items octets kept (omega (arith, e)))
 
 -- the flight at a place
-pub flight_at : (strings : List (List ℕ)) (items : List Kept) (i : ℕ) (octets : List ℕ) (kept : Kept) → slice_get strings i ≡ Some octets → slice_get items i ≡ Some kept
+pub flight_at : (strings : List (List ℕ)) (items : List Kept) (i : ℕ) (octets : List ℕ) (kept : Kept) → slice_get strings i ≡ Some octets
+    → slice_get items i ≡ Some kept
     → slice_get (flights_of strings items) i ≡ Some (flight_of octets kept)
 flight_at [] items i octets kept s k = absurd cc
 flight_at (x ∷ strings) [] i octets kept s k = absurd cc
@@ -38,14 +39,16 @@ none_at (x ∷ strings) [] i e = refl
 none_at (x ∷ strings) (y ∷ items) zero e = absurd cc
 none_at (x ∷ strings) (y ∷ items) (suc i) e = none_at strings items i e
 
-pub octets_at : (strings : List (List ℕ)) (items : List Kept) (i : ℕ) (f : Flight) → slice_get (flights_of strings items) i ≡ Some f → slice_get strings i ≡ Some f.octets
+pub octets_at : (strings : List (List ℕ)) (items : List Kept) (i : ℕ) (f : Flight) → slice_get (flights_of strings items) i ≡ Some f
+    → slice_get strings i ≡ Some f.octets
 octets_at [] items i f e = absurd cc
 octets_at (x ∷ strings) [] i f e = absurd cc
 octets_at (x ∷ strings) (y ∷ items) zero f e = let same : flight_of x y ≡ f = cc in ap (λ (g : Flight). Some g.octets) same
 octets_at (x ∷ strings) (y ∷ items) (suc i) f e = octets_at strings items i f e
 
 -- the flight at a place, by what is kept there
-pub beside : (strings : List (List ℕ)) (items : List Kept) (i : ℕ) (kept : Kept) (f : Flight) → slice_get items i ≡ Some kept → slice_get (flights_of strings items) i ≡ Some f → f ≡ flight_of f.octets kept
+pub beside : (strings : List (List ℕ)) (items : List Kept) (i : ℕ) (kept : Kept) (f : Flight) → slice_get items i ≡ Some kept
+    → slice_get (flights_of strings items) i ≡ Some f → f ≡ flight_of f.octets kept
 beside strings items i kept f k e =
     let is : Some f ≡ Some (flight_of f.octets kept) = sym e ∙ flight_at strings items i f.octets kept (octets_at strings items i f e) k in cc
 
@@ -61,7 +64,8 @@ in_flights fs zero some = absurd (omega (arith, some))
 in_flights fs (suc n) some = rw (eq_suc_zero n) refl
 
 -- a flight is lost
-pub flights_lost : (strings : List (List ℕ)) (items : List Kept) (i : ℕ) (kept : Kept) (f : Flight) → slice_get items i ≡ Some kept → slice_get (flights_of strings items) i ≡ Some f
+pub flights_lost : (strings : List (List ℕ)) (items : List Kept) (i : ℕ) (kept : Kept) (f : Flight) → slice_get items i ≡ Some kept
+    → slice_get (flights_of strings items) i ≡ Some f
     → flights_of strings (set items i (record kept { lost = true })) ≡ set (flights_of strings items) i (record f { lost = true })
 flights_lost [] items i kept f k e = refl
 flights_lost (x ∷ strings) [] i kept f k e = refl
@@ -70,8 +74,10 @@ flights_lost (x ∷ strings) (y ∷ items) zero kept f k e =
     ap (λ (g : Flight). record g { lost = true } ∷ flights_of strings items) (sym same)
 flights_lost (x ∷ strings) (y ∷ items) (suc i) kept f k e = ap (λ (fs : List Flight). flight_of x y ∷ fs) (flights_lost strings items i kept f k e)
 
-pub lost_so : (old new : Flown) (number : ℕ) (f : Flight) → flight_in old.flights number ≡ Some f → f.lost ≡ false → new ≡ record old { flights = slice_set old.flights (number - 1) (record f { lost = true }) }
-    → MatchOption (not_lost (flight_in old.flights number)) ((true ≡ false) × (new ≡ old)) (λ f. (true ≡ true) × (new ≡ record old { flights = slice_set old.flights (number - 1) (record f { lost = true }) }))
+pub lost_so : (old new : Flown) (number : ℕ) (f : Flight) → flight_in old.flights number ≡ Some f → f.lost ≡ false
+    → new ≡ record old { flights = slice_set old.flights (number - 1) (record f { lost = true }) }
+    → MatchOption (not_lost (flight_in old.flights number)) ((true ≡ false) × (new ≡ old))
+    (λ f. (true ≡ true) × (new ≡ record old { flights = slice_set old.flights (number - 1) (record f { lost = true }) }))
 lost_so old new number f there flies is = rw there (rw flies (refl, is))
 
 -- the flight of some octets
@@ -80,7 +86,8 @@ pub record Here (fs : List Flight) (k : ℕ) (octets : List ℕ) : Type 0 where
   pub there : slice_get fs k ≡ Some flight
   pub same : flight.octets ≡ octets
 
-pub flown_at : (strings : List (List ℕ)) (items : List Kept) (k : ℕ) (octets : List ℕ) → length strings ≡ length items → slice_get strings k ≡ Some octets → Here (flights_of strings items) k octets
+pub flown_at : (strings : List (List ℕ)) (items : List Kept) (k : ℕ) (octets : List ℕ) → length strings ≡ length items → slice_get strings k ≡ Some octets
+    → Here (flights_of strings items) k octets
 flown_at [] items k octets count e = absurd cc
 flown_at (x ∷ strings) [] k octets count e = absurd (omega (arith, count))
 flown_at (x ∷ strings) (y ∷ items) zero octets count e = record { flight = flight_of x y; there = refl; same = cc }

@@ -1,5 +1,6 @@
 -- Where octets come from, flight by flight.
-use Rattle.std.proofs.Common.{◌≡◌, ℕ, zero, suc, ◌-◌, ◌<◌, ◌≤◌, Bool, true, false, List, [], ◌∷◌, length, take, drop, Some, refl, sym, ap, ◌∙◌, arith, length-take}
+use Rattle.std.proofs.Common.{◌≡◌, ℕ, zero, suc, ◌-◌, ◌<◌, ◌≤◌, Bool, true, false, List, [], ◌∷◌, length, take, drop, Some, refl, sym, ap, ◌∙◌, arith}
+use Rattle.std.proofs.Common.{length-take}
 use Rattle.std.specs.Prelude.{slice_get, if◌then◌else◌, not, ◌||◌}
 use Rattle.std.specs.List.{list_any}
 use Rattle.std.specs.Str.{bytes_eq}
@@ -31,7 +32,8 @@ pub origin_none : (octets : List ℕ) (key : Key) → origin_of [] octets key �
 unfolding note_of
 origin_none octets key = refl
 
-origin_cons : (f : Flight) (fs : List Flight) (octets : List ℕ) (key : Key) → origin_of (f ∷ fs) octets key ≡ told_by (has_octets octets key f) f.note (origin_of fs octets key)
+origin_cons : (f : Flight) (fs : List Flight) (octets : List ℕ) (key : Key)
+    → origin_of (f ∷ fs) octets key ≡ told_by (has_octets octets key f) f.note (origin_of fs octets key)
 unfolding note_of
 origin_cons f fs octets key = cons_by (has_octets octets key f) (list_any (has_octets octets key) fs) f.note (note_of fs octets key)
 
@@ -73,13 +75,16 @@ module _ (octets : List ℕ) (key : Key) where
   from_last strings items n count is =
       skip (flights_of strings items) n (length strings)
       (λ k low high f there same. is.none k low (octets_at strings items k f there ∙ ap Some same)) is.within
-      ∙ ap (λ (l : List Flight). origin_of l octets key) (drop_all (length strings) (flights_of strings items) (omega (arith, count, count_of strings items count)))
+      ∙ ap (λ (l : List Flight). origin_of l octets key)
+      (drop_all (length strings) (flights_of strings items) (omega (arith, count, count_of strings items count)))
       ∙ origin_none octets key
 
   -- one more of these octets
-  pub from_before : (strings : List (List ℕ)) (items : List Kept) (n p : ℕ) (f : Flight) → 0 < n → n ≤ length strings → slice_get (flights_of strings items) (n - 1) ≡ Some f → f.octets ≡ octets
+  pub from_before : (strings : List (List ℕ)) (items : List Kept) (n p : ℕ) (f : Flight) → 0 < n → n ≤ length strings
+      → slice_get (flights_of strings items) (n - 1) ≡ Some f → f.octets ≡ octets
       → IsLast (take (n - 1) strings) octets p
-      → origin_of (drop p (flights_of strings items)) octets key ≡ told_by (is_under f.key key) f.note (origin_of (drop n (flights_of strings items)) octets key)
+      → origin_of (drop p (flights_of strings items)) octets key
+      ≡ told_by (is_under f.key key) f.note (origin_of (drop n (flights_of strings items)) octets key)
   from_before strings items n p f some within there same is =
       let fs = flights_of strings items in
       let cut : length (take (n - 1) strings) ≡ n - 1 = omega (arith, length-take (n - 1) strings, within) in

@@ -1,5 +1,6 @@
 -- Tags by their spellings, and which of them are the same.
-use Rattle.std.proofs.Common.{◌≡◌, inl, inr, ℕ, zero, suc, ◌-◌, ◌*◌, ◌^◌, ◌<◌, ◌≤◌, Bool, true, false, All, List, [], ◌∷◌, ◌++◌, length, map, max, take, drop, Some, refl, sym, ap, subst, ◌∙◌, arith, length-append}
+use Rattle.std.proofs.Common.{◌≡◌, inl, inr, ℕ, zero, suc, ◌-◌, ◌*◌, ◌^◌, ◌<◌, ◌≤◌, Bool, true, false, All, List, [], ◌∷◌, ◌++◌, length, map, max, take, drop}
+use Rattle.std.proofs.Common.{Some, refl, sym, ap, subst, ◌∙◌, arith, length-append}
 use Rattle.std.specs.Prelude.{slice_get, slice_index, not, nat_eq, ◌==◌, ◌||◌, ◌&&◌, Result, Ok, Err, OnOk, OnErr}
 use Rattle.std.specs.List.{list_any}
 use Rattle.std.specs.Str.{bytes_eq}
@@ -98,14 +99,17 @@ octets_left [] ys small = All-nil (λ x. x < 256)
 octets_left (x ∷ xs) ys small = All-cons (λ x. x < 256) x xs (small 0) (octets_left xs ys (λ k. small (suc k)))
 
 -- EUIs of octets are the same where their numbers are
-one_eui : (a b : Eui) (s t : List ℕ) → length a.0 ≡ 8 → length b.0 ≡ 8 → ((k : ℕ) → slice_index (a.0 ++ s) k < 256) → ((k : ℕ) → slice_index (b.0 ++ t) k < 256) → same_eui a b ≡ true → a.0 ≡ b.0
+one_eui : (a b : Eui) (s t : List ℕ) → length a.0 ≡ 8 → length b.0 ≡ 8 → ((k : ℕ) → slice_index (a.0 ++ s) k < 256) → ((k : ℕ) → slice_index (b.0 ++ t) k < 256)
+    → same_eui a b ≡ true → a.0 ≡ b.0
 one_eui a b s t p q small_a small_b e =
-    sym (bytes_high_first-big_from 8 a.0 p (octets_left a.0 s small_a)) ∙ ap (big_bytes 8) (eqb-true (big_number 8 a.0) (big_number 8 b.0) e) ∙ bytes_high_first-big_from 8 b.0 q (octets_left b.0 t small_b)
+    sym (bytes_high_first-big_from 8 a.0 p (octets_left a.0 s small_a)) ∙ ap (big_bytes 8) (eqb-true (big_number 8 a.0) (big_number 8 b.0) e)
+    ∙ bytes_high_first-big_from 8 b.0 q (octets_left b.0 t small_b)
 
 one_string : (a b : List ℕ) → bytes_eq a b ≡ true → a ≡ b
 one_string a b e = (bytes_decides a b).0 e
 
-pub one_tag : (a b : PairTag) → IsTag a → IsTag b → ((k : ℕ) → slice_index (tag_octets a) k < 256) → ((k : ℕ) → slice_index (tag_octets b) k < 256) → same_tag a b ≡ true → a ≡ b
+pub one_tag : (a b : PairTag) → IsTag a → IsTag b → ((k : ℕ) → slice_index (tag_octets a) k < 256) → ((k : ℕ) → slice_index (tag_octets b) k < 256)
+    → same_tag a b ≡ true → a ≡ b
 one_tag (MacP a s) (MacP b t) p q small_a small_b e =
     let h = both (same_eui a b) (bytes_eq s t) e in
     let eui = one_eui a b s t p q (λ k. small_a (suc k)) (λ k. small_b (suc k)) h.0 in

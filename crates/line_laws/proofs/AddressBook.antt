@@ -1,5 +1,6 @@
 -- The book that the records of the coordinator give: whatever becomes of a plan's writes, every address in it stays.
-use Rattle.std.proofs.Common.{◌≡◌, ℕ, zero, suc, ◌<◌, ◌≤◌, Bool, true, false, List, [], ◌∷◌, length, Option, Some, None, Result, refl, sym, ap, ◌∙◌, subst, arith}
+use Rattle.std.proofs.Common.{◌≡◌, ℕ, zero, suc, ◌<◌, ◌≤◌, Bool, true, false, List, [], ◌∷◌, length, Option, Some, None, Result, refl, sym, ap, ◌∙◌, subst}
+use Rattle.std.proofs.Common.{arith}
 use Rattle.std.specs.Prelude.{if◌then◌else◌, All, slice_get}
 use Rattle.std.specs.Option.{option_map}
 use Rattle.std.proofs.lemmas.Option.{same_Some}
@@ -30,7 +31,8 @@ use Rattle.line_laws.proofs.StoreBook.{Rest, rest_lasts, holds_same, kept_with, 
 use Rattle.line_laws.proofs.StorePlans.{made_in_counter}
 use Rattle.line_laws.proofs.Planned.{Planned, Refuses, Keeps, Ended}
 use Rattle.line_laws.proofs.Made.{RingWord, Given, Offered}
-use Rattle.line_laws.proofs.MadeIn.{unheard, EntryChange, MadeIn, Begins, Station, OnStation, Remembers, Tags as TagsIn, Enters, Up, Down, Beside, Ends as EndsIn, Asks, Replies, Opens, Answers, Closes, Gives}
+use Rattle.line_laws.proofs.MadeIn.{unheard, EntryChange, MadeIn, Begins, Station, OnStation, Remembers, Tags as TagsIn, Enters, Up, Down, Beside}
+use Rattle.line_laws.proofs.MadeIn.{Ends as EndsIn, Asks, Replies, Opens, Answers, Closes, Gives}
 use Rattle.line_laws.proofs.CallForms.{Few}
 
 -- every address stays
@@ -56,7 +58,8 @@ beside_book E n k (Gives value room) = refl
 
 module _ (V : book.Book → Type 0) where
   -- a line's writes
-  pub station_grown : (n : Memory) (l k : StationMemory) (ps : List Write) → Leads (With (Rest Coordinator n)) l ps k → Leads (Grown V) (with_station l n) ps (with_station k n)
+  pub station_grown : (n : Memory) (l k : StationMemory) (ps : List Write) → Leads (With (Rest Coordinator n)) l ps k
+      → Leads (Grown V) (with_station l n) ps (with_station k n)
   unfolding Rest
   station_grown n l k ps x = leads_when (Grown V) (with_station l n) (with_station k n) ps (λ s t.
       leads_map (With (Rest Coordinator n)) (Grown V) (λ (j : StationMemory). with_station j n)
@@ -64,12 +67,15 @@ module _ (V : book.Book → Type 0) where
       (λ j r q. record { kept = q.kept.station; rest = (q.kept.book, q.kept.sessions) }) l k ps x)
 
   -- an entry is stored where it changes
-  entry_grown : (m : Memory) (e : BookEntry) → ((r : Records) → IsBookKept m.book r → IsReadableEntry e) → book.has_room m.book e.eui ≡ true → (V m.book → V (book.with_entry m.book e))
+  entry_grown : (m : Memory) (e : BookEntry) → ((r : Records) → IsBookKept m.book r → IsReadableEntry e) → book.has_room m.book e.eui ≡ true
+      → (V m.book → V (book.with_entry m.book e))
       → Leads (Grown V) m (puts_of (book.change_write m.book e)) (record m { book = book.with_entry m.book e })
   entry_grown m e fits room step = by_holding (book.holds m.book e) refl
     where
-      by_holding : (h : Bool) → book.holds m.book e ≡ h → Leads (Grown V) m (puts_of (if h then None else book.entry_write m.book e)) (record m { book = book.with_entry m.book e })
-      by_holding true same = leads_beside (Grown V) m _ (λ r k. record { kept = same_book Coordinator m _ r k.kept (holds_same m.book e same); grows = step k.grows })
+      by_holding : (h : Bool) → book.holds m.book e ≡ h
+          → Leads (Grown V) m (puts_of (if h then None else book.entry_write m.book e)) (record m { book = book.with_entry m.book e })
+      by_holding true same =
+          leads_beside (Grown V) m _ (λ r k. record { kept = same_book Coordinator m _ r k.kept (holds_same m.book e same); grows = step k.grows })
       by_holding false other = leads_one (Grown V) m _ _ (λ r k. record { kept = kept_with Coordinator m e r k.kept fits room refl; grows = step k.grows })
 
   module _ (W : RingWord → Type 0) (L : Granted → Type 0) (P : Eui → Key → Type 0) (E : Eui → Type 0) (g : Given) (m : Memory)
@@ -80,22 +86,33 @@ module _ (V : book.Book → Type 0) where
     abbrev coordinator : (x : book.Book) (e : BookEntry) → EntryChange L P E m x e → Coordinator ≡ Coordinator
     coordinator x e change = refl
 
-    made_in_grown : (grants : (granted : Granted) → L granted → IsHeld granted.key0 × IsHeld granted.key1) (sessions : All IsNamed m.sessions) (d : Draft Memory) → MadeIn W L P E g m d → Adds (Grown V) (empty_draft m) d
+    made_in_grown : (grants : (granted : Granted) → L granted → IsHeld granted.key0 × IsHeld granted.key1) (sessions : All IsNamed m.sessions)
+        (d : Draft Memory) → MadeIn W L P E g m d → Adds (Grown V) (empty_draft m) d
     unfolding empty_draft on_station with_memory_by with_pair_tags with_book_entry goes_up goes_down
     made_in_grown grants sessions d Begins = adds_none (Grown V) (empty_draft m)
     made_in_grown grants sessions d (Station e made) =
         let a = made_adds (Rest Coordinator m) (rest_lasts Coordinator m) W g words offers (empty_draft m.station) e made in
         record { more = a.more; puts = a.puts; leads = station_grown m m.station e.memory a.more a.leads }
     made_in_grown grants sessions d (OnStation word e made step) =
-        let a = made_adds (Rest Coordinator e.memory) (rest_lasts Coordinator e.memory) W (unheard g) words (unheard_offers Coordinator W L P E g m words offers known pairs coordinator grants sessions g) (station_part e) (word (station_part e)) step in
-        adds_then (Grown V) (empty_draft m) e d a.more (made_in_grown grants sessions e made) a.puts (station_grown e.memory e.memory.station (word (station_part e)).memory a.more a.leads)
-    made_in_grown grants sessions d (Remembers change e made beside) = adds_beside (Grown V) (empty_draft m) e d (made_in_grown grants sessions e made) refl (λ r k.
-        record { kept = beside_stays Coordinator W L P E g m words offers known pairs coordinator grants sessions e.memory (change e.memory) r beside k.kept; grows = subst V (sym (beside_book E e.memory (change e.memory) beside)) k.grows })
-    made_in_grown grants sessions d (TagsIn made opened e x) = adds_beside (Grown V) (empty_draft m) e d (made_in_grown grants sessions e x) refl (λ r k. record { kept = k.kept; grows = k.grows })
+        let a = made_adds (Rest Coordinator e.memory) (rest_lasts Coordinator e.memory) W (unheard g) words
+        (unheard_offers Coordinator W L P E g m words offers known pairs coordinator grants sessions g) (station_part e) (word (station_part e)) step in
+        adds_then (Grown V) (empty_draft m) e d a.more (made_in_grown grants sessions e made) a.puts
+        (station_grown e.memory e.memory.station (word (station_part e)).memory a.more a.leads)
+    made_in_grown grants sessions d (Remembers change e made beside) =
+        adds_beside (Grown V) (empty_draft m) e d (made_in_grown grants sessions e made) refl (λ r k.
+        record {
+          kept = beside_stays Coordinator W L P E g m words offers known pairs coordinator grants sessions e.memory (change e.memory) r beside k.kept;
+          grows = subst V (sym (beside_book E e.memory (change e.memory) beside)) k.grows;
+        })
+    made_in_grown grants sessions d (TagsIn made opened e x) =
+        adds_beside (Grown V) (empty_draft m) e d (made_in_grown grants sessions e x) refl (λ r k. record { kept = k.kept; grows = k.grows })
     made_in_grown grants sessions d (Enters x e made change) = adds_then (Grown V) (empty_draft m) e d _ (made_in_grown grants sessions e made) refl
-        (entry_grown e.memory x (entry_fits Coordinator W L P E g m words offers known pairs coordinator grants sessions e.memory.book x change) (entry_room Coordinator W L P E g m words offers known pairs coordinator grants sessions e.memory.book x change) (steps e.memory.book x change))
-    made_in_grown grants sessions d (Up agent own message e made) = adds_beside (Grown V) (empty_draft m) e d (made_in_grown grants sessions e made) refl (λ r k. record { kept = k.kept; grows = k.grows })
-    made_in_grown grants sessions d (Down own message e made) = adds_beside (Grown V) (empty_draft m) e d (made_in_grown grants sessions e made) refl (λ r k. record { kept = k.kept; grows = k.grows })
+        (entry_grown e.memory x (entry_fits Coordinator W L P E g m words offers known pairs coordinator grants sessions e.memory.book x change)
+        (entry_room Coordinator W L P E g m words offers known pairs coordinator grants sessions e.memory.book x change) (steps e.memory.book x change))
+    made_in_grown grants sessions d (Up agent own message e made) =
+        adds_beside (Grown V) (empty_draft m) e d (made_in_grown grants sessions e made) refl (λ r k. record { kept = k.kept; grows = k.grows })
+    made_in_grown grants sessions d (Down own message e made) =
+        adds_beside (Grown V) (empty_draft m) e d (made_in_grown grants sessions e made) refl (λ r k. record { kept = k.kept; grows = k.grows })
 
     counted_grown : (d : Draft Memory) (count : ℕ) → count ≤ 24 → count ≤ counters_left m.station → d.memory.station.counter ≡ m.station.counter
         → Leads (Grown V) d.memory (puts_of (counter.reserve_write d.memory.station.counter count)) (counted in_memory count d.memory)
@@ -107,9 +124,11 @@ module _ (V : book.Book → Type 0) where
         let next = ap (λ (c : counter.Counting). c.next) same in
         counter_leads (Rest Coordinator d.memory) (rest_lasts Coordinator d.memory) d.memory.station count (omega arith) (omega arith)))
 
-    pub plan_grown : (grants : (r : Records) → IsKept Coordinator m r → (granted : Granted) → L granted → IsHeld granted.key0 × IsHeld granted.key1) {H F : Type 0} (ends : Ends F) (K : Memory → H → Type 0)
+    pub plan_grown : (grants : (r : Records) → IsKept Coordinator m r → (granted : Granted) → L granted → IsHeld granted.key0 × IsHeld granted.key1)
+        {H F : Type 0} (ends : Ends F) (K : Memory → H → Type 0)
         → ((n : Memory) (answer : H) → K n answer → (r : Records) → Grown V m r → Grown V n r)
-        → (p : Plan Memory (Result H F)) → Planned in_memory ends m K (λ d (a : H). MadeIn W L P E g m d × Few m.station d) p → pending m.station ≤ 21 → Leads (Grown V) m p.puts p.memory
+        → (p : Plan Memory (Result H F)) → Planned in_memory ends m K (λ d (a : H). MadeIn W L P E g m d × Few m.station d) p → pending m.station ≤ 21
+        → Leads (Grown V) m p.puts p.memory
     unfolding resting empty_draft
     plan_grown grants ends K beside p (Refuses reason) waits = leads_beside (Grown V) m m (λ r k. k)
     plan_grown grants ends K beside p (Keeps n answer k) waits = leads_beside (Grown V) m n (beside n answer k)
@@ -145,4 +164,5 @@ lists_same (suc n) (x ∷ xs) (y ∷ ys) a b f =
     ap (λ z. z ∷ xs) first ∙ ap (λ zs. y ∷ zs) rest
 
 pub one_book : (a b : book.Book) (r : Records) → IsBookKept a r → IsBookKept b r → a ≡ b
-one_book a b r h k = lists_same 999 a b h.table.short k.table.short (λ place within. some_same (slice_get a place) (slice_get b place) (sym (h.stored.each place within) ∙ k.stored.each place within))
+one_book a b r h k = lists_same 999 a b h.table.short k.table.short
+    (λ place within. some_same (slice_get a place) (slice_get b place) (sym (h.stored.each place within) ∙ k.stored.each place within))

@@ -56,7 +56,8 @@ module _ (S : ring.Ring → Type 0) where
   put_in : (r : Records) (w : Write) → RingWrite S w → RingIn S r → RingIn S (insert r w.slot w.octets)
   put_in r w (Away v ne) h x e = h x (sym (ap ring.ring_at (get-insert_other r v.slot 1 v.octets (λ k. ne (sym k)))) ∙ e)
   put_in r w (Puts y reads s) h x e =
-      let got : ring.ring_at (get (insert r 1 (ring.ring_octets y)) 1) ≡ Some y = ap ring.ring_at (get-insert_same r 1 1 (ring.ring_octets y) refl) ∙ readable_reads y reads in
+      let got : ring.ring_at (get (insert r 1 (ring.ring_octets y)) 1)
+      ≡ Some y = ap ring.ring_at (get-insert_same r 1 1 (ring.ring_octets y) refl) ∙ readable_reads y reads in
       subst S (same_Some _ _ (sym got ∙ e)) s
 
   all_in : (ps : List Write) (r : Records) → RingWrites S ps → RingIn S r → RingIn S (all_put ps r)
@@ -78,8 +79,10 @@ module _ (S : ring.Ring → Type 0) where
       append_one [] one rest = refl
       append_one (x ∷ front) one rest = ap (λ ws. x ∷ ws) (append_one front one rest)
 
-      by_kind : (b : Bool) (front rest : List Write) (one : Write) → p.puts ≡ front ++ one ∷ rest → RingIn S (if b then all_put (front ++ one ∷ []) r else all_put front r)
-      by_kind true front rest one e = all_in (front ++ one ∷ []) r (front_writes (front ++ one ∷ []) rest (subst (RingWrites S) (e ∙ sym (append_one front one rest)) w)) h
+      by_kind : (b : Bool) (front rest : List Write) (one : Write) → p.puts ≡ front ++ one ∷ rest
+          → RingIn S (if b then all_put (front ++ one ∷ []) r else all_put front r)
+      by_kind true front rest one e =
+          all_in (front ++ one ∷ []) r (front_writes (front ++ one ∷ []) rest (subst (RingWrites S) (e ∙ sym (append_one front one rest)) w)) h
       by_kind false front rest one e = all_in front r (front_writes front (one ∷ rest) (subst (RingWrites S) e w)) h
 
       cut_off : IsCutOff r cut p (carry_out r cut p) → RingIn S (carry_out r cut p).records
@@ -136,9 +139,12 @@ module _ (S : ring.Ring → Type 0) (W : RingWord → Type 0) (g : Given)
   pub made_rung : (s d : Draft StationMemory) → Made W g s d → Rung S s → Rung S d
   unfolding with_rank with_own_number with_next_tag with_ring with_routing_by goes body_goes waits leave
   made_rung s d Starts h = h
-  made_rung s d (Ranks by origin rank e made o fits) h = let x = made_rung s e made h in record { puts = writes_append S e.puts _ x.puts (offer_away S e.memory.routing origin rank by g.now); ring = x.ring; reads = x.reads }
-  made_rung s d (Numbers e made left) h = let x = made_rung s e made h in record { puts = writes_append S e.puts _ x.puts (number_away S e.memory.own_number); ring = x.ring; reads = x.reads }
-  made_rung s d (Tags e made first) h = let x = made_rung s e made h in record { puts = writes_append S e.puts _ x.puts (Away _ (omega arith), tt); ring = x.ring; reads = x.reads }
+  made_rung s d (Ranks by origin rank e made o fits) h = let x = made_rung s e made h in
+      record { puts = writes_append S e.puts _ x.puts (offer_away S e.memory.routing origin rank by g.now); ring = x.ring; reads = x.reads }
+  made_rung s d (Numbers e made left) h =
+      let x = made_rung s e made h in record { puts = writes_append S e.puts _ x.puts (number_away S e.memory.own_number); ring = x.ring; reads = x.reads }
+  made_rung s d (Tags e made first) h =
+      let x = made_rung s e made h in record { puts = writes_append S e.puts _ x.puts (Away _ (omega arith), tt); ring = x.ring; reads = x.reads }
   made_rung s d (Rings y e made change) h =
       let x = made_rung s e made h in
       let c = changes e.memory.ring y change x.reads x.ring in
@@ -146,6 +152,8 @@ module _ (S : ring.Ring → Type 0) (W : RingWord → Type 0) (g : Given)
   made_rung s d (Idles e made) h = let x = made_rung s e made h in record { puts = x.puts; ring = x.ring; reads = x.reads }
   made_rung s d (Loses lost by e made) h = let x = made_rung s e made h in record { puts = x.puts; ring = x.ring; reads = x.reads }
   made_rung s d (Goes to unit note e made said alone) h = let x = made_rung s e made h in record { puts = x.puts; ring = x.ring; reads = x.reads }
-  made_rung s d (Sends own hop to note load e made here there short carried alone) h = let x = made_rung s e made h in record { puts = x.puts; ring = x.ring; reads = x.reads }
-  made_rung s d (Waits to note load now e made none room short carried alone) h = let x = made_rung s e made h in record { puts = x.puts; ring = x.ring; reads = x.reads }
+  made_rung s d (Sends own hop to note load e made here there short carried alone) h =
+      let x = made_rung s e made h in record { puts = x.puts; ring = x.ring; reads = x.reads }
+  made_rung s d (Waits to note load now e made none room short carried alone) h =
+      let x = made_rung s e made h in record { puts = x.puts; ring = x.ring; reads = x.reads }
   made_rung s d (Leaves own dest hop rank e made here offered) h = let x = made_rung s e made h in record { puts = x.puts; ring = x.ring; reads = x.reads }

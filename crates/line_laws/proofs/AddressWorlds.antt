@@ -39,7 +39,8 @@ place_at b eui address is = by_place (books.place_of b eui) refl is
     by_place (Some place) e h = record { place = place; is = e; next = cc }
 
 -- the book's addresses are distinct
-pub one_meter : (b : books.Book) (x y : Eui) (address : ℕ) → books.address_of b x ≡ Some address → books.address_of b y ≡ Some address → books.eui_number x ≡ books.eui_number y
+pub one_meter : (b : books.Book) (x y : Eui) (address : ℕ) → books.address_of b x ≡ Some address → books.address_of b y ≡ Some address
+    → books.eui_number x ≡ books.eui_number y
 one_meter b x y address is_x is_y =
     let p = place_at b x address is_x in
     let q = place_at b y address is_y in
@@ -56,7 +57,8 @@ above_nought b eui address is = let p = place_at b eui address is in omega (arit
 
 module _ (w : World) (given : List Issued) (ok : WorldOk w) (k : Keyed w given) where
   -- what holds of the ring of the records holds of the address
-  ring_address : (S : ring.Ring → Type 0) (T : ℕ → Type 0) → ((g : Granted) → S (Some g) → T g.address) → (n : ℕ) (x : Node) → node_at w n ≡ Some x → RingIn S x.store.records → (a : ℕ) → node_address x ≡ Some a → T a
+  ring_address : (S : ring.Ring → Type 0) (T : ℕ → Type 0) → ((g : Granted) → S (Some g) → T g.address) → (n : ℕ) (x : Node) → node_at w n ≡ Some x
+      → RingIn S x.store.records → (a : ℕ) → node_address x ≡ Some a → T a
   ring_address S T f n x there rings a = by_memory x.memory (at_place NodeOk w.nodes n x there ok.nodes).kept
     where
       by_ring : (r : ring.Ring) → S r → option_map (λ (g : Granted). g.address) r ≡ Some a → T a
@@ -69,7 +71,8 @@ module _ (w : World) (given : List Issued) (ok : WorldOk w) (k : Keyed w given) 
 
   -- a meter has the address that the book gives it
   pub meter_address : (n : ℕ) (x : Node) (a : ℕ) → n ≢ 0 → node_at w n ≡ Some x → node_address x ≡ Some a → books.address_of k.book x.eui ≡ Some a
-  meter_address n x a ne there = ring_address (RingOk k.book given x.eui) (λ c. books.address_of k.book x.eui ≡ Some c) (λ g h. h.address) n x there (k.meters n x ne there).ring a
+  meter_address n x a ne there =
+      ring_address (RingOk k.book given x.eui) (λ c. books.address_of k.book x.eui ≡ Some c) (λ g h. h.address) n x there (k.meters n x ne there).ring a
 
   -- the coordinator's is 0000
   pub coordinator_address : (c : Node) (a : ℕ) → node_at w 0 ≡ Some c → node_address c ≡ Some a → a ≡ 0
@@ -87,14 +90,17 @@ module _ (w : World) (given : List Issued) (ok : WorldOk w) (k : Keyed w given) 
           some a e = cc
 
   -- two nodes never have one address
-  pub addresses_differ : (i j : ℕ) (x y : Node) (a : ℕ) → node_at w i ≡ Some x → node_at w j ≡ Some y → node_address x ≡ Some a → node_address y ≡ Some a → i ≡ j
+  pub addresses_differ : (i j : ℕ) (x y : Node) (a : ℕ) → node_at w i ≡ Some x → node_at w j ≡ Some y → node_address x ≡ Some a → node_address y ≡ Some a
+      → i ≡ j
   addresses_differ i j x y a hx hy ex ey = ⊎_elim
       (λ (e : i ≡ 0). ⊎_elim
       (λ (f : j ≡ 0). e ∙ sym f)
-      (λ (g : j ≢ 0). absurd (let low = coordinator_address x a (ap (slice_get w.nodes) (sym e) ∙ hx) ex in let high = above_nought k.book y.eui a (meter_address j y a g hy ey) in omega arith))
+      (λ (g : j ≢ 0). absurd (let low = coordinator_address x a (ap (slice_get w.nodes) (sym e) ∙ hx) ex in
+      let high = above_nought k.book y.eui a (meter_address j y a g hy ey) in omega arith))
       (cases_eq j 0))
       (λ (g : i ≢ 0). ⊎_elim
-      (λ (f : j ≡ 0). absurd (let low = coordinator_address y a (ap (slice_get w.nodes) (sym f) ∙ hy) ey in let high = above_nought k.book x.eui a (meter_address i x a g hx ex) in omega arith))
+      (λ (f : j ≡ 0). absurd (let low = coordinator_address y a (ap (slice_get w.nodes) (sym f) ∙ hy) ey in
+      let high = above_nought k.book x.eui a (meter_address i x a g hx ex) in omega arith))
       (λ (h : j ≢ 0). k.apart i j x y hx hy (one_meter k.book x.eui y.eui a (meter_address i x a g hx ex) (meter_address j y a h hy ey)))
       (cases_eq j 0))
       (cases_eq i 0)

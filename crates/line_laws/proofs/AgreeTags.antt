@@ -44,8 +44,10 @@ unfolding agreed_of
 agreed_same a b e f = ap (λ s. agreed_of s a.rand_p) e ∙ ap (agreed_of b.rand_s) f
 
 -- where each made tag with nonce 1 is of a taking, a joining that is done was taken before, with the same random values
-pub done_taken : (nodes : List Node) (taken : List Pairing) (made opened : List PairTag) (c : CompletedJoining) → IsDoneBy opened c → AllMade made opened → Each (TagTaken nodes taken) made → WasTakenBy nodes taken c
-done_taken nodes taken made opened c among right each = by_found (any_found (TagTaken nodes taken) (same_tag (success_tag c.eui 2 c.agreed.rand_s c.agreed.rand_p)) made (right _ among) each)
+pub done_taken : (nodes : List Node) (taken : List Pairing) (made opened : List PairTag) (c : CompletedJoining) → IsDoneBy opened c → AllMade made opened
+    → Each (TagTaken nodes taken) made → WasTakenBy nodes taken c
+done_taken nodes taken made opened c among right each =
+    by_found (any_found (TagTaken nodes taken) (same_tag (success_tag c.eui 2 c.agreed.rand_s c.agreed.rand_p)) made (right _ among) each)
   where
     by_found : Found (TagTaken nodes taken) (same_tag (success_tag c.eui 2 c.agreed.rand_s c.agreed.rand_p)) → WasTakenBy nodes taken c
     by_found f = by_tag f.one f.passes f.is

@@ -16,7 +16,8 @@ pub record With (B : Records → Type 0) (l : StationMemory) (r : Records) : Typ
   pub rest : B r
 
 module _ (B : Records → Type 0) (lasts : Lasts B) where
-  pub low_one : (l n : StationMemory) (p : Write) → p.slot < 0x1000 → ((r : Records) → IsStationKept l r → IsStationKept n (insert r p.slot p.octets)) → Leads (With B) l (p ∷ []) n
+  pub low_one : (l n : StationMemory) (p : Write) → p.slot < 0x1000 → ((r : Records) → IsStationKept l r → IsStationKept n (insert r p.slot p.octets))
+      → Leads (With B) l (p ∷ []) n
   low_one l n p low one = leads_one (With B) l n p (λ r k. record { kept = one r k.kept; rest = lasts r p.slot p.octets low k.rest })
 
   pub low_beside : (l n : StationMemory) → ((r : Records) → IsStationKept l r → IsStationKept n r) → Leads (With B) l [] n

@@ -1,5 +1,6 @@
 -- A broadcast is handed up once by each node, and as another node sent it: each that flies was sent, and what was handed up is marked.
-use Rattle.std.proofs.Common.{⊎_elim, inl, inr, ◌≡◌, ◌≢◌, ◌⊎◌, ℕ, zero, suc, ◌+◌, ◌-◌, ◌^◌, ◌≤◌, ◌<◌, Bool, true, false, List, [], ◌∷◌, ◌++◌, length, Option, Some, None, Result, Ok, Err, refl, sym, ap, ◌∙◌, subst, arith}
+use Rattle.std.proofs.Common.{⊎_elim, inl, inr, ◌≡◌, ◌≢◌, ◌⊎◌, ℕ, zero, suc, ◌+◌, ◌-◌, ◌^◌, ◌≤◌, ◌<◌, Bool, true, false, List, [], ◌∷◌, ◌++◌, length, Option}
+use Rattle.std.proofs.Common.{Some, None, Result, Ok, Err, refl, sym, ap, ◌∙◌, subst, arith}
 use Rattle.std.specs.Prelude.{◌==◌, ◌||◌, All, IfSome, if◌then◌else◌, is_some, nat_lt, slice_get, slice_set}
 use Rattle.std.specs.Option.{option_map, option_map_or, option_and_then}
 use Rattle.std.proofs.lemmas.Bool.{eqb-false, eqb-true, ltb-false, or_parts}
@@ -29,7 +30,8 @@ use Rattle.node_rules.specs.declared.refusal.Dropped.TheVariants as drops
 use Rattle.node_rules.specs.declared.refusal.LocalRefusal.{LocalRefusal}
 use Rattle.node_rules.specs.declared.refusal.LocalRefusal.TheVariants as locals
 use Rattle.node_rules.specs.Ciphers.{network}
-use Rattle.node_rules.specs.Drafts.{choose as choose_plan, checked as checked_plan, alone, counters_left, empty_draft, goes, refused, sealed, sealed_by, sealing}
+use Rattle.node_rules.specs.Drafts.{choose as choose_plan, checked as checked_plan, alone, counters_left, empty_draft, goes, refused, sealed, sealed_by}
+use Rattle.node_rules.specs.Drafts.{sealing}
 use Rattle.node_rules.specs.Frames.{Sent, to_all}
 use Rattle.node_rules.specs.Memory.{Memory, Node, address_of, node_address, station_route}
 use Rattle.node_rules.specs.MemoryDrafts.{in_memory, with_station}
@@ -54,7 +56,8 @@ use Rattle.reach_rules.specs.Beacons.{ChosenAgent, Discovering, begin_scan, choo
 use Rattle.pan_discovery.specs.Reading.{discovery_in}
 use Rattle.pan_discovery.specs.declared.message.Discovery.{Discovery}
 use Rattle.pan_discovery.specs.Agents.{kth_of}
-use Rattle.reach_rules.specs.Broadcasts.{admits_broadcast, broadcast, broadcast_ends, broadcast_fault, broadcast_from, datagram_fault, goes_further, hear_broadcast_in, hop_less, own_broadcast, with_broadcast_mark, with_broadcast_number}
+use Rattle.reach_rules.specs.Broadcasts.{admits_broadcast, broadcast, broadcast_ends, broadcast_fault, broadcast_from, datagram_fault, goes_further}
+use Rattle.reach_rules.specs.Broadcasts.{hear_broadcast_in, hop_less, own_broadcast, with_broadcast_mark, with_broadcast_number}
 use Rattle.reach_rules.specs.CheckedReplies.{acknowledges, hear_acknowledgement_in, message_of}
 use Rattle.reach_rules.specs.PathAsking.{ask_ends, ask_path, asks_by as asks_over, asks_from, follows_path, hear_path_in, next_toward, path_word}
 use Rattle.reach_rules.specs.ReachingNodes.{Beside, Reaching, drop_it, in_reach, reach_ends, tells_neighbours}
@@ -65,7 +68,8 @@ use Rattle.line_events.specs.declared.event.Event.{Event}
 use Rattle.line_events.specs.declared.happenings.BroadcastUp.{BroadcastUp}
 use Rattle.line_rules.specs.Answers.{discovery_word, only, scan_word, sent_word}
 use Rattle.line_events.specs.Events.{AreEvents, IsEvent, IsLineOctets}
-use Rattle.line_rules.specs.Further.{acknowledged_if, acknowledging, adds_frames, beacon_taken, beside_at, broadcast_sent, broadcast_up, checked, commanded, discovery_flights, due, has_discovered, line_step, reaches, scanning, sends_nothing, with_beside, with_check}
+use Rattle.line_rules.specs.Further.{acknowledged_if, acknowledging, adds_frames, beacon_taken, beside_at, broadcast_sent, broadcast_up, checked, commanded}
+use Rattle.line_rules.specs.Further.{discovery_flights, due, has_discovered, line_step, reaches, scanning, sends_nothing, with_beside, with_check}
 use Rattle.line_rules.specs.FurtherRuns.{AreBroadcastOnce, AreBroadcastOnceAfter, IsFirst, WasBroadcast, broadcast_ups, broadcasts}
 use Rattle.line_rules.specs.Logs.{LogIn, LogsKept}
 use Rattle.line_rules.specs.Runs.{Entry, IsRun, events_of, one_of}
@@ -84,7 +88,8 @@ use Rattle.line_laws.proofs.LetterAccepts.{to_of}
 use Rattle.line_laws.proofs.OctetRuns.{SpeaksIn, WorldSpeaks, start_speaks}
 use Rattle.line_laws.proofs.OldUnits.{IsOldFrame, IsOldUnit, joins_old}
 use Rattle.line_laws.proofs.Readings.{network_ranges}
-use Rattle.line_laws.proofs.ReachSteps.{Asks, Bcasts, Checked, Chooses, Commands, Discovers, Fails, Hears, IsAccepted, IsReachStep, Known, Opens, Restarts, Rests, Scans, Ticks, Unbelieves, after_accepting, heard_node, reach_step_is}
+use Rattle.line_laws.proofs.ReachSteps.{Asks, Bcasts, Checked, Chooses, Commands, Discovers, Fails, Hears, IsAccepted, IsReachStep, Known, Opens, Restarts}
+use Rattle.line_laws.proofs.ReachSteps.{Rests, Scans, Ticks, Unbelieves, after_accepting, heard_node, reach_step_is}
 use Rattle.line_laws.proofs.Running.{start_ok}
 use Rattle.line_laws.proofs.SendsSay.{Both, acts_by, none_sealed, one_sealed, refused_by, sealed_by_plan}
 use Rattle.line_laws.proofs.Tellings as old
@@ -154,7 +159,8 @@ unit_wider sent more to (units.Part mesh piece) h = tt
 unit_wider sent more to (units.Carried mesh body) h = tt
 
 flight_wider : (sent more : List Broadcasting) (f : Flight) → FlightSays (UnitSent sent) f → FlightSays (UnitSent (sent ++ more)) f
-flight_wider sent more f h = record { says = λ key a payload u k is opened read. unit_wider sent more (to_of a.head) u (h.says key a payload u k is opened read) }
+flight_wider sent more f h =
+    record { says = λ key a payload u k is opened read. unit_wider sent more (to_of a.head) u (h.says key a payload u k is opened read) }
 
 wider : (sent more : List Broadcasting) (fs : List Flight) → All (FlightSays (UnitSent sent)) fs → All (FlightSays (UnitSent (sent ++ more))) fs
 wider sent more fs h = All-weaker (FlightSays (UnitSent sent)) (FlightSays (UnitSent (sent ++ more))) (flight_wider sent more) fs h

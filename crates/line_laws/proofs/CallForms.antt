@@ -14,7 +14,8 @@ use Rattle.node_rules.specs.declared.refusal.PresetFault.TheVariants as presets
 use Rattle.node_rules.specs.Memory.{StationMemory, Memory, Datagram, address_of, next_hop}
 use Rattle.node_rules.specs.Accepting.{is_own}
 use Rattle.node_rules.specs.Drafts.{Draft, Lack, alone, empty_draft, with_rank, with_ring, with_next_tag, lack, refused}
-use Rattle.node_rules.specs.Calls.{sending_ends, lacking, tag_taken, send_fault, send_from, send, ringing_ends, install, presetting_ends, near_rank, preset_fault, preset_near}
+use Rattle.node_rules.specs.Calls.{sending_ends, lacking, tag_taken, send_fault, send_from, send, ringing_ends, install, presetting_ends, near_rank}
+use Rattle.node_rules.specs.Calls.{preset_fault, preset_near}
 use Rattle.node_rules.specs.MemoryDrafts.{in_memory, with_memory_by, given_ends, give_random}
 use Rattle.node_rules.proofs.Sizes.{pending, load_bound}
 use Rattle.node_rules.proofs.Words.{IsDone, Fits, begun_fits, tagged_fits, sets_out_fits, remembered_fits, quiet_done}
@@ -41,7 +42,8 @@ send_passes l to datagram = by_tests ((length datagram == 0) || nat_lt 1280 (len
     some_of : (n : ℕ) → (n == 0) ≡ false → 0 < n
     some_of n e = omega (arith, eqb-false _ _ e)
 
-    by_tests : (a b : Bool) (c : Option Lack) → ((length datagram == 0) || nat_lt 1280 (length datagram)) ≡ a → is_own l to ≡ b → lack l to (length datagram) ≡ c
+    by_tests : (a b : Bool) (c : Option Lack) → ((length datagram == 0) || nat_lt 1280 (length datagram)) ≡ a → is_own l to ≡ b
+        → lack l to (length datagram) ≡ c
         → (Some sends.BadSize when a then Some sends.ToSelf when b then option_map lacking c) ≡ None → SendPasses l to datagram
     by_tests true b c ea eb ec e = absurd (cc)
     by_tests false true c ea eb ec e = absurd (cc)
@@ -92,11 +94,13 @@ module _ (W : RingWord → Type 0) (g : Given) (l : StationMemory) where
       by_size false = Tags (empty_draft l) Starts (takes_tag to octets carried)
 
   -- the tag does not matter to what a body lacks, nor to the address
-  tag_same : (octets : List ℕ) (to size : ℕ) → LacksNothing l to size → LacksNothing (tag_taken octets (empty_draft l)).memory to size × (address_of (tag_taken octets (empty_draft l)).memory ≡ address_of l)
+  tag_same : (octets : List ℕ) (to size : ℕ) → LacksNothing l to size
+      → LacksNothing (tag_taken octets (empty_draft l)).memory to size × (address_of (tag_taken octets (empty_draft l)).memory ≡ address_of l)
   unfolding empty_draft with_next_tag next_hop
   tag_same octets to size f = by_size (nat_le (length octets) 375)
     where
-      by_size : (b : Bool) → let d : Draft StationMemory = (if b then empty_draft l else with_next_tag (empty_draft l)) in LacksNothing d.memory to size × (address_of d.memory ≡ address_of l)
+      by_size : (b : Bool) → let d : Draft StationMemory = (if b then empty_draft l else with_next_tag (empty_draft l)) in
+          LacksNothing d.memory to size × (address_of d.memory ≡ address_of l)
       by_size true = (f, refl)
       by_size false = (record { room = f.room; number = f.number }, refl)
 
@@ -109,16 +113,20 @@ module _ (W : RingWord → Type 0) (g : Given) (l : StationMemory) where
       by_size true = Alone note refl tt
       by_size false = Alone note refl tt
 
-  from_is : (own to : ℕ) (datagram : List ℕ) → (0 < length datagram → length datagram ≤ 1280 → W (Carry to g.note (Datagram datagram l.next_tag))) → address_of l ≡ Some own → Planned alone sending_ends l Nothing MadeFew (send_from l own to datagram g.note g.now)
+  from_is : (own to : ℕ) (datagram : List ℕ) → (0 < length datagram → length datagram ≤ 1280 → W (Carry to g.note (Datagram datagram l.next_tag)))
+      → address_of l ≡ Some own → Planned alone sending_ends l Nothing MadeFew (send_from l own to datagram g.note g.now)
   from_is own to datagram carried here = checked_planned (λ e.
       let p = send_passes l to datagram e in
       let same = tag_same datagram to (length datagram) p.lacks in
       sealed_planned _ _ (
-        sets_out_made (empty_draft l) own to g.note (Datagram datagram l.next_tag) g.now (tag_taken datagram (empty_draft l)) (tag_made to datagram (carried p.some p.short)) (same.1 ∙ here) same.0 p.short (carried p.some p.short) (tag_alone datagram g.note),
-        alone_few _ (sets_out_fits alone_station 4 own to g.note (Datagram datagram l.next_tag) g.now (tag_taken datagram (empty_draft l)) (omega arith) (load_bound (Datagram datagram l.next_tag) p.short).1 (tag_fits datagram)),
+        sets_out_made (empty_draft l) own to g.note (Datagram datagram l.next_tag) g.now (tag_taken datagram (empty_draft l))
+            (tag_made to datagram (carried p.some p.short)) (same.1 ∙ here) same.0 p.short (carried p.some p.short) (tag_alone datagram g.note),
+        alone_few _ (sets_out_fits alone_station 4 own to g.note (Datagram datagram l.next_tag) g.now (tag_taken datagram (empty_draft l)) (omega arith)
+            (load_bound (Datagram datagram l.next_tag) p.short).1 (tag_fits datagram)),
       ))
 
-  pub send_is : (to : ℕ) (datagram : List ℕ) → (0 < length datagram → length datagram ≤ 1280 → W (Carry to g.note (Datagram datagram l.next_tag))) → Planned alone sending_ends l Nothing MadeFew (send l to datagram g.note g.now)
+  pub send_is : (to : ℕ) (datagram : List ℕ) → (0 < length datagram → length datagram ≤ 1280 → W (Carry to g.note (Datagram datagram l.next_tag)))
+      → Planned alone sending_ends l Nothing MadeFew (send l to datagram g.note g.now)
   send_is to datagram carried = option_planned (λ own. send_from l own to datagram g.note g.now) (address_of l) (refused sending_ends l sends.NotJoined)
       (λ own here. from_is own to datagram carried here) (λ none. Refuses _)
 
@@ -134,18 +142,21 @@ module _ (W : RingWord → Type 0) (g : Given) (l : StationMemory) where
       let none = installs_none granted in
       sealing_planned (with_ring (Some granted) (empty_draft l)) tt (installs_made granted w, none.1) (rw none.0 (omega arith))
 
-  near_made : (to : ℕ) → g.near ≡ Some to → RankFits l.routing to (near_rank g.cost) g.now → Made W g (empty_draft l) (with_rank to (near_rank g.cost) to g.now (empty_draft l))
+  near_made : (to : ℕ) → g.near ≡ Some to → RankFits l.routing to (near_rank g.cost) g.now
+      → Made W g (empty_draft l) (with_rank to (near_rank g.cost) to g.now (empty_draft l))
   unfolding empty_draft
   near_made to none fits = Ranks to to (near_rank g.cost) (empty_draft l) Starts (ByItself none) fits
 
-  near_none : (to : ℕ) → ((with_rank to (near_rank g.cost) to g.now (empty_draft l)).units ≡ []) × Few l (with_rank to (near_rank g.cost) to g.now (empty_draft l))
+  near_none : (to : ℕ) → ((with_rank to (near_rank g.cost) to g.now (empty_draft l)).units ≡ [])
+      × Few l (with_rank to (near_rank g.cost) to g.now (empty_draft l))
   unfolding empty_draft with_rank
   near_none to = (refl, record { few = λ h. omega arith })
 
   pub near_is : (to : ℕ) → g.near ≡ Some to → Planned alone presetting_ends l Nothing MadeFew (preset_near l to g.cost g.now)
   near_is to still = checked_planned (λ e.
       let none = near_none to in
-      sealing_planned (with_rank to (near_rank g.cost) to g.now (empty_draft l)) tt (near_made to still (near_fits l to g.cost g.now e), none.1) (rw none.0 (omega arith)))
+      sealing_planned (with_rank to (near_rank g.cost) to g.now (empty_draft l)) tt (near_made to still (near_fits l to g.cost g.now e), none.1)
+      (rw none.0 (omega arith)))
 
 module _ (W : RingWord → Type 0) (L : Granted → Type 0) (P : Eui → Key → Type 0) (E : Eui → Type 0) (g : Given) (m : Memory) where
   gives : Rand → Draft Memory
@@ -157,8 +168,13 @@ module _ (W : RingWord → Type 0) (L : Granted → Type 0) (P : Eui → Key →
 
   gives_none : (value : Rand) → ((gives value).units ≡ []) × IsDone m.station (gives value)
   unfolding empty_draft with_memory_by gives
-  gives_none value = (refl, quiet_done m.station _ (remembered_fits m.station (λ n. record n { randoms = n.randoms ++ value ∷ [] }) (empty_draft m) (begun_fits m.station 1 m)))
+  gives_none value = (
+    refl,
+    quiet_done m.station _
+        (remembered_fits m.station (λ n. record n { randoms = n.randoms ++ value ∷ [] }) (empty_draft m) (begun_fits m.station 1 m)),
+  )
 
   pub random_is : (value : Rand) → Planned in_memory given_ends m Nothing (MadeBy W L P E g m AnyAnswer) (give_random m value)
   unfolding gives
-  random_is value = choose_planned (λ full. Refuses _) (λ room. let none = gives_none value in sealing_planned (gives value) tt (gives_made value room, none.1, tt) (rw none.0 (omega arith)))
+  random_is value = choose_planned (λ full. Refuses _)
+      (λ room. let none = gives_none value in sealing_planned (gives value) tt (gives_made value room, none.1, tt) (rw none.0 (omega arith)))

@@ -48,7 +48,8 @@ use Rattle.line_events.specs.declared.event.Event.{Event}
 use Rattle.line_events.specs.declared.event.Event.TheVariants as events
 use Rattle.line_events.specs.Events.{AreEvents, IsEvent}
 use Rattle.line_rules.specs.Forgery.{Comes, accepting}
-use Rattle.line_rules.specs.Further.{acknowledged_if, acknowledging, adds_frames, beside_at, checked, commanded, due, is_dropped, line_step, reaches, sends_nothing, unbelieved, with_beside, with_check}
+use Rattle.line_rules.specs.Further.{acknowledged_if, acknowledging, adds_frames, beside_at, checked, commanded, due, is_dropped, line_step, reaches}
+use Rattle.line_rules.specs.Further.{sends_nothing, unbelieved, with_beside, with_check}
 use Rattle.line_rules.specs.FurtherRuns.{AreOfHistoryAfter, IsOfHistory, check_history}
 use Rattle.line_rules.specs.Logs.{LogsKept}
 use Rattle.line_rules.specs.Runs.{Entry, IsRun, events_of}
@@ -62,7 +63,8 @@ use Rattle.line_laws.proofs.FurtherEvents.{none_accepts}
 use Rattle.line_laws.proofs.FurtherOctets.{every_run_holds}
 use Rattle.line_laws.proofs.ReachCame.{Says, acts_says, command_came, command_said}
 use Rattle.line_laws.proofs.ReachHistory.{every_history, start_history}
-use Rattle.line_laws.proofs.ReachSteps.{Asks, Bcasts, Checked, Chooses, Commands, Discovers, Fails, Hears, IsAccepted, IsReachStep, Known, Opens, Restarts, Rests, Scans, Ticks, Unbelieves, after_accepting, heard_node, reach_step_is, same_comes}
+use Rattle.line_laws.proofs.ReachSteps.{Asks, Bcasts, Checked, Chooses, Commands, Discovers, Fails, Hears, IsAccepted, IsReachStep, Known, Opens, Restarts}
+use Rattle.line_laws.proofs.ReachSteps.{Rests, Scans, Ticks, Unbelieves, after_accepting, heard_node, reach_step_is, same_comes}
 use Rattle.line_laws.proofs.ReachTold.{QuietIn, old_quiet}
 use Rattle.line_laws.proofs.ReachWords.{Quiet, ask_quiet, broadcast_quiet, choice_quiet, drop_quiet, hears_quiet, idle_quiet, is_new, lost_quiet, restart_quiet}
 use Rattle.line_laws.proofs.TracesRight.{comes_brought, entry, false_true}

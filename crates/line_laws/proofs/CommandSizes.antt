@@ -21,7 +21,8 @@ use Rattle.node_rules.specs.Joining.{message, command_of, first_packet, server_f
 use Rattle.node_rules.specs.Memory.{Memory, MeterSession, CoordinatorSession}
 use Rattle.line_laws.specs.Stores.{IsReadable, IsNamed}
 use Rattle.line_laws.proofs.Answered.{booked_low, granted_readable}
-use Rattle.line_laws.proofs.CoordinatorForms.{IsReached, AsHeard, AsSession, AsBooked, IsSaidDown, SaysDecline, SaysChallenge, SaysGrant, SaysAccept, SaysActivate, SaysKick}
+use Rattle.line_laws.proofs.CoordinatorForms.{IsReached, AsHeard, AsSession, AsBooked, IsSaidDown, SaysDecline, SaysChallenge, SaysGrant, SaysAccept}
+use Rattle.line_laws.proofs.CoordinatorForms.{SaysActivate, SaysKick}
 use Rattle.node_rules.specs.OctetLaws.{WayFits}
 use Rattle.line_laws.proofs.HeardOctets.{unread_fits}
 use Rattle.line_laws.proofs.IssueNodes.{place_is}
@@ -46,10 +47,13 @@ module _ (eui : Eui) (psk : Key) (eight : length eui.0 ≡ 8) (m : Memory) (h : 
   says_short join (OfOther octets other read) = command_fits join (read_fits join octets read).eui (let rest = (read_fits join octets read).rest in omega arith)
   says_short join (Second packet value here) =
       command_fits (message eui (body.Join (network.second psk (identifier_of packet) (peer_for eui value packet)))) eight
-      (let fits = second_fits (keys_of psk.0) (identifier_of packet) (peer_for eui value packet) (part_short 6 16 packet) (oldest_speaks m value h here).1 eight in omega arith)
+      (let fits = second_fits (keys_of psk.0) (identifier_of packet) (peer_for eui value packet) (part_short 6 16 packet) (oldest_speaks m value h here).1
+      eight in omega arith)
   says_short join (Fourth packet s peer there has) =
-      let p : PeerSpeaks peer = subst (λ (o : Option Peer). IfSome o PeerSpeaks) has (subst (λ (o : Option MeterSession). IfSome o SessionSpeaks) there h.session) in
-      command_fits (message eui (body.Join (network.fourth psk (identifier_of packet) peer))) eight (let fits = fourth_fits (keys_of psk.0) (identifier_of packet) peer p.2 in omega arith)
+      let p : PeerSpeaks peer = subst (λ (o : Option Peer). IfSome o PeerSpeaks) has
+      (subst (λ (o : Option MeterSession). IfSome o SessionSpeaks) there h.session) in
+      command_fits (message eui (body.Join (network.fourth psk (identifier_of packet) peer))) eight
+      (let fits = fourth_fits (keys_of psk.0) (identifier_of packet) peer p.2 in omega arith)
 
 -- # The coordinator
 
@@ -63,7 +67,8 @@ pub record IsBooked (m : Memory) : Type 0 where
   pub sessions : All IsNamed m.sessions
   pub ring : IfSome m.station.ring IsReadable
 
-module _ (eui : Eui) (eight : length eui.0 ≡ 8) (m : Memory) (h : MemorySpeaks m) (b : IsBooked m) (g : Given) (are : (got : Accepted) → g.got ≡ Some got → AreOctets got.payload) where
+module _ (eui : Eui) (eight : length eui.0 ≡ 8) (m : Memory) (h : MemorySpeaks m) (b : IsBooked m) (g : Given)
+    (are : (got : Accepted) → g.got ≡ Some got → AreOctets got.payload) where
   abbrev own : coordinators.CoordinatorIdentity
   own = record { eui = eui; ciphers = network }
 
@@ -83,11 +88,13 @@ module _ (eui : Eui) (eight : length eui.0 ≡ 8) (m : Memory) (h : MemorySpeaks
 
   short : (join : JoinMessage) → IsSaidDown HasEight own m join → length (command_of join) ≤ 375
   short join (SaysDecline meter known) = command_fits (message meter body.Decline) known (omega arith)
-  short join (SaysChallenge meter value known here) = command_fits (message meter (body.Challenge (first_packet (server_for meter eui value)))) known (let fits = first_fits 1 value.0 eui.0 (oldest_speaks m value h here).1 eight in omega arith)
+  short join (SaysChallenge meter value known here) = command_fits (message meter (body.Challenge (first_packet (server_for meter eui value)))) known
+      (let fits = first_fits 1 value.0 eui.0 (oldest_speaks m value h here).1 eight in omega arith)
   short join (SaysGrant s e meter rand_p granted there allowed is) =
       command_fits (message s.server.eui (body.Challenge (network.third e.psk s.server rand_p granted))) (named_at meter s there).0
       (let readable = granted_readable m.station.ring m.book s.server.eui granted b.ring b.short is in
-      let fits = third_fits (keys_of e.psk.0) 2 (peer_of s.server rand_p) granted (server_at meter s there).2 (place_is granted.key0 readable.key0) (place_is granted.key1 readable.key1) in
+      let fits = third_fits (keys_of e.psk.0) 2 (peer_of s.server rand_p) granted (server_at meter s there).2 (place_is granted.key0 readable.key0)
+      (place_is granted.key1 readable.key1) in
       omega arith)
   short join (SaysAccept s meter there) = command_fits (message s.server.eui (body.Accept 2)) (named_at meter s there).0 (omega arith)
   short join (SaysActivate e meter index allowed) = command_fits (message e.eui (body.Activate index)) (entry_at meter e allowed) (omega arith)

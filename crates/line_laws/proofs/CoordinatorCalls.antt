@@ -49,19 +49,23 @@ use Rattle.line_laws.proofs.StoreMarks.{IsAdmitted, IsPlain, IsPlainCame, Accept
 use Rattle.line_laws.proofs.Planned.{Planned, planned_weaker}
 use Rattle.line_laws.proofs.Made.{RingWord, Given, Offered}
 use Rattle.line_laws.proofs.MemoryDraftForms.{AnyAnswer, HandedIn, MadeBy}
-use Rattle.line_laws.proofs.CoordinatorForms.{HandsNothingUp, IsGranted, coordinator_is, allow_is, depot_is, rekey_is, activate_self_is, challenge_is, activate_is, kick_is}
+use Rattle.line_laws.proofs.CoordinatorForms.{HandsNothingUp, IsGranted, coordinator_is, allow_is, depot_is, rekey_is, activate_self_is, challenge_is}
+use Rattle.line_laws.proofs.CoordinatorForms.{activate_is, kick_is}
 use Rattle.line_laws.proofs.CallForms.{Nothing}
 use Rattle.line_laws.proofs.Nodes.{PlanOk, plan_ok}
 use Rattle.line_laws.proofs.MarkWrites.{away_leads}
 use Rattle.line_laws.proofs.MarkNodes.{accept_marks}
 use Rattle.line_laws.proofs.Frontiers.{marks_high}
-use Rattle.line_laws.proofs.NodeCalls.{handed_same, RoutesFit, heard_given, call_given, heard_offers, call_offers, granted_keys, few_of, handed_kept, handed_within}
+use Rattle.line_laws.proofs.NodeCalls.{handed_same, RoutesFit, heard_given, call_given, heard_offers, call_offers, granted_keys, few_of, handed_kept}
+use Rattle.line_laws.proofs.NodeCalls.{handed_within}
 
 -- # The coordinator
 
 -- the EUI of a joining message that is heard
-pub heard_euis : (m : Memory) (got : Accepted) (cost note now : ℕ) → RoutesFit got → (u : Unread) (join : JoinMessage) → unread (station_rules.hear m.station got cost note now).answer ≡ Some u → join_in u.body ≡ Some join → HasEui join.eui
-heard_euis m got cost note now routes u join e read = ((read_fits join u.body read).eui, (read_octets join u.body (unread_octets m.station got cost note now u routes.payload e) read).eui)
+pub heard_euis : (m : Memory) (got : Accepted) (cost note now : ℕ) → RoutesFit got → (u : Unread) (join : JoinMessage)
+    → unread (station_rules.hear m.station got cost note now).answer ≡ Some u → join_in u.body ≡ Some join → HasEui join.eui
+heard_euis m got cost note now routes u join e read =
+    ((read_fits join u.body read).eui, (read_octets join u.body (unread_octets m.station got cost note now u routes.payload e) read).eui)
 
 -- a pair key of a line
 abbrev HasPair : Eui → Key → Type 0
@@ -75,43 +79,62 @@ module _ (ciphers : Ciphers) (fits : KeepsRanges ciphers) (own : coordinators.Co
   L : Granted → Type 0
   L granted = IsGranted m granted
 
-  coordinator_ok : {H F : Type 0} (g : Given) → ((address : Option ℕ) (by origin : ℕ) (rank : Rank) → Offered g address by origin rank → EntryFits (routing.offered_entry origin rank by g.now))
-      → (ends : Ends F) (K : Memory → H → Type 0) (N : H → Type 0) → ((n : Memory) (answer : H) → K n answer → (r : Records) → IsKept Coordinator m r → IsKept Coordinator n r) → ((n : Memory) (answer : H) → K n answer → IsMemorySized m → IsMemorySized n) → ((n : Memory) (answer : H) → K n answer → (n.station.counter ≡ m.station.counter) × (n.station.marks ≡ m.station.marks))
+  coordinator_ok : {H F : Type 0} (g : Given)
+      → ((address : Option ℕ) (by origin : ℕ) (rank : Rank) → Offered g address by origin rank → EntryFits (routing.offered_entry origin rank by g.now))
+      → (ends : Ends F) (K : Memory → H → Type 0) (N : H → Type 0)
+      → ((n : Memory) (answer : H) → K n answer → (r : Records) → IsKept Coordinator m r → IsKept Coordinator n r)
+      → ((n : Memory) (answer : H) → K n answer → IsMemorySized m → IsMemorySized n)
+      → ((n : Memory) (answer : H) → K n answer → (n.station.counter ≡ m.station.counter) × (n.station.marks ≡ m.station.marks))
       → (p : Plan Memory (Result H F)) → Planned in_memory ends m K (MadeBy Ordered (IsGranted m) HasPair HasEui g m N) p → PlanOk Coordinator m p
-  coordinator_ok g offers ends K N kept sized same p s = plan_ok Coordinator Ordered (IsGranted m) HasPair HasEui g m (λ w k. k) offers (λ eui k. k) (λ eui psk k. k) (λ b e change. refl) (granted_keys Coordinator m) ends K kept sized same p
+  coordinator_ok g offers ends K N kept sized same p s = plan_ok Coordinator Ordered (IsGranted m) HasPair HasEui g m (λ w k. k) offers (λ eui k. k)
+      (λ eui psk k. k) (λ b e change. refl) (granted_keys Coordinator m) ends K kept sized same p
       (planned_weaker p (λ n answer k. k) (few_of N m Ordered (IsGranted m) HasPair HasEui g) s) h
 
-  order_ok : {H F : Type 0} (now : ℕ) (ends : Ends F) (p : Plan Memory (Result H F)) → Planned in_memory ends m Nothing (MadeBy Ordered (IsGranted m) HasPair HasEui (call_given 0 0 now) m AnyAnswer) p → PlanOk Coordinator m p
-  order_ok now ends p s = coordinator_ok (call_given 0 0 now) (call_offers 0 0 now) ends Nothing AnyAnswer (λ n answer k. absurd k) (λ n answer k. absurd k) (λ n answer k. absurd k) p s
+  order_ok : {H F : Type 0} (now : ℕ) (ends : Ends F) (p : Plan Memory (Result H F))
+      → Planned in_memory ends m Nothing (MadeBy Ordered (IsGranted m) HasPair HasEui (call_given 0 0 now) m AnyAnswer) p → PlanOk Coordinator m p
+  order_ok now ends p s = coordinator_ok (call_given 0 0 now) (call_offers 0 0 now) ends Nothing AnyAnswer (λ n answer k. absurd k) (λ n answer k. absurd k)
+      (λ n answer k. absurd k) p s
 
   pub coordinator_hears_ok : (got : Accepted) (cost note now : ℕ) → RoutesFit got → PlanOk Coordinator m (coordinators.hear_coordinator own m got cost note now)
-  coordinator_hears_ok got cost note now routes = coordinator_ok (heard_given got cost note now) (heard_offers got cost note now routes) dropped (HandedIn coordinator_heard.Station (heard_given got cost note now) m) HandsNothingUp
-      (handed_kept Coordinator m h coordinator_heard.Station (heard_given got cost note now)) (handed_within Coordinator m h coordinator_heard.Station (heard_given got cost note now)) (handed_same m coordinator_heard.Station (heard_given got cost note now)) _
-      (coordinator_is Ordered HasPair HasEui (heard_given got cost note now) own m (λ to there join said. omega arith) got refl (heard_euis m got cost note now routes))
+  coordinator_hears_ok got cost note now routes = coordinator_ok (heard_given got cost note now) (heard_offers got cost note now routes) dropped
+      (HandedIn coordinator_heard.Station (heard_given got cost note now) m) HandsNothingUp
+      (handed_kept Coordinator m h coordinator_heard.Station (heard_given got cost note now))
+      (handed_within Coordinator m h coordinator_heard.Station (heard_given got cost note now))
+      (handed_same m coordinator_heard.Station (heard_given got cost note now)) _
+      (coordinator_is Ordered HasPair HasEui (heard_given got cost note now) own m (λ to there join said. omega arith) got refl
+      (heard_euis m got cost note now routes))
 
   pub allow_ok : (eui : Eui) (psk : Key) → HasEui eui → HasPair eui psk → PlanOk Coordinator m (coordinators.allow m eui psk)
-  allow_ok eui psk known pair = order_ok 0 coordinators.orders _ (allow_is Ordered HasPair HasEui (call_given 0 0 0) own m (λ to there join said. omega arith) eui psk known pair)
+  allow_ok eui psk known pair =
+      order_ok 0 coordinators.orders _ (allow_is Ordered HasPair HasEui (call_given 0 0 0) own m (λ to there join said. omega arith) eui psk known pair)
 
   pub depot_ok : (eui : Eui) (psk : Key) → HasEui eui → HasPair eui psk → PlanOk Coordinator m (coordinators.depot m eui psk)
-  depot_ok eui psk known pair = order_ok 0 coordinators.orders _ (depot_is Ordered HasPair HasEui (call_given 0 0 0) own m (λ to there join said. omega arith) eui psk known pair)
+  depot_ok eui psk known pair =
+      order_ok 0 coordinators.orders _ (depot_is Ordered HasPair HasEui (call_given 0 0 0) own m (λ to there join said. omega arith) eui psk known pair)
 
   pub rekey_ok : (index : ℕ) (key : Key) → IsHeld (Some key) → PlanOk Coordinator m (coordinators.rekey m index key)
-  rekey_ok index key held = order_ok 0 coordinators.orders _ (rekey_is Ordered HasPair HasEui (call_given 0 0 0) own m (λ to there join said. omega arith) index key held)
+  rekey_ok index key held =
+      order_ok 0 coordinators.orders _ (rekey_is Ordered HasPair HasEui (call_given 0 0 0) own m (λ to there join said. omega arith) index key held)
 
   pub activate_self_ok : (index : ℕ) → index ≤ 1 → PlanOk Coordinator m (coordinators.activate_self m index)
-  activate_self_ok index low = order_ok 0 coordinators.orders _ (activate_self_is Ordered HasPair HasEui (call_given 0 0 0) own m (λ to there join said. omega arith) index low)
+  activate_self_ok index low =
+      order_ok 0 coordinators.orders _ (activate_self_is Ordered HasPair HasEui (call_given 0 0 0) own m (λ to there join said. omega arith) index low)
 
   pub challenge_ok : (eui : Eui) (now : ℕ) → HasEui eui → PlanOk Coordinator m (coordinators.challenge own.eui m eui now)
-  challenge_ok eui now known = order_ok now coordinators.orders _ (challenge_is Ordered HasPair HasEui (call_given 0 0 now) own m (λ to there join said. omega arith) eui known)
+  challenge_ok eui now known =
+      order_ok now coordinators.orders _ (challenge_is Ordered HasPair HasEui (call_given 0 0 now) own m (λ to there join said. omega arith) eui known)
 
   pub activate_ok : (eui : Eui) (index now : ℕ) → PlanOk Coordinator m (coordinators.activate m eui index now)
-  activate_ok eui index now = order_ok now coordinators.orders _ (activate_is Ordered HasPair HasEui (call_given 0 0 now) own m (λ to there join said. omega arith) eui index)
+  activate_ok eui index now =
+      order_ok now coordinators.orders _ (activate_is Ordered HasPair HasEui (call_given 0 0 now) own m (λ to there join said. omega arith) eui index)
 
   pub kick_ok : (eui : Eui) → HasEui eui → PlanOk Coordinator m (coordinators.kick m eui)
   kick_ok eui known = order_ok 0 coordinators.orders _ (kick_is Ordered HasPair HasEui (call_given 0 0 0) own m (λ to there join said. omega arith) eui known)
 
-pub depot_failed : (ciphers : Ciphers) → KeepsRanges ciphers → (own : coordinators.CoordinatorIdentity) (m : Memory) (eui : Eui) (psk : Key) → HasEui eui → HasPair eui psk → (coordinators.depot m eui psk).failed ≡ Err coordinators.orders.store
-depot_failed ciphers fits own m eui psk known pair = planned_failed _ (depot_is Ordered HasPair HasEui (call_given 0 0 0) own m (λ to there join said. omega arith) eui psk known pair)
+pub depot_failed : (ciphers : Ciphers) → KeepsRanges ciphers → (own : coordinators.CoordinatorIdentity) (m : Memory) (eui : Eui) (psk : Key) → HasEui eui
+    → HasPair eui psk → (coordinators.depot m eui psk).failed ≡ Err coordinators.orders.store
+depot_failed ciphers fits own m eui psk known pair =
+    planned_failed _ (depot_is Ordered HasPair HasEui (call_given 0 0 0) own m (λ to there join said. omega arith) eui psk known pair)
 
 -- # Accepting a frame
 
@@ -129,19 +152,23 @@ ring_key_octets (Some g) index key h e = by_index (index == 0) e
     by_index false e = held_key_octets g.key1 key h.key1 e
 
 module _ (ciphers : Ciphers) (fits : KeepsRanges ciphers) (octets : List ℕ) (are : AreOctets octets) where
-  pub admitted_fits : (l : StationMemory) (from counter : ℕ) (got : Accepted) → IsAdmitted l (arrived ciphers octets) from counter got → (from < 0xFFFE) × (counter < 2 ^ 32)
+  pub admitted_fits : (l : StationMemory) (from counter : ℕ) (got : Accepted) → IsAdmitted l (arrived ciphers octets) from counter got
+      → (from < 0xFFFE) × (counter < 2 ^ 32)
   admitted_fits l from counter got a = head_ranges ciphers octets a.frame a.head.0 a.head.1 a.head.2 a.to from counter a.index are a.is a.head.3
 
   -- what a key of the ring opens
-  admitted_octets : (l : StationMemory) → IfSome l.ring IsReadable → (from counter : ℕ) (got : Accepted) → (a : IsAdmitted l (arrived ciphers octets) from counter got) → AreOctets a.payload
+  admitted_octets : (l : StationMemory) → IfSome l.ring IsReadable → (from counter : ℕ) (got : Accepted)
+      → (a : IsAdmitted l (arrived ciphers octets) from counter got) → AreOctets a.payload
   admitted_octets l reads from counter got a = fits.opened octets a.frame a.key a.payload are (ring_key_octets l.ring a.index a.key reads a.held) a.is a.opened
 
   -- the path of what is accepted sealed, and its payload
-  admitted_routes : (l : StationMemory) → IfSome l.ring IsReadable → (from counter : ℕ) (got : Accepted) → IsAdmitted l (arrived ciphers octets) from counter got → RoutesFit got
+  admitted_routes : (l : StationMemory) → IfSome l.ring IsReadable → (from counter : ℕ) (got : Accepted)
+      → IsAdmitted l (arrived ciphers octets) from counter got → RoutesFit got
   admitted_routes l reads from counter got a = record {
     payload = subst (λ (x : Accepted). AreOctets x.payload) (sym a.got_is) (admitted_octets l reads from counter got a);
     run = λ by all key code body message path unit read.
-        let heard = unit_octets (units.Local code body) a.payload (admitted_octets l reads from counter got a) (ap (λ (x : Accepted). unit_in x.payload) (sym a.got_is) ∙ unit) in
+        let heard = unit_octets (units.Local code body) a.payload (admitted_octets l reads from counter got a)
+        (ap (λ (x : Accepted). unit_in x.payload) (sym a.got_is) ∙ unit) in
         (message_spelled message body heard.1 read).0;
   }
 
@@ -153,14 +180,37 @@ module _ (ciphers : Ciphers) (fits : KeepsRanges ciphers) (octets : List ℕ) (a
 
   accepting_ok : (role : Role) (m : Memory) (p : Accepting) → Accepts m.station (arrived ciphers octets) p → IsMemorySized m → PlanOk role m (of_station m p)
   unfolding resting marking
-  accepting_ok role m p (Turned reason) h = record { leads = leads_beside (IsKept role) m m (λ r k. k); sized = h; few = omega arith; rises = λ fits. record { high = tt; with_own_number = omega arith }; from = tt; marked = λ first. away_leads first m m [] tt refl }
-  accepting_ok role m p (Plain got plain) h = record { leads = leads_beside (IsKept role) m m (λ r k. k); sized = h; few = omega arith; rises = λ fits. record { high = tt; with_own_number = omega arith }; from = tt; marked = λ first. away_leads first m m [] tt refl }
+  accepting_ok role m p (Turned reason) h = record {
+    leads = leads_beside (IsKept role) m m (λ r k. k);
+    sized = h;
+    few = omega arith;
+    rises = λ fits. record { high = tt; with_own_number = omega arith };
+    from = tt;
+    marked = λ first. away_leads first m m [] tt refl;
+  }
+  accepting_ok role m p (Plain got plain) h = record {
+    leads = leads_beside (IsKept role) m m (λ r k. k);
+    sized = h;
+    few = omega arith;
+    rises = λ fits. record { high = tt; with_own_number = omega arith };
+    from = tt;
+    marked = λ first. away_leads first m m [] tt refl;
+  }
   accepting_ok role m p (Marked from counter got a) h =
       let in_range = admitted_fits m.station from counter got a in
       record {
         leads = station_leads role m m.station (record m.station { marks = marks.kept_after m.station.marks from counter }) _
             (marks_lead (Rest role m) (rest_lasts role m) m.station from counter in_range.0 in_range.1 a.room);
-        sized = record { station = record { reassemblies = h.station.reassemblies; waiting = record { bodies = h.station.waiting.bodies; blocks = h.station.waiting.blocks; datagrams = h.station.waiting.datagrams }; loads = h.station.loads; tag = h.station.tag }; sessions = h.sessions; randoms = h.randoms };
+        sized = record {
+          station = record {
+            reassemblies = h.station.reassemblies;
+            waiting = record { bodies = h.station.waiting.bodies; blocks = h.station.waiting.blocks; datagrams = h.station.waiting.datagrams };
+            loads = h.station.loads;
+            tag = h.station.tag;
+          };
+          sessions = h.sessions;
+          randoms = h.randoms;
+        };
         few = omega arith;
         rises = λ fits. record { high = marks_high m.station.counter.limit m.station.marks from counter; with_own_number = omega arith };
         from = tt;
@@ -171,7 +221,8 @@ module _ (ciphers : Ciphers) (fits : KeepsRanges ciphers) (octets : List ℕ) (a
   accept_ok role m own h = accepting_ok role m _ (accept_is m.station own (arrived ciphers octets)) h
 
   -- route messages of what is accepted are in range
-  pub accepted_routes : (l : StationMemory) → IfSome l.ring IsReadable → (p : Accepting) (got : Accepted) → Accepts l (arrived ciphers octets) p → p.answer ≡ Ok got → RoutesFit got
+  pub accepted_routes : (l : StationMemory) → IfSome l.ring IsReadable → (p : Accepting) (got : Accepted) → Accepts l (arrived ciphers octets) p
+      → p.answer ≡ Ok got → RoutesFit got
   unfolding resting marking
   accepted_routes l reads p got (Turned reason) e = absurd (cc)
   accepted_routes l reads p got (Plain x plain) e = let same : x ≡ got = cc in subst RoutesFit same (plain_routes x plain)

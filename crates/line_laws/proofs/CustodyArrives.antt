@@ -39,7 +39,8 @@ use Rattle.line_laws.proofs.CustodyWhole.{OneSend}
 use Rattle.line_laws.proofs.CustodyWorld.{unit_back}
 use Rattle.line_laws.proofs.CustodyTaking.{TakesHome, taking_true}
 use Rattle.line_laws.proofs.CustodyDeliver.{WhatCame, PlainCame, LetterCame, opening}
-use Rattle.line_laws.proofs.CustodyTrue.{SentIsOf, StationIsTrue, PlanIsTrue, AnswerIsOf, MeterUpIsOf, CoordinatorUpIsOf, HearsTrue, letter_true, plain_true, coordinator_hears_true, DidTrue, acts_true}
+use Rattle.line_laws.proofs.CustodyTrue.{SentIsOf, StationIsTrue, PlanIsTrue, AnswerIsOf, MeterUpIsOf, CoordinatorUpIsOf, HearsTrue, letter_true, plain_true}
+use Rattle.line_laws.proofs.CustodyTrue.{coordinator_hears_true, DidTrue, acts_true}
 pub use Rattle.line_laws.specs.InCustody.{FlightIsOf, NodeTrue}
 
 -- A datagram that was handed up under a note is that of a send to this address.
@@ -62,12 +63,14 @@ station_told S own (heard_as.Up from note octets) h u e =
     subst (λ (v : Up). HandedIsOf S own v.note v.octets) same (record { sent = x.sent; is = x.is; target = x.target; same = x.content })
 station_told S own _ h u e = absurd (none-some u e)
 
-meter_told : (S : ℕ → SentAs → Type 0) (own : ℕ) (a : Result MeterHeard Dropped) → AnswerIsOf S own (MeterUpIsOf S own) a → ReceptionIsOf S own (meter_reception a)
+meter_told : (S : ℕ → SentAs → Type 0) (own : ℕ) (a : Result MeterHeard Dropped) → AnswerIsOf S own (MeterUpIsOf S own) a
+    → ReceptionIsOf S own (meter_reception a)
 meter_told S own (Ok (meter_heard.Station h)) x = station_told S own h x
 meter_told S own (Ok _) x = λ u e. absurd (none-some u e)
 meter_told S own (Err reason) x = λ u e. absurd (none-some u e)
 
-coordinator_told : (S : ℕ → SentAs → Type 0) (own : ℕ) (a : Result CoordinatorHeard Dropped) → AnswerIsOf S own (CoordinatorUpIsOf S own) a → ReceptionIsOf S own (coordinator_reception a)
+coordinator_told : (S : ℕ → SentAs → Type 0) (own : ℕ) (a : Result CoordinatorHeard Dropped) → AnswerIsOf S own (CoordinatorUpIsOf S own) a
+    → ReceptionIsOf S own (coordinator_reception a)
 coordinator_told S own (Ok (coordinator_heard.Station h)) x = station_told S own h x
 coordinator_told S own (Ok _) x = λ u e. absurd (none-some u e)
 coordinator_told S own (Err reason) x = λ u e. absurd (none-some u e)
@@ -80,20 +83,25 @@ record HeardTrue (S : ℕ → SentAs → Type 0) (own : ℕ) (d : NodeStep Recep
   frames : All (SentIsOf S) d.frames
   up : ReceptionIsOf S own d.answer
 
-module _ (ciphers : Ciphers) (S : ℕ → SentAs → Type 0) (one : OneSend S) (own : ℕ) (got : Accepted) (cost note now : ℕ) (comes : HearsTrue S (heard_given got cost note now)) where
-  hears_true : (x : Node) → NodeTrue S own x → ((psk : Key) (m : Memory) → x.role ≡ Meter psk → x.memory ≡ Some m → TakesHome own got cost note now (identity ciphers x psk) m) → ((m : Memory) → x.memory ≡ Some m → Agrees (heard_given got cost note now) m.station) → HeardTrue S own (hears ciphers x got cost note now)
+module _ (ciphers : Ciphers) (S : ℕ → SentAs → Type 0) (one : OneSend S) (own : ℕ) (got : Accepted) (cost note now : ℕ)
+    (comes : HearsTrue S (heard_given got cost note now)) where
+  hears_true : (x : Node) → NodeTrue S own x
+      → ((psk : Key) (m : Memory) → x.role ≡ Meter psk → x.memory ≡ Some m → TakesHome own got cost note now (identity ciphers x psk) m)
+      → ((m : Memory) → x.memory ≡ Some m → Agrees (heard_given got cost note now) m.station) → HeardTrue S own (hears ciphers x got cost note now)
   hears_true x ok stays_at agrees = by_role x.role refl
     where
       By : Role → Type 0
       By role = HeardTrue S own (hears_as role)
         where
           hears_as : Role → NodeStep Reception
-          hears_as Coordinator = answering coordinator_reception (acts x (Err drops.Store) (λ m. coordinators.hear_coordinator (record { eui = x.eui; ciphers = ciphers }) m got cost note now))
+          hears_as Coordinator = answering coordinator_reception
+              (acts x (Err drops.Store) (λ m. coordinators.hear_coordinator (record { eui = x.eui; ciphers = ciphers }) m got cost note now))
           hears_as (Meter psk) = answering meter_reception (acts x (Err drops.Store) (λ m. meters.hear_meter (identity ciphers x psk) m got cost note now))
 
       by_role : (role : Role) → x.role ≡ role → HeardTrue S own (hears ciphers x got cost note now)
       by_role Coordinator e =
-          let d = acts_true S own (CoordinatorUpIsOf S own) x drops.Store (λ m. coordinators.hear_coordinator (record { eui = x.eui; ciphers = ciphers }) m got cost note now) ok
+          let d = acts_true S own (CoordinatorUpIsOf S own) x drops.Store
+          (λ m. coordinators.hear_coordinator (record { eui = x.eui; ciphers = ciphers }) m got cost note now) ok
           (λ m there h. coordinator_hears_true S one own got cost note now comes (record { eui = x.eui; ciphers = ciphers }) m h (agrees m there)) in
           subst By (sym e) (record { node = d.station; frames = d.frames; up = coordinator_told S own _ d.up })
       by_role (Meter psk) e =
@@ -108,36 +116,45 @@ module _ (ciphers : Ciphers) (opens : OpensWhatItSeals ciphers) (S : ℕ → Sen
   unfolding spelled
   flies_true (Sealed l) fits h = record {
     unit = λ u e.
-        let back = unit_back ciphers opens (flight_by number (spelled ciphers (Sealed l))) l.key refl (record { letter = l; fits = fits; key_is = refl; octets = refl; note = refl }) in
+        let back = unit_back ciphers opens (flight_by number (spelled ciphers (Sealed l))) l.key refl
+        (record { letter = l; fits = fits; key_is = refl; octets = refl; note = refl }) in
         subst (UnitIsOf S l.note) (same_Some l.unit u (sym back ∙ e)) h;
   }
   flies_true (UpFrame agent from message) fits h = record { unit = λ u e. absurd (none-some u e) }
   flies_true (Down from message) fits h = record { unit = λ u e. absurd (none-some u e) }
 
-  pub fly_true : (fs : List Sent) → All IsSent fs → All (SentIsOf S) fs → All (FlightIsOf ciphers S) (map (λ frame. flight_by number (spelled ciphers frame)) fs)
+  pub fly_true : (fs : List Sent) → All IsSent fs → All (SentIsOf S) fs
+      → All (FlightIsOf ciphers S) (map (λ frame. flight_by number (spelled ciphers frame)) fs)
   fly_true [] fits all = All-nil (FlightIsOf ciphers S)
-  fly_true (f ∷ fs) fits all = All-cons (FlightIsOf ciphers S) (flight_by number (spelled ciphers f)) _ (flies_true f (All-head IsSent f fs fits) (All-head (SentIsOf S) f fs all)) (fly_true fs (All-tail IsSent f fs fits) (All-tail (SentIsOf S) f fs all))
+  fly_true (f ∷ fs) fits all = All-cons (FlightIsOf ciphers S) (flight_by number (spelled ciphers f)) _
+      (flies_true f (All-head IsSent f fs fits) (All-head (SentIsOf S) f fs all)) (fly_true fs (All-tail IsSent f fs fits) (All-tail (SentIsOf S) f fs all))
 
 -- # An arrival
 
-module _ (ciphers : Ciphers) (opens : OpensWhatItSeals ciphers) (S : ℕ → SentAs → Type 0) (one : OneSend S) (w : World) (are : AreFlights ciphers w.flights) (of : All (FlightIsOf ciphers S) w.flights) (number own : ℕ) (x : Node) (octets : List ℕ) (cost : ℕ) where
+module _ (ciphers : Ciphers) (opens : OpensWhatItSeals ciphers) (S : ℕ → SentAs → Type 0) (one : OneSend S) (w : World) (are : AreFlights ciphers w.flights)
+    (of : All (FlightIsOf ciphers S) w.flights) (number own : ℕ) (x : Node) (octets : List ℕ) (cost : ℕ) where
   abbrev accepting : NodeStep (Result Accepted FrameRefusal)
   accepting = acts x (Err frames.Halted) (λ m. of_station m (accept m.station x.eui (arrived ciphers octets)))
 
   -- accepting moves nothing
-  pub accepts_true : (m : Memory) → StationIsTrue S own m.station → PlanIsTrue S own (λ (a : Accepted). ⊤) (of_station m (accept m.station x.eui (arrived ciphers octets)))
+  pub accepts_true : (m : Memory) → StationIsTrue S own m.station
+      → PlanIsTrue S own (λ (a : Accepted). ⊤) (of_station m (accept m.station x.eui (arrived ciphers octets)))
   unfolding resting marking
   accepts_true m h = by_form _ (accept_is m.station x.eui (arrived ciphers octets))
     where
       by_form : (p : Accepting) → Accepts m.station (arrived ciphers octets) p → PlanIsTrue S own (λ (a : Accepted). ⊤) (of_station m p)
       by_form p (Turned reason) = record { station = h; frames = All-nil (SentIsOf S); up = tt; fails = tt }
       by_form p (Plain got plain) = record { station = h; frames = All-nil (SentIsOf S); up = tt; fails = tt }
-      by_form p (Marked from counter got a) = record { station = record { address = h.address; bodies = h.bodies; held = h.held }; frames = All-nil (SentIsOf S); up = tt; fails = tt }
+      by_form p (Marked from counter got a) =
+          record { station = record { address = h.address; bodies = h.bodies; held = h.held }; frames = All-nil (SentIsOf S); up = tt; fails = tt }
 
-  pub came_true : (got : Accepted) → WhatCame ciphers opens w are number x octets cost 1 0 (omega arith) got → HearsTrue S (heard_given got cost (note_by w octets got.path) w.clock)
+  pub came_true : (got : Accepted) → WhatCame ciphers opens w are number x octets cost 1 0 (omega arith) got
+      → HearsTrue S (heard_given got cost (note_by w octets got.path) w.clock)
   came_true got (PlainCame plain) = plain_true S got cost (note_by w octets got.path) w.clock plain
   came_true got (LetterCame l fits from counter is origin) =
-      let f : FlightIsOf ciphers S origin.flight = subst (FlightIsOf ciphers S) (get_or_from_slice_get w.flights origin.place origin.flight origin.flight origin.there) (of origin.place origin.flight (slice_get_within w.flights origin.place origin.flight origin.there)) in
+      let f : FlightIsOf ciphers S origin.flight = subst (FlightIsOf ciphers S)
+      (get_or_from_slice_get w.flights origin.place origin.flight origin.flight origin.there)
+      (of origin.place origin.flight (slice_get_within w.flights origin.place origin.flight origin.there)) in
       subst (λ (k : ℕ). HearsTrue S (heard_given got cost k w.clock)) origin.heard
       (letter_true S l fits (subst (λ (k : ℕ). UnitIsOf S k l.unit) origin.note (f.unit l.unit origin.unit)) from counter got is cost w.clock)
 
@@ -149,7 +166,8 @@ module _ (ciphers : Ciphers) (opens : OpensWhatItSeals ciphers) (S : ℕ → Sen
     pub flights : All (FlightIsOf ciphers S) v.flights
     pub up : (u : Handed) → d.happened.up ≡ Some u → HandedIsOf S own u.note u.octets
 
-  handed_true : (up : Option Up) → ((u : Up) → up ≡ Some u → HandedIsOf S own u.note u.octets) → (h : Handed) → handed_by number up ≡ Some h → HandedIsOf S own h.note h.octets
+  handed_true : (up : Option Up) → ((u : Up) → up ≡ Some u → HandedIsOf S own u.note u.octets) → (h : Handed) → handed_by number up ≡ Some h
+      → HandedIsOf S own h.note h.octets
   handed_true None t h e = absurd (none-some h e)
   handed_true (Some u) t h e =
       let r : Handed = record { node = number; note = u.note; octets = u.octets } in
@@ -157,14 +175,19 @@ module _ (ciphers : Ciphers) (opens : OpensWhatItSeals ciphers) (S : ℕ → Sen
       subst (λ (k : Handed). HandedIsOf S own k.note k.octets) same (t u refl)
 
   pub arrives_true : NodeTrue S own x → All IsSent accepting.frames
-      → ((got : Accepted) → accepting.answer ≡ Ok got → ((psk : Key) (m : Memory) → accepting.node.role ≡ Meter psk → accepting.node.memory ≡ Some m → TakesHome own got cost (note_by w octets got.path) w.clock (identity ciphers accepting.node psk) m) × ((m : Memory) → accepting.node.memory ≡ Some m → Agrees (heard_given got cost (note_by w octets got.path) w.clock) m.station)
+      → ((got : Accepted) → accepting.answer ≡ Ok got
+      → ((psk : Key) (m : Memory) → accepting.node.role ≡ Meter psk → accepting.node.memory ≡ Some m
+      → TakesHome own got cost (note_by w octets got.path) w.clock (identity ciphers accepting.node psk) m)
+      × ((m : Memory) → accepting.node.memory ≡ Some m → Agrees (heard_given got cost (note_by w octets got.path) w.clock) m.station)
       × All IsSent (hears ciphers accepting.node got cost (note_by w octets got.path) w.clock).frames)
-      → (arrives ciphers w number x octets cost).1.happened.forged ≡ false → LeavesTrue (arrives ciphers w number x octets cost).0 (arrives ciphers w number x octets cost).1
+      → (arrives ciphers w number x octets cost).1.happened.forged ≡ false
+      → LeavesTrue (arrives ciphers w number x octets cost).0 (arrives ciphers w number x octets cost).1
   unfolding arrives told
   arrives_true ok sent well unforged = by_answer accepting.answer refl unforged
     where
       first : DidTrue S own (λ (a : Accepted). ⊤) accepting
-      first = acts_true S own (λ (a : Accepted). ⊤) x frames.Halted (λ m. of_station m (accept m.station x.eui (arrived ciphers octets))) ok (λ m e h. accepts_true m h)
+      first = acts_true S own (λ (a : Accepted). ⊤) x frames.Halted (λ m. of_station m (accept m.station x.eui (arrived ciphers octets))) ok
+          (λ m e h. accepts_true m h)
 
       after : Result Accepted FrameRefusal → World × Trace
       after (Ok got) = heard ciphers w number accepting.node octets got cost
@@ -175,7 +198,8 @@ module _ (ciphers : Ciphers) (opens : OpensWhatItSeals ciphers) (S : ℕ → Sen
         node = accepting.node;
         nodes = refl;
         is = first.station;
-        flights = All-append (FlightIsOf ciphers S) w.flights (flights_of ciphers number accepting) of (fly_true ciphers opens S number accepting.frames sent first.frames);
+        flights = All-append (FlightIsOf ciphers S) w.flights (flights_of ciphers number accepting) of
+            (fly_true ciphers opens S number accepting.frames sent first.frames);
         up = λ u e. absurd (none-some u e);
       }
       by_answer (Ok got) e unforged =

@@ -97,7 +97,8 @@ pub record Comes (g : Given) (n i brought : ℕ) : Type 0 where
   pub comes : (by : ℕ) (u : MeshUnit) → IsCome g by false u → weigh n g.note (content_is i u) ≤ brought
 
 -- what comes of a letter is the letter's weight
-pub letter_comes : (l : Letter) (fits : IsLetter l) (from counter : ℕ) (got : Accepted) (is : IsOfLetter l from counter got) (cost now n i : ℕ) → Comes (heard_given got cost l.note now) n i (letter_is n i l)
+pub letter_comes : (l : Letter) (fits : IsLetter l) (from counter : ℕ) (got : Accepted) (is : IsOfLetter l from counter got) (cost now n i : ℕ)
+    → Comes (heard_given got cost l.note now) n i (letter_is n i l)
 letter_comes l fits from counter got is cost now n i = record {
   comes = λ by u c.
       let same : content_is i u ≡ content_is i l.unit = ap (content_is i) (comes_of l fits from counter got is cost l.note now by false u c).1 in
@@ -107,7 +108,8 @@ letter_comes l fits from counter got is cost now n i = record {
 
 -- a plain frame brings nothing
 pub plain_comes : (got : Accepted) (cost note now n i : ℕ) → IsPlain got.path → Comes (heard_given got cost note now) n i 0
-plain_comes got cost note now n i plain = record { comes = λ by u c. absurd (subst IsPlain (ap (λ (x : Accepted). x.path) (same_Some got c.got c.is) ∙ c.path) plain) }
+plain_comes got cost note now n i plain =
+    record { comes = λ by u c. absurd (subst IsPlain (ap (λ (x : Accepted). x.path) (same_Some got c.got c.is) ∙ c.path) plain) }
 
 module _ (got : Accepted) (cost note now n i brought : ℕ) (some : 0 < n) (comes : Comes (heard_given got cost note now) n i brought) where
   brings : (W : RingWord → Type 0) → SaysNoDatagram W n i → BringsIn W (heard_given got cost note now) n i brought
@@ -119,21 +121,28 @@ module _ (got : Accepted) (cost note now n i brought : ℕ) (some : 0 < n) (come
   abbrev pub came : Given
   came = heard_given got cost note now
 
-  pub meter_hears_kept : (x : meters.Identity) (m : Memory) → Agrees came m.station → BodiesKept n i brought (up_by (meter_up n i)) m (meters.hear_meter x m got cost note now)
+  pub meter_hears_kept : (x : meters.Identity) (m : Memory) → Agrees came m.station
+      → BodiesKept n i brought (up_by (meter_up n i)) m (meters.hear_meter x m got cost note now)
   meter_hears_kept x m agrees =
-      plan_kept (RingCause came x m) came n i brought some (brings (RingCause came x m) (meter_says came x m n i)) NoGrant NoPair NoEui m dropped (meter_up n i) (HandedIn meter_heard.Station came m) _
-      (λ k answer h. handed_in_kept (RingCause came x m) came n i brought (brings (RingCause came x m) (meter_says came x m n i)).first meter_heard.Station (meter_up n i) (λ a. refl) m k answer agrees h)
+      plan_kept (RingCause came x m) came n i brought some (brings (RingCause came x m) (meter_says came x m n i)) NoGrant NoPair NoEui m dropped (meter_up n i)
+      (HandedIn meter_heard.Station came m) _
+      (λ k answer h. handed_in_kept (RingCause came x m) came n i brought (brings (RingCause came x m) (meter_says came x m n i)).first meter_heard.Station
+      (meter_up n i) (λ a. refl) m k answer agrees h)
       (λ d answer h. (h.0, no_up answer h.2)) _ (meter_is NoGrant NoPair NoEui came x m got refl)
     where
       no_up : (a : MeterHeard) → HandsNothingUp a → meter_up n i a ≡ 0
       no_up (meter_heard.Station h) none = up_none (RingCause came x m) came n i brought (brings (RingCause came x m) (meter_says came x m n i)).first h none
       no_up _ none = refl
 
-  pub coordinator_hears_kept : (own : coordinators.CoordinatorIdentity) (m : Memory) → Agrees came m.station → BodiesKept n i brought (up_by (coordinator_up n i)) m (coordinators.hear_coordinator own m got cost note now)
+  pub coordinator_hears_kept : (own : coordinators.CoordinatorIdentity) (m : Memory) → Agrees came m.station
+      → BodiesKept n i brought (up_by (coordinator_up n i)) m (coordinators.hear_coordinator own m got cost note now)
   coordinator_hears_kept own m agrees =
-      plan_kept CoordinatorWord came n i brought some (brings CoordinatorWord (coordinator_says n i)) (λ granted. coordinator.IsGranted m granted) AnyPair AnyEui m dropped (coordinator_up n i) (HandedIn coordinator_heard.Station came m) _
-      (λ k answer h. handed_in_kept CoordinatorWord came n i brought (brings CoordinatorWord (coordinator_says n i)).first coordinator_heard.Station (coordinator_up n i) (λ a. refl) m k answer agrees h)
-      (λ d answer h. (h.0, no_up answer h.2)) _ (coordinator.coordinator_is CoordinatorWord AnyPair AnyEui came own m (λ to there join said. Says to join) got refl (λ u join e read. tt))
+      plan_kept CoordinatorWord came n i brought some (brings CoordinatorWord (coordinator_says n i)) (λ granted. coordinator.IsGranted m granted) AnyPair
+      AnyEui m dropped (coordinator_up n i) (HandedIn coordinator_heard.Station came m) _
+      (λ k answer h. handed_in_kept CoordinatorWord came n i brought (brings CoordinatorWord (coordinator_says n i)).first coordinator_heard.Station
+      (coordinator_up n i) (λ a. refl) m k answer agrees h)
+      (λ d answer h. (h.0, no_up answer h.2)) _
+      (coordinator.coordinator_is CoordinatorWord AnyPair AnyEui came own m (λ to there join said. Says to join) got refl (λ u join e read. tt))
     where
       no_up : (a : CoordinatorHeard) → coordinator.HandsNothingUp a → coordinator_up n i a ≡ 0
       no_up (coordinator_heard.Station h) none = up_none CoordinatorWord came n i brought (brings CoordinatorWord (coordinator_says n i)).first h none
@@ -146,23 +155,31 @@ data TheSend (to note tag : ℕ) (datagram : List ℕ) : RingWord → Type 0 whe
   TheBody : TheSend to note tag datagram (Carry to note (Datagram datagram tag))
 
 module _ (n i : ℕ) (some : 0 < n) (m : Memory) where
-  send_brings : (to note now tag : ℕ) (datagram : List ℕ) → Brings (TheSend to note tag datagram) (call_given 0 note now) n i (weigh n note (below i (length datagram)))
+  send_brings : (to note now tag : ℕ) (datagram : List ℕ)
+      → Brings (TheSend to note tag datagram) (call_given 0 note now) n i (weigh n note (below i (length datagram)))
   send_brings to note now tag datagram = record { comes = λ by u c. absurd (no_some _ c.is); carries = weighs }
     where
       weighs : (t k : ℕ) (load : Load) → TheSend to note tag datagram (Carry t k load) → weigh n k (load_is i load) ≤ weigh n note (below i (length datagram))
       weighs t k load TheBody = omega arith
 
-  pub send_kept : (to : ℕ) (datagram : List ℕ) (note now : ℕ) → BodiesKept n i (weigh n note (below i (length datagram))) (up_by (λ (h : SentHow). 0)) m (of_station m (calls.send m.station to datagram note now))
+  pub send_kept : (to : ℕ) (datagram : List ℕ) (note now : ℕ)
+      → BodiesKept n i (weigh n note (below i (length datagram))) (up_by (λ (h : SentHow). 0)) m (of_station m (calls.send m.station to datagram note now))
   unfolding resting
   send_kept to datagram note now =
-      plan_kept_by n i (weigh n note (below i (length datagram))) m calls.sending_ends (λ h. 0) Nothing (λ d (a : SentHow). Moves n i (keeps n i m.station + weigh n note (below i (length datagram))) d 0)
-      (λ k answer none. absurd none) (λ d answer x. x) _ (over _ (send_is (TheSend to note m.station.next_tag datagram) (call_given 0 note now) m.station to datagram (λ low high. TheBody)))
+      plan_kept_by n i (weigh n note (below i (length datagram))) m calls.sending_ends (λ h. 0) Nothing
+      (λ d (a : SentHow). Moves n i (keeps n i m.station + weigh n note (below i (length datagram))) d 0)
+      (λ k answer none. absurd none) (λ d answer x. x) _
+      (over _ (send_is (TheSend to note m.station.next_tag datagram) (call_given 0 note now) m.station to datagram (λ low high. TheBody)))
     where
-      over : (p : Plan StationMemory (Result SentHow SendRefusal)) → Planned alone calls.sending_ends m.station Nothing (λ d (a : SentHow). Made (TheSend to note m.station.next_tag datagram) (call_given 0 note now) (empty_draft m.station) d × Few m.station d) p
-          → Planned in_memory calls.sending_ends m Nothing (λ d (a : SentHow). Moves n i (keeps n i m.station + weigh n note (below i (length datagram))) d 0) (of_station m p)
+      over : (p : Plan StationMemory (Result SentHow SendRefusal))
+          → Planned alone calls.sending_ends m.station Nothing
+          (λ d (a : SentHow). Made (TheSend to note m.station.next_tag datagram) (call_given 0 note now) (empty_draft m.station) d × Few m.station d) p
+          → Planned in_memory calls.sending_ends m Nothing (λ d (a : SentHow). Moves n i (keeps n i m.station + weigh n note (below i (length datagram))) d 0)
+          (of_station m p)
       over p (Refuses reason) = Refuses reason
       over p (Keeps k answer x) = absurd x
-      over p (Ended d answer done left) = Ended (whole m d) answer (station_moves (TheSend to note m.station.next_tag datagram) (call_given 0 note now) n i (weigh n note (below i (length datagram))) some (send_brings to note now m.station.next_tag datagram) m d done.0) left
+      over p (Ended d answer done left) = Ended (whole m d) answer (station_moves (TheSend to note m.station.next_tag datagram) (call_given 0 note now) n i
+          (weigh n note (below i (length datagram))) some (send_brings to note now m.station.next_tag datagram) m d done.0) left
 
   -- accepting a frame moves no datagram
   pub accept_kept : (own : Eui) (a : Option Arrived) → BodiesKept n i 0 (λ (r : Result Accepted FrameRefusal). 0) m (of_station m (accept m.station own a))

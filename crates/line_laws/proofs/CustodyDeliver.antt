@@ -1,5 +1,6 @@
 -- What comes to a node keeps custody: the two plans of a delivery, one after the other.
-use Rattle.std.proofs.Common.{zero-le, ◌≡◌, ℕ, suc, ◌+◌, ◌≤◌, ◌<◌, ⊎_elim, Bool, true, false, not, List, [], ◌∷◌, ◌++◌, length, Option, Some, None, Result, Ok, Err, refl, sym, ap, ◌∙◌, subst, arith}
+use Rattle.std.proofs.Common.{zero-le, ◌≡◌, ℕ, suc, ◌+◌, ◌≤◌, ◌<◌, ⊎_elim, Bool, true, false, not, List, [], ◌∷◌, ◌++◌, length, Option, Some, None, Result, Ok}
+use Rattle.std.proofs.Common.{Err, refl, sym, ap, ◌∙◌, subst, arith}
 use Rattle.std.specs.Prelude.{slice_get, slice_set, ◌||◌, All, ◌==◌}
 use Rattle.std.specs.List.{sum_by, list_any}
 use Rattle.std.specs.Option.{option_map, option_map_or, option_to_list}
@@ -72,12 +73,29 @@ unfolding note_of first_place
 flown [] octets key h = absurd (cc)
 flown (f ∷ flights) octets key h = by_first (has_octets octets key f) refl h (flown flights octets key)
   where
-    by_first : (b : Bool) → has_octets octets key f ≡ b → not (b || list_any (has_octets octets key) flights) ≡ false → (not (list_any (has_octets octets key) flights) ≡ false → WasFlown flights octets key) → WasFlown (f ∷ flights) octets key
+    by_first : (b : Bool) → has_octets octets key f ≡ b → not (b || list_any (has_octets octets key) flights) ≡ false
+        → (not (list_any (has_octets octets key) flights) ≡ false → WasFlown flights octets key) → WasFlown (f ∷ flights) octets key
     by_first true t h rest =
         let parts = and_parts _ _ t in
-        record { place = 0; flight = f; there = refl; octets_are = (bytes_eq-Decides f.octets octets).0 parts.0; key_is = under_is f.key key parts.1; note = rw t refl; at = rw t refl }
+        record {
+          place = 0;
+          flight = f;
+          there = refl;
+          octets_are = (bytes_eq-Decides f.octets octets).0 parts.0;
+          key_is = under_is f.key key parts.1;
+          note = rw t refl;
+          at = rw t refl;
+        }
     by_first false t h rest =
-        let r = rest h in record { place = suc r.place; flight = r.flight; there = r.there; octets_are = r.octets_are; key_is = r.key_is; note = rw t r.note; at = rw t (ap (option_map (λ (k : ℕ). suc k)) r.at) }
+        let r = rest h in record {
+          place = suc r.place;
+          flight = r.flight;
+          there = r.there;
+          octets_are = r.octets_are;
+          key_is = r.key_is;
+          note = rw t r.note;
+          at = rw t (ap (option_map (λ (k : ℕ). suc k)) r.at);
+        }
 
 -- # What is handed up, as the report has it
 
@@ -101,22 +119,26 @@ coordinator_reported n i (Err reason) = zero-le
 -- # What is heard
 
 module _ (ciphers : Ciphers) (got : Accepted) (cost note now n i brought : ℕ) (some : 0 < n) (comes : Comes (heard_given got cost note now) n i brought) where
-  pub hears_kept : (x : Node) → ((m : Memory) → x.memory ≡ Some m → Agrees (heard_given got cost note now) m.station) → DidKeep n i brought (reception_up n i) x (hears ciphers x got cost note now)
+  pub hears_kept : (x : Node) → ((m : Memory) → x.memory ≡ Some m → Agrees (heard_given got cost note now) m.station)
+      → DidKeep n i brought (reception_up n i) x (hears ciphers x got cost note now)
   hears_kept x agrees = by_role x.role refl
     where
-      reported : {A : Type 0} (reads : A → Reception) (ups : A → ℕ) → ((a : A) → reception_up n i (reads a) ≤ ups a) → (d : NodeStep A) → DidKeep n i brought ups x d → DidKeep n i brought (reception_up n i) x (answering reads d)
+      reported : {A : Type 0} (reads : A → Reception) (ups : A → ℕ) → ((a : A) → reception_up n i (reads a) ≤ ups a) → (d : NodeStep A)
+          → DidKeep n i brought ups x d → DidKeep n i brought (reception_up n i) x (answering reads d)
       reported reads ups less d k = record { kept = let h = k.kept in let z = less d.answer in omega arith }
 
       By : Role → Type 0
       By role = DidKeep n i brought (reception_up n i) x (hears_as role)
         where
           hears_as : Role → NodeStep Reception
-          hears_as Coordinator = answering coordinator_reception (acts x (Err drops.Store) (λ m. coordinators.hear_coordinator (record { eui = x.eui; ciphers = ciphers }) m got cost note now))
+          hears_as Coordinator = answering coordinator_reception
+              (acts x (Err drops.Store) (λ m. coordinators.hear_coordinator (record { eui = x.eui; ciphers = ciphers }) m got cost note now))
           hears_as (Meter psk) = answering meter_reception (acts x (Err drops.Store) (λ m. meters.hear_meter (identity ciphers x psk) m got cost note now))
 
       by_role : (role : Role) → x.role ≡ role → DidKeep n i brought (reception_up n i) x (hears ciphers x got cost note now)
       by_role Coordinator e = subst By (sym e) (reported coordinator_reception (up_by (coordinator_up n i)) (coordinator_reported n i) _
-          (acts_kept n i brought (up_by (coordinator_up n i)) x (Err drops.Store) (λ m. coordinators.hear_coordinator (record { eui = x.eui; ciphers = ciphers }) m got cost note now) refl
+          (acts_kept n i brought (up_by (coordinator_up n i)) x (Err drops.Store)
+          (λ m. coordinators.hear_coordinator (record { eui = x.eui; ciphers = ciphers }) m got cost note now) refl
           (λ m e. coordinator_hears_kept got cost note now n i brought some comes (record { eui = x.eui; ciphers = ciphers }) m (agrees m e))))
       by_role (Meter psk) e = subst By (sym e) (reported meter_reception (up_by (meter_up n i)) (meter_reported n i) _
           (acts_kept n i brought (up_by (meter_up n i)) x (Err drops.Store) (λ m. meters.hear_meter (identity ciphers x psk) m got cost note now) refl
@@ -127,7 +149,8 @@ module _ (ciphers : Ciphers) (got : Accepted) (cost note now n i brought : ℕ) 
 err_ok : {A E : Type 0} (x : E) (a : A) → Err x ≡ Ok a → ⊥
 err_ok x a e = cc
 
-module _ (ciphers : Ciphers) (opens : OpensWhatItSeals ciphers) (w : World) (are : AreFlights ciphers w.flights) (number : ℕ) (x : Node) (octets : List ℕ) (cost n i : ℕ) (some : 0 < n) where
+module _ (ciphers : Ciphers) (opens : OpensWhatItSeals ciphers) (w : World) (are : AreFlights ciphers w.flights) (number : ℕ) (x : Node) (octets : List ℕ)
+    (cost n i : ℕ) (some : 0 < n) where
   -- what the node does first: it accepts the frame, or not
   abbrev pub accepting : NodeStep (Result Accepted FrameRefusal)
   accepting = acts x (Err frames.Halted) (λ m. of_station m (accept m.station x.eui (arrived ciphers octets)))
@@ -154,9 +177,11 @@ module _ (ciphers : Ciphers) (opens : OpensWhatItSeals ciphers) (w : World) (are
     pub comes : Comes (heard_given got cost (note_by w octets got.path) w.clock) n i brought
 
   of_plain : (got : Accepted) → IsPlain got.path → Opening got
-  of_plain got plain = record { what = PlainCame plain; brought = 0; weight = zero-le; comes = plain_comes got cost (note_by w octets got.path) w.clock n i plain }
+  of_plain got plain =
+      record { what = PlainCame plain; brought = 0; weight = zero-le; comes = plain_comes got cost (note_by w octets got.path) w.clock n i plain }
 
-  of_letter : (m : Memory) (from counter : ℕ) (got : Accepted) → IsAdmitted m.station (arrived ciphers octets) from counter got → forged_by w octets got.path ≡ false → Opening got
+  of_letter : (m : Memory) (from counter : ℕ) (got : Accepted) → IsAdmitted m.station (arrived ciphers octets) from counter got
+      → forged_by w octets got.path ≡ false → Opening got
   of_letter m from counter got a unforged = by_all (a.to == to_all) (ap (λ (g : Accepted). g.path) a.got_is)
     where
       all_of : Path → Bool
@@ -176,27 +201,50 @@ module _ (ciphers : Ciphers) (opens : OpensWhatItSeals ciphers) (w : World) (are
       by_all : (b : Bool) → got.path ≡ paths.Sealed from b a.key → Opening got
       by_all b path =
           let f = flown w.flights octets a.key (ap (forged_by w octets) (sym path) ∙ unforged) in
-          let is : IsFlight ciphers f.flight = subst (IsFlight ciphers) (get_or_from_slice_get w.flights f.place f.flight f.flight f.there) (are f.place f.flight (slice_get_within w.flights f.place f.flight f.there)) in
+          let is : IsFlight ciphers f.flight = subst (IsFlight ciphers) (get_or_from_slice_get w.flights f.place f.flight f.flight f.there)
+          (are f.place f.flight (slice_get_within w.flights f.place f.flight f.there)) in
           let s : SpellsLetter ciphers f.flight a.key = is.sealed a.key f.key_is in
           let of = accepts_letter ciphers opens s.letter s.fits m.station octets (sym f.octets_are ∙ s.octets) from counter got a (sym s.key_is) in
           let note : s.letter.note ≡ note_by w octets got.path = sym s.note ∙ sym f.note ∙ ap (note_by w octets) (sym path) in
           let same : flight_is ciphers n i f.flight ≡ letter_is n i s.letter = flight_weighs ciphers opens n i f.flight a.key f.key_is s in
-          let there : opened_is ciphers n i w.flights (Some f.place) ≡ flight_is ciphers n i f.flight = ap (λ (o : Option Flight). option_map_or (flight_is ciphers n i) o 0) f.there in
-          let what : WhatCame got = LetterCame s.letter s.fits from counter of (record { place = f.place; flight = f.flight; there = f.there; unit = unit_back ciphers opens f.flight a.key f.key_is s; note = s.note; heard = note }) in
-          let one : letter_is n i s.letter ≤ opened_is ciphers n i w.flights (first_place w.flights octets a.key) = subst (λ (o : Option ℕ). letter_is n i s.letter ≤ opened_is ciphers n i w.flights o) (sym f.at) (omega arith) in
-          let comes : Comes (heard_given got cost (note_by w octets got.path) w.clock) n i (letter_is n i s.letter) = subst (λ (k : ℕ). Comes (heard_given got cost k w.clock) n i (letter_is n i s.letter)) note (letter_comes s.letter s.fits from counter got of cost w.clock n i) in
+          let there : opened_is ciphers n i w.flights (Some f.place)
+          ≡ flight_is ciphers n i f.flight = ap (λ (o : Option Flight). option_map_or (flight_is ciphers n i) o 0) f.there in
+          let what : WhatCame got = LetterCame s.letter s.fits from counter of
+          (record {
+            place = f.place;
+            flight = f.flight;
+            there = f.there;
+            unit = unit_back ciphers opens f.flight a.key f.key_is s;
+            note = s.note;
+            heard = note;
+          }) in
+          let one : letter_is n i s.letter ≤ opened_is ciphers n i w.flights (first_place w.flights octets a.key) = subst
+          (λ (o : Option ℕ). letter_is n i s.letter ≤ opened_is ciphers n i w.flights o) (sym f.at) (omega arith) in
+          let comes : Comes (heard_given got cost (note_by w octets got.path) w.clock) n i (letter_is n i s.letter) = subst
+          (λ (k : ℕ). Comes (heard_given got cost k w.clock) n i (letter_is n i s.letter)) note
+          (letter_comes s.letter s.fits from counter got of cost w.clock n i) in
           opens_to b path what (letter_is n i s.letter) one comes
         where
-          opens_to : (b : Bool) → got.path ≡ paths.Sealed from b a.key → WhatCame got → (brought : ℕ) → brought ≤ opened_is ciphers n i w.flights (first_place w.flights octets a.key) → Comes (heard_given got cost (note_by w octets got.path) w.clock) n i brought → Opening got
-          opens_to true path what brought one comes = record { what = what; brought = 0; weight = zero-le; comes = none_to_one path (note_by w octets got.path) }
+          opens_to : (b : Bool) → got.path ≡ paths.Sealed from b a.key → WhatCame got → (brought : ℕ)
+              → brought ≤ opened_is ciphers n i w.flights (first_place w.flights octets a.key)
+              → Comes (heard_given got cost (note_by w octets got.path) w.clock) n i brought → Opening got
+          opens_to true path what brought one comes =
+              record { what = what; brought = 0; weight = zero-le; comes = none_to_one path (note_by w octets got.path) }
           opens_to false path what brought one comes =
-              record { what = what; brought = brought; weight = subst (λ (o : Option ℕ). brought ≤ opened_is ciphers n i w.flights o) (ap (opened_by w octets) (sym path)) one; comes = comes }
+              record {
+                what = what;
+                brought = brought;
+                weight = subst (λ (o : Option ℕ). brought ≤ opened_is ciphers n i w.flights o) (ap (opened_by w octets) (sym path)) one;
+                comes = comes;
+              }
 
-  opening_of : (m : Memory) (got : Accepted) (p : Accepting) → Accepts m.station (arrived ciphers octets) p → p.answer ≡ Ok got → forged_by w octets got.path ≡ false → Opening got
+  opening_of : (m : Memory) (got : Accepted) (p : Accepting) → Accepts m.station (arrived ciphers octets) p → p.answer ≡ Ok got
+      → forged_by w octets got.path ≡ false → Opening got
   unfolding resting marking
   opening_of m got p (Turned reason) e unforged = absurd (err_ok reason got e)
   opening_of m got p (Plain g plain) e unforged = let same : g ≡ got = cc in subst Opening same (of_plain g plain.path)
-  opening_of m got p (Marked from counter g a) e unforged = let same : g ≡ got = cc in of_letter m from counter got (subst (IsAdmitted m.station (arrived ciphers octets) from counter) same a) unforged
+  opening_of m got p (Marked from counter g a) e unforged =
+      let same : g ≡ got = cc in of_letter m from counter got (subst (IsAdmitted m.station (arrived ciphers octets) from counter) same a) unforged
 
   failed_store : (m : Memory) → (of_station m (accept m.station x.eui (arrived ciphers octets))).failed ≡ Err frames.Store
   unfolding resting marking
@@ -214,21 +262,27 @@ module _ (ciphers : Ciphers) (opens : OpensWhatItSeals ciphers) (w : World) (are
       plan : Memory → Plan Memory (Result Accepted FrameRefusal)
       plan m = of_station m (accept m.station x.eui (arrived ciphers octets))
 
-      by_outcome : (m : Memory) → (carry_out x.store.records x.store.cut (of_station m (accept m.station x.eui (arrived ciphers octets)))).answer ≡ Ok got → Opening got
+      by_outcome : (m : Memory) → (carry_out x.store.records x.store.cut (of_station m (accept m.station x.eui (arrived ciphers octets)))).answer ≡ Ok got
+          → Opening got
       by_outcome m e = ⊎_elim
-          (λ (k : IsWhole x.store.records x.store.cut (of_station m (accept m.station x.eui (arrived ciphers octets))) (carry_out x.store.records x.store.cut (of_station m (accept m.station x.eui (arrived ciphers octets))))).
+          (λ (k : IsWhole x.store.records x.store.cut (of_station m (accept m.station x.eui (arrived ciphers octets)))
+          (carry_out x.store.records x.store.cut (of_station m (accept m.station x.eui (arrived ciphers octets))))).
           opening_of m got _ (accept_is m.station x.eui (arrived ciphers octets)) (sym k.answer ∙ e) unforged)
-          (λ (c : IsCutOff x.store.records x.store.cut (of_station m (accept m.station x.eui (arrived ciphers octets))) (carry_out x.store.records x.store.cut (of_station m (accept m.station x.eui (arrived ciphers octets))))).
+          (λ (c : IsCutOff x.store.records x.store.cut (of_station m (accept m.station x.eui (arrived ciphers octets)))
+          (carry_out x.store.records x.store.cut (of_station m (accept m.station x.eui (arrived ciphers octets))))).
           absurd (err_ok frames.Store got (sym (failed_store m) ∙ sym c.answer ∙ e)))
           (clean x.store.records x.store.cut (of_station m (accept m.station x.eui (arrived ciphers octets))))
 
-      by_memory : (o : Option Memory) → x.memory ≡ o → (option_map_or (λ m. left_by x (carry_out x.store.records x.store.cut (of_station m (accept m.station x.eui (arrived ciphers octets))))) o (stays x (Err frames.Halted))).answer ≡ Ok got → Opening got
+      by_memory : (o : Option Memory) → x.memory ≡ o
+          → (option_map_or (λ m. left_by x (carry_out x.store.records x.store.cut (of_station m (accept m.station x.eui (arrived ciphers octets))))) o
+          (stays x (Err frames.Halted))).answer ≡ Ok got → Opening got
       by_memory None there e = absurd (err_ok frames.Halted got e)
       by_memory (Some m) there e = by_outcome m e
 
   -- accepting moves no datagram
   accepted_kept : DidKeep n i 0 (λ (r : Result Accepted FrameRefusal). 0) x accepting
-  accepted_kept = acts_kept n i 0 (λ r. 0) x (Err frames.Halted) (λ m. of_station m (accept m.station x.eui (arrived ciphers octets))) refl (λ m e. accept_kept n i some m x.eui (arrived ciphers octets))
+  accepted_kept = acts_kept n i 0 (λ r. 0) x (Err frames.Halted) (λ m. of_station m (accept m.station x.eui (arrived ciphers octets))) refl
+      (λ m e. accept_kept n i some m x.eui (arrived ciphers octets))
 
   -- What is owed of the second plan: a piece has the note of what is gathered under its name, and the frames are letters in range.
   pub record HeardWell (got : Accepted) : Type 0 where
@@ -242,13 +296,16 @@ module _ (ciphers : Ciphers) (opens : OpensWhatItSeals ciphers) (w : World) (are
     pub nodes : v.nodes ≡ slice_set w.nodes number node
     pub flights : v.flights ≡ w.flights ++ new
     pub sends : v.sends ≡ w.sends
-    pub kept : (node_keeps n i node.memory + sum_by (flight_is ciphers n i) new) + sum_by (handed_is n i) (option_to_list d.happened.up) ≤ node_keeps n i x.memory + opened_is ciphers n i w.flights (opened_at w octets accepting.answer)
+    pub kept : (node_keeps n i node.memory + sum_by (flight_is ciphers n i) new) + sum_by (handed_is n i) (option_to_list d.happened.up)
+        ≤ node_keeps n i x.memory + opened_is ciphers n i w.flights (opened_at w octets accepting.answer)
 
-  handed_sum : (up : Option Up) → sum_by (handed_is n i) (option_to_list (handed_by number up)) ≡ option_map_or (λ (u : Up). weigh n u.note (below i (length u.octets))) up 0
+  handed_sum : (up : Option Up) → sum_by (handed_is n i) (option_to_list (handed_by number up))
+      ≡ option_map_or (λ (u : Up). weigh n u.note (below i (length u.octets))) up 0
   handed_sum None = refl
   handed_sum (Some u) = sum_by-cons (handed_is n i) (record { node = number; note = u.note; octets = u.octets }) [] ∙ omega arith
 
-  pub arrives_kept : All IsSent accepting.frames → ((got : Accepted) → accepting.answer ≡ Ok got → HeardWell got) → (arrives ciphers w number x octets cost).1.happened.forged ≡ false
+  pub arrives_kept : All IsSent accepting.frames → ((got : Accepted) → accepting.answer ≡ Ok got → HeardWell got)
+      → (arrives ciphers w number x octets cost).1.happened.forged ≡ false
       → Delivered (arrives ciphers w number x octets cost).0 (arrives ciphers w number x octets cost).1
   unfolding arrives told
   arrives_kept sent well unforged = by_answer accepting.answer refl unforged
@@ -271,24 +328,32 @@ module _ (ciphers : Ciphers) (opens : OpensWhatItSeals ciphers) (w : World) (are
           let f = sent_flies ciphers opens n i number d2.frames h.frames in
           let up = handed_sum d2.answer.up in
           let weight = o.weight in
-          let place : opened_is ciphers n i w.flights (opened_at w octets accepting.answer) ≡ opened_is ciphers n i w.flights (opened_by w octets got.path) = ap (λ (a : Result Accepted FrameRefusal). opened_is ciphers n i w.flights (opened_at w octets a)) e in
+          let place : opened_is ciphers n i w.flights (opened_at w octets accepting.answer)
+          ≡ opened_is ciphers n i w.flights (opened_by w octets got.path) =
+          ap (λ (a : Result Accepted FrameRefusal). opened_is ciphers n i w.flights (opened_at w octets a)) e in
           record { node = d2.node; new = flights_of ciphers number d2; nodes = refl; flights = refl; sends = refl; kept = omega arith }
 
 -- # Custody after an arrival
 
 -- Octets that come, and are not forged, keep each octet of each datagram at one place at most.
-pub arrival_in_custody : (ciphers : Ciphers) (live : World → Flight → Bool) → OpensWhatItSeals ciphers → (w : World) → AreFlights ciphers w.flights → (number : ℕ) (x : Node) → slice_get w.nodes number ≡ Some x → (octets : List ℕ) (cost : ℕ) (before : List Handed)
+pub arrival_in_custody : (ciphers : Ciphers) (live : World → Flight → Bool) → OpensWhatItSeals ciphers → (w : World) → AreFlights ciphers w.flights
+    → (number : ℕ) (x : Node) → slice_get w.nodes number ≡ Some x → (octets : List ℕ) (cost : ℕ) (before : List Handed)
     → IsInCustody ciphers live w before
     → (let first = acts x (Err frames.Halted) (λ m. of_station m (accept m.station x.eui (arrived ciphers octets))) in
-    All IsSent first.frames → ((got : Accepted) → first.answer ≡ Ok got → ((m : Memory) → first.node.memory ≡ Some m → Agrees (heard_given got cost (note_by w octets got.path) w.clock) m.station) × All IsSent (hears ciphers first.node got cost (note_by w octets got.path) w.clock).frames)
-    → (arrives ciphers w number x octets cost).1.happened.forged ≡ false → LiveFalls live w (arrives ciphers w number x octets cost).0 (opened_at w octets first.answer)
+    All IsSent first.frames → ((got : Accepted) → first.answer ≡ Ok got
+    → ((m : Memory) → first.node.memory ≡ Some m → Agrees (heard_given got cost (note_by w octets got.path) w.clock) m.station)
+    × All IsSent (hears ciphers first.node got cost (note_by w octets got.path) w.clock).frames)
+    → (arrives ciphers w number x octets cost).1.happened.forged ≡ false
+    → LiveFalls live w (arrives ciphers w number x octets cost).0 (opened_at w octets first.answer)
     → IsInCustody ciphers live (arrives ciphers w number x octets cost).0 (before ++ option_to_list (arrives ciphers w number x octets cost).1.happened.up))
 arrival_in_custody ciphers live opens w are number x here octets cost before held sent well unforged falls = record {
   at_most = λ n i some.
       let v : World = (arrives ciphers w number x octets cost).0 in
       let up : Option Handed = (arrives ciphers w number x octets cost).1.happened.up in
-      let d = arrives_kept ciphers opens w are number x octets cost n i some sent (λ got e. let h = well got e in record { agrees = h.0; frames = h.1 }) unforged in
+      let d = arrives_kept ciphers opens w are number x octets cost n i some sent (λ got e. let h = well got e in record { agrees = h.0; frames = h.1 })
+      unforged in
       let same : issued n v.sends ≡ issued n w.sends = ap (issued n) d.sends in
-      custody_after ciphers live n i w v x d.node d.new before (option_to_list up) _ 0 (record { number = number; here = here; nodes = d.nodes; flights = d.flights }) falls
+      custody_after ciphers live n i w v x d.node d.new before (option_to_list up) _ 0
+      (record { number = number; here = here; nodes = d.nodes; flights = d.flights }) falls
       (record { kept = let k = d.kept in omega arith }) (omega arith) (held.at_most n i some);
 }

@@ -1,5 +1,6 @@
 -- A send and the passing of time keep custody, in the world.
-use Rattle.std.proofs.Common.{zero-le, ◌≡◌, ℕ, ◌+◌, ◌≤◌, ◌<◌, cond, ⊎_elim, Bool, true, false, List, [], ◌∷◌, length, map, Option, Some, None, Result, Ok, Err, refl, ap, subst, arith}
+use Rattle.std.proofs.Common.{zero-le, ◌≡◌, ℕ, ◌+◌, ◌≤◌, ◌<◌, cond, ⊎_elim, Bool, true, false, List, [], ◌∷◌, length, map, Option, Some, None, Result, Ok, Err}
+use Rattle.std.proofs.Common.{refl, ap, subst, arith}
 use Rattle.std.specs.Prelude.{slice_get, All}
 use Rattle.std.specs.List.{sum_by}
 use Rattle.std.specs.Option.{option_map_or}
@@ -51,16 +52,24 @@ err_ok x a e = cc
 abbrev AnyWord : RingWord → Type 0
 AnyWord w = Unit {0}
 
-send_is_kept : (n i : ℕ) (some : 0 < n) (m : Memory) (to : ℕ) (datagram : List ℕ) (note now : ℕ) → SendKept n i m (weigh n note (below i (length datagram))) (of_station m (calls.send m.station to datagram note now))
+send_is_kept : (n i : ℕ) (some : 0 < n) (m : Memory) (to : ℕ) (datagram : List ℕ) (note now : ℕ)
+    → SendKept n i m (weigh n note (below i (length datagram))) (of_station m (calls.send m.station to datagram note now))
 unfolding resting
 send_is_kept n i some m to datagram note now =
     by_form _ (send_is AnyWord (call_given 0 note now) m.station to datagram (λ low high. tt)) (send_kept n i some m to datagram note now)
   where
-    by_form : (p : Plan StationMemory (Result SentHow SendRefusal)) → Planned alone calls.sending_ends m.station Nothing (λ d (a : SentHow). Made AnyWord (call_given 0 note now) (empty_draft m.station) d × Few m.station d) p → BodiesKept n i (weigh n note (below i (length datagram))) (up_by (λ (h : SentHow). 0)) m (of_station m p)
+    by_form : (p : Plan StationMemory (Result SentHow SendRefusal))
+        → Planned alone calls.sending_ends m.station Nothing (λ d (a : SentHow). Made AnyWord (call_given 0 note now) (empty_draft m.station) d
+        × Few m.station d) p → BodiesKept n i (weigh n note (below i (length datagram))) (up_by (λ (h : SentHow). 0)) m (of_station m p)
         → SendKept n i m (weigh n note (below i (length datagram))) (of_station m p)
-    by_form p (Refuses reason) k = record { taken = λ h e. absurd (err_ok reason h e); refused = λ x e. omega arith; store = λ h e. absurd (err_ok calls.sending_ends.store h e) }
+    by_form p (Refuses reason) k =
+        record { taken = λ h e. absurd (err_ok reason h e); refused = λ x e. omega arith; store = λ h e. absurd (err_ok calls.sending_ends.store h e) }
     by_form p (Keeps l answer none) k = absurd none
-    by_form p (Ended d answer done left) k = record { taken = λ h e. let x = k.kept in omega arith; refused = λ x e. absurd (ok_err answer x e); store = λ h e. absurd (err_ok calls.sending_ends.store h e) }
+    by_form p (Ended d answer done left) k = record {
+      taken = λ h e. let x = k.kept in omega arith;
+      refused = λ x e. absurd (ok_err answer x e);
+      store = λ h e. absurd (err_ok calls.sending_ends.store h e);
+    }
 
 -- what a taken send weighs
 abbrev taken_is : ℕ → Result SentHow SendRefusal → ℕ
@@ -70,14 +79,17 @@ taken_is weight (Err e) = 0
 record DidSend (n i weight : ℕ) (x : Node) (d : NodeStep (Result SentHow SendRefusal)) : Type 0 where
   kept : node_keeps n i d.node.memory + sum_by (sent_is n i) d.frames ≤ node_keeps n i x.memory + taken_is weight d.answer
 
-by_taken : (n i weight : ℕ) (m : Memory) (p : Plan Memory (Result SentHow SendRefusal)) → SendKept n i m weight p → keeps n i p.memory.station + sum_by (sent_is n i) p.frames ≤ keeps n i m.station + taken_is weight p.answer
+by_taken : (n i weight : ℕ) (m : Memory) (p : Plan Memory (Result SentHow SendRefusal)) → SendKept n i m weight p
+    → keeps n i p.memory.station + sum_by (sent_is n i) p.frames ≤ keeps n i m.station + taken_is weight p.answer
 by_taken n i weight m p k = by_answer p.answer refl
   where
-    by_answer : (a : Result SentHow SendRefusal) → p.answer ≡ a → keeps n i p.memory.station + sum_by (sent_is n i) p.frames ≤ keeps n i m.station + taken_is weight a
+    by_answer : (a : Result SentHow SendRefusal) → p.answer ≡ a
+        → keeps n i p.memory.station + sum_by (sent_is n i) p.frames ≤ keeps n i m.station + taken_is weight a
     by_answer (Ok h) e = k.taken h e
     by_answer (Err x) e = let y = k.refused x e in omega arith
 
-send_did : (n i weight : ℕ) (x : Node) (plan : Memory → Plan Memory (Result SentHow SendRefusal)) → ((m : Memory) → SendKept n i m weight (plan m)) → DidSend n i weight x (acts x (Err sends.Halted) plan)
+send_did : (n i weight : ℕ) (x : Node) (plan : Memory → Plan Memory (Result SentHow SendRefusal)) → ((m : Memory) → SendKept n i m weight (plan m))
+    → DidSend n i weight x (acts x (Err sends.Halted) plan)
 unfolding acts
 send_did n i weight x plan f = by_memory x.memory refl
   where
@@ -87,13 +99,16 @@ send_did n i weight x plan f = by_memory x.memory refl
         before : node_keeps n i x.memory ≡ keeps n i m.station
         before = ap (node_keeps n i) e
 
-        finished : IsWhole x.store.records x.store.cut (plan m) (carry_out x.store.records x.store.cut (plan m)) → DidSend n i weight x (left_by x (carry_out x.store.records x.store.cut (plan m)))
+        finished : IsWhole x.store.records x.store.cut (plan m) (carry_out x.store.records x.store.cut (plan m))
+            → DidSend n i weight x (left_by x (carry_out x.store.records x.store.cut (plan m)))
         finished w = record { kept = let b = before in let h = by_taken n i weight m (plan m) (f m) in rw (w.memory, w.frames, w.answer) (omega arith) }
 
-        cut_off : IsCutOff x.store.records x.store.cut (plan m) (carry_out x.store.records x.store.cut (plan m)) → DidSend n i weight x (left_by x (carry_out x.store.records x.store.cut (plan m)))
+        cut_off : IsCutOff x.store.records x.store.cut (plan m) (carry_out x.store.records x.store.cut (plan m))
+            → DidSend n i weight x (left_by x (carry_out x.store.records x.store.cut (plan m)))
         cut_off c = record { kept = rw (c.memory, c.frames) zero-le }
 
-    by_memory : (o : Option Memory) → x.memory ≡ o → DidSend n i weight x (option_map_or (λ m. left_by x (carry_out x.store.records x.store.cut (plan m))) o (stays x (Err sends.Halted)))
+    by_memory : (o : Option Memory) → x.memory ≡ o
+        → DidSend n i weight x (option_map_or (λ m. left_by x (carry_out x.store.records x.store.cut (plan m))) o (stays x (Err sends.Halted)))
     by_memory None e = record { kept = omega arith }
     by_memory (Some m) e = carried m e
 
@@ -116,7 +131,8 @@ word_taken how.Waiting = refl
 issues : (n i sends size : ℕ) → 0 < n → issued n sends + weigh n (sends + 1) (below i size) ≤ issued n (sends + 1)
 issues n i sends size some = grind (arith, nat_tests)
 
-module _ (ciphers : Ciphers) (live : World → Flight → Bool) (opens : OpensWhatItSeals ciphers) (w : World) (from to : ℕ) (datagram : List ℕ) (x : Node) (here : slice_get w.nodes from ≡ Some x) (address : ℕ) (before : List Handed) where
+module _ (ciphers : Ciphers) (live : World → Flight → Bool) (opens : OpensWhatItSeals ciphers) (w : World) (from to : ℕ) (datagram : List ℕ) (x : Node)
+    (here : slice_get w.nodes from ≡ Some x) (address : ℕ) (before : List Handed) where
   abbrev sends_it : NodeStep (Result SentHow SendRefusal)
   sends_it = acts x (Err sends.Halted) (λ m. of_station m (calls.send m.station address datagram (w.sends + 1) w.clock))
 
@@ -128,21 +144,25 @@ module _ (ciphers : Ciphers) (live : World → Flight → Bool) (opens : OpensWh
   send_in_custody held sent falls = record {
     at_most = λ n i some.
         let weight : ℕ = weigh n (w.sends + 1) (below i (length datagram)) in
-        let d = send_did n i weight x (λ m. of_station m (calls.send m.station address datagram (w.sends + 1) w.clock)) (λ m. send_is_kept n i some m address datagram (w.sends + 1) w.clock) in
+        let d = send_did n i weight x (λ m. of_station m (calls.send m.station address datagram (w.sends + 1) w.clock))
+        (λ m. send_is_kept n i some m address datagram (w.sends + 1) w.clock) in
         let fly = sent_flies ciphers opens n i from sends_it.frames sent in
         let k = d.kept in
         let more = issues_by n i some sends_it.answer in
         let node : OneNode w after x sends_it.node (flights_of ciphers from sends_it) = one_node _ in
         subst (λ (us : List Handed). places ciphers live n i after us ≤ issued n after.sends) (append-nil before)
-        (custody_after ciphers live n i w after x sends_it.node (flights_of ciphers from sends_it) before [] None (taken_is weight sends_it.answer) node falls (record { kept = omega arith }) more (held.at_most n i some));
+        (custody_after ciphers live n i w after x sends_it.node (flights_of ciphers from sends_it) before [] None (taken_is weight sends_it.answer) node falls
+        (record { kept = omega arith }) more (held.at_most n i some));
   }
     where
-      one_node : (b : Bool) → OneNode w (sent_if w from to datagram (tag_of x) b (acted ciphers w from (answering sent_word sends_it))).0 x sends_it.node (flights_of ciphers from sends_it)
+      one_node : (b : Bool) → OneNode w (sent_if w from to datagram (tag_of x) b (acted ciphers w from (answering sent_word sends_it))).0 x sends_it.node
+          (flights_of ciphers from sends_it)
       one_node true = record { number = from; here = here; nodes = refl; flights = refl }
       one_node false = record { number = from; here = here; nodes = refl; flights = refl }
 
       issues_by : (n i : ℕ) → 0 < n → (a : Result SentHow SendRefusal)
-          → issued n w.sends + taken_is (weigh n (w.sends + 1) (below i (length datagram))) a ≤ issued n (sent_if w from to datagram (tag_of x) (is_taken (sent_word a)) (acted ciphers w from (answering sent_word sends_it))).0.sends
+          → issued n w.sends + taken_is (weigh n (w.sends + 1) (below i (length datagram))) a
+          ≤ issued n (sent_if w from to datagram (tag_of x) (is_taken (sent_word a)) (acted ciphers w from (answering sent_word sends_it))).0.sends
       issues_by n i some (Ok h) = rw (word_taken h) (issues n i w.sends (length datagram) some)
       issues_by n i some (Err e) = rw (word_refused e) (omega arith)
 
@@ -166,13 +186,16 @@ ticked_keeps n i some now x = by_memory x.memory x.role
 
 -- time passes for all nodes at once
 pub tick_in_custody : (ciphers : Ciphers) (live : World → Flight → Bool) (w : World) (seconds : ℕ) (before : List Handed) → IsInCustody ciphers live w before
-    → let v : World = record (ran w) { clock = w.clock + seconds; nodes = map (ticked (w.clock + seconds)) w.nodes } in LiveFalls live w v None → IsInCustody ciphers live v before
+    → let v : World = record (ran w) { clock = w.clock + seconds; nodes = map (ticked (w.clock + seconds)) w.nodes } in LiveFalls live w v None
+    → IsInCustody ciphers live v before
 tick_in_custody ciphers live w seconds before held falls = record {
   at_most = λ n i some.
       let h = held.at_most n i some in
       let v : World = record (ran w) { clock = w.clock + seconds; nodes = map (ticked (w.clock + seconds)) w.nodes } in
       let nodes = mapped_sum (λ (x : Node). node_keeps n i x.memory) (ticked (w.clock + seconds)) (ticked_keeps n i some (w.clock + seconds)) w.nodes in
-      let flights : sum_by (live_is ciphers (live v) n i) w.flights ≤ sum_by (live_is ciphers (live w) n i) w.flights = sum_by-le-sum_by (live_is ciphers (live v) n i) (live_is ciphers (live w) n i) w.flights (λ f. falls_one (live v f) (live w f) (flight_is ciphers n i f) (falls.falls f)) in
+      let flights : sum_by (live_is ciphers (live v) n i) w.flights
+      ≤ sum_by (live_is ciphers (live w) n i) w.flights = sum_by-le-sum_by (live_is ciphers (live v) n i) (live_is ciphers (live w) n i) w.flights
+      (λ f. falls_one (live v f) (live w f) (flight_is ciphers n i f) (falls.falls f)) in
       omega arith;
 }
   where

@@ -95,7 +95,8 @@ module _ (w : World) (given : List Issued) (k : Keyed w given) where
   homed_now : HomedAt (home_of k.book w) w
   homed_now = record { at = at_home }
     where
-      at_home : (n : ℕ) (x c : Node) (b : books.Book) (a : ℕ) → n ≢ 0 → node_at w n ≡ Some x → node_at w 0 ≡ Some c → IsBookKept b c.store.records → books.address_of b x.eui ≡ Some a → home_of k.book w n ≡ a
+      at_home : (n : ℕ) (x c : Node) (b : books.Book) (a : ℕ) → n ≢ 0 → node_at w n ≡ Some x → node_at w 0 ≡ Some c → IsBookKept b c.store.records
+          → books.address_of b x.eui ≡ Some a → home_of k.book w n ≡ a
       at_home zero x c b a ne there here kept e = absurd (ne refl)
       at_home (suc n) x c b a ne there here kept e =
           let same : k.book ≡ b = one_book k.book b c.store.records (k.coordinator c here).book_kept kept in
@@ -124,7 +125,8 @@ homes_at w given k = record { home = home_of k.book w; apart = homes_apart w giv
 module _ (ciphers : Ciphers) (fits : KeepsRanges ciphers) where
   -- homes of the world after an event are homes of the world before it
   pub homed_back : (home : ℕ → ℕ) (w v : World) (given more : List Issued) (k : Keyed w given) (l : Keyed v more) → length w.nodes ≤ length v.nodes
-      → (0 < length w.nodes → (c : Node) → node_at v 0 ≡ Some c → (b : books.Book) → IsBookKept b c.store.records → Grows k.book b) → (0 < length w.nodes → (n : ℕ) (y : Node) → n < length w.nodes → node_at v n ≡ Some y → (x : Node) × (node_at w n ≡ Some x) × (x.eui ≡ y.eui))
+      → (0 < length w.nodes → (c : Node) → node_at v 0 ≡ Some c → (b : books.Book) → IsBookKept b c.store.records → Grows k.book b)
+      → (0 < length w.nodes → (n : ℕ) (y : Node) → n < length w.nodes → node_at v n ≡ Some y → (x : Node) × (node_at w n ≡ Some x) × (x.eui ≡ y.eui))
       → HomedAt home v → HomedAt home w
   homed_back home w v given more k l longer grows euis h = record {
     at = λ n y c b a ne there here kept e.
@@ -135,7 +137,8 @@ module _ (ciphers : Ciphers) (fits : KeepsRanges ciphers) where
         let was = euis some n z.one inside z.is in
         let same : y ≡ was.0 = same_Some _ _ (sym there ∙ was.1) in
         let stored = (l.coordinator d.one d.is).book_kept in
-        let old : books.address_of k.book y.eui ≡ Some a = ap (λ u. books.address_of u y.eui) (one_book k.book b c.store.records (k.coordinator c here).book_kept kept) ∙ e in
+        let old : books.address_of k.book y.eui
+        ≡ Some a = ap (λ u. books.address_of u y.eui) (one_book k.book b c.store.records (k.coordinator c here).book_kept kept) ∙ e in
         let new : books.address_of l.book y.eui ≡ Some a = grows some d.one d.is l.book stored y.eui a old in
         h.at n z.one d.one l.book a ne z.is d.is stored (subst (λ (u : Eui). books.address_of l.book u ≡ Some a) (ap (λ (q : Node). q.eui) same ∙ was.2) new);
   }

@@ -74,7 +74,8 @@ pub record DidClean (S : ℕ → SentAs → Type 0) (own : ℕ) (x : Node) {A : 
   pub kept : (n i : ℕ) → 0 < n → node_keeps n i d.node.memory + sum_by (sent_is n i) d.frames ≤ node_keeps n i x.memory
 
 pub acts_clean : {A : Type 0} (S : ℕ → SentAs → Type 0) (own : ℕ) (x : Node) (halted : A) (plan : Memory → Plan Memory A) → NodeRanged x → NodeTrue S own x
-    → ((m : Memory) → x.memory ≡ Some m → IsStationRanged m.station → StationIsTrue S own m.station → PlanClean S own m (plan m)) → DidClean S own x (acts x halted plan)
+    → ((m : Memory) → x.memory ≡ Some m → IsStationRanged m.station → StationIsTrue S own m.station → PlanClean S own m (plan m))
+    → DidClean S own x (acts x halted plan)
 unfolding acts
 acts_clean {A = A} S own x halted plan ranged station f = by_memory x.memory refl ranged station
   where
@@ -84,7 +85,8 @@ acts_clean {A = A} S own x halted plan ranged station f = by_memory x.memory ref
         before : (n i : ℕ) → node_keeps n i x.memory ≡ keeps n i m.station
         before n i = ap (node_keeps n i) e
 
-        finished : IsWhole x.store.records x.store.cut (plan m) (carry_out x.store.records x.store.cut (plan m)) → DidClean S own x (left_by x (carry_out x.store.records x.store.cut (plan m)))
+        finished : IsWhole x.store.records x.store.cut (plan m) (carry_out x.store.records x.store.cut (plan m))
+            → DidClean S own x (left_by x (carry_out x.store.records x.store.cut (plan m)))
         finished w = record {
           ranged = rw w.memory k.ranged;
           fits = rw w.frames k.fits;
@@ -93,7 +95,8 @@ acts_clean {A = A} S own x halted plan ranged station f = by_memory x.memory ref
           kept = λ n i some. let b = before n i in let h = k.kept n i some in rw (w.memory, w.frames) (omega arith);
         }
 
-        cut_off : IsCutOff x.store.records x.store.cut (plan m) (carry_out x.store.records x.store.cut (plan m)) → DidClean S own x (left_by x (carry_out x.store.records x.store.cut (plan m)))
+        cut_off : IsCutOff x.store.records x.store.cut (plan m) (carry_out x.store.records x.store.cut (plan m))
+            → DidClean S own x (left_by x (carry_out x.store.records x.store.cut (plan m)))
         cut_off c = record {
           ranged = rw c.memory tt;
           fits = rw c.frames (All-nil IsSent);
@@ -102,20 +105,24 @@ acts_clean {A = A} S own x halted plan ranged station f = by_memory x.memory ref
           kept = λ n i some. rw (c.memory, c.frames) zero-le;
         }
 
-    by_memory : (o : Option Memory) → x.memory ≡ o → IfSome o (λ (m : Memory). IsStationRanged m.station) → IfSome o (λ (m : Memory). StationIsTrue S own m.station) → DidClean S own x (option_map_or (λ m. left_by x (carry_out x.store.records x.store.cut (plan m))) o (stays x halted))
+    by_memory : (o : Option Memory) → x.memory ≡ o → IfSome o (λ (m : Memory). IsStationRanged m.station)
+        → IfSome o (λ (m : Memory). StationIsTrue S own m.station)
+        → DidClean S own x (option_map_or (λ m. left_by x (carry_out x.store.records x.store.cut (plan m))) o (stays x halted))
     by_memory None e r t = record { ranged = ranged; fits = All-nil IsSent; station = station; frames = All-nil (SentIsOf S); kept = λ n i some. omega arith }
     by_memory (Some m) e r t = carried m e (f m e r t)
 
 -- # Plans to which no frame came
 
-module _ (S : ℕ → SentAs → Type 0) (own : ℕ) (W : RingWord → Type 0) (g : Given) (silent : g.got ≡ None) (says : (n i : ℕ) → SaysNoDatagram W n i) (m : Memory) (ranged : IsStationRanged m.station) (first : StationIsTrue S own m.station) where
+module _ (S : ℕ → SentAs → Type 0) (own : ℕ) (W : RingWord → Type 0) (g : Given) (silent : g.got ≡ None) (says : (n i : ℕ) → SaysNoDatagram W n i) (m : Memory)
+    (ranged : IsStationRanged m.station) (first : StationIsTrue S own m.station) where
   brings : (n i : ℕ) → BringsIn W g n i 0
   brings n i = record {
     first = record { comes = λ by u c. absurd (no_some _ (sym silent ∙ c.is)); carries = (says n i).none };
     later = record { comes = λ by u c. absurd (no_some _ c.is); carries = (says n i).none };
   }
 
-  plan_clean : (L : Granted → Type 0) (P : Eui → Key → Type 0) (E : Eui → Type 0) → InRange W g → Known S W g own → {H F : Type 0} (ends : Ends F) (D : Draft Memory → H → Type 0) → ((d : Draft Memory) (a : H) → D d a → MadeIn W L P E g m d)
+  plan_clean : (L : Granted → Type 0) (P : Eui → Key → Type 0) (E : Eui → Type 0) → InRange W g → Known S W g own
+      → {H F : Type 0} (ends : Ends F) (D : Draft Memory → H → Type 0) → ((d : Draft Memory) (a : H) → D d a → MadeIn W L P E g m d)
       → (p : Plan Memory (Result H F)) → Planned in_memory ends m Nothing D p → PlanClean S own m p
   plan_clean L P E known holds {H = H} ends D made p s =
       let r = plan_ranged W L P E g known m ranged ends Nothing D (λ k a none. absurd none) made p s in
@@ -125,11 +132,13 @@ module _ (S : ℕ → SentAs → Type 0) (own : ℕ) (W : RingWord → Type 0) (
         fits = r.frames;
         station = t.station;
         frames = t.frames;
-        kept = λ n i some. let k = (plan_kept W g n i 0 some (brings n i) L P E m ends (λ (a : H). 0) Nothing D (λ k a none. absurd none) (λ d a x. (made d a x, refl)) p s).kept in omega arith;
+        kept = λ n i some. let k = (plan_kept W g n i 0 some (brings n i) L P E m ends (λ (a : H). 0) Nothing D (λ k a none. absurd none)
+            (λ d a x. (made d a x, refl)) p s).kept in omega arith;
       }
 
 -- a plan of the line as one of the memory
-station_planned : (W : RingWord → Type 0) (g : Given) (m : Memory) {H F : Type 0} {ends : Ends F} (p : Plan StationMemory (Result H F)) → Planned alone ends m.station Nothing (λ d (a : H). Made W g (empty_draft m.station) d × Few m.station d) p
+station_planned : (W : RingWord → Type 0) (g : Given) (m : Memory) {H F : Type 0} {ends : Ends F} (p : Plan StationMemory (Result H F))
+    → Planned alone ends m.station Nothing (λ d (a : H). Made W g (empty_draft m.station) d × Few m.station d) p
     → Planned in_memory ends m Nothing (λ d (a : H). MadeIn W NoGrant NoPair NoEui g m d) (of_station m p)
 unfolding resting
 station_planned W g m p (Refuses reason) = Refuses reason
@@ -145,7 +154,8 @@ no_says : (n i : ℕ) → SaysNoDatagram NoWord n i
 no_says n i = record { none = λ to note load none. absurd none }
 
 no_known : (S : ℕ → SentAs → Type 0) (own : ℕ) (g : Given) → g.got ≡ None → Known S NoWord g own
-no_known S own g silent = record { comes = λ by u c. absurd (no_some _ (sym silent ∙ c.is)); carries = λ to note load none. absurd none; installs = λ granted none. absurd none }
+no_known S own g silent =
+    record { comes = λ by u c. absurd (no_some _ (sym silent ∙ c.is)); carries = λ to note load none. absurd none; installs = λ granted none. absurd none }
 
 -- of a meter
 module _ (now : ℕ) (x : meters.Identity) (m : Memory) where
@@ -197,7 +207,8 @@ module _ (o : coordinators.CoordinatorIdentity) (g : Given) (m : Memory) where
 
 module _ (S : ℕ → SentAs → Type 0) (own : ℕ) (m : Memory) (ranged : IsStationRanged m.station) (first : StationIsTrue S own m.station) where
   pub random_clean : (value : Rand) → PlanClean S own m (give_random m value)
-  random_clean value = plan_clean S own NoWord (call_given 0 0 0) refl no_says m ranged first NoGrant NoPair NoEui (call_ranged NoWord 0 0 0 None tt (λ t n load none. absurd none) never) (no_known S own (call_given 0 0 0) refl) given_ends
+  random_clean value = plan_clean S own NoWord (call_given 0 0 0) refl no_says m ranged first NoGrant NoPair NoEui
+      (call_ranged NoWord 0 0 0 None tt (λ t n load none. absurd none) never) (no_known S own (call_given 0 0 0) refl) given_ends
       (MadeBy NoWord NoGrant NoPair NoEui (call_given 0 0 0) m AnyAnswer) (λ d a x. x.0) _ (random_is NoWord NoGrant NoPair NoEui (call_given 0 0 0) m value)
 
   module _ (x : meters.Identity) (short : SaysShort x m) where
@@ -205,12 +216,16 @@ module _ (S : ℕ → SentAs → Type 0) (own : ℕ) (m : Memory) (ranged : IsSt
     meter_range now = call_ranged (RingCause (call_given 0 0 now) x m) 0 0 now None tt (meter_carries (call_given 0 0 now) x m short) (meter_words now x m)
 
     pub join_clean : (agent now : ℕ) → PlanClean S own m (meters.join x m agent now)
-    join_clean agent now = plan_clean S own (RingCause (call_given 0 0 now) x m) (call_given 0 0 now) refl (meter_says (call_given 0 0 now) x m) m ranged first NoGrant NoPair NoEui (meter_range now) (meter_known now x m S own) meters.joining_ends
-        (MadeBy (RingCause (call_given 0 0 now) x m) NoGrant NoPair NoEui (call_given 0 0 now) m AnyAnswer) (λ d a y. y.0) _ (joins_is NoGrant NoPair NoEui (call_given 0 0 now) x m agent)
+    join_clean agent now = plan_clean S own (RingCause (call_given 0 0 now) x m) (call_given 0 0 now) refl (meter_says (call_given 0 0 now) x m) m ranged first
+        NoGrant NoPair NoEui (meter_range now) (meter_known now x m S own) meters.joining_ends
+        (MadeBy (RingCause (call_given 0 0 now) x m) NoGrant NoPair NoEui (call_given 0 0 now) m AnyAnswer) (λ d a y. y.0) _
+        (joins_is NoGrant NoPair NoEui (call_given 0 0 now) x m agent)
 
     pub leave_clean : PlanClean S own m (meters.leave m)
-    leave_clean = plan_clean S own (RingCause (call_given 0 0 0) x m) (call_given 0 0 0) refl (meter_says (call_given 0 0 0) x m) m ranged first NoGrant NoPair NoEui (meter_range 0) (meter_known 0 x m S own) meters.leaving_ends
-        (MadeBy (RingCause (call_given 0 0 0) x m) NoGrant NoPair NoEui (call_given 0 0 0) m AnyAnswer) (λ d a y. y.0) _ (leaves_is NoGrant NoPair NoEui (call_given 0 0 0) x m)
+    leave_clean = plan_clean S own (RingCause (call_given 0 0 0) x m) (call_given 0 0 0) refl (meter_says (call_given 0 0 0) x m) m ranged first NoGrant NoPair
+        NoEui (meter_range 0) (meter_known 0 x m S own) meters.leaving_ends
+        (MadeBy (RingCause (call_given 0 0 0) x m) NoGrant NoPair NoEui (call_given 0 0 0) m AnyAnswer) (λ d a y. y.0) _
+        (leaves_is NoGrant NoPair NoEui (call_given 0 0 0) x m)
 
   pub broke_clean : {A : Type 0} (next : ℕ) (answer : A) → PlanClean S own m (resting (with_station (calls.broke next m.station) m) answer answer)
   unfolding resting
@@ -243,8 +258,11 @@ module _ (S : ℕ → SentAs → Type 0) (own : ℕ) (m : Memory) (ranged : IsSt
   }
 
   pub near_clean : (to cost now : ℕ) → to < 0xFFFE → cost < 2 ^ 16 → PlanClean S own m (of_station m (calls.preset_near m.station to cost now))
-  near_clean to cost now there low = plan_clean S own NoWord (near_given to cost now) refl no_says m ranged first NoGrant NoPair NoEui (call_ranged NoWord cost 0 now (Some to) (there, low) (λ t n load none. absurd none) never) (no_known S own (near_given to cost now) refl) calls.presetting_ends
-      (λ d a. MadeIn NoWord NoGrant NoPair NoEui (near_given to cost now) m d) (λ d a x. x) _ (station_planned NoWord (near_given to cost now) m _ (near_is NoWord (near_given to cost now) m.station to refl))
+  near_clean to cost now there low = plan_clean S own NoWord (near_given to cost now) refl no_says m ranged first NoGrant NoPair NoEui
+      (call_ranged NoWord cost 0 now (Some to) (there, low) (λ t n load none. absurd none) never) (no_known S own (near_given to cost now) refl)
+      calls.presetting_ends
+      (λ d a. MadeIn NoWord NoGrant NoPair NoEui (near_given to cost now) m d) (λ d a x. x) _
+      (station_planned NoWord (near_given to cost now) m _ (near_is NoWord (near_given to cost now) m.station to refl))
 
   -- a grant of the workshop
   module _ (granted : Granted) (reads : IsReadable granted) (home : granted.address ≡ own) where
@@ -262,11 +280,14 @@ module _ (S : ℕ → SentAs → Type 0) (own : ℕ) (m : Memory) (ranged : IsSt
     AtHome _ = ⊤
 
     installed_known : Known S Installed (call_given 0 0 0) own
-    installed_known = record { comes = λ by u c. absurd (no_some _ c.is); carries = λ to note load e. absurd (cc (e)); installs = λ g e. subst AtHome (sym e) home }
+    installed_known =
+        record { comes = λ by u c. absurd (no_some _ c.is); carries = λ to note load e. absurd (cc (e)); installs = λ g e. subst AtHome (sym e) home }
 
     pub provision_clean : PlanClean S own m (meters.provision m granted)
-    provision_clean = plan_clean S own Installed (call_given 0 0 0) refl installed_says m ranged first NoGrant NoPair NoEui (call_ranged Installed 0 0 0 None tt (λ t n load e. absurd (cc (e))) installed_words) installed_known calls.ringing_ends
-        (λ d a. MadeIn Installed NoGrant NoPair NoEui (call_given 0 0 0) m d) (λ d a x. x) _ (station_planned Installed (call_given 0 0 0) m _ (install_is Installed (call_given 0 0 0) m.station granted refl))
+    provision_clean = plan_clean S own Installed (call_given 0 0 0) refl installed_says m ranged first NoGrant NoPair NoEui
+        (call_ranged Installed 0 0 0 None tt (λ t n load e. absurd (cc (e))) installed_words) installed_known calls.ringing_ends
+        (λ d a. MadeIn Installed NoGrant NoPair NoEui (call_given 0 0 0) m d) (λ d a x. x) _
+        (station_planned Installed (call_given 0 0 0) m _ (install_is Installed (call_given 0 0 0) m.station granted refl))
 
   -- orders of the coordinator
   module _ (o : coordinators.CoordinatorIdentity) (now : ℕ) (speaks : SpeaksWell o (call_given 0 0 now) m) where
@@ -276,31 +297,41 @@ module _ (S : ℕ → SentAs → Type 0) (own : ℕ) (m : Memory) (ranged : IsSt
     abbrev W : RingWord → Type 0
     W = OrderWord o (call_given 0 0 now) m
 
-    order_clean : {A : Type 0} (p : coordinators.Ordering A) → coordinator.IsOrder W AnyKey HasEight (call_given 0 0 now) o m (λ to there join said. Says to join there said) p → PlanClean S own m p
-    order_clean p s = plan_clean S own W (call_given 0 0 now) refl (order_says o (call_given 0 0 now) m) m ranged first (λ granted. coordinator.IsGranted m granted) AnyKey HasEight
-        (call_ranged W 0 0 now None tt (order_carries o (call_given 0 0 now) m speaks) (order_words o (call_given 0 0 now) m)) (order_known o (call_given 0 0 now) m S own refl) coordinators.orders
+    order_clean : {A : Type 0} (p : coordinators.Ordering A)
+        → coordinator.IsOrder W AnyKey HasEight (call_given 0 0 now) o m (λ to there join said. Says to join there said) p → PlanClean S own m p
+    order_clean p s = plan_clean S own W (call_given 0 0 now) refl (order_says o (call_given 0 0 now) m) m ranged first
+        (λ granted. coordinator.IsGranted m granted) AnyKey HasEight
+        (call_ranged W 0 0 now None tt (order_carries o (call_given 0 0 now) m speaks) (order_words o (call_given 0 0 now) m))
+        (order_known o (call_given 0 0 now) m S own refl) coordinators.orders
         (MadeBy W (λ granted. coordinator.IsGranted m granted) AnyKey HasEight (call_given 0 0 now) m AnyAnswer) (λ d a x. x.0) p s
 
     pub allow_clean : (eui : Eui) (psk : Key) → HasEight eui → PlanClean S own m (coordinators.allow m eui psk)
-    allow_clean eui psk eight = order_clean _ (coordinator.allow_is W AnyKey HasEight (call_given 0 0 now) o m (λ to there join said. Says to join there said) eui psk eight tt)
+    allow_clean eui psk eight =
+        order_clean _ (coordinator.allow_is W AnyKey HasEight (call_given 0 0 now) o m (λ to there join said. Says to join there said) eui psk eight tt)
 
     pub depot_clean : (eui : Eui) (psk : Key) → HasEight eui → PlanClean S own m (coordinators.depot m eui psk)
-    depot_clean eui psk eight = order_clean _ (coordinator.depot_is W AnyKey HasEight (call_given 0 0 now) o m (λ to there join said. Says to join there said) eui psk eight tt)
+    depot_clean eui psk eight =
+        order_clean _ (coordinator.depot_is W AnyKey HasEight (call_given 0 0 now) o m (λ to there join said. Says to join there said) eui psk eight tt)
 
     pub rekey_clean : (index : ℕ) (key : Key) → IsHeld (Some key) → PlanClean S own m (coordinators.rekey m index key)
-    rekey_clean index key held = order_clean _ (coordinator.rekey_is W AnyKey HasEight (call_given 0 0 now) o m (λ to there join said. Says to join there said) index key (Draws index key held))
+    rekey_clean index key held = order_clean _
+        (coordinator.rekey_is W AnyKey HasEight (call_given 0 0 now) o m (λ to there join said. Says to join there said) index key (Draws index key held))
 
     pub activate_self_clean : (index : ℕ) → index ≤ 1 → PlanClean S own m (coordinators.activate_self m index)
-    activate_self_clean index low = order_clean _ (coordinator.activate_self_is W AnyKey HasEight (call_given 0 0 now) o m (λ to there join said. Says to join there said) index (Turns index low))
+    activate_self_clean index low = order_clean _
+        (coordinator.activate_self_is W AnyKey HasEight (call_given 0 0 now) o m (λ to there join said. Says to join there said) index (Turns index low))
 
     pub challenge_clean : (eui : Eui) → HasEight eui → PlanClean S own m (coordinators.challenge o.eui m eui now)
-    challenge_clean eui eight = order_clean _ (coordinator.challenge_is W AnyKey HasEight (call_given 0 0 now) o m (λ to there join said. Says to join there said) eui eight)
+    challenge_clean eui eight =
+        order_clean _ (coordinator.challenge_is W AnyKey HasEight (call_given 0 0 now) o m (λ to there join said. Says to join there said) eui eight)
 
     pub activate_clean : (eui : Eui) (index : ℕ) → PlanClean S own m (coordinators.activate m eui index now)
-    activate_clean eui index = order_clean _ (coordinator.activate_is W AnyKey HasEight (call_given 0 0 now) o m (λ to there join said. Says to join there said) eui index)
+    activate_clean eui index =
+        order_clean _ (coordinator.activate_is W AnyKey HasEight (call_given 0 0 now) o m (λ to there join said. Says to join there said) eui index)
 
     pub kick_clean : (eui : Eui) → HasEight eui → PlanClean S own m (coordinators.kick m eui)
-    kick_clean eui eight = order_clean _ (coordinator.kick_is W AnyKey HasEight (call_given 0 0 now) o m (λ to there join said. Says to join there said) eui eight)
+    kick_clean eui eight =
+        order_clean _ (coordinator.kick_is W AnyKey HasEight (call_given 0 0 now) o m (λ to there join said. Says to join there said) eui eight)
 
   -- # A send
 
@@ -318,17 +349,27 @@ module _ (S : ℕ → SentAs → Type 0) (own : ℕ) (m : Memory) (ranged : IsSt
     sent_known : S note (record { origin = own; to = to; octets = datagram; tag = m.station.next_tag }) → Known S TheSend (call_given 0 note now) own
     sent_known is = record {
       comes = λ by u c. absurd (no_some _ c.is);
-      carries = λ t n load e. subst IsOfSend (sym e) (record { sent = record { origin = own; to = to; octets = datagram; tag = m.station.next_tag }; is = is; from = refl; target = refl; content = (refl, refl) });
+      carries = λ t n load e. subst IsOfSend (sym e) (record {
+        sent = record { origin = own; to = to; octets = datagram; tag = m.station.next_tag };
+        is = is;
+        from = refl;
+        target = refl;
+        content = (refl, refl);
+      });
       installs = λ g e. absurd (cc (e));
     }
 
     -- a send that is taken is of the send of its note; one that is refused leaves what there was
-    pub sends_true : {H F : Type 0} {ends : Ends F} (p : Plan StationMemory (Result H F)) → Planned alone ends m.station Nothing (λ d (a : H). Made TheSend (call_given 0 note now) (empty_draft m.station) d × Few m.station d) p
-        → ((h : H) → p.answer ≡ Ok h → S note (record { origin = own; to = to; octets = datagram; tag = m.station.next_tag })) → PlanIsTrue S own (λ (h : H). ⊤) (of_station m p)
+    pub sends_true : {H F : Type 0} {ends : Ends F} (p : Plan StationMemory (Result H F))
+        → Planned alone ends m.station Nothing (λ d (a : H). Made TheSend (call_given 0 note now) (empty_draft m.station) d × Few m.station d) p
+        → ((h : H) → p.answer ≡ Ok h → S note (record { origin = own; to = to; octets = datagram; tag = m.station.next_tag }))
+        → PlanIsTrue S own (λ (h : H). ⊤) (of_station m p)
     unfolding resting
-    sends_true p (Refuses reason) f = record { station = record { address = first.address; bodies = first.bodies; held = first.held }; frames = All-nil (SentIsOf S); up = tt; fails = tt }
+    sends_true p (Refuses reason) f =
+        record { station = record { address = first.address; bodies = first.bodies; held = first.held }; frames = All-nil (SentIsOf S); up = tt; fails = tt }
     sends_true p (Keeps k answer x) f = absurd x
-    sends_true {H = H} {ends = ends} p (Ended d answer done left) f = plan_true S own TheSend (call_given 0 note now) (sent_known (f answer refl)) NoGrant NoPair NoEui m first ends (λ (h : H). ⊤) Nothing (λ e (a : H). MadeIn TheSend NoGrant NoPair NoEui (call_given 0 note now) m e)
+    sends_true {H = H} {ends = ends} p (Ended d answer done left) f = plan_true S own TheSend (call_given 0 note now) (sent_known (f answer refl)) NoGrant
+        NoPair NoEui m first ends (λ (h : H). ⊤) Nothing (λ e (a : H). MadeIn TheSend NoGrant NoPair NoEui (call_given 0 note now) m e)
         (λ k a none. absurd none) (λ e a x. (x, tt)) _ (Ended (whole m d) answer (Station d done.0) left)
 
   -- # Time
@@ -346,25 +387,34 @@ pub record SentDid (S : ℕ → SentAs → Type 0) (own : ℕ) {A : Type 0} (d :
   pub station : NodeTrue S own d.node
   pub frames : All (SentIsOf S) d.frames
 
-pub sends_did : (S : ℕ → SentAs → Type 0) (own : ℕ) (x : Node) (to : ℕ) (datagram : List ℕ) (note now : ℕ) → NodeRanged x → NodeTrue S own x → let d : NodeStep (Result SentHow SendRefusal) = acts x (Err sends.Halted) (λ m. of_station m (calls.send m.station to datagram note now)) in
-    ((h : SentHow) → d.answer ≡ Ok h → (m : Memory) → x.memory ≡ Some m → S note (record { origin = own; to = to; octets = datagram; tag = m.station.next_tag })) → SentDid S own d
+pub sends_did : (S : ℕ → SentAs → Type 0) (own : ℕ) (x : Node) (to : ℕ) (datagram : List ℕ) (note now : ℕ) → NodeRanged x → NodeTrue S own x
+    → let d : NodeStep (Result SentHow SendRefusal) = acts x (Err sends.Halted) (λ m. of_station m (calls.send m.station to datagram note now)) in
+    ((h : SentHow) → d.answer ≡ Ok h → (m : Memory) → x.memory ≡ Some m
+    → S note (record { origin = own; to = to; octets = datagram; tag = m.station.next_tag })) → SentDid S own d
 unfolding acts
 sends_did S own x to datagram note now ranged station f = by_memory x.memory refl ranged station f
   where
     plan : Memory → Plan Memory (Result SentHow SendRefusal)
     plan m = of_station m (calls.send m.station to datagram note now)
 
-    carried : (m : Memory) → IsStationRanged m.station → StationIsTrue S own m.station → ((h : SentHow) → (carry_out x.store.records x.store.cut (plan m)).answer ≡ Ok h → S note (record { origin = own; to = to; octets = datagram; tag = m.station.next_tag }))
+    carried : (m : Memory) → IsStationRanged m.station → StationIsTrue S own m.station
+        → ((h : SentHow) → (carry_out x.store.records x.store.cut (plan m)).answer ≡ Ok h
+        → S note (record { origin = own; to = to; octets = datagram; tag = m.station.next_tag }))
         → SentDid S own (left_by x (carry_out x.store.records x.store.cut (plan m)))
     carried m r t given = ⊎_elim
         (λ (w : IsWhole x.store.records x.store.cut (plan m) (carry_out x.store.records x.store.cut (plan m))).
-        let k = sends_true S own m r t to datagram note now _ (send_is (TheSend S own m r t to datagram note now) (call_given 0 note now) m.station to datagram (λ some short. refl)) (λ h e. given h (w.answer ∙ e)) in
+        let k = sends_true S own m r t to datagram note now _ (send_is (TheSend S own m r t to datagram note now) (call_given 0 note now) m.station to datagram
+        (λ some short. refl)) (λ h e. given h (w.answer ∙ e)) in
         record { station = rw w.memory k.station; frames = rw w.frames k.frames })
-        (λ (c : IsCutOff x.store.records x.store.cut (plan m) (carry_out x.store.records x.store.cut (plan m))). record { station = rw c.memory tt; frames = rw c.frames (All-nil (SentIsOf S)) })
+        (λ (c : IsCutOff x.store.records x.store.cut (plan m) (carry_out x.store.records x.store.cut (plan m))).
+        record { station = rw c.memory tt; frames = rw c.frames (All-nil (SentIsOf S)) })
         (clean x.store.records x.store.cut (plan m))
 
-    by_memory : (o : Option Memory) → x.memory ≡ o → IfSome o (λ (m : Memory). IsStationRanged m.station) → IfSome o (λ (m : Memory). StationIsTrue S own m.station)
-        → let d : NodeStep (Result SentHow SendRefusal) = option_map_or (λ m. left_by x (carry_out x.store.records x.store.cut (plan m))) o (stays x (Err sends.Halted)) in
-        ((h : SentHow) → d.answer ≡ Ok h → (m : Memory) → o ≡ Some m → S note (record { origin = own; to = to; octets = datagram; tag = m.station.next_tag })) → SentDid S own d
+    by_memory : (o : Option Memory) → x.memory ≡ o → IfSome o (λ (m : Memory). IsStationRanged m.station)
+        → IfSome o (λ (m : Memory). StationIsTrue S own m.station)
+        → let d : NodeStep (Result SentHow SendRefusal) = option_map_or (λ m. left_by x (carry_out x.store.records x.store.cut (plan m))) o
+        (stays x (Err sends.Halted)) in
+        ((h : SentHow) → d.answer ≡ Ok h → (m : Memory) → o ≡ Some m → S note (record { origin = own; to = to; octets = datagram; tag = m.station.next_tag }))
+        → SentDid S own d
     by_memory None e r t given = record { station = station; frames = All-nil (SentIsOf S) }
     by_memory (Some m) e r t given = carried m r t (λ h is. given h is m refl)

@@ -1,5 +1,6 @@
 -- Taking a piece in doubles no octet: what is handed up stood in the pieces.
-use Rattle.std.proofs.Common.{zero-le, ◌≡◌, ◌≢◌, ℕ, zero, suc, ◌+◌, ◌-◌, ◌*◌, ◌≤◌, ◌<◌, ⊎_elim, Bool, true, false, cond, eqb, List, [], ◌∷◌, ◌++◌, length, Option, Some, None, refl, sym, ap, ◌∙◌, subst, arith}
+use Rattle.std.proofs.Common.{zero-le, ◌≡◌, ◌≢◌, ℕ, zero, suc, ◌+◌, ◌-◌, ◌*◌, ◌≤◌, ◌<◌, ⊎_elim, Bool, true, false, cond, eqb, List, [], ◌∷◌, ◌++◌, length}
+use Rattle.std.proofs.Common.{Option, Some, None, refl, sym, ap, ◌∙◌, subst, arith}
 use Rattle.std.specs.Prelude.{if◌then◌else◌, nat_le, slice_get}
 use Rattle.std.specs.List.{sum_by, AllByRecursion}
 use Rattle.std.proofs.lemmas.List.Sums.{sum_by-cons, sum_by-append}
@@ -27,7 +28,8 @@ octets_cover : (ps : List PlacedPiece) (i : ℕ) (o : ℕ) → octet_at ps i ≡
 octets_cover [] i o e = absurd (none-some o e)
 octets_cover (p ∷ ps) i o e = rw (sum_by-cons (placed_is i) p ps) (by_octet (octets_cover ps i o) (octet_of p i) refl e)
   where
-    by_octet : (octet_at ps i ≡ Some o → 1 ≤ sum_by (placed_is i) ps) → (found : Option ℕ) → octet_of p i ≡ found → first_of found (octet_at ps i) ≡ Some o → 1 ≤ placed_is i p + sum_by (placed_is i) ps
+    by_octet : (octet_at ps i ≡ Some o → 1 ≤ sum_by (placed_is i) ps) → (found : Option ℕ) → octet_of p i ≡ found → first_of found (octet_at ps i) ≡ Some o
+        → 1 ≤ placed_is i p + sum_by (placed_is i) ps
     by_octet rest None is t = let more : 1 ≤ sum_by (placed_is i) ps = rest t in omega arith
     by_octet rest (Some x) is t = let one : placed_is i p ≡ 1 = octet_covers p i x is in omega arith
 
@@ -35,7 +37,8 @@ pub gathered_length : (ps : List PlacedPiece) (from count : ℕ) (os : List ℕ)
 gathered_length ps from zero os e = sym (ap length (same_Some [] os e))
 gathered_length ps from (suc count) os e = by_parts (octet_at ps from) (gathered ps (suc from) count) (gathered_length ps (suc from) count) e
   where
-    by_parts : (first : Option ℕ) (rest : Option (List ℕ)) → ((more : List ℕ) → rest ≡ Some more → length more ≡ count) → before_all first rest ≡ Some os → length os ≡ suc count
+    by_parts : (first : Option ℕ) (rest : Option (List ℕ)) → ((more : List ℕ) → rest ≡ Some more → length more ≡ count) → before_all first rest ≡ Some os
+        → length os ≡ suc count
     by_parts None rest h t = absurd (none-some os t)
     by_parts (Some x) None h t = absurd (none-some os t)
     by_parts (Some x) (Some xs) h t = sym (ap length (same_Some (x ∷ xs) os t)) ∙ ap suc (h xs refl)
@@ -45,7 +48,8 @@ gathered_covers : (ps : List PlacedPiece) (i from count : ℕ) (os : List ℕ) �
 gathered_covers ps i from zero os e = grind (arith, nat_tests)
 gathered_covers ps i from (suc count) os e = by_parts (octet_at ps from) refl (gathered ps (suc from) count) (gathered_covers ps i (suc from) count) e
   where
-    further : (k : ℕ) → 1 ≤ sum_by (placed_is from) ps → covers i (suc from) count ≤ sum_by (placed_is i) ps → (q : ℕ) → sum_by (placed_is q) ps ≡ k → q ≡ from → covers i from (suc count) ≤ sum_by (placed_is i) ps
+    further : (k : ℕ) → 1 ≤ sum_by (placed_is from) ps → covers i (suc from) count ≤ sum_by (placed_is i) ps → (q : ℕ) → sum_by (placed_is q) ps ≡ k → q ≡ from
+        → covers i from (suc count) ≤ sum_by (placed_is i) ps
     further k first rest q is e = ⊎_elim
         (λ (here : i ≡ from). let one : 1 ≤ sum_by (placed_is i) ps = subst (λ j. 1 ≤ sum_by (placed_is j) ps) (sym here) first in less_one i from count _ one)
         (λ (past : i ≢ from). less_rest i from count _ past rest)
@@ -57,7 +61,9 @@ gathered_covers ps i from (suc count) os e = by_parts (octet_at ps from) refl (g
         less_rest : (i from count k : ℕ) → i ≢ from → covers i (suc from) count ≤ k → covers i from (suc count) ≤ k
         less_rest i from count k h m = grind (arith, nat_tests)
 
-    by_parts : (first : Option ℕ) → octet_at ps from ≡ first → (rest : Option (List ℕ)) → ((more : List ℕ) → rest ≡ Some more → covers i (suc from) count ≤ sum_by (placed_is i) ps) → before_all first rest ≡ Some os → covers i from (suc count) ≤ sum_by (placed_is i) ps
+    by_parts : (first : Option ℕ) → octet_at ps from ≡ first → (rest : Option (List ℕ))
+        → ((more : List ℕ) → rest ≡ Some more → covers i (suc from) count ≤ sum_by (placed_is i) ps) → before_all first rest ≡ Some os
+        → covers i from (suc count) ≤ sum_by (placed_is i) ps
     by_parts None is rest h t = absurd (none-some os t)
     by_parts (Some x) is None h t = absurd (none-some os t)
     by_parts (Some x) is (Some xs) h t = further _ (octets_cover ps from x is) (h xs refl) from refl refl
@@ -86,7 +92,8 @@ weigh_less : (b : Bool) (k m : ℕ) → k ≤ m → cond b k 0 ≤ cond b m 0
 weigh_less true k m h = h
 weigh_less false k m h = zero-le
 
-settled_sum : (n i : ℕ) (r : Reassembly) (rest : List Reassembly) (whole : Option (List ℕ)) → datagram_of r ≡ whole → taken_sum n i (settled whole r rest) ≤ held_is n i r + sum_by (held_is n i) rest
+settled_sum : (n i : ℕ) (r : Reassembly) (rest : List Reassembly) (whole : Option (List ℕ)) → datagram_of r ≡ whole
+    → taken_sum n i (settled whole r rest) ≤ held_is n i r + sum_by (held_is n i) rest
 settled_sum n i r rest None is = rw (sum_by-cons (held_is n i) r rest) (omega arith)
 settled_sum n i r rest (Some os) is =
     let less : weigh n r.note (below i (length os)) ≤ held_is n i r = weigh_less (eqb r.note n) _ _ (whole_sum i r os is) in
@@ -116,7 +123,8 @@ module _ (n i : ℕ) (anew : Reassembly) (p : PlacedPiece) (first : anew.pieces 
           subst (λ m. weigh n r.note (sum_by (placed_is i) (r.pieces ++ p ∷ [])) ≤ held_is n i r + weigh n m (placed_is i p)) same
           (rw (sum_by-append (placed_is i) r.pieces (p ∷ []), single) (one_more (eqb r.note n) (sum_by (placed_is i) r.pieces) (placed_is i p)))
 
-  taken_in_sum : (held : List Reassembly) → NameHasNote anew held → taken_sum n i (taken_in held anew p) ≤ sum_by (held_is n i) held + weigh n anew.note (placed_is i p)
+  taken_in_sum : (held : List Reassembly) → NameHasNote anew held
+      → taken_sum n i (taken_in held anew p) ≤ sum_by (held_is n i) held + weigh n anew.note (placed_is i p)
   unfolding taken_in
   taken_in_sum [] agrees =
       let end = settled_sum n i anew [] _ refl in
@@ -124,7 +132,9 @@ module _ (n i : ℕ) (anew : Reassembly) (p : PlacedPiece) (first : anew.pieces 
       omega arith
   taken_in_sum (r ∷ rest) agrees = rw (sum_by-cons (held_is n i) r rest) (by_name (same_name anew r) refl (taken_in_sum rest agrees.1))
     where
-      joined_sum : r.note ≡ anew.note → (b : Bool) → taken_sum n i (if b then record { held = r ∷ rest; outcome = pieces.Held } else settled (datagram_of (grown r anew p)) (grown r anew p) rest) ≤ (held_is n i r + sum_by (held_is n i) rest) + weigh n anew.note (placed_is i p)
+      joined_sum : r.note ≡ anew.note → (b : Bool)
+          → taken_sum n i (if b then record { held = r ∷ rest; outcome = pieces.Held } else settled (datagram_of (grown r anew p)) (grown r anew p) rest)
+          ≤ (held_is n i r + sum_by (held_is n i) rest) + weigh n anew.note (placed_is i p)
       joined_sum same true = rw (sum_by-cons (held_is n i) r rest) (omega arith)
       joined_sum same false =
           let end = settled_sum n i (grown r anew p) rest _ refl in
@@ -132,7 +142,8 @@ module _ (n i : ℕ) (anew : Reassembly) (p : PlacedPiece) (first : anew.pieces 
           omega arith
 
       by_name : (b : Bool) → same_name anew r ≡ b → taken_sum n i (taken_in rest anew p) ≤ sum_by (held_is n i) rest + weigh n anew.note (placed_is i p)
-          → taken_sum n i (if b then joined r anew p rest else behind r (taken_in rest anew p)) ≤ (held_is n i r + sum_by (held_is n i) rest) + weigh n anew.note (placed_is i p)
+          → taken_sum n i (if b then joined r anew p rest else behind r (taken_in rest anew p))
+          ≤ (held_is n i r + sum_by (held_is n i) rest) + weigh n anew.note (placed_is i p)
       by_name true t more = joined_sum (agrees.0 t) _
       by_name false t more = rw (sum_by-cons (held_is n i) r (taken_in rest anew p).held) (omega arith)
 
@@ -142,6 +153,7 @@ pub piece_taken : (n i : ℕ) (held : List Reassembly) (origin : ℕ) (piece : P
 unfolding taken
 piece_taken n i held origin piece note now agrees = by_room (has_room held (begun origin piece note now))
   where
-    by_room : (b : Bool) → taken_sum n i (if b then taken_in held (begun origin piece note now) (placed piece) else record { held = held; outcome = pieces.Full }) ≤ sum_by (held_is n i) held + weigh n note (covers i (piece.offset * 8) (length piece.octets))
+    by_room : (b : Bool) → taken_sum n i (if b then taken_in held (begun origin piece note now) (placed piece)
+        else record { held = held; outcome = pieces.Full }) ≤ sum_by (held_is n i) held + weigh n note (covers i (piece.offset * 8) (length piece.octets))
     by_room true = taken_in_sum n i (begun origin piece note now) (placed piece) refl held agrees
     by_room false = omega arith

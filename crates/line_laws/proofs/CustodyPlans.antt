@@ -1,5 +1,6 @@
 -- No plan doubles an octet of a datagram: what it leaves, sends and hands up was there, or came, or was sent out.
-use Rattle.std.proofs.Common.{zero-le, ◌≡◌, ℕ, ◌+◌, ◌≤◌, ◌<◌, false, List, [], ◌∷◌, length, ⊎_elim, Option, Some, None, Result, Ok, Err, refl, sym, ap, ◌∙◌, subst, arith}
+use Rattle.std.proofs.Common.{zero-le, ◌≡◌, ℕ, ◌+◌, ◌≤◌, ◌<◌, false, List, [], ◌∷◌, length, ⊎_elim, Option, Some, None, Result, Ok, Err, refl, sym, ap, ◌∙◌}
+use Rattle.std.proofs.Common.{subst, arith}
 use Rattle.std.specs.List.{sum_by}
 use Rattle.std.specs.Option.{option_map_or}
 use Rattle.std.proofs.lemmas.List.Sums.{sum_by-cons, sum_by-append}
@@ -17,7 +18,8 @@ use Rattle.node_rules.specs.declared.heard.Heard.TheVariants as heard
 use Rattle.node_rules.specs.Frames.{Sent, Sealed, Up, Down}
 use Rattle.node_rules.specs.Memory.{StationMemory, Memory, Node}
 use Rattle.node_rules.specs.Plans.{Plan, carry_out, resting}
-use Rattle.node_rules.specs.Drafts.{Draft, Ends, Outgoing, empty_draft, letters, sealed_by, sealing_key, with_rank, with_own_number, with_next_tag, with_ring, with_routing_by, goes, body_goes, waits, leave}
+use Rattle.node_rules.specs.Drafts.{Draft, Ends, Outgoing, empty_draft, letters, sealed_by, sealing_key, with_rank, with_own_number, with_next_tag, with_ring}
+use Rattle.node_rules.specs.Drafts.{with_routing_by, goes, body_goes, waits, leave}
 use Rattle.node_rules.specs.MemoryDrafts.{in_memory, on_station, station_part, with_memory_by, with_pair_tags, goes_up, goes_down}
 use Rattle.node_rules.specs.Coordinators.{with_book_entry}
 use Rattle.node_rules.specs.Laws.{IsWhole, IsCutOff}
@@ -62,7 +64,8 @@ pub record BringsIn (W : RingWord → Type 0) (g : Given) (n i brought : ℕ) : 
   pub first : Brings W g n i brought
   pub later : Brings W (unheard g) n i 0
 
-module _ (W : RingWord → Type 0) (g : Given) (n i brought : ℕ) (some : 0 < n) (brings : BringsIn W g n i brought) (L : Granted → Type 0) (P : Eui → Key → Type 0) (E : Eui → Type 0) (m : Memory) where
+module _ (W : RingWord → Type 0) (g : Given) (n i brought : ℕ) (some : 0 < n) (brings : BringsIn W g n i brought) (L : Granted → Type 0)
+    (P : Eui → Key → Type 0) (E : Eui → Type 0) (m : Memory) where
   pub made_in_moves : (d : Draft Memory) → MadeIn W L P E g m d → moving_in n i d ≤ keeps n i m.station + brought
   unfolding empty_draft on_station with_memory_by with_pair_tags with_book_entry goes_up goes_down
   made_in_moves d Begins = omega arith
@@ -77,23 +80,28 @@ module _ (W : RingWord → Type 0) (g : Given) (n i brought : ℕ) (some : 0 < n
       omega arith
   made_in_moves d (Remembers change e made beside) =
       let h = made_in_moves e made in
-      subst (λ (l : StationMemory). keeps n i l + sum_by (out_is n i) e.units ≤ keeps n i m.station + brought) (sym (beside_station_of E e.memory (change e.memory) beside)) h
+      subst (λ (l : StationMemory). keeps n i l + sum_by (out_is n i) e.units ≤ keeps n i m.station + brought)
+      (sym (beside_station_of E e.memory (change e.memory) beside)) h
   made_in_moves d (Tags made opened e x) = made_in_moves e x
   made_in_moves d (Enters x e made change) = made_in_moves e made
   made_in_moves d (UpIn agent own message e made) = made_in_moves e made
   made_in_moves d (DownIn own message e made) = made_in_moves e made
 
 -- plain frames carry no datagram
-pub plain_of : (W : RingWord → Type 0) (g : Given) (L : Granted → Type 0) (P : Eui → Key → Type 0) (E : Eui → Type 0) (n i : ℕ) (m : Memory) (d : Draft Memory) → MadeIn W L P E g m d → sum_by (sent_is n i) d.plain ≡ 0
+pub plain_of : (W : RingWord → Type 0) (g : Given) (L : Granted → Type 0) (P : Eui → Key → Type 0) (E : Eui → Type 0) (n i : ℕ) (m : Memory) (d : Draft Memory)
+    → MadeIn W L P E g m d → sum_by (sent_is n i) d.plain ≡ 0
 unfolding empty_draft on_station with_memory_by with_pair_tags with_book_entry goes_up goes_down
 plain_of W g L P E n i m d Begins = refl
 plain_of W g L P E n i m d (Station e made) = ap (sum_by (sent_is n i)) (made_plain W g (empty_draft m.station) e made)
-plain_of W g L P E n i m d (OnStation word e made step) = ap (sum_by (sent_is n i)) (made_plain W (unheard g) (station_part e) (word (station_part e)) step) ∙ plain_of W g L P E n i m e made
+plain_of W g L P E n i m d (OnStation word e made step) =
+    ap (sum_by (sent_is n i)) (made_plain W (unheard g) (station_part e) (word (station_part e)) step) ∙ plain_of W g L P E n i m e made
 plain_of W g L P E n i m d (Remembers change e made beside) = plain_of W g L P E n i m e made
 plain_of W g L P E n i m d (Tags made opened e x) = plain_of W g L P E n i m e x
 plain_of W g L P E n i m d (Enters x e made change) = plain_of W g L P E n i m e made
-plain_of W g L P E n i m d (UpIn agent own message e made) = sum_by-append (sent_is n i) e.plain (Up agent own message ∷ []) ∙ (λ j. plain_of W g L P E n i m e made j + 0) ∙ omega arith
-plain_of W g L P E n i m d (DownIn own message e made) = sum_by-append (sent_is n i) e.plain (Down own message ∷ []) ∙ (λ j. plain_of W g L P E n i m e made j + 0) ∙ omega arith
+plain_of W g L P E n i m d (UpIn agent own message e made) =
+    sum_by-append (sent_is n i) e.plain (Up agent own message ∷ []) ∙ (λ j. plain_of W g L P E n i m e made j + 0) ∙ omega arith
+plain_of W g L P E n i m d (DownIn own message e made) =
+    sum_by-append (sent_is n i) e.plain (Down own message ∷ []) ∙ (λ j. plain_of W g L P E n i m e made j + 0) ∙ omega arith
 
 -- # Letters
 
@@ -101,7 +109,8 @@ letters_sum : (n i : ℕ) (g : Granted) (key : Key) (first : ℕ) (us : List Out
 letters_sum n i g key first [] = refl
 letters_sum n i g key first (o ∷ us) =
     let one : Sent = Sealed (record { to = o.to; from = g.address; counter = first; index = g.active; key = key; unit = o.unit; note = o.note }) in
-    sum_by-cons (sent_is n i) one (letters g key (first + 1) us) ∙ ap (λ k. out_is n i o + k) (letters_sum n i g key (first + 1) us) ∙ sym (sum_by-cons (out_is n i) o us)
+    sum_by-cons (sent_is n i) one (letters g key (first + 1) us) ∙ ap (λ k. out_is n i o + k) (letters_sum n i g key (first + 1) us)
+    ∙ sym (sum_by-cons (out_is n i) o us)
 
 sealed_sum : (n i : ℕ) (r : ring.Ring) (first : ℕ) (us : List Outgoing) → sum_by (sent_is n i) (sealed_by r first us) ≤ sum_by (out_is n i) us
 sealed_sum n i None first us = zero-le
@@ -145,7 +154,8 @@ plan_kept_by n i brought m ends ups K D holds made p (Ended d answer done left) 
     let up : ups answer ≡ 0 = x.none in
     record { kept = omega arith; fails = refl }
 
-module _ (W : RingWord → Type 0) (g : Given) (n i brought : ℕ) (some : 0 < n) (brings : BringsIn W g n i brought) (L : Granted → Type 0) (P : Eui → Key → Type 0) (E : Eui → Type 0) (m : Memory) where
+module _ (W : RingWord → Type 0) (g : Given) (n i brought : ℕ) (some : 0 < n) (brings : BringsIn W g n i brought) (L : Granted → Type 0)
+    (P : Eui → Key → Type 0) (E : Eui → Type 0) (m : Memory) where
   pub plan_kept : {H F : Type 0} (ends : Ends F) (ups : H → ℕ) (K : Memory → H → Type 0) (D : Draft Memory → H → Type 0)
       → ((k : Memory) (answer : H) → K k answer → keeps n i k.station + ups answer ≤ keeps n i m.station + brought)
       → ((d : Draft Memory) (answer : H) → D d answer → MadeIn W L P E g m d × (ups answer ≡ 0))
@@ -160,7 +170,8 @@ module _ (W : RingWord → Type 0) (g : Given) (n i brought : ℕ) (some : 0 < n
   pub station_moves : (d : Draft StationMemory) → Made W g (empty_draft m.station) d → Moves n i (keeps n i m.station + brought) (whole m d) 0
   unfolding empty_draft
   station_moves d made = record {
-    moved = let x = made_moves W g n i brought some brings (empty_draft m.station) d made in let y = made_holds W g n i (empty_draft m.station) d made in omega arith;
+    moved = let x = made_moves W g n i brought some brings (empty_draft m.station) d made in let y = made_holds W g n i (empty_draft m.station) d made in
+        omega arith;
     plain = ap (sum_by (sent_is n i)) (made_plain W g (empty_draft m.station) d made);
     none = refl;
   }
@@ -169,7 +180,8 @@ module _ (W : RingWord → Type 0) (g : Given) (n i brought : ℕ) (some : 0 < n
 
 -- a piece that came has the note of what is gathered under its name
 pub record Agrees (g : Given) (l : StationMemory) : Type 0 where
-  pub name : (by : ℕ) (mesh : Mesh) (piece : Placed) → IsCome g by false (units.Part mesh piece) → NameHasNote (piece_begun mesh.origin piece g.note g.now) l.reassemblies
+  pub name : (by : ℕ) (mesh : Mesh) (piece : Placed) → IsCome g by false (units.Part mesh piece)
+      → NameHasNote (piece_begun mesh.origin piece g.note g.now) l.reassemblies
 
 module _ (W : RingWord → Type 0) (g : Given) (n i brought : ℕ) (brings : Brings W g n i brought) where
   pub up_none : (h : Heard) → IsNoUp h → up_is n i h ≡ 0
@@ -187,10 +199,12 @@ module _ (W : RingWord → Type 0) (g : Given) (n i brought : ℕ) (brings : Bri
   handed_kept l k h agrees (Completes by own mesh piece note octets came here mine e) =
       let one = brings.comes by (units.Part mesh piece) came in
       let took = piece_taken n i l.reassemblies mesh.origin piece g.note g.now (agrees.name by mesh piece came) in
-      let up : outcome_is n i (pieces.taken l.reassemblies mesh.origin piece g.note g.now).outcome ≡ weigh n note (below i (length octets)) = ap (outcome_is n i) e in
+      let up : outcome_is n i (pieces.taken l.reassemblies mesh.origin piece g.note g.now).outcome
+      ≡ weigh n note (below i (length octets)) = ap (outcome_is n i) e in
       omega arith
 
-  pub handed_in_kept : {H : Type 0} (word : Heard → H) (ups : H → ℕ) → ((h : Heard) → ups (word h) ≡ up_is n i h) → (m k : Memory) (answer : H) → Agrees g m.station → HandedIn word g m k answer → keeps n i k.station + ups answer ≤ keeps n i m.station + brought
+  pub handed_in_kept : {H : Type 0} (word : Heard → H) (ups : H → ℕ) → ((h : Heard) → ups (word h) ≡ up_is n i h) → (m k : Memory) (answer : H)
+      → Agrees g m.station → HandedIn word g m k answer → keeps n i k.station + ups answer ≤ keeps n i m.station + brought
   handed_in_kept word ups same m k answer agrees (ByStation l h x) = let y = handed_kept m.station l h agrees x in let z = same h in omega arith
 
 -- # Nodes
@@ -199,22 +213,27 @@ module _ (W : RingWord → Type 0) (g : Given) (n i brought : ℕ) (brings : Bri
 pub record DidKeep {A : Type 0} (n i brought : ℕ) (ups : A → ℕ) (x : Node) (d : NodeStep A) : Type 0 where
   pub kept : node_keeps n i d.node.memory + sum_by (sent_is n i) d.frames + ups d.answer ≤ node_keeps n i x.memory + brought
 
-pub acts_kept : {A : Type 0} (n i brought : ℕ) (ups : A → ℕ) (x : Node) (halted : A) (plan : Memory → Plan Memory A) → ups halted ≡ 0 → ((m : Memory) → x.memory ≡ Some m → BodiesKept n i brought ups m (plan m)) → DidKeep n i brought ups x (acts x halted plan)
+pub acts_kept : {A : Type 0} (n i brought : ℕ) (ups : A → ℕ) (x : Node) (halted : A) (plan : Memory → Plan Memory A) → ups halted ≡ 0
+    → ((m : Memory) → x.memory ≡ Some m → BodiesKept n i brought ups m (plan m)) → DidKeep n i brought ups x (acts x halted plan)
 unfolding acts
 acts_kept {A = A} n i brought ups x halted plan none f = by_memory x.memory refl
   where
-    carried : (m : Memory) → x.memory ≡ Some m → BodiesKept n i brought ups m (plan m) → DidKeep n i brought ups x (left_by x (carry_out x.store.records x.store.cut (plan m)))
+    carried : (m : Memory) → x.memory ≡ Some m → BodiesKept n i brought ups m (plan m)
+        → DidKeep n i brought ups x (left_by x (carry_out x.store.records x.store.cut (plan m)))
     carried m e k = ⊎_elim finished cut_off (clean x.store.records x.store.cut (plan m))
       where
         before : node_keeps n i x.memory ≡ keeps n i m.station
         before = ap (node_keeps n i) e
 
-        finished : IsWhole x.store.records x.store.cut (plan m) (carry_out x.store.records x.store.cut (plan m)) → DidKeep n i brought ups x (left_by x (carry_out x.store.records x.store.cut (plan m)))
+        finished : IsWhole x.store.records x.store.cut (plan m) (carry_out x.store.records x.store.cut (plan m))
+            → DidKeep n i brought ups x (left_by x (carry_out x.store.records x.store.cut (plan m)))
         finished w = record { kept = let b = before in let h = k.kept in rw (w.memory, w.frames, w.answer) (omega arith) }
 
-        cut_off : IsCutOff x.store.records x.store.cut (plan m) (carry_out x.store.records x.store.cut (plan m)) → DidKeep n i brought ups x (left_by x (carry_out x.store.records x.store.cut (plan m)))
+        cut_off : IsCutOff x.store.records x.store.cut (plan m) (carry_out x.store.records x.store.cut (plan m))
+            → DidKeep n i brought ups x (left_by x (carry_out x.store.records x.store.cut (plan m)))
         cut_off c = record { kept = let z = k.fails in rw (c.memory, c.frames, c.answer) (omega arith) }
 
-    by_memory : (o : Option Memory) → x.memory ≡ o → DidKeep n i brought ups x (option_map_or (λ m. left_by x (carry_out x.store.records x.store.cut (plan m))) o (stays x halted))
+    by_memory : (o : Option Memory) → x.memory ≡ o
+        → DidKeep n i brought ups x (option_map_or (λ m. left_by x (carry_out x.store.records x.store.cut (plan m))) o (stays x halted))
     by_memory None e = record { kept = omega arith }
     by_memory (Some m) e = carried m e (f m e)

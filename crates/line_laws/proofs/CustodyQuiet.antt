@@ -45,8 +45,10 @@ use Rattle.line_laws.proofs.CustodyWorld.{custody_after, sent_flies}
 -- # An event that brings nothing
 
 -- what one node did, where nothing came and nothing is sent out anew
-pub acted_in_custody : (ciphers : Ciphers) (live : World → Flight → Bool) → OpensWhatItSeals ciphers → (w : World) (number : ℕ) (x : Node) → slice_get w.nodes number ≡ Some x → (d : NodeStep Answer) (before : List Handed) → IsInCustody ciphers live w before → All IsSent d.frames
-    → ((n i : ℕ) → 0 < n → DidKeep n i 0 (λ (a : Answer). 0) x d) → LiveFalls live w (acted ciphers w number d).0 None → IsInCustody ciphers live (acted ciphers w number d).0 before
+pub acted_in_custody : (ciphers : Ciphers) (live : World → Flight → Bool) → OpensWhatItSeals ciphers → (w : World) (number : ℕ) (x : Node)
+    → slice_get w.nodes number ≡ Some x → (d : NodeStep Answer) (before : List Handed) → IsInCustody ciphers live w before → All IsSent d.frames
+    → ((n i : ℕ) → 0 < n → DidKeep n i 0 (λ (a : Answer). 0) x d) → LiveFalls live w (acted ciphers w number d).0 None
+    → IsInCustody ciphers live (acted ciphers w number d).0 before
 unfolding told
 acted_in_custody ciphers live opens w number x here d before held sent kept falls = record {
   at_most = λ n i some.
@@ -55,7 +57,8 @@ acted_in_custody ciphers live opens w number x here d before held sent kept fall
       let fly = sent_flies ciphers opens n i number d.frames sent in
       let node : OneNode w v x d.node (flights_of ciphers number d) = record { number = number; here = here; nodes = refl; flights = refl } in
       subst (λ (us : List Handed). places ciphers live n i v us ≤ issued n v.sends) (append-nil before)
-      (custody_after ciphers live n i w v x d.node (flights_of ciphers number d) before [] None 0 node falls (record { kept = omega arith }) (omega arith) (held.at_most n i some));
+      (custody_after ciphers live n i w v x d.node (flights_of ciphers number d) before [] None 0 node falls (record { kept = omega arith }) (omega arith)
+      (held.at_most n i some));
 }
 
 -- # Restarts
@@ -68,10 +71,14 @@ module _ (n i : ℕ) where
 
   station_empty : (records : Records) → Empty (keeps n i) (station_of records)
   unfolding station_of
-  station_empty records = by_parts (ring.opened records) (counter.opened records) (own_number.opened records) (tag_in (get records tag_slot)) (routing.opened records) (slots.opened marks.peers records)
+  station_empty records = by_parts (ring.opened records) (counter.opened records) (own_number.opened records) (tag_in (get records tag_slot))
+      (routing.opened records) (slots.opened marks.peers records)
     where
-      by_parts : (a : Result ring.Ring BadStore) (b : Result counter.Counting BadStore) (c : Result own_number.Numbering BadStore) (d : Result ℕ BadStore) (e : Result routing.Routing BadStore) (f : Result marks.Table BadStore)
-          → Empty (keeps n i) (reading a (λ r. reading b (λ u. reading c (λ k. reading d (λ tag. reading e (λ t. reading f (λ m. Ok (record { ring = r; counter = u; marks = m; routing = t; own_number = k; next_tag = tag; reassemblies = []; waiting = [] }))))))))
+      by_parts : (a : Result ring.Ring BadStore) (b : Result counter.Counting BadStore) (c : Result own_number.Numbering BadStore) (d : Result ℕ BadStore)
+          (e : Result routing.Routing BadStore) (f : Result marks.Table BadStore)
+          → Empty (keeps n i) (reading a (λ r. reading b (λ u. reading c
+          (λ k. reading d (λ tag. reading e (λ t. reading f
+          (λ m. Ok (record { ring = r; counter = u; marks = m; routing = t; own_number = k; next_tag = tag; reassemblies = []; waiting = [] }))))))))
       by_parts (Ok a) (Ok b) (Ok c) (Ok d) (Ok e) (Ok f) = refl
       by_parts (Err x) b c d e f = tt
       by_parts (Ok a) (Err x) c d e f = tt
@@ -80,11 +87,14 @@ module _ (n i : ℕ) where
       by_parts (Ok a) (Ok b) (Ok c) (Ok d) (Err x) f = tt
       by_parts (Ok a) (Ok b) (Ok c) (Ok d) (Ok e) (Err x) = tt
 
-  after_station : (r : Result StationMemory BadStore) (rest : StationMemory → Result Memory BadStore) → Empty (keeps n i) r → ((l : StationMemory) → keeps n i l ≡ 0 → Empty (λ (m : Memory). keeps n i m.station) (rest l)) → Empty (λ (m : Memory). keeps n i m.station) (reading r rest)
+  after_station : (r : Result StationMemory BadStore) (rest : StationMemory → Result Memory BadStore) → Empty (keeps n i) r
+      → ((l : StationMemory) → keeps n i l ≡ 0 → Empty (λ (m : Memory). keeps n i m.station) (rest l))
+      → Empty (λ (m : Memory). keeps n i m.station) (reading r rest)
   after_station (Ok l) rest e h = h l e
   after_station (Err bad) rest e h = tt
 
-  book_read : (l : StationMemory) → keeps n i l ≡ 0 → (r : Result book.Book BadStore) → Empty (λ (m : Memory). keeps n i m.station) (reading r (λ b. Ok (remembering l b)))
+  book_read : (l : StationMemory) → keeps n i l ≡ 0 → (r : Result book.Book BadStore)
+      → Empty (λ (m : Memory). keeps n i m.station) (reading r (λ b. Ok (remembering l b)))
   book_read l e (Ok b) = e
   book_read l e (Err bad) = tt
 
@@ -110,11 +120,13 @@ module _ (n i : ℕ) (some : 0 < n) (m : Memory) where
 
   -- of a meter
   pub join_kept : (x : meters.Identity) (agent now : ℕ) → BodiesKept n i 0 (up_by (λ a. 0)) m (meters.join x m agent now)
-  join_kept x agent now = plan_kept (RingCause (call_given 0 0 now) x m) (call_given 0 0 now) n i 0 some (quiet_brings (RingCause (call_given 0 0 now) x m) now (meter_says (call_given 0 0 now) x m n i)) NoGrant NoPair NoEui m meters.joining_ends (λ a. 0) _ _
+  join_kept x agent now = plan_kept (RingCause (call_given 0 0 now) x m) (call_given 0 0 now) n i 0 some
+      (quiet_brings (RingCause (call_given 0 0 now) x m) now (meter_says (call_given 0 0 now) x m n i)) NoGrant NoPair NoEui m meters.joining_ends (λ a. 0) _ _
       (λ k answer none. absurd none) (λ d answer h. (h.0, refl)) _ (joins_is NoGrant NoPair NoEui (call_given 0 0 now) x m agent)
 
   pub leave_kept : (x : meters.Identity) → BodiesKept n i 0 (up_by (λ a. 0)) m (meters.leave m)
-  leave_kept x = plan_kept (RingCause (call_given 0 0 0) x m) (call_given 0 0 0) n i 0 some (quiet_brings (RingCause (call_given 0 0 0) x m) 0 (meter_says (call_given 0 0 0) x m n i)) NoGrant NoPair NoEui m meters.leaving_ends (λ a. 0) _ _
+  leave_kept x = plan_kept (RingCause (call_given 0 0 0) x m) (call_given 0 0 0) n i 0 some
+      (quiet_brings (RingCause (call_given 0 0 0) x m) 0 (meter_says (call_given 0 0 0) x m n i)) NoGrant NoPair NoEui m meters.leaving_ends (λ a. 0) _ _
       (λ k answer none. absurd none) (λ d answer h. (h.0, refl)) _ (leaves_is NoGrant NoPair NoEui (call_given 0 0 0) x m)
 
   no_words : SaysNoDatagram NoWord n i
@@ -124,30 +136,39 @@ module _ (n i : ℕ) (some : 0 < n) (m : Memory) where
   random_kept value = plan_kept NoWord (call_given 0 0 0) n i 0 some (quiet_brings NoWord 0 no_words) NoGrant NoPair NoEui m given_ends (λ a. 0) _ _
       (λ k answer none. absurd none) (λ d answer h. (h.0, refl)) _ (forms.random_is NoWord NoGrant NoPair NoEui (call_given 0 0 0) m value)
 
-  pub broke_kept : {A : Type 0} (next : ℕ) (answer : A) → BodiesKept n i 0 (λ (a : A). 0) m (resting (with_station (calls.broke next m.station) m) answer answer)
+  pub broke_kept : {A : Type 0} (next : ℕ) (answer : A)
+      → BodiesKept n i 0 (λ (a : A). 0) m (resting (with_station (calls.broke next m.station) m) answer answer)
   unfolding resting
   broke_kept next answer = record { kept = omega arith; fails = refl }
 
   -- of the coordinator
   module _ (own : coordinators.CoordinatorIdentity) (now : ℕ) where
-    order_kept : {A : Type 0} (p : coordinators.Ordering A) → coordinator.IsOrder CoordinatorWord AnyPair AnyEui (call_given 0 0 now) own m (λ to there join said. Says to join) p → BodiesKept n i 0 (up_by (λ (a : A). 0)) m p
-    order_kept p s = plan_kept CoordinatorWord (call_given 0 0 now) n i 0 some (quiet_brings CoordinatorWord now (coordinator_says n i)) (λ granted. coordinator.IsGranted m granted) AnyPair AnyEui m coordinators.orders (λ a. 0) _ _
+    order_kept : {A : Type 0} (p : coordinators.Ordering A)
+        → coordinator.IsOrder CoordinatorWord AnyPair AnyEui (call_given 0 0 now) own m (λ to there join said. Says to join) p
+        → BodiesKept n i 0 (up_by (λ (a : A). 0)) m p
+    order_kept p s = plan_kept CoordinatorWord (call_given 0 0 now) n i 0 some (quiet_brings CoordinatorWord now (coordinator_says n i))
+        (λ granted. coordinator.IsGranted m granted) AnyPair AnyEui m coordinators.orders (λ a. 0) _ _
         (λ k answer none. absurd none) (λ d answer h. (h.0, refl)) p s
 
     pub allow_kept : (eui : Eui) (psk : Key) → BodiesKept n i 0 (up_by (λ a. 0)) m (coordinators.allow m eui psk)
-    allow_kept eui psk = order_kept _ (coordinator.allow_is CoordinatorWord AnyPair AnyEui (call_given 0 0 now) own m (λ to there join said. Says to join) eui psk tt tt)
+    allow_kept eui psk =
+        order_kept _ (coordinator.allow_is CoordinatorWord AnyPair AnyEui (call_given 0 0 now) own m (λ to there join said. Says to join) eui psk tt tt)
 
     pub rekey_kept : (index : ℕ) (key : Key) → BodiesKept n i 0 (up_by (λ a. 0)) m (coordinators.rekey m index key)
-    rekey_kept index key = order_kept _ (coordinator.rekey_is CoordinatorWord AnyPair AnyEui (call_given 0 0 now) own m (λ to there join said. Says to join) index key (Draws index key))
+    rekey_kept index key = order_kept _
+        (coordinator.rekey_is CoordinatorWord AnyPair AnyEui (call_given 0 0 now) own m (λ to there join said. Says to join) index key (Draws index key))
 
     pub activate_self_kept : (index : ℕ) → BodiesKept n i 0 (up_by (λ a. 0)) m (coordinators.activate_self m index)
-    activate_self_kept index = order_kept _ (coordinator.activate_self_is CoordinatorWord AnyPair AnyEui (call_given 0 0 now) own m (λ to there join said. Says to join) index (Activates index))
+    activate_self_kept index = order_kept _
+        (coordinator.activate_self_is CoordinatorWord AnyPair AnyEui (call_given 0 0 now) own m (λ to there join said. Says to join) index (Activates index))
 
     pub challenge_kept : (eui : Eui) → BodiesKept n i 0 (up_by (λ a. 0)) m (coordinators.challenge own.eui m eui now)
-    challenge_kept eui = order_kept _ (coordinator.challenge_is CoordinatorWord AnyPair AnyEui (call_given 0 0 now) own m (λ to there join said. Says to join) eui tt)
+    challenge_kept eui =
+        order_kept _ (coordinator.challenge_is CoordinatorWord AnyPair AnyEui (call_given 0 0 now) own m (λ to there join said. Says to join) eui tt)
 
     pub activate_kept : (eui : Eui) (index : ℕ) → BodiesKept n i 0 (up_by (λ a. 0)) m (coordinators.activate m eui index now)
-    activate_kept eui index = order_kept _ (coordinator.activate_is CoordinatorWord AnyPair AnyEui (call_given 0 0 now) own m (λ to there join said. Says to join) eui index)
+    activate_kept eui index =
+        order_kept _ (coordinator.activate_is CoordinatorWord AnyPair AnyEui (call_given 0 0 now) own m (λ to there join said. Says to join) eui index)
 
     pub kick_kept : (eui : Eui) → BodiesKept n i 0 (up_by (λ a. 0)) m (coordinators.kick m eui)
     kick_kept eui = order_kept _ (coordinator.kick_is CoordinatorWord AnyPair AnyEui (call_given 0 0 now) own m (λ to there join said. Says to join) eui tt)

@@ -1,5 +1,6 @@
 -- Custody over a run: before the first forged event what is handed up was sent, and nothing is handed up twice. What is still owed stands in one record.
-use Rattle.std.proofs.Common.{◌≡◌, ◌≢◌, ◌⊎◌, inl, inr, ⊎_elim, ℕ, zero, suc, ◌+◌, ◌-◌, ◌≤◌, ◌<◌, Bool, true, false, List, [], ◌∷◌, ◌++◌, length, get_or, Option, Some, None, Result, Ok, Err, refl, sym, ap, ◌∙◌, subst, append-nil, arith}
+use Rattle.std.proofs.Common.{◌≡◌, ◌≢◌, ◌⊎◌, inl, inr, ⊎_elim, ℕ, zero, suc, ◌+◌, ◌-◌, ◌≤◌, ◌<◌, Bool, true, false, List, [], ◌∷◌, ◌++◌, length, get_or, Option}
+use Rattle.std.proofs.Common.{Some, None, Result, Ok, Err, refl, sym, ap, ◌∙◌, subst, append-nil, arith}
 use Rattle.std.specs.Prelude.{◌&&◌, All, AllPairs, IfSome, is_some, if◌then◌else◌, slice_get, ◌==◌}
 use Rattle.std.specs.List.{list_any, sum_by}
 use Rattle.std.specs.Option.{option_map_or, option_to_list}
@@ -118,7 +119,8 @@ module _ (home : ℕ → ℕ) (apart : (i j : ℕ) → home i ≡ home j → i �
   one_send : OneSend (SentUnder home sent)
   one_send note s t a b = sym a.of ∙ ap (sent_as home) (same_Some _ _ (sym a.is ∙ b.is)) ∙ b.of
 
-  lower_tag : (i j : ℕ) (x y : Sending) → slice_get sent i ≡ Some x → slice_get sent j ≡ Some y → i < j → x.from ≡ y.from → 375 < length x.datagram → 375 < length y.datagram → x.tag < y.tag
+  lower_tag : (i j : ℕ) (x y : Sending) → slice_get sent i ≡ Some x → slice_get sent j ≡ Some y → i < j → x.from ≡ y.from → 375 < length x.datagram
+      → 375 < length y.datagram → x.tag < y.tag
   lower_tag i j x y ex ey lt from long_x long_y =
       let a : get_or sent i x ≡ x = get_is sent i x x ex in
       let b : get_or sent j x ≡ y = get_is sent j y x ey in
@@ -136,13 +138,15 @@ module _ (home : ℕ → ℕ) (apart : (i j : ℕ) → home i ≡ home j → i �
       let long_x : 375 < length x.datagram = subst (λ (z : SentAs). 375 < length z.octets) (sym ha.of) long_s in
       let long_y : 375 < length y.datagram = subst (λ (z : SentAs). 375 < length z.octets) (sym hb.of) long_t in
       let same : x.tag ≡ y.tag = ap (λ (z : SentAs). z.tag) ha.of ∙ tag ∙ sym (ap (λ (z : SentAs). z.tag) hb.of) in
-      by_order (order a b) pa.0 pb.0 (λ lt. let less = lower_tag (a - 1) (b - 1) x y pa.1 pb.1 (let p = pa.0 in omega arith) from long_x long_y in omega arith) (λ lt. let less = lower_tag (b - 1) (a - 1) y x pb.1 pa.1 (let p = pb.0 in omega arith) (sym from) long_y long_x in omega arith)
+      by_order (order a b) pa.0 pb.0 (λ lt. let less = lower_tag (a - 1) (b - 1) x y pa.1 pb.1 (let p = pa.0 in omega arith) from long_x long_y in omega arith)
+      (λ lt. let less = lower_tag (b - 1) (a - 1) y x pb.1 pa.1 (let p = pb.0 in omega arith) (sym from) long_y long_x in omega arith)
     where
       order : (m n : ℕ) → (m ≡ n) ⊎ ((m < n) ⊎ (n < m))
       order zero zero = inl refl
       order zero (suc n) = inr (inl (omega arith))
       order (suc m) zero = inr (inr (omega arith))
-      order (suc m) (suc n) = ⊎_elim (λ (e : m ≡ n). inl (ap suc e)) (λ (h : (m < n) ⊎ (n < m)). inr (⊎_elim (λ (lt : m < n). inl (omega arith)) (λ (lt : n < m). inr (omega arith)) h)) (order m n)
+      order (suc m) (suc n) = ⊎_elim (λ (e : m ≡ n). inl (ap suc e))
+          (λ (h : (m < n) ⊎ (n < m)). inr (⊎_elim (λ (lt : m < n). inl (omega arith)) (λ (lt : n < m). inr (omega arith)) h)) (order m n)
 
       by_order : (a ≡ b) ⊎ ((a < b) ⊎ (b < a)) → 0 < a → 0 < b → (a < b → ⊥) → (b < a → ⊥) → a ≡ b
       by_order (inl e) p q f g = e
@@ -157,19 +161,23 @@ pub data ArrivesBy (w : World) : Event → ℕ → List ℕ → ℕ → Type 0 w
 
 data Brings (ciphers : Ciphers) (w : World) (event : Event) : Step → Type 0 where
   BringsNone : (fault : StepFault) → Brings ciphers w event (Err fault)
-  BringsTo : (number : ℕ) (x : Node) (octets : List ℕ) (cost : ℕ) → node_at w number ≡ Some x → ArrivesBy w event number octets cost → Brings ciphers w event (Ok (arrives ciphers w number x octets cost))
+  BringsTo : (number : ℕ) (x : Node) (octets : List ℕ) (cost : ℕ) → node_at w number ≡ Some x → ArrivesBy w event number octets cost
+      → Brings ciphers w event (Ok (arrives ciphers w number x octets cost))
 
 module _ (ciphers : Ciphers) (w : World) where
   deliver_brings : (flight number cost : ℕ) → Brings ciphers w (events.Deliver flight number cost) (deliver ciphers w flight number cost)
   unfolding deliver
   deliver_brings flight number cost = by_begun (has_begun w) (node_at w number) refl (flight_at w flight) refl
     where
-      by_lost : (x : Node) (f : Flight) → node_at w number ≡ Some x → flight_at w flight ≡ Some f → (b : Bool) → Brings ciphers w (events.Deliver flight number cost) (if b then Err faults.Flight else Ok (arrives ciphers w number x f.octets cost))
+      by_lost : (x : Node) (f : Flight) → node_at w number ≡ Some x → flight_at w flight ≡ Some f → (b : Bool)
+          → Brings ciphers w (events.Deliver flight number cost) (if b then Err faults.Flight else Ok (arrives ciphers w number x f.octets cost))
       by_lost x f hx hf true = BringsNone faults.Flight
       by_lost x f hx hf false = BringsTo number x f.octets cost hx (ByFlight flight number cost f hf)
 
       by_begun : (b : Bool) (o : Option Node) → node_at w number ≡ o → (p : Option Flight) → flight_at w flight ≡ p
-          → Brings ciphers w (events.Deliver flight number cost) (if b then option_map_or (λ x. option_map_or (λ f. if f.lost then Err faults.Flight else Ok (arrives ciphers w number x f.octets cost)) p (Err faults.Flight)) o (Err faults.Node) else Err faults.Setup)
+          → Brings ciphers w (events.Deliver flight number cost) (if b
+          then option_map_or (λ x. option_map_or (λ f. if f.lost then Err faults.Flight else Ok (arrives ciphers w number x f.octets cost)) p
+          (Err faults.Flight)) o (Err faults.Node) else Err faults.Setup)
       by_begun false o ho p hp = BringsNone faults.Setup
       by_begun true None ho p hp = BringsNone faults.Node
       by_begun true (Some x) ho None hp = BringsNone faults.Flight
@@ -179,7 +187,9 @@ module _ (ciphers : Ciphers) (w : World) where
   unfolding inject
   inject_brings number cost octets = by_begun (has_begun w) (node_at w number) refl
     where
-      by_begun : (b : Bool) (o : Option Node) → node_at w number ≡ o → Brings ciphers w (events.Inject number cost octets) (if b then option_map_or (λ x. Ok (arrives ciphers w number x octets cost)) o (Err faults.Node) else Err faults.Setup)
+      by_begun : (b : Bool) (o : Option Node) → node_at w number ≡ o
+          → Brings ciphers w (events.Inject number cost octets)
+          (if b then option_map_or (λ x. Ok (arrives ciphers w number x octets cost)) o (Err faults.Node) else Err faults.Setup)
       by_begun false o ho = BringsNone faults.Setup
       by_begun true None ho = BringsNone faults.Node
       by_begun true (Some x) ho = BringsTo number x octets cost ho (ByScript number cost octets)
@@ -199,7 +209,8 @@ comes_brought (events.Deliver flight node cost) number h = tt
 comes_brought (events.Inject node cost octets) number h = tt
 comes_brought _ number h = h
 
-same_number : (w : World) (event : Event) (number other cost : ℕ) (octets : List ℕ) → ArrivesBy w event number octets cost → ComesTo event other → number ≡ other
+same_number : (w : World) (event : Event) (number other cost : ℕ) (octets : List ℕ) → ArrivesBy w event number octets cost → ComesTo event other
+    → number ≡ other
 same_number w event number other cost octets (ByFlight flight n c f e) h = h
 same_number w event number other cost octets (ByScript n c o) h = h
 
@@ -215,20 +226,26 @@ up_not_taken _ e = absurd (cc)
 
 -- What is owed of what the nodes of a world say by themselves: it fits a command, and goes to one node.
 pub record SaysInRange (ciphers : Ciphers) (w : World) : Type 0 where
-  pub short : (number : ℕ) (x : Node) → node_at w number ≡ Some x → (psk : Key) (m : Memory) → x.role ≡ Meter psk → x.memory ≡ Some m → SaysShort (identity ciphers x psk) m
-  pub speaks : (x : Node) → node_at w 0 ≡ Some x → (m : Memory) → x.memory ≡ Some m → (now : ℕ) → SpeaksWell (record { eui = x.eui; ciphers = ciphers }) (call_given 0 0 now) m
+  pub short : (number : ℕ) (x : Node) → node_at w number ≡ Some x → (psk : Key) (m : Memory) → x.role ≡ Meter psk → x.memory ≡ Some m
+      → SaysShort (identity ciphers x psk) m
+  pub speaks : (x : Node) → node_at w 0 ≡ Some x → (m : Memory) → x.memory ≡ Some m → (now : ℕ)
+      → SpeaksWell (record { eui = x.eui; ciphers = ciphers }) (call_given 0 0 now) m
 
 -- What is owed of the words of a joining, where these octets are heard: what the node says fits a command and goes to one node.
 pub record Joins (ciphers : Ciphers) (w : World) (y : Node) (octets : List ℕ) (cost : ℕ) (got : Accepted) : Type 0 where
-  pub short : (psk : Key) (m : Memory) → (accepting ciphers y octets).node.role ≡ Meter psk → (accepting ciphers y octets).node.memory ≡ Some m → SaysShort (identity ciphers (accepting ciphers y octets).node psk) m
-  pub coordinator : (m : Memory) → (accepting ciphers y octets).node.memory ≡ Some m → SpeaksWell (record { eui = (accepting ciphers y octets).node.eui; ciphers = ciphers }) (heard_given got cost (note_by w octets got.path) w.clock) m
+  pub short : (psk : Key) (m : Memory) → (accepting ciphers y octets).node.role ≡ Meter psk → (accepting ciphers y octets).node.memory ≡ Some m
+      → SaysShort (identity ciphers (accepting ciphers y octets).node psk) m
+  pub coordinator : (m : Memory) → (accepting ciphers y octets).node.memory ≡ Some m
+      → SpeaksWell (record { eui = (accepting ciphers y octets).node.eui; ciphers = ciphers }) (heard_given got cost (note_by w octets got.path) w.clock) m
 
 -- What is owed at an event: marks and counters, and what joinings say.
 pub record Owed (ciphers : Ciphers) (live : World → Flight → Bool) (w : World) (x : Entry) : Type 0 where
   pub quiet : (IsBrought x.event → ⊥) → LiveFalls live w x.after None
-  pub falls : (number : ℕ) (y : Node) (octets : List ℕ) (cost : ℕ) → node_at w number ≡ Some y → ArrivesBy w x.event number octets cost → LiveFalls live w x.after (opened_at w octets (accepting ciphers y octets).answer)
+  pub falls : (number : ℕ) (y : Node) (octets : List ℕ) (cost : ℕ) → node_at w number ≡ Some y → ArrivesBy w x.event number octets cost
+      → LiveFalls live w x.after (opened_at w octets (accepting ciphers y octets).answer)
   pub says : SaysInRange ciphers w
-  pub joins : (number : ℕ) (y : Node) (octets : List ℕ) (cost : ℕ) → node_at w number ≡ Some y → ArrivesBy w x.event number octets cost → (got : Accepted) → (accepting ciphers y octets).answer ≡ Ok got → Joins ciphers w y octets cost got
+  pub joins : (number : ℕ) (y : Node) (octets : List ℕ) (cost : ℕ) → node_at w number ≡ Some y → ArrivesBy w x.event number octets cost → (got : Accepted)
+      → (accepting ciphers y octets).answer ≡ Ok got → Joins ciphers w y octets cost got
 
 -- # Homes
 
@@ -251,7 +268,8 @@ nought_home : (own : ℕ) (r : ring.Ring) → own ≡ 0 → Nought r → AtHome 
 nought_home own None e h = tt
 nought_home own (Some g) e h = h ∙ sym e
 
-module _ (ciphers : Ciphers) (home : ℕ → ℕ) (first : home 0 ≡ 0) (w : World) (ok : WorldOk w) (given : List Issued) (k : Keyed w given) (homed : HomedAt home w) where
+module _ (ciphers : Ciphers) (home : ℕ → ℕ) (first : home 0 ≡ 0) (w : World) (ok : WorldOk w) (given : List Issued) (k : Keyed w given)
+    (homed : HomedAt home w) where
   -- the coordinator of a line that has a node
   the_first : (number : ℕ) (x : Node) → node_at w number ≡ Some x → (c : Node) × (node_at w 0 ≡ Some c)
   the_first number x there =
@@ -270,7 +288,8 @@ module _ (ciphers : Ciphers) (home : ℕ → ℕ) (first : home 0 ≡ 0) (w : Wo
     where
       ring_home : (number : ℕ) (x : Node) → number ≢ 0 → node_at w number ≡ Some x → (r : ring.Ring) → RingOk k.book given x.eui r → AtHome (home number) r
       ring_home number x ne there None h = tt
-      ring_home number x ne there (Some g) h = let c = the_first number x there in sym (homed.at number x c.0 k.book g.address ne there c.1 (k.coordinator c.0 c.1).book_kept h.address)
+      ring_home number x ne there (Some g) h =
+          let c = the_first number x there in sym (homed.at number x c.0 k.book g.address ne there c.1 (k.coordinator c.0 c.1).book_kept h.address)
 
       homes : (number : ℕ) (x : Node) → node_at w number ≡ Some x → RingIn (AtHome (home number)) x.store.records
       homes number x there r e = ⊎_elim
@@ -279,38 +298,48 @@ module _ (ciphers : Ciphers) (home : ℕ → ℕ) (first : home 0 ≡ 0) (w : Wo
           (cases_eq number 0)
 
   -- a grant that is taken has the home of its meter
-  keeps_home : KeepsRanges ciphers → All FlightFits w.flights → (number : ℕ) (y : Node) (octets : List ℕ) (cost : ℕ) → node_at w number ≡ Some y → AreOctets octets → (got : Accepted) → (accepting ciphers y octets).answer ≡ Ok got
-      → list_any (is_forged_tag w.made) (hears ciphers (accepting ciphers y octets).node got cost (note_by w octets got.path) w.clock).opened ≡ false → (psk : Key) (m : Memory) → (accepting ciphers y octets).node.role ≡ Meter psk → (accepting ciphers y octets).node.memory ≡ Some m
+  keeps_home : KeepsRanges ciphers → All FlightFits w.flights → (number : ℕ) (y : Node) (octets : List ℕ) (cost : ℕ) → node_at w number ≡ Some y
+      → AreOctets octets → (got : Accepted) → (accepting ciphers y octets).answer ≡ Ok got
+      → list_any (is_forged_tag w.made) (hears ciphers (accepting ciphers y octets).node got cost (note_by w octets got.path) w.clock).opened ≡ false
+      → (psk : Key) (m : Memory) → (accepting ciphers y octets).node.role ≡ Meter psk → (accepting ciphers y octets).node.memory ≡ Some m
       → TakesHome (home number) got cost (note_by w octets got.path) w.clock (identity ciphers (accepting ciphers y octets).node psk) m
   keeps_home fits flown number y octets cost there are got e untagged psk m role here = record {
     taken = λ agreed took granted t tagged.
         let c = the_first number y there in
         let stored = (k.coordinator c.0 c.1).book_kept in
-        let ne : number ≢ 0 = λ z. not_both psk (sym (ok.first y (ap (slice_get w.nodes) (sym z) ∙ there)) ∙ sym (acts_role y (Err frames.Halted) (λ n. of_station n (accept n.station y.eui (arrived ciphers octets)))) ∙ role) in
+        let ne : number ≢ 0 = λ z. not_both psk (sym (ok.first y (ap (slice_get w.nodes) (sym z) ∙ there))
+        ∙ sym (acts_role y (Err frames.Halted) (λ n. of_station n (accept n.station y.eui (arrived ciphers octets)))) ∙ role) in
         let its_own = takes_own ciphers fits w ok flown given k number y octets cost there are got e untagged psk role m here agreed took granted t tagged in
         sym (homed.at number y c.0 k.book granted.address ne there c.1 stored (sym (meter_home k.book w number y ne there) ∙ its_own));
   }
 
 -- # One event
 
-module _ (ciphers : Ciphers) (opens : OpensWhatItSeals ciphers) (fits : KeepsRanges ciphers) (live : World → Flight → Bool) (lost : (w : World) (f : Flight) → live w (record f { lost = true }) ≡ true → live w f ≡ true)
-    (home : ℕ → ℕ) (apart : (i j : ℕ) → home i ≡ home j → i ≡ j) (sent : List Sending) (rises : AllPairs TagRises sent) (some : All (λ (s : Sending). 0 < length s.datagram) sent) where
+module _ (ciphers : Ciphers) (opens : OpensWhatItSeals ciphers) (fits : KeepsRanges ciphers) (live : World → Flight → Bool)
+    (lost : (w : World) (f : Flight) → live w (record f { lost = true }) ≡ true → live w f ≡ true)
+    (home : ℕ → ℕ) (apart : (i j : ℕ) → home i ≡ home j → i ≡ j) (sent : List Sending) (rises : AllPairs TagRises sent)
+    (some : All (λ (s : Sending). 0 < length s.datagram) sent) where
   abbrev S : ℕ → SentAs → Type 0
   S = SentUnder home sent
 
   -- what a meter does to its ring by what it hears is read back
-  arrival_words : (w : World) → WorldOk w → All FlightFits w.flights → (event : Event) → IsEvent event → (number : ℕ) (y : Node) (octets : List ℕ) (cost : ℕ) → node_at w number ≡ Some y → Comes w event number octets → (got : Accepted) → (accepting ciphers y octets).answer ≡ Ok got
-      → (psk : Key) (m : Memory) → (accepting ciphers y octets).node.role ≡ Meter psk → (accepting ciphers y octets).node.memory ≡ Some m → (v : RingWord) → RingCause (heard_given got cost (note_by w octets got.path) w.clock) (identity ciphers (accepting ciphers y octets).node psk) m v → WordFits v
+  arrival_words : (w : World) → WorldOk w → All FlightFits w.flights → (event : Event) → IsEvent event → (number : ℕ) (y : Node) (octets : List ℕ) (cost : ℕ)
+      → node_at w number ≡ Some y → Comes w event number octets → (got : Accepted) → (accepting ciphers y octets).answer ≡ Ok got
+      → (psk : Key) (m : Memory) → (accepting ciphers y octets).node.role ≡ Meter psk → (accepting ciphers y octets).node.memory ≡ Some m → (v : RingWord)
+      → RingCause (heard_given got cost (note_by w octets got.path) w.clock) (identity ciphers (accepting ciphers y octets).node psk) m v → WordFits v
   arrival_words w ok flown event says number y octets cost there comes got e psk m role here v cause =
       let are = came_octets ciphers fits w ok flown event number octets says comes in
       let plan : Memory → Plan Memory (Result Accepted FrameRefusal) = λ m. of_station m (accept m.station y.eui (arrived ciphers octets)) in
       let good : NodeOk y = at_place NodeOk w.nodes number y there ok.nodes in
       let did = acts_ok y (Err frames.Halted) plan good (λ m here kept sized. accept_ok ciphers fits octets are y.role m y.eui sized) in
-      let a = acts_answered y frames.Halted frames.Store plan (λ m. accept_failed ciphers fits octets are m.station _ (accept_is m.station y.eui (arrived ciphers octets))) got e in
-      let routes : RoutesFit got = accepted_routes ciphers fits octets are a.memory.station (ring_readable y a.memory good a.there) _ got (accept_is a.memory.station y.eui (arrived ciphers octets)) a.is in
+      let a = acts_answered y frames.Halted frames.Store plan
+      (λ m. accept_failed ciphers fits octets are m.station _ (accept_is m.station y.eui (arrived ciphers octets))) got e in
+      let routes : RoutesFit got = accepted_routes ciphers fits octets are a.memory.station (ring_readable y a.memory good a.there) _ got
+      (accept_is a.memory.station y.eui (arrived ciphers octets)) a.is in
       let sized : IsMemorySized m = subst (λ o. IfSome o IsMemorySized) here did.node.sized in
       let pair : AreOctets psk.0 = pair_octets (accepting ciphers y octets).node m psk (node_kept (accepting ciphers y octets).node m did.node here) role in
-      meter_words (accepting ciphers y octets).node.role m sized ciphers fits (identity ciphers (accepting ciphers y octets).node psk) refl (heard_given got cost (note_by w octets got.path) w.clock)
+      meter_words (accepting ciphers y octets).node.role m sized ciphers fits (identity ciphers (accepting ciphers y octets).node psk) refl
+      (heard_given got cost (note_by w octets got.path) w.clock)
       (λ b is. (subst (λ (k : Accepted). AreOctets k.payload) (same_Some got b is) routes.payload, pair)) v cause
 
   -- What was handed up by octets that came to this node.
@@ -327,29 +356,47 @@ module _ (ciphers : Ciphers) (opens : OpensWhatItSeals ciphers) (fits : KeepsRan
 
   module _ (w : World) (before : List Handed) (c : Custody ciphers live S home w before) where
     abbrev ByArrival : Event → Step → Type 0
-    ByArrival event (Ok r) = ((number : ℕ) (y : Node) (octets : List ℕ) (cost : ℕ) → node_at w number ≡ Some y → ArrivesBy w event number octets cost → LiveFalls live w r.0 (opened_at w octets (accepting ciphers y octets).answer)) → r.1.happened.forged ≡ false → After w event before r.0 r.1.happened.up
+    ByArrival event (Ok r) = ((number : ℕ) (y : Node) (octets : List ℕ) (cost : ℕ) → node_at w number ≡ Some y → ArrivesBy w event number octets cost
+        → LiveFalls live w r.0 (opened_at w octets (accepting ciphers y octets).answer)) → r.1.happened.forged ≡ false
+        → After w event before r.0 r.1.happened.up
     ByArrival event (Err fault) = Unit {0}
 
     arrival : (event : Event) (s : Step)
         → WorldOk w → All FlightFits w.flights → IsEvent event
-        → ((number : ℕ) (y : Node) (octets : List ℕ) (cost : ℕ) → node_at w number ≡ Some y → ArrivesBy w event number octets cost → (got : Accepted) → (accepting ciphers y octets).answer ≡ Ok got → Joins ciphers w y octets cost got)
-        → ((number : ℕ) (y : Node) (octets : List ℕ) (cost : ℕ) → node_at w number ≡ Some y → AreOctets octets → (got : Accepted) → (accepting ciphers y octets).answer ≡ Ok got
-        → list_any (is_forged_tag w.made) (hears ciphers (accepting ciphers y octets).node got cost (note_by w octets got.path) w.clock).opened ≡ false → (psk : Key) (m : Memory) → (accepting ciphers y octets).node.role ≡ Meter psk → (accepting ciphers y octets).node.memory ≡ Some m
+        → ((number : ℕ) (y : Node) (octets : List ℕ) (cost : ℕ) → node_at w number ≡ Some y → ArrivesBy w event number octets cost → (got : Accepted)
+        → (accepting ciphers y octets).answer ≡ Ok got → Joins ciphers w y octets cost got)
+        → ((number : ℕ) (y : Node) (octets : List ℕ) (cost : ℕ) → node_at w number ≡ Some y → AreOctets octets → (got : Accepted)
+        → (accepting ciphers y octets).answer ≡ Ok got
+        → list_any (is_forged_tag w.made) (hears ciphers (accepting ciphers y octets).node got cost (note_by w octets got.path) w.clock).opened ≡ false
+        → (psk : Key) (m : Memory) → (accepting ciphers y octets).node.role ≡ Meter psk → (accepting ciphers y octets).node.memory ≡ Some m
         → TakesHome (home number) got cost (note_by w octets got.path) w.clock (identity ciphers (accepting ciphers y octets).node psk) m)
         → Brings ciphers w event s → ByArrival event s
     arrival event s ok flown says joins keeps (BringsNone fault) = tt
     arrival event s ok flown says joins keeps (BringsTo number y octets cost there by) = λ falls honest.
         let are = came_octets ciphers fits w ok flown event number octets says (came_by w event number octets cost by) in
-        let untagged = untagged_by ciphers opens live S (one_send home apart sent rises) (tags_differ home apart sent rises) home w before c number y there octets cost honest in
-        let k = arrival_keeps ciphers opens live S (one_send home apart sent rises) (tags_differ home apart sent rises) home w before c number y there octets cost (λ got e. let j = joins number y octets cost there by got e in (keeps number y octets cost there are got e (untagged got e), record { words = λ psk role m here. arrival_words w ok flown event says number y octets cost there (came_by w event number octets cost by) got e psk m role here; short = λ psk role m here. j.short psk m role here; coordinator = j.coordinator })) honest (falls number y octets cost there by) in
+        let untagged = untagged_by ciphers opens live S (one_send home apart sent rises) (tags_differ home apart sent rises) home w before c number y there
+        octets cost honest in
+        let k = arrival_keeps ciphers opens live S (one_send home apart sent rises) (tags_differ home apart sent rises) home w before c number y there octets
+        cost (λ got e. let j = joins number y octets cost there by got e in (
+          keeps number y octets cost there are got e (untagged got e),
+          record {
+            words = λ psk role m here. arrival_words w ok flown event says number y octets cost there (came_by w event number octets cost by) got e psk m
+                role here;
+            short = λ psk role m here. j.short psk m role here;
+            coordinator = j.coordinator;
+          },
+        )) honest (falls number y octets cost there by) in
         record { custody = k.0; handed = λ u e. record { number = number; octets = octets; cost = cost; by = by; is = k.1 u e } }
 
-    pub after_event : (ok : WorldOk w) → All FlightFits w.flights → (x : Entry) → IsEvent x.event → step ciphers w x.event ≡ Ok (x.after, x.trace) → IfSome x.trace.happened.up (λ (u : Handed). ComesTo x.event u.node) → ((s : Sending) → x.trace.sent ≡ Some s → S (w.sends + 1) (sent_as home s))
-        → Owed ciphers live w x → (given : List Issued) → Keyed w given → home 0 ≡ 0 → HomedAt home w → HomedAt home x.after → x.trace.happened.forged ≡ false → After w x.event before x.after x.trace.happened.up
+    pub after_event : (ok : WorldOk w) → All FlightFits w.flights → (x : Entry) → IsEvent x.event → step ciphers w x.event ≡ Ok (x.after, x.trace)
+        → IfSome x.trace.happened.up (λ (u : Handed). ComesTo x.event u.node) → ((s : Sending) → x.trace.sent ≡ Some s → S (w.sends + 1) (sent_as home s))
+        → Owed ciphers live w x → (given : List Issued) → Keyed w given → home 0 ≡ 0 → HomedAt home w → HomedAt home x.after → x.trace.happened.forged ≡ false
+        → After w x.event before x.after x.trace.happened.up
     after_event ok flown x says is up_at is_sent owed given k first homed later honest = ⊎_elim came quiet (is_brought x.event)
       where
         came : IsBrought x.event → After w x.event before x.after x.trace.happened.up
-        came b = subst (ByArrival x.event) is (arrival x.event (step ciphers w x.event) ok flown says owed.joins (keeps_home ciphers home first w ok given k homed fits flown) (event_brings ciphers w x.event b)) owed.falls honest
+        came b = subst (ByArrival x.event) is (arrival x.event (step ciphers w x.event) ok flown says owed.joins
+            (keeps_home ciphers home first w ok given k homed fits flown) (event_brings ciphers w x.event b)) owed.falls honest
 
         quiet : (IsBrought x.event → ⊥) → After w x.event before x.after x.trace.happened.up
         quiet none = by_up x.trace.happened.up up_at
@@ -358,7 +405,10 @@ module _ (ciphers : Ciphers) (opens : OpensWhatItSeals ciphers) (fits : KeepsRan
             held = record { flights = c.flights; ranged = c.ranged; sent = c.sent; nodes = c.nodes; places = record { at_most = c.places.at_most } }
 
             now : Custody ciphers live S home x.after before
-            now = falls_on ciphers live S home w x.after before (subst (Kept ciphers opens fits S home w ok (live w) (lost w) before held (in_range ciphers home first w ok given k homed owed.says)) is (event_at ciphers opens fits S home w ok (live w) (lost w) before held (in_range ciphers home first w ok given k homed owed.says) x.event (step ciphers w x.event) (step_is ciphers w x.event says) none (subst (LaterHomed home) (sym is) later)) is_sent) (owed.quiet none)
+            now = falls_on ciphers live S home w x.after before (subst (Kept ciphers opens fits S home w ok (live w) (lost w) before held
+                (in_range ciphers home first w ok given k homed owed.says)) is
+                (event_at ciphers opens fits S home w ok (live w) (lost w) before held (in_range ciphers home first w ok given k homed owed.says) x.event
+                (step ciphers w x.event) (step_is ciphers w x.event says) none (subst (LaterHomed home) (sym is) later)) is_sent) (owed.quiet none)
 
             by_up : (o : Option Handed) → IfSome o (λ (u : Handed). ComesTo x.event u.node) → After w x.event before x.after o
             by_up (Some u) h = absurd (none (comes_brought x.event u.node h))
@@ -379,18 +429,21 @@ module _ (ciphers : Ciphers) (opens : OpensWhatItSeals ciphers) (fits : KeepsRan
       let full : 0 < length s.sending.datagram = at_place (λ (z : Sending). 0 < length z.datagram) sent (u.note - 1) s.sending p.1 some in
       (p.0, subst (λ (xs : List ℕ). 0 < length xs) (ap (λ (z : SentAs). z.octets) s.of ∙ h.is.same) full)
 
-  pub was_sent : (w v : World) (event : Event) (u : Handed) (before : List Handed) (sent_before rest : List Sending) → sent ≡ sent_before ++ rest → v.sends ≡ length sent_before → UpIs w event u → ComesTo event u.node → Custody ciphers live S home v (before ++ u ∷ []) → WasSent u sent_before
+  pub was_sent : (w v : World) (event : Event) (u : Handed) (before : List Handed) (sent_before rest : List Sending) → sent ≡ sent_before ++ rest
+      → v.sends ≡ length sent_before → UpIs w event u → ComesTo event u.node → Custody ciphers live S home v (before ++ u ∷ []) → WasSent u sent_before
   was_sent w v event u before sent_before rest same count h at c =
       let s = h.is.is in
       let p = at_number sent u.note s.sending s.is in
       let n = noted w event u h in
       let most = c.places.at_most u.note 0 n.0 in
-      let both : sum_by (handed_is u.note 0) (before ++ u ∷ []) ≡ sum_by (handed_is u.note 0) before + sum_by (handed_is u.note 0) (u ∷ []) = sum_by-append (handed_is u.note 0) before (u ∷ []) in
+      let both : sum_by (handed_is u.note 0) (before ++ u ∷ [])
+      ≡ sum_by (handed_is u.note 0) before + sum_by (handed_is u.note 0) (u ∷ []) = sum_by-append (handed_is u.note 0) before (u ∷ []) in
       let one : sum_by (handed_is u.note 0) (u ∷ []) ≡ handed_is u.note 0 u + 0 = sum_by-cons (handed_is u.note 0) u [] in
       let itself : handed_is u.note 0 u ≡ 1 = up_itself u.note u.note (length u.octets) refl n.1 in
       let low : u.note ≤ v.sends = issued_low u.note v.sends (omega arith) in
       let positive = n.0 in
-      let place : slice_get sent_before (u.note - 1) ≡ Some s.sending = slice_left sent_before rest (u.note - 1) s.sending (ap (λ xs. slice_get xs (u.note - 1)) (sym same) ∙ p.1) (omega arith) in
+      let place : slice_get sent_before (u.note - 1)
+      ≡ Some s.sending = slice_left sent_before rest (u.note - 1) s.sending (ap (λ xs. slice_get xs (u.note - 1)) (sym same) ∙ p.1) (omega arith) in
       let back : u.note - 1 + 1 ≡ u.note = omega arith in
       let to : s.sending.to ≡ h.number = apart s.sending.to h.number (ap (λ (z : SentAs). z.to) s.of ∙ h.is.target) in
       record {
@@ -400,12 +453,14 @@ module _ (ciphers : Ciphers) (opens : OpensWhatItSeals ciphers) (fits : KeepsRan
         octets = ap (λ (z : SentAs). z.octets) s.of ∙ h.is.same;
       }
 
-  pub is_new : (v : World) (u : Handed) (before : List Handed) → All IsNoted before → IsNoted u → Custody ciphers live S home v (before ++ u ∷ []) → IsNew u before
+  pub is_new : (v : World) (u : Handed) (before : List Handed) → All IsNoted before → IsNoted u → Custody ciphers live S home v (before ++ u ∷ [])
+      → IsNew u before
   is_new v u before all one c = pairs_last before u (ups_differ ciphers live v (before ++ u ∷ []) c.places (All-push IsNoted before u all one))
 
   -- # The run
 
-  pub none_lists : (o : Option Sending) (p : Option Handed) (a : Answer) (sends : Bool) → is_some o ≡ (is_taken a && sends) → is_some p ≡ is_up a → (u : Handed) → p ≡ Some u → o ≡ None
+  pub none_lists : (o : Option Sending) (p : Option Handed) (a : Answer) (sends : Bool) → is_some o ≡ (is_taken a && sends) → is_some p ≡ is_up a → (u : Handed)
+      → p ≡ Some u → o ≡ None
   none_lists None p a sends eo ep u e = refl
   none_lists (Some s) p a sends eo ep u e =
       let up : is_up a ≡ true = sym ep ∙ ap (λ (q : Option Handed). is_some q) e in

@@ -1,5 +1,6 @@
 -- No word changes a datagram on its way: units and bodies are of their sends.
-use Rattle.std.proofs.Common.{◌≡◌, ℕ, zero, suc, ◌+◌, ◌*◌, ◌<◌, Bool, true, false, not, List, [], ◌∷◌, length, take, drop, map, Some, None, refl, sym, ap, ◌∙◌, subst, arith}
+use Rattle.std.proofs.Common.{◌≡◌, ℕ, zero, suc, ◌+◌, ◌*◌, ◌<◌, Bool, true, false, not, List, [], ◌∷◌, length, take, drop, map, Some, None, refl, sym, ap, ◌∙◌}
+use Rattle.std.proofs.Common.{subst, arith}
 use Rattle.std.specs.Prelude.{if◌then◌else◌, nat_le, slice_get, All, ◌==◌}
 use Rattle.std.specs.Int.{div_ceil}
 use Rattle.std.specs.List.{filter, flat_map, range_with_len}
@@ -15,9 +16,12 @@ use Rattle.mesh_header.specs.declared.unit.Unit.TheVariants as units
 use Rattle.mesh_header.specs.Pieces.{Placed}
 use Rattle.fragment_buffers.specs.Cutting.{piece_of, cut}
 use Rattle.node_rules.specs.Memory.{StationMemory, Body, Load, Datagram, Command, address_of}
-use Rattle.node_rules.specs.Drafts.{Draft, own_mesh, units_of, all_go, waits_for, with_rank, with_own_number, with_next_tag, with_ring, with_routing_by, goes, body_goes, waits, leave}
+use Rattle.node_rules.specs.Drafts.{Draft, own_mesh, units_of, all_go, waits_for, with_rank, with_own_number, with_next_tag, with_ring, with_routing_by, goes}
+use Rattle.node_rules.specs.Drafts.{body_goes, waits, leave}
 use Rattle.line_laws.specs.Sends.{SentAs, FitsAt, UnitIsOf, LoadIsOf, OutIsOf, BodyIsOf}
-use Rattle.line_laws.proofs.Made.{Given, IsCome, IsLess, Whole, Part, Carried, RingWord, Carry, Install, RingChange, Drops, Installs, Draws, Activates, IsSaid, Seeks, Answers, Relays, Passes, Tells, Forwards, Made, Starts, Ranks, Numbers, Tags, Rings, Idles, Loses, Goes, Sends, Waits, Leaves}
+use Rattle.line_laws.proofs.Made.{Given, IsCome, IsLess, Whole, Part, Carried, RingWord, Carry, Install, RingChange, Drops, Installs, Draws, Activates, IsSaid}
+use Rattle.line_laws.proofs.Made.{Seeks, Answers, Relays, Passes, Tells, Forwards, Made, Starts, Ranks, Numbers, Tags, Rings, Idles, Loses, Goes, Sends, Waits}
+use Rattle.line_laws.proofs.Made.{Leaves}
 
 -- # Cutting
 
@@ -52,7 +56,12 @@ module _ (S : ℕ → SentAs → Type 0) where
         is = h.is;
         from = h.from;
         target = h.target;
-        content = record { long = subst (λ (xs : List ℕ). 375 < length xs) (sym h.content.0) above; size = ap length h.content.0; tag = h.content.1; fits = subst (FitsAt (piece_of octets tag k).octets (46 * k * 8)) (sym h.content.0) (piece_fits octets tag k) };
+        content = record {
+          long = subst (λ (xs : List ℕ). 375 < length xs) (sym h.content.0) above;
+          size = ap length h.content.0;
+          tag = h.content.1;
+          fits = subst (FitsAt (piece_of octets tag k).octets (46 * k * 8)) (sym h.content.0) (piece_fits octets tag k);
+        };
       }
 
       parts : 375 < length octets → (ks : List ℕ) → All (UnitIsOf S note) (map (λ piece. units.Part (own_mesh own to) piece) (map (piece_of octets tag) ks))
@@ -60,16 +69,21 @@ module _ (S : ℕ → SentAs → Type 0) where
           (All-map (λ (p : Placed). UnitIsOf S note (units.Part (own_mesh own to) p)) (piece_of octets tag) ks (λ i k lt. part above _))
 
       by_size : (b : Bool) → nat_le (length octets) 375 ≡ b → All (UnitIsOf S note) (units_of own to (Datagram octets tag))
-      by_size true t = rw t (All-cons (UnitIsOf S note) _ [] (record { sent = h.sent; is = h.is; from = h.from; target = h.target; content = h.content.0 }) (All-nil (UnitIsOf S note)))
+      by_size true t = rw t (All-cons (UnitIsOf S note) _ [] (record { sent = h.sent; is = h.is; from = h.from; target = h.target; content = h.content.0 })
+          (All-nil (UnitIsOf S note)))
       by_size false t = rw t (parts (leb-false _ _ t) (range_with_len 0 (div_ceil (length octets) 368)))
 
   body_goes_of : (own hop to note : ℕ) (load : Load) → (LoadIsOf S own to note load) → All (OutIsOf S) (all_go hop note (units_of own to load))
-  body_goes_of own hop to note load h = All-map (OutIsOf S) (λ unit. record { to = hop; unit = unit; note = note }) (units_of own to load) (λ k u lt. record { unit = units_are_of own to note load h k u lt })
+  body_goes_of own hop to note load h = All-map (OutIsOf S) (λ unit. record { to = hop; unit = unit; note = note }) (units_of own to load)
+      (λ k u lt. record { unit = units_are_of own to note load h k u lt })
 
-  bodies_go_of : (own hop : ℕ) (bodies : List Body) → All (BodyIsOf S own) bodies → All (OutIsOf S) (flat_map (λ b. all_go hop b.note (units_of own b.to b.load)) bodies)
+  bodies_go_of : (own hop : ℕ) (bodies : List Body) → All (BodyIsOf S own) bodies
+      → All (OutIsOf S) (flat_map (λ b. all_go hop b.note (units_of own b.to b.load)) bodies)
   bodies_go_of own hop [] all = All-nil (OutIsOf S)
   bodies_go_of own hop (b ∷ bodies) all =
-      All-append (OutIsOf S) (all_go hop b.note (units_of own b.to b.load)) _ (body_goes_of own hop b.to b.note b.load (All-head (BodyIsOf S own) b bodies all).load) (bodies_go_of own hop bodies (All-tail (BodyIsOf S own) b bodies all))
+      All-append (OutIsOf S) (all_go hop b.note (units_of own b.to b.load)) _
+      (body_goes_of own hop b.to b.note b.load (All-head (BodyIsOf S own) b bodies all).load)
+      (bodies_go_of own hop bodies (All-tail (BodyIsOf S own) b bodies all))
 
   less_of : (note : ℕ) (u less : MeshUnit) → IsLess u less → UnitIsOf S note u → UnitIsOf S note less
   less_of note u less (Whole mesh octets) h = record { sent = h.sent; is = h.is; from = h.from; target = h.target; content = h.content }
@@ -123,22 +137,32 @@ module _ (S : ℕ → SentAs → Type 0) where
     made_true d (Ranks by origin rank e made o fits) = let h = made_true e made in record { address = h.address; bodies = h.bodies; units = h.units }
     made_true d (Numbers e made left) = let h = made_true e made in record { address = h.address; bodies = h.bodies; units = h.units }
     made_true d (Tags e made first) = let h = made_true e made in record { address = h.address; bodies = h.bodies; units = h.units }
-    made_true d (Rings x e made change) = let h = made_true e made in record { address = ring_address W g own known e.memory.ring x change h.address; bodies = h.bodies; units = h.units }
+    made_true d (Rings x e made change) =
+        let h = made_true e made in record { address = ring_address W g own known e.memory.ring x change h.address; bodies = h.bodies; units = h.units }
     made_true d (Idles e made) = let h = made_true e made in record { address = h.address; bodies = All-nil (BodyIsOf S own); units = h.units }
     made_true d (Loses lost by e made) = let h = made_true e made in record { address = h.address; bodies = h.bodies; units = h.units }
     made_true d (Goes to unit note e made said alone) =
-        let h = made_true e made in record { address = h.address; bodies = h.bodies; units = All-push (OutIsOf S) e.units _ h.units (record { unit = said_of e to unit note said }) }
+        let h = made_true e made in record {
+          address = h.address;
+          bodies = h.bodies;
+          units = All-push (OutIsOf S) e.units _ h.units (record { unit = said_of e to unit note said });
+        }
     made_true d (Sends a hop to note load e made here there short carried alone) =
         let h = made_true e made in
         let is : a ≡ own = h.address a here in
         record {
           address = h.address;
           bodies = h.bodies;
-          units = All-append (OutIsOf S) e.units _ h.units (body_goes_of a hop to note load (subst (λ (o : ℕ). LoadIsOf S o to note load) (sym is) (known.carries to note load carried)));
+          units = All-append (OutIsOf S) e.units _ h.units
+              (body_goes_of a hop to note load (subst (λ (o : ℕ). LoadIsOf S o to note load) (sym is) (known.carries to note load carried)));
         }
     made_true d (Waits to note load now e made none room short carried alone) =
         let h = made_true e made in
-        record { address = h.address; bodies = All-push (BodyIsOf S own) e.memory.waiting _ h.bodies (record { load = known.carries to note load carried }); units = h.units }
+        record {
+          address = h.address;
+          bodies = All-push (BodyIsOf S own) e.memory.waiting _ h.bodies (record { load = known.carries to note load carried });
+          units = h.units;
+        }
     made_true d (Leaves a dest hop rank e made here o) =
         let h = made_true e made in
         let is : a ≡ own = h.address a here in
@@ -146,5 +170,6 @@ module _ (S : ℕ → SentAs → Type 0) where
           address = h.address;
           bodies = All-filter (λ b. not (waits_for dest b)) (BodyIsOf S own) e.memory.waiting h.bodies;
           units = All-append (OutIsOf S) e.units _ h.units (bodies_go_of a hop (filter (waits_for dest) e.memory.waiting)
-              (subst (λ (o : ℕ). All (BodyIsOf S o) (filter (waits_for dest) e.memory.waiting)) (sym is) (All-filter (waits_for dest) (BodyIsOf S own) e.memory.waiting h.bodies)));
+              (subst (λ (o : ℕ). All (BodyIsOf S o) (filter (waits_for dest) e.memory.waiting)) (sym is)
+              (All-filter (waits_for dest) (BodyIsOf S own) e.memory.waiting h.bodies)));
         }

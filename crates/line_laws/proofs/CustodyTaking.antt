@@ -25,7 +25,8 @@ use Rattle.line_laws.proofs.RankTaking.{picky, picky_grants, Walk, Same, Refused
 -- A grant that a meter takes has the address of its home: asked only where it is taken, since a packet that is refused opens no tag.
 pub record TakesHome (own : ℕ) (got : Accepted) (cost note now : ℕ) (x : meters.Identity) (m : Memory) : Type 0 where
   pub taken : (agreed : Agreed) → (meters.hear_meter x m got cost note now).answer ≡ Ok (meter_heard.Took agreed)
-      → (granted : Granted) → (t : TakenFrom x m got cost note now granted) → IsTagged t (meters.hear_meter x m got cost note now).opened → granted.address ≡ own
+      → (granted : Granted) → (t : TakenFrom x m got cost note now granted) → IsTagged t (meters.hear_meter x m got cost note now).opened
+      → granted.address ≡ own
 
 module _ (S : ℕ → SentAs → Type 0) (one : OneSend S) (own : ℕ) (got : Accepted) (cost note now : ℕ) (hears : HearsTrue S (heard_given got cost note now)) where
   -- whether a grant has this home
@@ -43,10 +44,13 @@ module _ (S : ℕ → SentAs → Type 0) (one : OneSend S) (own : ℕ) (got : Ac
   unfolding resting
   refused m reason first = record { station = first; frames = All-nil (SentIsOf S); up = tt; fails = tt }
 
-  pub taking_true : (x : meters.Identity) (m : Memory) → TakesHome own got cost note now x m → StationIsTrue S own m.station → Agrees (heard_given got cost note now) m.station → PlanIsTrue S own (MeterUpIsOf S own) (meters.hear_meter x m got cost note now)
+  pub taking_true : (x : meters.Identity) (m : Memory) → TakesHome own got cost note now x m → StationIsTrue S own m.station
+      → Agrees (heard_given got cost note now) m.station → PlanIsTrue S own (MeterUpIsOf S own) (meters.hear_meter x m got cost note now)
   taking_true x m took first agrees = by_walk (walk_meter x m got cost note now fits)
     where
-      by_walk : Walk x m got cost note now fits (meters.hear_meter (picky fits x) m got cost note now) (meters.hear_meter x m got cost note now) → PlanIsTrue S own (MeterUpIsOf S own) (meters.hear_meter x m got cost note now)
-      by_walk (Same e) = subst (λ (p : meters.Hearing). PlanIsTrue S own (MeterUpIsOf S own) p) e (meter_hears_true S one own got cost note now hears (picky fits x) m (picky_keeps x m) first agrees)
+      by_walk : Walk x m got cost note now fits (meters.hear_meter (picky fits x) m got cost note now) (meters.hear_meter x m got cost note now)
+          → PlanIsTrue S own (MeterUpIsOf S own) (meters.hear_meter x m got cost note now)
+      by_walk (Same e) = subst (λ (p : meters.Hearing). PlanIsTrue S own (MeterUpIsOf S own) p) e
+          (meter_hears_true S one own got cost note now hears (picky fits x) m (picky_keeps x m) first agrees)
       by_walk (Refused reason e) = subst (λ (p : meters.Hearing). PlanIsTrue S own (MeterUpIsOf S own) p) (sym e) (refused m reason first)
       by_walk (Takes agreed e w tagged) = absurd (eqb-false _ _ w.wrong (took.taken agreed e w.granted w.from tagged))

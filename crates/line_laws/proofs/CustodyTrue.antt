@@ -23,7 +23,8 @@ use Rattle.node_rules.specs.declared.heard.Accepted.{Accepted}
 use Rattle.node_rules.specs.Frames.{Letter, Sent, Sealed, Up, Down}
 use Rattle.node_rules.specs.Memory.{StationMemory, Memory, Node, Load, address_of}
 use Rattle.node_rules.specs.Plans.{Plan, carry_out, resting}
-use Rattle.node_rules.specs.Drafts.{Draft, Ends, Outgoing, empty_draft, letters, sealed_by, sealing_key, with_rank, with_own_number, with_next_tag, with_ring, with_routing_by, goes, body_goes, waits, leave}
+use Rattle.node_rules.specs.Drafts.{Draft, Ends, Outgoing, empty_draft, letters, sealed_by, sealing_key, with_rank, with_own_number, with_next_tag, with_ring}
+use Rattle.node_rules.specs.Drafts.{with_routing_by, goes, body_goes, waits, leave}
 use Rattle.node_rules.specs.MemoryDrafts.{in_memory, on_station, station_part, with_memory_by, with_pair_tags, goes_up, goes_down}
 use Rattle.node_rules.specs.Coordinators.{with_book_entry}
 use Rattle.node_rules.specs.Hearing.{dropped}
@@ -35,7 +36,8 @@ use Rattle.line_laws.specs.Letters.{IsLetter}
 use Rattle.line_laws.specs.Sends.{SentAs, UnitIsOf, LoadIsOf, OutIsOf, HeldIsOf, UpIsOf}
 use Rattle.line_laws.proofs.Planned.{Planned, Refuses, Keeps, Ended}
 use Rattle.line_laws.proofs.LetterAccepts.{IsOfLetter}
-use Rattle.line_laws.proofs.Made.{Given, IsCome, RingWord, Carry, Install, Made, Starts, Ranks, Numbers, Tags as TagsOn, Rings, Idles, Loses, Goes, Sends, Waits, Leaves}
+use Rattle.line_laws.proofs.Made.{Given, IsCome, RingWord, Carry, Install, Made, Starts, Ranks, Numbers, Tags as TagsOn, Rings, Idles, Loses, Goes, Sends}
+use Rattle.line_laws.proofs.Made.{Waits, Leaves}
 use Rattle.line_laws.proofs.MadeIn.{unheard, MadeIn, Begins, Station, OnStation, Remembers, Tags, Enters, Up as UpIn, Down as DownIn}
 use Rattle.line_laws.proofs.HearingForms.{IsNoUp, Handed, HandsUp, HandsOn, Gathers, Completes}
 use Rattle.line_laws.proofs.MemoryDraftForms.{HandedIn, ByStation}
@@ -57,7 +59,8 @@ SentIsOf S (Down from message) = ⊤
 
 module _ (S : ℕ → SentAs → Type 0) (own : ℕ) where
   -- what is gathered comes and goes with no word but that a ring goes
-  made_held : (W : RingWord → Type 0) (g : Given) (s d : Draft StationMemory) → Made W g s d → All (HeldIsOf S own) s.memory.reassemblies → All (HeldIsOf S own) d.memory.reassemblies
+  made_held : (W : RingWord → Type 0) (g : Given) (s d : Draft StationMemory) → Made W g s d → All (HeldIsOf S own) s.memory.reassemblies
+      → All (HeldIsOf S own) d.memory.reassemblies
   unfolding with_rank with_own_number with_next_tag with_ring with_routing_by goes body_goes waits leave
   made_held W g s d Starts h = h
   made_held W g s d (Ranks by origin rank e made o fits) h = made_held W g s e made h
@@ -81,26 +84,41 @@ module _ (S : ℕ → SentAs → Type 0) (own : ℕ) where
     unheard_known : Known S W (unheard g) own
     unheard_known = record { comes = λ by u c. absurd (no_some _ c.is); carries = known.carries; installs = known.installs }
 
-    pub made_in_true : (L : Granted → Type 0) (P : Eui → Key → Type 0) (E : Eui → Type 0) (m : Memory) (d : Draft Memory) → MadeIn W L P E g m d → StationIsTrue S own m.station → IsTrueIn d
+    pub made_in_true : (L : Granted → Type 0) (P : Eui → Key → Type 0) (E : Eui → Type 0) (m : Memory) (d : Draft Memory) → MadeIn W L P E g m d
+        → StationIsTrue S own m.station → IsTrueIn d
     unfolding empty_draft on_station with_memory_by with_pair_tags with_book_entry goes_up goes_down
     made_in_true L P E m d Begins h = record { station = h; units = All-nil (OutIsOf S); plain = All-nil IsPlainFrame }
     made_in_true L P E m d (Station e made) h =
         let x = made_true S W g own known (empty_draft m.station) (record { address = h.address; bodies = h.bodies; units = All-nil (OutIsOf S) }) e made in
-        record { station = record { address = x.address; bodies = x.bodies; held = made_held W g (empty_draft m.station) e made h.held }; units = x.units; plain = rw (made_plain W g (empty_draft m.station) e made) (All-nil IsPlainFrame) }
+        record {
+          station = record { address = x.address; bodies = x.bodies; held = made_held W g (empty_draft m.station) e made h.held };
+          units = x.units;
+          plain = rw (made_plain W g (empty_draft m.station) e made) (All-nil IsPlainFrame);
+        }
     made_in_true L P E m d (OnStation word e made step) h =
         let r = made_in_true L P E m e made h in
-        let x = made_true S W (unheard g) own unheard_known (station_part e) (record { address = r.station.address; bodies = r.station.bodies; units = r.units }) (word (station_part e)) step in
+        let x = made_true S W (unheard g) own unheard_known (station_part e)
+        (record { address = r.station.address; bodies = r.station.bodies; units = r.units }) (word (station_part e)) step in
         record {
-          station = record { address = x.address; bodies = x.bodies; held = made_held W (unheard g) (station_part e) (word (station_part e)) step r.station.held };
+          station =
+              record { address = x.address; bodies = x.bodies; held = made_held W (unheard g) (station_part e) (word (station_part e)) step r.station.held };
           units = x.units;
           plain = rw (made_plain W (unheard g) (station_part e) (word (station_part e)) step) r.plain;
         }
     made_in_true L P E m d (Remembers change e made beside) h =
-        let r = made_in_true L P E m e made h in record { station = subst (StationIsTrue S own) (sym (beside_station_of E e.memory (change e.memory) beside)) r.station; units = r.units; plain = r.plain }
+        let r = made_in_true L P E m e made h in
+        record {
+          station = subst (StationIsTrue S own) (sym (beside_station_of E e.memory (change e.memory) beside)) r.station;
+          units = r.units;
+          plain = r.plain;
+        }
     made_in_true L P E m d (Tags made opened e x) h = let r = made_in_true L P E m e x h in record { station = r.station; units = r.units; plain = r.plain }
-    made_in_true L P E m d (Enters x e made change) h = let r = made_in_true L P E m e made h in record { station = r.station; units = r.units; plain = r.plain }
-    made_in_true L P E m d (UpIn agent from message e made) h = let r = made_in_true L P E m e made h in record { station = r.station; units = r.units; plain = All-push IsPlainFrame e.plain (Up agent from message) r.plain tt }
-    made_in_true L P E m d (DownIn from message e made) h = let r = made_in_true L P E m e made h in record { station = r.station; units = r.units; plain = All-push IsPlainFrame e.plain (Down from message) r.plain tt }
+    made_in_true L P E m d (Enters x e made change) h =
+        let r = made_in_true L P E m e made h in record { station = r.station; units = r.units; plain = r.plain }
+    made_in_true L P E m d (UpIn agent from message e made) h = let r = made_in_true L P E m e made h in
+        record { station = r.station; units = r.units; plain = All-push IsPlainFrame e.plain (Up agent from message) r.plain tt }
+    made_in_true L P E m d (DownIn from message e made) h = let r = made_in_true L P E m e made h in
+        record { station = r.station; units = r.units; plain = All-push IsPlainFrame e.plain (Down from message) r.plain tt }
 
   -- # Letters
 
@@ -108,7 +126,8 @@ module _ (S : ℕ → SentAs → Type 0) (own : ℕ) where
   letters_of g key first [] all = All-nil (SentIsOf S)
   letters_of g key first (o ∷ us) all =
       let one : Sent = Sealed (record { to = o.to; from = g.address; counter = first; index = g.active; key = key; unit = o.unit; note = o.note }) in
-      All-cons (SentIsOf S) one (letters g key (first + 1) us) (All-head (OutIsOf S) o us all).unit (letters_of g key (first + 1) us (All-tail (OutIsOf S) o us all))
+      All-cons (SentIsOf S) one (letters g key (first + 1) us) (All-head (OutIsOf S) o us all).unit
+      (letters_of g key (first + 1) us (All-tail (OutIsOf S) o us all))
 
   sealed_of : (r : ring.Ring) (first : ℕ) (us : List Outgoing) → All (OutIsOf S) us → All (SentIsOf S) (sealed_by r first us)
   sealed_of None first us all = All-nil (SentIsOf S)
@@ -121,7 +140,8 @@ module _ (S : ℕ → SentAs → Type 0) (own : ℕ) where
   plain_of : (fs : List Sent) → All IsPlainFrame fs → All (SentIsOf S) fs
   plain_of [] all = All-nil (SentIsOf S)
   plain_of (Sealed l ∷ fs) all = absurd (All-head IsPlainFrame (Sealed l) fs all)
-  plain_of (Up agent from message ∷ fs) all = All-cons (SentIsOf S) (Up agent from message) fs tt (plain_of fs (All-tail IsPlainFrame (Up agent from message) fs all))
+  plain_of (Up agent from message ∷ fs) all =
+      All-cons (SentIsOf S) (Up agent from message) fs tt (plain_of fs (All-tail IsPlainFrame (Up agent from message) fs all))
   plain_of (Down from message ∷ fs) all = All-cons (SentIsOf S) (Down from message) fs tt (plain_of fs (All-tail IsPlainFrame (Down from message) fs all))
 
   -- # Plans
@@ -137,12 +157,15 @@ module _ (S : ℕ → SentAs → Type 0) (own : ℕ) where
     pub up : AnswerIsOf U p.answer
     pub fails : AnswerIsOf U p.failed
 
-  pub plan_true : {H F : Type 0} (W : RingWord → Type 0) (g : Given) (known : Known S W g own) (L : Granted → Type 0) (P : Eui → Key → Type 0) (E : Eui → Type 0) (m : Memory) (first : StationIsTrue S own m.station) (ends : Ends F) (U : H → Type 0)
-      (K : Memory → H → Type 0) (D : Draft Memory → H → Type 0) → ((k : Memory) (answer : H) → K k answer → StationIsTrue S own k.station × U answer) → ((d : Draft Memory) (answer : H) → D d answer → MadeIn W L P E g m d × U answer)
+  pub plan_true : {H F : Type 0} (W : RingWord → Type 0) (g : Given) (known : Known S W g own) (L : Granted → Type 0) (P : Eui → Key → Type 0)
+      (E : Eui → Type 0) (m : Memory) (first : StationIsTrue S own m.station) (ends : Ends F) (U : H → Type 0)
+      (K : Memory → H → Type 0) (D : Draft Memory → H → Type 0) → ((k : Memory) (answer : H) → K k answer → StationIsTrue S own k.station × U answer)
+      → ((d : Draft Memory) (answer : H) → D d answer → MadeIn W L P E g m d × U answer)
       → (p : Plan Memory (Result H F)) → Planned in_memory ends m K D p → PlanIsTrue U p
   unfolding resting
   plan_true W g known L P E m first ends U K D holds made p (Refuses reason) = record { station = first; frames = All-nil (SentIsOf S); up = tt; fails = tt }
-  plan_true W g known L P E m first ends U K D holds made p (Keeps k answer x) = let h = holds k answer x in record { station = h.0; frames = All-nil (SentIsOf S); up = h.1; fails = tt }
+  plan_true W g known L P E m first ends U K D holds made p (Keeps k answer x) =
+      let h = holds k answer x in record { station = h.0; frames = All-nil (SentIsOf S); up = h.1; fails = tt }
   plan_true W g known L P E m first ends U K D holds made p (Ended d answer done left) =
       let x = made d answer done in
       let r = made_in_true W g known L P E m d x.0 first in
@@ -184,11 +207,14 @@ pub record KeepsAddress (own : ℕ) (g : Given) (x : meters.Identity) (m : Memor
 pub record HearsTrue (S : ℕ → SentAs → Type 0) (g : Given) : Type 0 where
   pub comes : (by : ℕ) (u : MeshUnit) → IsCome g by false u → UnitIsOf S g.note u
 
-pub letter_true : (S : ℕ → SentAs → Type 0) (l : Letter) (fits : IsLetter l) → (UnitIsOf S l.note l.unit) → (from counter : ℕ) (got : Accepted) (is : IsOfLetter l from counter got) (cost now : ℕ) → HearsTrue S (heard_given got cost l.note now)
-letter_true S l fits is_of from counter got is cost now = record { comes = λ by u c. subst (UnitIsOf S l.note) (sym (comes_of l fits from counter got is cost l.note now by false u c).1) is_of }
+pub letter_true : (S : ℕ → SentAs → Type 0) (l : Letter) (fits : IsLetter l) → (UnitIsOf S l.note l.unit)
+    → (from counter : ℕ) (got : Accepted) (is : IsOfLetter l from counter got) (cost now : ℕ) → HearsTrue S (heard_given got cost l.note now)
+letter_true S l fits is_of from counter got is cost now =
+    record { comes = λ by u c. subst (UnitIsOf S l.note) (sym (comes_of l fits from counter got is cost l.note now by false u c).1) is_of }
 
 pub plain_true : (S : ℕ → SentAs → Type 0) (got : Accepted) (cost note now : ℕ) → IsPlain got.path → HearsTrue S (heard_given got cost note now)
-plain_true S got cost note now plain = record { comes = λ by u c. absurd (subst IsPlain (ap (λ (x : Accepted). x.path) (same_Some got c.got c.is) ∙ c.path) plain) }
+plain_true S got cost note now plain =
+    record { comes = λ by u c. absurd (subst IsPlain (ap (λ (x : Accepted). x.path) (same_Some got c.got c.is) ∙ c.path) plain) }
 
 module _ (S : ℕ → SentAs → Type 0) (one : OneSend S) (own : ℕ) (got : Accepted) (cost note now : ℕ) (hears : HearsTrue S (heard_given got cost note now)) where
   abbrev came : Given
@@ -209,24 +235,30 @@ module _ (S : ℕ → SentAs → Type 0) (one : OneSend S) (own : ℕ) (got : Ac
       no_install : (granted : Granted) → CoordinatorWord (Install granted) → granted.address ≡ own
       no_install granted c = elim c [ ]
 
-  station_true : (m : Memory) → StationIsTrue S own m.station → Agrees came m.station → {H : Type 0} (word : Heard → H) (U : H → Type 0) → ((h : Heard) → UpIsOf S own h → U (word h)) → (k : Memory) (answer : H) → HandedIn word came m k answer → StationIsTrue S own k.station × U answer
+  station_true : (m : Memory) → StationIsTrue S own m.station → Agrees came m.station → {H : Type 0} (word : Heard → H) (U : H → Type 0)
+      → ((h : Heard) → UpIsOf S own h → U (word h)) → (k : Memory) (answer : H) → HandedIn word came m k answer → StationIsTrue S own k.station × U answer
   station_true m first agrees word U says k answer (ByStation j h x) =
       let t = handed_of S one own came m.station j h hears.comes first.address agrees first.held x in
       let same = handed_station came m.station j h x in
       (record { address = λ a e. first.address a (sym same.1 ∙ e); bodies = rw same.0 first.bodies; held = t.held }, says h t.up)
 
-  pub meter_hears_true : (x : meters.Identity) (m : Memory) → KeepsAddress own came x m → StationIsTrue S own m.station → Agrees came m.station → PlanIsTrue S own (MeterUpIsOf S own) (meters.hear_meter x m got cost note now)
+  pub meter_hears_true : (x : meters.Identity) (m : Memory) → KeepsAddress own came x m → StationIsTrue S own m.station → Agrees came m.station
+      → PlanIsTrue S own (MeterUpIsOf S own) (meters.hear_meter x m got cost note now)
   meter_hears_true x m stays_at first agrees =
-      plan_true S own (RingCause came x m) came (meter_known x m stays_at) NoGrant NoPair NoEui m first dropped (MeterUpIsOf S own) (HandedIn meter_heard.Station came m) _
-      (station_true m first agrees meter_heard.Station (MeterUpIsOf S own) (λ h u. u)) (λ d answer h. (h.0, no_up answer h.2)) _ (meter_is NoGrant NoPair NoEui came x m got refl)
+      plan_true S own (RingCause came x m) came (meter_known x m stays_at) NoGrant NoPair NoEui m first dropped (MeterUpIsOf S own)
+      (HandedIn meter_heard.Station came m) _
+      (station_true m first agrees meter_heard.Station (MeterUpIsOf S own) (λ h u. u)) (λ d answer h. (h.0, no_up answer h.2)) _
+      (meter_is NoGrant NoPair NoEui came x m got refl)
     where
       no_up : (a : MeterHeard) → HandsNothingUp a → MeterUpIsOf S own a
       no_up (meter_heard.Station h) none = no_station S own h none
       no_up _ none = tt
 
-  pub coordinator_hears_true : (x : coordinators.CoordinatorIdentity) (m : Memory) → StationIsTrue S own m.station → Agrees came m.station → PlanIsTrue S own (CoordinatorUpIsOf S own) (coordinators.hear_coordinator x m got cost note now)
+  pub coordinator_hears_true : (x : coordinators.CoordinatorIdentity) (m : Memory) → StationIsTrue S own m.station → Agrees came m.station
+      → PlanIsTrue S own (CoordinatorUpIsOf S own) (coordinators.hear_coordinator x m got cost note now)
   coordinator_hears_true x m first agrees =
-      plan_true S own CoordinatorWord came coordinator_known (λ granted. coordinator.IsGranted m granted) AnyPair AnyEui m first dropped (CoordinatorUpIsOf S own) (HandedIn coordinator_heard.Station came m) _
+      plan_true S own CoordinatorWord came coordinator_known (λ granted. coordinator.IsGranted m granted) AnyPair AnyEui m first dropped
+      (CoordinatorUpIsOf S own) (HandedIn coordinator_heard.Station came m) _
       (station_true m first agrees coordinator_heard.Station (CoordinatorUpIsOf S own) (λ h u. u)) (λ d answer h. (h.0, no_up answer h.2)) _
       (coordinator.coordinator_is CoordinatorWord AnyPair AnyEui came x m (λ to there join said. Says to join) got refl (λ u join e read. tt))
     where
@@ -242,17 +274,21 @@ pub record DidTrue {H E : Type 0} (S : ℕ → SentAs → Type 0) (own : ℕ) (U
   pub frames : All (SentIsOf S) d.frames
   pub up : AnswerIsOf S own U d.answer
 
-pub acts_true : {H E : Type 0} (S : ℕ → SentAs → Type 0) (own : ℕ) (U : H → Type 0) (x : Node) (reason : E) (plan : Memory → Plan Memory (Result H E)) → IfSome x.memory (λ (m : Memory). StationIsTrue S own m.station)
+pub acts_true : {H E : Type 0} (S : ℕ → SentAs → Type 0) (own : ℕ) (U : H → Type 0) (x : Node) (reason : E) (plan : Memory → Plan Memory (Result H E))
+    → IfSome x.memory (λ (m : Memory). StationIsTrue S own m.station)
     → ((m : Memory) → x.memory ≡ Some m → StationIsTrue S own m.station → PlanIsTrue S own U (plan m)) → DidTrue S own U (acts x (Err reason) plan)
 unfolding acts
 acts_true {H = H} {E = E} S own U x reason plan ok f = by_memory x.memory refl ok
   where
     carried : (m : Memory) → PlanIsTrue S own U (plan m) → DidTrue S own U (left_by x (carry_out x.store.records x.store.cut (plan m)))
     carried m k = ⊎_elim
-        (λ (w : IsWhole x.store.records x.store.cut (plan m) (carry_out x.store.records x.store.cut (plan m))). record { station = rw w.memory k.station; frames = rw w.frames k.frames; up = rw w.answer k.up })
-        (λ (c : IsCutOff x.store.records x.store.cut (plan m) (carry_out x.store.records x.store.cut (plan m))). record { station = rw c.memory tt; frames = rw c.frames (All-nil (SentIsOf S)); up = rw c.answer k.fails })
+        (λ (w : IsWhole x.store.records x.store.cut (plan m) (carry_out x.store.records x.store.cut (plan m))).
+        record { station = rw w.memory k.station; frames = rw w.frames k.frames; up = rw w.answer k.up })
+        (λ (c : IsCutOff x.store.records x.store.cut (plan m) (carry_out x.store.records x.store.cut (plan m))).
+        record { station = rw c.memory tt; frames = rw c.frames (All-nil (SentIsOf S)); up = rw c.answer k.fails })
         (clean x.store.records x.store.cut (plan m))
 
-    by_memory : (o : Option Memory) → x.memory ≡ o → IfSome o (λ (m : Memory). StationIsTrue S own m.station) → DidTrue S own U (option_map_or (λ m. left_by x (carry_out x.store.records x.store.cut (plan m))) o (stays x (Err reason)))
+    by_memory : (o : Option Memory) → x.memory ≡ o → IfSome o (λ (m : Memory). StationIsTrue S own m.station)
+        → DidTrue S own U (option_map_or (λ m. left_by x (carry_out x.store.records x.store.cut (plan m))) o (stays x (Err reason)))
     by_memory None e h = record { station = ok; frames = All-nil (SentIsOf S); up = tt }
     by_memory (Some m) e h = carried m (f m e h)

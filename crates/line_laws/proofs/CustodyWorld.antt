@@ -1,5 +1,6 @@
 -- An event of one node keeps custody: what the node has more was a live flight's or is sent out anew.
-use Rattle.std.proofs.Common.{zero-le, ◌≡◌, ◌≢◌, ℕ, zero, suc, ◌+◌, ◌≤◌, ◌<◌, Bool, true, false, cond, List, [], ◌∷◌, ◌++◌, length, map, get_or, Option, Some, None, refl, sym, ap, ◌∙◌, arith}
+use Rattle.std.proofs.Common.{zero-le, ◌≡◌, ◌≢◌, ℕ, zero, suc, ◌+◌, ◌≤◌, ◌<◌, Bool, true, false, cond, List, [], ◌∷◌, ◌++◌, length, map, get_or, Option, Some}
+use Rattle.std.proofs.Common.{None, refl, sym, ap, ◌∙◌, arith}
 use Rattle.std.specs.Prelude.{slice_get, slice_set, All, AllPairs}
 use Rattle.std.specs.List.{sum_by}
 use Rattle.std.specs.Option.{option_map_or, option_and_then}
@@ -31,30 +32,38 @@ module _ (ciphers : Ciphers) (opens : OpensWhatItSeals ciphers) where
   -- the unit of a letter's flight is the letter's
   pub unit_back : (f : Flight) (key : Key) → f.key ≡ Some key → (s : SpellsLetter ciphers f key) → unit_of ciphers f ≡ Some s.letter.unit
   unit_back f key e s =
-      let came : Arrived = arrived_with ciphers (head_of s.letter) (header (head_of s.letter)) (ciphers.seals s.letter.key (head_of s.letter) (spelling s.letter.unit)) in
+      let came : Arrived = arrived_with ciphers (head_of s.letter) (header (head_of s.letter))
+      (ciphers.seals s.letter.key (head_of s.letter) (spelling s.letter.unit)) in
       ap (option_and_then (λ (k : Key). option_and_then (λ (a : Arrived). option_and_then unit_in (a.opened k)) (arrived ciphers f.octets))) e
-      ∙ ap (option_and_then (λ (a : Arrived). option_and_then unit_in (a.opened key))) (ap (arrived ciphers) s.octets ∙ letter_arrives ciphers opens s.letter s.fits)
+      ∙ ap (option_and_then (λ (a : Arrived). option_and_then unit_in (a.opened key)))
+      (ap (arrived ciphers) s.octets ∙ letter_arrives ciphers opens s.letter s.fits)
       ∙ ap (λ (k : Key). option_and_then unit_in (came.opened k)) (sym s.key_is)
       ∙ ap (option_and_then unit_in) (letter_opens ciphers opens s.letter s.fits)
       ∙ letter_unit ciphers opens s.letter s.fits
 
-  pub flight_weighs : (n i : ℕ) (f : Flight) (key : Key) → f.key ≡ Some key → (s : SpellsLetter ciphers f key) → flight_is ciphers n i f ≡ letter_is n i s.letter
+  pub flight_weighs : (n i : ℕ) (f : Flight) (key : Key) → f.key ≡ Some key → (s : SpellsLetter ciphers f key)
+      → flight_is ciphers n i f ≡ letter_is n i s.letter
   flight_weighs n i f key e s = (λ j. weigh n (s.note j) (option_map_or (content_is i) (unit_back f key e s j) 0))
 
   -- what a node sends flies with the same weight
   one_flies : (n i number : ℕ) (f : Sent) → IsSent f → flight_is ciphers n i (flight_by number (spelled ciphers f)) ≤ sent_is n i f
   unfolding spelled
   one_flies n i number (Sealed l) h =
-      let same = flight_weighs n i (flight_by number (spelled ciphers (Sealed l))) l.key refl (record { letter = l; fits = h; key_is = refl; octets = refl; note = refl }) in omega arith
+      let same = flight_weighs n i (flight_by number (spelled ciphers (Sealed l))) l.key refl
+      (record { letter = l; fits = h; key_is = refl; octets = refl; note = refl }) in omega arith
   one_flies n i number (Up agent from message) h = zero_weight n 0
   one_flies n i number (Down from message) h = zero_weight n 0
 
-  pub sent_flies : (n i number : ℕ) (frames : List Sent) → All IsSent frames → sum_by (flight_is ciphers n i) (map (λ frame. flight_by number (spelled ciphers frame)) frames) ≤ sum_by (sent_is n i) frames
+  pub sent_flies : (n i number : ℕ) (frames : List Sent) → All IsSent frames
+      → sum_by (flight_is ciphers n i) (map (λ frame. flight_by number (spelled ciphers frame)) frames) ≤ sum_by (sent_is n i) frames
   sent_flies n i number [] all = zero-le
   sent_flies n i number (f ∷ frames) all =
       let one = one_flies n i number f (All-head IsSent f frames all) in
       let rest = sent_flies n i number frames (All-tail IsSent f frames all) in
-      rw (sum_by-cons (flight_is ciphers n i) (flight_by number (spelled ciphers f)) (map (λ frame. flight_by number (spelled ciphers frame)) frames), sum_by-cons (sent_is n i) f frames) (omega arith)
+      rw (
+        sum_by-cons (flight_is ciphers n i) (flight_by number (spelled ciphers f)) (map (λ frame. flight_by number (spelled ciphers frame)) frames),
+        sum_by-cons (sent_is n i) f frames,
+      ) (omega arith)
 
 -- # Sums
 
@@ -70,7 +79,8 @@ set_sum f (z ∷ xs) (suc k) x y e =
     rw (sum_by-cons f z (slice_set xs k y), sum_by-cons f z xs) (omega arith)
 
 -- a sum falls by as much as one term
-sum_falls : {X : Type 0} (f g : X → ℕ) → ((x : X) → f x ≤ g x) → (xs : List X) (place : ℕ) (y : X) (k : ℕ) → slice_get xs place ≡ Some y → f y + k ≤ g y → sum_by f xs + k ≤ sum_by g xs
+sum_falls : {X : Type 0} (f g : X → ℕ) → ((x : X) → f x ≤ g x) → (xs : List X) (place : ℕ) (y : X) (k : ℕ) → slice_get xs place ≡ Some y → f y + k ≤ g y
+    → sum_by f xs + k ≤ sum_by g xs
 sum_falls f g le [] place y k e h = absurd (none-some y e)
 sum_falls f g le (x ∷ xs) zero y k e h =
     let same : x ≡ y = same_Some x y e in
@@ -105,34 +115,45 @@ opened_is ciphers n i flights None = 0
 opened_is ciphers n i flights (Some place) = option_map_or (flight_is ciphers n i) (slice_get flights place) 0
 
 module _ (ciphers : Ciphers) (live : World → Flight → Bool) (n i : ℕ) (w v : World) where
-  old_flights : (opened : Option ℕ) → LiveFalls live w v opened → sum_by (live_is ciphers (live v) n i) w.flights + opened_is ciphers n i w.flights opened ≤ sum_by (live_is ciphers (live w) n i) w.flights
+  old_flights : (opened : Option ℕ) → LiveFalls live w v opened
+      → sum_by (live_is ciphers (live v) n i) w.flights + opened_is ciphers n i w.flights opened ≤ sum_by (live_is ciphers (live w) n i) w.flights
   old_flights None falls =
-      let all = sum_by-le-sum_by (live_is ciphers (live v) n i) (live_is ciphers (live w) n i) w.flights (λ f. live_less (live v f) (live w f) (flight_is ciphers n i f) (falls.falls f)) in omega arith
+      let all = sum_by-le-sum_by (live_is ciphers (live v) n i) (live_is ciphers (live w) n i) w.flights
+      (λ f. live_less (live v f) (live w f) (flight_is ciphers n i f) (falls.falls f)) in omega arith
   old_flights (Some place) falls = by_flight (slice_get w.flights place) refl
     where
       less : (f : Flight) → live_is ciphers (live v) n i f ≤ live_is ciphers (live w) n i f
       less f = live_less (live v f) (live w f) (flight_is ciphers n i f) (falls.falls f)
 
-      by_flight : (o : Option Flight) → slice_get w.flights place ≡ o → sum_by (live_is ciphers (live v) n i) w.flights + option_map_or (flight_is ciphers n i) o 0 ≤ sum_by (live_is ciphers (live w) n i) w.flights
+      by_flight : (o : Option Flight) → slice_get w.flights place ≡ o
+          → sum_by (live_is ciphers (live v) n i) w.flights + option_map_or (flight_is ciphers n i) o 0 ≤ sum_by (live_is ciphers (live w) n i) w.flights
       by_flight None e = let all = sum_by-le-sum_by (live_is ciphers (live v) n i) (live_is ciphers (live w) n i) w.flights less in omega arith
       by_flight (Some f) e =
           let passed = falls.passes place f refl e in
-          sum_falls (live_is ciphers (live v) n i) (live_is ciphers (live w) n i) less w.flights place f (flight_is ciphers n i f) e (live_passed (live v f) (live w f) (flight_is ciphers n i f) passed.1 passed.0)
+          sum_falls (live_is ciphers (live v) n i) (live_is ciphers (live w) n i) less w.flights place f (flight_is ciphers n i f) e
+          (live_passed (live v f) (live w f) (flight_is ciphers n i f) passed.1 passed.0)
 
   -- What a node has and sends and hands up after an event was there before, was brought by the flight that was opened, or is sent out anew.
   pub record NodeKeeps (x y : Node) (new : List Flight) (ups : List Handed) (opened : Option ℕ) (anew : ℕ) : Type 0 where
-    pub kept : (node_keeps n i y.memory + sum_by (flight_is ciphers n i) new) + sum_by (handed_is n i) ups ≤ (node_keeps n i x.memory + opened_is ciphers n i w.flights opened) + anew
+    pub kept : (node_keeps n i y.memory + sum_by (flight_is ciphers n i) new) + sum_by (handed_is n i) ups
+        ≤ (node_keeps n i x.memory + opened_is ciphers n i w.flights opened) + anew
 
-  pub custody_after : (x y : Node) (new : List Flight) (before ups : List Handed) (opened : Option ℕ) (anew : ℕ) → OneNode w v x y new → LiveFalls live w v opened → NodeKeeps x y new ups opened anew
-      → issued n w.sends + anew ≤ issued n v.sends → places ciphers live n i w before ≤ issued n w.sends → places ciphers live n i v (before ++ ups) ≤ issued n v.sends
+  pub custody_after : (x y : Node) (new : List Flight) (before ups : List Handed) (opened : Option ℕ) (anew : ℕ) → OneNode w v x y new
+      → LiveFalls live w v opened → NodeKeeps x y new ups opened anew
+      → issued n w.sends + anew ≤ issued n v.sends → places ciphers live n i w before ≤ issued n w.sends
+      → places ciphers live n i v (before ++ ups) ≤ issued n v.sends
   custody_after x y new before ups opened anew step falls keeps more h =
-      let nodes : sum_by (λ (k : Node). node_keeps n i k.memory) v.nodes + node_keeps n i x.memory ≡ sum_by (λ (k : Node). node_keeps n i k.memory) w.nodes + node_keeps n i y.memory =
+      let nodes : sum_by (λ (k : Node). node_keeps n i k.memory) v.nodes + node_keeps n i x.memory
+      ≡ sum_by (λ (k : Node). node_keeps n i k.memory) w.nodes + node_keeps n i y.memory =
       rw step.nodes (set_sum (λ (k : Node). node_keeps n i k.memory) w.nodes step.number x y step.here) in
       let old = old_flights opened falls in
-      let newer : sum_by (live_is ciphers (live v) n i) new ≤ sum_by (flight_is ciphers n i) new = sum_by-le-sum_by (live_is ciphers (live v) n i) (flight_is ciphers n i) new (λ f. if_live (live v f) (flight_is ciphers n i f)) in
-      let flights : sum_by (live_is ciphers (live v) n i) v.flights ≡ sum_by (live_is ciphers (live v) n i) w.flights + sum_by (live_is ciphers (live v) n i) new =
+      let newer : sum_by (live_is ciphers (live v) n i) new ≤ sum_by (flight_is ciphers n i) new = sum_by-le-sum_by (live_is ciphers (live v) n i)
+      (flight_is ciphers n i) new (λ f. if_live (live v f) (flight_is ciphers n i f)) in
+      let flights : sum_by (live_is ciphers (live v) n i) v.flights
+      ≡ sum_by (live_is ciphers (live v) n i) w.flights + sum_by (live_is ciphers (live v) n i) new =
       ap (sum_by (live_is ciphers (live v) n i)) step.flights ∙ sum_by-append (live_is ciphers (live v) n i) w.flights new in
-      let handed : sum_by (handed_is n i) (before ++ ups) ≡ sum_by (handed_is n i) before + sum_by (handed_is n i) ups = sum_by-append (handed_is n i) before ups in
+      let handed : sum_by (handed_is n i) (before ++ ups)
+      ≡ sum_by (handed_is n i) before + sum_by (handed_is n i) ups = sum_by-append (handed_is n i) before ups in
       let k = keeps.kept in
       omega arith
 
@@ -155,7 +176,8 @@ two_terms f (x ∷ xs) (suc i) (suc j) d h k =
     rw (sum_by-cons f x xs) (omega arith)
 
 -- two ups that are not empty have different notes
-pub ups_differ : (ciphers : Ciphers) (live : World → Flight → Bool) (w : World) (ups : List Handed) → IsInCustody ciphers live w ups → All (λ (u : Handed). (0 < u.note) × (0 < length u.octets)) ups
+pub ups_differ : (ciphers : Ciphers) (live : World → Flight → Bool) (w : World) (ups : List Handed) → IsInCustody ciphers live w ups
+    → All (λ (u : Handed). (0 < u.note) × (0 < length u.octets)) ups
     → AllPairs (λ (u v : Handed). u.note ≢ v.note) ups
 ups_differ ciphers live w ups custody some i j d h k same =
     let u : Handed = get_or ups i d in

@@ -1,5 +1,6 @@
 -- What flies is a frame, and its sender is the node that sent it.
-use Rattle.std.proofs.Common.{◌≡◌, ℕ, ◌+◌, ◌-◌, ◌<◌, Bool, true, false, List, [], ◌∷◌, ◌++◌, length, map, drop, Option, Some, None, Result, Ok, Err, refl, sym, ap, ◌∙◌, subst, append-nil, arith}
+use Rattle.std.proofs.Common.{◌≡◌, ℕ, ◌+◌, ◌-◌, ◌<◌, Bool, true, false, List, [], ◌∷◌, ◌++◌, length, map, drop, Option, Some, None, Result, Ok, Err, refl, sym}
+use Rattle.std.proofs.Common.{ap, ◌∙◌, subst, append-nil, arith}
 use Rattle.std.specs.Prelude.{◌==◌, All, IfSome, if◌then◌else◌, slice_get, slice_set}
 use Rattle.std.specs.Option.{option_map, option_and_then}
 use Rattle.std.proofs.Math.Seq.{drop-append_seam, drop-length}
@@ -36,7 +37,8 @@ use Rattle.line_rules.specs.Forgery.{Comes, OfFlight, OfScript, accepting}
 use Rattle.line_rules.specs.Worlds.{World, Flight, node_at, flight_at}
 use Rattle.line_rules.specs.SafeRuns.{HasAddress}
 use Rattle.line_rules.specs.Nonces.{NonceParts, IsSpelled, HasSender}
-use Rattle.line_rules.specs.Steps.{Step, set_up, ran, told, made_node, ticked, flights_of, flight_by, acted, sending, sent_if, is_taken, tag_of, hears, offered_near, heard, note_by, identity, restarts}
+use Rattle.line_rules.specs.Steps.{Step, set_up, ran, told, made_node, ticked, flights_of, flight_by, acted, sending, sent_if, is_taken, tag_of, hears}
+use Rattle.line_rules.specs.Steps.{offered_near, heard, note_by, identity, restarts}
 use Rattle.line_laws.specs.Stores.{IsReadable, IsKept}
 use Rattle.line_laws.specs.Owed.{AreOctets, KeepsRanges}
 use Rattle.line_laws.proofs.Keeping.{Left}
@@ -52,16 +54,21 @@ use Rattle.line_laws.proofs.HeadsSaid.{spelled_well, sealed_sender_is, up_nonce,
 use Rattle.line_laws.proofs.Worlds.{NodeFits, FlightFits, WorldOk, within as place_within, at_place}
 use Rattle.line_laws.proofs.StepsOk.{coordinator_acts, hears_ok}
 use Rattle.line_laws.proofs.Quiet.{acts_quiet, counter_quiet, number_quiet, near_quiet, install_quiet, allow_quiet, depot_quiet, accept_quiet}
-use Rattle.line_laws.proofs.Tellings.{IsCall, Gives, Joins, Leaves, Sends, Breaks, Nears, Counts, Numbers, Accepts, Provisions, Depots, Allows, Rekeys, Turns, Challenges, Activates, Kicks, preset_call, IsStep, Fails, Makes, Rests, Shows, Acts, BreaksLink, SendsFrom, AllowsMeter, Sets, SetsTwo, Provides, TurnsDown, Hears, Loses, Ticks, Restarts, Cuts}
+use Rattle.line_laws.proofs.Tellings.{IsCall, Gives, Joins, Leaves, Sends, Breaks, Nears, Counts, Numbers, Accepts, Provisions, Depots, Allows, Rekeys, Turns}
+use Rattle.line_laws.proofs.Tellings.{Challenges, Activates, Kicks, preset_call, IsStep, Fails, Makes, Rests, Shows, Acts, BreaksLink, SendsFrom, AllowsMeter}
+use Rattle.line_laws.proofs.Tellings.{Sets, SetsTwo, Provides, TurnsDown, Hears, Loses, Ticks, Restarts, Cuts}
 
 -- # What holds of every frame that is sent holds of every flight
 
-module _ (ciphers : Ciphers) (P : Flight → Type 0) (sent : (number : ℕ) (f : Sent) → P (flight_by number (spelled ciphers f))) (lost : (f : Flight) → P f → P (record f { lost = true })) where
+module _ (ciphers : Ciphers) (P : Flight → Type 0) (sent : (number : ℕ) (f : Sent) → P (flight_by number (spelled ciphers f)))
+    (lost : (f : Flight) → P f → P (record f { lost = true })) where
   pub told_all : {A : Type 0} (u : World) (number : ℕ) (d : NodeStep A) → All P u.flights → All P (told ciphers u number d).flights
   unfolding told
-  told_all u number d all = All-append P u.flights (flights_of ciphers number d) all (All-map P (λ frame. flight_by number (spelled ciphers frame)) d.frames (λ k e lt. sent number _))
+  told_all u number d all = All-append P u.flights (flights_of ciphers number d) all
+      (All-map P (λ frame. flight_by number (spelled ciphers frame)) d.frames (λ k e lt. sent number _))
 
-  sending_all : (w : World) (from to : ℕ) (datagram : List ℕ) (tag : ℕ) (d : NodeStep Answer) → All P w.flights → All P (sending ciphers w from to datagram tag d).0.flights
+  sending_all : (w : World) (from to : ℕ) (datagram : List ℕ) (tag : ℕ) (d : NodeStep Answer) → All P w.flights
+      → All P (sending ciphers w from to datagram tag d).0.flights
   sending_all w from to datagram tag d all = by_taken (is_taken d.answer) (told_all (ran w) from d all)
     where
       by_taken : (b : Bool) → All P (told ciphers (ran w) from d).flights → All P (sent_if w from to datagram tag b (acted ciphers w from d)).0.flights
@@ -93,7 +100,8 @@ module _ (ciphers : Ciphers) (P : Flight → Type 0) (sent : (number : ℕ) (f :
   every_flight w event s (Provides number x c psk g d ne open_is hx hc pair same is) all = told_all _ number _ (told_all (set_up w) 0 _ all)
   every_flight w event s (TurnsDown e number x octets reason d there says comes same is) all = told_all (ran w) number _ all
   every_flight w event s (Hears e number x octets cost got there says comes low is) all = told_all (ran w) number _ all
-  every_flight w event s (Loses number f there) all = All-set P w.flights (number - 1) (record f { lost = true }) (lost f (at_place P w.flights (number - 1) f (flight_is w number f there) all)) all
+  every_flight w event s (Loses number f there) all =
+      All-set P w.flights (number - 1) (record f { lost = true }) (lost f (at_place P w.flights (number - 1) f (flight_is w number f there) all)) all
   every_flight w event s (Ticks seconds) all = all
   every_flight w event s (Restarts number x there) all = told_all (ran w) number _ all
   every_flight w event s (Cuts number nth keeps_new x there) all = told_all (ran w) number _ all
@@ -102,7 +110,8 @@ pub lost_spelled : (ciphers : Ciphers) (f : Flight) → IsSpelled ciphers f → 
 lost_spelled ciphers f h = record { sealed = h.sealed; plain = h.plain }
 
 -- every flight is what its key says
-pub spelled_step : (ciphers : Ciphers) (w : World) (event : Event) (s : Step) → IsStep ciphers w event s → All (IsSpelled ciphers) w.flights → AllOf ciphers (IsSpelled ciphers) (spelled_well ciphers) (lost_spelled ciphers) s
+pub spelled_step : (ciphers : Ciphers) (w : World) (event : Event) (s : Step) → IsStep ciphers w event s → All (IsSpelled ciphers) w.flights
+    → AllOf ciphers (IsSpelled ciphers) (spelled_well ciphers) (lost_spelled ciphers) s
 spelled_step ciphers w event s is all = every_flight ciphers (IsSpelled ciphers) (spelled_well ciphers) (lost_spelled ciphers) w event s is all
 
 -- # Who sent a flight
@@ -133,11 +142,13 @@ module _ (ciphers : Ciphers) (v : World) (number : ℕ) (y : Node) (there : node
   one_sender : (f : Sent) → IsFrom (node_address y) f → ((a : ℕ) → node_address y ≡ Some a → a < 0xFFFE) → HasSender v (flight_by number (spelled ciphers f))
   one_sender (Sealed l) h low =
       let small : l.from < 0xFFFE = low l.from h in
-      if_parts _ (λ p. p.from ≡ l.from) (λ p. HasAddress v number p.from) (λ p e. has_address v number y p.from there (h ∙ ap Some (sym e))) (sealed_sender_is ciphers l (omega arith))
+      if_parts _ (λ p. p.from ≡ l.from) (λ p. HasAddress v number p.from) (λ p e. has_address v number y p.from there (h ∙ ap Some (sym e)))
+      (sealed_sender_is ciphers l (omega arith))
   one_sender (Up agent from message) h low = subst (λ o. IfSome o (λ p. HasAddress v number p.from)) (sym (up_nonce ciphers agent from message)) tt
   one_sender (Down from message) h low = subst (λ o. IfSome o (λ p. HasAddress v number p.from)) (sym (down_nonce ciphers from message)) tt
 
-  pub all_senders : (fs : List Sent) → AreFrom (node_address y) fs → ((a : ℕ) → node_address y ≡ Some a → a < 0xFFFE) → All (HasSender v) (map (λ frame. flight_by number (spelled ciphers frame)) fs)
+  pub all_senders : (fs : List Sent) → AreFrom (node_address y) fs → ((a : ℕ) → node_address y ≡ Some a → a < 0xFFFE)
+      → All (HasSender v) (map (λ frame. flight_by number (spelled ciphers frame)) fs)
   all_senders [] h low = All-nil (HasSender v)
   all_senders (f ∷ fs) h low = All-cons (HasSender v) _ _ (one_sender f h.0 low) (all_senders fs h.1 low)
 
@@ -150,14 +161,17 @@ none_new w v e = subst (λ n. All (HasSender v) (drop n v.flights)) e (subst (Al
 
 module _ (ciphers : Ciphers) where
   -- one node told what it did
-  pub told_senders : {A : Type 0} (w u v : World) (number : ℕ) (x : Node) (d : NodeStep A) → u.flights ≡ w.flights → u.nodes ≡ w.nodes → v.nodes ≡ (told ciphers u number d).nodes → v.flights ≡ (told ciphers u number d).flights → node_at w number ≡ Some x
+  pub told_senders : {A : Type 0} (w u v : World) (number : ℕ) (x : Node) (d : NodeStep A) → u.flights ≡ w.flights → u.nodes ≡ w.nodes
+      → v.nodes ≡ (told ciphers u number d).nodes → v.flights ≡ (told ciphers u number d).flights → node_at w number ≡ Some x
       → AreFrom (node_address d.node) d.frames → ((a : ℕ) → node_address d.node ≡ Some a → a < 0xFFFE) → NewSenders w v
   unfolding told
   told_senders w u v number x d fs ns vn vf there from low =
-      let here : node_at v number ≡ Some d.node = ap (λ nodes. slice_get nodes number) (vn ∙ ap (λ nodes. slice_set nodes number d.node) ns) ∙ slice_get-set w.nodes number d.node (place_within w.nodes number x there) in
+      let here : node_at v number ≡ Some d.node = ap (λ nodes. slice_get nodes number) (vn ∙ ap (λ nodes. slice_set nodes number d.node) ns)
+      ∙ slice_get-set w.nodes number d.node (place_within w.nodes number x there) in
       let all = all_senders ciphers v number d.node here d.frames from low in
       let flights : v.flights ≡ w.flights ++ flights_of ciphers number d = vf ∙ ap (λ xs. xs ++ flights_of ciphers number d) fs in
-      subst (λ xs. All (HasSender v) (drop (length w.flights) xs)) (sym flights) (subst (All (HasSender v)) (sym (drop-append_seam w.flights (flights_of ciphers number d))) all)
+      subst (λ xs. All (HasSender v) (drop (length w.flights) xs)) (sym flights)
+      (subst (All (HasSender v)) (sym (drop-append_seam w.flights (flights_of ciphers number d))) all)
 
   -- nothing was sent
   pub told_silent : {A : Type 0} (u : World) (number : ℕ) (d : NodeStep A) → d.frames ≡ [] → (told ciphers u number d).flights ≡ u.flights
@@ -191,32 +205,47 @@ module _ (ciphers : Ciphers) (fits : KeepsRanges ciphers) (w : World) (ok : Worl
           by_number false e = e
   came_octets event number octets says (OfScript n cost o) = says.2.2
 
-  order_sent : {A : Type 0} (number : ℕ) (x : Node) (plan : Memory → Plan Memory (Result A _)) → number ≡ 0 → node_at w number ≡ Some x → ((m : Memory) → IsMemorySized m → PlanOk Coordinator m (plan m)) → IsSentFrom (acts x (Err orders.Halted) plan)
-  order_sent number x plan first there f = speaks x _ (coordinator_acts x (Err orders.Halted) plan (ok.first x (ap (slice_get w.nodes) (sym first) ∙ there)) (good_at number x there) f)
+  order_sent : {A : Type 0} (number : ℕ) (x : Node) (plan : Memory → Plan Memory (Result A _)) → number ≡ 0 → node_at w number ≡ Some x
+      → ((m : Memory) → IsMemorySized m → PlanOk Coordinator m (plan m)) → IsSentFrom (acts x (Err orders.Halted) plan)
+  order_sent number x plan first there f =
+      speaks x _ (coordinator_acts x (Err orders.Halted) plan (ok.first x (ap (slice_get w.nodes) (sym first) ∙ there)) (good_at number x there) f)
 
   abbrev own_of : Node → coordinator_rules.CoordinatorIdentity
   own_of c = record { eui = c.eui; ciphers = ciphers }
 
-  call_sent : (number : ℕ) (x : Node) (A : Type 0) (halted : A) (plan : Memory → Plan Memory A) → node_at w number ≡ Some x → IsCall ciphers w number x A halted plan → IsSentFrom (acts x halted plan)
-  call_sent number x A halted plan there (Gives value are) = speaks x _ (acts_ok x _ _ (good_at number x there) (λ m here kept sized. random_ok x.role m sized value))
-  call_sent number x A halted plan there (Joins psk a ne pair other) = speaks x _ (acts_ok x _ _ (good_at number x there) (λ m here kept sized. join_ok x.role m sized ciphers fits (identity ciphers x psk) refl a w.clock))
-  call_sent number x A halted plan there (Leaves ne) = speaks x _ (acts_ok x _ _ (good_at number x there) (λ m here kept sized. leave_ok x.role m sized ciphers fits (identity ciphers x (record { 0 = [] })) refl))
-  call_sent number x A halted plan there (Sends a datagram other are) = speaks x _ (acts_ok x _ _ (good_at number x there) (λ m here kept sized. send_ok x.role m sized a datagram (w.sends + 1) w.clock))
-  call_sent number x A halted plan there (Breaks a other) = speaks x _ (acts_ok x _ _ (good_at number x there) (λ m here kept sized. broke_ok x.role m sized a said.Broken))
+  call_sent : (number : ℕ) (x : Node) (A : Type 0) (halted : A) (plan : Memory → Plan Memory A) → node_at w number ≡ Some x
+      → IsCall ciphers w number x A halted plan → IsSentFrom (acts x halted plan)
+  call_sent number x A halted plan there (Gives value are) =
+      speaks x _ (acts_ok x _ _ (good_at number x there) (λ m here kept sized. random_ok x.role m sized value))
+  call_sent number x A halted plan there (Joins psk a ne pair other) =
+      speaks x _ (acts_ok x _ _ (good_at number x there) (λ m here kept sized. join_ok x.role m sized ciphers fits (identity ciphers x psk) refl a w.clock))
+  call_sent number x A halted plan there (Leaves ne) = speaks x _
+      (acts_ok x _ _ (good_at number x there) (λ m here kept sized. leave_ok x.role m sized ciphers fits (identity ciphers x (record { 0 = [] })) refl))
+  call_sent number x A halted plan there (Sends a datagram other are) =
+      speaks x _ (acts_ok x _ _ (good_at number x there) (λ m here kept sized. send_ok x.role m sized a datagram (w.sends + 1) w.clock))
+  call_sent number x A halted plan there (Breaks a other) =
+      speaks x _ (acts_ok x _ _ (good_at number x there) (λ m here kept sized. broke_ok x.role m sized a said.Broken))
   call_sent number x A halted plan there (Nears a cost open_is other low) = Silent (acts_quiet x _ _ (λ m. near_quiet m.station a cost w.clock))
   call_sent number x A halted plan there (Counts value open_is low) = Silent (acts_quiet x _ _ (λ m. counter_quiet m.station value))
   call_sent number x A halted plan there (Numbers value open_is some low) = Silent (acts_quiet x _ _ (λ m. number_quiet m.station value))
-  call_sent number x A halted plan there (Accepts octets event says comes) = Silent (acts_quiet x _ _ (λ m. accept_quiet m.station _ _ (accept_is m.station x.eui (arrived ciphers octets))))
+  call_sent number x A halted plan there (Accepts octets event says comes) =
+      Silent (acts_quiet x _ _ (λ m. accept_quiet m.station _ _ (accept_is m.station x.eui (arrived ciphers octets))))
   call_sent number x A halted plan there (Provisions psk c g ne pair at is) = Silent (acts_quiet x _ _ (λ m. install_quiet m.station g))
   call_sent number x A halted plan there (Depots meter y psk first open_is at pair) = Silent (acts_quiet x _ _ (λ m. depot_quiet m y.eui psk))
   call_sent number x A halted plan there (Allows meter y psk first at pair) = Silent (acts_quiet x _ _ (λ m. allow_quiet m y.eui psk))
-  call_sent number x A halted plan there (Rekeys index key first low long) = order_sent number x _ first there (λ m sized. rekey_ok ciphers fits (own_of x) m sized index key (held key long.0 long.1))
-  call_sent number x A halted plan there (Turns index first low) = order_sent number x _ first there (λ m sized. activate_self_ok ciphers fits (own_of x) m sized index low)
-  call_sent number x A halted plan there (Challenges meter y first at) = order_sent number x _ first there (λ m sized. challenge_ok ciphers fits (own_of x) m sized y.eui w.clock (given_at meter y at.there).eui)
-  call_sent number x A halted plan there (Activates meter y index first at low) = order_sent number x _ first there (λ m sized. activate_ok ciphers fits (own_of x) m sized y.eui index w.clock)
-  call_sent number x A halted plan there (Kicks meter y first at) = order_sent number x _ first there (λ m sized. kick_ok ciphers fits (own_of x) m sized y.eui (given_at meter y at.there).eui)
+  call_sent number x A halted plan there (Rekeys index key first low long) =
+      order_sent number x _ first there (λ m sized. rekey_ok ciphers fits (own_of x) m sized index key (held key long.0 long.1))
+  call_sent number x A halted plan there (Turns index first low) =
+      order_sent number x _ first there (λ m sized. activate_self_ok ciphers fits (own_of x) m sized index low)
+  call_sent number x A halted plan there (Challenges meter y first at) =
+      order_sent number x _ first there (λ m sized. challenge_ok ciphers fits (own_of x) m sized y.eui w.clock (given_at meter y at.there).eui)
+  call_sent number x A halted plan there (Activates meter y index first at low) =
+      order_sent number x _ first there (λ m sized. activate_ok ciphers fits (own_of x) m sized y.eui index w.clock)
+  call_sent number x A halted plan there (Kicks meter y first at) =
+      order_sent number x _ first there (λ m sized. kick_ok ciphers fits (own_of x) m sized y.eui (given_at meter y at.there).eui)
 
-  pub one_told : {A : Type 0} (u v : World) (number : ℕ) (x : Node) (d : NodeStep A) → u.flights ≡ w.flights → u.nodes ≡ w.nodes → v.nodes ≡ (told ciphers u number d).nodes → v.flights ≡ (told ciphers u number d).flights → node_at w number ≡ Some x → IsSentFrom d → NewSenders w v
+  pub one_told : {A : Type 0} (u v : World) (number : ℕ) (x : Node) (d : NodeStep A) → u.flights ≡ w.flights → u.nodes ≡ w.nodes
+      → v.nodes ≡ (told ciphers u number d).nodes → v.flights ≡ (told ciphers u number d).flights → node_at w number ≡ Some x → IsSentFrom d → NewSenders w v
   one_told u v number x d fs ns vn vf there (Silent none) = none_new w v (ap length (vf ∙ told_silent ciphers u number d none ∙ fs))
   one_told u v number x d fs ns vn vf there (Speaks from low) = told_senders ciphers w u v number x d fs ns vn vf there from low
 
@@ -224,26 +253,33 @@ module _ (ciphers : Ciphers) (fits : KeepsRanges ciphers) (w : World) (ok : Worl
   SendersIn (Ok r) = NewSenders w r.0
   SendersIn (Err fault) = Unit {0}
 
-  sending_senders : (from to : ℕ) (datagram : List ℕ) (x : Node) (d : NodeStep Answer) → node_at w from ≡ Some x → IsSentFrom d → NewSenders w (sending ciphers w from to datagram (tag_of x) d).0
-  sending_senders from to datagram x d there sent = by_taken (is_taken d.answer) (one_told (ran w) (told ciphers (ran w) from d) from x d refl refl refl refl there sent)
+  sending_senders : (from to : ℕ) (datagram : List ℕ) (x : Node) (d : NodeStep Answer) → node_at w from ≡ Some x → IsSentFrom d
+      → NewSenders w (sending ciphers w from to datagram (tag_of x) d).0
+  sending_senders from to datagram x d there sent =
+      by_taken (is_taken d.answer) (one_told (ran w) (told ciphers (ran w) from d) from x d refl refl refl refl there sent)
     where
       by_taken : (b : Bool) → NewSenders w (told ciphers (ran w) from d) → NewSenders w (sent_if w from to datagram (tag_of x) b (acted ciphers w from d)).0
       by_taken true k = k
       by_taken false k = k
 
-  heard_senders : (event : Event) (number : ℕ) (x : Node) (octets : List ℕ) (cost : ℕ) (got : Accepted) → node_at w number ≡ Some x → IsEvent event → Comes w event number octets → (accepting ciphers x octets).answer ≡ Ok got
+  heard_senders : (event : Event) (number : ℕ) (x : Node) (octets : List ℕ) (cost : ℕ) (got : Accepted) → node_at w number ≡ Some x → IsEvent event
+      → Comes w event number octets → (accepting ciphers x octets).answer ≡ Ok got
       → NewSenders w (heard ciphers w number (accepting ciphers x octets).node octets got cost).0
   heard_senders event number x octets cost got there says comes is =
       let are = came_octets event number octets says comes in
       let plan : Memory → Plan Memory (Result Accepted FrameRefusal) = λ m. of_station m (accept m.station x.eui (arrived ciphers octets)) in
       let did = acts_ok x (Err frames.Halted) plan (good_at number x there) (λ m here kept sized. accept_ok ciphers fits octets are x.role m x.eui sized) in
-      let a = acts_answered x frames.Halted frames.Store plan (λ m. accept_failed ciphers fits octets are m.station _ (accept_is m.station x.eui (arrived ciphers octets))) got is in
-      let routes = accepted_routes ciphers fits octets are a.memory.station (ring_readable x a.memory (good_at number x there) a.there) _ got (accept_is a.memory.station x.eui (arrived ciphers octets)) a.is in
+      let a = acts_answered x frames.Halted frames.Store plan
+      (λ m. accept_failed ciphers fits octets are m.station _ (accept_is m.station x.eui (arrived ciphers octets))) got is in
+      let routes = accepted_routes ciphers fits octets are a.memory.station (ring_readable x a.memory (good_at number x there) a.there) _ got
+      (accept_is a.memory.station x.eui (arrived ciphers octets)) a.is in
       let y = (accepting ciphers x octets).node in
       let d = hears ciphers y got cost (note_by w octets got.path) w.clock in
-      one_told (ran w) (heard ciphers w number y octets got cost).0 number x d refl refl refl refl there (speaks y d (hears_ok ciphers fits w ok flown y got cost (note_by w octets got.path) w.clock did.node routes))
+      one_told (ran w) (heard ciphers w number y octets got cost).0 number x d refl refl refl refl there
+      (speaks y d (hears_ok ciphers fits w ok flown y got cost (note_by w octets got.path) w.clock did.node routes))
 
-  told_one : {A : Type 0} (u : World) (number : ℕ) (x : Node) (d : NodeStep A) → u.flights ≡ w.flights → u.nodes ≡ w.nodes → node_at w number ≡ Some x → IsSentFrom d → NewSenders w (told ciphers u number d)
+  told_one : {A : Type 0} (u : World) (number : ℕ) (x : Node) (d : NodeStep A) → u.flights ≡ w.flights → u.nodes ≡ w.nodes → node_at w number ≡ Some x
+      → IsSentFrom d → NewSenders w (told ciphers u number d)
   told_one u number x d fs ns there sent = one_told u (told ciphers u number d) number x d fs ns refl refl there sent
 
   answered : {A B : Type 0} (reads : A → B) (d : NodeStep A) → IsSentFrom d → IsSentFrom (answering reads d)
@@ -255,34 +291,45 @@ module _ (ciphers : Ciphers) (fits : KeepsRanges ciphers) (w : World) (ok : Worl
   senders event s (Makes e x is) = none_new w (made_node w x).0 refl
   senders event s (Rests e quiet) = none_new w (ran w) refl
   senders event s (Shows number x) = none_new w (ran w) refl
-  senders event s (Acts e number x A halted plan reads there call word asked) = told_one (ran w) number x (answering reads (acts x halted plan)) refl refl there (answered reads (acts x halted plan) (call_sent number x A halted plan there call))
+  senders event s (Acts e number x A halted plan reads there call word asked) = told_one (ran w) number x (answering reads (acts x halted plan)) refl refl there
+      (answered reads (acts x halted plan) (call_sent number x A halted plan there call))
   senders event s (BreaksLink number next x a there call) =
       let plan : Memory → Plan Memory Answer = λ m. changing said.Broken (with_station (calls.broke a m.station) m) in
       told_one (ran w) number x (acts x said.Halted plan) refl refl there (call_sent number x Answer said.Halted plan there call)
   senders event s (SendsFrom from to datagram x a there call target) =
       let plan : Memory → Plan Memory (Result SentHow SendRefusal) = λ m. of_station m (calls.send m.station a datagram (w.sends + 1) w.clock) in
-      sending_senders from to datagram x (answering sent_word (acts x (Err sends.Halted) plan)) there (answered sent_word (acts x (Err sends.Halted) plan) (call_sent from x _ (Err sends.Halted) plan there call))
+      sending_senders from to datagram x (answering sent_word (acts x (Err sends.Halted) plan)) there
+      (answered sent_word (acts x (Err sends.Halted) plan) (call_sent from x _ (Err sends.Halted) plan there call))
   senders event s (AllowsMeter number y c psk there call meter) =
       let plan : Memory → Plan Memory (Result ℕ CoordinatorRefusal) = λ m. coordinator_rules.allow m y.eui psk in
       told_one (ran w) 0 c (acts c (Err orders.Halted) plan) refl refl there (call_sent 0 c _ (Err orders.Halted) plan there call)
   senders event s (Sets e quiet number x plan there open_is is) =
-      told_one (set_up w) number x (acts x (Ok tt) (λ m. of_station m (plan m.station))) refl refl there (call_sent number x _ (Ok tt) (λ m. of_station m (plan m.station)) there (preset_call ciphers w number x plan open_is is))
+      told_one (set_up w) number x (acts x (Ok tt) (λ m. of_station m (plan m.station))) refl refl there
+      (call_sent number x _ (Ok tt) (λ m. of_station m (plan m.station)) there (preset_call ciphers w number x plan open_is is))
   senders event s (SetsTwo e quiet a b cost x y p q hx hy apart open_is first second fresh near) =
       let u = told ciphers (set_up w) a (offered_near x q cost w.clock) in
-      none_new w (told ciphers u b (offered_near y p cost w.clock)) (ap length (told_silent ciphers u b (offered_near y p cost w.clock) (near_frames y p) ∙ told_silent ciphers (set_up w) a (offered_near x q cost w.clock) (near_frames x q)))
+      none_new w (told ciphers u b (offered_near y p cost w.clock))
+      (ap length (told_silent ciphers u b (offered_near y p cost w.clock) (near_frames y p)
+      ∙ told_silent ciphers (set_up w) a (offered_near x q cost w.clock) (near_frames x q)))
     where
       near_frames : (z : Node) (to : ℕ) → (offered_near z to cost w.clock).frames ≡ []
       near_frames z to = acts_quiet z (Ok tt) (λ m. of_station m (calls.preset_near m.station to cost w.clock)) (λ m. near_quiet m.station to cost w.clock)
   senders event s (Provides number x c psk g d ne open_is hx hc pair same is) =
-      let quiet : d.frames ≡ [] = ap (λ (z : NodeStep (Result Granted CoordinatorRefusal)). z.frames) same ∙ acts_quiet c (Err orders.Halted) (λ m. coordinator_rules.depot m x.eui psk) (λ m. depot_quiet m x.eui psk) in
+      let quiet : d.frames ≡ [] = ap (λ (z : NodeStep (Result Granted CoordinatorRefusal)). z.frames) same
+      ∙ acts_quiet c (Err orders.Halted) (λ m. coordinator_rules.depot m x.eui psk) (λ m. depot_quiet m x.eui psk) in
       let u = told ciphers (set_up w) 0 d in
       let k = acts x (Ok tt) (λ m. meters.provision m g) in
-      none_new w (told ciphers u number k) (ap length (told_silent ciphers u number k (acts_quiet x (Ok tt) (λ m. meters.provision m g) (λ m. install_quiet m.station g)) ∙ told_silent ciphers (set_up w) 0 d quiet))
+      none_new w (told ciphers u number k) (ap length (told_silent ciphers u number k
+      (acts_quiet x (Ok tt) (λ m. meters.provision m g) (λ m. install_quiet m.station g)) ∙ told_silent ciphers (set_up w) 0 d quiet))
   senders event s (TurnsDown e number x octets reason d there says comes same is) =
-      let quiet : d.frames ≡ [] = ap (λ (z : NodeStep (Result Accepted FrameRefusal)). z.frames) same ∙ acts_quiet x (Err frames.Halted) (λ m. of_station m (accept m.station x.eui (arrived ciphers octets))) (λ m. accept_quiet m.station _ _ (accept_is m.station x.eui (arrived ciphers octets))) in
+      let quiet : d.frames ≡ [] = ap (λ (z : NodeStep (Result Accepted FrameRefusal)). z.frames) same
+      ∙ acts_quiet x (Err frames.Halted) (λ m. of_station m (accept m.station x.eui (arrived ciphers octets)))
+      (λ m. accept_quiet m.station _ _ (accept_is m.station x.eui (arrived ciphers octets))) in
       none_new w (told ciphers (ran w) number d) (ap length (told_silent ciphers (ran w) number d quiet))
   senders event s (Hears e number x octets cost got there says comes low is) = heard_senders event number x octets cost got there says comes is
-  senders event s (Loses number f there) = none_new w (record (ran w) { flights = slice_set w.flights (number - 1) (record f { lost = true }) }) (length-set w.flights (number - 1) (record f { lost = true }))
+  senders event s (Loses number f there) = none_new w (record (ran w) { flights = slice_set w.flights (number - 1) (record f { lost = true }) })
+      (length-set w.flights (number - 1) (record f { lost = true }))
   senders event s (Ticks seconds) = none_new w (record (ran w) { clock = w.clock + seconds; nodes = map (ticked (w.clock + seconds)) w.nodes }) refl
   senders event s (Restarts number x there) = told_one (ran w) number x (restarts x) refl refl there (Silent refl)
-  senders event s (Cuts number nth keeps_new x there) = told_one (ran w) number x (stays (record x { store = record x.store { cut = Some (record { nth = nth; keeps_new = keeps_new }) } }) said.Set) refl refl there (Silent refl)
+  senders event s (Cuts number nth keeps_new x there) = told_one (ran w) number x
+      (stays (record x { store = record x.store { cut = Some (record { nth = nth; keeps_new = keeps_new }) } }) said.Set) refl refl there (Silent refl)

@@ -39,7 +39,8 @@ use Rattle.line_events.specs.declared.event.Event.{Event}
 use Rattle.line_events.specs.Events.{IsEvent}
 use Rattle.line_rules.specs.Forgery.{Comes, accepting}
 use Rattle.line_rules.specs.Further.{discovery_flight}
-use Rattle.line_rules.specs.Steps.{Step, acted, flight_by, flights_of, forged_by, heard, hears, is_taken, note_by, offered_near, ran, restarts, sent_if, sending, set_up, tag_of, told}
+use Rattle.line_rules.specs.Steps.{Step, acted, flight_by, flights_of, forged_by, heard, hears, is_taken, note_by, offered_near, ran, restarts, sent_if}
+use Rattle.line_rules.specs.Steps.{sending, set_up, tag_of, told}
 use Rattle.line_rules.specs.Worlds.{World, Flight, flight_at, node_at}
 use Rattle.line_laws.specs.Letters.{IsLetter}
 use Rattle.line_laws.specs.Lines.{WorldOk}
@@ -56,7 +57,8 @@ use Rattle.line_laws.proofs.RangeRuns.{call_ranged, heard_did}
 use Rattle.line_laws.proofs.Readings.{network_ranges}
 use Rattle.line_laws.proofs.Worlds.{at_place}
 use Rattle.line_laws.proofs.StoreMarks.{accept_is}
-use Rattle.line_laws.proofs.Tellings.{IsStep, Fails, Makes, Rests, Shows, Acts, BreaksLink, SendsFrom, AllowsMeter, Sets, SetsTwo, Provides, TurnsDown, Hears, Loses, Ticks, Restarts, Cuts, preset_call}
+use Rattle.line_laws.proofs.Tellings.{IsStep, Fails, Makes, Rests, Shows, Acts, BreaksLink, SendsFrom, AllowsMeter, Sets, SetsTwo, Provides, TurnsDown, Hears}
+use Rattle.line_laws.proofs.Tellings.{Loses, Ticks, Restarts, Cuts, preset_call}
 
 module _ (P : ℕ → MeshUnit → Type 0) where
   -- What is said of the unit of a flight, and of the address that it goes to.

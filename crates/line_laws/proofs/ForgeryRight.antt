@@ -47,7 +47,8 @@ any_at test (y ∷ xs) (suc place) x there is = second (test y) (list_any test x
 
 none_passes : {A : Type 0} (test : A → Bool) (P : A → Type 0) (xs : List A) → ((x : A) → P x → test x ≡ true) → list_any test xs ≡ false → All (λ x. P x → ⊥) xs
 none_passes test P [] f e = All-nil (λ x. P x → ⊥)
-none_passes test P (x ∷ xs) f e = All-cons (λ x. P x → ⊥) x xs (λ p. no (test x) (list_any test xs) (f x p) e) (none_passes test P xs f (rest (test x) (list_any test xs) e))
+none_passes test P (x ∷ xs) f e =
+    All-cons (λ x. P x → ⊥) x xs (λ p. no (test x) (list_any test xs) (f x p) e) (none_passes test P xs f (rest (test x) (list_any test xs) e))
   where
     no : (a b : Bool) → a ≡ true → (a || b) ≡ false → ⊥
     no true b e h = cc
@@ -97,10 +98,12 @@ is_flown : (octets : List ℕ) (key : Key) (f : Flight) → (f.octets ≡ octets
 is_flown octets key f h = both_true _ _ ((bytes_eq-Decides f.octets octets).1 h.0) (is_under f.key key h.1)
 
 pub none_flew : (flights : List Flight) (octets : List ℕ) (key : Key) → is_forged_frame flights octets key ≡ true → NoneFlew flights octets key
-none_flew flights octets key e = none_passes (has_octets octets key) (λ (f : Flight). (f.octets ≡ octets) × (f.key ≡ Some key)) flights (is_flown octets key) (not_true _ e)
+none_flew flights octets key e =
+    none_passes (has_octets octets key) (λ (f : Flight). (f.octets ≡ octets) × (f.key ≡ Some key)) flights (is_flown octets key) (not_true _ e)
 
 pub flew_none : (flights : List Flight) (octets : List ℕ) (key : Key) → NoneFlew flights octets key → is_forged_frame flights octets key ≡ true
-flew_none flights octets key all = not_false _ (passes_none (has_octets octets key) (λ (f : Flight). (f.octets ≡ octets) × (f.key ≡ Some key)) flights (flew_is octets key) all)
+flew_none flights octets key all =
+    not_false _ (passes_none (has_octets octets key) (λ (f : Flight). (f.octets ≡ octets) × (f.key ≡ Some key)) flights (flew_is octets key) all)
 
 -- # Pair tags
 
@@ -109,11 +112,13 @@ rand_of octets = record { 0 = octets }
 
 tag_is : (a b : PairTag) → same_tag a b ≡ true → IsSameTag a b
 unfolding rand_of
-tag_is (tags.MacP a s) (tags.MacP b t) e = let p = and_parts _ _ e in subst (λ u. IsSameTag (tags.MacP a s) (tags.MacP b u)) ((bytes_eq-Decides s t).0 p.1) (BothMacP a b s (eqb-true _ _ p.0))
+tag_is (tags.MacP a s) (tags.MacP b t) e =
+    let p = and_parts _ _ e in subst (λ u. IsSameTag (tags.MacP a s) (tags.MacP b u)) ((bytes_eq-Decides s t).0 p.1) (BothMacP a b s (eqb-true _ _ p.0))
 tag_is (tags.MacP a s) (tags.MacS b t) e = absurd (cc)
 tag_is (tags.MacP a s) (tags.Channel b q n h t) e = absurd (cc)
 tag_is (tags.MacS a s) (tags.MacP b t) e = absurd (cc)
-tag_is (tags.MacS a s) (tags.MacS b t) e = let p = and_parts _ _ e in subst (λ u. IsSameTag (tags.MacS a s) (tags.MacS b u)) ((bytes_eq-Decides s t).0 p.1) (BothMacS a b s (eqb-true _ _ p.0))
+tag_is (tags.MacS a s) (tags.MacS b t) e =
+    let p = and_parts _ _ e in subst (λ u. IsSameTag (tags.MacS a s) (tags.MacS b u)) ((bytes_eq-Decides s t).0 p.1) (BothMacS a b s (eqb-true _ _ p.0))
 tag_is (tags.MacS a s) (tags.Channel b q n h t) e = absurd (cc)
 tag_is (tags.Channel a p m g s) (tags.MacP b t) e = absurd (cc)
 tag_is (tags.Channel a p m g s) (tags.MacS b t) e = absurd (cc)
@@ -142,7 +147,8 @@ is_tag : (a b : PairTag) → IsSameTag a b → same_tag a b ≡ true
 is_tag x y (BothMacP a b s e) = both_true _ _ (eqb_same _ _ e) ((bytes_eq-Decides s s).1 refl)
 is_tag x y (BothMacS a b s e) = both_true _ _ (eqb_same _ _ e) ((bytes_eq-Decides s s).1 refl)
 is_tag x y (BothChannel a b p n h t e) =
-    both_true _ _ (eqb_same _ _ e) (both_true _ _ ((bytes_eq-Decides p.0 p.0).1 refl) (both_true _ _ (eqb_same n n refl) (both_true _ _ ((bytes_eq-Decides h h).1 refl) ((bytes_eq-Decides t t).1 refl))))
+    both_true _ _ (eqb_same _ _ e) (both_true _ _ ((bytes_eq-Decides p.0 p.0).1 refl)
+    (both_true _ _ (eqb_same n n refl) (both_true _ _ ((bytes_eq-Decides h h).1 refl) ((bytes_eq-Decides t t).1 refl))))
 
 pub none_made : (made : List PairTag) (tag : PairTag) → is_forged_tag made tag ≡ true → NoneMade made tag
 none_made made tag e = none_passes (same_tag tag) (IsSameTag tag) made (is_tag tag) (not_true _ e)

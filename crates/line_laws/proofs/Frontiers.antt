@@ -1,6 +1,7 @@
 -- The counters of a node rise: what it sends is numbered from its frontier on, and no failed write lowers the frontier.
 use Rattle.line_laws.proofs.MadeIn.{unheard}
-use Rattle.std.proofs.Common.{◌≡◌, ◌≢◌, ⊎_elim, ℕ, ◌+◌, ◌≤◌, ◌<◌, ◌^◌, Bool, true, false, List, [], ◌∷◌, ◌++◌, length, Option, Some, None, Result, refl, sym, ap, ◌∙◌, subst, append_assoc, arith}
+use Rattle.std.proofs.Common.{◌≡◌, ◌≢◌, ⊎_elim, ℕ, ◌+◌, ◌≤◌, ◌<◌, ◌^◌, Bool, true, false, List, [], ◌∷◌, ◌++◌, length, Option, Some, None, Result, refl, sym}
+use Rattle.std.proofs.Common.{ap, ◌∙◌, subst, append_assoc, arith}
 use Rattle.std.specs.Prelude.{if◌then◌else◌, unwrap_or, nat_le}
 use Rattle.std.specs.Option.{option_map_or}
 use Rattle.std.specs.FinMap.{get, insert}
@@ -25,7 +26,8 @@ use Rattle.routing_set.specs.OwnNumber as own_number
 use Rattle.node_rules.specs.Frames.{Sent, Sealed, Up, Down}
 use Rattle.node_rules.specs.Memory.{StationMemory, Memory, Node}
 use Rattle.node_rules.specs.Plans.{Plan, carry_out, resting}
-use Rattle.node_rules.specs.Drafts.{Draft, Ends, Outgoing, letters, sealed_by, sealing_key, empty_draft, with_rank, with_own_number, with_next_tag, with_ring, with_routing_by, goes, body_goes, waits, leave}
+use Rattle.node_rules.specs.Drafts.{Draft, Ends, Outgoing, letters, sealed_by, sealing_key, empty_draft, with_rank, with_own_number, with_next_tag, with_ring}
+use Rattle.node_rules.specs.Drafts.{with_routing_by, goes, body_goes, waits, leave}
 use Rattle.node_rules.specs.MemoryDrafts.{in_memory, on_station, station_part, with_memory_by, with_pair_tags, goes_up, goes_down}
 use Rattle.node_rules.specs.Coordinators.{with_book_entry}
 use Rattle.node_rules.specs.Laws.{all_put, IsWhole, IsCutOff}
@@ -63,23 +65,28 @@ pub record HasLimit (floor : ℕ) (r : Records) : Type 0 where
   pub low : floor ≤ limit
 
 put_high : (floor : ℕ) (w : Write) (r : Records) → IsHigh floor w → HasLimit floor r → HasLimit floor (insert r w.slot w.octets)
-put_high floor w r (Elsewhere ne) h = record { limit = h.limit; is = ap counter.limit_in (get-insert_other r w.slot 2 w.octets (λ e. ne (sym e))) ∙ h.is; low = h.low }
-put_high floor w r (Limit limit e low fits) h = subst (λ (x : Write). HasLimit floor (insert r x.slot x.octets)) (sym e) (record { limit = limit; is = limit_in-insert r limit fits; low = low })
+put_high floor w r (Elsewhere ne) h =
+    record { limit = h.limit; is = ap counter.limit_in (get-insert_other r w.slot 2 w.octets (λ e. ne (sym e))) ∙ h.is; low = h.low }
+put_high floor w r (Limit limit e low fits) h =
+    subst (λ (x : Write). HasLimit floor (insert r x.slot x.octets)) (sym e) (record { limit = limit; is = limit_in-insert r limit fits; low = low })
 
 all_high : (floor : ℕ) (ps : List Write) (r : Records) → High floor ps → HasLimit floor r → HasLimit floor (all_put ps r)
 all_high floor [] r h k = k
 all_high floor (p ∷ ps) r h k = all_high floor ps (insert r p.slot p.octets) h.1 (put_high floor p r h.0 k)
 
 -- whatever becomes of a plan's writes
-pub carried_high : {M A : Type 0} (floor : ℕ) (r : Records) (cut : Option Cut) (p : Plan M A) → High floor p.puts → HasLimit floor r → HasLimit floor (carry_out r cut p).records
+pub carried_high : {M A : Type 0} (floor : ℕ) (r : Records) (cut : Option Cut) (p : Plan M A) → High floor p.puts → HasLimit floor r
+    → HasLimit floor (carry_out r cut p).records
 carried_high {M = M} {A = A} floor r cut p high h = ⊎_elim whole cut_off (clean r cut p)
   where
     whole : IsWhole r cut p (carry_out r cut p) → HasLimit floor (carry_out r cut p).records
     whole w = rw w.left (all_high floor p.puts r high h)
 
-    by_kind : (b : Bool) (front rest : List Write) (one : Write) → High floor (front ++ one ∷ rest) → HasLimit floor (if b then all_put (front ++ one ∷ []) r else all_put front r)
+    by_kind : (b : Bool) (front rest : List Write) (one : Write) → High floor (front ++ one ∷ rest)
+        → HasLimit floor (if b then all_put (front ++ one ∷ []) r else all_put front r)
     by_kind false front rest one k = all_high floor front r (High-front floor front (one ∷ rest) k) h
-    by_kind true front rest one k = all_high floor (front ++ one ∷ []) r (High-front floor (front ++ one ∷ []) rest (subst (λ ws. High floor ws) (sym (append_assoc front (one ∷ []) rest)) k)) h
+    by_kind true front rest one k = all_high floor (front ++ one ∷ []) r
+        (High-front floor (front ++ one ∷ []) rest (subst (λ ws. High floor ws) (sym (append_assoc front (one ∷ []) rest)) k)) h
 
     cut_off : IsCutOff r cut p (carry_out r cut p) → HasLimit floor (carry_out r cut p).records
     cut_off c = rw c.left (by_kind c.by.keeps_new c.front c.rest c.write (subst (High floor) c.split high))
@@ -126,14 +133,17 @@ marks_high floor t from count = by_place (marks.place_of t from)
     by_stored place true = tt
     by_stored place false = (Elsewhere (omega arith), tt)
 
-    by_place : (o : Option ℕ) → High floor (puts_of (option_map_or (λ place. if nat_le count (marks.peer_at t place).stored then None else Some (slots.entry_write marks.peers place (marks.peer_ahead from count))) o (Some (slots.entry_write marks.peers (length t) (marks.peer_ahead from count)))))
+    by_place : (o : Option ℕ) → High floor (puts_of (option_map_or
+        (λ place. if nat_le count (marks.peer_at t place).stored then None else Some (slots.entry_write marks.peers place (marks.peer_ahead from count))) o
+        (Some (slots.entry_write marks.peers (length t) (marks.peer_ahead from count)))))
     by_place None = (Elsewhere (omega arith), tt)
     by_place (Some place) = by_stored place (nat_le count (marks.peer_at t place).stored)
 
 made_high : (floor : ℕ) (W : RingWord → Type 0) (g : Given) (s d : Draft StationMemory) → Made W g s d → High floor s.puts → High floor d.puts
 unfolding with_rank with_own_number with_next_tag with_ring with_routing_by goes body_goes waits leave
 made_high floor W g s d Starts h = h
-made_high floor W g s d (Ranks by origin rank e made o fits) h = High-append floor e.puts _ (made_high floor W g s e made h) (offer_high floor e.memory.routing (routing.offered_entry origin rank by g.now) g.now)
+made_high floor W g s d (Ranks by origin rank e made o fits) h =
+    High-append floor e.puts _ (made_high floor W g s e made h) (offer_high floor e.memory.routing (routing.offered_entry origin rank by g.now) g.now)
 made_high floor W g s d (Numbers e made left) h = High-append floor e.puts _ (made_high floor W g s e made h) (number_high floor e.memory.own_number)
 made_high floor W g s d (Tags e made first) h = High-append floor e.puts _ (made_high floor W g s e made h) (Elsewhere (omega arith), tt)
 made_high floor W g s d (Rings x e made change) h = High-append floor e.puts _ (made_high floor W g s e made h) (Elsewhere (omega arith), tt)
@@ -144,14 +154,17 @@ made_high floor W g s d (Sends own hop to note load e made here there short carr
 made_high floor W g s d (Waits to note load now e made none room short carried alone) h = made_high floor W g s e made h
 made_high floor W g s d (Leaves own dest hop rank e made here o) h = made_high floor W g s e made h
 
-made_in_high : (floor : ℕ) (W : RingWord → Type 0) (L : Granted → Type 0) (P : Eui → Key → Type 0) (E : Eui → Type 0) (g : Given) (m : Memory) (d : Draft Memory) → MadeIn W L P E g m d → High floor d.puts
+made_in_high : (floor : ℕ) (W : RingWord → Type 0) (L : Granted → Type 0) (P : Eui → Key → Type 0) (E : Eui → Type 0) (g : Given) (m : Memory)
+    (d : Draft Memory) → MadeIn W L P E g m d → High floor d.puts
 unfolding empty_draft on_station with_memory_by with_pair_tags with_book_entry goes_up goes_down
 made_in_high floor W L P E g m d Begins = tt
 made_in_high floor W L P E g m d (Station e made) = made_high floor W g (empty_draft m.station) e made tt
-made_in_high floor W L P E g m d (OnStation word e made step) = made_high floor W (unheard g) (station_part e) (word (station_part e)) step (made_in_high floor W L P E g m e made)
+made_in_high floor W L P E g m d (OnStation word e made step) =
+    made_high floor W (unheard g) (station_part e) (word (station_part e)) step (made_in_high floor W L P E g m e made)
 made_in_high floor W L P E g m d (Remembers change e made beside) = made_in_high floor W L P E g m e made
 made_in_high floor W L P E g m d (TagsIn made opened e x) = made_in_high floor W L P E g m e x
-made_in_high floor W L P E g m d (Enters x e made change) = High-append floor e.puts _ (made_in_high floor W L P E g m e made) (entry_high floor e.memory.book x)
+made_in_high floor W L P E g m d (Enters x e made change) =
+    High-append floor e.puts _ (made_in_high floor W L P E g m e made) (entry_high floor e.memory.book x)
 made_in_high floor W L P E g m d (UpIn agent own message e made) = made_in_high floor W L P E g m e made
 made_in_high floor W L P E g m d (DownIn own message e made) = made_in_high floor W L P E g m e made
 
@@ -177,7 +190,8 @@ plain_numbered (Sealed l ∷ ps) fs first last p n = absurd p
 plain_numbered (Up agent from message ∷ ps) fs first last p n = plain_numbered ps fs first last p n
 plain_numbered (Down from message ∷ ps) fs first last p n = plain_numbered ps fs first last p n
 
-letters_numbered : (g : Granted) (key : Key) (first last : ℕ) (units : List Outgoing) → first + length units ≤ last → Numbered first last (letters g key first units)
+letters_numbered : (g : Granted) (key : Key) (first last : ℕ) (units : List Outgoing) → first + length units ≤ last
+    → Numbered first last (letters g key first units)
 letters_numbered g key first last [] h = omega arith
 letters_numbered g key first last (o ∷ rest) h = (omega arith, letters_numbered g key (first + 1) last rest (omega arith))
 
@@ -211,11 +225,13 @@ made_plain W g s d (Sends own hop to note load e made here there short carried a
 made_plain W g s d (Waits to note load now e made none room short carried alone) h = made_plain W g s e made h
 made_plain W g s d (Leaves own dest hop rank e made here o) h = made_plain W g s e made h
 
-pub made_in_plain : (W : RingWord → Type 0) (L : Granted → Type 0) (P : Eui → Key → Type 0) (E : Eui → Type 0) (g : Given) (m : Memory) (d : Draft Memory) → MadeIn W L P E g m d → ArePlain d.plain
+pub made_in_plain : (W : RingWord → Type 0) (L : Granted → Type 0) (P : Eui → Key → Type 0) (E : Eui → Type 0) (g : Given) (m : Memory) (d : Draft Memory)
+    → MadeIn W L P E g m d → ArePlain d.plain
 unfolding empty_draft on_station with_memory_by with_pair_tags with_book_entry goes_up goes_down
 made_in_plain W L P E g m d Begins = tt
 made_in_plain W L P E g m d (Station e made) = made_plain W g (empty_draft m.station) e made tt
-made_in_plain W L P E g m d (OnStation word e made step) = made_plain W (unheard g) (station_part e) (word (station_part e)) step (made_in_plain W L P E g m e made)
+made_in_plain W L P E g m d (OnStation word e made step) =
+    made_plain W (unheard g) (station_part e) (word (station_part e)) step (made_in_plain W L P E g m e made)
 made_in_plain W L P E g m d (Remembers change e made beside) = made_in_plain W L P E g m e made
 made_in_plain W L P E g m d (TagsIn made opened e x) = made_in_plain W L P E g m e x
 made_in_plain W L P E g m d (Enters x e made change) = made_in_plain W L P E g m e made
@@ -227,21 +243,26 @@ pub record PlanRises (m : Memory) {A : Type 0} (p : Plan Memory A) : Type 0 wher
   pub high : High m.station.counter.limit p.puts
   pub with_own_number : Numbered m.station.counter.next p.memory.station.counter.next p.frames
 
-pub plan_rises : {H F : Type 0} (W : RingWord → Type 0) (L : Granted → Type 0) (P : Eui → Key → Type 0) (E : Eui → Type 0) (g : Given) (m : Memory) (ends : Ends F) (K : Memory → H → Type 0) (D : Draft Memory → H → Type 0)
-    → ((n : Memory) (answer : H) → K n answer → n.station.counter ≡ m.station.counter) → ((d : Draft Memory) (answer : H) → D d answer → MadeIn W L P E g m d) → (p : Plan Memory (Result H F)) → Planned in_memory ends m K D p
+pub plan_rises : {H F : Type 0} (W : RingWord → Type 0) (L : Granted → Type 0) (P : Eui → Key → Type 0) (E : Eui → Type 0) (g : Given) (m : Memory)
+    (ends : Ends F) (K : Memory → H → Type 0) (D : Draft Memory → H → Type 0)
+    → ((n : Memory) (answer : H) → K n answer → n.station.counter ≡ m.station.counter) → ((d : Draft Memory) (answer : H) → D d answer → MadeIn W L P E g m d)
+    → (p : Plan Memory (Result H F)) → Planned in_memory ends m K D p
     → m.station.counter.limit < 2 ^ 32 → PlanRises m p
 unfolding resting
 plan_rises W L P E g m ends K D same made p (Refuses reason) fits = record { high = tt; with_own_number = omega arith }
-plan_rises W L P E g m ends K D same made p (Keeps n answer k) fits = record { high = tt; with_own_number = let e = ap (λ (c : counter.Counting). c.next) (same n answer k) in omega arith }
+plan_rises W L P E g m ends K D same made p (Keeps n answer k) fits =
+    record { high = tt; with_own_number = let e = ap (λ (c : counter.Counting). c.next) (same n answer k) in omega arith }
 plan_rises W L P E g m ends K D same made p (Ended d answer done left) fits =
     let x = made d answer done in
     let e = made_in_counter W L P E g m d x in
     let next = ap (λ (c : counter.Counting). c.next) e in
     let limit = ap (λ (c : counter.Counting). c.limit) e in
     record {
-      high = High-append m.station.counter.limit d.puts _ (made_in_high m.station.counter.limit W L P E g m d x) (reserve_high d.memory.station.counter (length d.units) m.station.counter.limit (omega arith) (omega arith));
+      high = High-append m.station.counter.limit d.puts _ (made_in_high m.station.counter.limit W L P E g m d x)
+          (reserve_high d.memory.station.counter (length d.units) m.station.counter.limit (omega arith) (omega arith));
       with_own_number = plain_numbered d.plain _ m.station.counter.next (d.memory.station.counter.next + length d.units) (made_in_plain W L P E g m d x)
-          (subst (λ n. Numbered m.station.counter.next (n + length d.units) (sealed_by d.memory.station.ring n d.units)) (sym next) (sealed_numbered d.memory.station.ring m.station.counter.next (m.station.counter.next + length d.units) d.units (omega arith)));
+          (subst (λ n. Numbered m.station.counter.next (n + length d.units) (sealed_by d.memory.station.ring n d.units)) (sym next)
+          (sealed_numbered d.memory.station.ring m.station.counter.next (m.station.counter.next + length d.units) d.units (omega arith)));
     }
 
 pub same_low : (n : ℕ) → n ≤ n
@@ -251,12 +272,16 @@ limit_low : (floor : ℕ) (r : Records) → HasLimit floor r → floor ≤ count
 limit_low floor r h = let e : counter.stored_limit r ≡ h.limit = ap (λ o. unwrap_or o 0) h.is in let low = h.low in omega arith
 
 -- what a node sends is numbered from its frontier on, and the frontier never falls, also where a write fails
-pub acts_rise : {A : Type 0} (x : Node) (halted : A) (plan : Memory → Plan Memory A) → ((m : Memory) → x.memory ≡ Some m → PlanRises m (plan m) × (counter.limit_in (get x.store.records 2) ≡ Some m.station.counter.limit) × (m.station.counter.next ≤ m.station.counter.limit))
+pub acts_rise : {A : Type 0} (x : Node) (halted : A) (plan : Memory → Plan Memory A)
+    → ((m : Memory) → x.memory ≡ Some m → PlanRises m (plan m) × (counter.limit_in (get x.store.records 2) ≡ Some m.station.counter.limit)
+    × (m.station.counter.next ≤ m.station.counter.limit))
     → Numbered (frontier x) (frontier (acts x halted plan).node) (acts x halted plan).frames
 unfolding acts
 acts_rise {A = A} x halted plan f = by_memory x.memory refl
   where
-    by_memory : (o : Option Memory) → x.memory ≡ o → let d = option_map_or (λ m. left_by x (carry_out x.store.records x.store.cut (plan m))) o (stays x halted) in Numbered (next_of o x.store.records) (frontier d.node) d.frames
+    by_memory : (o : Option Memory) → x.memory ≡ o
+        → let d = option_map_or (λ m. left_by x (carry_out x.store.records x.store.cut (plan m))) o (stays x halted) in
+        Numbered (next_of o x.store.records) (frontier d.node) d.frames
     by_memory None e = subst (λ o. next_of None x.store.records ≤ next_of o x.store.records) (sym e) (same_low (counter.stored_limit x.store.records))
     by_memory (Some m) e =
         let p = f m e in
@@ -276,6 +301,7 @@ numbered_lower low first last (Down from message ∷ rest) h n = numbered_lower 
 
 pub numbered_le : (first last : ℕ) (fs : List Sent) → Numbered first last fs → first ≤ last
 numbered_le first last [] n = n
-numbered_le first last (Sealed l ∷ rest) n = let at : first ≤ l.counter = n.0 in let more : l.counter + 1 ≤ last = numbered_le (l.counter + 1) last rest n.1 in omega arith
+numbered_le first last (Sealed l ∷ rest) n =
+    let at : first ≤ l.counter = n.0 in let more : l.counter + 1 ≤ last = numbered_le (l.counter + 1) last rest n.1 in omega arith
 numbered_le first last (Up agent from message ∷ rest) n = numbered_le first last rest n
 numbered_le first last (Down from message ∷ rest) n = numbered_le first last rest n

@@ -20,7 +20,8 @@ use Rattle.line_laws.proofs.LaterKeeps.{further_keeps}
 use Rattle.line_laws.proofs.Worlds.{at_place}
 
 station_in : (w : World) → WorldRanged w → (number : ℕ) (x : Node) (m : Memory) → node_at w number ≡ Some x → x.memory ≡ Some m → IsStationRanged m.station
-station_in w r number x m there here = subst (λ o. IfSome o (λ (n : Memory). IsStationRanged n.station)) here (at_place NodeRanged w.nodes number x there r.nodes)
+station_in w r number x m there here =
+    subst (λ o. IfSome o (λ (n : Memory). IsStationRanged n.station)) here (at_place NodeRanged w.nodes number x there r.nodes)
 
 pub calls_keep_all : CallsKeepAll
 calls_keep_all w number x b runs there = (
@@ -33,6 +34,7 @@ calls_keep_all w number x b runs there = (
   λ target given sent taken all home ups h.
       further_keeps (Err asks.Halted) (with_beside b (λ y. ask_path in_memory y target)) (λ m. ask_is AnyUnits b target m (λ own hop here e. tt)) w number x
       (λ m is. ask_is IsOne b target m (λ own hop here e.
-      One hop _ (low_target hop (route_low m.station target hop (station_in w h.ranged number x m there is) e)) (may_path (Ask target (own ∷ [])) (omega arith))))
+      One hop _ (low_target hop (route_low m.station target hop (station_in w h.ranged number x m there is) e))
+      (may_path (Ask target (own ∷ [])) (omega arith))))
       runs there given sent taken all home ups h,
 )

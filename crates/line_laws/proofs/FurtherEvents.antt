@@ -1,5 +1,6 @@
 -- How an event of a line with further reach is made, one case for each way, with all that is said of it.
-use Rattle.std.proofs.Common.{◌≡◌, ◌≢◌, ◌⊎◌, ⊎_elim, inl, inr, ℕ, ◌+◌, ◌≤◌, Bool, true, false, not, List, length, Option, Some, None, Result, Ok, Err, refl, sym, subst, arith}
+use Rattle.std.proofs.Common.{◌≡◌, ◌≢◌, ◌⊎◌, ⊎_elim, inl, inr, ℕ, ◌+◌, ◌≤◌, Bool, true, false, not, List, length, Option, Some, None, Result, Ok, Err, refl}
+use Rattle.std.proofs.Common.{sym, subst, arith}
 use Rattle.std.specs.Prelude.{if◌then◌else◌, take, ◌==◌, ◌||◌, is_some, nat_lt, map}
 use Rattle.std.specs.Option.{option_map_or}
 use Rattle.std.proofs.lemmas.Bool.{and_parts, eqb-true, eqb-false}
@@ -36,8 +37,11 @@ use Rattle.line_events.specs.declared.event.StepFault.TheVariants as faults
 use Rattle.line_rules.specs.Answers.{Reception}
 use Rattle.line_events.specs.Events.{IsEvent}
 use Rattle.line_rules.specs.Forgery.{Comes, OfFlight, OfScript, accepting}
-use Rattle.line_rules.specs.Further.{line_step, checks, bcast, broadcasts_by, path, asks_by, scan, scans_by, choose, chooses_by, discovers_by, commanded, checked, acknowledged_if, acknowledged, acknowledging, unbelieved, heard_by, heard_further, is_dropped, accepted_further, comes, delivers, injects, ticks, after_ok, due, with_check, restarts_by, restarts_further}
-use Rattle.line_rules.specs.Steps.{Step, set_up, ran, happened, trace_of, has_begun, takes_setup, once_begun, in_setup, on_node, on_meter, on_flight, psk_of, acted, ticked, hears, heard, note_by, restarts, tick}
+use Rattle.line_rules.specs.Further.{line_step, checks, bcast, broadcasts_by, path, asks_by, scan, scans_by, choose, chooses_by, discovers_by, commanded}
+use Rattle.line_rules.specs.Further.{checked, acknowledged_if, acknowledged, acknowledging, unbelieved, heard_by, heard_further, is_dropped, accepted_further}
+use Rattle.line_rules.specs.Further.{comes, delivers, injects, ticks, after_ok, due, with_check, restarts_by, restarts_further}
+use Rattle.line_rules.specs.Steps.{Step, set_up, ran, happened, trace_of, has_begun, takes_setup, once_begun, in_setup, on_node, on_meter, on_flight, psk_of}
+use Rattle.line_rules.specs.Steps.{acted, ticked, hears, heard, note_by, restarts, tick}
 use Rattle.line_rules.specs.Worlds.{World, Flight, Trace, node_at, flight_at}
 use Rattle.line_laws.proofs.IssueNodes.{acts_whole}
 use Rattle.line_laws.proofs.TracesRight.{comes_is, is_same}

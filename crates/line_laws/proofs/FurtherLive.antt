@@ -27,7 +27,8 @@ use Rattle.line_events.specs.declared.event.Event.{Event}
 use Rattle.line_rules.specs.Answers.{Reception}
 use Rattle.line_events.specs.Events.{IsEvent}
 use Rattle.line_rules.specs.Forgery.{Comes, OfFlight, OfScript, accepting}
-use Rattle.line_rules.specs.Further.{line_step, delivers, injects, comes, discovers_by, accepted_further, commanded, acknowledged, acknowledging, adds_frames, sends_nothing, beside_at, with_beside}
+use Rattle.line_rules.specs.Further.{line_step, delivers, injects, comes, discovers_by, accepted_further, commanded, acknowledged, acknowledging, adds_frames}
+use Rattle.line_rules.specs.Further.{sends_nothing, beside_at, with_beside}
 use Rattle.line_rules.specs.Logs.{LogsKept}
 use Rattle.line_rules.specs.Runs.{Entry}
 use Rattle.line_rules.specs.Steps.{on_flight, told}
@@ -40,7 +41,8 @@ use Rattle.line_laws.specs.Owed.{KeepsRanges}
 use Rattle.line_laws.specs.Stores.{IsBookKept}
 use Rattle.line_laws.proofs.AddressBook.{Grows}
 use Rattle.line_laws.proofs.BookGrowth.{Goes}
-use Rattle.line_laws.proofs.FurtherEvents.{IsHeard, checks_so, further_is, hearing, heard_so, none_accepts, taker, IsUnbelieved, IsPlain, IsCommand, IsChecked, IsAnswered}
+use Rattle.line_laws.proofs.FurtherEvents.{IsHeard, checks_so, further_is, hearing, heard_so, none_accepts, taker, IsUnbelieved, IsPlain, IsCommand, IsChecked}
+use Rattle.line_laws.proofs.FurtherEvents.{IsAnswered}
 use Rattle.line_laws.proofs.FurtherForms.{AnyUnits}
 use Rattle.line_laws.proofs.FurtherGrowth.{GoesIn, any_line, line_goes}
 use Rattle.line_laws.proofs.FurtherSenders.{AnyFrame, further_did, heard_did, known}

@@ -38,14 +38,16 @@ use Rattle.line_laws.proofs.Worlds.{at_place}
 brought : (p : Path) (payload : List ℕ) (c : NeighbourCommand) → AreOctets payload → command_on p (unit_in payload) ≡ Some c → AreOctets c.body
 brought p payload c are = by_unit p (unit_in payload) refl
   where
-    by_code : (from : ℕ) (all s t : Bool) (code : ℕ) (body : List ℕ) → AreOctets body → (if s then None else (if t then None else Some (record { from = from; to_all = all; code = code; body = body }))) ≡ Some c → AreOctets c.body
+    by_code : (from : ℕ) (all s t : Bool) (code : ℕ) (body : List ℕ) → AreOctets body
+        → (if s then None else (if t then None else Some (record { from = from; to_all = all; code = code; body = body }))) ≡ Some c → AreOctets c.body
     by_code from all true t code body b is = absurd (cc (is))
     by_code from all false true code body b is = absurd (cc (is))
     by_code from all false false code body b is = subst (λ (k : NeighbourCommand). AreOctets k.body) (same_Some _ _ is) b
 
     by_unit : (p : Path) (o : Option MeshUnit) → unit_in payload ≡ o → command_on p o ≡ Some c → AreOctets c.body
     by_unit (paths.Sealed from all key) None e is = absurd (cc (is))
-    by_unit (paths.Sealed from all key) (Some (units.Local code body)) e is = by_code from all (code == 1) (code == 2) code body (unit_brings payload (units.Local code body) are e) is
+    by_unit (paths.Sealed from all key) (Some (units.Local code body)) e is =
+        by_code from all (code == 1) (code == 2) code body (unit_brings payload (units.Local code body) are e) is
     by_unit (paths.Sealed from all key) (Some (units.Whole mesh octets)) e is = absurd (cc (is))
     by_unit (paths.Sealed from all key) (Some (units.Part mesh piece)) e is = absurd (cc (is))
     by_unit (paths.Sealed from all key) (Some (units.Carried mesh body)) e is = absurd (cc (is))
@@ -56,8 +58,10 @@ pub commands_fit : CommandsFit
 commands_fit ciphers fits w ok flown event says number x octets got c there comes is e =
     let are : AreOctets octets = came_octets ciphers fits w ok flown event number octets says comes in
     let plan : Memory → Plan Memory (Result Accepted FrameRefusal) = λ m. of_station m (accept m.station x.eui (arrived ciphers octets)) in
-    let a = acts_answered x frames.Halted frames.Store plan (λ m. accept_failed ciphers fits octets are m.station _ (accept_is m.station x.eui (arrived ciphers octets))) got is in
-    let routes = accepted_routes ciphers fits octets are a.memory.station (ring_readable x a.memory (at_place NodeOk w.nodes number x there ok.nodes) a.there) _ got (accept_is a.memory.station x.eui (arrived ciphers octets)) a.is in
+    let a = acts_answered x frames.Halted frames.Store plan
+    (λ m. accept_failed ciphers fits octets are m.station _ (accept_is m.station x.eui (arrived ciphers octets))) got is in
+    let routes = accepted_routes ciphers fits octets are a.memory.station (ring_readable x a.memory (at_place NodeOk w.nodes number x there ok.nodes) a.there) _
+    got (accept_is a.memory.station x.eui (arrived ciphers octets)) a.is in
     brought got.path got.payload c routes.payload e
 
 logs_hold : (s : Step) → ((v : World) (t : Trace) → s ≡ Ok (v, t) → LogsKept v) → LogsHold s

@@ -1,5 +1,6 @@
 -- What further rules send is octets, so what flies on a line stays octets.
-use Rattle.std.proofs.Common.{⊎_elim, inl, inr, ◌≡◌, ◌≢◌, ◌⊎◌, ℕ, ◌+◌, ◌≤◌, ◌<◌, Bool, true, false, List, [], ◌∷◌, ◌++◌, length, Option, Some, None, Result, Ok, Err, refl, subst, arith}
+use Rattle.std.proofs.Common.{⊎_elim, inl, inr, ◌≡◌, ◌≢◌, ◌⊎◌, ℕ, ◌+◌, ◌≤◌, ◌<◌, Bool, true, false, List, [], ◌∷◌, ◌++◌, length, Option, Some, None, Result, Ok}
+use Rattle.std.proofs.Common.{Err, refl, subst, arith}
 use Rattle.std.specs.Prelude.{if◌then◌else◌, ◌==◌, ◌%◌, nat_lt, All, IfSome, position}
 use Rattle.std.proofs.lemmas.List.{length-append}
 use Rattle.std.proofs.lemmas.List.Elements.{All-append, All-cons, All-nil, All-weaker}
@@ -53,7 +54,8 @@ use Rattle.node_rules.specs.Plans.{Plan, resting, within}
 use Rattle.reach_rules.specs.declared.refusal.ChooseRefusal.{ChooseRefusal}
 use Rattle.reach_rules.specs.declared.refusal.ChooseRefusal.TheVariants as choices
 use Rattle.reach_rules.specs.declared.refusal.DiscoveryDropped.TheVariants as scan_drops
-use Rattle.reach_rules.specs.Beacons.{ChosenAgent, beacons, choose_agent, choosing_ends, cost_home, hear_discovery_in, is_foreign, joins_by, takes_beacon, takes_beacons, stays as stays_scan}
+use Rattle.reach_rules.specs.Beacons.{ChosenAgent, beacons, choose_agent, choosing_ends, cost_home, hear_discovery_in, is_foreign, joins_by, takes_beacon}
+use Rattle.reach_rules.specs.Beacons.{takes_beacons, stays as stays_scan}
 use Rattle.reach_rules.specs.Broadcasts.{hop_less, own_broadcast}
 use Rattle.reach_rules.specs.CheckedReplies.{acknowledges}
 use Rattle.reach_rules.specs.PathAsking.{next_toward}
@@ -75,7 +77,8 @@ use Rattle.line_laws.specs.Stores.{IsReadable}
 use Rattle.line_laws.proofs.FurtherForms.{IsFurther, Goes, Rests, ask_is, broadcast_is, command_is}
 use Rattle.line_laws.proofs.FurtherLogs.{commands_fit, line_logs_hold}
 use Rattle.line_laws.proofs.FurtherSteps.{line_steps_hold}
-use Rattle.line_laws.proofs.FurtherTellings.{After, Anew, Besides, Carries, Chooses, Flies, IsLineStep, Known, Moves, Opens, Speaks, Stays, Turns, Unbelieves, Unsends, fits_at, line_step_is, moved_ok}
+use Rattle.line_laws.proofs.FurtherTellings.{After, Anew, Besides, Carries, Chooses, Flies, IsLineStep, Known, Moves, Opens, Speaks, Stays, Turns, Unbelieves}
+use Rattle.line_laws.proofs.FurtherTellings.{Unsends, fits_at, line_step_is, moved_ok}
 use Rattle.line_laws.proofs.MeterOctets.{joins_speaks}
 use Rattle.line_laws.proofs.Nodes.{ring_readable}
 use Rattle.line_laws.proofs.OctetCalls.{NodeSpeaks, accept_speaks, acts_speaks}
@@ -89,7 +92,8 @@ use Rattle.line_laws.proofs.Worlds.{at_place}
 -- # Bodies
 
 pub ack_octets : (number origin : ℕ) → AreOctets (ack_spelling number origin)
-ack_octets number origin = front 1 (big_bytes 2 number ++ big_bytes 2 origin) (omega arith) (both (big_bytes 2 number) (big_bytes 2 origin) (big_octets 2 number) (big_octets 2 origin))
+ack_octets number origin = front 1 (big_bytes 2 number ++ big_bytes 2 origin) (omega arith)
+    (both (big_bytes 2 number) (big_bytes 2 origin) (big_octets 2 number) (big_octets 2 origin))
 
 walks_octets : (walk : List ℕ) → AreOctets (walk_octets walk)
 walks_octets [] = All-nil (λ n. n < 256)
@@ -100,8 +104,11 @@ walk_of (Ask target walk) = walk
 walk_of (Tell walk) = walk
 
 pub path_octets : (message : PathMessage) → length (walk_of message) ≤ 16 → AreOctets (path_spelling message)
-path_octets (Ask target walk) short = front 1 (big_bytes 2 target ++ (length walk ∷ walk_octets walk)) (omega arith) (both (big_bytes 2 target) (length walk ∷ walk_octets walk) (big_octets 2 target) (front (length walk) (walk_octets walk) (omega arith) (walks_octets walk)))
-path_octets (Tell walk) short = front 2 (length walk ∷ walk_octets walk) (omega arith) (front (length walk) (walk_octets walk) (omega arith) (walks_octets walk))
+path_octets (Ask target walk) short = front 1 (big_bytes 2 target ++ (length walk ∷ walk_octets walk)) (omega arith)
+    (both (big_bytes 2 target) (length walk ∷ walk_octets walk) (big_octets 2 target)
+    (front (length walk) (walk_octets walk) (omega arith) (walks_octets walk)))
+path_octets (Tell walk) short =
+    front 2 (length walk ∷ walk_octets walk) (omega arith) (front (length walk) (walk_octets walk) (omega arith) (walks_octets walk))
 
 -- what goes on, or back, is short where what came is
 abbrev IsShort : Result PathStep PathRefusal → Type 0
@@ -118,7 +125,8 @@ led_short : (own target : ℕ) (walk : List ℕ) → length walk ≤ 15 → (o :
 led_short own target walk few None = tt
 led_short own target walk few (Some to) =
     let longer = length-append walk (own ∷ []) in
-    short_if (has own walk) (Err refusals.Revisited) _ tt (short_if (target == own) (Ok (Answer to (Tell (walk ++ own ∷ [])))) _ (omega arith) (short_if (length walk == 15) (Err refusals.PathLong) (Ok (Forward to (Ask target (walk ++ own ∷ [])))) tt (omega arith)))
+    short_if (has own walk) (Err refusals.Revisited) _ tt (short_if (target == own) (Ok (Answer to (Tell (walk ++ own ∷ [])))) _ (omega arith)
+    (short_if (length walk == 15) (Err refusals.PathLong) (Ok (Forward to (Ask target (walk ++ own ∷ [])))) tt (omega arith)))
 
 tell_short : (from : ℕ) (walk : List ℕ) → length walk ≤ 16 → (o : Option ℕ) → IsShort (tell_taken from walk o)
 tell_short from walk few None = tt
@@ -129,22 +137,29 @@ tell_short from walk few (Some place) = short_if (has_at (place + 1) from walk) 
     by_place false to = few
 
 taken_short : (own from : ℕ) (next : Option ℕ) (message : PathMessage) → IsPath message → IsShort (taken own from next message)
-taken_short own from next (Ask target walk) is = short_if (ends_with from walk) (ask_led own target walk (hop own from next target)) (Err refusals.BadUnit) (led_short own target walk is.2 (hop own from next target)) tt
+taken_short own from next (Ask target walk) is = short_if (ends_with from walk) (ask_led own target walk (hop own from next target)) (Err refusals.BadUnit)
+    (led_short own target walk is.2 (hop own from next target)) tt
 taken_short own from next (Tell walk) is = tell_short from walk is.1 (position (λ a. a == own) walk)
 
-pub sent_short : (own from : ℕ) (next : Option ℕ) (message : PathMessage) (to : ℕ) (more : PathMessage) → IsPath message → SendsOn (taken own from next message) to more → length (walk_of more) ≤ 16
+pub sent_short : (own from : ℕ) (next : Option ℕ) (message : PathMessage) (to : ℕ) (more : PathMessage) → IsPath message
+    → SendsOn (taken own from next message) to more → length (walk_of more) ≤ 16
 sent_short own from next message to more is (inl e) = subst IsShort e (taken_short own from next message is)
 sent_short own from next message to more is (inr e) = subst IsShort e (taken_short own from next message is)
 
 pub broadcast_octets : (b : Broadcast) → b.hops < 256 → AreOctets b.octets → AreOctets (spelling b)
 broadcast_octets b low are =
-    front b.hops (big_bytes 2 b.origin ++ (0x50 ∷ b.number % 256 ∷ (big_bytes 4 b.number ++ b.octets))) low (both (big_bytes 2 b.origin) (0x50 ∷ b.number % 256 ∷ (big_bytes 4 b.number ++ b.octets)) (big_octets 2 b.origin) (front 0x50 (b.number % 256 ∷ (big_bytes 4 b.number ++ b.octets)) (omega arith) (front (b.number % 256) (big_bytes 4 b.number ++ b.octets) (omega arith) (both (big_bytes 4 b.number) b.octets (big_octets 4 b.number) are))))
+    front b.hops (big_bytes 2 b.origin ++ (0x50 ∷ b.number % 256 ∷ (big_bytes 4 b.number ++ b.octets))) low
+    (both (big_bytes 2 b.origin) (0x50 ∷ b.number % 256 ∷ (big_bytes 4 b.number ++ b.octets)) (big_octets 2 b.origin)
+    (front 0x50 (b.number % 256 ∷ (big_bytes 4 b.number ++ b.octets)) (omega arith)
+    (front (b.number % 256) (big_bytes 4 b.number ++ b.octets) (omega arith) (both (big_bytes 4 b.number) b.octets (big_octets 4 b.number) are))))
 
 -- what a broadcast has is octets, where its spelling is
 pub datagram_octets : (b : Broadcast) → AreOctets (spelling b) → AreOctets b.octets
 datagram_octets b are =
-    let behind = after_both (big_bytes 2 b.origin) (0x50 ∷ b.number % 256 ∷ (big_bytes 4 b.number ++ b.octets)) (All-tail (λ n. n < 256) b.hops (big_bytes 2 b.origin ++ (0x50 ∷ b.number % 256 ∷ (big_bytes 4 b.number ++ b.octets))) are) in
-    after_both (big_bytes 4 b.number) b.octets (All-tail (λ n. n < 256) (b.number % 256) (big_bytes 4 b.number ++ b.octets) (All-tail (λ n. n < 256) 0x50 (b.number % 256 ∷ (big_bytes 4 b.number ++ b.octets)) behind))
+    let behind = after_both (big_bytes 2 b.origin) (0x50 ∷ b.number % 256 ∷ (big_bytes 4 b.number ++ b.octets))
+    (All-tail (λ n. n < 256) b.hops (big_bytes 2 b.origin ++ (0x50 ∷ b.number % 256 ∷ (big_bytes 4 b.number ++ b.octets))) are) in
+    after_both (big_bytes 4 b.number) b.octets (All-tail (λ n. n < 256) (b.number % 256) (big_bytes 4 b.number ++ b.octets)
+    (All-tail (λ n. n < 256) 0x50 (b.number % 256 ∷ (big_bytes 4 b.number ++ b.octets)) behind))
   where
     after_both : (xs ys : List ℕ) → AreOctets (xs ++ ys) → AreOctets ys
     after_both [] ys h = h
@@ -177,13 +192,18 @@ moved_speaks v u (Stays z) ok runs s = s
 moved_speaks v u (Carries z number x A halted does there is) ok runs s =
     told_speaks v number (acts x halted does) s (acts_speaks x halted does (at_place NodeSpeaks v.nodes number x there s.nodes)
     (λ m here h. plan_speaks m (does m) (is m here) h (ring_readable x m (at_place NodeOk v.nodes number x there ok.nodes) here)))
-moved_speaks v u (Flies z number x frame there known) ok runs s = record { nodes = s.nodes; flights = All-append FlightFits v.flights (discovery_flight number frame ∷ []) s.flights (All-cons FlightFits (discovery_flight number frame) [] known (All-nil FlightFits)) }
+moved_speaks v u (Flies z number x frame there known) ok runs s = record {
+  nodes = s.nodes;
+  flights = All-append FlightFits v.flights (discovery_flight number frame ∷ []) s.flights
+      (All-cons FlightFits (discovery_flight number frame) [] known (All-nil FlightFits));
+}
 moved_speaks v u (Besides z on bs) ok runs s = record { nodes = s.nodes; flights = s.flights }
 moved_speaks v u (Turns z between y first rest) ok runs s =
     let m = moved_ok Octets Spelled network network_ranges v between first ok runs in
     moved_speaks between u rest m.0 m.1 (moved_speaks v between first ok runs s)
 
-chosen_speaks : (m : Memory) (b : Beside) (own : meters.Identity) (k now : ℕ) → MemorySpeaks m → ((agent : ℕ) → PlanSpeaks (meters.join own m agent now)) → PlanSpeaks (with_beside b (λ y. choose_agent own y k now) m)
+chosen_speaks : (m : Memory) (b : Beside) (own : meters.Identity) (k now : ℕ) → MemorySpeaks m → ((agent : ℕ) → PlanSpeaks (meters.join own m agent now))
+    → PlanSpeaks (with_beside b (λ y. choose_agent own y k now) m)
 unfolding choose_plan resting
 chosen_speaks m b own k now h joins = by_joined (meters.is_joined m)
   where
@@ -194,19 +214,31 @@ chosen_speaks m b own k now h joins = by_joined (meters.is_joined m)
     by_agent None = none_speaks choices.NoBeacon
     by_agent (Some (address, total)) = let j = joins address in record { memory = j.memory; frames = j.frames }
 
-    by_joined : (t : Bool) → PlanSpeaks (of_memory (if t then refused choosing_ends (record { memory = m; beside = b }) choices.AlreadyJoined else joins_by own (record { memory = m; beside = b }) now (kth_of b.scan.agents k)))
+    by_joined : (t : Bool) → PlanSpeaks (of_memory (if t then refused choosing_ends (record { memory = m; beside = b }) choices.AlreadyJoined
+        else joins_by own (record { memory = m; beside = b }) now (kth_of b.scan.agents k)))
     by_joined true = none_speaks choices.AlreadyJoined
     by_joined false = by_agent (kth_of b.scan.agents k)
 
 -- # What is sent of discovery, and an acknowledgement
 
 request_octets : Spelled (requests.Request 0)
-request_octets = front 3 (8 ∷ 0 ∷ 0xFF ∷ 0xFF ∷ 0xFF ∷ 0xFF ∷ 7 ∷ []) (omega arith) (front 8 (0 ∷ 0xFF ∷ 0xFF ∷ 0xFF ∷ 0xFF ∷ 7 ∷ []) (omega arith) (front 0 (0xFF ∷ 0xFF ∷ 0xFF ∷ 0xFF ∷ 7 ∷ []) (omega arith) (front 0xFF (0xFF ∷ 0xFF ∷ 0xFF ∷ 7 ∷ []) (omega arith) (front 0xFF (0xFF ∷ 0xFF ∷ 7 ∷ []) (omega arith) (front 0xFF (0xFF ∷ 7 ∷ []) (omega arith) (front 0xFF (7 ∷ []) (omega arith) (front 7 [] (omega arith) (All-nil (λ n. n < 256)))))))))
+request_octets = front 3 (8 ∷ 0 ∷ 0xFF ∷ 0xFF ∷ 0xFF ∷ 0xFF ∷ 7 ∷ []) (omega arith)
+    (front 8 (0 ∷ 0xFF ∷ 0xFF ∷ 0xFF ∷ 0xFF ∷ 7 ∷ []) (omega arith)
+    (front 0 (0xFF ∷ 0xFF ∷ 0xFF ∷ 0xFF ∷ 7
+    ∷ []) (omega arith) (front 0xFF (0xFF ∷ 0xFF ∷ 0xFF ∷ 7 ∷ []) (omega arith)
+    (front 0xFF (0xFF ∷ 0xFF ∷ 7 ∷ []) (omega arith)
+    (front 0xFF (0xFF ∷ 7 ∷ []) (omega arith) (front 0xFF (7 ∷ []) (omega arith) (front 7 [] (omega arith) (All-nil (λ n. n < 256)))))))))
 
 beacon_spelled : (own cost : ℕ) → Spelled (requests.Beacon 0 PAN own cost)
 beacon_spelled own cost =
-    front 0 (0x80 ∷ 0 ∷ (little_bytes 2 PAN ++ (little_bytes 2 own ++ (0xFF ∷ role own ∷ 0 ∷ 0 ∷ big_bytes 2 cost)))) (omega arith) (front 0x80 (0 ∷ (little_bytes 2 PAN ++ (little_bytes 2 own ++ (0xFF ∷ role own ∷ 0 ∷ 0 ∷ big_bytes 2 cost)))) (omega arith) (front 0 (little_bytes 2 PAN ++ (little_bytes 2 own ++ (0xFF ∷ role own ∷ 0 ∷ 0 ∷ big_bytes 2 cost))) (omega arith) (both (little_bytes 2 PAN) (little_bytes 2 own ++ (0xFF ∷ role own ∷ 0 ∷ 0 ∷ big_bytes 2 cost)) (little_octets 2 PAN) (both (little_bytes 2 own) (0xFF ∷ role own ∷ 0 ∷ 0 ∷ big_bytes 2 cost) (little_octets 2 own)
-    (front 0xFF (role own ∷ 0 ∷ 0 ∷ big_bytes 2 cost) (omega arith) (front (role own) (0 ∷ 0 ∷ big_bytes 2 cost) (by_own (own == 0)) (front 0 (0 ∷ big_bytes 2 cost) (omega arith) (front 0 (big_bytes 2 cost) (omega arith) (big_octets 2 cost)))))))))
+    front 0 (0x80 ∷ 0 ∷ (little_bytes 2 PAN ++ (little_bytes 2 own ++ (0xFF ∷ role own ∷ 0 ∷ 0 ∷ big_bytes 2 cost)))) (omega arith)
+    (front 0x80 (0 ∷ (little_bytes 2 PAN ++ (little_bytes 2 own ++ (0xFF ∷ role own ∷ 0 ∷ 0 ∷ big_bytes 2 cost)))) (omega arith)
+    (front 0 (little_bytes 2 PAN ++ (little_bytes 2 own ++ (0xFF ∷ role own ∷ 0 ∷ 0 ∷ big_bytes 2 cost))) (omega arith)
+    (both (little_bytes 2 PAN) (little_bytes 2 own ++ (0xFF ∷ role own ∷ 0 ∷ 0 ∷ big_bytes 2 cost)) (little_octets 2 PAN)
+    (both (little_bytes 2 own) (0xFF ∷ role own ∷ 0 ∷ 0 ∷ big_bytes 2 cost) (little_octets 2 own)
+    (front 0xFF (role own ∷ 0 ∷ 0 ∷ big_bytes 2 cost) (omega arith)
+    (front (role own) (0 ∷ 0 ∷ big_bytes 2 cost) (by_own (own == 0))
+    (front 0 (0 ∷ big_bytes 2 cost) (omega arith) (front 0 (big_bytes 2 cost) (omega arith) (big_octets 2 cost)))))))))
   where
     by_own : (b : Bool) → (if b then 0xCF else 0x8F) < 256
     by_own true = omega arith
@@ -229,7 +261,8 @@ beacons_spelled r l scan (Some (requests.Request seq)) link = by_address (addres
     by_address (Some own) = by_cost own (cost_home r l)
 beacons_spelled r l scan (Some (requests.Beacon seq pan from cost)) link = by_tests (is_foreign l pan from) (takes_beacons l scan)
   where
-    by_tests : (s t : Bool) → SentSpelled (if s then stays_scan scan (Err scan_drops.NotForMe) else (if t then takes_beacon scan from cost link else stays_scan scan (Err scan_drops.NotScanning))).sent
+    by_tests : (s t : Bool) → SentSpelled (if s then stays_scan scan (Err scan_drops.NotForMe)
+        else (if t then takes_beacon scan from cost link else stays_scan scan (Err scan_drops.NotScanning))).sent
     by_tests true t = tt
     by_tests false true = tt
     by_tests false false = tt
@@ -238,9 +271,13 @@ ack_speaks : (m : Memory) (reply : Reply) → IsFurther Octets m (acknowledges i
 unfolding sealed resting goes empty_draft
 ack_speaks m reply = by_left (nat_lt (counters_left m.station) 1) refl
   where
-    by_left : (b : Bool) → nat_lt (counters_left m.station) 1 ≡ b → IsFurther Octets m (within (λ l. with_station l m) (λ a. a) (if b then refused local_ends m.station local_ends.spent else sealing alone local_ends (local_draft m.station 3 (Some reply.to) (ack_spelling reply.number reply.origin)) (tt {0})))
+    by_left : (b : Bool) → nat_lt (counters_left m.station) 1 ≡ b
+        → IsFurther Octets m (within (λ l. with_station l m) (λ a. a)
+        (if b then refused local_ends m.station local_ends.spent
+        else sealing alone local_ends (local_draft m.station 3 (Some reply.to) (ack_spelling reply.number reply.origin)) (tt {0})))
     by_left true e = Rests (Err locals.CounterSpent) (Err locals.Store)
-    by_left false e = Goes (Ok (tt {0})) (Err locals.Store) [] (record { to = reply.to; unit = Local 3 (ack_spelling reply.number reply.origin); note = 0 } ∷ []) tt (one_octets reply.to 3 _ (omega arith) (ack_octets reply.number reply.origin)) (omega arith) (ltb-false _ _ e)
+    by_left false e = Goes (Ok (tt {0})) (Err locals.Store) [] (record { to = reply.to; unit = Local 3 (ack_spelling reply.number reply.origin); note = 0 }
+        ∷ []) tt (one_octets reply.to 3 _ (omega arith) (ack_octets reply.number reply.origin)) (omega arith) (ltb-false _ _ e)
 
 -- # Events
 
@@ -248,53 +285,71 @@ module _ (w : World) (ok : WorldOk w) (s : WorldSpeaks w) (logs : LogsKept w) wh
   ran_octets : WorldSpeaks (ran w)
   ran_octets = record { nodes = s.nodes; flights = s.flights }
 
-  choice_speaks : (number : ℕ) (x : Node) (psk : Key) → node_at w number ≡ Some x → psk_of x ≡ Some psk → (m : Memory) → x.memory ≡ Some m → MemorySpeaks m → (b : Beside) (k : ℕ) → PlanSpeaks (with_beside b (λ y. choose_agent (identity network x psk) y k w.clock) m)
-  choice_speaks number x psk there pair m here h b k = chosen_speaks m b (identity network x psk) k w.clock h (λ agent. joins_speaks x.eui psk (at_place NodeFits w.nodes number x there ok.fits).eui (pair_of w ok s number x m psk there here pair) m h (ring_readable x m (at_place NodeOk w.nodes number x there ok.nodes) here) w.clock agent)
+  choice_speaks : (number : ℕ) (x : Node) (psk : Key) → node_at w number ≡ Some x → psk_of x ≡ Some psk → (m : Memory) → x.memory ≡ Some m → MemorySpeaks m
+      → (b : Beside) (k : ℕ) → PlanSpeaks (with_beside b (λ y. choose_agent (identity network x psk) y k w.clock) m)
+  choice_speaks number x psk there pair m here h b k = chosen_speaks m b (identity network x psk) k w.clock h
+      (λ agent. joins_speaks x.eui psk (at_place NodeFits w.nodes number x there ok.fits).eui (pair_of w ok s number x m psk there here pair) m h
+      (ring_readable x m (at_place NodeOk w.nodes number x there ok.nodes) here) w.clock agent)
 
   pub line_speaks : (event : Event) (st : Step) → IsLineStep Octets Spelled network w event st → SpeaksIn w ok s st
   line_speaks event st (Known e t is) = event_speaks w ok s event st is
   line_speaks event st (Opens begun) = record { nodes = s.nodes; flights = s.flights }
   line_speaks event st (Anew e v t moves silent) = moved_speaks (ran w) v moves (steps_ran_ok network network_ranges w ok s.flights) refl ran_octets
   line_speaks event st (After e r v t is good runs moves tells) = moved_speaks r.0 v moves good runs (event_speaks w ok s event (Ok r) is)
-  line_speaks event st (Unsends e r v t is good runs moves tells) = let m = moved_speaks r.0 v moves good runs (event_speaks w ok s event (Ok r) is) in record { nodes = m.nodes; flights = s.flights }
+  line_speaks event st (Unsends e r v t is good runs moves tells) =
+      let m = moved_speaks r.0 v moves good runs (event_speaks w ok s event (Ok r) is) in record { nodes = m.nodes; flights = s.flights }
   line_speaks event st (Unbelieves e number x octets got there says comes is) =
-      let left = acts_speaks x (Err frames.Halted) (λ m. of_station m (accept m.station x.eui (arrived network octets))) (at_place NodeSpeaks w.nodes number x there s.nodes) (λ m here h. accept_speaks m h x.eui (arrived network octets)) in
-      let t = told_speaks (ran w) number (stays (accepting network x octets).node (only said.Blacklisted)) ran_octets (record { node = left.node; frames = All-nil SentOctets }) in
+      let left = acts_speaks x (Err frames.Halted) (λ m. of_station m (accept m.station x.eui (arrived network octets)))
+      (at_place NodeSpeaks w.nodes number x there s.nodes) (λ m here h. accept_speaks m h x.eui (arrived network octets)) in
+      let t = told_speaks (ran w) number (stays (accepting network x octets).node (only said.Blacklisted)) ran_octets
+      (record { node = left.node; frames = All-nil SentOctets }) in
       record { nodes = t.nodes; flights = t.flights }
   line_speaks event st (Chooses number k x psk ne there pair) =
       let fit = at_place NodeFits w.nodes number x there ok.fits in
-      let t = told_speaks (ran w) number (reaches x (beside_at w number) (Err choices.Halted) (λ y. choose_agent (identity network x psk) y k w.clock)) ran_octets
-      (acts_speaks x (Err choices.Halted) (with_beside (beside_at w number) (λ y. choose_agent (identity network x psk) y k w.clock)) (at_place NodeSpeaks w.nodes number x there s.nodes)
+      let t = told_speaks (ran w) number (reaches x (beside_at w number) (Err choices.Halted) (λ y. choose_agent (identity network x psk) y k w.clock))
+      ran_octets
+      (acts_speaks x (Err choices.Halted) (with_beside (beside_at w number) (λ y. choose_agent (identity network x psk) y k w.clock))
+      (at_place NodeSpeaks w.nodes number x there s.nodes)
       (λ m here h. choice_speaks number x psk there pair m here h (beside_at w number) k)) in
       record { nodes = t.nodes; flights = t.flights }
 
   -- what nodes seal is octets
   pub octets_speak : Speaks Octets Spelled network w
   octets_speak = record {
-    broadcasts = λ number x m datagram are there here. broadcast_is Octets (beside_at w number) datagram m (λ own e none. one_octets to_all 4 _ (omega arith) (broadcast_octets (own_broadcast own (beside_at w number).log datagram) (omega arith) are.2));
-    asks = λ number x m target there here. ask_is Octets (beside_at w number) target m (λ own hop e route. one_octets hop 5 _ (omega arith) (path_octets (Ask target (own ∷ [])) (omega arith)));
+    broadcasts = λ number x m datagram are there here. broadcast_is Octets (beside_at w number) datagram m
+        (λ own e none. one_octets to_all 4 _ (omega arith) (broadcast_octets (own_broadcast own (beside_at w number).log datagram) (omega arith) are.2));
+    asks = λ number x m target there here. ask_is Octets (beside_at w number) target m
+        (λ own hop e route. one_octets hop 5 _ (omega arith) (path_octets (Ask target (own ∷ [])) (omega arith)));
     scans = request_octets;
-    beacons = λ number x m octets link frame there here e. subst (λ o. IfSome o Spelled) e (beacons_spelled x.role m.station (beside_at w number).scan (discovery_in octets) link);
+    beacons = λ number x m octets link frame there here e. subst (λ o. IfSome o Spelled) e
+        (beacons_spelled x.role m.station (beside_at w number).scan (discovery_in octets) link);
     commands = λ event number x octets got cost c m says comes there is e here.
         command_is Octets (All-nil OutSpeaks) (beside_at w number) (fits_at network w logs number x octets got cost m there here) m c
-        (λ own message to next a p o. one_octets to 5 _ (omega arith) (path_octets next (sent_short own c.from (next_toward m.station message) message to next (paths_spelled message c.body (commands_fit network network_ranges w ok s.flights event says number x octets got c there comes is e) p).0 o)))
+        (λ own message to next a p o. one_octets to 5 _ (omega arith)
+        (path_octets next (sent_short own c.from (next_toward m.station message) message to next
+        (paths_spelled message c.body (commands_fit network network_ranges w ok s.flights event says number x octets got c there comes is e) p).0 o)))
         (λ own d a p none.
         let sp = broadcast_spelled d c.body (commands_fit network network_ranges w ok s.flights event says number x octets got c there comes is e) p in
         let few = sp.0.hops.1 in
-        one_octets to_all 4 _ (omega arith) (broadcast_octets (hop_less d) (omega arith) (datagram_octets d (subst AreOctets sp.1 (commands_fit network network_ranges w ok s.flights event says number x octets got c there comes is e)))));
+        one_octets to_all 4 _ (omega arith) (broadcast_octets (hop_less d) (omega arith)
+        (datagram_octets d (subst AreOctets sp.1 (commands_fit network network_ranges w ok s.flights event says number x octets got c there comes is e)))));
     acknowledges = λ event number x octets got cost reply m says comes there is owed here. ack_speaks m reply;
   }
 
 -- # Runs
 
-runs_hold : (w : World) → WorldOk w → WorldSpeaks w → LogsKept w → (entries : List Entry) → AreEvents (events_of entries) → IsRun network w entries → All HoldsAfter entries
+runs_hold : (w : World) → WorldOk w → WorldSpeaks w → LogsKept w → (entries : List Entry) → AreEvents (events_of entries) → IsRun network w entries
+    → All HoldsAfter entries
 runs_hold w ok s logs [] says run = All-nil HoldsAfter
 runs_hold w ok s logs (x ∷ xs) says run =
     let event = All-head IsEvent x.event (events_of xs) says in
     let held = subst (StepHolds w) run.2 (line_steps_hold network network_ranges w ok s.flights logs x.event event) in
     let kept = subst LogsHold run.2 (line_logs_hold network network_ranges w ok s.flights logs x.event event) in
-    let next : WorldSpeaks x.after = subst (SpeaksIn w ok s) run.2 (line_speaks w ok s logs x.event (line_step network w x.event) (line_step_is Octets Spelled network network_ranges w ok s.flights logs (octets_speak w ok s logs) x.event event)) in
-    All-cons HoldsAfter x xs (record { line = held.0.0; octets = next.flights; logs = kept; few = held.0.1 }) (runs_hold x.after held.0.0 next kept xs (All-tail IsEvent x.event (events_of xs) says) run.3)
+    let next : WorldSpeaks x.after = subst (SpeaksIn w ok s) run.2
+    (line_speaks w ok s logs x.event (line_step network w x.event)
+    (line_step_is Octets Spelled network network_ranges w ok s.flights logs (octets_speak w ok s logs) x.event event)) in
+    All-cons HoldsAfter x xs (record { line = held.0.0; octets = next.flights; logs = kept; few = held.0.1 })
+    (runs_hold x.after held.0.0 next kept xs (All-tail IsEvent x.event (events_of xs) says) run.3)
 
 pub every_run_holds : EveryRunHolds
 every_run_holds entries r = runs_hold start start_ok start_speaks tt entries r.events r.run

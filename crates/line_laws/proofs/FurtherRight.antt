@@ -1,5 +1,6 @@
 -- What the history has of an event of a line with further reach is what the report says of it, and it is forged exactly where it says so.
-use Rattle.std.proofs.Common.{◌≡◌, ◌⊎◌, inl, inr, ⊎_elim, not, ℕ, ◌+◌, ◌≤◌, Bool, true, false, List, [], ◌++◌, length, Option, Some, None, Result, Ok, Err, refl, sym, ap, ◌∙◌, subst, append-nil, arith}
+use Rattle.std.proofs.Common.{◌≡◌, ◌⊎◌, inl, inr, ⊎_elim, not, ℕ, ◌+◌, ◌≤◌, Bool, true, false, List, [], ◌++◌, length, Option, Some, None, Result, Ok, Err}
+use Rattle.std.proofs.Common.{refl, sym, ap, ◌∙◌, subst, append-nil, arith}
 use Rattle.std.specs.Prelude.{◌↔◌, ◌||◌, ◌&&◌, ◌==◌, is_some, if◌then◌else◌}
 use Rattle.std.specs.Option.{option_map_or}
 use Rattle.std.proofs.lemmas.List.{length-append}
@@ -69,7 +70,9 @@ use Rattle.line_events.specs.declared.happenings.PathLine.{PathLine}
 use Rattle.line_rules.specs.Answers.{Reception, ask_word, broadcast_word, command_word, coordinator_reception, discovery_word, meter_reception, only, scan_word}
 use Rattle.line_events.specs.Events.{IsEvent}
 use Rattle.line_rules.specs.Forgery.{Comes, IsForged, accepting}
-use Rattle.line_rules.specs.Further.{line_step, agent_line, asks_by, beacon_taken, beside_at, broadcasts_by, choice_word, chooses_by, commanded, discovers_by, discovery_flights, due, due_of, has_discovered, is_reply_taken, acknowledged, acknowledging, adds_frames, bcast, of_memory, restarts_by, scanning, unbelieved, scans_by, sends_nothing, with_beside}
+use Rattle.line_rules.specs.Further.{line_step, agent_line, asks_by, beacon_taken, beside_at, broadcasts_by, choice_word, chooses_by, commanded, discovers_by}
+use Rattle.line_rules.specs.Further.{discovery_flights, due, due_of, has_discovered, is_reply_taken, acknowledged, acknowledging, adds_frames, bcast, of_memory}
+use Rattle.line_rules.specs.Further.{restarts_by, scanning, unbelieved, scans_by, sends_nothing, with_beside}
 use Rattle.line_rules.specs.Steps.{Step, acted, forged_by, happened, has_begun, identity, is_taken, note_by, ran, set_up, told, trace_of}
 use Rattle.line_rules.specs.Traces.{Adds, IsTracedRight, is_broadcast, is_done, is_issue, is_took, is_up}
 use Rattle.line_rules.specs.Worlds.{World, Trace, Further, Noticed, nothing_further, node_at}
@@ -77,12 +80,15 @@ use Rattle.line_rules.specs.Runs.{Entry}
 use Rattle.line_laws.specs.LineAccounts.{LineTracesRight}
 use Rattle.line_laws.proofs.CommandTags.{acts_made, command_made}
 use Rattle.line_laws.proofs.FurtherEvents.{IsFurtherStep, IsHeard, checks_so, found_none, further_step_is, heard_so, hearing, taker}
-use Rattle.line_laws.proofs.FurtherEvents.{Old, TurnsOn, Spreads, Seeks, Looks, Picks, Finds, Takes, Puts, Unread, IsUnbelieved, IsPlain, IsCommand, IsChecked, IsAnswered}
+use Rattle.line_laws.proofs.FurtherEvents.{Old, TurnsOn, Spreads, Seeks, Looks, Picks, Finds, Takes, Puts, Unread, IsUnbelieved, IsPlain, IsCommand, IsChecked}
+use Rattle.line_laws.proofs.FurtherEvents.{IsAnswered}
 use Rattle.line_laws.proofs.FurtherForms.{AnyUnits, ask_is, broadcast_is}
 use Rattle.line_laws.proofs.FurtherSteps.{ack_is, hears_nothing}
 use Rattle.line_laws.proofs.FurtherTellings.{untold}
 use Rattle.line_laws.proofs.Tellings.{Hears}
-use Rattle.line_laws.proofs.TracesRight.{Good, IsTracedSo, NoneCame, Plain, Right, acted_right, drop_fits, entry, false_true, forged_right, quiet_adds, quiet_right, ran_counted, received_right, right, still_right, told_counted, told_flights, told_made, unbrought, unforged}
+use Rattle.line_laws.proofs.TracesRight.{Good, IsTracedSo, NoneCame, Plain, Right, acted_right, drop_fits, entry, false_true, forged_right, quiet_adds}
+use Rattle.line_laws.proofs.TracesRight.{quiet_right, ran_counted, received_right, right, still_right, told_counted, told_flights, told_made, unbrought}
+use Rattle.line_laws.proofs.TracesRight.{unforged}
 use Rattle.line_laws.proofs.IssueMeters.{joins_opened}
 use Rattle.line_laws.proofs.IssueNodes.{acts_opened}
 

@@ -97,7 +97,8 @@ module _ (m : Memory) where
   pub further_away : {A : Type 0} {L : List Outgoing → Type 0} (p : Plan Memory A) → IsFurther L m p → Each Away p.puts
   unfolding resting
   further_away p (Rests a f) = tt
-  further_away p (Goes a f ps us logs one few left) = each_append Away ps _ (log_away ps logs) (tag_puts.counter_away Away away_so m.station.counter (length us))
+  further_away p (Goes a f ps us logs one few left) =
+      each_append Away ps _ (log_away ps logs) (tag_puts.counter_away Away away_so m.station.counter (length us))
 
   pub further_makes : {A : Type 0} {L : List Outgoing → Type 0} (p : Plan Memory A) → IsFurther L m p → p.made ≡ []
   unfolding resting
@@ -107,8 +108,10 @@ module _ (m : Memory) where
   further_grown : {A : Type 0} {L : List Outgoing → Type 0} (V : books.Book → Type 0) (p : Plan Memory A) → IsFurther L m p → Leads (Grown V) m p.puts p.memory
   unfolding resting
   further_grown V p (Rests a f) = leads_beside (Grown V) m m (λ r k. k)
-  further_grown V p (Goes a f ps us logs one few left) = leads_append (Grown V) m m (counted_on (length us) m) ps (puts_of (counter.reserve_write m.station.counter (length us))) (log_grown V m ps logs)
-      (station_grown V m m.station (record m.station { counter = counter.reserved m.station.counter (length us) }) _ (low_when (Rest Coordinator m) (rest_lasts Coordinator m) _ _ _ (λ r k.
+  further_grown V p (Goes a f ps us logs one few left) =
+      leads_append (Grown V) m m (counted_on (length us) m) ps (puts_of (counter.reserve_write m.station.counter (length us))) (log_grown V m ps logs)
+      (station_grown V m m.station (record m.station { counter = counter.reserved m.station.counter (length us) }) _
+      (low_when (Rest Coordinator m) (rest_lasts Coordinator m) _ _ _ (λ r k.
       let below = k.counter.below in
       let fits = k.range.counter in
       counter_leads (Rest Coordinator m) (rest_lasts Coordinator m) m.station (length us) (omega arith) (omega arith))))
@@ -123,9 +126,11 @@ module _ (m : Memory) where
     made = refl;
   }
 
-  pub further_clean : {A : Type 0} (S : ℕ → SentAs → Type 0) (own : ℕ) (p : Plan Memory A) → IsFurther IsOne m p → IsStationRanged m.station → StationIsTrue S own m.station → PlanClean S own m p
+  pub further_clean : {A : Type 0} (S : ℕ → SentAs → Type 0) (own : ℕ) (p : Plan Memory A) → IsFurther IsOne m p → IsStationRanged m.station
+      → StationIsTrue S own m.station → PlanClean S own m p
   unfolding resting
-  further_clean S own p (Rests a f) h is = record { ranged = h; fits = All-nil IsSent; station = is; frames = All-nil (SentIsOf S); kept = λ n i some. omega arith }
+  further_clean S own p (Rests a f) h is =
+      record { ranged = h; fits = All-nil IsSent; station = is; frames = All-nil (SentIsOf S); kept = λ n i some. omega arith }
   further_clean S own p (Goes a f ps us logs one few left) h is = record {
     ranged = record { ring = h.ring; tag = h.tag; hops = h.hops; bodies = h.bodies; number = h.number };
     fits = sealed_fit m.station.ring m.station.counter.next us h.ring left (all_out us one);
@@ -142,11 +147,13 @@ module _ (m : Memory) where
       weighs n i us Silent = rw (none_sealed m.station.ring m.station.counter.next) zero-le
       weighs n i us (One to unit target may) = sealed_weighs ends to unit target may n i m.station.ring m.station.counter.next
 
-  pub further_ranks : {A : Type 0} (At Own : ℕ → Type 0) (C : ℕ → ℕ → Rank → Type 0) (p : Plan Memory A) → IsFurther IsOne m p → IsAt At (address_of m.station) → PlanRanks At Own C m p
+  pub further_ranks : {A : Type 0} (At Own : ℕ → Type 0) (C : ℕ → ℕ → Rank → Type 0) (p : Plan Memory A) → IsFurther IsOne m p → IsAt At (address_of m.station)
+      → PlanRanks At Own C m p
   further_ranks At Own C p (Rests a f) h = resting_ranks At Own C m m a f refl refl h
   further_ranks At Own C p (Goes a f ps us logs one few left) h = record {
     leads = λ first. leads_append (RankKept Own C first) m.station.routing m.station.routing m.station.routing ps _
-        (rank_writes.away_leads Own C first m.station.routing ps (log_ranks ps logs)) (rank_writes.away_leads Own C first m.station.routing _ (ranks.counter_away m.station.counter (length us)));
+        (rank_writes.away_leads Own C first m.station.routing ps (log_ranks ps logs))
+        (rank_writes.away_leads Own C first m.station.routing _ (ranks.counter_away m.station.counter (length us)));
     account = λ sound. account_same m.station.routing sound;
     backed = λ sound. by_one us one;
     here = h;

@@ -1,5 +1,6 @@
 -- The new flights of a line with further reach have the address that their node has after the event that sent them.
-use Rattle.std.proofs.Common.{◌≡◌, ℕ, ◌+◌, ◌≤◌, true, ⊎_elim, List, [], ◌∷◌, ◌++◌, length, map, drop, Option, Some, None, Result, Ok, Err, refl, sym, ap, ◌∙◌, subst, append-nil}
+use Rattle.std.proofs.Common.{◌≡◌, ℕ, ◌+◌, ◌≤◌, true, ⊎_elim, List, [], ◌∷◌, ◌++◌, length, map, drop, Option, Some, None, Result, Ok, Err, refl, sym, ap, ◌∙◌}
+use Rattle.std.proofs.Common.{subst, append-nil}
 use Rattle.std.specs.Prelude.{All, IfSome, if◌then◌else◌, is_some}
 use Rattle.std.specs.Option.{option_and_then, option_map_or}
 use Rattle.std.proofs.Math.Seq.{drop-append_seam}
@@ -42,7 +43,8 @@ use Rattle.line_events.specs.declared.event.Event.{Event}
 use Rattle.line_rules.specs.Answers.{Reception, only}
 use Rattle.line_events.specs.Events.{IsEvent}
 use Rattle.line_rules.specs.Forgery.{Comes, accepting}
-use Rattle.line_rules.specs.Further.{line_step, broadcasts_by, asks_by, scans_by, chooses_by, discovers_by, discovery_flight, discovery_flights, commanded, acknowledged, acknowledging, adds_frames, sends_nothing, unbelieved, beside_at, reaches, with_beside}
+use Rattle.line_rules.specs.Further.{line_step, broadcasts_by, asks_by, scans_by, chooses_by, discovers_by, discovery_flight, discovery_flights, commanded}
+use Rattle.line_rules.specs.Further.{acknowledged, acknowledging, adds_frames, sends_nothing, unbelieved, beside_at, reaches, with_beside}
 use Rattle.line_rules.specs.Logs.{LogsKept}
 use Rattle.line_rules.specs.Nonces.{HasSender}
 use Rattle.line_rules.specs.SafeRuns.{HasAddress}
@@ -56,7 +58,8 @@ use Rattle.line_laws.proofs.CoordinatorCalls.{accept_failed, accept_ok, accepted
 use Rattle.line_laws.proofs.FlightFolds.{NewSenders, address_low, all_senders, came_octets, none_new, one_told, senders, speaks, told_silent}
 use Rattle.line_laws.proofs.FlightFolds.{SendersIn as SendersBefore}
 use Rattle.line_laws.proofs.FurtherEvents.{IsFurtherStep, IsHeard, checks_so, further_step_is, heard_so, hearing, taker}
-use Rattle.line_laws.proofs.FurtherEvents.{Old, TurnsOn, Spreads, Seeks, Looks, Picks, Finds, Takes, Puts, Unread, IsUnbelieved, IsPlain, IsCommand, IsChecked, IsAnswered}
+use Rattle.line_laws.proofs.FurtherEvents.{Old, TurnsOn, Spreads, Seeks, Looks, Picks, Finds, Takes, Puts, Unread, IsUnbelieved, IsPlain, IsCommand, IsChecked}
+use Rattle.line_laws.proofs.FurtherEvents.{IsAnswered}
 use Rattle.line_laws.proofs.FurtherForms.{AnyUnits, IsFurther, Goes, Rests, further_ok, ask_is, broadcast_is}
 use Rattle.line_laws.proofs.FurtherSteps.{ack_did, ack_is, choice_ok, command_silent, restarts_read}
 use Rattle.line_laws.proofs.FurtherTellings.{Speaks, any_speaks}

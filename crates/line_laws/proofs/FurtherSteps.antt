@@ -1,5 +1,6 @@
 -- What holds of a line of nodes holds after every event of a line with further reach, and no more than 24 frames are sent.
-use Rattle.std.proofs.Common.{⊎_elim, zero-le, inl, inr, ◌≡◌, ◌≢◌, ℕ, ◌+◌, ◌≤◌, ◌<◌, Bool, true, false, List, [], ◌∷◌, ◌++◌, length, get_or, take, Option, Some, None, Result, Ok, Err, refl, sym, ap, ◌∙◌, subst, arith}
+use Rattle.std.proofs.Common.{⊎_elim, zero-le, inl, inr, ◌≡◌, ◌≢◌, ℕ, ◌+◌, ◌≤◌, ◌<◌, Bool, true, false, List, [], ◌∷◌, ◌++◌, length, get_or, take, Option, Some}
+use Rattle.std.proofs.Common.{None, Result, Ok, Err, refl, sym, ap, ◌∙◌, subst, arith}
 use Rattle.std.specs.Prelude.{if◌then◌else◌, All, IfSome, IsSome, is_some, ◌==◌, ◌||◌, nat_lt, slice_get, slice_set, map}
 use Rattle.std.specs.List.{list_any}
 use Rattle.std.specs.Option.{option_map, option_map_or}
@@ -74,9 +75,13 @@ use Rattle.line_events.specs.declared.event.StepFault.{StepFault}
 use Rattle.line_events.specs.declared.event.StepFault.TheVariants as faults
 use Rattle.line_rules.specs.Answers.{Reception, coordinator_reception, frame_word, meter_reception, only}
 use Rattle.line_events.specs.Events.{IsEvent}
-use Rattle.line_rules.specs.Further.{line_step, checks, bcast, broadcasts_by, path, asks_by, scan, scans_by, choose, choice_word, chooses_by, discovers_by, discovery_flights, commanded, checked, acknowledged_if, acknowledged, acknowledging, adds_frames, sends_nothing, unbelieved, heard_by, heard_further, is_dropped, accepted_further, comes, delivers, injects, ticks, after_ok, due, with_check, restarts_by, restarts_further, beside_at, reaches, with_beside, of_memory}
+use Rattle.line_rules.specs.Further.{line_step, checks, bcast, broadcasts_by, path, asks_by, scan, scans_by, choose, choice_word, chooses_by, discovers_by}
+use Rattle.line_rules.specs.Further.{discovery_flights, commanded, checked, acknowledged_if, acknowledged, acknowledging, adds_frames, sends_nothing}
+use Rattle.line_rules.specs.Further.{unbelieved, heard_by, heard_further, is_dropped, accepted_further, comes, delivers, injects, ticks, after_ok, due}
+use Rattle.line_rules.specs.Further.{with_check, restarts_by, restarts_further, beside_at, reaches, with_beside, of_memory}
 use Rattle.line_rules.specs.Logs.{AreLogged, HaveShortTables, LogIn, LogsKept}
-use Rattle.line_rules.specs.Steps.{Step, set_up, ran, told, flights_of, happened, trace_of, has_begun, takes_setup, once_begun, in_setup, on_node, on_meter, psk_of, identity, on_flight, hears, heard, received, forged_by, note_by, restarts, tick, step}
+use Rattle.line_rules.specs.Steps.{Step, set_up, ran, told, flights_of, happened, trace_of, has_begun, takes_setup, once_begun, in_setup, on_node, on_meter}
+use Rattle.line_rules.specs.Steps.{psk_of, identity, on_flight, hears, heard, received, forged_by, note_by, restarts, tick, step}
 use Rattle.line_rules.specs.Worlds.{World, Flight, Trace, node_at, flight_at, is_forged_tag}
 use Rattle.line_rules.proofs.LogSteps.{logged_at}
 use Rattle.line_laws.specs.FurtherLines.{LineHolds, LineStepsHold, LogFits, LogsFit, StepHolds, TablesAreShort}
@@ -117,7 +122,8 @@ unfolding broadcast_fault
 logs_fit b records h own c e =
     let room : room_for b.log.marks c.origin c.number ≡ Ok (tt {0}) = fault_room _ (then_none _ _ e).1 in
     by_write (keep_write b.log.marks c.origin c.number)
-    (keep_write-within 0x0300 32 b.log.marks c.origin c.number h.sound (room_has 0x0300 32 log_faults.Old log_faults.OriginsFull b.log.marks c.origin c.number h.sound.short room))
+    (keep_write-within 0x0300 32 b.log.marks c.origin c.number h.sound
+    (room_has 0x0300 32 log_faults.Old log_faults.OriginsFull b.log.marks c.origin c.number h.sound.short room))
   where
     by_write : (o : Option Write) → IfSome o (λ w. (0x0300 ≤ w.slot) × (w.slot ≤ 0x031F)) → Each IsOfLog (puts_of o)
     by_write None k = tt
@@ -149,20 +155,28 @@ pub ack_is : (m : Memory) (reply : Reply) → IsFurther AnyUnits m (acknowledges
 unfolding sealed resting goes empty_draft
 ack_is m reply = by_left (nat_lt (counters_left m.station) 1) refl
   where
-    by_left : (b : Bool) → nat_lt (counters_left m.station) 1 ≡ b → IsFurther AnyUnits m (within (λ l. with_station l m) (λ a. a) (if b then refused local_ends m.station local_ends.spent else sealing alone local_ends (local_draft m.station 3 (Some reply.to) (ack_spelling reply.number reply.origin)) (tt {0})))
+    by_left : (b : Bool) → nat_lt (counters_left m.station) 1 ≡ b
+        → IsFurther AnyUnits m (within (λ l. with_station l m) (λ a. a)
+        (if b then refused local_ends m.station local_ends.spent
+        else sealing alone local_ends (local_draft m.station 3 (Some reply.to) (ack_spelling reply.number reply.origin)) (tt {0})))
     by_left true e = Rests (Err locals.CounterSpent) (Err locals.Store)
-    by_left false e = Goes (Ok (tt {0})) (Err locals.Store) [] (record { to = reply.to; unit = units.Local 3 (ack_spelling reply.number reply.origin); note = 0 } ∷ []) tt tt (omega arith) (ltb-false _ _ e)
+    by_left false e = Goes (Ok (tt {0})) (Err locals.Store) []
+        (record { to = reply.to; unit = units.Local 3 (ack_spelling reply.number reply.origin); note = 0 } ∷ []) tt tt (omega arith) (ltb-false _ _ e)
 
 -- what a node sends is no more than its plan has
-acts_little : {A : Type 0} (x : Node) (halted : A) (plan : Memory → Plan Memory A) (most : ℕ) → ((m : Memory) → x.memory ≡ Some m → length (plan m).frames ≤ most) → length (acts x halted plan).frames ≤ most
+acts_little : {A : Type 0} (x : Node) (halted : A) (plan : Memory → Plan Memory A) (most : ℕ)
+    → ((m : Memory) → x.memory ≡ Some m → length (plan m).frames ≤ most) → length (acts x halted plan).frames ≤ most
 unfolding acts
 acts_little {A} x halted plan most few = by_memory x.memory refl
   where
     by_outcome : (m : Memory) → length (plan m).frames ≤ most → length (carry_out x.store.records x.store.cut (plan m)).frames ≤ most
-    by_outcome m f = ⊎_elim (λ (w : IsWhole x.store.records x.store.cut (plan m) (carry_out x.store.records x.store.cut (plan m))). subst (λ fs. length fs ≤ most) (sym w.frames) f)
-        (λ (c : IsCutOff x.store.records x.store.cut (plan m) (carry_out x.store.records x.store.cut (plan m))). subst (λ fs. length fs ≤ most) (sym c.frames) zero-le) (clean x.store.records x.store.cut (plan m))
+    by_outcome m f = ⊎_elim (λ (w : IsWhole x.store.records x.store.cut (plan m) (carry_out x.store.records x.store.cut (plan m))). subst
+        (λ fs. length fs ≤ most) (sym w.frames) f)
+        (λ (c : IsCutOff x.store.records x.store.cut (plan m) (carry_out x.store.records x.store.cut (plan m))). subst (λ fs. length fs ≤ most) (sym c.frames)
+        zero-le) (clean x.store.records x.store.cut (plan m))
 
-    by_memory : (o : Option Memory) → x.memory ≡ o → length (option_map_or (λ m. left_by x (carry_out x.store.records x.store.cut (plan m))) o (stays x halted)).frames ≤ most
+    by_memory : (o : Option Memory) → x.memory ≡ o
+        → length (option_map_or (λ m. left_by x (carry_out x.store.records x.store.cut (plan m))) o (stays x halted)).frames ≤ most
     by_memory None e = zero-le
     by_memory (Some m) e = by_outcome m (few m e)
 
@@ -173,16 +187,19 @@ planned_few m p (Goes answer failed ps us logs says few left) = let short = seal
 
 -- an acknowledgement sends one frame at most
 ack_few : (x : Node) (reply : Reply) → length (acknowledging x reply).frames ≤ 1
-ack_few x reply = acts_little x (Err locals.Store) (λ m. acknowledges in_memory reply.to reply.number reply.origin m) 1 (λ m e. planned_few m _ (ack_is m reply))
+ack_few x reply =
+    acts_little x (Err locals.Store) (λ m. acknowledges in_memory reply.to reply.number reply.origin m) 1 (λ m e. planned_few m _ (ack_is m reply))
 
 node_sized : (x : Node) (m : Memory) → NodeOk x → x.memory ≡ Some m → IsMemorySized m
 node_sized x m ok here = subst (λ o. IfSome o IsMemorySized) here ok.sized
 
 pub ack_did : (x : Node) (reply : Reply) → NodeOk x → DidOk x (acknowledging x reply)
-ack_did x reply ok = acts_ok x (Err locals.Store) (λ m. acknowledges in_memory reply.to reply.number reply.origin m) ok (λ m here kept sized. further_ok AnyUnits x.role m sized _ (ack_is m reply))
+ack_did x reply ok = acts_ok x (Err locals.Store) (λ m. acknowledges in_memory reply.to reply.number reply.origin m) ok
+    (λ m here kept sized. further_ok AnyUnits x.role m sized _ (ack_is m reply))
 
 -- a choice is a joining, or nothing
-pub choice_ok : (role : Role) (m : Memory) (sized : IsMemorySized m) (ciphers : Ciphers) (fits : KeepsRanges ciphers) (own : meters.Identity) (same : own.ciphers ≡ ciphers) (b : Beside) (k now : ℕ) → PlanOk role m (with_beside b (λ y. choose_agent own y k now) m)
+pub choice_ok : (role : Role) (m : Memory) (sized : IsMemorySized m) (ciphers : Ciphers) (fits : KeepsRanges ciphers) (own : meters.Identity)
+    (same : own.ciphers ≡ ciphers) (b : Beside) (k now : ℕ) → PlanOk role m (with_beside b (λ y. choose_agent own y k now) m)
 unfolding choose_plan resting
 choice_ok role m sized ciphers fits own same b k now = by_joined (meters.is_joined m)
   where
@@ -193,9 +210,17 @@ choice_ok role m sized ciphers fits own same b k now = by_joined (meters.is_join
     by_agent None = none_ok choices.NoBeacon
     by_agent (Some (address, total)) =
         let j = join_ok role m sized ciphers fits own same address now in
-        record { leads = j.leads; sized = j.sized; few = j.few; rises = λ f. let r = j.rises f in record { high = r.high; with_own_number = r.with_own_number }; from = j.from; marked = j.marked }
+        record {
+          leads = j.leads;
+          sized = j.sized;
+          few = j.few;
+          rises = λ f. let r = j.rises f in record { high = r.high; with_own_number = r.with_own_number };
+          from = j.from;
+          marked = j.marked;
+        }
 
-    by_joined : (t : Bool) → PlanOk role m (of_memory (if t then refused choosing_ends (record { memory = m; beside = b }) choices.AlreadyJoined else joins_by own (record { memory = m; beside = b }) now (kth_of b.scan.agents k)))
+    by_joined : (t : Bool) → PlanOk role m (of_memory (if t then refused choosing_ends (record { memory = m; beside = b }) choices.AlreadyJoined
+        else joins_by own (record { memory = m; beside = b }) now (kth_of b.scan.agents k)))
     by_joined true = none_ok choices.AlreadyJoined
     by_joined false = by_agent (kth_of b.scan.agents k)
 
@@ -209,13 +234,15 @@ hears_nothing l got cost note now c e = by_path got.path (unit_in got.payload) e
     Nothing : Hearing → Type 0
     Nothing p = (p.frames ≡ []) × (unread p.answer ≡ None) × (p.memory ≡ l)
 
-    by_code : (own from : ℕ) (all : Bool) (code : ℕ) (body : List ℕ) (s t : Bool) (m p : Hearing) → (if s then None else (if t then None else Some (record { from = from; to_all = all; code = code; body = body }))) ≡ Some c
+    by_code : (own from : ℕ) (all : Bool) (code : ℕ) (body : List ℕ) (s t : Bool) (m p : Hearing)
+        → (if s then None else (if t then None else Some (record { from = from; to_all = all; code = code; body = body }))) ≡ Some c
         → Nothing (if s then m else (if t then p else resting l (Ok (heard_words.Local from all code body)) (Err drops.Store)))
     by_code own from all code body true t m p is = absurd (cc (is))
     by_code own from all code body false true m p is = absurd (cc (is))
     by_code own from all code body false false m p is = (refl, refl, refl)
 
-    by_address : (o : Option ℕ) (from : ℕ) (all : Bool) (unit : MeshUnit) → command_with from all (Some unit) ≡ Some c → Nothing (option_map_or (λ a. hear_sealed l a from all unit cost note now) o (drop_it l drops.BadUnit))
+    by_address : (o : Option ℕ) (from : ℕ) (all : Bool) (unit : MeshUnit) → command_with from all (Some unit) ≡ Some c
+        → Nothing (option_map_or (λ a. hear_sealed l a from all unit cost note now) o (drop_it l drops.BadUnit))
     by_address None from all unit is = (refl, refl, refl)
     by_address (Some own) from all (units.Local code body) is = by_code own from all code body (code == 1) (code == 2) _ _ is
     by_address (Some own) from all (units.Whole mesh octets) is = absurd (cc (is))
@@ -231,19 +258,28 @@ hears_nothing l got cost note now c e = by_path got.path (unit_in got.payload) e
 -- what a node hears of a command, and how much of a reply
 module _ (ciphers : Ciphers) (x : Node) (got : Accepted) (cost note now : ℕ) where
   abbrev hears_as : Role → NodeStep Reception
-  hears_as Coordinator = answering coordinator_reception (acts x (Err drops.Store) (λ m. coordinator_rules.hear_coordinator (record { eui = x.eui; ciphers = ciphers }) m got cost note now))
+  hears_as Coordinator = answering coordinator_reception
+      (acts x (Err drops.Store) (λ m. coordinator_rules.hear_coordinator (record { eui = x.eui; ciphers = ciphers }) m got cost note now))
   hears_as (Meter psk) = answering meter_reception (acts x (Err drops.Store) (λ m. meters.hear_meter (identity ciphers x psk) m got cost note now))
 
   pub command_silent : (c : NeighbourCommand) → command_of got ≡ Some c → (r : Role) → (hears_as r).frames ≡ []
-  command_silent c e Coordinator = acts_quiet x (Err drops.Store) (λ m. coordinator_rules.hear_coordinator (record { eui = x.eui; ciphers = ciphers }) m got cost note now)
-      (λ m. let n = hears_nothing m.station got cost note now c e in subst (λ o. (coordinator_rules.heard_by (record { eui = x.eui; ciphers = ciphers }) m now (hear m.station got cost note now) o).frames ≡ []) (sym n.1) n.0)
+  command_silent c e Coordinator =
+      acts_quiet x (Err drops.Store) (λ m. coordinator_rules.hear_coordinator (record { eui = x.eui; ciphers = ciphers }) m got cost note now)
+      (λ m. let n = hears_nothing m.station got cost note now c e in
+      subst (λ o. (coordinator_rules.heard_by (record { eui = x.eui; ciphers = ciphers }) m now (hear m.station got cost note now) o).frames ≡ []) (sym n.1)
+      n.0)
   command_silent c e (Meter psk) = acts_quiet x (Err drops.Store) (λ m. meters.hear_meter (identity ciphers x psk) m got cost note now)
-      (λ m. let n = hears_nothing m.station got cost note now c e in subst (λ o. (meters.heard_by (identity ciphers x psk) m now (hear m.station got cost note now) o).frames ≡ []) (sym n.1) n.0)
+      (λ m. let n = hears_nothing m.station got cost note now c e in
+      subst (λ o. (meters.heard_by (identity ciphers x psk) m now (hear m.station got cost note now) o).frames ≡ []) (sym n.1) n.0)
 
-  reply_few : NodeOk x → (from : ℕ) (all : Bool) (key : Key) (number c origin to : ℕ) → got.path ≡ paths.Sealed from all key → message_of got ≡ Some (Rrep number c origin to) → (r : Role) → length (hears_as r).frames ≤ 22
-  reply_few ok from all key number c origin to way e Coordinator = acts_little x (Err drops.Store) (λ m. coordinator_rules.hear_coordinator (record { eui = x.eui; ciphers = ciphers }) m got cost note now) 22
-      (λ m here. coordinators_replies_few (record { eui = x.eui; ciphers = ciphers }) m got cost note now from all key number c origin to (node_sized x m ok here).station.waiting way e)
-  reply_few ok from all key number c origin to way e (Meter psk) = acts_little x (Err drops.Store) (λ m. meters.hear_meter (identity ciphers x psk) m got cost note now) 22
+  reply_few : NodeOk x → (from : ℕ) (all : Bool) (key : Key) (number c origin to : ℕ) → got.path ≡ paths.Sealed from all key
+      → message_of got ≡ Some (Rrep number c origin to) → (r : Role) → length (hears_as r).frames ≤ 22
+  reply_few ok from all key number c origin to way e Coordinator =
+      acts_little x (Err drops.Store) (λ m. coordinator_rules.hear_coordinator (record { eui = x.eui; ciphers = ciphers }) m got cost note now) 22
+      (λ m here. coordinators_replies_few (record { eui = x.eui; ciphers = ciphers }) m got cost note now from all key number c origin to
+      (node_sized x m ok here).station.waiting way e)
+  reply_few ok from all key number c origin to way e (Meter psk) =
+      acts_little x (Err drops.Store) (λ m. meters.hear_meter (identity ciphers x psk) m got cost note now) 22
       (λ m here. meters_replies_few (identity ciphers x psk) m got cost note now from all key number c origin to (node_sized x m ok here).station.waiting way e)
 
 -- a node that is not halted was not halted before
@@ -251,12 +287,15 @@ pub acts_down : {A : Type 0} (x : Node) (halted : A) (plan : Memory → Plan Mem
 unfolding acts
 acts_down x halted plan m e = by_memory x.memory refl e
   where
-    by_memory : (o : Option Memory) → x.memory ≡ o → (option_map_or (λ n. left_by x (carry_out x.store.records x.store.cut (plan n))) o (stays x halted)).node.memory ≡ Some m → IsSome o
+    by_memory : (o : Option Memory) → x.memory ≡ o
+        → (option_map_or (λ n. left_by x (carry_out x.store.records x.store.cut (plan n))) o (stays x halted)).node.memory ≡ Some m → IsSome o
     by_memory None is k = absurd (cc (is, k))
     by_memory (Some n) is k = refl
 
-pub hears_down : (ciphers : Ciphers) (x : Node) (got : Accepted) (cost note now : ℕ) (m : Memory) (r : Role) → (hears_as ciphers x got cost note now r).node.memory ≡ Some m → IsSome x.memory
-hears_down ciphers x got cost note now m Coordinator e = acts_down x (Err drops.Store) (λ n. coordinator_rules.hear_coordinator (record { eui = x.eui; ciphers = ciphers }) n got cost note now) m e
+pub hears_down : (ciphers : Ciphers) (x : Node) (got : Accepted) (cost note now : ℕ) (m : Memory) (r : Role)
+    → (hears_as ciphers x got cost note now r).node.memory ≡ Some m → IsSome x.memory
+hears_down ciphers x got cost note now m Coordinator e =
+    acts_down x (Err drops.Store) (λ n. coordinator_rules.hear_coordinator (record { eui = x.eui; ciphers = ciphers }) n got cost note now) m e
 hears_down ciphers x got cost note now m (Meter psk) e = acts_down x (Err drops.Store) (λ n. meters.hear_meter (identity ciphers x psk) n got cost note now) m e
 
 -- the flights that were there stay
@@ -264,7 +303,8 @@ all_front : {A : Type 0} (P : A → Type 0) (xs ys : List A) → All P (xs ++ ys
 all_front P [] ys h = All-nil P
 all_front P (x ∷ xs) ys h = All-cons P x xs (All-head P x (xs ++ ys) h) (all_front P xs ys (All-tail P x (xs ++ ys) h))
 
-unsent_ok : (w v : World) → WorldOk w → WorldOk v → (rest : List Flight) → v.flights ≡ w.flights ++ rest → v.running ≡ true → (made : List PairTag) (bs : List Beside) → WorldOk (record v { flights = w.flights; made = made; beside = bs })
+unsent_ok : (w v : World) → WorldOk w → WorldOk v → (rest : List Flight) → v.flights ≡ w.flights ++ rest → v.running ≡ true
+    → (made : List PairTag) (bs : List Beside) → WorldOk (record v { flights = w.flights; made = made; beside = bs })
 unsent_ok w v ok good rest e runs made bs = record {
   nodes = good.nodes;
   fits = good.fits;
@@ -279,7 +319,8 @@ unsent_ok w v ok good rest e runs made bs = record {
 }
 
 -- the store of a node gives a log
-pub restarts_read : (ciphers : Ciphers) (w : World) → LogsKept w → (number : ℕ) (x : Node) → node_at w number ≡ Some x → (bad : BadStore) → restarted x.store.records ≡ Err bad → ⊥
+pub restarts_read : (ciphers : Ciphers) (w : World) → LogsKept w → (number : ℕ) (x : Node) → node_at w number ≡ Some x → (bad : BadStore)
+    → restarted x.store.records ≡ Err bad → ⊥
 restarts_read ciphers w logs number x there bad e = by_memory x.memory (logged_at w.beside w.nodes number x logs there)
   where
     is_read : (log : Log) → IsLogIn log x.store.records → ⊥
@@ -313,20 +354,24 @@ module _ (ciphers : Ciphers) (fits : KeepsRanges ciphers) (w : World) (ok : Worl
 
   checks_good : StepGood w (checks w)
   unfolding checks
-  checks_good = steps.setup ciphers fits w ok flown _ (steps.branch ciphers fits w ok flown w.checks_on (Err faults.Setup) (Ok (record (set_up w) { checks_on = true }, trace_of (happened w said.Set))) (λ _. Fails faults.Setup)
-      (λ _. Taken _ (counts_ok w (record (set_up w) { checks_on = true }) ok refl refl (λ e. e)) zero-le (none_more w (record (set_up w) { checks_on = true }) refl)))
+  checks_good = steps.setup ciphers fits w ok flown _ (steps.branch ciphers fits w ok flown w.checks_on (Err faults.Setup)
+      (Ok (record (set_up w) { checks_on = true }, trace_of (happened w said.Set))) (λ _. Fails faults.Setup)
+      (λ _. Taken _ (counts_ok w (record (set_up w) { checks_on = true }) ok refl refl (λ e. e)) zero-le
+      (none_more w (record (set_up w) { checks_on = true }) refl)))
 
   bcast_good : (number : ℕ) (datagram : List ℕ) → StepGood w (bcast ciphers w number datagram)
   unfolding bcast
   bcast_good number datagram = once _ (at_node number _ (λ x there.
       let h = (calls_keep ciphers fits w ok number x there).0 datagram in
-      Taken (broadcasts_by ciphers w number x datagram) h.0 h.1 (told_more ciphers (ran w) number (reaches x (beside_at w number) (Err broadcasts.Halted) (λ y. broadcast in_memory y datagram)))))
+      Taken (broadcasts_by ciphers w number x datagram) h.0 h.1
+      (told_more ciphers (ran w) number (reaches x (beside_at w number) (Err broadcasts.Halted) (λ y. broadcast in_memory y datagram)))))
 
   asks_good : (number : ℕ) (x : Node) → node_at w number ≡ Some x → (target : Option ℕ) → StepGood w (Ok (asks_by ciphers w number x target))
   asks_good number x there None = Taken _ ran_ok zero-le (none_more w (ran w) refl)
   asks_good number x there (Some target) =
       let h = (calls_keep ciphers fits w ok number x there).1 (Some target) in
-      Taken (asks_by ciphers w number x (Some target)) h.0 h.1 (told_more ciphers (ran w) number (reaches x (beside_at w number) (Err asks.Halted) (λ y. ask_path in_memory y target)))
+      Taken (asks_by ciphers w number x (Some target)) h.0 h.1
+      (told_more ciphers (ran w) number (reaches x (beside_at w number) (Err asks.Halted) (λ y. ask_path in_memory y target)))
 
   path_good : (from to : ℕ) → StepGood w (path ciphers w from to)
   unfolding path
@@ -343,21 +388,26 @@ module _ (ciphers : Ciphers) (fits : KeepsRanges ciphers) (w : World) (ok : Worl
   unfolding scan
   scan_good number = once _ (at_meter number _ (λ x there. scans_good number x there))
 
-  discovers_good : (number : ℕ) (x : Node) → node_at w number ≡ Some x → (octets : List ℕ) (link : ℕ) → StepGood w (Ok (discovers_by w number x octets link x.memory))
+  discovers_good : (number : ℕ) (x : Node) → node_at w number ≡ Some x → (octets : List ℕ) (link : ℕ)
+      → StepGood w (Ok (discovers_by w number x octets link x.memory))
   discovers_good number x there octets link = by_memory x.memory ((discovery_keeps w ok number x there).1 octets link)
     where
       by_memory : (o : Option Memory) → LineHolds (discovers_by w number x octets link o) → StepGood w (Ok (discovers_by w number x octets link o))
       by_memory None h = Taken _ h.0 h.1 (none_more w (ran w) refl)
-      by_memory (Some m) h = Taken _ h.0 h.1 (length-append w.flights (discovery_flights number (hear_discovery x.role m.station (beside_at w number).scan octets link).sent))
+      by_memory (Some m) h =
+          Taken _ h.0 h.1 (length-append w.flights (discovery_flights number (hear_discovery x.role m.station (beside_at w number).scan octets link).sent))
 
   chooses_good : (number : ℕ) (x : Node) → node_at w number ≡ Some x → (k : ℕ) (psk : Option Key) → StepGood w (Ok (chooses_by ciphers w number x k psk))
   chooses_good number x there k None = Taken _ ran_ok zero-le (none_more w (ran w) refl)
   chooses_good number x there k (Some psk) =
-      let d : NodeStep (Result ChosenAgent ChooseRefusal) = reaches x (beside_at w number) (Err choices.Halted) (λ y. choose_agent (identity ciphers x psk) y k w.clock) in
-      let did : DidOk x d = acts_ok x (Err choices.Halted) (with_beside (beside_at w number) (λ y. choose_agent (identity ciphers x psk) y k w.clock)) (node_ok number x there)
+      let d : NodeStep (Result ChosenAgent ChooseRefusal) = reaches x (beside_at w number) (Err choices.Halted)
+      (λ y. choose_agent (identity ciphers x psk) y k w.clock) in
+      let did : DidOk x d = acts_ok x (Err choices.Halted) (with_beside (beside_at w number) (λ y. choose_agent (identity ciphers x psk) y k w.clock))
+      (node_ok number x there)
       (λ m here kept sized. choice_ok x.role m sized ciphers fits (identity ciphers x psk) refl (beside_at w number) k w.clock) in
       let v : World = told ciphers (ran w) number d in
-      Taken (chooses_by ciphers w number x k (Some psk)) (counts_ok v (chooses_by ciphers w number x k (Some psk)).0 (told_ok ciphers fits (ran w) number x d ran_ok there did (λ e. absurd (true_false e))) refl refl (λ e. e)) did.few (told_more ciphers (ran w) number d)
+      Taken (chooses_by ciphers w number x k (Some psk)) (counts_ok v (chooses_by ciphers w number x k (Some psk)).0
+      (told_ok ciphers fits (ran w) number x d ran_ok there did (λ e. absurd (true_false e))) refl refl (λ e. e)) did.few (told_more ciphers (ran w) number d)
 
   choose_good : (number k : ℕ) → StepGood w (choose ciphers w number k)
   unfolding choose
@@ -374,7 +424,8 @@ module _ (ciphers : Ciphers) (fits : KeepsRanges ciphers) (w : World) (ok : Worl
   -- # Octets that come
 
   -- a node of the line that has accepted octets
-  module _ (number : ℕ) (x y : Node) (there : node_at w number ≡ Some x) (first : NodeStep (Result Accepted FrameRefusal)) (same : first.node ≡ y) (did : DidOk x first) (down : (m : Memory) → y.memory ≡ Some m → IsSome x.memory) (octets : List ℕ) where
+  module _ (number : ℕ) (x y : Node) (there : node_at w number ≡ Some x) (first : NodeStep (Result Accepted FrameRefusal)) (same : first.node ≡ y)
+      (did : DidOk x first) (down : (m : Memory) → y.memory ≡ Some m → IsSome x.memory) (octets : List ℕ) where
     good : NodeOk y
     good = subst NodeOk same did.node
 
@@ -392,7 +443,8 @@ module _ (ciphers : Ciphers) (fits : KeepsRanges ciphers) (w : World) (ok : Worl
       heard_did = and_then d (hears_ok ciphers fits w ok flown y got cost (note_by w octets got.path) w.clock good routes)
 
       pub heard_ok : WorldOk r.0
-      heard_ok = counts_ok (told ciphers (ran w) number d) r.0 (told_ok ciphers fits (ran w) number x d ran_ok there heard_did (λ e. absurd (true_false e))) refl refl (λ e. e)
+      heard_ok = counts_ok (told ciphers (ran w) number d) r.0 (told_ok ciphers fits (ran w) number x d ran_ok there heard_did (λ e. absurd (true_false e)))
+          refl refl (λ e. e)
 
       heard_good : StepGood w (Ok r)
       heard_good = Taken r heard_ok heard_did.few (told_more ciphers (ran w) number d)
@@ -407,7 +459,8 @@ module _ (ciphers : Ciphers) (fits : KeepsRanges ciphers) (w : World) (ok : Worl
 
       fits_now : (m : Memory) → d.node.memory ≡ Some m → LogFits (beside_at r.0 number)
       unfolding told
-      fits_now m here = by_memory x.memory (from_y y.memory refl (hears_down ciphers y got cost (note_by w octets got.path) w.clock m y.role here)) (logged_at w.beside w.nodes number x logs there)
+      fits_now m here = by_memory x.memory (from_y y.memory refl (hears_down ciphers y got cost (note_by w octets got.path) w.clock m y.role here))
+          (logged_at w.beside w.nodes number x logs there)
         where
           from_y : (o : Option Memory) → y.memory ≡ o → IsSome o → IsSome x.memory
           from_y None e s = absurd (cc (s))
@@ -422,7 +475,8 @@ module _ (ciphers : Ciphers) (fits : KeepsRanges ciphers) (w : World) (ok : Worl
           let none : d.frames ≡ [] = command_silent ciphers y got cost (note_by w octets got.path) w.clock c e y.role in
           let silent : r.1.happened.flights ≡ 0 = ap length none in
           let h : LineHolds (commanded ciphers number d.node c r) = commands_keep ciphers fits r heard_ok goes_on silent number d.node now_there fits_now c in
-          let more = told_more ciphers r.0 number (reaches d.node (beside_at r.0 number) (Err (reach_drops.Known drops.Store)) (λ z. hear_neighbours in_memory z c)) in
+          let more = told_more ciphers r.0 number
+          (reaches d.node (beside_at r.0 number) (Err (reach_drops.Known drops.Store)) (λ z. hear_neighbours in_memory z c)) in
           let first_more : length r.0.flights ≡ length w.flights + length d.frames = told_more ciphers (ran w) number d in
           Taken (commanded ciphers number d.node c r) h.0 h.1 (omega arith)
 
@@ -431,8 +485,10 @@ module _ (ciphers : Ciphers) (fits : KeepsRanges ciphers) (w : World) (ok : Worl
       none_if true a e = cc
       none_if false a e = cc
 
-      due_few : (p : Path) (m : Option Message) (answer : Answer) (reply : Reply) → got.path ≡ p → message_of got ≡ m → due p m answer ≡ Some reply → length d.frames ≤ 22
-      due_few (paths.Sealed from false key) (Some (Rrep n c origin to)) answer reply ep em e = reply_few ciphers y got cost (note_by w octets got.path) w.clock good from false key n c origin to ep em y.role
+      due_few : (p : Path) (m : Option Message) (answer : Answer) (reply : Reply) → got.path ≡ p → message_of got ≡ m → due p m answer ≡ Some reply
+          → length d.frames ≤ 22
+      due_few (paths.Sealed from false key) (Some (Rrep n c origin to)) answer reply ep em e =
+          reply_few ciphers y got cost (note_by w octets got.path) w.clock good from false key n c origin to ep em y.role
       due_few (paths.Sealed from false key) (Some (Rreq n c origin dest)) answer reply ep em e = absurd (none_if _ reply e)
       due_few (paths.Sealed from false key) (Some (Rerr lost to)) answer reply ep em e = absurd (none_if _ reply e)
       due_few (paths.Sealed from false key) None answer reply ep em e = absurd (none_if _ reply e)
@@ -460,7 +516,8 @@ module _ (ciphers : Ciphers) (fits : KeepsRanges ciphers) (w : World) (ok : Worl
           v = told ciphers with_it.0 number a
 
           v_ok : WorldOk v
-          v_ok = told_ok ciphers fits with_it.0 number d.node a with_ok now_there (ack_did d.node reply heard_did.node) (λ e. absurd (true_false (sym goes_on ∙ e)))
+          v_ok = told_ok ciphers fits with_it.0 number d.node a with_ok now_there (ack_did d.node reply heard_did.node)
+              (λ e. absurd (true_false (sym goes_on ∙ e)))
 
           v_more : length v.flights ≡ length with_it.0.flights + length a.frames
           v_more = told_more ciphers with_it.0 number a
@@ -472,8 +529,10 @@ module _ (ciphers : Ciphers) (fits : KeepsRanges ciphers) (w : World) (ok : Worl
           runs = refl
 
           by_memory : (t : Bool) → StepGood w (Ok (if t then adds_frames v with_it.1 a else sends_nothing w (v, with_it.1)))
-          by_memory true = let one = ack_few d.node reply in let two = v_more in let three = first_more in Taken (adds_frames v with_it.1 a) v_ok (omega arith) (omega arith)
-          by_memory false = Taken (sends_nothing w (v, with_it.1)) (unsent_ok w v ok v_ok (flights_of ciphers number d ++ flights_of ciphers number a) flies runs w.made w.beside) zero-le (none_more w w refl)
+          by_memory true = let one = ack_few d.node reply in let two = v_more in let three = first_more in
+              Taken (adds_frames v with_it.1 a) v_ok (omega arith) (omega arith)
+          by_memory false = Taken (sends_nothing w (v, with_it.1))
+              (unsent_ok w v ok v_ok (flights_of ciphers number d ++ flights_of ciphers number a) flies runs w.made w.beside) zero-le (none_more w w refl)
 
       checked_good : StepGood w (Ok (checked ciphers w number got d r))
       checked_good = by_due (due got.path (message_of got) d.answer.answer) refl
@@ -493,11 +552,14 @@ module _ (ciphers : Ciphers) (fits : KeepsRanges ciphers) (w : World) (ok : Worl
       further_good : StepGood w (Ok (heard_further ciphers w number y octets got cost))
       further_good = by_dropped (is_dropped w number got)
         where
-          by_dropped : (b : Bool) → StepGood w (Ok (if b then unbelieved ciphers w number y octets got else heard_by ciphers w number y octets got cost (command_of got)))
-          by_dropped true = steps.received_good ciphers fits w ok flown number x (forged_by w octets got.path) (stays y (only said.Blacklisted)) there (and_then (stays y (only said.Blacklisted)) (rests_ok y (only said.Blacklisted) good))
+          by_dropped : (b : Bool) → StepGood w
+              (Ok (if b then unbelieved ciphers w number y octets got else heard_by ciphers w number y octets got cost (command_of got)))
+          by_dropped true = steps.received_good ciphers fits w ok flown number x (forged_by w octets got.path) (stays y (only said.Blacklisted)) there
+              (and_then (stays y (only said.Blacklisted)) (rests_ok y (only said.Blacklisted) good))
           by_dropped false = heard_by_good (command_of got) refl
 
-  comes_good : (number : ℕ) (x : Node) (octets : List ℕ) (cost : ℕ) → node_at w number ≡ Some x → AreOctets octets → StepGood w (Ok (comes ciphers w number x octets cost))
+  comes_good : (number : ℕ) (x : Node) (octets : List ℕ) (cost : ℕ) → node_at w number ≡ Some x → AreOctets octets
+      → StepGood w (Ok (comes ciphers w number x octets cost))
   unfolding comes
   comes_good number x octets cost there are = by_kind (is_discovery octets)
     where
@@ -512,15 +574,28 @@ module _ (ciphers : Ciphers) (fits : KeepsRanges ciphers) (w : World) (ok : Worl
 
       routes : (got : Accepted) → first.answer ≡ Ok got → RoutesFit got
       routes got e =
-          let a = acts_answered x frames.Halted frames.Store plan (λ m. accept_failed ciphers fits octets are m.station _ (accept_is m.station x.eui (arrived ciphers octets))) got e in
-          accepted_routes ciphers fits octets are a.memory.station (ring_readable x a.memory (node_ok number x there) a.there) _ got (accept_is a.memory.station x.eui (arrived ciphers octets)) a.is
+          let a = acts_answered x frames.Halted frames.Store plan
+          (λ m. accept_failed ciphers fits octets are m.station _ (accept_is m.station x.eui (arrived ciphers octets))) got e in
+          accepted_routes ciphers fits octets are a.memory.station (ring_readable x a.memory (node_ok number x there) a.there) _ got
+          (accept_is a.memory.station x.eui (arrived ciphers octets)) a.is
 
       by_answer : (r : Result Accepted FrameRefusal) → first.answer ≡ r → StepGood w (Ok (accepted_further ciphers w number octets cost first))
       by_answer (Err reason) e =
           let k : NodeStep (Result Accepted FrameRefusal) = record first { answer = Err reason } in
-          rw e (Taken (told ciphers (ran w) number k, trace_of (happened w (frame_word reason))) (told_ok ciphers fits (ran w) number x k ran_ok there (record { node = did.node; role = did.role; eui = did.eui; few = did.few; rises = did.rises; from = did.from; marked = did.marked }) (λ e. absurd (true_false e))) zero-le
-          (told_none ciphers (ran w) number k (acts_quiet x (Err frames.Halted) plan (λ m. accept_quiet m.station _ _ (accept_is m.station x.eui (arrived ciphers octets))))))
-      by_answer (Ok got) e = rw e (further_good number x first.node there first refl did (λ m here. acts_down x (Err frames.Halted) plan m here) octets got cost (routes got e))
+          rw e (Taken (told ciphers (ran w) number k, trace_of (happened w (frame_word reason)))
+          (told_ok ciphers fits (ran w) number x k ran_ok there (record {
+            node = did.node;
+            role = did.role;
+            eui = did.eui;
+            few = did.few;
+            rises = did.rises;
+            from = did.from;
+            marked = did.marked;
+          }) (λ e. absurd (true_false e))) zero-le
+          (told_none ciphers (ran w) number k
+          (acts_quiet x (Err frames.Halted) plan (λ m. accept_quiet m.station _ _ (accept_is m.station x.eui (arrived ciphers octets))))))
+      by_answer (Ok got) e =
+          rw e (further_good number x first.node there first refl did (λ m here. acts_down x (Err frames.Halted) plan m here) octets got cost (routes got e))
 
       by_kind : (b : Bool) → StepGood w (Ok (if b then discovers_by w number x octets cost x.memory else accepted_further ciphers w number octets cost first))
       by_kind true = discovers_good number x there octets cost
@@ -530,11 +605,13 @@ module _ (ciphers : Ciphers) (fits : KeepsRanges ciphers) (w : World) (ok : Worl
   unfolding delivers
   delivers_good flight number cost = once _ (at_node number _ (λ x there. by_flight x there (flight_at w flight) refl))
     where
-      by_lost : (x : Node) → node_at w number ≡ Some x → (f : Flight) (b : Bool) → flight_at w flight ≡ Some f → StepGood w (if b then Err faults.Flight else Ok (comes ciphers w number x f.octets cost))
+      by_lost : (x : Node) → node_at w number ≡ Some x → (f : Flight) (b : Bool) → flight_at w flight ≡ Some f
+          → StepGood w (if b then Err faults.Flight else Ok (comes ciphers w number x f.octets cost))
       by_lost x there f true is = Fails faults.Flight
       by_lost x there f false is = comes_good number x f.octets cost there (steps.flight_octets ciphers fits w ok flown flight f is)
 
-      by_flight : (x : Node) → node_at w number ≡ Some x → (o : Option Flight) → flight_at w flight ≡ o → StepGood w (option_map_or (λ f. if f.lost then Err faults.Flight else Ok (comes ciphers w number x f.octets cost)) o (Err faults.Flight))
+      by_flight : (x : Node) → node_at w number ≡ Some x → (o : Option Flight) → flight_at w flight ≡ o
+          → StepGood w (option_map_or (λ f. if f.lost then Err faults.Flight else Ok (comes ciphers w number x f.octets cost)) o (Err faults.Flight))
       by_flight x there None is = Fails faults.Flight
       by_flight x there (Some f) is = by_lost x there f f.lost is
 
@@ -544,8 +621,10 @@ module _ (ciphers : Ciphers) (fits : KeepsRanges ciphers) (w : World) (ok : Worl
 
   -- # Restarts
 
-  restarts_good : (number : ℕ) (x : Node) → node_at w number ≡ Some x → (o : Result Beside BadStore) → restarted x.store.records ≡ o → StepGood w (Ok (restarts_by ciphers w number x o))
-  restarts_good number x there (Ok b) e = aside _ _ _ (steps.acted_good ciphers fits w ok flown number x (restarts x) there (steps.restarts_ok x (node_ok number x there)))
+  restarts_good : (number : ℕ) (x : Node) → node_at w number ≡ Some x → (o : Result Beside BadStore) → restarted x.store.records ≡ o
+      → StepGood w (Ok (restarts_by ciphers w number x o))
+  restarts_good number x there (Ok b) e =
+      aside _ _ _ (steps.acted_good ciphers fits w ok flown number x (restarts x) there (steps.restarts_ok x (node_ok number x there)))
   restarts_good number x there (Err bad) e = absurd (restarts_read ciphers w logs number x there bad e)
 
   restart_good : (number : ℕ) → StepGood w (restarts_further ciphers w number)

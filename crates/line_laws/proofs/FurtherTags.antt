@@ -1,5 +1,6 @@
 -- Further reach takes no tag of a datagram, so the tags of a line with it rise as those of a line without.
-use Rattle.std.proofs.Common.{◌≡◌, ◌≢◌, ⊎_elim, ℕ, ◌+◌, ◌<◌, Bool, true, false, List, length, Option, Some, None, Result, Ok, Err, refl, sym, ap, ◌∙◌, subst, arith}
+use Rattle.std.proofs.Common.{◌≡◌, ◌≢◌, ⊎_elim, ℕ, ◌+◌, ◌<◌, Bool, true, false, List, length, Option, Some, None, Result, Ok, Err, refl, sym, ap, ◌∙◌, subst}
+use Rattle.std.proofs.Common.{arith}
 use Rattle.std.specs.Prelude.{if◌then◌else◌, slice_get, slice_set}
 use Rattle.std.specs.Option.{option_map_or}
 use Rattle.std.specs.FinMap.{get}
@@ -40,7 +41,8 @@ use Rattle.line_laws.proofs.FurtherSeals.{further_away}
 use Rattle.line_laws.proofs.FurtherTellings.{IsLineStep, Moves}
 use Rattle.line_laws.proofs.FurtherTellings.{Known, Opens, Anew, After, Unsends, Unbelieves, Chooses, Stays, Carries, Flies, Besides, Turns}
 use Rattle.line_laws.proofs.TagPuts.{Away, carried_puts, join_away}
-use Rattle.line_laws.proofs.TagRuns.{Moved, IsNew, Was, StepTags, TagNow, TagStays, accepts_stays, event_tags, next_tags, none_took, put_same, same_moved, told_tags}
+use Rattle.line_laws.proofs.TagRuns.{Moved, IsNew, Was, StepTags, TagNow, TagStays, accepts_stays, event_tags, next_tags, none_took, put_same, same_moved}
+use Rattle.line_laws.proofs.TagRuns.{told_tags}
 use Rattle.line_laws.proofs.TagRuns.{Stays as Remains, Rises}
 use Rattle.line_laws.proofs.Tellings.{IsStep}
 use Rattle.line_laws.proofs.TracesRight.{Good, right}

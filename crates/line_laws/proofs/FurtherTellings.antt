@@ -1,5 +1,6 @@
 -- How an event of a line with further reach is made: of what nodes without it do, and of moves after that.
-use Rattle.std.proofs.Common.{⊎_elim, zero-le, inl, inr, ◌≡◌, ◌≢◌, ℕ, ◌+◌, ◌≤◌, ◌<◌, Bool, true, false, List, [], ◌∷◌, ◌++◌, length, get_or, take, Option, Some, None, Result, Ok, Err, refl, sym, ap, ◌∙◌, subst, arith}
+use Rattle.std.proofs.Common.{⊎_elim, zero-le, inl, inr, ◌≡◌, ◌≢◌, ℕ, ◌+◌, ◌≤◌, ◌<◌, Bool, true, false, List, [], ◌∷◌, ◌++◌, length, get_or, take, Option, Some}
+use Rattle.std.proofs.Common.{None, Result, Ok, Err, refl, sym, ap, ◌∙◌, subst, arith}
 use Rattle.std.specs.Prelude.{if◌then◌else◌, All, IfSome, IsSome, is_some, ◌==◌, ◌||◌, nat_lt, slice_get, slice_set, map}
 use Rattle.std.specs.List.{list_any}
 use Rattle.std.specs.Option.{option_map, option_map_or}
@@ -74,9 +75,13 @@ use Rattle.line_events.specs.declared.event.StepFault.{StepFault}
 use Rattle.line_events.specs.declared.event.StepFault.TheVariants as faults
 use Rattle.line_rules.specs.Answers.{Reception, coordinator_reception, frame_word, meter_reception, only}
 use Rattle.line_events.specs.Events.{IsEvent, IsLineOctets}
-use Rattle.line_rules.specs.Further.{line_step, checks, bcast, broadcasts_by, path, asks_by, scan, scans_by, choose, choice_word, chooses_by, discovers_by, discovery_flights, commanded, checked, acknowledged_if, acknowledged, acknowledging, adds_frames, sends_nothing, unbelieved, heard_by, heard_further, is_dropped, accepted_further, comes, delivers, injects, ticks, after_ok, due, with_check, restarts_by, restarts_further, beside_at, reaches, with_beside, of_memory}
+use Rattle.line_rules.specs.Further.{line_step, checks, bcast, broadcasts_by, path, asks_by, scan, scans_by, choose, choice_word, chooses_by, discovers_by}
+use Rattle.line_rules.specs.Further.{discovery_flights, commanded, checked, acknowledged_if, acknowledged, acknowledging, adds_frames, sends_nothing}
+use Rattle.line_rules.specs.Further.{unbelieved, heard_by, heard_further, is_dropped, accepted_further, comes, delivers, injects, ticks, after_ok, due}
+use Rattle.line_rules.specs.Further.{with_check, restarts_by, restarts_further, beside_at, reaches, with_beside, of_memory}
 use Rattle.line_rules.specs.Logs.{AreLogged, HaveShortTables, LogIn, LogsKept}
-use Rattle.line_rules.specs.Steps.{Step, set_up, ran, told, acted, ticked, flights_of, happened, trace_of, has_begun, takes_setup, once_begun, in_setup, on_node, on_meter, psk_of, identity, on_flight, hears, heard, received, forged_by, note_by, restarts, tick, step}
+use Rattle.line_rules.specs.Steps.{Step, set_up, ran, told, acted, ticked, flights_of, happened, trace_of, has_begun, takes_setup, once_begun, in_setup}
+use Rattle.line_rules.specs.Steps.{on_node, on_meter, psk_of, identity, on_flight, hears, heard, received, forged_by, note_by, restarts, tick, step}
 use Rattle.line_rules.specs.Worlds.{World, Flight, Trace, node_at, flight_at, is_forged_tag}
 use Rattle.line_rules.proofs.LogSteps.{logged_at}
 use Rattle.line_laws.specs.FurtherLines.{LineHolds, LineStepsHold, LogFits, LogsFit, StepHolds, TablesAreShort}
@@ -146,7 +151,8 @@ use Rattle.line_rules.specs.Steps.{flight_by, accepted_by, arrives, deliver, inj
 -- of what flies so.
 pub data Moves (U : List Outgoing → Type 0) (D : Discovery → Type 0) (ciphers : Ciphers) : World → World → Type 1 where
   Stays : (w : World) → Moves U D ciphers w w
-  Carries : (w : World) (number : ℕ) (x : Node) (A : Type 0) (halted : A) (does : Memory → Plan Memory A) → node_at w number ≡ Some x → ((m : Memory) → x.memory ≡ Some m → IsFurther U m (does m))
+  Carries : (w : World) (number : ℕ) (x : Node) (A : Type 0) (halted : A) (does : Memory → Plan Memory A) → node_at w number ≡ Some x
+      → ((m : Memory) → x.memory ≡ Some m → IsFurther U m (does m))
       → Moves U D ciphers w (told ciphers w number (acts x halted does))
   Flies : (w : World) (number : ℕ) (x : Node) (frame : Discovery) → node_at w number ≡ Some x → D frame → Moves U D ciphers w (flown_world number frame w)
   Besides : (w : World) (on : Bool) (bs : List Beside) → Moves U D ciphers w (record w { checks_on = on; beside = bs })
@@ -192,7 +198,8 @@ pub data IsLineStepBy (Old : Event → Step → Type 1) (U : List Outgoing → T
   Unsends : (event : Event) (r : World × Trace) (v : World) (t : Trace) → Old event (Ok r) → WorldOk r.0 → r.0.running ≡ true → Moves U D ciphers r.0 v
       → Tells r.1 t → IsLineStepBy Old U D ciphers w event (Ok (sends_nothing w (v, t)))
   -- a request of a listed neighbour is dropped once it is accepted
-  Unbelieves : (event : Event) (number : ℕ) (x : Node) (octets : List ℕ) (got : Accepted) → node_at w number ≡ Some x → IsEvent event → Comes w event number octets → (accepting ciphers x octets).answer ≡ Ok got
+  Unbelieves : (event : Event) (number : ℕ) (x : Node) (octets : List ℕ) (got : Accepted) → node_at w number ≡ Some x → IsEvent event
+      → Comes w event number octets → (accepting ciphers x octets).answer ≡ Ok got
       → IsLineStepBy Old U D ciphers w event (Ok (unbelieved ciphers w number (accepting ciphers x octets).node octets got))
   -- a meter joins by an agent that it heard
   Chooses : (number k : ℕ) (x : Node) (psk : Key) → number ≢ 0 → node_at w number ≡ Some x → psk_of x ≡ Some psk
@@ -204,17 +211,24 @@ IsLineStep U D ciphers w event s = IsLineStepBy (IsStep ciphers w) U D ciphers w
 
 -- What is known of what the nodes of a world seal by further rules.
 pub record Speaks (U : List Outgoing → Type 0) (D : Discovery → Type 0) (ciphers : Ciphers) (w : World) : Type 0 where
-  pub broadcasts : (number : ℕ) (x : Node) (m : Memory) (datagram : List ℕ) → IsLineOctets datagram → node_at w number ≡ Some x → x.memory ≡ Some m → IsFurther U m (with_beside (beside_at w number) (λ y. broadcast in_memory y datagram) m)
-  pub asks : (number : ℕ) (x : Node) (m : Memory) (target : ℕ) → node_at w number ≡ Some x → x.memory ≡ Some m → IsFurther U m (with_beside (beside_at w number) (λ y. ask_path in_memory y target) m)
+  pub broadcasts : (number : ℕ) (x : Node) (m : Memory) (datagram : List ℕ) → IsLineOctets datagram → node_at w number ≡ Some x → x.memory ≡ Some m
+      → IsFurther U m (with_beside (beside_at w number) (λ y. broadcast in_memory y datagram) m)
+  pub asks : (number : ℕ) (x : Node) (m : Memory) (target : ℕ) → node_at w number ≡ Some x → x.memory ≡ Some m
+      → IsFurther U m (with_beside (beside_at w number) (λ y. ask_path in_memory y target) m)
   -- of discovery
   pub scans : D (requests.Request 0)
-  pub beacons : (number : ℕ) (x : Node) (m : Memory) (octets : List ℕ) (link : ℕ) (frame : Discovery) → node_at w number ≡ Some x → x.memory ≡ Some m → (hear_discovery x.role m.station (beside_at w number).scan octets link).sent ≡ Some frame → D frame
+  pub beacons : (number : ℕ) (x : Node) (m : Memory) (octets : List ℕ) (link : ℕ) (frame : Discovery) → node_at w number ≡ Some x → x.memory ≡ Some m
+      → (hear_discovery x.role m.station (beside_at w number).scan octets link).sent ≡ Some frame → D frame
   -- of a command that it accepted, and of the acknowledgement of a reply
-  pub commands : (event : Event) (number : ℕ) (x : Node) (octets : List ℕ) (got : Accepted) (cost : ℕ) (c : NeighbourCommand) (m : Memory) → IsEvent event → Comes w event number octets → node_at w number ≡ Some x → (accepting ciphers x octets).answer ≡ Ok got → command_of got ≡ Some c
-      → (hears ciphers (accepting ciphers x octets).node got cost (note_by w octets got.path) w.clock).node.memory ≡ Some m → IsFurther U m (with_beside (beside_at w number) (λ y. hear_neighbours in_memory y c) m)
-  pub acknowledges : (event : Event) (number : ℕ) (x : Node) (octets : List ℕ) (got : Accepted) (cost : ℕ) (reply : Reply) (m : Memory) → IsEvent event → Comes w event number octets → node_at w number ≡ Some x → (accepting ciphers x octets).answer ≡ Ok got
+  pub commands : (event : Event) (number : ℕ) (x : Node) (octets : List ℕ) (got : Accepted) (cost : ℕ) (c : NeighbourCommand) (m : Memory) → IsEvent event
+      → Comes w event number octets → node_at w number ≡ Some x → (accepting ciphers x octets).answer ≡ Ok got → command_of got ≡ Some c
+      → (hears ciphers (accepting ciphers x octets).node got cost (note_by w octets got.path) w.clock).node.memory ≡ Some m
+      → IsFurther U m (with_beside (beside_at w number) (λ y. hear_neighbours in_memory y c) m)
+  pub acknowledges : (event : Event) (number : ℕ) (x : Node) (octets : List ℕ) (got : Accepted) (cost : ℕ) (reply : Reply) (m : Memory) → IsEvent event
+      → Comes w event number octets → node_at w number ≡ Some x → (accepting ciphers x octets).answer ≡ Ok got
       → due got.path (message_of got) (hears ciphers (accepting ciphers x octets).node got cost (note_by w octets got.path) w.clock).answer.answer ≡ Some reply
-      → (hears ciphers (accepting ciphers x octets).node got cost (note_by w octets got.path) w.clock).node.memory ≡ Some m → IsFurther U m (acknowledges in_memory reply.to reply.number reply.origin m)
+      → (hears ciphers (accepting ciphers x octets).node got cost (note_by w octets got.path) w.clock).node.memory ≡ Some m
+      → IsFurther U m (acknowledges in_memory reply.to reply.number reply.origin m)
 
 -- what a node does by such plans makes and checks no pair tag
 module _ (U : List Outgoing → Type 0) {A : Type 0} (x : Node) (halted : A) (does : Memory → Plan Memory A) where
@@ -227,15 +241,21 @@ module _ (U : List Outgoing → Type 0) {A : Type 0} (x : Node) (halted : A) (do
   unfolding acts
   untold is = by_memory x.memory refl
     where
-      by_outcome : (m : Memory) → IsFurther U m (does m) → ((carry_out x.store.records x.store.cut (does m)).made ≡ []) × ((carry_out x.store.records x.store.cut (does m)).opened ≡ [])
-      by_outcome m f = let n = plan_untold m (does m) f in ⊎_elim (λ (w : IsWhole x.store.records x.store.cut (does m) (carry_out x.store.records x.store.cut (does m))). (w.made ∙ n.0, w.opened ∙ n.1))
-          (λ (c : IsCutOff x.store.records x.store.cut (does m) (carry_out x.store.records x.store.cut (does m))). (c.made, c.opened ∙ n.1)) (clean x.store.records x.store.cut (does m))
+      by_outcome : (m : Memory) → IsFurther U m (does m)
+          → ((carry_out x.store.records x.store.cut (does m)).made ≡ []) × ((carry_out x.store.records x.store.cut (does m)).opened ≡ [])
+      by_outcome m f = let n = plan_untold m (does m) f in
+          ⊎_elim (λ (w : IsWhole x.store.records x.store.cut (does m) (carry_out x.store.records x.store.cut (does m))). (w.made ∙ n.0, w.opened ∙ n.1))
+          (λ (c : IsCutOff x.store.records x.store.cut (does m) (carry_out x.store.records x.store.cut (does m))). (c.made, c.opened ∙ n.1))
+          (clean x.store.records x.store.cut (does m))
 
-      by_memory : (o : Option Memory) → x.memory ≡ o → ((option_map_or (λ m. left_by x (carry_out x.store.records x.store.cut (does m))) o (stays x halted)).made ≡ []) × ((option_map_or (λ m. left_by x (carry_out x.store.records x.store.cut (does m))) o (stays x halted)).opened ≡ [])
+      by_memory : (o : Option Memory) → x.memory ≡ o
+          → ((option_map_or (λ m. left_by x (carry_out x.store.records x.store.cut (does m))) o (stays x halted)).made ≡ [])
+          × ((option_map_or (λ m. left_by x (carry_out x.store.records x.store.cut (does m))) o (stays x halted)).opened ≡ [])
       by_memory None e = (refl, refl)
       by_memory (Some m) e = by_outcome m (is m e)
 
-told_same : (s t : Trace) → t.happened.forged ≡ s.happened.forged → t.happened.up ≡ s.happened.up → t.sent ≡ s.sent → t.issued ≡ s.issued → t.taken ≡ s.taken → t.done ≡ s.done → t.made ≡ s.made → t.opened ≡ s.opened → Tells s t
+told_same : (s t : Trace) → t.happened.forged ≡ s.happened.forged → t.happened.up ≡ s.happened.up → t.sent ≡ s.sent → t.issued ≡ s.issued → t.taken ≡ s.taken
+    → t.done ≡ s.done → t.made ≡ s.made → t.opened ≡ s.opened → Tells s t
 told_same s t a b c d e f g h = record { forged = a; up = b; sent = c; issued = d; taken = e; done = f; made = g; opened = h }
 
 module _ (U : List Outgoing → Type 0) (D : Discovery → Type 0) (ciphers : Ciphers) (fits : KeepsRanges ciphers) (w : World) (ok : WorldOk w)
@@ -252,7 +272,8 @@ module _ (U : List Outgoing → Type 0) (D : Discovery → Type 0) (ciphers : Ci
   branch event true p q s t = s refl
   branch event false p q s t = t refl
 
-  by_option : {X : Type 0} (event : Event) (f : X → Step) (x : Option X) (p : Step) → ((y : X) → x ≡ Some y → Is event (f y)) → Is event p → Is event (option_map_or f x p)
+  by_option : {X : Type 0} (event : Event) (f : X → Step) (x : Option X) (p : Step) → ((y : X) → x ≡ Some y → Is event (f y)) → Is event p
+      → Is event (option_map_or f x p)
   by_option event f None p s t = t
   by_option event f (Some y) p s t = s y refl
 
@@ -265,8 +286,10 @@ module _ (U : List Outgoing → Type 0) (D : Discovery → Type 0) (ciphers : Ci
   at_node : (event : Event) (number : ℕ) (f : Node → Step) → ((x : Node) → node_at w number ≡ Some x → Is event (f x)) → Is event (on_node w number f)
   at_node event number f h = by_option event f (node_at w number) (Err faults.Node) h (failed event faults.Node)
 
-  at_meter : (event : Event) (number : ℕ) (f : Node → Step) → (number ≢ 0 → (x : Node) → node_at w number ≡ Some x → Is event (f x)) → Is event (on_meter w number f)
-  at_meter event number f h = branch event (number == 0) (Err faults.Node) (on_node w number f) (λ _. failed event faults.Node) (λ e. at_node event number f (h (eqb-false _ _ e)))
+  at_meter : (event : Event) (number : ℕ) (f : Node → Step) → (number ≢ 0 → (x : Node) → node_at w number ≡ Some x → Is event (f x))
+      → Is event (on_meter w number f)
+  at_meter event number f h =
+      branch event (number == 0) (Err faults.Node) (on_node w number f) (λ _. failed event faults.Node) (λ e. at_node event number f (h (eqb-false _ _ e)))
 
   at_flight : (event : Event) (number : ℕ) (f : Flight → Step) → ((x : Flight) → flight_at w number ≡ Some x → Is event (f x)) → Is event (on_flight w number f)
   at_flight event number f h = by_option event (λ x. if x.lost then Err faults.Flight else f x) (flight_at w number) (Err faults.Flight)
@@ -290,7 +313,8 @@ module _ (U : List Outgoing → Type 0) (D : Discovery → Type 0) (ciphers : Ci
       let n = untold U x (Err broadcasts.Halted) (with_beside (beside_at w number) (λ y. broadcast in_memory y datagram)) is in
       let v : World = told ciphers (ran w) number (reaches x (beside_at w number) (Err broadcasts.Halted) (λ y. broadcast in_memory y datagram)) in
       Anew _ (broadcasts_by ciphers w number x datagram).0 (broadcasts_by ciphers w number x datagram).1
-      (Turns (ran w) v _ (Carries (ran w) number x _ (Err broadcasts.Halted) (with_beside (beside_at w number) (λ y. broadcast in_memory y datagram)) there is) (Besides v v.checks_on (broadcasts_by ciphers w number x datagram).0.beside))
+      (Turns (ran w) v _ (Carries (ran w) number x _ (Err broadcasts.Halted) (with_beside (beside_at w number) (λ y. broadcast in_memory y datagram)) there is)
+      (Besides v v.checks_on (broadcasts_by ciphers w number x datagram).0.beside))
       (record { forged = refl; up = refl; sent = refl; issued = refl; taken = refl; done = refl; made = n.0; opened = n.1 })))
 
   asks_step : (from to : ℕ) (x : Node) → node_at w from ≡ Some x → (target : Option ℕ) → Is (events.Path from to) (Ok (asks_by ciphers w from x target))
@@ -300,38 +324,50 @@ module _ (U : List Outgoing → Type 0) (D : Discovery → Type 0) (ciphers : Ci
       let n = untold U x (Err asks.Halted) (with_beside (beside_at w from) (λ y. ask_path in_memory y target)) is in
       let v : World = told ciphers (ran w) from (reaches x (beside_at w from) (Err asks.Halted) (λ y. ask_path in_memory y target)) in
       Anew _ (asks_by ciphers w from x (Some target)).0 (asks_by ciphers w from x (Some target)).1
-      (Turns (ran w) v _ (Carries (ran w) from x _ (Err asks.Halted) (with_beside (beside_at w from) (λ y. ask_path in_memory y target)) there is) (Besides v v.checks_on (asks_by ciphers w from x (Some target)).0.beside))
+      (Turns (ran w) v _ (Carries (ran w) from x _ (Err asks.Halted) (with_beside (beside_at w from) (λ y. ask_path in_memory y target)) there is)
+      (Besides v v.checks_on (asks_by ciphers w from x (Some target)).0.beside))
       (record { forged = refl; up = refl; sent = refl; issued = refl; taken = refl; done = refl; made = n.0; opened = n.1 })
 
   path_step : (from to : ℕ) → Is (events.Path from to) (path ciphers w from to)
   unfolding path
   path_step from to = once _ _ (at_node _ from _ (λ x there. at_node _ to _ (λ y other. asks_step from to x there (node_address y))))
 
-  discovered_step : {A : Type 0} (event : Event) (number : ℕ) (x : Node) → node_at w number ≡ Some x → (word : A → Answer) (noticed : A → Option Noticed) (d : Discovering A) → ((frame : Discovery) → d.sent ≡ Some frame → D frame) → Is event (Ok (has_discovered w number word noticed d))
+  discovered_step : {A : Type 0} (event : Event) (number : ℕ) (x : Node) → node_at w number ≡ Some x
+      → (word : A → Answer) (noticed : A → Option Noticed) (d : Discovering A) → ((frame : Discovery) → d.sent ≡ Some frame → D frame)
+      → Is event (Ok (has_discovered w number word noticed d))
   discovered_step event number x there word noticed d known = by_sent d.sent known (has_discovered w number word noticed d).0.beside
-      (record (trace_of (record (happened w (word d.answer)) { flights = length (discovery_flights number d.sent) })) { further = record nothing_further { noticed = noticed d.answer } })
+      (record (trace_of (record (happened w (word d.answer)) { flights = length (discovery_flights number d.sent) }))
+      { further = record nothing_further { noticed = noticed d.answer } })
       (record { forged = refl; up = refl; sent = refl; issued = refl; taken = refl; done = refl; made = refl; opened = refl })
     where
-      by_sent : (o : Option Discovery) → ((frame : Discovery) → o ≡ Some frame → D frame) → (bs : List Beside) (t : Trace) → IsSilent t → Is event (Ok (record (ran w) { flights = w.flights ++ discovery_flights number o; beside = bs }, t))
-      by_sent None known bs t s = subst (λ fs. Is event (Ok (record (ran w) { flights = fs; beside = bs }, t))) (sym (append-nil w.flights)) (Anew event (record (ran w) { beside = bs }) t (Besides (ran w) w.checks_on bs) s)
-      by_sent (Some frame) known bs t s = Anew event (record (ran w) { flights = w.flights ++ discovery_flights number (Some frame); beside = bs }) t (Turns (ran w) (flown_world number frame (ran w)) _ (Flies (ran w) number x frame there (known frame refl)) (Besides (flown_world number frame (ran w)) w.checks_on bs)) s
+      by_sent : (o : Option Discovery) → ((frame : Discovery) → o ≡ Some frame → D frame) → (bs : List Beside) (t : Trace) → IsSilent t
+          → Is event (Ok (record (ran w) { flights = w.flights ++ discovery_flights number o; beside = bs }, t))
+      by_sent None known bs t s = subst (λ fs. Is event (Ok (record (ran w) { flights = fs; beside = bs }, t))) (sym (append-nil w.flights))
+          (Anew event (record (ran w) { beside = bs }) t (Besides (ran w) w.checks_on bs) s)
+      by_sent (Some frame) known bs t s = Anew event (record (ran w) { flights = w.flights ++ discovery_flights number (Some frame); beside = bs }) t
+          (Turns (ran w) (flown_world number frame (ran w)) _ (Flies (ran w) number x frame there (known frame refl))
+          (Besides (flown_world number frame (ran w)) w.checks_on bs)) s
 
   request_known : (m : Memory) (frame : Discovery) (scan : Scanned) → (begin_scan m scan).sent ≡ Some frame → D frame
   request_known m frame scan e = by_joined (meters.is_joined m) scan e
     where
-      by_joined : (b : Bool) (scan : Scanned) → (if b then stays_scan {A = Result (Unit {0}) ScanRefusal} scan (Err scan_faults.AlreadyJoined) else record { answer = Ok (tt {0}); scan = begun; sent = Some (requests.Request 0) }).sent ≡ Some frame → D frame
+      by_joined : (b : Bool) (scan : Scanned)
+          → (if b then stays_scan {A = Result (Unit {0}) ScanRefusal} scan (Err scan_faults.AlreadyJoined)
+          else record { answer = Ok (tt {0}); scan = begun; sent = Some (requests.Request 0) }).sent ≡ Some frame → D frame
       by_joined true scan is = absurd (cc (is))
       by_joined false scan is = subst D (same_Some _ _ is) speaks.scans
 
   scans_step : (number : ℕ) (x : Node) → node_at w number ≡ Some x → (o : Option Memory) → Is (events.Scan number) (Ok (scans_by w number o))
   scans_step number x there None = rests _ _ (silent said.Halted)
-  scans_step number x there (Some m) = discovered_step _ number x there scan_word (scanning number) (begin_scan m (beside_at w number).scan) (λ frame e. request_known m frame (beside_at w number).scan e)
+  scans_step number x there (Some m) = discovered_step _ number x there scan_word (scanning number) (begin_scan m (beside_at w number).scan)
+      (λ frame e. request_known m frame (beside_at w number).scan e)
 
   scan_step : (number : ℕ) → Is (events.Scan number) (scan w number)
   unfolding scan
   scan_step number = once _ _ (at_meter _ number _ (λ ne x there. scans_step number x there x.memory))
 
-  chooses_step : (number k : ℕ) (x : Node) → number ≢ 0 → node_at w number ≡ Some x → (psk : Option Key) → psk_of x ≡ psk → Is (events.Choose number k) (Ok (chooses_by ciphers w number x k psk))
+  chooses_step : (number k : ℕ) (x : Node) → number ≢ 0 → node_at w number ≡ Some x → (psk : Option Key) → psk_of x ≡ psk
+      → Is (events.Choose number k) (Ok (chooses_by ciphers w number x k psk))
   chooses_step number k x ne there None e = rests _ _ (silent said.NoBeacon)
   chooses_step number k x ne there (Some psk) e = Chooses number k x psk ne there e
 
@@ -412,9 +448,12 @@ module _ (U : List Outgoing → Type 0) (D : Discovery → Type 0) (ciphers : Ci
     commanded_step : (c : NeighbourCommand) → command_of got ≡ Some c → Is event (Ok (commanded ciphers number d.node c r))
     unfolding told
     commanded_step c e =
-        let v : World = told ciphers r.0 number (reaches d.node (beside_at r.0 number) (Err (reach_drops.Known drops.Store)) (λ z. hear_neighbours in_memory z c)) in
+        let v : World = told ciphers r.0 number
+        (reaches d.node (beside_at r.0 number) (Err (reach_drops.Known drops.Store)) (λ z. hear_neighbours in_memory z c)) in
         After event r (commanded ciphers number d.node c r).0 (commanded ciphers number d.node c r).1 before good goes_on
-        (Turns r.0 v _ (Carries r.0 number d.node _ (Err (reach_drops.Known drops.Store)) (with_beside (beside_at r.0 number) (λ z. hear_neighbours in_memory z c)) now_there (λ m here. speaks.commands event number x octets got cost c m says comes_so there is e here))
+        (Turns r.0 v _ (Carries r.0 number d.node _ (Err (reach_drops.Known drops.Store))
+        (with_beside (beside_at r.0 number) (λ z. hear_neighbours in_memory z c)) now_there
+        (λ m here. speaks.commands event number x octets got cost c m says comes_so there is e here))
         (Besides v v.checks_on (commanded ciphers number d.node c r).0.beside))
         (told_same r.1 (commanded ciphers number d.node c r).1 refl refl refl refl refl refl refl refl)
 
@@ -440,7 +479,8 @@ module _ (U : List Outgoing → Type 0) (D : Discovery → Type 0) (ciphers : Ci
             says comes_so there is owed here))
 
         by_memory : (t : Bool) → Is event (Ok (if t then adds_frames v with_it.1 a else sends_nothing w (v, with_it.1)))
-        by_memory true = After event r v (adds_frames v with_it.1 a).1 before good goes_on moves (told_same r.1 (adds_frames v with_it.1 a).1 refl refl refl refl refl refl refl refl)
+        by_memory true = After event r v (adds_frames v with_it.1 a).1 before good goes_on moves
+            (told_same r.1 (adds_frames v with_it.1 a).1 refl refl refl refl refl refl refl refl)
         by_memory false = Unsends event r v with_it.1 before good goes_on moves (told_same r.1 with_it.1 refl refl refl refl refl refl refl refl)
 
     checked_step : Is event (Ok (checked ciphers w number got d r))
@@ -461,27 +501,37 @@ module _ (U : List Outgoing → Type 0) (D : Discovery → Type 0) (ciphers : Ci
     further_step : Is event (Ok (heard_further ciphers w number y octets got cost))
     further_step = by_dropped (is_dropped w number got)
       where
-        by_dropped : (b : Bool) → Is event (Ok (if b then unbelieved ciphers w number y octets got else heard_by ciphers w number y octets got cost (command_of got)))
+        by_dropped : (b : Bool) → Is event
+            (Ok (if b then unbelieved ciphers w number y octets got else heard_by ciphers w number y octets got cost (command_of got)))
         by_dropped true = Unbelieves event number x octets got there says comes_so is
         by_dropped false = heard_by_step (command_of got) refl
 
-  discovers_step : (event : Event) (number : ℕ) (x : Node) → node_at w number ≡ Some x → (octets : List ℕ) (link : ℕ) (o : Option Memory) → x.memory ≡ o → Is event (Ok (discovers_by w number x octets link o))
+  discovers_step : (event : Event) (number : ℕ) (x : Node) → node_at w number ≡ Some x → (octets : List ℕ) (link : ℕ) (o : Option Memory) → x.memory ≡ o
+      → Is event (Ok (discovers_by w number x octets link o))
   discovers_step event number x there octets link None here = rests _ _ (silent said.Halted)
-  discovers_step event number x there octets link (Some m) here = discovered_step event number x there discovery_word (beacon_taken number (discovery_in octets) link) (hear_discovery x.role m.station (beside_at w number).scan octets link) (λ frame e. speaks.beacons number x m octets link frame there here e)
+  discovers_step event number x there octets link (Some m) here = discovered_step event number x there discovery_word
+      (beacon_taken number (discovery_in octets) link) (hear_discovery x.role m.station (beside_at w number).scan octets link)
+      (λ frame e. speaks.beacons number x m octets link frame there here e)
 
   comes_step : (event : Event) (number : ℕ) (x : Node) (octets : List ℕ) (cost : ℕ) → node_at w number ≡ Some x → IsEvent event → Comes w event number octets
       → cost ≤ 255 → Old event (Ok (arrives ciphers w number x octets cost)) → Is event (Ok (comes ciphers w number x octets cost))
   unfolding comes acts arrives
   comes_step event number x octets cost there says comes_so low known = by_kind (is_discovery octets)
     where
-      heard_world : (got : Accepted) → (accepting ciphers x octets).answer ≡ Ok got → WorldOk (heard ciphers w number (accepting ciphers x octets).node octets got cost).0
+      heard_world : (got : Accepted) → (accepting ciphers x octets).answer ≡ Ok got
+          → WorldOk (heard ciphers w number (accepting ciphers x octets).node octets got cost).0
       heard_world got e =
           let are : AreOctets octets = came_octets ciphers fits w ok flown_are event number octets says comes_so in
           let plan : Memory → Plan Memory (Result Accepted FrameRefusal) = λ m. of_station m (accept m.station x.eui (arrived ciphers octets)) in
-          let did = acts_ok x (Err frames.Halted) plan (at_place NodeOk w.nodes number x there ok.nodes) (λ m here kept sized. accept_ok ciphers fits octets are x.role m x.eui sized) in
-          let a = acts_answered x frames.Halted frames.Store plan (λ m. accept_failed ciphers fits octets are m.station _ (accept_is m.station x.eui (arrived ciphers octets))) got e in
-          let routes = accepted_routes ciphers fits octets are a.memory.station (ring_readable x a.memory (at_place NodeOk w.nodes number x there ok.nodes) a.there) _ got (accept_is a.memory.station x.eui (arrived ciphers octets)) a.is in
-          heard_ok ciphers fits w ok flown_are logs number x (accepting ciphers x octets).node there (accepting ciphers x octets) refl did (λ m here. acts_down x (Err frames.Halted) plan m here) octets got cost routes
+          let did = acts_ok x (Err frames.Halted) plan (at_place NodeOk w.nodes number x there ok.nodes)
+          (λ m here kept sized. accept_ok ciphers fits octets are x.role m x.eui sized) in
+          let a = acts_answered x frames.Halted frames.Store plan
+          (λ m. accept_failed ciphers fits octets are m.station _ (accept_is m.station x.eui (arrived ciphers octets))) got e in
+          let routes = accepted_routes ciphers fits octets are a.memory.station
+          (ring_readable x a.memory (at_place NodeOk w.nodes number x there ok.nodes) a.there) _ got (accept_is a.memory.station x.eui (arrived ciphers octets))
+          a.is in
+          heard_ok ciphers fits w ok flown_are logs number x (accepting ciphers x octets).node there (accepting ciphers x octets) refl did
+          (λ m here. acts_down x (Err frames.Halted) plan m here) octets got cost routes
 
       d : NodeStep (Result Accepted FrameRefusal)
       d = accepting ciphers x octets
@@ -492,11 +542,13 @@ module _ (U : List Outgoing → Type 0) (D : Discovery → Type 0) (ciphers : Ci
       by_answer (Err reason) e it = Known event _ it
       by_answer (Ok got) e it = further_step event number x octets cost got there says comes_so low e (heard_world got e) it
 
-      by_kind : (b : Bool) → Is event (Ok (if b then discovers_by w number x octets cost x.memory else accepted_further ciphers w number octets cost (accepting ciphers x octets)))
+      by_kind : (b : Bool) → Is event
+          (Ok (if b then discovers_by w number x octets cost x.memory else accepted_further ciphers w number octets cost (accepting ciphers x octets)))
       by_kind true = discovers_step event number x there octets cost x.memory refl
       by_kind false = by_answer (accepting ciphers x octets).answer refl known
 
-  delivers_step : (flight number cost : ℕ) → IsEvent (events.Deliver flight number cost) → Is (events.Deliver flight number cost) (delivers ciphers w flight number cost)
+  delivers_step : (flight number cost : ℕ) → IsEvent (events.Deliver flight number cost)
+      → Is (events.Deliver flight number cost) (delivers ciphers w flight number cost)
   unfolding delivers deliver
   delivers_step flight number cost says = by_node (has_begun w) (node_at w number) refl (flight_at w flight) refl (old (events.Deliver flight number cost) says)
     where
@@ -518,7 +570,8 @@ module _ (U : List Outgoing → Type 0) (D : Discovery → Type 0) (ciphers : Ci
       by_node true (Some x) ho None hp known = failed _ faults.Flight
       by_node true (Some x) ho (Some f) hp known = by_lost x f ho hp f.lost known
 
-  injects_step : (number cost : ℕ) (octets : List ℕ) → IsEvent (events.Inject number cost octets) → Is (events.Inject number cost octets) (injects ciphers w number cost octets)
+  injects_step : (number cost : ℕ) (octets : List ℕ) → IsEvent (events.Inject number cost octets)
+      → Is (events.Inject number cost octets) (injects ciphers w number cost octets)
   unfolding injects inject
   injects_step number cost octets says = by_node (has_begun w) (node_at w number) refl (old (events.Inject number cost octets) says)
     where
@@ -571,8 +624,12 @@ line_step_is U D ciphers fits w ok flown_are logs speaks event says = line_step_
 -- # What is known of any units
 
 -- the log of a node that has heard something fits its slots
-pub fits_at : (ciphers : Ciphers) (w : World) → LogsKept w → (number : ℕ) (x : Node) (octets : List ℕ) (got : Accepted) (cost : ℕ) (m : Memory) → node_at w number ≡ Some x → (hears ciphers (accepting ciphers x octets).node got cost (note_by w octets got.path) w.clock).node.memory ≡ Some m → LogFits (beside_at w number)
-fits_at ciphers w logs number x octets got cost m there here = by_memory x.memory (from_y (accepting ciphers x octets).node.memory refl (hears_down ciphers (accepting ciphers x octets).node got cost (note_by w octets got.path) w.clock m (accepting ciphers x octets).node.role here)) (logged_at w.beside w.nodes number x logs there)
+pub fits_at : (ciphers : Ciphers) (w : World) → LogsKept w → (number : ℕ) (x : Node) (octets : List ℕ) (got : Accepted) (cost : ℕ) (m : Memory)
+    → node_at w number ≡ Some x → (hears ciphers (accepting ciphers x octets).node got cost (note_by w octets got.path) w.clock).node.memory ≡ Some m
+    → LogFits (beside_at w number)
+fits_at ciphers w logs number x octets got cost m there here = by_memory x.memory
+    (from_y (accepting ciphers x octets).node.memory refl (hears_down ciphers (accepting ciphers x octets).node got cost (note_by w octets got.path) w.clock m
+    (accepting ciphers x octets).node.role here)) (logged_at w.beside w.nodes number x logs there)
   where
     from_y : (o : Option Memory) → (accepting ciphers x octets).node.memory ≡ o → IsSome o → IsSome x.memory
     from_y None e s = absurd (cc (s))
@@ -583,25 +640,29 @@ fits_at ciphers w logs number x octets got cost m there here = by_memory x.memor
     by_memory (Some n) s h = logs_fit (beside_at w number) x.store.records h
 
 pub any_speaks : (D : Discovery → Type 0) (ciphers : Ciphers) (w : World) → LogsKept w → D (requests.Request 0)
-    → ((number : ℕ) (x : Node) (m : Memory) (octets : List ℕ) (link : ℕ) (frame : Discovery) → node_at w number ≡ Some x → x.memory ≡ Some m → (hear_discovery x.role m.station (beside_at w number).scan octets link).sent ≡ Some frame → D frame)
+    → ((number : ℕ) (x : Node) (m : Memory) (octets : List ℕ) (link : ℕ) (frame : Discovery) → node_at w number ≡ Some x → x.memory ≡ Some m
+    → (hear_discovery x.role m.station (beside_at w number).scan octets link).sent ≡ Some frame → D frame)
     → Speaks AnyUnits D ciphers w
 any_speaks D ciphers w logs request beacons = record {
   broadcasts = λ number x m datagram are there here. broadcast_is AnyUnits (beside_at w number) datagram m (λ own e none. tt);
   asks = λ number x m target there here. ask_is AnyUnits (beside_at w number) target m (λ own hop e route. tt);
   scans = request;
   beacons = beacons;
-  commands = λ event number x octets got cost c m says comes there is e here. command_is AnyUnits tt (beside_at w number) (fits_at ciphers w logs number x octets got cost m there here) m c (λ own message to next here e o. tt) (λ own d here e none. tt);
+  commands = λ event number x octets got cost c m says comes there is e here. command_is AnyUnits tt (beside_at w number)
+      (fits_at ciphers w logs number x octets got cost m there here) m c (λ own message to next here e o. tt) (λ own d here e none. tt);
   acknowledges = λ event number x octets got cost reply m says comes there is owed here. ack_is m reply;
 }
 
 -- # What holds of each flight
 
-module _ (U : List Outgoing → Type 0) (D : Discovery → Type 0) (ciphers : Ciphers) (P : Flight → Type 0) (sent : (number : ℕ) (frame : Sent) → P (flight_by number (spelled ciphers frame))) (lost : (f : Flight) → P f → P (record f { lost = true }))
+module _ (U : List Outgoing → Type 0) (D : Discovery → Type 0) (ciphers : Ciphers) (P : Flight → Type 0)
+    (sent : (number : ℕ) (frame : Sent) → P (flight_by number (spelled ciphers frame))) (lost : (f : Flight) → P f → P (record f { lost = true }))
     (found : (number : ℕ) (frame : Discovery) → D frame → P (discovery_flight number frame)) where
   moved_all : (w v : World) → Moves U D ciphers w v → All P w.flights → All P v.flights
   moved_all w v (Stays u) all = all
   moved_all w v (Carries u number x A halted does there is) all = told_all ciphers P sent lost u number (acts x halted does) all
-  moved_all w v (Flies u number x frame there known) all = All-append P w.flights (discovery_flight number frame ∷ []) all (All-cons P (discovery_flight number frame) [] (found number frame known) (All-nil P))
+  moved_all w v (Flies u number x frame there known) all =
+      All-append P w.flights (discovery_flight number frame ∷ []) all (All-cons P (discovery_flight number frame) [] (found number frame known) (All-nil P))
   moved_all w v (Besides u on bs) all = all
   moved_all w v (Turns u between after first rest) all = moved_all between v rest (moved_all w between first all)
 
@@ -611,8 +672,10 @@ module _ (U : List Outgoing → Type 0) (D : Discovery → Type 0) (ciphers : Ci
   every_line_flight w event s (Anew e v t moves silent) all = moved_all (ran w) v moves all
   every_line_flight w event s (After e r v t is good runs moves tells) all = moved_all r.0 v moves (every_flight ciphers P sent lost w event (Ok r) is all)
   every_line_flight w event s (Unsends e r v t is good runs moves tells) all = all
-  every_line_flight w event s (Unbelieves e number x octets got there says comes is) all = told_all ciphers P sent lost (ran w) number (stays (accepting ciphers x octets).node (only said.Blacklisted)) all
-  every_line_flight w event s (Chooses number k x psk ne there e) all = told_all ciphers P sent lost (ran w) number (reaches x (beside_at w number) (Err choices.Halted) (λ y. choose_agent (identity ciphers x psk) y k w.clock)) all
+  every_line_flight w event s (Unbelieves e number x octets got there says comes is) all =
+      told_all ciphers P sent lost (ran w) number (stays (accepting ciphers x octets).node (only said.Blacklisted)) all
+  every_line_flight w event s (Chooses number k x psk ne there e) all = told_all ciphers P sent lost (ran w) number
+      (reaches x (beside_at w number) (Err choices.Halted) (λ y. choose_agent (identity ciphers x psk) y k w.clock)) all
 
 found_spelled : (ciphers : Ciphers) (number : ℕ) (frame : Discovery) → IsDiscovery frame → IsSpelled ciphers (discovery_flight number frame)
 found_spelled ciphers number frame is = record {
@@ -627,42 +690,61 @@ flights_spelled ciphers (Err fault) h = tt
 pub spelled_by : (ciphers : Ciphers) → KeepsRanges ciphers → (w : World) → WorldOk w → All FlightFits w.flights → LogsKept w → BeaconsAreSpelled w
     → All (IsSpelled ciphers) w.flights → (event : Event) → IsEvent event → FlightsSpelled ciphers (line_step ciphers w event)
 spelled_by ciphers fits w ok flown logs beacons all event says =
-    flights_spelled ciphers (line_step ciphers w event) (every_line_flight AnyUnits IsDiscovery ciphers (IsSpelled ciphers) (spelled_well ciphers) (lost_spelled ciphers) (found_spelled ciphers) w event (line_step ciphers w event)
+    flights_spelled ciphers (line_step ciphers w event) (every_line_flight AnyUnits IsDiscovery ciphers (IsSpelled ciphers) (spelled_well ciphers)
+    (lost_spelled ciphers) (found_spelled ciphers) w event (line_step ciphers w event)
     (line_step_is AnyUnits IsDiscovery ciphers fits w ok flown logs (any_speaks IsDiscovery ciphers w logs (omega arith) beacons) event says) all)
 
 -- # What holds through moves
 
 module _ (U : List Outgoing → Type 0) (D : Discovery → Type 0) (ciphers : Ciphers) (fits : KeepsRanges ciphers) where
   -- what a node does by a further plan
-  carried_did : {A : Type 0} (v : World) → WorldOk v → (number : ℕ) (x : Node) (halted : A) (does : Memory → Plan Memory A) → node_at v number ≡ Some x → ((m : Memory) → x.memory ≡ Some m → IsFurther U m (does m)) → DidOk x (acts x halted does)
-  carried_did v ok number x halted does there is = acts_ok x halted does (at_place NodeOk v.nodes number x there ok.nodes) (λ m here kept sized. further_ok U x.role m sized (does m) (is m here))
+  carried_did : {A : Type 0} (v : World) → WorldOk v → (number : ℕ) (x : Node) (halted : A) (does : Memory → Plan Memory A) → node_at v number ≡ Some x
+      → ((m : Memory) → x.memory ≡ Some m → IsFurther U m (does m)) → DidOk x (acts x halted does)
+  carried_did v ok number x halted does there is =
+      acts_ok x halted does (at_place NodeOk v.nodes number x there ok.nodes) (λ m here kept sized. further_ok U x.role m sized (does m) (is m here))
 
   -- the line, which goes on running
   pub moved_ok : (v u : World) → Moves U D ciphers v u → WorldOk v → v.running ≡ true → WorldOk u × (u.running ≡ true)
   unfolding told
   moved_ok v u (Stays z) ok runs = (ok, runs)
-  moved_ok v u (Carries z number x A halted does there is) ok runs = (told_ok ciphers fits v number x (acts x halted does) ok there (carried_did v ok number x halted does there is) (λ e. absurd (true_false (sym runs ∙ e))), runs)
-  moved_ok v u (Flies z number x frame there known) ok runs = (counts_ok (record (ran v) { flights = v.flights ++ discovery_flight number frame ∷ []; beside = v.beside }) (flown_world number frame v) (flown_ok v ok number x there frame v.beside) refl refl (λ e. absurd (true_false (sym runs ∙ e))), runs)
+  moved_ok v u (Carries z number x A halted does there is) ok runs = (
+    told_ok ciphers fits v number x (acts x halted does) ok there
+        (carried_did v ok number x halted does there is) (λ e. absurd (true_false (sym runs ∙ e))),
+    runs,
+  )
+  moved_ok v u (Flies z number x frame there known) ok runs = (
+    counts_ok
+        (record (ran v) { flights = v.flights ++ discovery_flight number frame ∷ []; beside = v.beside }) (flown_world number frame v)
+        (flown_ok v ok number x there frame v.beside) refl refl (λ e. absurd (true_false (sym runs ∙ e))),
+    runs,
+  )
   moved_ok v u (Besides z on bs) ok runs = (counts_ok v (record v { checks_on = on; beside = bs }) ok refl refl (λ e. e), runs)
   moved_ok v u (Turns z between y first rest) ok runs = let m = moved_ok v between first ok runs in moved_ok between u rest m.0 m.1
 
   -- no mark falls
   pub moved_follows : (w v u : World) → Follows w v → Moves U D ciphers v u → WorldOk v → v.running ≡ true → Follows w u
   moved_follows w v u f (Stays z) ok runs = f
-  moved_follows w v u f (Carries z number x A halted does there is) ok runs = told_follows w v (told ciphers v number (acts x halted does)) number x (acts x halted does) f there (told_nodes ciphers v number (acts x halted does)) (of_did x (acts x halted does) (carried_did v ok number x halted does there is))
-  moved_follows w v u f (Flies z number x frame there known) ok runs = record { at = λ n y here. let l = f.at n y here in record { node = l.node; there = l.there; role = l.role; eui = l.eui; raised = l.raised } }
-  moved_follows w v u f (Besides z on bs) ok runs = record { at = λ n y here. let l = f.at n y here in record { node = l.node; there = l.there; role = l.role; eui = l.eui; raised = l.raised } }
-  moved_follows w v u f (Turns z between y first rest) ok runs = let m = moved_ok v between first ok runs in moved_follows w between u (moved_follows w v between f first ok runs) rest m.0 m.1
+  moved_follows w v u f (Carries z number x A halted does there is) ok runs = told_follows w v (told ciphers v number (acts x halted does)) number x
+      (acts x halted does) f there (told_nodes ciphers v number (acts x halted does))
+      (of_did x (acts x halted does) (carried_did v ok number x halted does there is))
+  moved_follows w v u f (Flies z number x frame there known) ok runs =
+      record { at = λ n y here. let l = f.at n y here in record { node = l.node; there = l.there; role = l.role; eui = l.eui; raised = l.raised } }
+  moved_follows w v u f (Besides z on bs) ok runs =
+      record { at = λ n y here. let l = f.at n y here in record { node = l.node; there = l.there; role = l.role; eui = l.eui; raised = l.raised } }
+  moved_follows w v u f (Turns z between y first rest) ok runs =
+      let m = moved_ok v between first ok runs in moved_follows w between u (moved_follows w v between f first ok runs) rest m.0 m.1
 
   module _ (w : World) (ok : WorldOk w) (flown_are : All FlightFits w.flights) where
     ran_good : WorldOk (ran w)
     ran_good = steps_ran_ok ciphers fits w ok flown_are
 
     -- a node that accepted octets and did nothing more
-    accepted_did : (event : Event) (number : ℕ) (x : Node) (octets : List ℕ) → node_at w number ≡ Some x → IsEvent event → Comes w event number octets → DidOk x (accepting ciphers x octets)
+    accepted_did : (event : Event) (number : ℕ) (x : Node) (octets : List ℕ) → node_at w number ≡ Some x → IsEvent event → Comes w event number octets
+        → DidOk x (accepting ciphers x octets)
     accepted_did event number x octets there says comes_so =
         let are : AreOctets octets = came_octets ciphers fits w ok flown_are event number octets says comes_so in
-        acts_ok x (Err frames.Halted) (λ m. of_station m (accept m.station x.eui (arrived ciphers octets))) (at_place NodeOk w.nodes number x there ok.nodes) (λ m here kept sized. accept_ok ciphers fits octets are x.role m x.eui sized)
+        acts_ok x (Err frames.Halted) (λ m. of_station m (accept m.station x.eui (arrived ciphers octets))) (at_place NodeOk w.nodes number x there ok.nodes)
+        (λ m here kept sized. accept_ok ciphers fits octets are x.role m x.eui sized)
 
     pub line_follows : (event : Event) (s : Step) → IsLineStep U D ciphers w event s → FollowsIn ciphers fits w ok flown_are s
     line_follows event s (Known e t is) = follows ciphers fits w ok flown_are event s is
@@ -675,15 +757,20 @@ module _ (U : List Outgoing → Type 0) (D : Discovery → Type 0) (ciphers : Ci
     line_follows event s (Unbelieves e number x octets got there says comes is) =
         let y : Node = (accepting ciphers x octets).node in
         let first = accepted_did event number x octets there says comes in
-        let did : DidOk x (stays y (only said.Blacklisted)) = did_on x (accepting ciphers x octets) (stays y (only said.Blacklisted)) first (rests_ok y (only said.Blacklisted) first.node) in
-        told_follows w (ran w) _ number x (stays y (only said.Blacklisted)) (same_follows w (ran w) refl) there (told_nodes ciphers (ran w) number (stays y (only said.Blacklisted))) (of_did x (stays y (only said.Blacklisted)) did)
+        let did : DidOk x (stays y (only said.Blacklisted)) = did_on x (accepting ciphers x octets) (stays y (only said.Blacklisted)) first
+        (rests_ok y (only said.Blacklisted) first.node) in
+        told_follows w (ran w) _ number x (stays y (only said.Blacklisted)) (same_follows w (ran w) refl) there
+        (told_nodes ciphers (ran w) number (stays y (only said.Blacklisted))) (of_did x (stays y (only said.Blacklisted)) did)
     line_follows event s (Chooses number k x psk ne there e) =
-        let d : NodeStep (Result ChosenAgent ChooseRefusal) = reaches x (beside_at w number) (Err choices.Halted) (λ y. choose_agent (identity ciphers x psk) y k w.clock) in
-        let did : DidOk x d = acts_ok x (Err choices.Halted) (with_beside (beside_at w number) (λ y. choose_agent (identity ciphers x psk) y k w.clock)) (at_place NodeOk w.nodes number x there ok.nodes)
+        let d : NodeStep (Result ChosenAgent ChooseRefusal) = reaches x (beside_at w number) (Err choices.Halted)
+        (λ y. choose_agent (identity ciphers x psk) y k w.clock) in
+        let did : DidOk x d = acts_ok x (Err choices.Halted) (with_beside (beside_at w number) (λ y. choose_agent (identity ciphers x psk) y k w.clock))
+        (at_place NodeOk w.nodes number x there ok.nodes)
         (λ m here kept sized. choice_ok x.role m sized ciphers fits (identity ciphers x psk) refl (beside_at w number) k w.clock) in
         told_follows w (ran w) _ number x d (same_follows w (ran w) refl) there (told_nodes ciphers (ran w) number d) (of_did x d did)
 
-rises_in : (ciphers : Ciphers) (fits : KeepsRanges ciphers) (w : World) (ok : WorldOk w) (flown_are : All FlightFits w.flights) (s : Step) → FollowsIn ciphers fits w ok flown_are s → RisesIn w s
+rises_in : (ciphers : Ciphers) (fits : KeepsRanges ciphers) (w : World) (ok : WorldOk w) (flown_are : All FlightFits w.flights) (s : Step)
+    → FollowsIn ciphers fits w ok flown_are s → RisesIn w s
 rises_in ciphers fits w ok flown_are (Ok r) f = marks_rise w r.0 f
 rises_in ciphers fits w ok flown_are (Err fault) f = tt
 
@@ -693,5 +780,7 @@ AnyDiscovery frame = Unit {0}
 pub line_steps_rise : LineStepsRise
 unfolding AnyDiscovery
 line_steps_rise ciphers fits w ok flown_are logs event says =
-    rises_in ciphers fits w ok flown_are (line_step ciphers w event) (line_follows AnyUnits AnyDiscovery ciphers fits w ok flown_are event (line_step ciphers w event)
-    (line_step_is AnyUnits AnyDiscovery ciphers fits w ok flown_are logs (any_speaks AnyDiscovery ciphers w logs tt (λ number x m octets link frame there here e. tt)) event says))
+    rises_in ciphers fits w ok flown_are (line_step ciphers w event)
+    (line_follows AnyUnits AnyDiscovery ciphers fits w ok flown_are event (line_step ciphers w event)
+    (line_step_is AnyUnits AnyDiscovery ciphers fits w ok flown_are logs
+    (any_speaks AnyDiscovery ciphers w logs tt (λ number x m octets link frame there here e. tt)) event says))

@@ -21,7 +21,8 @@ use Rattle.line_rules.specs.Nonces.{IsSealedUnder, IsPlainFrame, IsSpelled, Nonc
 use Rattle.plc_base.specs.declared.key.Key.{Key}
 
 -- the nonce of a sealed frame stands in its octets, and a plain one has none
-said_nonce : (octets : List ℕ) → is_sealed octets ≡ true → nonce_in_head (head_in octets) ≡ Some (record { from = little_two 7 octets; counter = little_four 10 octets })
+said_nonce : (octets : List ℕ) → is_sealed octets ≡ true
+    → nonce_in_head (head_in octets) ≡ Some (record { from = little_two 7 octets; counter = little_four 10 octets })
 unfolding head_in
 said_nonce octets e = ap (λ b. nonce_in_head (head_by b (has_modes 2 3 (octet 1 octets)) octets)) e
 
@@ -37,19 +38,23 @@ plain_nonce octets e = ap (λ b. nonce_in_head (head_by b (has_modes 2 3 (octet 
 
 letter_says : (ciphers : Ciphers) (l : Letter) → SaysItsNonce l.from l.counter (spelled ciphers (Sealed l)).octets
 unfolding spelled
-letter_says ciphers l = sealed_say (not (l.to == to_all)) (l.counter % 256) PAN l.to l.from l.counter l.index (ciphers.seals l.key (head_of l) (spelling l.unit))
+letter_says ciphers l =
+    sealed_say (not (l.to == to_all)) (l.counter % 256) PAN l.to l.from l.counter l.index (ciphers.seals l.key (head_of l) (spelling l.unit))
 
-pub sealed_sender_is : (ciphers : Ciphers) (l : Letter) → l.from < 2 ^ 16 → IfSome (nonce_in_head (head_in (spelled ciphers (Sealed l)).octets)) (λ p. p.from ≡ l.from)
+pub sealed_sender_is : (ciphers : Ciphers) (l : Letter) → l.from < 2 ^ 16
+    → IfSome (nonce_in_head (head_in (spelled ciphers (Sealed l)).octets)) (λ p. p.from ≡ l.from)
 sealed_sender_is ciphers l fits =
     let s = letter_says ciphers l in
     subst (λ (o : Option NonceParts). IfSome o (λ p. p.from ≡ l.from)) (sym (said_nonce (spelled ciphers (Sealed l)).octets s.sealed)) (s.sender fits)
 
-pub sealed_counter : (ciphers : Ciphers) (l : Letter) → l.counter < 2 ^ 32 → IfSome (nonce_in_head (head_in (spelled ciphers (Sealed l)).octets)) (λ p. p.counter ≡ l.counter)
+pub sealed_counter : (ciphers : Ciphers) (l : Letter) → l.counter < 2 ^ 32
+    → IfSome (nonce_in_head (head_in (spelled ciphers (Sealed l)).octets)) (λ p. p.counter ≡ l.counter)
 sealed_counter ciphers l fits =
     let s = letter_says ciphers l in
     subst (λ (o : Option NonceParts). IfSome o (λ p. p.counter ≡ l.counter)) (sym (said_nonce (spelled ciphers (Sealed l)).octets s.sealed)) (s.number fits)
 
-pub up_nonce : (ciphers : Ciphers) (agent : ℕ) (from : Eui) (message : JoinMessage) → nonce_in_head (head_in (spelled ciphers (Up agent from message)).octets) ≡ None
+pub up_nonce : (ciphers : Ciphers) (agent : ℕ) (from : Eui) (message : JoinMessage)
+    → nonce_in_head (head_in (spelled ciphers (Up agent from message)).octets) ≡ None
 unfolding spelled
 up_nonce ciphers agent from message = plain_nonce _ (plain_say (heads.Up true 1 0 PAN agent from) (spelling (joining_unit message)) tt)
 
@@ -59,12 +64,14 @@ down_nonce ciphers from message = plain_nonce _ (plain_say (heads.Down true 1 0 
 
 -- # What is read
 
-pub head_ranges : (ciphers : Ciphers) (octets : List ℕ) (a : Arrived) (ack : Bool) (seq pan to from counter index : ℕ) → All (λ x. x < 256) octets → arrived ciphers octets ≡ Some a
+pub head_ranges : (ciphers : Ciphers) (octets : List ℕ) (a : Arrived) (ack : Bool) (seq pan to from counter index : ℕ) → All (λ x. x < 256) octets
+    → arrived ciphers octets ≡ Some a
     → a.head ≡ heads.Sealed ack seq pan to from counter index → (from < 0xFFFE) × (counter < 2 ^ 32)
 unfolding arrived
 head_ranges ciphers octets a ack seq pan to from counter index all = by_fault (frame_fault octets) refl
   where
-    by_fault : (o : Option (Fault FrameFaultKind)) → frame_fault octets ≡ o → (if is_some o then None else Some (arrived_with ciphers (head_in octets) (take 15 octets) (body_in octets))) ≡ Some a
+    by_fault : (o : Option (Fault FrameFaultKind)) → frame_fault octets ≡ o
+        → (if is_some o then None else Some (arrived_with ciphers (head_in octets) (take 15 octets) (body_in octets))) ≡ Some a
         → a.head ≡ heads.Sealed ack seq pan to from counter index → (from < 0xFFFE) × (counter < 2 ^ 32)
     by_fault (Some f) is e h = absurd (cc)
     by_fault None is e h = nonces_in_range octets ack seq pan to from counter index all is (ap (λ (x : Arrived). x.head) (same_Some _ _ e) ∙ h)
@@ -111,20 +118,41 @@ sealed_under ciphers l = record {
 
 up_plain : (ciphers : Ciphers) (agent : ℕ) (from : Eui) (message : JoinMessage) → IsPlainFrame (spelled ciphers (Up agent from message)).octets
 unfolding spelled
-up_plain ciphers agent from message = record { head = heads.Up true 1 0 PAN agent from; message = message; plain = tt; spelled = refl; nonce = plain_nonce _ (plain_say (heads.Up true 1 0 PAN agent from) (spelling (joining_unit message)) tt) }
+up_plain ciphers agent from message = record {
+  head = heads.Up true 1 0 PAN agent from;
+  message = message;
+  plain = tt;
+  spelled = refl;
+  nonce = plain_nonce _ (plain_say (heads.Up true 1 0 PAN agent from) (spelling (joining_unit message)) tt);
+}
 
 down_plain : (ciphers : Ciphers) (from : ℕ) (message : JoinMessage) → IsPlainFrame (spelled ciphers (Down from message)).octets
 unfolding spelled
-down_plain ciphers from message = record { head = heads.Down true 1 0 PAN message.eui from; message = message; plain = tt; spelled = refl; nonce = plain_nonce _ (plain_say (heads.Down true 1 0 PAN message.eui from) (spelling (joining_unit message)) tt) }
+down_plain ciphers from message = record {
+  head = heads.Down true 1 0 PAN message.eui from;
+  message = message;
+  plain = tt;
+  spelled = refl;
+  nonce = plain_nonce _ (plain_say (heads.Down true 1 0 PAN message.eui from) (spelling (joining_unit message)) tt);
+}
 
 -- what a node sends flies as what it is
 pub spelled_well : (ciphers : Ciphers) (number : ℕ) (frame : Sent) → IsSpelled ciphers (flight_by number (spelled ciphers frame))
-spelled_well ciphers number (Sealed l) = record { sealed = λ k e. subst (λ k. IsSealedUnder ciphers k (spelled ciphers (Sealed l)).octets) (key_same k e) (sealed_under ciphers l); plain = λ e. absurd (no_key e) }
+spelled_well ciphers number (Sealed l) = record {
+  sealed = λ k e. subst (λ k. IsSealedUnder ciphers k (spelled ciphers (Sealed l)).octets) (key_same k e) (sealed_under ciphers l);
+  plain = λ e. absurd (no_key e);
+}
   where
     key_same : (k : Key) → (spelled ciphers (Sealed l)).key ≡ Some k → l.key ≡ k
     key_same k e = same_Some _ _ (sealed_key ciphers l ∙ e)
 
     no_key : (spelled ciphers (Sealed l)).key ≡ None → ⊥
     no_key e = some_key l.key (sealed_key ciphers l ∙ e)
-spelled_well ciphers number (Up agent from message) = record { sealed = λ k e. absurd (none_key k (up_key ciphers agent from message ∙ e)); plain = λ e. (inl (up_plain ciphers agent from message), up_note ciphers agent from message) }
-spelled_well ciphers number (Down from message) = record { sealed = λ k e. absurd (none_key k (down_key ciphers from message ∙ e)); plain = λ e. (inl (down_plain ciphers from message), down_note ciphers from message) }
+spelled_well ciphers number (Up agent from message) = record {
+  sealed = λ k e. absurd (none_key k (up_key ciphers agent from message ∙ e));
+  plain = λ e. (inl (up_plain ciphers agent from message), up_note ciphers agent from message);
+}
+spelled_well ciphers number (Down from message) = record {
+  sealed = λ k e. absurd (none_key k (down_key ciphers from message ∙ e));
+  plain = λ e. (inl (down_plain ciphers from message), down_note ciphers from message);
+}

@@ -49,7 +49,8 @@ use Rattle.line_laws.proofs.Homed.{TakenFrom, IsTagged, TakesItsOwn}
 use Rattle.line_laws.proofs.Homes.{homes_of, meter_home}
 use Rattle.line_laws.proofs.IssueCalls.{accept_quietly, depot_coordinator}
 use Rattle.line_laws.proofs.IssueMeters.{PeerIs}
-use Rattle.line_laws.proofs.IssueNodes.{TagOk, MeterDid, CoordinatorOk, CoordinatorDid, AllMade, all_made, found_grant, coordinator_acts, acts_whole, depot_address}
+use Rattle.line_laws.proofs.IssueNodes.{TagOk, MeterDid, CoordinatorOk, CoordinatorDid, AllMade, all_made, found_grant, coordinator_acts, acts_whole}
+use Rattle.line_laws.proofs.IssueNodes.{depot_address}
 use Rattle.line_laws.proofs.IssueSteps.{quiet_meter_did}
 use Rattle.line_laws.proofs.IssueWords.{any_found}
 use Rattle.line_laws.proofs.IssueWorlds.{Keyed}
@@ -62,7 +63,8 @@ use Rattle.line_laws.proofs.Worlds.{NodeFits, FlightFits, WorldOk, at_place, wit
 -- # What a node found right
 
 -- a node that is not halted opens what its plan opens
-acts_open : {A : Type 0} (x : Node) (halted : A) (plan : Memory → Plan Memory A) (m : Memory) → x.memory ≡ Some m → (acts x halted plan).opened ≡ (plan m).opened
+acts_open : {A : Type 0} (x : Node) (halted : A) (plan : Memory → Plan Memory A) (m : Memory) → x.memory ≡ Some m
+    → (acts x halted plan).opened ≡ (plan m).opened
 unfolding acts
 acts_open {A = A} x halted plan m here =
     ap (λ o. (option_map_or (λ (n : Memory). left_by x (carry_out x.store.records x.store.cut (plan n))) o (stays x halted)).opened) here ∙ ⊎_elim
@@ -72,18 +74,22 @@ acts_open {A = A} x halted plan m here =
 
 module _ (ciphers : Ciphers) (y : Node) (psk : Key) (m : Memory) (is : y.role ≡ Meter psk) (here : y.memory ≡ Some m) (got : Accepted) (cost note now : ℕ) where
   hears_as : Role → NodeStep Reception
-  hears_as Coordinator = answering coordinator_reception (acts y (Err drops.Store) (λ n. coordinator_rules.hear_coordinator (record { eui = y.eui; ciphers = ciphers }) n got cost note now))
+  hears_as Coordinator = answering coordinator_reception
+      (acts y (Err drops.Store) (λ n. coordinator_rules.hear_coordinator (record { eui = y.eui; ciphers = ciphers }) n got cost note now))
   hears_as (Meter key) = answering meter_reception (acts y (Err drops.Store) (λ n. meters.hear_meter (identity ciphers y key) n got cost note now))
 
   hears_open : (hears ciphers y got cost note now).opened ≡ (meters.hear_meter (identity ciphers y psk) m got cost note now).opened
   unfolding hears_as
-  hears_open = ap (λ role. (hears_as role).opened) is ∙ acts_open y (Err drops.Store) (λ n. meters.hear_meter (identity ciphers y psk) n got cost note now) m here
+  hears_open =
+      ap (λ role. (hears_as role).opened) is ∙ acts_open y (Err drops.Store) (λ n. meters.hear_meter (identity ciphers y psk) n got cost note now) m here
 
 -- the peer of a meter's session names it
-peer_is : (eui : _) (o : Option MeterSession) (session : MeterSession) (peer : Peer) → PeerIs eui o → o ≡ Some session → session.peer ≡ Some peer → peer.eui ≡ eui
+peer_is : (eui : _) (o : Option MeterSession) (session : MeterSession) (peer : Peer) → PeerIs eui o → o ≡ Some session → session.peer ≡ Some peer
+    → peer.eui ≡ eui
 peer_is eui o session peer h open_is has = subst (λ (p : Option Peer). IfSome p (λ (q : Peer). q.eui ≡ eui)) has (subst (PeerIs eui) open_is h)
 
-module _ (ciphers : Ciphers) (fits : KeepsRanges ciphers) (w : World) (ok : WorldOk w) (flown : All FlightFits w.flights) (given : List Issued) (k : Keyed w given) where
+module _ (ciphers : Ciphers) (fits : KeepsRanges ciphers) (w : World) (ok : WorldOk w) (flown : All FlightFits w.flights) (given : List Issued)
+    (k : Keyed w given) where
   module _ (number : ℕ) (x : Node) (octets : List ℕ) (cost : ℕ) (there : node_at w number ≡ Some x) (are : AreOctets octets) where
     abbrev plan : Memory → Plan Memory (Result Accepted FrameRefusal)
     plan m = of_station m (accept m.station x.eui (arrived ciphers octets))
@@ -99,8 +105,10 @@ module _ (ciphers : Ciphers) (fits : KeepsRanges ciphers) (w : World) (ok : Worl
 
     payload_octets : (got : Accepted) → (accepting ciphers x octets).answer ≡ Ok got → AreOctets got.payload
     payload_octets got e =
-        let a = acts_answered x frames.Halted frames.Store plan (λ m. accept_failed ciphers fits octets are m.station _ (accept_is m.station x.eui (arrived ciphers octets))) got e in
-        (accepted_routes ciphers fits octets are a.memory.station (ring_readable x a.memory good a.there) _ got (accept_is a.memory.station x.eui (arrived ciphers octets)) a.is).payload
+        let a = acts_answered x frames.Halted frames.Store plan
+        (λ m. accept_failed ciphers fits octets are m.station _ (accept_is m.station x.eui (arrived ciphers octets))) got e in
+        (accepted_routes ciphers fits octets are a.memory.station (ring_readable x a.memory good a.there) _ got
+        (accept_is a.memory.station x.eui (arrived ciphers octets)) a.is).payload
 
     not_first : (psk : Key) → y.role ≡ Meter psk → number ≢ 0
     not_first psk role e = absurd (not_meter psk (sym (k.coordinator x (ap (slice_get w.nodes) (sym e) ∙ there)).role ∙ sym did.role ∙ role))
@@ -108,20 +116,24 @@ module _ (ciphers : Ciphers) (fits : KeepsRanges ciphers) (w : World) (ok : Worl
         not_meter : (psk : Key) → Coordinator ≡ Meter psk → ⊥
         not_meter psk e = cc
 
-    module _ (got : Accepted) (psk : Key) (m : Memory) (e : (accepting ciphers x octets).answer ≡ Ok got) (role : y.role ≡ Meter psk) (here : y.memory ≡ Some m) (granted : Granted)
+    module _ (got : Accepted) (psk : Key) (m : Memory) (e : (accepting ciphers x octets).answer ≡ Ok got) (role : y.role ≡ Meter psk) (here : y.memory ≡ Some m)
+        (granted : Granted)
         (t : TakenFrom (identity ciphers y psk) m got cost (note_by w octets got.path) w.clock granted) where
       ne : number ≢ 0
       ne = not_first psk role
 
       meter_did : MeterDid k.book given x (acts x (Err frames.Halted) plan)
-      meter_did = quiet_meter_did ciphers fits w ok flown given k x (Err frames.Halted) plan k.book good (k.meters number x ne there) (λ n sized. accept_quietly ciphers fits octets are n x.eui)
+      meter_did = quiet_meter_did ciphers fits w ok flown given k x (Err frames.Halted) plan k.book good (k.meters number x ne there)
+          (λ n sized. accept_quietly ciphers fits octets are n x.eui)
 
       named : t.peer.eui ≡ x.eui
-      named = peer_is y.eui m.session t.session t.peer (subst (λ o. IfSome o (λ (n : Memory). PeerIs y.eui n.session)) here meter_did.node.session) t.open_is t.has ∙ did.eui
+      named = peer_is y.eui m.session t.session t.peer (subst (λ o. IfSome o (λ (n : Memory). PeerIs y.eui n.session)) here meter_did.node.session) t.open_is
+          t.has ∙ did.eui
 
       packet_octets : AreOctets t.packet
       packet_octets =
-          let body : AreOctets t.unread_is.body = unread_octets m.station got cost (note_by w octets got.path) w.clock t.unread_is (payload_octets got e) t.frame in
+          let body : AreOctets t.unread_is.body = unread_octets m.station got cost (note_by w octets got.path) w.clock t.unread_is (payload_octets got e)
+          t.frame in
           subst (λ (b : JoinBody). AreOctets (rest_of b)) t.challenge (read_octets t.join t.unread_is.body body t.read).rest
 
       readable : IsReadable granted
@@ -129,21 +141,26 @@ module _ (ciphers : Ciphers) (fits : KeepsRanges ciphers) (w : World) (ok : Worl
 
       -- the coordinator made this grant for this meter
       pub granted_home : list_any (is_forged_tag w.made) (hears ciphers y got cost (note_by w octets got.path) w.clock).opened ≡ false
-          → IsTagged t (meters.hear_meter (identity ciphers y psk) m got cost (note_by w octets got.path) w.clock).opened → homes_of k.book w number ≡ Some granted.address
+          → IsTagged t (meters.hear_meter (identity ciphers y psk) m got cost (note_by w octets got.path) w.clock).opened
+          → homes_of k.book w number ≡ Some granted.address
       granted_home honest tagged =
           let opened : List PairTag = (meters.hear_meter (identity ciphers y psk) m got cost (note_by w octets got.path) w.clock).opened in
-          let all : AllMade w.made opened = all_made w.made opened (ap (list_any (is_forged_tag w.made)) (sym (hears_open ciphers y psk m role here got cost (note_by w octets got.path) w.clock)) ∙ honest) in
+          let all : AllMade w.made opened = all_made w.made opened
+          (ap (list_any (is_forged_tag w.made)) (sym (hears_open ciphers y psk m role here got cost (note_by w octets got.path) w.clock)) ∙ honest) in
           let tag : PairTag = granting_tag t.peer.eui (identifier_of t.packet) t.peer.rand_s t.peer.rand_p (granting_text granted) in
-          let right = found_grant k.book given t.peer.eui (identifier_of t.packet) t.peer.rand_s t.peer.rand_p granted readable (any_found (TagOk k.book given) (same_tag tag) w.made (all tag tagged) k.made) in
+          let right = found_grant k.book given t.peer.eui (identifier_of t.packet) t.peer.rand_s t.peer.rand_p granted readable
+          (any_found (TagOk k.book given) (same_tag tag) w.made (all tag tagged) k.made) in
           meter_home k.book w number x ne there ∙ subst (λ eui. books.address_of k.book eui ≡ Some granted.address) named right.address
 
-  pub takes_own : (number : ℕ) (x : Node) (octets : List ℕ) (cost : ℕ) → node_at w number ≡ Some x → AreOctets octets → TakesItsOwn ciphers (homes_of k.book w) w number octets cost (accepting ciphers x octets)
+  pub takes_own : (number : ℕ) (x : Node) (octets : List ℕ) (cost : ℕ) → node_at w number ≡ Some x → AreOctets octets
+      → TakesItsOwn ciphers (homes_of k.book w) w number octets cost (accepting ciphers x octets)
   takes_own number x octets cost there are = λ got e honest psk role m here agreed took granted t tagged.
       granted_home number x octets cost there are got psk m e role here granted t honest tagged
 
 -- # The grant of the workshop
 
-module _ (ciphers : Ciphers) (w : World) (number : ℕ) (x c : Node) (psk : Key) (hx : node_at w number ≡ Some x) (hc : node_at w 0 ≡ Some c) (pair : psk_of x ≡ Some psk) where
+module _ (ciphers : Ciphers) (w : World) (number : ℕ) (x c : Node) (psk : Key) (hx : node_at w number ≡ Some x) (hc : node_at w 0 ≡ Some c)
+    (pair : psk_of x ≡ Some psk) where
   abbrev order : NodeStep (Result Granted CoordinatorRefusal)
   order = acts c (Err orders.Halted) (λ m. coordinator_rules.depot m x.eui psk)
 
@@ -158,12 +175,14 @@ module _ (ciphers : Ciphers) (w : World) (number : ℕ) (x c : Node) (psk : Key)
   LeftBy (Ok r) = WasLeft r.0
   LeftBy (Err fault) = Unit {0}
 
-  told_left : (u : World) (d : NodeStep (Result Granted CoordinatorRefusal)) (g : Granted) → u.nodes ≡ w.nodes → d.node ≡ order.node → number ≢ 0 → WasLeft (provisioned ciphers (told ciphers u 0 d) number x g).0
+  told_left : (u : World) (d : NodeStep (Result Granted CoordinatorRefusal)) (g : Granted) → u.nodes ≡ w.nodes → d.node ≡ order.node → number ≢ 0
+      → WasLeft (provisioned ciphers (told ciphers u 0 d) number x g).0
   unfolding told
   told_left u d g same left ne = record {
     other = ne;
     node = d.node;
-    there = slice_get-set_other _ number 0 _ (λ e. ne (sym e)) ∙ slice_get-set u.nodes 0 d.node (place_within u.nodes 0 c (ap (λ ns. slice_get ns 0) same ∙ hc));
+    there =
+        slice_get-set_other _ number 0 _ (λ e. ne (sym e)) ∙ slice_get-set u.nodes 0 d.node (place_within u.nodes 0 c (ap (λ ns. slice_get ns 0) same ∙ hc));
     records = ap (λ (z : Node). z.store.records) left;
   }
 
@@ -175,15 +194,19 @@ module _ (ciphers : Ciphers) (w : World) (number : ℕ) (x c : Node) (psk : Key)
       by_answer ne (Err reason) e = rw e tt
       by_answer ne (Ok g) e = rw e (told_left (set_up w) (record order { answer = Ok g }) g refl refl ne)
 
-      by_test : (b : Bool) → ((number == 0) || is_some (node_address x)) ≡ b → LeftBy (if b then Err faults.Setup else option_map_or (λ key. depot_by ciphers w number x (acts c (Err orders.Halted) (λ m. coordinator_rules.depot m x.eui key))) (psk_of x) (Err faults.Setup))
+      by_test : (b : Bool) → ((number == 0) || is_some (node_address x)) ≡ b
+          → LeftBy (if b then Err faults.Setup else option_map_or
+          (λ key. depot_by ciphers w number x (acts c (Err orders.Halted) (λ m. coordinator_rules.depot m x.eui key))) (psk_of x) (Err faults.Setup))
       by_test true e = tt
       by_test false e = rw pair (by_answer (eqb-false _ _ (or_parts _ _ e).0) order.answer refl)
 
-      by_setup : (b : Bool) → LeftBy (if b then option_map_or (λ z. option_map_or (λ d. depot_at ciphers w number z d) (node_at w 0) (Err faults.Node)) (node_at w number) (Err faults.Node) else Err faults.Setup)
+      by_setup : (b : Bool) → LeftBy (if b then option_map_or (λ z. option_map_or (λ d. depot_at ciphers w number z d) (node_at w 0) (Err faults.Node))
+          (node_at w number) (Err faults.Node) else Err faults.Setup)
       by_setup false = tt
       by_setup true = rw (hx, hc) (by_test ((number == 0) || is_some (node_address x)) refl)
 
-module _ (ciphers : Ciphers) (fits : KeepsRanges ciphers) (w v : World) (ok : WorldOk w) (given more : List Issued) (k : Keyed w given) (kv : Keyed v more) where
+module _ (ciphers : Ciphers) (fits : KeepsRanges ciphers) (w v : World) (ok : WorldOk w) (given more : List Issued) (k : Keyed w given)
+    (kv : Keyed v more) where
   module _ (number : ℕ) (x c : Node) (psk : Key) (g : Granted) (hx : node_at w number ≡ Some x) (hc : node_at w 0 ≡ Some c) (pair : psk_of x ≡ Some psk) where
     abbrev depots : Memory → Plan Memory (Result Granted CoordinatorRefusal)
     depots m = coordinator_rules.depot m x.eui psk
@@ -211,7 +234,8 @@ module _ (ciphers : Ciphers) (fits : KeepsRanges ciphers) (w v : World) (ok : Wo
 
     ordered_did : CoordinatorDid k.book given [] c ordered
     ordered_did = coordinator_acts k.book given c (Err orders.Halted) depots [] c_good first (λ a. None) (λ m here said. refl)
-        (λ m here kept. depot_coordinator ciphers fits own m (sized_in m here) k.book (first.ring m.station.ring kept.station.ring.stored) kept.station.range.ring x.eui psk x_fits.eui long)
+        (λ m here kept. depot_coordinator ciphers fits own m (sized_in m here) k.book (first.ring m.station.ring kept.station.ring.stored)
+        kept.station.range.ring x.eui psk x_fits.eui long)
 
     ordered_ok : DidOk c ordered
     ordered_ok = coordinator_ok c (Err orders.Halted) depots first.role c_good (λ m sized. depot_ok ciphers fits own m sized x.eui psk x_fits.eui long)
@@ -220,7 +244,8 @@ module _ (ciphers : Ciphers) (fits : KeepsRanges ciphers) (w v : World) (ok : Wo
     booked e =
         let a = acts_whole c orders.Halted orders.Store depots (λ m. depot_failed ciphers fits own m x.eui psk x_fits.eui long) g e in
         let kept : Left (IsKept Coordinator) ordered.node.store.records (Some (depots a.memory).memory) =
-        subst (λ o. Left (IsKept Coordinator) ordered.node.store.records o) a.leaves (subst (λ role. Left (IsKept role) ordered.node.store.records ordered.node.memory) (ordered_ok.role ∙ first.role) ordered_ok.node.kept) in
+        subst (λ o. Left (IsKept Coordinator) ordered.node.store.records o) a.leaves
+        (subst (λ role. Left (IsKept role) ordered.node.store.records ordered.node.memory) (ordered_ok.role ∙ first.role) ordered_ok.node.kept) in
         let same : (depots a.memory).memory.book ≡ ordered_did.book = one_book _ _ _ kept.book ordered_did.node.book_kept in
         subst (λ (b : books.Book). books.address_of b x.eui ≡ Some g.address) same (depot_address a.memory x.eui psk g a.is)
 
@@ -228,5 +253,6 @@ module _ (ciphers : Ciphers) (fits : KeepsRanges ciphers) (w v : World) (ok : Wo
     pub depot_booked : WasLeft ciphers w number x c psk hx hc pair v → ordered.answer ≡ Ok g → books.address_of kv.book x.eui ≡ Some g.address
     depot_booked left e =
         let kept : IsBookKept ordered_did.book left.node.store.records = subst (IsBookKept ordered_did.book) (sym left.records) ordered_did.node.book_kept in
-        let same : ordered_did.book ≡ kv.book = one_book ordered_did.book kv.book left.node.store.records kept (kv.coordinator left.node left.there).book_kept in
+        let same : ordered_did.book ≡ kv.book = one_book ordered_did.book kv.book left.node.store.records kept
+        (kv.coordinator left.node left.there).book_kept in
         subst (λ (b : books.Book). books.address_of b x.eui ≡ Some g.address) same (booked e)

@@ -1,5 +1,6 @@
 -- The homes that the book gives: the coordinator's is 0000, and a meter's is the book's address for its EUI. They only grow.
-use Rattle.std.proofs.Common.{◌≡◌, ◌≢◌, ⊎_elim, ℕ, zero, suc, ◌≤◌, ◌<◌, Bool, true, false, List, [], ◌∷◌, length, Option, Some, None, refl, sym, ap, ◌∙◌, subst, arith}
+use Rattle.std.proofs.Common.{◌≡◌, ◌≢◌, ⊎_elim, ℕ, zero, suc, ◌≤◌, ◌<◌, Bool, true, false, List, [], ◌∷◌, length, Option, Some, None, refl, sym, ap, ◌∙◌, subst}
+use Rattle.std.proofs.Common.{arith}
 use Rattle.std.specs.Prelude.{if◌then◌else◌, ◌==◌, slice_get}
 use Rattle.std.specs.Option.{option_map, option_and_then}
 use Rattle.std.proofs.lemmas.Bool.{cases_eq, eqb-true, eqb-false}
@@ -25,7 +26,8 @@ pub meter_home : (b : books.Book) (w : World) (i : ℕ) (x : Node) → i ≢ 0 �
 unfolding homes_of
 meter_home b w i x ne there = by_number (i == 0) refl
   where
-    by_number : (t : Bool) → (i == 0) ≡ t → (if t then option_map (λ (y : Node). 0) (node_at w 0) else option_and_then (λ (y : Node). books.address_of b y.eui) (node_at w i)) ≡ books.address_of b x.eui
+    by_number : (t : Bool) → (i == 0) ≡ t → (if t then option_map (λ (y : Node). 0) (node_at w 0)
+        else option_and_then (λ (y : Node). books.address_of b y.eui) (node_at w i)) ≡ books.address_of b x.eui
     by_number true e = absurd (ne (eqb-true _ _ e))
     by_number false e = ap (option_and_then (λ (y : Node). books.address_of b y.eui)) there
 
@@ -46,7 +48,8 @@ home_is b w i a = by_number (i == 0) refl
     by_node None there ne e = absurd (none-some a e)
     by_node (Some x) there ne e = OfMeter x ne there e
 
-    by_number : (t : Bool) → (i == 0) ≡ t → (if t then option_map (λ (x : Node). 0) (node_at w 0) else option_and_then (λ (x : Node). books.address_of b x.eui) (node_at w i)) ≡ Some a → HomeIs b w i a
+    by_number : (t : Bool) → (i == 0) ≡ t → (if t then option_map (λ (x : Node). 0) (node_at w 0)
+        else option_and_then (λ (x : Node). books.address_of b x.eui) (node_at w i)) ≡ Some a → HomeIs b w i a
     by_number true is e = by_first (node_at w 0) refl (eqb-true _ _ is) e
     by_number false is e = by_node (node_at w i) refl (eqb-false _ _ is) e
 
@@ -94,8 +97,10 @@ module _ (w : World) (given : List Issued) (ok : WorldOk w) (k : Keyed w given) 
 
 -- # A later world
 
-module _ (w v : World) (given more : List Issued) (ok : WorldOk w) (okv : WorldOk v) (k : Keyed w given) (kv : Keyed v more) (longer : length w.nodes ≤ length v.nodes)
-    (grows : (0 < length w.nodes) → Grows k.book kv.book) (euis : (0 < length w.nodes) → (n : ℕ) (y : Node) → n < length w.nodes → node_at v n ≡ Some y → (x : Node) × (node_at w n ≡ Some x) × (x.eui ≡ y.eui)) where
+module _ (w v : World) (given more : List Issued) (ok : WorldOk w) (okv : WorldOk v) (k : Keyed w given) (kv : Keyed v more)
+    (longer : length w.nodes ≤ length v.nodes)
+    (grows : (0 < length w.nodes) → Grows k.book kv.book) (euis : (0 < length w.nodes) → (n : ℕ) (y : Node) → n < length w.nodes → node_at v n ≡ Some y
+    → (x : Node) × (node_at w n ≡ Some x) × (x.eui ≡ y.eui)) where
   grows_by : (i a : ℕ) → HomeIs k.book w i a → homes_of kv.book v i ≡ Some a
   grows_by i a (First c e nought hc) =
       let inside = place_within w.nodes 0 c hc in
@@ -107,7 +112,8 @@ module _ (w v : World) (given more : List Issued) (ok : WorldOk w) (okv : WorldO
       let y = at_length v.nodes i (omega arith) in
       let old = euis some i y.one inside y.is in
       let same : x ≡ old.0 = same_Some _ _ (sym hx ∙ old.1) in
-      meter_home kv.book v i y.one ne y.is ∙ grows some y.one.eui a (subst (λ (u : Eui). books.address_of k.book u ≡ Some a) (ap (λ (z : Node). z.eui) same ∙ old.2) ex)
+      meter_home kv.book v i y.one ne y.is
+      ∙ grows some y.one.eui a (subst (λ (u : Eui). books.address_of k.book u ≡ Some a) (ap (λ (z : Node). z.eui) same ∙ old.2) ex)
 
   pub homes_grow : homed.Grows (homes_of k.book w) (homes_of kv.book v)
   homes_grow i a h = grows_by i a (home_is k.book w i a h)

@@ -36,8 +36,11 @@ use Rattle.node_rules.specs.Hearing as station_rules
 use Rattle.node_rules.specs.Hearing.{dropped}
 use Rattle.node_rules.specs.Joining.{message}
 use Rattle.eap_psk.specs.Sessions.{peer_for, agreed_by, identifier_of}
-use Rattle.node_rules.specs.MemoryDrafts.{in_memory, with_station, goes_up, goes_down, is_commanded, oldest, without_oldest, Unread, unread, packet_fault, with_memory_by, with_pair_tags, on_station}
-use Rattle.node_rules.specs.Meters.{Hearing, Identity, with_session, drop_it, ends, says, leaves, carry_up, carries_down, carry_down, reply_with, reply, take_with, take_by, take, takes, replies, challenged, declined, kicked, activated, hear_near, hear_order, hear_join, hear_join_in, heard_by, hear_meter, joining_ends, join, leaving_ends, leave}
+use Rattle.node_rules.specs.MemoryDrafts.{in_memory, with_station, goes_up, goes_down, is_commanded, oldest, without_oldest, Unread, unread, packet_fault}
+use Rattle.node_rules.specs.MemoryDrafts.{with_memory_by, with_pair_tags, on_station}
+use Rattle.node_rules.specs.Meters.{Hearing, Identity, with_session, drop_it, ends, says, leaves, carry_up, carries_down, carry_down, reply_with, reply}
+use Rattle.node_rules.specs.Meters.{take_with, take_by, take, takes, replies, challenged, declined, kicked, activated, hear_near, hear_order, hear_join}
+use Rattle.node_rules.specs.Meters.{hear_join_in, heard_by, hear_meter, joining_ends, join, leaving_ends, leave}
 use Rattle.node_rules.proofs.MemoryDraftShapes.{whole}
 use Rattle.line_laws.specs.Stores.{IsReadable}
 use Rattle.line_laws.specs.Owed.{AreOctets}
@@ -118,14 +121,22 @@ held_from : (eui : Eui) (x : ring.Ring) → From eui x [] x
 held_from eui None = tt
 held_from eui (Some g) = Held g refl (same_here g)
 
-begun_done : (eui : Eui) (took : Option Agreed) (m : Memory) → IfSome m.station.ring IsReadable → PeerIs eui m.session → MeterDone eui m.station.ring took (empty_draft m)
+begun_done : (eui : Eui) (took : Option Agreed) (m : Memory) → IfSome m.station.ring IsReadable → PeerIs eui m.session
+    → MeterDone eui m.station.ring took (empty_draft m)
 unfolding empty_draft
 begun_done eui took m reads session = record { puts = tt; ring = held_from eui m.station.ring; reads = reads; session = session; made = tt }
 
 -- another session
-with_done : (eui : Eui) (took : Option Agreed) (m : Memory) (change : Memory → Memory) → IfSome m.station.ring IsReadable → (change m).station.ring ≡ m.station.ring → PeerIs eui (change m).session → MeterDone eui m.station.ring took (with_memory_by change (empty_draft m))
+with_done : (eui : Eui) (took : Option Agreed) (m : Memory) (change : Memory → Memory) → IfSome m.station.ring IsReadable
+    → (change m).station.ring ≡ m.station.ring → PeerIs eui (change m).session → MeterDone eui m.station.ring took (with_memory_by change (empty_draft m))
 unfolding empty_draft with_memory_by
-with_done eui took m change reads same session = record { puts = tt; ring = subst (From eui m.station.ring []) (sym same) (held_from eui m.station.ring); reads = subst (λ r. IfSome r IsReadable) (sym same) reads; session = session; made = tt }
+with_done eui took m change reads same session = record {
+  puts = tt;
+  ring = subst (From eui m.station.ring []) (sym same) (held_from eui m.station.ring);
+  reads = subst (λ r. IfSome r IsReadable) (sym same) reads;
+  session = session;
+  made = tt;
+}
 
 -- the ring is dropped
 left_done : (eui : Eui) (took : Option Agreed) (m : Memory) → MeterDone eui m.station.ring took (leaves m)
@@ -133,10 +144,17 @@ unfolding empty_draft with_memory_by on_station with_ring
 left_done eui took m = record { puts = (Puts None tt tt, tt); ring = tt; reads = tt; session = tt; made = tt }
 
 -- another key seals
-turned_done : (eui : Eui) (took : Option Agreed) (m : Memory) (index : ℕ) → index ≤ 1 → is_some (ring.key_in_ring m.station.ring index) ≡ true → IfSome m.station.ring IsReadable → PeerIs eui m.session
+turned_done : (eui : Eui) (took : Option Agreed) (m : Memory) (index : ℕ) → index ≤ 1 → is_some (ring.key_in_ring m.station.ring index) ≡ true
+    → IfSome m.station.ring IsReadable → PeerIs eui m.session
     → MeterDone eui m.station.ring took (on_station (with_ring (ring.with_active m.station.ring index)) (empty_draft m))
 unfolding empty_draft on_station with_ring
-turned_done eui took m index low held reads session = record { puts = (Puts (ring.with_active m.station.ring index) (fits m.station.ring held reads) (from m.station.ring), tt); ring = from m.station.ring; reads = fits m.station.ring held reads; session = session; made = tt }
+turned_done eui took m index low held reads session = record {
+  puts = (Puts (ring.with_active m.station.ring index) (fits m.station.ring held reads) (from m.station.ring), tt);
+  ring = from m.station.ring;
+  reads = fits m.station.ring held reads;
+  session = session;
+  made = tt;
+}
   where
     from : (x : ring.Ring) → From eui x [] (ring.with_active x index)
     from None = tt
@@ -147,7 +165,8 @@ turned_done eui took m index low held reads session = record { puts = (Puts (rin
     fits (Some g) e h = record { grant = record { index = low; held = e }; address = h.address; key0 = h.key0; key1 = h.key1 }
 
 -- the second packet
-replied_done : (x : Identity) (took : Option Agreed) (m : Memory) (course : Course) (peer : Peer) (now : ℕ) → peer.eui ≡ x.eui → IfSome m.station.ring IsReadable
+replied_done : (x : Identity) (took : Option Agreed) (m : Memory) (course : Course) (peer : Peer) (now : ℕ) → peer.eui ≡ x.eui
+    → IfSome m.station.ring IsReadable
     → MeterDone x.eui m.station.ring took (with_pair_tags (mac_p_tag peer.eui peer.id_s peer.rand_s peer.rand_p ∷ []) []
     (with_memory_by (λ n. with_session (Some (record { course = course; peer = Some peer; since = now })) (without_oldest n)) (empty_draft m)))
 unfolding empty_draft with_memory_by with_pair_tags
@@ -173,12 +192,18 @@ took_done eui m peer identifier granted own readable = record {
   ring = came;
   reads = readable;
   session = tt;
-  made = (subst (λ e. MeterTag eui (Some (agreed_by peer)) (success_tag e identifier peer.rand_s peer.rand_p)) (sym own) (Fourth identifier peer.rand_s peer.rand_p refl), tt);
+  made = (
+    subst (λ e. MeterTag eui (Some (agreed_by peer)) (success_tag e identifier peer.rand_s peer.rand_p)) (sym own)
+        (Fourth identifier peer.rand_s peer.rand_p refl),
+    tt,
+  );
 }
   where
-    came : CameBy eui m.station.ring (mac_s_tag peer.eui peer.id_s peer.rand_p ∷ granting_tag peer.eui identifier peer.rand_s peer.rand_p (granting_text granted) ∷ []) granted
+    came : CameBy eui m.station.ring
+        (mac_s_tag peer.eui peer.id_s peer.rand_p ∷ granting_tag peer.eui identifier peer.rand_s peer.rand_p (granting_text granted) ∷ []) granted
     came = Opened identifier peer.rand_s peer.rand_p granted
-        (subst (λ e. Among (granting_tag e identifier peer.rand_s peer.rand_p (granting_text granted)) (mac_s_tag peer.eui peer.id_s peer.rand_p ∷ granting_tag peer.eui identifier peer.rand_s peer.rand_p (granting_text granted) ∷ [])) own
+        (subst (λ e. Among (granting_tag e identifier peer.rand_s peer.rand_p (granting_text granted))
+        (mac_s_tag peer.eui peer.id_s peer.rand_p ∷ granting_tag peer.eui identifier peer.rand_s peer.rand_p (granting_text granted) ∷ [])) own
         (Later _ _ (Here []))) readable (same_here granted)
 
 -- # The rules
@@ -193,7 +218,8 @@ abbrev NoWord : RingWord → Type 0
 NoWord w = ⊥
 
 module _ (x : Identity) (m : Memory) (now : ℕ) (reads : IfSome m.station.ring IsReadable) (peer_is : PeerIs x.eui m.session)
-    (granted_fits : (peer : Peer) (packet : List ℕ) (granted : Granted) → AreOctets packet → x.ciphers.third_fault x.psk peer packet ≡ None → x.ciphers.granted x.psk peer packet ≡ Some granted → IsReadable granted)
+    (granted_fits : (peer : Peer) (packet : List ℕ) (granted : Granted) → AreOctets packet → x.ciphers.third_fault x.psk peer packet ≡ None
+    → x.ciphers.granted x.psk peer packet ≡ Some granted → IsReadable granted)
     (index_fits : (octets : List ℕ) (join : JoinMessage) (index : ℕ) → join_in octets ≡ Some join → join.body ≡ body.Activate index → index ≤ 1) where
   abbrev pub DoneBy : Draft Memory → MeterHeard → Type 0
   DoneBy d a = MeterDone x.eui m.station.ring (took_in a) d
@@ -205,7 +231,8 @@ module _ (x : Identity) (m : Memory) (now : ℕ) (reads : IfSome m.station.ring 
   start took = begun_done x.eui took m reads peer_is
 
   carry_up_is : (from : Eui) (join : JoinMessage) (b : JoinBody) → Is (carry_up m from join b now)
-  carry_up_is from join (body.Join eap) = choose_planned (λ own. checked_planned (λ e. sealed_planned _ _ (commanded x.eui m.station.ring None 0 join now (empty_draft m) (start None)))) (λ other. Refuses _)
+  carry_up_is from join (body.Join eap) = choose_planned
+      (λ own. checked_planned (λ e. sealed_planned _ _ (commanded x.eui m.station.ring None 0 join now (empty_draft m) (start None)))) (λ other. Refuses _)
   carry_up_is from join _ = Refuses _
 
   carries_down_is : (join : JoinMessage) → Is (carries_down m join)
@@ -219,28 +246,35 @@ module _ (x : Identity) (m : Memory) (now : ℕ) (reads : IfSome m.station.ring 
   carry_down_is join _ = Refuses _
 
   replies_is : (course : Course) (peer : Peer) (join : JoinMessage) → peer.eui ≡ x.eui → Is (replies m course peer join now)
-  replies_is course peer join own = checked_planned (λ e. sealed_planned _ _ (said x.eui m.station.ring None course peer.eui join now _ (replied_done x None m course peer now own reads)))
+  replies_is course peer join own =
+      checked_planned (λ e. sealed_planned _ _ (said x.eui m.station.ring None course peer.eui join now _ (replied_done x None m course peer now own reads)))
 
   reply_is : (course : Course) (packet : List ℕ) → Is (reply x m course packet now)
   reply_is course packet = checked_planned (λ e.
-      option_planned (λ value. checked dropped m (option_map packet_fault (first_fault packet)) (reply_with x m course packet now value)) (oldest m) (drop_it m NoRandom)
-      (λ value here. checked_planned (λ right. replies_is course (peer_for x.eui value packet) (message x.eui (body.Join (x.ciphers.second x.psk (identifier_of packet) (peer_for x.eui value packet)))) refl))
+      option_planned (λ value. checked dropped m (option_map packet_fault (first_fault packet)) (reply_with x m course packet now value)) (oldest m)
+      (drop_it m NoRandom)
+      (λ value here. checked_planned (λ right. replies_is course (peer_for x.eui value packet)
+      (message x.eui (body.Join (x.ciphers.second x.psk (identifier_of packet) (peer_for x.eui value packet)))) refl))
       (λ none. Refuses _))
 
-  takes_is : (course : Course) (peer : Peer) (identifier : ℕ) (granted : Granted) (join : JoinMessage) → peer.eui ≡ x.eui → IsReadable granted → Is (takes m course peer identifier granted join now)
+  takes_is : (course : Course) (peer : Peer) (identifier : ℕ) (granted : Granted) (join : JoinMessage) → peer.eui ≡ x.eui → IsReadable granted
+      → Is (takes m course peer identifier granted join now)
   takes_is course peer identifier granted join own readable = checked_planned (λ e.
-      sealed_planned _ _ (said x.eui m.station.ring (Some (agreed_by peer)) course peer.eui join now _ (took_done x.eui m peer identifier granted own readable)))
+      sealed_planned _ _ (said x.eui m.station.ring (Some (agreed_by peer)) course peer.eui join now _
+      (took_done x.eui m peer identifier granted own readable)))
 
   no_fault : {A B : Type 0} (f : A → B) (o : Option A) → option_map f o ≡ None → o ≡ None
   no_fault f None e = refl
   no_fault f (Some a) e = absurd (cc)
 
-  take_with_is : (course : Course) (packet : List ℕ) (peer : Peer) (granted : Option Granted) → peer.eui ≡ x.eui → x.ciphers.third_fault x.psk peer packet ≡ None → x.ciphers.granted x.psk peer packet ≡ granted → AreOctets packet
+  take_with_is : (course : Course) (packet : List ℕ) (peer : Peer) (granted : Option Granted) → peer.eui ≡ x.eui
+      → x.ciphers.third_fault x.psk peer packet ≡ None → x.ciphers.granted x.psk peer packet ≡ granted → AreOctets packet
       → Is (take_with x m course packet now peer granted)
   take_with_is course packet peer None own right is are = Refuses _
   take_with_is course packet peer (Some granted) own right is are = takes_is course peer _ granted _ own (granted_fits peer packet granted are right is)
 
-  take_by_is : (course : Course) (packet : List ℕ) (peer : Option Peer) → AreOctets packet → IfSome peer (λ p. p.eui ≡ x.eui) → Is (take_by x m course packet now peer)
+  take_by_is : (course : Course) (packet : List ℕ) (peer : Option Peer) → AreOctets packet → IfSome peer (λ p. p.eui ≡ x.eui)
+      → Is (take_by x m course packet now peer)
   take_by_is course packet None are own = Refuses _
   take_by_is course packet (Some peer) are own = checked_planned (λ e.
       take_with_is course packet peer (x.ciphers.granted x.psk peer packet) own (no_fault packet_fault (x.ciphers.third_fault x.psk peer packet) e) refl are)
@@ -282,7 +316,8 @@ module _ (x : Identity) (m : Memory) (now : ℕ) (reads : IfSome m.station.ring 
   join_is : (octets : List ℕ) (way : Way) (join : JoinMessage) → AreOctets (rest_of join.body) → join_in octets ≡ Some join → Is (hear_join x m way join now)
   join_is octets (Air from) join are read = carry_up_is from join join.body
   join_is octets (Near agent) join are read = choose_planned (λ mine. near_is agent join.body are) (λ other. Refuses _)
-  join_is octets (Mesh origin) join are read = choose_planned (λ coordinator. choose_planned (λ mine. order_is join.body are (λ index e. index_fits octets join index read e)) (λ other. carry_down_is join join.body)) (λ other. Refuses _)
+  join_is octets (Mesh origin) join are read = choose_planned (λ coordinator. choose_planned
+      (λ mine. order_is join.body are (λ index e. index_fits octets join index read e)) (λ other. carry_down_is join join.body)) (λ other. Refuses _)
 
   join_in_is : (octets : List ℕ) (way : Way) (join : Option JoinMessage) → AreOctets octets → join_in octets ≡ join → Is (hear_join_in x m way join now)
   join_in_is octets way None are read = Refuses _
@@ -297,11 +332,13 @@ module _ (eui : Eui) (old : ring.Ring) where
   no_changes r y (Draws index key w) h k = absurd w
   no_changes r y (Activates index w held) h k = absurd w
 
-  pub station_done : (took : Option Agreed) (g : Given) (m : Memory) (d : Draft StationMemory) → old ≡ m.station.ring → IfSome m.station.ring IsReadable → PeerIs eui m.session → Made NoWord g (empty_draft m.station) d → MeterDone eui old took (whole m d)
+  pub station_done : (took : Option Agreed) (g : Given) (m : Memory) (d : Draft StationMemory) → old ≡ m.station.ring → IfSome m.station.ring IsReadable
+      → PeerIs eui m.session → Made NoWord g (empty_draft m.station) d → MeterDone eui old took (whole m d)
   unfolding empty_draft
   station_done took g m d same reads session made =
       let t = made_tags NoWord g (empty_draft m.station) d made in
-      let x = made_rung (From eui old []) NoWord g no_changes (empty_draft m.station) d made (record { puts = tt; ring = subst (λ o. From eui o [] m.station.ring) (sym same) (held_from eui m.station.ring); reads = reads }) in
+      let x = made_rung (From eui old []) NoWord g no_changes (empty_draft m.station) d made
+      (record { puts = tt; ring = subst (λ o. From eui o [] m.station.ring) (sym same) (held_from eui m.station.ring); reads = reads }) in
       record {
         puts = subst (λ o. RingWrites (From eui old o) d.puts) (sym t.1) x.puts;
         ring = subst (λ o. From eui old o d.memory.ring) (sym t.1) x.ring;
@@ -320,17 +357,23 @@ pub handed_stays : (g : Given) (m : Memory) (n : StationMemory) (a : Heard) → 
 handed_stays g m n a k = record { ring = handed_ring g m.station n a k; session = refl; book = refl }
 
 module _ (x : Identity) (m : Memory) (g : Given) (reads : IfSome m.station.ring IsReadable) (peer_is : PeerIs x.eui m.session)
-    (granted_fits : (peer : Peer) (packet : List ℕ) (granted : Granted) → AreOctets packet → x.ciphers.third_fault x.psk peer packet ≡ None → x.ciphers.granted x.psk peer packet ≡ Some granted → IsReadable granted)
+    (granted_fits : (peer : Peer) (packet : List ℕ) (granted : Granted) → AreOctets packet → x.ciphers.third_fault x.psk peer packet ≡ None
+    → x.ciphers.granted x.psk peer packet ≡ Some granted → IsReadable granted)
     (index_fits : (octets : List ℕ) (join : JoinMessage) (index : ℕ) → join_in octets ≡ Some join → join.body ≡ body.Activate index → index ≤ 1) where
-  heard_by_is : (p : Plan StationMemory (Result Heard Dropped)) (u : Option Unread) → IfSome u (λ (a : Unread). AreOctets a.body) → Planned alone dropped m.station (Handed g m.station) (MadeOf NoWord g m.station) p → Is x m g.now reads peer_is granted_fits index_fits (heard_by x m g.now p u)
+  heard_by_is : (p : Plan StationMemory (Result Heard Dropped)) (u : Option Unread) → IfSome u (λ (a : Unread). AreOctets a.body)
+      → Planned alone dropped m.station (Handed g m.station) (MadeOf NoWord g m.station) p
+      → Is x m g.now reads peer_is granted_fits index_fits (heard_by x m g.now p u)
   unfolding resting
   heard_by_is p None are (Refuses reason) = Refuses reason
   heard_by_is p None are (Keeps n answer k) = Keeps (with_station n m) (heard.Station answer) (handed_stays g m n answer k)
-  heard_by_is p None are (Ended d answer done left) = Ended (whole m d) (heard.Station answer) (station_done x.eui m.station.ring None g m d refl reads peer_is done.0) left
+  heard_by_is p None are (Ended d answer done left) =
+      Ended (whole m d) (heard.Station answer) (station_done x.eui m.station.ring None g m d refl reads peer_is done.0) left
   heard_by_is p (Some u) are s = join_in_is x m g.now reads peer_is granted_fits index_fits u.body u.way (join_in u.body) are refl
 
-  pub meter_hears : (got : Accepted) → AreOctets got.payload → g.got ≡ Some got → Is x m g.now reads peer_is granted_fits index_fits (hear_meter x m got g.cost g.note g.now)
-  meter_hears got are is = let p = station_rules.hear m.station got g.cost g.note g.now in heard_by_is p (unread p.answer) (heard_octets m.station got g.cost g.note g.now are) (hear_is NoWord g m.station got is)
+  pub meter_hears : (got : Accepted) → AreOctets got.payload → g.got ≡ Some got
+      → Is x m g.now reads peer_is granted_fits index_fits (hear_meter x m got g.cost g.note g.now)
+  meter_hears got are is = let p = station_rules.hear m.station got g.cost g.note g.now in
+      heard_by_is p (unread p.answer) (heard_octets m.station got g.cost g.note g.now are) (hear_is NoWord g m.station got is)
 
 -- # Plans
 
@@ -340,23 +383,30 @@ pub record MeterPlan (eui : Eui) (old : ring.Ring) {A : Type 0} (took : Option A
   pub session : PeerIs eui p.memory.session
   pub made : Each (MeterTag eui took) p.made
 
-pub meter_plan : {H F : Type 0} (eui : Eui) (m : Memory) (ends : Ends F) (took : H → Option Agreed) (answered : Result H F → Option Agreed) → ((a : H) → answered (Ok a) ≡ took a) → IfSome m.station.ring IsReadable → PeerIs eui m.session
-    → (p : Plan Memory (Result H F)) → Planned in_memory ends m (λ n (a : H). Stays m n) (λ d (a : H). MeterDone eui m.station.ring (took a) d) p → MeterPlan eui m.station.ring (answered p.answer) p
+pub meter_plan : {H F : Type 0} (eui : Eui) (m : Memory) (ends : Ends F) (took : H → Option Agreed) (answered : Result H F → Option Agreed)
+    → ((a : H) → answered (Ok a) ≡ took a) → IfSome m.station.ring IsReadable → PeerIs eui m.session
+    → (p : Plan Memory (Result H F)) → Planned in_memory ends m (λ n (a : H). Stays m n) (λ d (a : H). MeterDone eui m.station.ring (took a) d) p
+    → MeterPlan eui m.station.ring (answered p.answer) p
 unfolding resting
 meter_plan eui m ends took answered same reads session p (Refuses reason) = record { puts = tt; session = session; made = tt }
-meter_plan eui m ends took answered same reads session p (Keeps n answer k) = record { puts = tt; session = subst (PeerIs eui) (sym k.session) session; made = tt }
+meter_plan eui m ends took answered same reads session p (Keeps n answer k) =
+    record { puts = tt; session = subst (PeerIs eui) (sym k.session) session; made = tt }
 meter_plan eui m ends took answered same reads session p (Ended d answer done left) = record {
-  puts = writes_append (From eui m.station.ring d.opened) d.puts _ done.puts (counter_away (From eui m.station.ring d.opened) d.memory.station.counter (length d.units));
+  puts = writes_append (From eui m.station.ring d.opened) d.puts _ done.puts
+      (counter_away (From eui m.station.ring d.opened) d.memory.station.counter (length d.units));
   session = done.session;
   made = subst (λ t. Each (MeterTag eui t) d.made) (sym (same answer)) done.made;
 }
 
 -- # What a meter does by itself
 
-asked_done : (eui : Eui) (m : Memory) (agent : ℕ) (own : Eui) (join : JoinMessage) (s : MeterSession) → s.peer ≡ None → IfSome m.station.ring IsReadable → MeterDone eui m.station.ring None (goes_up agent own join (with_memory_by (with_session (Some s)) (empty_draft m)))
-asked_done eui m agent own join s none reads = up eui m.station.ring None agent own join _ (with_done eui None m (with_session (Some s)) reads refl (subst (λ o. IfSome o (λ p. p.eui ≡ eui)) (sym none) tt))
+asked_done : (eui : Eui) (m : Memory) (agent : ℕ) (own : Eui) (join : JoinMessage) (s : MeterSession) → s.peer ≡ None → IfSome m.station.ring IsReadable
+    → MeterDone eui m.station.ring None (goes_up agent own join (with_memory_by (with_session (Some s)) (empty_draft m)))
+asked_done eui m agent own join s none reads = up eui m.station.ring None agent own join _
+    (with_done eui None m (with_session (Some s)) reads refl (subst (λ o. IfSome o (λ p. p.eui ≡ eui)) (sym none) tt))
 
-asked_none : (m : Memory) (agent : ℕ) (own : Eui) (join : JoinMessage) (change : Memory → Memory) → (goes_up agent own join (with_memory_by change (empty_draft m))).units ≡ []
+asked_none : (m : Memory) (agent : ℕ) (own : Eui) (join : JoinMessage) (change : Memory → Memory)
+    → (goes_up agent own join (with_memory_by change (empty_draft m))).units ≡ []
 unfolding empty_draft with_memory_by goes_up
 asked_none m agent own join change = refl
 
@@ -367,9 +417,11 @@ left_none m = refl
 few_units : {A : Type 0} (units : List A) (n : ℕ) → units ≡ [] → length units ≤ n
 few_units units n e = rw e (omega arith)
 
-pub joins_plan : (x : Identity) (m : Memory) (agent now : ℕ) → IfSome m.station.ring IsReadable → PeerIs x.eui m.session → MeterPlan x.eui m.station.ring None (join x m agent now)
+pub joins_plan : (x : Identity) (m : Memory) (agent now : ℕ) → IfSome m.station.ring IsReadable → PeerIs x.eui m.session
+    → MeterPlan x.eui m.station.ring None (join x m agent now)
 joins_plan x m agent now reads session = meter_plan x.eui m joining_ends (λ a. None) (λ a. None) (λ a. refl) reads session _
-    (choose_planned (λ joined. Refuses _) (λ outside. sealing_planned _ tt (asked_done x.eui m agent x.eui _ (record { course = ByAgent agent; peer = None; since = now }) refl reads) (few_units _ _ (asked_none m agent x.eui _ _))))
+    (choose_planned (λ joined. Refuses _) (λ outside. sealing_planned _ tt
+    (asked_done x.eui m agent x.eui _ (record { course = ByAgent agent; peer = None; since = now }) refl reads) (few_units _ _ (asked_none m agent x.eui _ _))))
 
 pub leaves_plan : (eui : Eui) (m : Memory) → IfSome m.station.ring IsReadable → PeerIs eui m.session → MeterPlan eui m.station.ring None (leave m)
 leaves_plan eui m reads session = meter_plan eui m leaving_ends (λ a. None) (λ a. None) (λ a. refl) reads session _
@@ -379,7 +431,10 @@ pub joins_opened : (x : Identity) (m : Memory) (agent now : ℕ) → (join x m a
 unfolding choose empty_draft with_memory_by goes_up resting
 joins_opened x m agent now = by_joined (is_some m.station.ring)
   where
-    by_joined : (b : Bool) → let p : Plan Memory (Result (Unit {0}) JoinRefusal) = (if b then refused joining_ends m AlreadyJoined else sealing in_memory joining_ends (goes_up agent x.eui (message x.eui (body.Join [])) (with_memory_by (with_session (Some (record { course = ByAgent agent; peer = None; since = now }))) (empty_draft m))) tt) in p.opened ≡ []
+    by_joined : (b : Bool) → let p : Plan Memory (Result (Unit {0}) JoinRefusal) =
+        (if b then refused joining_ends m AlreadyJoined
+        else sealing in_memory joining_ends (goes_up agent x.eui (message x.eui (body.Join []))
+        (with_memory_by (with_session (Some (record { course = ByAgent agent; peer = None; since = now }))) (empty_draft m))) tt) in p.opened ≡ []
     by_joined true = refl
     by_joined false = refl
 
@@ -387,7 +442,8 @@ pub leaves_opened : (m : Memory) → (leave m).opened ≡ []
 unfolding choose empty_draft with_memory_by on_station with_ring resting
 leaves_opened m = by_joined (is_some m.station.ring)
   where
-    by_joined : (b : Bool) → let p : Plan Memory (Result (Unit {0}) LeaveRefusal) = (if b then sealing in_memory leaving_ends (leaves m) tt else refused leaving_ends m leaving.NotJoined) in p.opened ≡ []
+    by_joined : (b : Bool) → let p : Plan Memory (Result (Unit {0}) LeaveRefusal) =
+        (if b then sealing in_memory leaving_ends (leaves m) tt else refused leaving_ends m leaving.NotJoined) in p.opened ≡ []
     by_joined true = refl
     by_joined false = refl
 
@@ -395,7 +451,10 @@ pub joins_made : (x : Identity) (m : Memory) (agent now : ℕ) → (join x m age
 unfolding choose empty_draft with_memory_by goes_up resting
 joins_made x m agent now = by_joined (is_some m.station.ring)
   where
-    by_joined : (b : Bool) → let p : Plan Memory (Result (Unit {0}) JoinRefusal) = (if b then refused joining_ends m AlreadyJoined else sealing in_memory joining_ends (goes_up agent x.eui (message x.eui (body.Join [])) (with_memory_by (with_session (Some (record { course = ByAgent agent; peer = None; since = now }))) (empty_draft m))) tt) in p.made ≡ []
+    by_joined : (b : Bool) → let p : Plan Memory (Result (Unit {0}) JoinRefusal) =
+        (if b then refused joining_ends m AlreadyJoined
+        else sealing in_memory joining_ends (goes_up agent x.eui (message x.eui (body.Join []))
+        (with_memory_by (with_session (Some (record { course = ByAgent agent; peer = None; since = now }))) (empty_draft m))) tt) in p.made ≡ []
     by_joined true = refl
     by_joined false = refl
 
@@ -403,6 +462,7 @@ pub leaves_made : (m : Memory) → (leave m).made ≡ []
 unfolding choose empty_draft with_memory_by on_station with_ring resting
 leaves_made m = by_joined (is_some m.station.ring)
   where
-    by_joined : (b : Bool) → let p : Plan Memory (Result (Unit {0}) LeaveRefusal) = (if b then sealing in_memory leaving_ends (leaves m) tt else refused leaving_ends m leaving.NotJoined) in p.made ≡ []
+    by_joined : (b : Bool) → let p : Plan Memory (Result (Unit {0}) LeaveRefusal) =
+        (if b then sealing in_memory leaving_ends (leaves m) tt else refused leaving_ends m leaving.NotJoined) in p.made ≡ []
     by_joined true = refl
     by_joined false = refl

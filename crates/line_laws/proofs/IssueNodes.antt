@@ -1,5 +1,6 @@
 -- What holds of the keys of nodes, and that carrying out a plan keeps it.
-use Rattle.std.proofs.Common.{◌≡◌, ⊎_elim, ℕ, ◌+◌, ◌≤◌, Bool, true, false, List, [], ◌++◌, length, Option, Some, None, Result, Ok, Err, refl, sym, ap, ◌∙◌, subst, arith}
+use Rattle.std.proofs.Common.{◌≡◌, ⊎_elim, ℕ, ◌+◌, ◌≤◌, Bool, true, false, List, [], ◌++◌, length, Option, Some, None, Result, Ok, Err, refl, sym, ap, ◌∙◌}
+use Rattle.std.proofs.Common.{subst, arith}
 use Rattle.std.specs.Prelude.{if◌then◌else◌, IfSome, not}
 use Rattle.std.specs.List.{list_any}
 use Rattle.std.specs.Option.{option_map, option_map_or, option_and_then}
@@ -58,7 +59,8 @@ given_more given more eui index (Some key) h = record { one = h.one; among = amo
 
 module _ (b c : book.Book) (given more : List Issued) (grows : Grows b c) where
   pub grant_later : (eui : Eui) (g : Granted) → GrantOk b given eui g → GrantOk c (given ++ more) eui g
-  grant_later eui g h = record { address = grows eui g.address h.address; key0 = given_more given more eui 0 g.key0 h.key0; key1 = given_more given more eui 1 g.key1 h.key1 }
+  grant_later eui g h =
+      record { address = grows eui g.address h.address; key0 = given_more given more eui 0 g.key0 h.key0; key1 = given_more given more eui 1 g.key1 h.key1 }
 
   pub ring_later : (eui : Eui) (r : ring.Ring) → RingOk b given eui r → RingOk c (given ++ more) eui r
   ring_later eui None h = tt
@@ -67,7 +69,8 @@ module _ (b c : book.Book) (given more : List Issued) (grows : Grows b c) where
   pub tag_later : (t : PairTag) → TagOk b given t → TagOk c (given ++ more) t
   tag_later (tags.MacP eui octets) h = tt
   tag_later (tags.MacS eui octets) h = tt
-  tag_later (tags.Channel eui rand_p nonce header text) h = λ e. let x = h e in record { granted = x.granted; is = x.is; readable = x.readable; right = grant_later eui x.granted x.right }
+  tag_later (tags.Channel eui rand_p nonce header text) h =
+      λ e. let x = h e in record { granted = x.granted; is = x.is; readable = x.readable; right = grant_later eui x.granted x.right }
 
 -- # The grant of a tag that was found right
 
@@ -83,7 +86,8 @@ text_same g h hg hh e =
     let lists : grant_spelling g ≡ grant_spelling h = cc (e) in
     same_Some g h (sym (grant_read g (grant_spelling g) (is_granted g hg, refl)) ∙ grant_read h (grant_spelling g) (is_granted h hh, lists))
 
-same_number : (b : book.Book) (given : List Issued) (x y : Eui) (g : Granted) → book.eui_number x ≡ book.eui_number y → GrantOk b given x g → GrantOk b given y g
+same_number : (b : book.Book) (given : List Issued) (x y : Eui) (g : Granted) → book.eui_number x ≡ book.eui_number y → GrantOk b given x g
+    → GrantOk b given y g
 same_number b given x y g same h = record {
   address = ap (λ k. option_map (λ (place : ℕ). place + 1) (slots.place_of book.entries b k)) (sym same) ∙ h.address;
   key0 = given_to 0 g.key0 h.key0;
@@ -113,7 +117,8 @@ all_made made opened e t among = by_not (list_any (same_tag t) made) (none_any (
     by_not false h = absurd (cc)
 
 module _ (b : book.Book) (given : List Issued) (eui : Eui) where
-  pub found_grant : (i : ℕ) (s p : Rand) (r : Granted) → IsReadable r → Found (TagOk b given) (same_tag (granting_tag eui i s p (granting_text r))) → GrantOk b given eui r
+  pub found_grant : (i : ℕ) (s p : Rand) (r : Granted) → IsReadable r → Found (TagOk b given) (same_tag (granting_tag eui i s p (granting_text r)))
+      → GrantOk b given eui r
   found_grant i s p r readable f = by_tag f.one f.passes f.is
     where
       by_tag : (t : PairTag) → same_tag (granting_tag eui i s p (granting_text r)) t ≡ true → TagOk b given t → GrantOk b given eui r
@@ -131,11 +136,13 @@ module _ (b : book.Book) (given : List Issued) (eui : Eui) where
           let numbers : book.eui_number e ≡ book.eui_number eui = sym (eqb-true _ _ one.0) in
           same_number b given e eui r numbers (subst (GrantOk b given e) (sym this) x.right)
 
-  pub from_ok : (old : ring.Ring) (made opened : List PairTag) → RingOk b given eui old → AllMade made opened → Each (TagOk b given) made → (x : ring.Ring) → From eui old opened x → RingOk b given eui x
+  pub from_ok : (old : ring.Ring) (made opened : List PairTag) → RingOk b given eui old → AllMade made opened → Each (TagOk b given) made → (x : ring.Ring)
+      → From eui old opened x → RingOk b given eui x
   from_ok old made opened h right each None f = tt
   from_ok old made opened h right each (Some g) (Held r is same) = same_grant b given eui g r same (subst (RingOk b given eui) is h)
   from_ok old made opened h right each (Some g) (Opened i s p r among readable same) =
-      same_grant b given eui g r same (found_grant i s p r readable (any_found (TagOk b given) (same_tag (granting_tag eui i s p (granting_text r))) made (right _ among) each))
+      same_grant b given eui g r same
+      (found_grant i s p r readable (any_found (TagOk b given) (same_tag (granting_tag eui i s p (granting_text r))) made (right _ among) each))
 
 -- # A meter
 
@@ -151,35 +158,48 @@ pub record MeterDid (b : book.Book) (given : List Issued) (x : Node) {A : Type 0
   pub made : Each (TagOk b given) d.made
 
 module _ (b : book.Book) (given : List Issued) where
-  pub meter_acts : {A : Type 0} (x : Node) (halted : A) (plan : Memory → Plan Memory A) (made : List PairTag) → NodeOk x → MeterOk b given x → Each (TagOk b given) made → AllMade made (acts x halted plan).opened
-      → (took : A → Option Agreed) → ((m : Memory) → x.memory ≡ Some m → IsKept x.role m x.store.records → PeerIs x.eui m.session → MeterPlan x.eui m.station.ring (took (plan m).answer) (plan m)) → MeterDid b given x (acts x halted plan)
+  pub meter_acts : {A : Type 0} (x : Node) (halted : A) (plan : Memory → Plan Memory A) (made : List PairTag) → NodeOk x → MeterOk b given x
+      → Each (TagOk b given) made → AllMade made (acts x halted plan).opened
+      → (took : A → Option Agreed) → ((m : Memory) → x.memory ≡ Some m → IsKept x.role m x.store.records → PeerIs x.eui m.session
+      → MeterPlan x.eui m.station.ring (took (plan m).answer) (plan m)) → MeterDid b given x (acts x halted plan)
   unfolding acts
   meter_acts {A = A} x halted plan made ok h each right took f = by_memory x.memory refl ok.kept h.session right
     where
-      by_outcome : (m : Memory) → x.memory ≡ Some m → IsKept x.role m x.store.records → PeerIs x.eui m.session → AllMade made (carry_out x.store.records x.store.cut (plan m)).opened
+      by_outcome : (m : Memory) → x.memory ≡ Some m → IsKept x.role m x.store.records → PeerIs x.eui m.session
+          → AllMade made (carry_out x.store.records x.store.cut (plan m)).opened
           → MeterDid b given x (left_by x (carry_out x.store.records x.store.cut (plan m)))
       by_outcome m there kept session all =
           let p = f m there kept session in
           let old : RingOk b given x.eui m.station.ring = h.ring m.station.ring kept.station.ring.stored in
           let o : Outcome Memory A = carry_out x.store.records x.store.cut (plan m) in
           let c = clean x.store.records x.store.cut (plan m) in
-          let opened : o.opened ≡ (plan m).opened = ⊎_elim (λ (w : IsWhole x.store.records x.store.cut (plan m) o). w.opened) (λ (w : IsCutOff x.store.records x.store.cut (plan m) o). w.opened) c in
-          let puts = writes_weaker (From x.eui m.station.ring (plan m).opened) (RingOk b given x.eui) (from_ok b given x.eui m.station.ring made (plan m).opened old (subst (AllMade made) opened all) each) (plan m).puts p.puts in
+          let opened : o.opened ≡ (plan m).opened = ⊎_elim (λ (w : IsWhole x.store.records x.store.cut (plan m) o). w.opened)
+          (λ (w : IsCutOff x.store.records x.store.cut (plan m) o). w.opened) c in
+          let puts = writes_weaker (From x.eui m.station.ring (plan m).opened) (RingOk b given x.eui)
+          (from_ok b given x.eui m.station.ring made (plan m).opened old (subst (AllMade made) opened all) each) (plan m).puts p.puts in
           record {
             node = record {
               ring = carried_in (RingOk b given x.eui) x.store.records x.store.cut (plan m) puts h.ring;
-              session = ⊎_elim (λ (w : IsWhole x.store.records x.store.cut (plan m) o). subst (λ q. IfSome q (λ (n : Memory). PeerIs x.eui n.session)) (sym w.memory) p.session)
+              session = ⊎_elim (λ (w : IsWhole x.store.records x.store.cut (plan m) o). subst (λ q. IfSome q (λ (n : Memory). PeerIs x.eui n.session))
+                  (sym w.memory) p.session)
                   (λ (w : IsCutOff x.store.records x.store.cut (plan m) o). subst (λ q. IfSome q (λ (n : Memory). PeerIs x.eui n.session)) (sym w.memory) tt) c;
             };
             eui = refl;
             role = refl;
-            made = ⊎_elim (λ (w : IsWhole x.store.records x.store.cut (plan m) o). subst (Each (TagOk b given)) (sym w.made) (each_weaker (MeterTag x.eui (took (plan m).answer)) (TagOk b given) (meter_tag b given x.eui (took (plan m).answer)) (plan m).made p.made))
+            made = ⊎_elim (λ (w : IsWhole x.store.records x.store.cut (plan m) o). subst (Each (TagOk b given)) (sym w.made)
+                (each_weaker (MeterTag x.eui (took (plan m).answer)) (TagOk b given) (meter_tag b given x.eui (took (plan m).answer)) (plan m).made p.made))
                 (λ (w : IsCutOff x.store.records x.store.cut (plan m) o). subst (Each (TagOk b given)) (sym w.made) tt) c;
           }
 
-      by_memory : (o : Option Memory) → x.memory ≡ o → Left (IsKept x.role) x.store.records o → IfSome o (λ m. PeerIs x.eui m.session) → AllMade made (option_map_or (λ m. left_by x (carry_out x.store.records x.store.cut (plan m))) o (stays x halted)).opened
+      by_memory : (o : Option Memory) → x.memory ≡ o → Left (IsKept x.role) x.store.records o → IfSome o (λ m. PeerIs x.eui m.session)
+          → AllMade made (option_map_or (λ m. left_by x (carry_out x.store.records x.store.cut (plan m))) o (stays x halted)).opened
           → MeterDid b given x (option_map_or (λ m. left_by x (carry_out x.store.records x.store.cut (plan m))) o (stays x halted))
-      by_memory None there kept session all = record { node = record { ring = h.ring; session = subst (λ q. IfSome q (λ (n : Memory). PeerIs x.eui n.session)) (sym there) tt }; eui = refl; role = refl; made = tt }
+      by_memory None there kept session all = record {
+        node = record { ring = h.ring; session = subst (λ q. IfSome q (λ (n : Memory). PeerIs x.eui n.session)) (sym there) tt };
+        eui = refl;
+        role = refl;
+        made = tt;
+      }
       by_memory (Some m) there kept session all = by_outcome m there kept session all
 
 -- What a plan of a meter leaves, whatever it opens.
@@ -189,12 +209,15 @@ pub record MeterSound (b : book.Book) (given : List Issued) (eui : Eui) {A : Typ
   pub made : Each (TagOk b given) p.made
 
 module _ (b : book.Book) (given : List Issued) where
-  pub sound_acts : {A : Type 0} (x : Node) (halted : A) (plan : Memory → Plan Memory A) → NodeOk x → RingIn (RingOk b given x.eui) x.store.records → IfSome x.memory (λ m. PeerIs x.eui m.session)
-      → ((m : Memory) → x.memory ≡ Some m → IsKept x.role m x.store.records → PeerIs x.eui m.session → RingOk b given x.eui m.station.ring → MeterSound b given x.eui (plan m)) → MeterDid b given x (acts x halted plan)
+  pub sound_acts : {A : Type 0} (x : Node) (halted : A) (plan : Memory → Plan Memory A) → NodeOk x → RingIn (RingOk b given x.eui) x.store.records
+      → IfSome x.memory (λ m. PeerIs x.eui m.session)
+      → ((m : Memory) → x.memory ≡ Some m → IsKept x.role m x.store.records → PeerIs x.eui m.session → RingOk b given x.eui m.station.ring
+      → MeterSound b given x.eui (plan m)) → MeterDid b given x (acts x halted plan)
   unfolding acts
   sound_acts {A = A} x halted plan ok rings peer f = by_memory x.memory refl ok.kept peer
     where
-      by_outcome : (m : Memory) → x.memory ≡ Some m → IsKept x.role m x.store.records → PeerIs x.eui m.session → MeterDid b given x (left_by x (carry_out x.store.records x.store.cut (plan m)))
+      by_outcome : (m : Memory) → x.memory ≡ Some m → IsKept x.role m x.store.records → PeerIs x.eui m.session
+          → MeterDid b given x (left_by x (carry_out x.store.records x.store.cut (plan m)))
       by_outcome m there kept session =
           let p = f m there kept session (rings m.station.ring kept.station.ring.stored) in
           let o : Outcome Memory A = carry_out x.store.records x.store.cut (plan m) in
@@ -202,7 +225,8 @@ module _ (b : book.Book) (given : List Issued) where
           record {
             node = record {
               ring = carried_in (RingOk b given x.eui) x.store.records x.store.cut (plan m) p.puts rings;
-              session = ⊎_elim (λ (w : IsWhole x.store.records x.store.cut (plan m) o). subst (λ q. IfSome q (λ (n : Memory). PeerIs x.eui n.session)) (sym w.memory) p.session)
+              session = ⊎_elim (λ (w : IsWhole x.store.records x.store.cut (plan m) o). subst (λ q. IfSome q (λ (n : Memory). PeerIs x.eui n.session))
+                  (sym w.memory) p.session)
                   (λ (w : IsCutOff x.store.records x.store.cut (plan m) o). subst (λ q. IfSome q (λ (n : Memory). PeerIs x.eui n.session)) (sym w.memory) tt) c;
             };
             eui = refl;
@@ -213,7 +237,12 @@ module _ (b : book.Book) (given : List Issued) where
 
       by_memory : (o : Option Memory) → x.memory ≡ o → Left (IsKept x.role) x.store.records o → IfSome o (λ m. PeerIs x.eui m.session)
           → MeterDid b given x (option_map_or (λ m. left_by x (carry_out x.store.records x.store.cut (plan m))) o (stays x halted))
-      by_memory None there kept session = record { node = record { ring = rings; session = subst (λ q. IfSome q (λ (n : Memory). PeerIs x.eui n.session)) (sym there) tt }; eui = refl; role = refl; made = tt }
+      by_memory None there kept session = record {
+        node = record { ring = rings; session = subst (λ q. IfSome q (λ (n : Memory). PeerIs x.eui n.session)) (sym there) tt };
+        eui = refl;
+        role = refl;
+        made = tt;
+      }
       by_memory (Some m) there kept session = by_outcome m there kept session
 
 -- # The coordinator
@@ -241,10 +270,12 @@ at_index given eui g key e =
 at_next : (given : List Issued) (eui : Eui) (g : Granted) (key : Key) → g.key1 ≡ Some key → IsGivenTo (given ++ issued_by eui g) eui 1 key
 at_next given eui g key e =
     let one : Issued = record { eui = eui; index = 1; key = key } in
-    let there : Among one (issued_by eui g) = subst (λ k. Among one (issued_at eui 0 g.key0 ++ issued_at eui 1 k)) (sym e) (among_right one (issued_at eui 0 g.key0) _ (Here [])) in
+    let there : Among one (issued_by eui g) = subst (λ k. Among one (issued_at eui 0 g.key0 ++ issued_at eui 1 k)) (sym e)
+    (among_right one (issued_at eui 0 g.key0) _ (Here [])) in
     record { one = one; among = among_right one given (issued_by eui g) there; to = refl; at = refl; key_is = refl }
 
-pub issued_keys : (given : List Issued) (eui : Eui) (g : Granted) → GivenAt (given ++ issued_by eui g) eui 0 g.key0 × GivenAt (given ++ issued_by eui g) eui 1 g.key1
+pub issued_keys : (given : List Issued) (eui : Eui) (g : Granted)
+    → GivenAt (given ++ issued_by eui g) eui 0 g.key0 × GivenAt (given ++ issued_by eui g) eui 1 g.key1
 issued_keys given eui g = (first g.key0 refl, second g.key1 refl)
   where
     first : (k : Option Key) → g.key0 ≡ k → GivenAt (given ++ issued_by eui g) eui 0 k
@@ -256,15 +287,19 @@ issued_keys given eui g = (first g.key0 refl, second g.key1 refl)
     second (Some key) e = at_next given eui g key e
 
 -- the address of a grant is the book's
-pub granted_address : (r : ring.Ring) (b : book.Book) (eui : Eui) (g : Granted) → option_and_then (λ address. option_map (λ (x : Granted). record x { address = address }) r) (book.address_of b eui) ≡ Some g → book.address_of b eui ≡ Some g.address
+pub granted_address : (r : ring.Ring) (b : book.Book) (eui : Eui) (g : Granted)
+    → option_and_then (λ address. option_map (λ (x : Granted). record x { address = address }) r) (book.address_of b eui) ≡ Some g
+    → book.address_of b eui ≡ Some g.address
 granted_address r b eui g = by_place (book.address_of b eui) r
   where
-    by_place : (o : Option ℕ) (r : ring.Ring) → option_and_then (λ address. option_map (λ (x : Granted). record x { address = address }) r) o ≡ Some g → o ≡ Some g.address
+    by_place : (o : Option ℕ) (r : ring.Ring) → option_and_then (λ address. option_map (λ (x : Granted). record x { address = address }) r) o ≡ Some g
+        → o ≡ Some g.address
     by_place None r e = absurd (cc)
     by_place (Some a) None e = absurd (cc)
     by_place (Some a) (Some x) e = let same : record x { address = a } ≡ g = same_Some _ _ e in ap (λ (y : Granted). Some y.address) same
 
-coordinator_tag : (b c : book.Book) (given : List Issued) (m : Memory) (keyed : Option SentGrant) → IfSome m.station.ring IsReadable → length m.book ≤ 999 → m.book ≡ b → Grows b c → (t : PairTag) → CoordinatorTag m keyed t → TagOk c (given ++ issued_of keyed) t
+coordinator_tag : (b c : book.Book) (given : List Issued) (m : Memory) (keyed : Option SentGrant) → IfSome m.station.ring IsReadable → length m.book ≤ 999
+    → m.book ≡ b → Grows b c → (t : PairTag) → CoordinatorTag m keyed t → TagOk c (given ++ issued_of keyed) t
 coordinator_tag b c given m keyed reads short same grows t (ServerMac eui octets) = tt
 coordinator_tag b c given m keyed reads short same grows t (Third eui i s p granted is grant) = λ e.
     let address : book.address_of m.book eui ≡ Some granted.address = granted_address m.station.ring m.book eui granted grant in
@@ -273,59 +308,90 @@ coordinator_tag b c given m keyed reads short same grows t (Third eui i s p gran
       granted = granted;
       is = refl;
       readable = granted_readable m.station.ring m.book eui granted reads short grant;
-      right = subst (λ o. GrantOk c (given ++ issued_of o) eui granted) (sym is) (record { address = grows eui granted.address (subst (λ x. book.address_of x eui ≡ Some granted.address) same address); key0 = keys.0; key1 = keys.1 });
+      right = subst (λ o. GrantOk c (given ++ issued_of o) eui granted) (sym is)
+          (record {
+            address = grows eui granted.address (subst (λ x. book.address_of x eui ≡ Some granted.address) same address);
+            key0 = keys.0;
+            key1 = keys.1;
+          });
     }
 
 module _ (b : book.Book) (given : List Issued) where
   pub coordinator_acts : {A : Type 0} (x : Node) (halted : A) (plan : Memory → Plan Memory A) (more : List Issued) → NodeOk x → CoordinatorOk b x
-      → (keyed : A → Option SentGrant) → ((m : Memory) → x.memory ≡ Some m → (acts x halted plan).answer ≡ (plan m).answer → issued_of (keyed (plan m).answer) ≡ more)
-      → ((m : Memory) → x.memory ≡ Some m → IsKept Coordinator m x.store.records → CoordinatorPlan b m (keyed (plan m).answer) (plan m)) → CoordinatorDid b given more x (acts x halted plan)
+      → (keyed : A → Option SentGrant)
+      → ((m : Memory) → x.memory ≡ Some m → (acts x halted plan).answer ≡ (plan m).answer → issued_of (keyed (plan m).answer) ≡ more)
+      → ((m : Memory) → x.memory ≡ Some m → IsKept Coordinator m x.store.records → CoordinatorPlan b m (keyed (plan m).answer) (plan m))
+      → CoordinatorDid b given more x (acts x halted plan)
   unfolding acts
-  coordinator_acts {A = A} x halted plan more ok h keyed said f = by_memory x.memory refl (subst (λ role. Left (IsKept role) x.store.records x.memory) h.role ok.kept) said
+  coordinator_acts {A = A} x halted plan more ok h keyed said f =
+      by_memory x.memory refl (subst (λ role. Left (IsKept role) x.store.records x.memory) h.role ok.kept) said
     where
-      book_of : (o : Outcome Memory A) → Left (Grown (Grows b)) o.records o.memory → RingIn Nought o.records → (made : (c : book.Book) → Grows b c → Each (TagOk c (given ++ more)) o.made) → CoordinatorDid b given more x (left_by x o)
+      book_of : (o : Outcome Memory A) → Left (Grown (Grows b)) o.records o.memory → RingIn Nought o.records
+          → (made : (c : book.Book) → Grows b c → Each (TagOk c (given ++ more)) o.made) → CoordinatorDid b given more x (left_by x o)
       book_of o left ring made = by_left o.memory left
         where
           by_left : (q : Option Memory) → Left (Grown (Grows b)) o.records q → CoordinatorDid b given more x (left_by x o)
-          by_left None k = record { book = k.memory.book; node = record { role = h.role; book_kept = k.kept.kept.book; ring = ring }; grows = k.kept.grows; eui = refl; made = made k.memory.book k.kept.grows }
-          by_left (Some n) k = record { book = n.book; node = record { role = h.role; book_kept = k.kept.book; ring = ring }; grows = k.grows; eui = refl; made = made n.book k.grows }
+          by_left None k = record {
+            book = k.memory.book;
+            node = record { role = h.role; book_kept = k.kept.kept.book; ring = ring };
+            grows = k.kept.grows;
+            eui = refl;
+            made = made k.memory.book k.kept.grows;
+          }
+          by_left (Some n) k = record {
+            book = n.book;
+            node = record { role = h.role; book_kept = k.kept.book; ring = ring };
+            grows = k.grows;
+            eui = refl;
+            made = made n.book k.grows;
+          }
 
-      by_outcome : (m : Memory) → x.memory ≡ Some m → IsKept Coordinator m x.store.records → ((carry_out x.store.records x.store.cut (plan m)).answer ≡ (plan m).answer → issued_of (keyed (plan m).answer) ≡ more)
+      by_outcome : (m : Memory) → x.memory ≡ Some m → IsKept Coordinator m x.store.records
+          → ((carry_out x.store.records x.store.cut (plan m)).answer ≡ (plan m).answer → issued_of (keyed (plan m).answer) ≡ more)
           → CoordinatorDid b given more x (left_by x (carry_out x.store.records x.store.cut (plan m)))
       by_outcome m there kept said =
           let p = f m there kept in
           let o : Outcome Memory A = carry_out x.store.records x.store.cut (plan m) in
           let c = clean x.store.records x.store.cut (plan m) in
           let same : m.book ≡ b = one_book m.book b x.store.records kept.book h.book_kept in
-          let old : Grown (Grows b) m x.store.records = record { kept = kept; grows = λ eui a e. subst (λ (y : book.Book). book.address_of y eui ≡ Some a) (sym same) e } in
-          book_of o (carried (Grown (Grows b)) x.store.records x.store.cut (plan m) m old p.leads) (carried_in Nought x.store.records x.store.cut (plan m) p.ring h.ring)
+          let old : Grown (Grows b) m x.store.records =
+          record { kept = kept; grows = λ eui a e. subst (λ (y : book.Book). book.address_of y eui ≡ Some a) (sym same) e } in
+          book_of o (carried (Grown (Grows b)) x.store.records x.store.cut (plan m) m old p.leads)
+          (carried_in Nought x.store.records x.store.cut (plan m) p.ring h.ring)
           (λ d grows. ⊎_elim
           (λ (w : IsWhole x.store.records x.store.cut (plan m) o). subst (Each (TagOk d (given ++ more))) (sym w.made)
-          (each_weaker (CoordinatorTag m (keyed (plan m).answer)) (TagOk d (given ++ more)) (λ t k. subst (λ l. TagOk d (given ++ l) t) (said w.answer) (coordinator_tag b d given m (keyed (plan m).answer) kept.station.range.ring kept.book.table.short same grows t k)) (plan m).made p.made))
+          (each_weaker (CoordinatorTag m (keyed (plan m).answer)) (TagOk d (given ++ more))
+          (λ t k. subst (λ l. TagOk d (given ++ l) t) (said w.answer)
+          (coordinator_tag b d given m (keyed (plan m).answer) kept.station.range.ring kept.book.table.short same grows t k)) (plan m).made p.made))
           (λ (w : IsCutOff x.store.records x.store.cut (plan m) o). subst (Each (TagOk d (given ++ more))) (sym w.made) tt) c)
 
       by_memory : (q : Option Memory) → x.memory ≡ q → Left (IsKept Coordinator) x.store.records q
-          → ((m : Memory) → q ≡ Some m → (option_map_or (λ m. left_by x (carry_out x.store.records x.store.cut (plan m))) q (stays x halted)).answer ≡ (plan m).answer → issued_of (keyed (plan m).answer) ≡ more)
+          → ((m : Memory) → q ≡ Some m → (option_map_or (λ m. left_by x (carry_out x.store.records x.store.cut (plan m))) q (stays x halted)).answer
+          ≡ (plan m).answer → issued_of (keyed (plan m).answer) ≡ more)
           → CoordinatorDid b given more x (option_map_or (λ m. left_by x (carry_out x.store.records x.store.cut (plan m))) q (stays x halted))
       by_memory None there kept said = record { book = b; node = h; grows = λ eui a e. e; eui = refl; made = tt }
       by_memory (Some m) there kept said = by_outcome m there kept (said m refl)
 
 -- a node whose plan opens nothing opens nothing
-pub acts_opened : {A : Type 0} (x : Node) (halted : A) (plan : Memory → Plan Memory A) → ((m : Memory) → (plan m).opened ≡ []) → (acts x halted plan).opened ≡ []
+pub acts_opened : {A : Type 0} (x : Node) (halted : A) (plan : Memory → Plan Memory A) → ((m : Memory) → (plan m).opened ≡ [])
+    → (acts x halted plan).opened ≡ []
 unfolding acts
 acts_opened {A = A} x halted plan none = by_memory x.memory
   where
     by_memory : (o : Option Memory) → (option_map_or (λ m. left_by x (carry_out x.store.records x.store.cut (plan m))) o (stays x halted)).opened ≡ []
     by_memory None = refl
     by_memory (Some m) = ⊎_elim (λ (w : IsWhole x.store.records x.store.cut (plan m) (carry_out x.store.records x.store.cut (plan m))). w.opened ∙ none m)
-        (λ (c : IsCutOff x.store.records x.store.cut (plan m) (carry_out x.store.records x.store.cut (plan m))). c.opened ∙ none m) (clean x.store.records x.store.cut (plan m))
+        (λ (c : IsCutOff x.store.records x.store.cut (plan m) (carry_out x.store.records x.store.cut (plan m))). c.opened ∙ none m)
+        (clean x.store.records x.store.cut (plan m))
 
 -- the ring of a node that carries out a plan
-pub acts_ring : {A : Type 0} (S : ring.Ring → Type 0) (x : Node) (halted : A) (plan : Memory → Plan Memory A) → ((m : Memory) → RingWrites S (plan m).puts) → RingIn S x.store.records → RingIn S (acts x halted plan).node.store.records
+pub acts_ring : {A : Type 0} (S : ring.Ring → Type 0) (x : Node) (halted : A) (plan : Memory → Plan Memory A) → ((m : Memory) → RingWrites S (plan m).puts)
+    → RingIn S x.store.records → RingIn S (acts x halted plan).node.store.records
 unfolding acts
 acts_ring {A = A} S x halted plan puts h = by_memory x.memory
   where
-    by_memory : (o : Option Memory) → RingIn S (option_map_or (λ m. left_by x (carry_out x.store.records x.store.cut (plan m))) o (stays x halted)).node.store.records
+    by_memory : (o : Option Memory)
+        → RingIn S (option_map_or (λ m. left_by x (carry_out x.store.records x.store.cut (plan m))) o (stays x halted)).node.store.records
     by_memory None = h
     by_memory (Some m) = carried_in S x.store.records x.store.cut (plan m) (puts m) h
 
@@ -336,23 +402,27 @@ pub record Whole {A E : Type 0} (x : Node) (reason : E) (plan : Memory → Plan 
   pub is : (plan memory).answer ≡ Ok g
   pub leaves : (acts x (Err reason) plan).node.memory ≡ Some (plan memory).memory
 
-pub acts_whole : {A E : Type 0} (x : Node) (reason store : E) (plan : Memory → Plan Memory (Result A E)) → ((m : Memory) → (plan m).failed ≡ Err store) → (g : A) → (acts x (Err reason) plan).answer ≡ Ok g → Whole x reason plan g
+pub acts_whole : {A E : Type 0} (x : Node) (reason store : E) (plan : Memory → Plan Memory (Result A E)) → ((m : Memory) → (plan m).failed ≡ Err store)
+    → (g : A) → (acts x (Err reason) plan).answer ≡ Ok g → Whole x reason plan g
 unfolding acts
 acts_whole {A = A} {E = E} x reason store plan failed g e = by_memory x.memory refl e
   where
     not_ok : (s : E) (a : A) → Err s ≡ Ok a → ⊥
     not_ok s a e = cc
 
-    by_memory : (o : Option Memory) → x.memory ≡ o → (option_map_or (λ m. left_by x (carry_out x.store.records x.store.cut (plan m))) o (stays x (Err reason))).answer ≡ Ok g → Whole x reason plan g
+    by_memory : (o : Option Memory) → x.memory ≡ o
+        → (option_map_or (λ m. left_by x (carry_out x.store.records x.store.cut (plan m))) o (stays x (Err reason))).answer ≡ Ok g → Whole x reason plan g
     by_memory None there h = absurd (not_ok reason g h)
     by_memory (Some m) there h = ⊎_elim
         (λ (w : IsWhole x.store.records x.store.cut (plan m) (carry_out x.store.records x.store.cut (plan m))). record {
           memory = m;
           there = there;
           is = sym w.answer ∙ h;
-          leaves = subst (λ o. (option_map_or (λ n. left_by x (carry_out x.store.records x.store.cut (plan n))) o (stays x (Err reason))).node.memory ≡ Some (plan m).memory) (sym there) w.memory;
+          leaves = subst (λ o. (option_map_or (λ n. left_by x (carry_out x.store.records x.store.cut (plan n))) o (stays x (Err reason))).node.memory
+              ≡ Some (plan m).memory) (sym there) w.memory;
         })
-        (λ (c : IsCutOff x.store.records x.store.cut (plan m) (carry_out x.store.records x.store.cut (plan m))). absurd (not_ok store g (sym (failed m) ∙ sym c.answer ∙ h)))
+        (λ (c : IsCutOff x.store.records x.store.cut (plan m) (carry_out x.store.records x.store.cut (plan m))). absurd
+        (not_ok store g (sym (failed m) ∙ sym c.answer ∙ h)))
         (clean x.store.records x.store.cut (plan m))
 
 -- the address of a workshop's grant is the book's afterwards
@@ -364,7 +434,8 @@ module _ (m : Memory) (eui : Eui) (psk : Key) (g : Granted) where
       not_ok : (s : CoordinatorRefusal) (a : Granted) → Err s ≡ Ok a → ⊥
       not_ok s a e = cc
 
-  entered_address : (d : Draft Memory) (granted : Granted) (e : BookEntry) → book.address_of d.memory.book eui ≡ Some granted.address → book.address_of (with_book_entry e d).memory.book eui ≡ Some granted.address
+  entered_address : (d : Draft Memory) (granted : Granted) (e : BookEntry) → book.address_of d.memory.book eui ≡ Some granted.address
+      → book.address_of (with_book_entry e d).memory.book eui ≡ Some granted.address
   unfolding with_book_entry
   entered_address d granted e h = address_kept d.memory.book e eui granted.address h
 
@@ -372,7 +443,8 @@ module _ (m : Memory) (eui : Eui) (psk : Key) (g : Granted) where
   by_doing d = by_grant (grant_for d.memory eui) refl
     where
       by_entry : (granted : Granted) (o : Option BookEntry) → grant_for d.memory eui ≡ Some granted
-          → let p : Plan Memory (Result Granted CoordinatorRefusal) = option_map_or (λ e. sealing in_memory orders (with_book_entry (book.issued_entry eui granted e) d) granted) o (refused orders m refusal.MetersFull) in
+          → let p : Plan Memory (Result Granted CoordinatorRefusal) = option_map_or
+          (λ e. sealing in_memory orders (with_book_entry (book.issued_entry eui granted e) d) granted) o (refused orders m refusal.MetersFull) in
           p.answer ≡ Ok g → book.address_of p.memory.book eui ≡ Some g.address
       by_entry granted None is e = absurd (refused_not _ e)
       by_entry granted (Some x) is e =
@@ -381,7 +453,9 @@ module _ (m : Memory) (eui : Eui) (psk : Key) (g : Granted) where
           (entered_address d granted (book.issued_entry eui granted x) (granted_address d.memory.station.ring d.memory.book eui granted is))
 
       by_grant : (o : Option Granted) → grant_for d.memory eui ≡ o
-          → let p : Plan Memory (Result Granted CoordinatorRefusal) = option_map_or (λ granted. option_map_or (λ e. sealing in_memory orders (with_book_entry (book.issued_entry eui granted e) d) granted) (book.allowed_one d.memory.book eui) (refused orders m refusal.MetersFull)) o (refused orders m refusal.MetersFull) in
+          → let p : Plan Memory (Result Granted CoordinatorRefusal) = option_map_or
+          (λ granted. option_map_or (λ e. sealing in_memory orders (with_book_entry (book.issued_entry eui granted e) d) granted)
+          (book.allowed_one d.memory.book eui) (refused orders m refusal.MetersFull)) o (refused orders m refusal.MetersFull) in
           p.answer ≡ Ok g → book.address_of p.memory.book eui ≡ Some g.address
       by_grant None is e = absurd (refused_not _ e)
       by_grant (Some granted) is e = by_entry granted (book.allowed_one d.memory.book eui) is e
@@ -390,7 +464,8 @@ module _ (m : Memory) (eui : Eui) (psk : Key) (g : Granted) where
   unfolding choose
   depot_address = by_room (book.has_room m.book eui)
     where
-      by_room : (b : Bool) → let p : Plan Memory (Result Granted CoordinatorRefusal) = (if b then depot_by m eui psk (changed m (book.allowed_entry eui psk (book.entry_for m.book eui))) else refused orders m refusal.MetersFull) in
+      by_room : (b : Bool) → let p : Plan Memory (Result Granted CoordinatorRefusal) =
+          (if b then depot_by m eui psk (changed m (book.allowed_entry eui psk (book.entry_for m.book eui))) else refused orders m refusal.MetersFull) in
           p.answer ≡ Ok g → book.address_of p.memory.book eui ≡ Some g.address
       by_room true e = by_doing (changed m (book.allowed_entry eui psk (book.entry_for m.book eui))) e
       by_room false e = absurd (refused_not _ e)

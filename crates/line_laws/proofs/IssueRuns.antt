@@ -1,5 +1,6 @@
 -- The law that a joined meter holds only keys that were issued to it.
-use Rattle.std.proofs.Common.{◌≡◌, ◌≢◌, ⊎_elim, ℕ, suc, false, List, [], ◌∷◌, ◌++◌, get_or, Option, Some, None, Ok, Err, refl, sym, ap, ◌∙◌, append_assoc, append-nil}
+use Rattle.std.proofs.Common.{◌≡◌, ◌≢◌, ⊎_elim, ℕ, suc, false, List, [], ◌∷◌, ◌++◌, get_or, Option, Some, None, Ok, Err, refl, sym, ap, ◌∙◌, append_assoc}
+use Rattle.std.proofs.Common.{append-nil}
 use Rattle.std.specs.Prelude.{All, IfSome, slice_get}
 use Rattle.std.specs.Int.{bytes_high_first}
 use Rattle.std.proofs.lemmas.Bool.{cases_eq}
@@ -58,14 +59,20 @@ IsNamed i = IsEui i.eui
 abbrev issued_as : Eui → ℕ → Key → Issued
 issued_as eui index key = record { eui = eui; index = index; key = key }
 
-given_key : (given : List Issued) → Each IsNamed given → (eui : Eui) → IsEui eui → (index : ℕ) (key : Option Key) → GivenAt given eui index key → IsIssued given eui index key
+given_key : (given : List Issued) → Each IsNamed given → (eui : Eui) → IsEui eui → (index : ℕ) (key : Option Key) → GivenAt given eui index key
+    → IsIssued given eui index key
 given_key given names eui named index None h = tt
 given_key given names eui named index (Some key) h =
     let p = place_of h.one given h.among in
     let same : h.one.eui ≡ eui = eui_same h.one.eui eui (each_at IsNamed h.one given h.among names) named h.to in
-    record { place = p.place; is = p.is ∙ ap Some (ap (λ e. issued_as e h.one.index h.one.key) same ∙ ap (λ k. issued_as eui k h.one.key) h.at ∙ ap (issued_as eui index) h.key_is) }
+    record {
+      place = p.place;
+      is = p.is
+          ∙ ap Some (ap (λ e. issued_as e h.one.index h.one.key) same ∙ ap (λ k. issued_as eui k h.one.key) h.at ∙ ap (issued_as eui index) h.key_is);
+    }
 
-holds : (b : books.Book) (given : List Issued) → Each IsNamed given → (eui : Eui) → IsEui eui → (r : ring.Ring) → RingOk b given eui r → IfSome r (λ g. HoldsIssued given eui g)
+holds : (b : books.Book) (given : List Issued) → Each IsNamed given → (eui : Eui) → IsEui eui → (r : ring.Ring) → RingOk b given eui r
+    → IfSome r (λ g. HoldsIssued given eui g)
 holds b given names eui named None h = tt
 holds b given names eui named (Some g) h = (given_key given names eui named 0 g.key0 h.key0, given_key given names eui named 1 g.key1 h.key1)
 

@@ -1,5 +1,6 @@
 -- Every event keeps the parts of addresses and of issued keys, unless it is forged.
-use Rattle.std.proofs.Common.{◌≡◌, ◌≢◌, ⊎_elim, ℕ, zero, suc, ◌+◌, ◌-◌, ◌≤◌, ◌<◌, Bool, true, false, not, List, [], ◌∷◌, ◌++◌, length, map, Option, Some, None, Result, Ok, Err, refl, sym, ap, ◌∙◌, subst, arith}
+use Rattle.std.proofs.Common.{◌≡◌, ◌≢◌, ⊎_elim, ℕ, zero, suc, ◌+◌, ◌-◌, ◌≤◌, ◌<◌, Bool, true, false, not, List, [], ◌∷◌, ◌++◌, length, map, Option, Some, None}
+use Rattle.std.proofs.Common.{Result, Ok, Err, refl, sym, ap, ◌∙◌, subst, arith}
 use Rattle.std.specs.Prelude.{if◌then◌else◌, All, IfSome, is_some, ◌==◌, ◌||◌, ◌&&◌, nat_lt, slice_get}
 use Rattle.std.specs.List.{list_any}
 use Rattle.std.specs.Option.{option_map, option_map_or, option_and_then}
@@ -46,7 +47,11 @@ use Rattle.node_rules.specs.Drafts.{choose, empty_draft, with_ring}
 use Rattle.node_rules.specs.MemoryDrafts.{with_station}
 use Rattle.line_events.specs.Events.{IsEvent}
 use Rattle.line_rules.specs.Worlds.{World, Flight, Trace, node_at, flight_at, is_forged_tag}
-use Rattle.line_rules.specs.Steps.{Step, set_up, ran, told, acted, once_begun, in_setup, has_begun, takes_setup, on_node, on_meter, blank_node, identity, hears, restarts, memory_by, ticked, rand, join, joins_by, leave, send, sends_by, sent_if, breaks, breaks_by, lose, tick, restart, cut, show, psk_of, trace_of, happened, coordinator, coordinator_node, meter, is_known, depot, depot_by, near, near_by, keeps_rank, ranks_full, offered_near, preset, allow, allowed, deliver, inject, arrives, accepted_by, received, by_coordinator, forged_by, note_by, rekey, challenge, activate, kick, step}
+use Rattle.line_rules.specs.Steps.{Step, set_up, ran, told, acted, once_begun, in_setup, has_begun, takes_setup, on_node, on_meter, blank_node, identity, hears}
+use Rattle.line_rules.specs.Steps.{restarts, memory_by, ticked, rand, join, joins_by, leave, send, sends_by, sent_if, breaks, breaks_by, lose, tick, restart}
+use Rattle.line_rules.specs.Steps.{cut, show, psk_of, trace_of, happened, coordinator, coordinator_node, meter, is_known, depot, depot_by, near, near_by}
+use Rattle.line_rules.specs.Steps.{keeps_rank, ranks_full, offered_near, preset, allow, allowed, deliver, inject, arrives, accepted_by, received}
+use Rattle.line_rules.specs.Steps.{by_coordinator, forged_by, note_by, rekey, challenge, activate, kick, step}
 use Rattle.node_rules.specs.NodeSteps.{NodeStep, acts, stays, answering, of_station}
 use Rattle.plc_base.specs.declared.tags.PairTag.{PairTag}
 use Rattle.std.proofs.Common.{append-nil}
@@ -83,8 +88,12 @@ use Rattle.line_laws.proofs.AddressBook.{one_book}
 use Rattle.line_laws.proofs.IssueWords.{Among, Each, none_among}
 use Rattle.line_laws.proofs.IssueMeters.{PeerIs, MeterPlan, took_in, meter_plan, meter_hears, joins_plan, leaves_plan, joins_opened, leaves_opened}
 use Rattle.line_laws.proofs.IssueCoordinator.{keyed_in, done_in}
-use Rattle.line_laws.proofs.IssueNodes.{RingOk, TagOk, MeterOk, MeterDid, Nought, CoordinatorOk, CoordinatorDid, CoordinatorPlan, meter_acts, sound_acts, coordinator_acts, all_made, acts_opened, acts_ring, acts_whole, depot_address, installs_ring, installs_rest, issued_keys}
-use Rattle.line_laws.proofs.IssueCalls.{Quietly, quiet_coordinator, send_quietly, near_quietly, counter_quietly, number_quietly, broke_quietly, random_quietly, accept_quietly, hears_coordinator, allow_coordinator, depot_coordinator, rekey_coordinator, activate_self_coordinator, challenge_coordinator, activate_coordinator, kick_coordinator}
+use Rattle.line_laws.proofs.IssueNodes.{RingOk, TagOk, MeterOk, MeterDid, Nought, CoordinatorOk, CoordinatorDid, CoordinatorPlan, meter_acts, sound_acts}
+use Rattle.line_laws.proofs.IssueNodes.{coordinator_acts, all_made, acts_opened, acts_ring, acts_whole, depot_address, installs_ring, installs_rest}
+use Rattle.line_laws.proofs.IssueNodes.{issued_keys}
+use Rattle.line_laws.proofs.IssueCalls.{Quietly, quiet_coordinator, send_quietly, near_quietly, counter_quietly, number_quietly, broke_quietly, random_quietly}
+use Rattle.line_laws.proofs.IssueCalls.{accept_quietly, hears_coordinator, allow_coordinator, depot_coordinator, rekey_coordinator, activate_self_coordinator}
+use Rattle.line_laws.proofs.IssueCalls.{challenge_coordinator, activate_coordinator, kick_coordinator}
 pub use Rattle.line_laws.proofs.ReceivedKeys.{keyed_same, no_keys, took_same}
 use Rattle.line_laws.proofs.IssueWorlds.{Keyed, IsMeter, same_keyed, told_meter, told_coordinator, told_here, keyed_more}
 use Rattle.node_rules.specs.Accepting.{same_eui}
@@ -95,7 +104,8 @@ pub data StepKeyed (w : World) (given : List Issued) : Step → Type 0 where
   Taken : (r : World × Trace) → (r.1.happened.forged ≡ false → Keyed r.0 (given ++ r.1.issued)) → StepKeyed w given (Ok r)
 
 -- the answer does not matter
-told_as : {A B : Type 0} (ciphers : Ciphers) (w : World) (number : ℕ) (reads : A → B) (d : NodeStep A) (given : List Issued) → Keyed (told ciphers w number d) given → Keyed (told ciphers w number (answering reads d)) given
+told_as : {A B : Type 0} (ciphers : Ciphers) (w : World) (number : ℕ) (reads : A → B) (d : NodeStep A) (given : List Issued)
+    → Keyed (told ciphers w number d) given → Keyed (told ciphers w number (answering reads d)) given
 unfolding told
 told_as ciphers w number reads d given k = same_keyed _ _ given k refl refl
 
@@ -112,7 +122,8 @@ module _ (ciphers : Ciphers) (fits : KeepsRanges ciphers) where
       → (halted : A) (plan : Memory → Plan Memory A)
       → ((m : Memory) → x.memory ≡ Some m → IsMemorySized m → Quietly m (plan m)) → Keyed (told ciphers w number (acts x halted plan)) given
   quiet_told_at w given k number x there ok halted plan q = ⊎_elim
-      (λ (e : number ≡ 0). subst (Keyed _) (append-nil given) (told_coordinator ciphers w number x (acts x halted plan) there (quiet_did e).eui given [] k e (quiet_did e)))
+      (λ (e : number ≡ 0). subst (Keyed _) (append-nil given)
+      (told_coordinator ciphers w number x (acts x halted plan) there (quiet_did e).eui given [] k e (quiet_did e)))
       (λ (ne : number ≢ 0). let d = meter_did ne in told_meter ciphers w number x (acts x halted plan) there d.eui given k ne d)
       (cases_eq number 0)
     where
@@ -128,7 +139,11 @@ module _ (ciphers : Ciphers) (fits : KeepsRanges ciphers) where
           let h = k.meters number x ne there in
           sound_acts k.book given x halted plan ok h.ring h.session (λ m here kept session ring.
           let t = q m here (sized_at x m ok here) in
-          record { puts = t.ring (RingOk k.book given x.eui) tt ring kept.station.range.ring; session = subst (PeerIs x.eui) (sym t.session) session; made = subst (Each (TagOk k.book given)) (sym t.made) tt })
+          record {
+            puts = t.ring (RingOk k.book given x.eui) tt ring kept.station.range.ring;
+            session = subst (PeerIs x.eui) (sym t.session) session;
+            made = subst (Each (TagOk k.book given)) (sym t.made) tt;
+          })
 
   pub quiet_told : {A : Type 0} (w : World) (given : List Issued) (k : Keyed w given) (number : ℕ) (x : Node) → node_at w number ≡ Some x → NodeOk x
       → (halted : A) (plan : Memory → Plan Memory A)
@@ -138,16 +153,19 @@ module _ (ciphers : Ciphers) (fits : KeepsRanges ciphers) where
   -- a call of a meter by itself
   pub own_told : {A : Type 0} (w : World) (given : List Issued) (k : Keyed w given) (number : ℕ) (x : Node) → number ≢ 0 → node_at w number ≡ Some x → NodeOk x
       → (halted : A) (plan : Memory → Plan Memory A)
-      → ((m : Memory) → IfSome m.station.ring IsReadable → PeerIs x.eui m.session → MeterPlan x.eui m.station.ring None (plan m)) → ((m : Memory) → (plan m).opened ≡ []) → Keyed (told ciphers w number (acts x halted plan)) given
+      → ((m : Memory) → IfSome m.station.ring IsReadable → PeerIs x.eui m.session → MeterPlan x.eui m.station.ring None (plan m))
+      → ((m : Memory) → (plan m).opened ≡ []) → Keyed (told ciphers w number (acts x halted plan)) given
   own_told {A = A} w given k number x ne there ok halted plan f none =
       let h = k.meters number x ne there in
-      let d : MeterDid k.book given x (acts x halted plan) = meter_acts k.book given x halted plan w.made ok h k.made (λ t among. absurd (no_tag t among)) (λ a. None) (λ m here kept session. f m kept.station.range.ring session) in
+      let d : MeterDid k.book given x (acts x halted plan) = meter_acts k.book given x halted plan w.made ok h k.made (λ t among. absurd (no_tag t among))
+      (λ a. None) (λ m here kept session. f m kept.station.range.ring session) in
       told_meter ciphers w number x (acts x halted plan) there d.eui given k ne d
     where
       no_tag : (t : PairTag) → Among t (acts x halted plan).opened → ⊥
       no_tag t among = none_among t (acts x halted plan).opened (acts_opened x halted plan none) among
 
-module _ (ciphers : Ciphers) (fits : KeepsRanges ciphers) (w : World) (ok : WorldOk w) (flown : All FlightFits w.flights) (given : List Issued) (k : Keyed w given) where
+module _ (ciphers : Ciphers) (fits : KeepsRanges ciphers) (w : World) (ok : WorldOk w) (flown : All FlightFits w.flights) (given : List Issued)
+    (k : Keyed w given) where
   abbrev Good : Step → Type 0
   Good s = StepKeyed w given s
 
@@ -190,21 +208,29 @@ module _ (ciphers : Ciphers) (fits : KeepsRanges ciphers) (w : World) (ok : Worl
   rests d none = taken_none (ran w, d) none ran_keyed
 
   -- calls of one node
-  acted_quiet : {A : Type 0} (number : ℕ) (x : Node) (reads : A → Answer) (halted : A) (plan : Memory → Plan Memory A) → node_at w number ≡ Some x → ((m : Memory) → IsMemorySized m → Quietly m (plan m)) → Good (Ok (acted ciphers w number (answering reads (acts x halted plan))))
-  acted_quiet number x reads halted plan there q = taken_none _ refl (told_as ciphers (ran w) number reads (acts x halted plan) given (quiet_told ciphers fits (ran w) given ran_keyed number x there (node_ok number x there) halted plan q))
+  acted_quiet : {A : Type 0} (number : ℕ) (x : Node) (reads : A → Answer) (halted : A) (plan : Memory → Plan Memory A) → node_at w number ≡ Some x
+      → ((m : Memory) → IsMemorySized m → Quietly m (plan m)) → Good (Ok (acted ciphers w number (answering reads (acts x halted plan))))
+  acted_quiet number x reads halted plan there q = taken_none _ refl
+      (told_as ciphers (ran w) number reads (acts x halted plan) given
+      (quiet_told ciphers fits (ran w) given ran_keyed number x there (node_ok number x there) halted plan q))
 
   rand_keyed : (number : ℕ) (value : Rand) → Good (rand ciphers w number value)
   unfolding rand
-  rand_keyed number value = once _ (at_node number _ (λ x there. acted_quiet number x random_word (Err randoms.Halted) _ there (λ m sized. random_quietly m sized value)))
+  rand_keyed number value =
+      once _ (at_node number _ (λ x there. acted_quiet number x random_word (Err randoms.Halted) _ there (λ m sized. random_quietly m sized value)))
 
-  sent_keyed : (from to : ℕ) (datagram : List ℕ) (tag : ℕ) (b : Bool) (r : World × Trace) → r.1.issued ≡ [] → Keyed r.0 given → Good (Ok (sent_if w from to datagram tag b r))
+  sent_keyed : (from to : ℕ) (datagram : List ℕ) (tag : ℕ) (b : Bool) (r : World × Trace) → r.1.issued ≡ [] → Keyed r.0 given
+      → Good (Ok (sent_if w from to datagram tag b r))
   sent_keyed from to datagram tag false r none h = taken_none r none h
   sent_keyed from to datagram tag true r none h = taken_none _ none (same_keyed r.0 (record r.0 { sends = r.0.sends + 1 }) given h refl refl)
 
-  sends_keyed : (from to : ℕ) (datagram : List ℕ) (x : Node) (address : Option ℕ) → node_at w from ≡ Some x → Good (Ok (sends_by ciphers w from to datagram x address))
+  sends_keyed : (from to : ℕ) (datagram : List ℕ) (x : Node) (address : Option ℕ) → node_at w from ≡ Some x
+      → Good (Ok (sends_by ciphers w from to datagram x address))
   sends_keyed from to datagram x None there = rests _ refl
-  sends_keyed from to datagram x (Some a) there = sent_keyed from to datagram _ _ _ refl (told_as ciphers (ran w) from sent_word (acts x (Err sends.Halted) _) given
-      (quiet_told ciphers fits (ran w) given ran_keyed from x there (node_ok from x there) (Err sends.Halted) (λ m. of_station m (calls.send m.station a datagram (w.sends + 1) w.clock)) (λ m sized. send_quietly m sized a datagram (w.sends + 1) w.clock)))
+  sends_keyed from to datagram x (Some a) there =
+      sent_keyed from to datagram _ _ _ refl (told_as ciphers (ran w) from sent_word (acts x (Err sends.Halted) _) given
+      (quiet_told ciphers fits (ran w) given ran_keyed from x there (node_ok from x there) (Err sends.Halted)
+      (λ m. of_station m (calls.send m.station a datagram (w.sends + 1) w.clock)) (λ m sized. send_quietly m sized a datagram (w.sends + 1) w.clock)))
 
   send_keyed : (from to : ℕ) (datagram : List ℕ) → Good (send ciphers w from to datagram)
   unfolding send
@@ -212,30 +238,39 @@ module _ (ciphers : Ciphers) (fits : KeepsRanges ciphers) (w : World) (ok : Worl
 
   breaks_keyed : (number : ℕ) (x : Node) (next : Option ℕ) → node_at w number ≡ Some x → Good (Ok (breaks_by ciphers w number x next))
   breaks_keyed number x None there = rests _ refl
-  breaks_keyed number x (Some next) there = taken_none _ refl (quiet_told ciphers fits (ran w) given ran_keyed number x there (node_ok number x there) said.Halted _ (λ m sized. broke_quietly m sized next said.Broken))
+  breaks_keyed number x (Some next) there = taken_none _ refl (quiet_told ciphers fits (ran w) given ran_keyed number x there (node_ok number x there)
+      said.Halted _ (λ m sized. broke_quietly m sized next said.Broken))
 
   break_keyed : (number next : ℕ) → Good (breaks ciphers w number next)
   unfolding breaks
   break_keyed number next = once _ (at_node number _ (λ x there. at_node next _ (λ y other. breaks_keyed number x (node_address y) there)))
 
-  joins_keyed : (number agent : ℕ) (x : Node) (address : Option ℕ) (psk : Option Key) → number ≢ 0 → node_at w number ≡ Some x → Good (Ok (joins_by ciphers w number x address psk))
+  joins_keyed : (number agent : ℕ) (x : Node) (address : Option ℕ) (psk : Option Key) → number ≢ 0 → node_at w number ≡ Some x
+      → Good (Ok (joins_by ciphers w number x address psk))
   joins_keyed number agent x None psk ne there = rests _ refl
   joins_keyed number agent x (Some a) None ne there = rests _ refl
-  joins_keyed number agent x (Some a) (Some psk) ne there = taken_none _ refl (told_as ciphers (ran w) number join_word (acts x (Err joins.Halted) (λ m. meters.join (identity ciphers x psk) m a w.clock)) given
-      (own_told ciphers fits (ran w) given ran_keyed number x ne there (node_ok number x there) (Err joins.Halted) (λ m. meters.join (identity ciphers x psk) m a w.clock) (λ m reads session. joins_plan (identity ciphers x psk) m a w.clock reads session) (λ m. joins_opened (identity ciphers x psk) m a w.clock)))
+  joins_keyed number agent x (Some a) (Some psk) ne there =
+      taken_none _ refl (told_as ciphers (ran w) number join_word (acts x (Err joins.Halted) (λ m. meters.join (identity ciphers x psk) m a w.clock)) given
+      (own_told ciphers fits (ran w) given ran_keyed number x ne there (node_ok number x there) (Err joins.Halted)
+      (λ m. meters.join (identity ciphers x psk) m a w.clock) (λ m reads session. joins_plan (identity ciphers x psk) m a w.clock reads session)
+      (λ m. joins_opened (identity ciphers x psk) m a w.clock)))
 
   join_keyed : (number agent : ℕ) → Good (join ciphers w number agent)
   unfolding join
-  join_keyed number agent = once _ (at_meter number _ (λ ne x there. at_node agent _ (λ y other. joins_keyed number agent x (node_address y) (psk_of x) ne there)))
+  join_keyed number agent =
+      once _ (at_meter number _ (λ ne x there. at_node agent _ (λ y other. joins_keyed number agent x (node_address y) (psk_of x) ne there)))
 
   leave_keyed : (number : ℕ) → Good (leave ciphers w number)
   unfolding leave
-  leave_keyed number = once _ (at_meter number _ (λ ne x there. taken_none _ refl (told_as ciphers (ran w) number leave_word (acts x (Err leaves.Halted) meters.leave) given
-      (own_told ciphers fits (ran w) given ran_keyed number x ne there (node_ok number x there) (Err leaves.Halted) meters.leave (λ m reads session. leaves_plan x.eui m reads session) leaves_opened))))
+  leave_keyed number =
+      once _ (at_meter number _ (λ ne x there. taken_none _ refl (told_as ciphers (ran w) number leave_word (acts x (Err leaves.Halted) meters.leave) given
+      (own_told ciphers fits (ran w) given ran_keyed number x ne there (node_ok number x there) (Err leaves.Halted) meters.leave
+      (λ m reads session. leaves_plan x.eui m reads session) leaves_opened))))
 
   lose_keyed : (number : ℕ) → Good (lose w number)
   unfolding lose
-  lose_keyed number = once _ (by_option _ (flight_at w number) (Err faults.Flight) (λ f there. branch f.lost _ _ (λ _. Fails faults.Flight) (λ _. taken_none _ refl (same_keyed w _ given k refl refl))) (Fails faults.Flight))
+  lose_keyed number = once _ (by_option _ (flight_at w number) (Err faults.Flight)
+      (λ f there. branch f.lost _ _ (λ _. Fails faults.Flight) (λ _. taken_none _ refl (same_keyed w _ given k refl refl))) (Fails faults.Flight))
 
   show_keyed : (number : ℕ) → Good (show w number)
   unfolding show
@@ -244,41 +279,55 @@ module _ (ciphers : Ciphers) (fits : KeepsRanges ciphers) (w : World) (ok : Worl
   -- # Orders
 
   order_keyed : {A : Type 0} (c : Node) (answer : Answer) (order : Memory → Plan Memory (Result A CoordinatorRefusal)) → node_at w 0 ≡ Some c
-      → ((m : Memory) → IsMemorySized m → (b : book.Book) → Nought m.station.ring → IfSome m.station.ring IsReadable → CoordinatorPlan b m None (order m)) → CoordinatorDid ran_keyed.book given [] c (acts c (Err orders.Halted) order)
+      → ((m : Memory) → IsMemorySized m → (b : book.Book) → Nought m.station.ring → IfSome m.station.ring IsReadable → CoordinatorPlan b m None (order m))
+      → CoordinatorDid ran_keyed.book given [] c (acts c (Err orders.Halted) order)
   order_keyed c answer order there f =
       let h = ran_keyed.coordinator c there in
       let good = node_ok 0 c there in
-      coordinator_acts ran_keyed.book given c (Err orders.Halted) order [] good h (λ a. None) (λ m here said. refl) (λ m here kept. f m (sized_at ciphers fits c m good here) ran_keyed.book (h.ring m.station.ring kept.station.ring.stored) kept.station.range.ring)
+      coordinator_acts ran_keyed.book given c (Err orders.Halted) order [] good h (λ a. None) (λ m here said. refl)
+      (λ m here kept. f m (sized_at ciphers fits c m good here) ran_keyed.book (h.ring m.station.ring kept.station.ring.stored) kept.station.range.ring)
 
-  coordinator_told : {A : Type 0} (c : Node) (d : NodeStep A) → node_at w 0 ≡ Some c → CoordinatorDid ran_keyed.book given [] c d → Keyed (told ciphers (ran w) 0 d) given
+  coordinator_told : {A : Type 0} (c : Node) (d : NodeStep A) → node_at w 0 ≡ Some c → CoordinatorDid ran_keyed.book given [] c d
+      → Keyed (told ciphers (ran w) 0 d) given
   coordinator_told c d there did = subst (Keyed _) (append-nil given) (told_coordinator ciphers (ran w) 0 c d there did.eui given [] ran_keyed refl did)
 
   ordered_keyed : {A : Type 0} (c : Node) (answer : Answer) (order : Memory → Plan Memory (Result A CoordinatorRefusal)) → node_at w 0 ≡ Some c
-      → ((m : Memory) → IsMemorySized m → (b : book.Book) → Nought m.station.ring → IfSome m.station.ring IsReadable → CoordinatorPlan b m None (order m)) → Good (Ok (by_coordinator ciphers w c answer order))
-  ordered_keyed c answer order there f = taken_none _ refl (told_as ciphers (ran w) 0 (ordered_word answer) (acts c (Err orders.Halted) order) given (coordinator_told c (acts c (Err orders.Halted) order) there (order_keyed c answer order there f)))
+      → ((m : Memory) → IsMemorySized m → (b : book.Book) → Nought m.station.ring → IfSome m.station.ring IsReadable → CoordinatorPlan b m None (order m))
+      → Good (Ok (by_coordinator ciphers w c answer order))
+  ordered_keyed c answer order there f = taken_none _ refl (told_as ciphers (ran w) 0 (ordered_word answer) (acts c (Err orders.Halted) order) given
+      (coordinator_told c (acts c (Err orders.Halted) order) there (order_keyed c answer order there f)))
 
   abbrev own_of : Node → coordinator_rules.CoordinatorIdentity
   own_of c = record { eui = c.eui; ciphers = ciphers }
 
   rekey_keyed : (index : ℕ) (key : Key) → length key.0 ≡ 16 → AreOctets key.0 → Good (rekey ciphers w index key)
   unfolding rekey
-  rekey_keyed index key long are = once _ (at_node 0 _ (λ c there. ordered_keyed c said.Drawn _ there (λ m sized b nought reads. rekey_coordinator ciphers fits (own_of c) m sized b nought reads index key (held key long are))))
+  rekey_keyed index key long are = once _ (at_node 0 _ (λ c there. ordered_keyed c said.Drawn _ there
+      (λ m sized b nought reads. rekey_coordinator ciphers fits (own_of c) m sized b nought reads index key (held key long are))))
 
   challenge_keyed : (number : ℕ) → Good (challenge ciphers w number)
   unfolding challenge
-  challenge_keyed number = once _ (at_meter number _ (λ ne x is. at_node 0 _ (λ c there. ordered_keyed c said.Challenged _ there (λ m sized b nought reads. challenge_coordinator ciphers fits (own_of c) m sized b nought reads x.eui w.clock (node_fits number x is).eui))))
+  challenge_keyed number = once _ (at_meter number _ (λ ne x is. at_node 0 _
+      (λ c there. ordered_keyed c said.Challenged _ there
+      (λ m sized b nought reads. challenge_coordinator ciphers fits (own_of c) m sized b nought reads x.eui w.clock (node_fits number x is).eui))))
 
   activate_keyed : (number index : ℕ) → index ≤ 1 → Good (activate ciphers w number index)
   unfolding activate
   activate_keyed number index low = once _ (at_node number _ (λ x is. at_node 0 _ (λ c there. by_number (number == 0) x c there)))
     where
-      by_number : (b : Bool) (x c : Node) → node_at w 0 ≡ Some c → Good (Ok (if b then by_coordinator ciphers w c said.Activated (λ m. coordinator_rules.activate_self m index) else by_coordinator ciphers w c said.Ordered (λ m. coordinator_rules.activate m x.eui index w.clock)))
-      by_number true x c there = ordered_keyed c said.Activated _ there (λ m sized b nought reads. activate_self_coordinator ciphers fits (own_of c) m sized b nought reads index low)
-      by_number false x c there = ordered_keyed c said.Ordered _ there (λ m sized b nought reads. activate_coordinator ciphers fits (own_of c) m sized b nought reads x.eui index w.clock)
+      by_number : (b : Bool) (x c : Node) → node_at w 0 ≡ Some c
+          → Good (Ok (if b then by_coordinator ciphers w c said.Activated (λ m. coordinator_rules.activate_self m index)
+          else by_coordinator ciphers w c said.Ordered (λ m. coordinator_rules.activate m x.eui index w.clock)))
+      by_number true x c there =
+          ordered_keyed c said.Activated _ there (λ m sized b nought reads. activate_self_coordinator ciphers fits (own_of c) m sized b nought reads index low)
+      by_number false x c there = ordered_keyed c said.Ordered _ there
+          (λ m sized b nought reads. activate_coordinator ciphers fits (own_of c) m sized b nought reads x.eui index w.clock)
 
   kick_keyed : (number : ℕ) → Good (kick ciphers w number)
   unfolding kick
-  kick_keyed number = once _ (at_meter number _ (λ ne x is. at_node 0 _ (λ c there. ordered_keyed c said.Kicked _ there (λ m sized b nought reads. kick_coordinator ciphers fits (own_of c) m sized b nought reads x.eui (node_fits number x is).eui))))
+  kick_keyed number = once _ (at_meter number _ (λ ne x is. at_node 0 _
+      (λ c there. ordered_keyed c said.Kicked _ there
+      (λ m sized b nought reads. kick_coordinator ciphers fits (own_of c) m sized b nought reads x.eui (node_fits number x is).eui))))
 
   psk_is : (x : Node) (psk : Key) → psk_of x ≡ Some psk → x.role ≡ Meter psk
   psk_is x psk = by_role x.role
@@ -291,11 +340,14 @@ module _ (ciphers : Ciphers) (fits : KeepsRanges ciphers) (w : World) (ok : Worl
   unfolding allow
   allow_keyed number = once _ (at_meter number _ (λ ne x is. at_node 0 _ (λ c there.
       by_option (λ psk. Ok (allowed ciphers w number (acts c (Err orders.Halted) (λ m. coordinator_rules.allow m x.eui psk)))) (psk_of x) (Err faults.Node)
-      (λ psk pair. taken_none _ refl (coordinator_told c _ there (order_keyed c said.Kicked _ there (λ m sized b nought reads. allow_coordinator ciphers fits (own_of c) m sized b nought reads x.eui psk (node_fits number x is).eui ((node_fits number x is).psk psk (psk_is x psk pair)))))) (Fails faults.Node))))
+      (λ psk pair. taken_none _ refl (coordinator_told c _ there (order_keyed c said.Kicked _ there
+      (λ m sized b nought reads. allow_coordinator ciphers fits (own_of c) m sized b nought reads x.eui psk (node_fits number x is).eui
+      ((node_fits number x is).psk psk (psk_is x psk pair)))))) (Fails faults.Node))))
 
   -- # What changes no record
 
-  same_store : {A : Type 0} (number : ℕ) (x : Node) (d : NodeStep A) → node_at w number ≡ Some x → d.node.store.records ≡ x.store.records → d.node.role ≡ x.role → d.node.eui ≡ x.eui → d.made ≡ []
+  same_store : {A : Type 0} (number : ℕ) (x : Node) (d : NodeStep A) → node_at w number ≡ Some x → d.node.store.records ≡ x.store.records → d.node.role ≡ x.role
+      → d.node.eui ≡ x.eui → d.made ≡ []
       → (IsMeter x.role → IfSome d.node.memory (λ m. PeerIs d.node.eui m.session)) → Keyed (told ciphers (ran w) number d) given
   same_store number x d there records role eui made peer = ⊎_elim
       (λ (e : number ≡ 0).
@@ -303,7 +355,11 @@ module _ (ciphers : Ciphers) (fits : KeepsRanges ciphers) (w : World) (ok : Worl
       subst (Keyed _) (append-nil given) (told_coordinator ciphers (ran w) number x d there eui given [] ran_keyed e
       (record {
         book = ran_keyed.book;
-        node = record { role = role ∙ c.role; book_kept = subst (IsBookKept ran_keyed.book) (sym records) c.book_kept; ring = subst (RingIn Nought) (sym records) c.ring };
+        node = record {
+          role = role ∙ c.role;
+          book_kept = subst (IsBookKept ran_keyed.book) (sym records) c.book_kept;
+          ring = subst (RingIn Nought) (sym records) c.ring;
+        };
         grows = λ u a h. h;
         eui = eui;
         made = subst (Each _) (sym made) tt;
@@ -312,7 +368,11 @@ module _ (ciphers : Ciphers) (fits : KeepsRanges ciphers) (w : World) (ok : Worl
       let h = ran_keyed.meters number x ne there in
       told_meter ciphers (ran w) number x d there eui given ran_keyed ne
       (record {
-        node = record { ring = subst (λ u. RingIn (RingOk ran_keyed.book given u) d.node.store.records) (sym eui) (subst (RingIn (RingOk ran_keyed.book given x.eui)) (sym records) h.ring); session = peer (ran_keyed.roles number x ne there) };
+        node = record {
+          ring = subst (λ u. RingIn (RingOk ran_keyed.book given u) d.node.store.records) (sym eui)
+              (subst (RingIn (RingOk ran_keyed.book given x.eui)) (sym records) h.ring);
+          session = peer (ran_keyed.roles number x ne there);
+        };
         eui = eui;
         role = role;
         made = subst (Each _) (sym made) tt;
@@ -330,20 +390,24 @@ module _ (ciphers : Ciphers) (fits : KeepsRanges ciphers) (w : World) (ok : Worl
 
   restart_keyed : (number : ℕ) → Good (restart ciphers w number)
   unfolding restart
-  restart_keyed number = once _ (at_node number _ (λ x there. taken_none _ refl (same_store number x (restarts x) there refl refl refl refl (no_session x.eui x.role x.store.records))))
+  restart_keyed number = once _ (at_node number _
+      (λ x there. taken_none _ refl (same_store number x (restarts x) there refl refl refl refl (no_session x.eui x.role x.store.records))))
 
   held_session : (number : ℕ) (x : Node) → node_at w number ≡ Some x → number ≢ 0 → IfSome x.memory (λ m. PeerIs x.eui m.session)
   held_session number x there ne = (k.meters number x ne there).session
 
   cut_keyed : (number nth : ℕ) (keeps_new : Bool) → Good (cut ciphers w number nth keeps_new)
   unfolding cut
-  cut_keyed number nth keeps_new = once _ (at_node number _ (λ x there. taken_none _ refl (same_store number x _ there refl refl refl refl (λ meter. held_session number x there (λ e. not_coordinator x meter (k.coordinator x (ap (slice_get w.nodes) (sym e) ∙ there)).role)))))
+  cut_keyed number nth keeps_new = once _ (at_node number _ (λ x there. taken_none _ refl
+      (same_store number x _ there refl refl refl refl
+      (λ meter. held_session number x there (λ e. not_coordinator x meter (k.coordinator x (ap (slice_get w.nodes) (sym e) ∙ there)).role)))))
     where
       not_coordinator : (x : Node) → IsMeter x.role → x.role ≡ Coordinator → ⊥
       not_coordinator x meter e = subst IsMeter e meter
 
   -- time
-  ticked_session : (now : ℕ) (eui : Eui) (o : Option Memory) (psk : Key) → IfSome o (λ m. PeerIs eui m.session) → IfSome (option_map (meters.tick now) o) (λ m. PeerIs eui m.session)
+  ticked_session : (now : ℕ) (eui : Eui) (o : Option Memory) (psk : Key) → IfSome o (λ m. PeerIs eui m.session)
+      → IfSome (option_map (meters.tick now) o) (λ m. PeerIs eui m.session)
   ticked_session now eui None psk h = tt
   ticked_session now eui (Some m) psk h = by_session m.session h
     where
@@ -358,7 +422,8 @@ module _ (ciphers : Ciphers) (fits : KeepsRanges ciphers) (w : World) (ok : Worl
   ticked_meter : (now : ℕ) (x : Node) (b : book.Book) → IsMeter x.role → MeterOk b given x → MeterOk b given (ticked now x)
   ticked_meter now x b meter h = record { ring = h.ring; session = by_role x.role meter }
     where
-      by_role : (role : Role) → IsMeter role → IfSome (ticked now (record { role = role; eui = x.eui; store = x.store; memory = x.memory })).memory (λ m. PeerIs x.eui m.session)
+      by_role : (role : Role) → IsMeter role
+          → IfSome (ticked now (record { role = role; eui = x.eui; store = x.store; memory = x.memory })).memory (λ m. PeerIs x.eui m.session)
       by_role Coordinator meter = absurd meter
       by_role (Meter psk) meter = ticked_session now x.eui x.memory psk h.session
 
@@ -378,8 +443,10 @@ module _ (ciphers : Ciphers) (fits : KeepsRanges ciphers) (w : World) (ok : Worl
   unfolding tick
   tick_keyed seconds = once _ (taken_none _ refl (record {
     book = k.book;
-    coordinator = λ c is. let t = was_ticked now 0 c is in let h = k.coordinator t.node t.is in subst (CoordinatorOk k.book) t.same (record { role = h.role; book_kept = h.book_kept; ring = h.ring });
-    meters = λ n y ne is. let t = was_ticked now n y is in subst (MeterOk k.book given) t.same (ticked_meter now t.node k.book (k.roles n t.node ne t.is) (k.meters n t.node ne t.is));
+    coordinator = λ c is. let t = was_ticked now 0 c is in let h = k.coordinator t.node t.is in
+        subst (CoordinatorOk k.book) t.same (record { role = h.role; book_kept = h.book_kept; ring = h.ring });
+    meters = λ n y ne is. let t = was_ticked now n y is in
+        subst (MeterOk k.book given) t.same (ticked_meter now t.node k.book (k.roles n t.node ne t.is) (k.meters n t.node ne t.is));
     made = k.made;
     roles = λ n y ne is. let t = was_ticked now n y is in subst (λ (z : Node). IsMeter z.role) t.same (k.roles n t.node ne t.is);
     apart = λ i j y z a b same.
@@ -399,51 +466,72 @@ module _ (ciphers : Ciphers) (fits : KeepsRanges ciphers) (w : World) (ok : Worl
 
   -- # deliver, inject
 
-  meter_hears_did : (x : Node) (psk : Key) → x.role ≡ Meter psk → (got : Accepted) (cost note now : ℕ) (b : book.Book) → RoutesFit got → NodeOk x → MeterOk b given x → Each (TagOk b given) w.made
+  meter_hears_did : (x : Node) (psk : Key) → x.role ≡ Meter psk → (got : Accepted) (cost note now : ℕ) (b : book.Book) → RoutesFit got → NodeOk x
+      → MeterOk b given x → Each (TagOk b given) w.made
       → list_any (is_forged_tag w.made) (acts x (Err drops.Store) (λ m. meters.hear_meter (identity ciphers x psk) m got cost note now)).opened ≡ false
       → MeterDid b given x (acts x (Err drops.Store) (λ m. meters.hear_meter (identity ciphers x psk) m got cost note now))
   meter_hears_did x psk role got cost note now b routes good h each honest =
-      meter_acts b given x (Err drops.Store) (λ m. meters.hear_meter (identity ciphers x psk) m got cost note now) w.made good h each (all_made w.made _ honest) (λ r. (meter_reception r).took)
+      meter_acts b given x (Err drops.Store) (λ m. meters.hear_meter (identity ciphers x psk) m got cost note now) w.made good h each (all_made w.made _ honest)
+      (λ r. (meter_reception r).took)
       (λ m here kept session. meter_plan x.eui m dropped took_in (λ r. (meter_reception r).took) took_same kept.station.range.ring session _
-      (meter_hears (identity ciphers x psk) m (heard_given got cost note now) kept.station.range.ring session (λ peer packet granted are right is. fits.granted psk peer packet granted (pair_octets x m psk kept role) are right is) (λ octets join index read e. (read_fits join octets read).index index e) got routes.payload refl))
+      (meter_hears (identity ciphers x psk) m (heard_given got cost note now) kept.station.range.ring session
+      (λ peer packet granted are right is. fits.granted psk peer packet granted (pair_octets x m psk kept role) are right is)
+      (λ octets join index read e. (read_fits join octets read).index index e) got routes.payload refl))
 
   coordinator_hears_did : (x : Node) (got : Accepted) (cost note now : ℕ) (b : book.Book) → RoutesFit got → NodeOk x → CoordinatorOk b x
-      → let d : NodeStep (Result CoordinatorHeard Dropped) = acts x (Err drops.Store) (λ m. coordinator_rules.hear_coordinator (record { eui = x.eui; ciphers = ciphers }) m got cost note now) in
+      → let d : NodeStep (Result CoordinatorHeard Dropped) = acts x (Err drops.Store)
+      (λ m. coordinator_rules.hear_coordinator (record { eui = x.eui; ciphers = ciphers }) m got cost note now) in
       CoordinatorDid b given (issued_of (coordinator_reception d.answer).keyed) x d
   coordinator_hears_did x got cost note now b routes good h =
-      let plan : Memory → Plan Memory (Result CoordinatorHeard Dropped) = λ m. coordinator_rules.hear_coordinator (record { eui = x.eui; ciphers = ciphers }) m got cost note now in
-      coordinator_acts b given x (Err drops.Store) plan (issued_of (coordinator_reception (acts x (Err drops.Store) plan).answer).keyed) good h (λ r. (coordinator_reception r).keyed)
+      let plan : Memory → Plan Memory (Result CoordinatorHeard Dropped) = λ m. coordinator_rules.hear_coordinator (record { eui = x.eui; ciphers = ciphers }) m
+      got cost note now in
+      coordinator_acts b given x (Err drops.Store) plan (issued_of (coordinator_reception (acts x (Err drops.Store) plan).answer).keyed) good h
+      (λ r. (coordinator_reception r).keyed)
       (λ m here same. ap (λ r. issued_of (coordinator_reception r).keyed) (sym same))
-      (λ m here kept. (hears_coordinator ciphers fits (record { eui = x.eui; ciphers = ciphers }) m (sized_at ciphers fits x m good here) b (h.ring m.station.ring kept.station.ring.stored) kept.station.range.ring got cost note now routes
+      (λ m here kept. (hears_coordinator ciphers fits (record { eui = x.eui; ciphers = ciphers }) m (sized_at ciphers fits x m good here) b
+      (h.ring m.station.ring kept.station.ring.stored) kept.station.range.ring got cost note now routes
       (λ r. (coordinator_reception r).keyed) (λ r. (coordinator_reception r).done) (λ a. (keyed_same a).0) (λ a. (keyed_same a).1) (λ f. refl)).0)
 
   -- a plan that is quiet, at the coordinator and at a meter
-  quiet_coordinator_did : {A : Type 0} (x : Node) (halted : A) (plan : Memory → Plan Memory A) (b : book.Book) → NodeOk x → CoordinatorOk b x → ((m : Memory) → IsMemorySized m → Quietly m (plan m)) → CoordinatorDid b given [] x (acts x halted plan)
+  quiet_coordinator_did : {A : Type 0} (x : Node) (halted : A) (plan : Memory → Plan Memory A) (b : book.Book) → NodeOk x → CoordinatorOk b x
+      → ((m : Memory) → IsMemorySized m → Quietly m (plan m)) → CoordinatorDid b given [] x (acts x halted plan)
   quiet_coordinator_did x halted plan b good c q = coordinator_acts b given x halted plan [] good c (λ a. None) (λ m here said. refl)
-      (λ m here kept. quiet_coordinator b None m (plan m) (q m (sized_at ciphers fits x m good here)) (c.ring m.station.ring kept.station.ring.stored) kept.station.range.ring)
+      (λ m here kept. quiet_coordinator b None m (plan m) (q m (sized_at ciphers fits x m good here)) (c.ring m.station.ring kept.station.ring.stored)
+      kept.station.range.ring)
 
-  pub quiet_meter_did : {A : Type 0} (x : Node) (halted : A) (plan : Memory → Plan Memory A) (b : book.Book) → NodeOk x → MeterOk b given x → ((m : Memory) → IsMemorySized m → Quietly m (plan m)) → MeterDid b given x (acts x halted plan)
+  pub quiet_meter_did : {A : Type 0} (x : Node) (halted : A) (plan : Memory → Plan Memory A) (b : book.Book) → NodeOk x → MeterOk b given x
+      → ((m : Memory) → IsMemorySized m → Quietly m (plan m)) → MeterDid b given x (acts x halted plan)
   quiet_meter_did x halted plan b good h q = sound_acts b given x halted plan good h.ring h.session (λ m here kept session ring.
       let t = q m (sized_at ciphers fits x m good here) in
-      record { puts = t.ring (RingOk b given x.eui) tt ring kept.station.range.ring; session = subst (PeerIs x.eui) (sym t.session) session; made = subst (Each (TagOk b given)) (sym t.made) tt })
+      record {
+        puts = t.ring (RingOk b given x.eui) tt ring kept.station.range.ring;
+        session = subst (PeerIs x.eui) (sym t.session) session;
+        made = subst (Each (TagOk b given)) (sym t.made) tt;
+      })
 
-  told_answer : {A : Type 0} (number : ℕ) (d : NodeStep A) (r : A) → Keyed (told ciphers (ran w) number d) given → Keyed (told ciphers (ran w) number (record d { answer = r })) given
+  told_answer : {A : Type 0} (number : ℕ) (d : NodeStep A) (r : A) → Keyed (told ciphers (ran w) number d) given
+      → Keyed (told ciphers (ran w) number (record d { answer = r })) given
   unfolding told
   told_answer number d r h = same_keyed _ _ given h refl refl
 
-  received_keyed : (number : ℕ) (forged : Bool) (d : NodeStep Reception) → (forged ≡ false → Keyed (told ciphers (ran w) number d) (given ++ issued_of d.answer.keyed)) → Good (Ok (received ciphers w number forged d))
+  received_keyed : (number : ℕ) (forged : Bool) (d : NodeStep Reception)
+      → (forged ≡ false → Keyed (told ciphers (ran w) number d) (given ++ issued_of d.answer.keyed)) → Good (Ok (received ciphers w number forged d))
   received_keyed number forged d h = Taken _ (λ honest. same_keyed (told ciphers (ran w) number d) _ _ (h honest) refl refl)
 
-  told_later : {A : Type 0} (number : ℕ) (reads : A → Reception) (d : NodeStep A) (more : List Issued) → Keyed (told ciphers (ran w) number d) (given ++ more) → Keyed (told ciphers (ran w) number (answering reads d)) (given ++ more)
+  told_later : {A : Type 0} (number : ℕ) (reads : A → Reception) (d : NodeStep A) (more : List Issued) → Keyed (told ciphers (ran w) number d) (given ++ more)
+      → Keyed (told ciphers (ran w) number (answering reads d)) (given ++ more)
   told_later number reads d more h = told_as ciphers (ran w) number reads d (given ++ more) h
 
-  hears_told : (number : ℕ) (x y : Node) (got : Accepted) (cost note now : ℕ) → node_at w number ≡ Some x → NodeOk y → y.role ≡ x.role → y.eui ≡ x.eui → RoutesFit got
+  hears_told : (number : ℕ) (x y : Node) (got : Accepted) (cost note now : ℕ) → node_at w number ≡ Some x → NodeOk y → y.role ≡ x.role → y.eui ≡ x.eui
+      → RoutesFit got
       → (number ≡ 0 → CoordinatorDid ran_keyed.book given [] x (stays y (tt {0}))) → (number ≢ 0 → MeterOk ran_keyed.book given y)
-      → list_any (is_forged_tag w.made) (hears ciphers y got cost note now).opened ≡ false → Keyed (told ciphers (ran w) number (hears ciphers y got cost note now)) (given ++ issued_of (hears ciphers y got cost note now).answer.keyed)
+      → list_any (is_forged_tag w.made) (hears ciphers y got cost note now).opened ≡ false
+      → Keyed (told ciphers (ran w) number (hears ciphers y got cost note now)) (given ++ issued_of (hears ciphers y got cost note now).answer.keyed)
   hears_told number x y got cost note now there good role eui routes coordinator meter = by_role y.role refl
     where
       hears_as : Role → NodeStep Reception
-      hears_as Coordinator = answering coordinator_reception (acts y (Err drops.Store) (λ m. coordinator_rules.hear_coordinator (record { eui = y.eui; ciphers = ciphers }) m got cost note now))
+      hears_as Coordinator = answering coordinator_reception
+          (acts y (Err drops.Store) (λ m. coordinator_rules.hear_coordinator (record { eui = y.eui; ciphers = ciphers }) m got cost note now))
       hears_as (Meter psk) = answering meter_reception (acts y (Err drops.Store) (λ m. meters.hear_meter (identity ciphers y psk) m got cost note now))
 
       wrong : y.role ≡ Coordinator → number ≢ 0 → ⊥
@@ -452,11 +540,13 @@ module _ (ciphers : Ciphers) (fits : KeepsRanges ciphers) (w : World) (ok : Worl
       not_meter : (psk : Key) → Coordinator ≡ Meter psk → ⊥
       not_meter psk e = cc
 
-      by_role : (r : Role) → y.role ≡ r → list_any (is_forged_tag w.made) (hears_as r).opened ≡ false → Keyed (told ciphers (ran w) number (hears_as r)) (given ++ issued_of (hears_as r).answer.keyed)
+      by_role : (r : Role) → y.role ≡ r → list_any (is_forged_tag w.made) (hears_as r).opened ≡ false
+          → Keyed (told ciphers (ran w) number (hears_as r)) (given ++ issued_of (hears_as r).answer.keyed)
       by_role Coordinator is honest = ⊎_elim
           (λ (e : number ≡ 0).
           let c = coordinator e in
-          let plan : Memory → Plan Memory (Result CoordinatorHeard Dropped) = λ m. coordinator_rules.hear_coordinator (record { eui = y.eui; ciphers = ciphers }) m got cost note now in
+          let plan : Memory → Plan Memory (Result CoordinatorHeard Dropped) = λ m. coordinator_rules.hear_coordinator
+          (record { eui = y.eui; ciphers = ciphers }) m got cost note now in
           let did = coordinator_hears_did y got cost note now c.book routes good c.node in
           let d = acts y (Err drops.Store) plan in
           let more = issued_of (coordinator_reception d.answer).keyed in
@@ -470,10 +560,12 @@ module _ (ciphers : Ciphers) (fits : KeepsRanges ciphers) (w : World) (ok : Worl
           let d = acts y (Err drops.Store) (λ m. meters.hear_meter (identity ciphers y psk) m got cost note now) in
           let none : issued_of (meter_reception d.answer).keyed ≡ [] = ap issued_of (no_keys d.answer) in
           told_later number meter_reception d _ (subst (Keyed (told ciphers (ran w) number d)) (sym (append-nil given) ∙ ap (λ more. given ++ more) (sym none))
-          (told_meter ciphers (ran w) number x d there (did.eui ∙ eui) given ran_keyed ne (record { node = did.node; eui = did.eui ∙ eui; role = did.role ∙ role; made = did.made }))))
+          (told_meter ciphers (ran w) number x d there (did.eui ∙ eui) given ran_keyed ne
+          (record { node = did.node; eui = did.eui ∙ eui; role = did.role ∙ role; made = did.made }))))
           (cases_eq number 0)
 
-  arrives_keyed : (number : ℕ) (x : Node) (octets : List ℕ) (cost : ℕ) → node_at w number ≡ Some x → AreOctets octets → Good (Ok (arrives ciphers w number x octets cost))
+  arrives_keyed : (number : ℕ) (x : Node) (octets : List ℕ) (cost : ℕ) → node_at w number ≡ Some x → AreOctets octets
+      → Good (Ok (arrives ciphers w number x octets cost))
   unfolding arrives
   arrives_keyed number x octets cost there are = by_answer (acts x (Err frames.Halted) plan).answer refl
     where
@@ -487,26 +579,35 @@ module _ (ciphers : Ciphers) (fits : KeepsRanges ciphers) (w : World) (ok : Worl
       quiet m sized = accept_quietly ciphers fits octets are m x.eui
 
       coordinator : number ≡ 0 → CoordinatorDid ran_keyed.book given [] x (acts x (Err frames.Halted) plan)
-      coordinator e = quiet_coordinator_did x (Err frames.Halted) plan ran_keyed.book (node_ok number x there) (ran_keyed.coordinator x (ap (slice_get w.nodes) (sym e) ∙ there)) quiet
+      coordinator e = quiet_coordinator_did x (Err frames.Halted) plan ran_keyed.book (node_ok number x there)
+          (ran_keyed.coordinator x (ap (slice_get w.nodes) (sym e) ∙ there)) quiet
 
       meter : number ≢ 0 → MeterDid ran_keyed.book given x (acts x (Err frames.Halted) plan)
       meter ne = quiet_meter_did x (Err frames.Halted) plan ran_keyed.book (node_ok number x there) (ran_keyed.meters number x ne there) quiet
 
       routes : (got : Accepted) → (acts x (Err frames.Halted) plan).answer ≡ Ok got → RoutesFit got
       routes got e =
-          let a = acts_answered x frames.Halted frames.Store plan (λ m. accept_failed ciphers fits octets are m.station _ (accept_is m.station x.eui (arrived ciphers octets))) got e in
-          accepted_routes ciphers fits octets are a.memory.station (ring_readable x a.memory (node_ok number x there) a.there) _ got (accept_is a.memory.station x.eui (arrived ciphers octets)) a.is
+          let a = acts_answered x frames.Halted frames.Store plan
+          (λ m. accept_failed ciphers fits octets are m.station _ (accept_is m.station x.eui (arrived ciphers octets))) got e in
+          accepted_routes ciphers fits octets are a.memory.station (ring_readable x a.memory (node_ok number x there) a.there) _ got
+          (accept_is a.memory.station x.eui (arrived ciphers octets)) a.is
 
-      by_answer : (r : Result Accepted FrameRefusal) → (acts x (Err frames.Halted) plan).answer ≡ r → Good (Ok (accepted_by ciphers w number octets cost (acts x (Err frames.Halted) plan)))
+      by_answer : (r : Result Accepted FrameRefusal) → (acts x (Err frames.Halted) plan).answer ≡ r
+          → Good (Ok (accepted_by ciphers w number octets cost (acts x (Err frames.Halted) plan)))
       by_answer (Err reason) e =
-          rw e (taken_none (told ciphers (ran w) number (record (acts x (Err frames.Halted) plan) { answer = Err reason }), trace_of (happened w (frame_word reason))) refl
-          (told_answer number (acts x (Err frames.Halted) plan) (Err reason) (quiet_told ciphers fits (ran w) given ran_keyed number x there (node_ok number x there) (Err frames.Halted) plan quiet)))
+          rw e (taken_none (
+            told ciphers (ran w) number (record (acts x (Err frames.Halted) plan) { answer = Err reason }),
+            trace_of (happened w (frame_word reason)),
+          ) refl
+          (told_answer number (acts x (Err frames.Halted) plan) (Err reason)
+          (quiet_told ciphers fits (ran w) given ran_keyed number x there (node_ok number x there) (Err frames.Halted) plan quiet)))
       by_answer (Ok got) e =
           let y = (acts x (Err frames.Halted) plan).node in
           let d = hears ciphers y got cost (note_by w octets got.path) w.clock in
           rw e (received_keyed number (forged_by w octets got.path || list_any (is_forged_tag w.made) d.opened) d (λ honest.
           hears_told number x y got cost (note_by w octets got.path) w.clock there did.node did.role did.eui (routes got e)
-          (λ first. let c = coordinator first in record { book = c.book; node = c.node; grows = c.grows; eui = did.eui; made = tt }) (λ ne. (meter ne).node) (or_false (forged_by w octets got.path) _ honest)))
+          (λ first. let c = coordinator first in record { book = c.book; node = c.node; grows = c.grows; eui = did.eui; made = tt }) (λ ne. (meter ne).node)
+          (or_false (forged_by w octets got.path) _ honest)))
 
   pub flight_octets : (number : ℕ) (f : Flight) → flight_at w number ≡ Some f → FlightFits f
   flight_octets number f = by_number (number == 0)
@@ -518,7 +619,8 @@ module _ (ciphers : Ciphers) (fits : KeepsRanges ciphers) (w : World) (ok : Worl
   deliver_keyed : (flight number cost : ℕ) → Good (deliver ciphers w flight number cost)
   unfolding deliver
   deliver_keyed flight number cost = once _ (at_node number _ (λ x there.
-      by_option _ (flight_at w flight) (Err faults.Flight) (λ f is. branch f.lost _ _ (λ _. Fails faults.Flight) (λ _. arrives_keyed number x f.octets cost there (flight_octets flight f is))) (Fails faults.Flight)))
+      by_option _ (flight_at w flight) (Err faults.Flight) (λ f is. branch f.lost _ _ (λ _. Fails faults.Flight)
+      (λ _. arrives_keyed number x f.octets cost there (flight_octets flight f is))) (Fails faults.Flight)))
 
   inject_keyed : (number cost : ℕ) (octets : List ℕ) → AreOctets octets → Good (inject ciphers w number cost octets)
   unfolding inject
@@ -526,8 +628,10 @@ module _ (ciphers : Ciphers) (fits : KeepsRanges ciphers) (w : World) (ok : Worl
 
   -- # Setup
 
-  preset_keyed : (number : ℕ) (plan : StationMemory → calls.Presetting) → ((m : Memory) → IsMemorySized m → Quietly m (of_station m (plan m.station))) → Good (preset ciphers w number plan)
-  preset_keyed number plan q = setup _ (at_node number _ (λ x there. taken_none _ refl (quiet_told ciphers fits (set_up w) given set_up_keyed number x there (node_ok number x there) (Ok tt) _ q)))
+  preset_keyed : (number : ℕ) (plan : StationMemory → calls.Presetting) → ((m : Memory) → IsMemorySized m → Quietly m (of_station m (plan m.station)))
+      → Good (preset ciphers w number plan)
+  preset_keyed number plan q = setup _ (at_node number _
+      (λ x there. taken_none _ refl (quiet_told ciphers fits (set_up w) given set_up_keyed number x there (node_ok number x there) (Ok tt) _ q)))
 
   -- an address of a node is below FFFE
   pub address_low : (x : Node) (address : ℕ) → NodeOk x → node_address x ≡ Some address → address < 0xFFFE
@@ -537,7 +641,8 @@ module _ (ciphers : Ciphers) (fits : KeepsRanges ciphers) (w : World) (ok : Worl
       by_ring None q e = absurd (no_some _ e)
       by_ring (Some g) q e = let this : g.address ≡ address = same_Some _ _ e in let low = q.address in omega arith
 
-      by_memory : (o : Option Memory) → Left (IsKept x.role) x.store.records o → option_and_then (λ (m : Memory). address_of m.station) o ≡ Some address → address < 0xFFFE
+      by_memory : (o : Option Memory) → Left (IsKept x.role) x.store.records o → option_and_then (λ (m : Memory). address_of m.station) o ≡ Some address
+          → address < 0xFFFE
       by_memory None q e = absurd (no_some _ e)
       by_memory (Some m) q e = by_ring m.station.ring q.station.range.ring e
 
@@ -545,21 +650,28 @@ module _ (ciphers : Ciphers) (fits : KeepsRanges ciphers) (w : World) (ok : Worl
   unfolding told
   other_there a b d y far there = slice_get-set_other w.nodes a b d.node far ∙ there
 
-  offered_told : (v : World) → Keyed v given → (number : ℕ) (x : Node) → node_at v number ≡ Some x → NodeOk x → (to cost : ℕ) → to < 0xFFFE → cost ≤ 255 → Keyed (told ciphers v number (offered_near x to cost w.clock)) given
-  offered_told v kv number x there good to cost short low = told_as ciphers v number (λ _. tt) (acts x (Ok tt) (λ m. of_station m (calls.preset_near m.station to cost w.clock))) given
-      (quiet_told ciphers fits v given kv number x there good (Ok tt) (λ m. of_station m (calls.preset_near m.station to cost w.clock)) (λ m sized. near_quietly m sized to cost w.clock short (omega arith)))
+  offered_told : (v : World) → Keyed v given → (number : ℕ) (x : Node) → node_at v number ≡ Some x → NodeOk x → (to cost : ℕ) → to < 0xFFFE → cost ≤ 255
+      → Keyed (told ciphers v number (offered_near x to cost w.clock)) given
+  offered_told v kv number x there good to cost short low =
+      told_as ciphers v number (λ _. tt) (acts x (Ok tt) (λ m. of_station m (calls.preset_near m.station to cost w.clock))) given
+      (quiet_told ciphers fits v given kv number x there good (Ok tt) (λ m. of_station m (calls.preset_near m.station to cost w.clock))
+      (λ m sized. near_quietly m sized to cost w.clock short (omega arith)))
 
-  near_by_keyed : (a b cost : ℕ) (x y : Node) (p q : Option ℕ) → cost ≤ 255 → node_at w a ≡ Some x → node_at w b ≡ Some y → node_address x ≡ p → node_address y ≡ q → Good (near_by ciphers w a b cost x y p q)
+  near_by_keyed : (a b cost : ℕ) (x y : Node) (p q : Option ℕ) → cost ≤ 255 → node_at w a ≡ Some x → node_at w b ≡ Some y → node_address x ≡ p
+      → node_address y ≡ q → Good (near_by ciphers w a b cost x y p q)
   near_by_keyed a b cost x y None q low hx hy ep eq = Fails faults.Setup
   near_by_keyed a b cost x y (Some p) None low hx hy ep eq = Fails faults.Setup
-  near_by_keyed a b cost x y (Some p) (Some q) low hx hy ep eq = branch ((a == b) || (keeps_rank x q || (ranks_full x || ranks_full y))) _ _ (λ _. Fails faults.Setup) (λ may.
+  near_by_keyed a b cost x y (Some p) (Some q) low hx hy ep eq =
+      branch ((a == b) || (keeps_rank x q || (ranks_full x || ranks_full y))) _ _ (λ _. Fails faults.Setup) (λ may.
       let far : b ≢ a = λ same. eqb-false _ _ (or_parts _ _ may).0 (sym same) in
       let first = offered_told (set_up w) set_up_keyed a x hx (node_ok a x hx) q cost (address_low y q (node_ok b y hy) eq) low in
-      taken_none _ refl (offered_told (told ciphers (set_up w) a (offered_near x q cost w.clock)) first b y (other_there a b (offered_near x q cost w.clock) y far hy) (node_ok b y hy) p cost (address_low x p (node_ok a x hx) ep) low))
+      taken_none _ refl (offered_told (told ciphers (set_up w) a (offered_near x q cost w.clock)) first b y
+      (other_there a b (offered_near x q cost w.clock) y far hy) (node_ok b y hy) p cost (address_low x p (node_ok a x hx) ep) low))
 
   near_keyed : (a b cost : ℕ) → cost ≤ 255 → Good (near ciphers w a b cost)
   unfolding near
-  near_keyed a b cost low = setup _ (at_node a _ (λ x hx. at_node b _ (λ y hy. near_by_keyed a b cost x y (node_address x) (node_address y) low hx hy refl refl)))
+  near_keyed a b cost low =
+      setup _ (at_node a _ (λ x hx. at_node b _ (λ y hy. near_by_keyed a b cost x y (node_address x) (node_address y) low hx hy refl refl)))
 
   none_get : (n : ℕ) (x : Node) → slice_get [] n ≡ Some x → ⊥
   none_get n x e = absurd (cc)
@@ -576,7 +688,8 @@ module _ (ciphers : Ciphers) (fits : KeepsRanges ciphers) (w : World) (ok : Worl
       readable : IsReadable (first_grant key)
       readable = record { grant = record { index = omega arith; held = refl }; address = omega arith; key0 = held key long are; key1 = none_held }
 
-      by_ring : (b : Bool) → RingWrites Nought (if b then resting m (Ok tt) (Err RingStore) else within (λ l. with_station l m) (λ r. r) (calls.install m.station (first_grant key))).puts
+      by_ring : (b : Bool) → RingWrites Nought
+          (if b then resting m (Ok tt) (Err RingStore) else within (λ l. with_station l m) (λ r. r) (calls.install m.station (first_grant key))).puts
       by_ring true = tt
       by_ring false = (Puts (Some (first_grant key)) readable refl, counter_away Nought m.station.counter 0)
 
@@ -584,7 +697,8 @@ module _ (ciphers : Ciphers) (fits : KeepsRanges ciphers) (w : World) (ok : Worl
   record Pushed (x : Node) (n : ℕ) (y : Node) : Type 0 where
     is : (n ≡ length w.nodes) × (x ≡ y)
 
-  pushed_or : {P : Type 0} (x : Node) (n : ℕ) (y : Node) → slice_get (w.nodes ++ x ∷ []) n ≡ Some y → (Pushed x n y → P) → (slice_get w.nodes n ≡ Some y → P) → P
+  pushed_or : {P : Type 0} (x : Node) (n : ℕ) (y : Node) → slice_get (w.nodes ++ x ∷ []) n ≡ Some y → (Pushed x n y → P) → (slice_get w.nodes n ≡ Some y → P)
+      → P
   pushed_or x n y is f g = ⊎_elim
       (λ (e : n ≡ length w.nodes). f (record { is = (e, same_Some _ _ (sym (slice_get-push w.nodes x) ∙ ap (slice_get (w.nodes ++ x ∷ [])) (sym e) ∙ is)) }))
       (λ (e : n ≢ length w.nodes). g (sym (slice_get-push_other w.nodes n x e) ∙ is))
@@ -610,14 +724,17 @@ module _ (ciphers : Ciphers) (fits : KeepsRanges ciphers) (w : World) (ok : Worl
       let empty_is : w.nodes ≡ [] = no_node w.nodes few in
       let x = coordinator_node eui key in
       let plan : Memory → Plan Memory (Result (Unit {0}) _) = λ m. coordinator_rules.begin m (first_grant key) in
-      let did = acts_ok (blank_node Coordinator eui) (Ok tt) plan (blank_ok Coordinator eui tt) (λ m there kept sized. begin_ok ciphers fits w ok flown key long are m sized) in
+      let did = acts_ok (blank_node Coordinator eui) (Ok tt) plan (blank_ok Coordinator eui tt)
+      (λ m there kept sized. begin_ok ciphers fits w ok flown key long are m sized) in
       let b = left_book x.role x.store.records x.memory did.role did.node.kept in
-      let nought : RingIn Nought x.store.records = acts_ring Nought (blank_node Coordinator eui) (Ok tt) plan (λ m. begin_writes key long are m) (no_records Nought tt) in
+      let nought : RingIn Nought x.store.records = acts_ring Nought (blank_node Coordinator eui) (Ok tt) plan (λ m. begin_writes key long are m)
+      (no_records Nought tt) in
       let gone : (n : ℕ) (y : Node) → slice_get w.nodes n ≡ Some y → ⊥ = λ n y is. none_get n y (sym (ap (λ ns. slice_get ns n) empty_is) ∙ is) in
       let at_nought : (n : ℕ) → n ≡ length w.nodes → n ≡ 0 = λ n e. e ∙ ap length empty_is in
       taken_none _ refl (record {
         book = b.0;
-        coordinator = λ c is. pushed_or x 0 c is (λ p. subst (CoordinatorOk b.0) p.is.1 (record { role = did.role; book_kept = b.1; ring = nought })) (λ old. absurd (gone 0 c old));
+        coordinator = λ c is. pushed_or x 0 c is (λ p. subst (CoordinatorOk b.0) p.is.1 (record { role = did.role; book_kept = b.1; ring = nought }))
+            (λ old. absurd (gone 0 c old));
         meters = λ n y ne is. pushed_or x n y is (λ p. absurd (ne (at_nought n p.is.0))) (λ old. absurd (gone n y old));
         made = subst (Each (TagOk b.0 given)) (sym (k.still empty_is)) tt;
         roles = λ n y ne is. pushed_or x n y is (λ p. absurd (ne (at_nought n p.is.0))) (λ old. absurd (gone n y old));
@@ -628,7 +745,8 @@ module _ (ciphers : Ciphers) (fits : KeepsRanges ciphers) (w : World) (ok : Worl
         named = λ n y is. pushed_or x n y is (λ p. subst (λ (z : Node). IsEui z.eui) p.is.1 (subst IsEui (sym did.eui) known)) (λ old. absurd (gone n y old));
       }))
 
-  known_apart : (eui : Eui) (xs : List Node) (n : ℕ) (y : Node) → slice_get xs n ≡ Some y → list_any (λ (x : Node). same_eui x.eui eui) xs ≡ false → book.eui_number y.eui ≡ book.eui_number eui → ⊥
+  known_apart : (eui : Eui) (xs : List Node) (n : ℕ) (y : Node) → slice_get xs n ≡ Some y → list_any (λ (x : Node). same_eui x.eui eui) xs ≡ false
+      → book.eui_number y.eui ≡ book.eui_number eui → ⊥
   known_apart eui [] n y is none same = none_get n y is
   known_apart eui (x ∷ xs) zero y is none same =
       let this : x ≡ y = same_Some _ _ is in
@@ -683,7 +801,8 @@ module _ (ciphers : Ciphers) (fits : KeepsRanges ciphers) (w : World) (ok : Worl
 
       did : CoordinatorDid set_up_keyed.book given [] c (acts c (Err orders.Halted) plan)
       did = coordinator_acts set_up_keyed.book given c (Err orders.Halted) plan [] good h (λ a. None) (λ m here said. refl)
-          (λ m here kept. depot_coordinator ciphers fits (own_of c) m (sized_at ciphers fits c m good here) set_up_keyed.book (h.ring m.station.ring kept.station.ring.stored) kept.station.range.ring x.eui psk known long)
+          (λ m here kept. depot_coordinator ciphers fits (own_of c) m (sized_at ciphers fits c m good here) set_up_keyed.book
+          (h.ring m.station.ring kept.station.ring.stored) kept.station.range.ring x.eui psk known long)
 
       ok_did : DidOk c (acts c (Err orders.Halted) plan)
       ok_did = coordinator_ok c (Err orders.Halted) plan h.role good (λ m sized. depot_ok ciphers fits (own_of c) m sized x.eui psk known long)
@@ -695,22 +814,27 @@ module _ (ciphers : Ciphers) (fits : KeepsRanges ciphers) (w : World) (ok : Worl
       address g e =
           let a = acts_whole c orders.Halted orders.Store plan failed g e in
           let kept : Left (IsKept Coordinator) (acts c (Err orders.Halted) plan).node.store.records (Some (plan a.memory).memory) =
-          subst (λ o. Left (IsKept Coordinator) (acts c (Err orders.Halted) plan).node.store.records o) a.leaves (subst (λ role. Left (IsKept role) (acts c (Err orders.Halted) plan).node.store.records (acts c (Err orders.Halted) plan).node.memory) (ok_did.role ∙ h.role) ok_did.node.kept) in
+          subst (λ o. Left (IsKept Coordinator) (acts c (Err orders.Halted) plan).node.store.records o) a.leaves
+          (subst (λ role. Left (IsKept role) (acts c (Err orders.Halted) plan).node.store.records (acts c (Err orders.Halted) plan).node.memory)
+          (ok_did.role ∙ h.role) ok_did.node.kept) in
           let same : (plan a.memory).memory.book ≡ did.book = one_book _ _ _ kept.book did.node.book_kept in
           subst (λ (y : book.Book). book.address_of y x.eui ≡ Some g.address) same (depot_address a.memory x.eui psk g a.is)
 
       readable : (g : Granted) → (acts c (Err orders.Halted) plan).answer ≡ Ok g → IsReadable g
       readable g e =
           let a = acts_whole c orders.Halted orders.Store plan failed g e in
-          let kept : Left (IsKept Coordinator) c.store.records (Some a.memory) = subst (λ o. Left (IsKept Coordinator) c.store.records o) a.there (subst (λ role. Left (IsKept role) c.store.records c.memory) h.role good.kept) in
+          let kept : Left (IsKept Coordinator) c.store.records (Some a.memory) = subst (λ o. Left (IsKept Coordinator) c.store.records o) a.there
+          (subst (λ role. Left (IsKept role) c.store.records c.memory) h.role good.kept) in
           depot_grants a.memory x.eui psk g kept.station.range.ring kept.book.table.short a.is
 
-      provisioned_keyed : (g : Granted) (v : World) (kv : Keyed v (given ++ issued_by x.eui g)) → node_at v number ≡ Some x → IsReadable g → book.address_of kv.book x.eui ≡ Some g.address
+      provisioned_keyed : (g : Granted) (v : World) (kv : Keyed v (given ++ issued_by x.eui g)) → node_at v number ≡ Some x → IsReadable g
+          → book.address_of kv.book x.eui ≡ Some g.address
           → Keyed (told ciphers v number (acts x (Ok tt) (λ m. meters.provision m g))) (given ++ issued_by x.eui g)
       provisioned_keyed g v kv there reads at =
           let m = kv.meters number x ne there in
           let keys = issued_keys given x.eui g in
-          let did = sound_acts kv.book (given ++ issued_by x.eui g) x (Ok tt) (λ m. meters.provision m g) (node_ok number x hx) m.ring m.session (λ n here kept session ring.
+          let did = sound_acts kv.book (given ++ issued_by x.eui g) x (Ok tt) (λ m. meters.provision m g) (node_ok number x hx) m.ring m.session
+          (λ n here kept session ring.
           let rest = installs_rest n g in
           record {
             puts = installs_ring (RingOk kv.book (given ++ issued_by x.eui g) x.eui) n g reads (record { address = at; key0 = keys.0; key1 = keys.1 });
@@ -719,23 +843,29 @@ module _ (ciphers : Ciphers) (fits : KeepsRanges ciphers) (w : World) (ok : Worl
           }) in
           told_meter ciphers v number x _ there did.eui (given ++ issued_by x.eui g) kv ne did
 
-      by_answer : (r : Result Granted CoordinatorRefusal) → (acts c (Err orders.Halted) plan).answer ≡ r → Good (depot_by ciphers w number x (acts c (Err orders.Halted) plan))
+      by_answer : (r : Result Granted CoordinatorRefusal) → (acts c (Err orders.Halted) plan).answer ≡ r
+          → Good (depot_by ciphers w number x (acts c (Err orders.Halted) plan))
       by_answer (Err reason) e = rw e (Fails faults.Setup)
       by_answer (Ok g) e =
           let d : NodeStep (Result Granted CoordinatorRefusal) = record (acts c (Err orders.Halted) plan) { answer = Ok g } in
           let v = told ciphers (set_up w) 0 d in
           let more = issued_by x.eui g in
-          let all : CoordinatorDid set_up_keyed.book given [] c d = record { book = did.book; node = did.node; grows = did.grows; eui = did.eui; made = did.made } in
+          let all : CoordinatorDid set_up_keyed.book given [] c
+          d = record { book = did.book; node = did.node; grows = did.grows; eui = did.eui; made = did.made } in
           let first = told_coordinator ciphers (set_up w) 0 c d hc did.eui given [] set_up_keyed refl all in
           let kv : Keyed v (given ++ more) = keyed_more v given more (subst (Keyed v) (append-nil given) first) in
           rw e (Taken _ (λ honest. provisioned_keyed g v kv (other_there 0 number d x ne hx) (readable g e)
-          (let same = one_book did.book kv.book d.node.store.records did.node.book_kept (kv.coordinator d.node (told_here ciphers (set_up w) 0 c d hc)).book_kept in subst (λ (y : book.Book). book.address_of y x.eui ≡ Some g.address) same (address g e))))
+          (let same = one_book did.book kv.book d.node.store.records did.node.book_kept
+          (kv.coordinator d.node (told_here ciphers (set_up w) 0 c d hc)).book_kept in
+          subst (λ (y : book.Book). book.address_of y x.eui ≡ Some g.address) same (address g e))))
 
   depot_keyed : (number : ℕ) → Good (depot ciphers w number)
   unfolding depot
-  depot_keyed number = setup _ (at_node number _ (λ x hx. at_node 0 _ (λ c hc. branch ((number == 0) || is_some (node_address x)) _ _ (λ _. Fails faults.Setup) (λ may.
+  depot_keyed number =
+      setup _ (at_node number _ (λ x hx. at_node 0 _ (λ c hc. branch ((number == 0) || is_some (node_address x)) _ _ (λ _. Fails faults.Setup) (λ may.
       by_option (λ psk. depot_by ciphers w number x (acts c (Err orders.Halted) (λ m. coordinator_rules.depot m x.eui psk))) (psk_of x) (Err faults.Setup)
-      (λ psk pair. depot_by_keyed number x c psk (eqb-false _ _ (or_parts _ _ may).0) hx hc ((node_fits number x hx).psk psk (psk_is x psk pair))) (Fails faults.Setup)))))
+      (λ psk pair. depot_by_keyed number x c psk (eqb-false _ _ (or_parts _ _ may).0) hx hc ((node_fits number x hx).psk psk (psk_is x psk pair)))
+      (Fails faults.Setup)))))
 
   -- # All kinds
 

@@ -6,7 +6,8 @@ use Rattle.std.specs.Option.{option_map_or}
 use Rattle.group_keys.specs.KeyRing as ring
 use Rattle.joining_messages.specs.declared.message.JoinMessage.{JoinMessage}
 use Rattle.node_rules.specs.Memory.{StationMemory, Memory, Load, Command, address_of, next_hop}
-use Rattle.node_rules.specs.Drafts.{Draft, with_rank, with_own_number, with_next_tag, with_ring, with_routing_by, goes, body_goes, is_awaited, waits, seeks, seeks_once, sets_out, leave}
+use Rattle.node_rules.specs.Drafts.{Draft, with_rank, with_own_number, with_next_tag, with_ring, with_routing_by, goes, body_goes, is_awaited, waits, seeks}
+use Rattle.node_rules.specs.Drafts.{seeks_once, sets_out, leave}
 use Rattle.node_rules.specs.MemoryDrafts.{on_station, station_part, is_commanded}
 use Rattle.node_rules.specs.Joining.{command_of}
 use Rattle.line_laws.specs.Stores.{IsReadable}
@@ -72,7 +73,8 @@ module _ (S : ring.Ring → Type 0) where
 
   waits_leaves : (to note : ℕ) (load : Load) (now : ℕ) (s d : Draft StationMemory) → LeavesAlone S s d → LeavesAlone S s (waits to note load now d)
   unfolding waits
-  waits_leaves to note load now s d l = record { rung = λ h. let x = l.rung h in record { puts = x.puts; ring = x.ring; reads = x.reads }; ring = l.ring; made = l.made; opened = l.opened }
+  waits_leaves to note load now s d l =
+      record { rung = λ h. let x = l.rung h in record { puts = x.puts; ring = x.ring; reads = x.reads }; ring = l.ring; made = l.made; opened = l.opened }
 
   seeks_leaves : (own dest : ℕ) (d : Draft StationMemory) → LeavesAlone S d (seeks_once own dest d)
   unfolding seeks_once with_own_number goes
@@ -80,7 +82,16 @@ module _ (S : ring.Ring → Type 0) where
     where
       by_wait : (b : Bool) → LeavesAlone S d (if b then d else seeks own dest d)
       by_wait true = record { rung = λ h. h; ring = refl; made = refl; opened = refl }
-      by_wait false = record { rung = λ h. record { puts = writes_append S d.puts _ h.puts (number_away S d.memory.own_number); ring = h.ring; reads = h.reads }; ring = refl; made = refl; opened = refl }
+      by_wait false = record {
+        rung = λ h. record {
+          puts = writes_append S d.puts _ h.puts (number_away S d.memory.own_number);
+          ring = h.ring;
+          reads = h.reads;
+        };
+        ring = refl;
+        made = refl;
+        opened = refl;
+      }
 
   pub sets_out_leaves : (own to note : ℕ) (load : Load) (now : ℕ) (d : Draft StationMemory) → LeavesAlone S d (sets_out own to note load now d)
   sets_out_leaves own to note load now d = by_hop (next_hop d.memory to) refl
@@ -106,7 +117,14 @@ commanded_leaves S to message now d = by_address (address_of d.memory.station)
     by_address None = record { puts = λ p r s. p; ring = refl; session = refl; book = refl; made = refl; opened = refl }
     by_address (Some own) =
         let x = sets_out_leaves S own to 0 (Command (command_of message)) now (station_part d) in
-        record { puts = λ p r s. (x.rung (record { puts = p; ring = s; reads = r })).puts; ring = x.ring; session = refl; book = refl; made = x.made; opened = x.opened }
+        record {
+          puts = λ p r s. (x.rung (record { puts = p; ring = s; reads = r })).puts;
+          ring = x.ring;
+          session = refl;
+          book = refl;
+          made = x.made;
+          opened = x.opened;
+        }
 
 -- the words of a line make and open no pair tag
 pub made_tags : (W : RingWord → Type 0) (g : Given) (s d : Draft StationMemory) → Made W g s d → (d.made ≡ s.made) × (d.opened ≡ s.opened)

@@ -36,7 +36,8 @@ record Was (nodes : List Node) (n : ℕ) (y : Node) : Type 0 where
   is : slice_get nodes n ≡ Some node
   eui : node.eui ≡ y.eui
 
-module _ {A : Type 0} (ciphers : Ciphers) (w : World) (number : ℕ) (x : Node) (d : NodeStep A) (there : node_at w number ≡ Some x) (eui : d.node.eui ≡ x.eui) where
+module _ {A : Type 0} (ciphers : Ciphers) (w : World) (number : ℕ) (x : Node) (d : NodeStep A) (there : node_at w number ≡ Some x)
+    (eui : d.node.eui ≡ x.eui) where
   here_is : (y : Node) → slice_get (slice_set w.nodes number d.node) number ≡ Some y → d.node ≡ y
   here_is y is = same_Some _ _ (sym (slice_get-set w.nodes number d.node (place_within w.nodes number x there)) ∙ is)
 
@@ -45,11 +46,16 @@ module _ {A : Type 0} (ciphers : Ciphers) (w : World) (number : ℕ) (x : Node) 
 
   was : (n : ℕ) (y : Node) → slice_get (slice_set w.nodes number d.node) n ≡ Some y → Was w.nodes n y
   was n y is = ⊎_elim
-      (λ (e : n ≡ number). record { node = x; is = ap (slice_get w.nodes) e ∙ there; eui = sym eui ∙ ap (λ (z : Node). z.eui) (here_is y (ap (slice_get (slice_set w.nodes number d.node)) (sym e) ∙ is)) })
+      (λ (e : n ≡ number). record {
+        node = x;
+        is = ap (slice_get w.nodes) e ∙ there;
+        eui = sym eui ∙ ap (λ (z : Node). z.eui) (here_is y (ap (slice_get (slice_set w.nodes number d.node)) (sym e) ∙ is));
+      })
       (λ (e : n ≢ number). record { node = y; is = other_is n y e is; eui = refl })
       (cases_eq n number)
 
-  apart_told : (given : List Issued) → Keyed w given → (i j : ℕ) (y z : Node) → slice_get (slice_set w.nodes number d.node) i ≡ Some y → slice_get (slice_set w.nodes number d.node) j ≡ Some z → books.eui_number y.eui ≡ books.eui_number z.eui → i ≡ j
+  apart_told : (given : List Issued) → Keyed w given → (i j : ℕ) (y z : Node) → slice_get (slice_set w.nodes number d.node) i ≡ Some y
+      → slice_get (slice_set w.nodes number d.node) j ≡ Some z → books.eui_number y.eui ≡ books.eui_number z.eui → i ≡ j
   apart_told given k i j y z a b same =
       let p = was i y a in
       let q = was j z b in
@@ -73,7 +79,8 @@ module _ {A : Type 0} (ciphers : Ciphers) (w : World) (number : ℕ) (x : Node) 
         (cases_eq n number);
     made = each_append (TagOk k.book given) w.made d.made k.made did.made;
     roles = λ n y ne is. ⊎_elim
-        (λ (e : n ≡ number). subst (λ (z : Node). IsMeter z.role) (here_is y (ap (slice_get (slice_set w.nodes number d.node)) (sym e) ∙ is)) (subst IsMeter (sym did.role) (k.roles number x other there)))
+        (λ (e : n ≡ number). subst (λ (z : Node). IsMeter z.role) (here_is y (ap (slice_get (slice_set w.nodes number d.node)) (sym e) ∙ is))
+        (subst IsMeter (sym did.role) (k.roles number x other there)))
         (λ (e : n ≢ number). k.roles n y ne (other_is n y e is))
         (cases_eq n number);
     apart = apart_told given k;
@@ -81,7 +88,8 @@ module _ {A : Type 0} (ciphers : Ciphers) (w : World) (number : ℕ) (x : Node) 
     named = λ n y is. let p = was n y is in subst IsEui p.eui (k.named n p.node p.is);
   }
 
-  pub told_coordinator : (given more : List Issued) (k : Keyed w given) → number ≡ 0 → CoordinatorDid k.book given more x d → Keyed (told ciphers w number d) (given ++ more)
+  pub told_coordinator : (given more : List Issued) (k : Keyed w given) → number ≡ 0 → CoordinatorDid k.book given more x d
+      → Keyed (told ciphers w number d) (given ++ more)
   unfolding told
   told_coordinator given more k first did = record {
     book = did.book;
@@ -89,7 +97,8 @@ module _ {A : Type 0} (ciphers : Ciphers) (w : World) (number : ℕ) (x : Node) 
     meters = λ n y ne is.
         let h = k.meters n y ne (other_is n y (λ e. ne (e ∙ first)) is) in
         record { ring = λ r e. ring_later k.book did.book given more did.grows y.eui r (h.ring r e); session = h.session };
-    made = each_append (TagOk did.book (given ++ more)) w.made d.made (each_weaker (TagOk k.book given) (TagOk did.book (given ++ more)) (tag_later k.book did.book given more did.grows) w.made k.made) did.made;
+    made = each_append (TagOk did.book (given ++ more)) w.made d.made
+        (each_weaker (TagOk k.book given) (TagOk did.book (given ++ more)) (tag_later k.book did.book given more did.grows) w.made k.made) did.made;
     roles = λ n y ne is. k.roles n y ne (other_is n y (λ e. ne (e ∙ first)) is);
     apart = apart_told given k;
     still = λ none. absurd (some_left none);
@@ -101,7 +110,8 @@ pub keyed_more : (w : World) (given more : List Issued) → Keyed w given → Ke
 keyed_more w given more k = record {
   book = k.book;
   coordinator = k.coordinator;
-  meters = λ n x ne is. let h = k.meters n x ne is in record { ring = λ r e. ring_later k.book k.book given more (λ u a q. q) x.eui r (h.ring r e); session = h.session };
+  meters = λ n x ne is. let h = k.meters n x ne is in
+      record { ring = λ r e. ring_later k.book k.book given more (λ u a q. q) x.eui r (h.ring r e); session = h.session };
   made = each_weaker (TagOk k.book given) (TagOk k.book (given ++ more)) (tag_later k.book k.book given more (λ u a q. q)) w.made k.made;
   roles = k.roles;
   apart = k.apart;
@@ -110,6 +120,7 @@ keyed_more w given more k = record {
 }
 
 -- the node that is left stands where it was
-pub told_here : {A : Type 0} (ciphers : Ciphers) (w : World) (number : ℕ) (x : Node) (d : NodeStep A) → node_at w number ≡ Some x → node_at (told ciphers w number d) number ≡ Some d.node
+pub told_here : {A : Type 0} (ciphers : Ciphers) (w : World) (number : ℕ) (x : Node) (d : NodeStep A) → node_at w number ≡ Some x
+    → node_at (told ciphers w number d) number ≡ Some d.node
 unfolding told
 told_here ciphers w number x d there = slice_get-set w.nodes number d.node (place_within w.nodes number x there)

@@ -44,7 +44,8 @@ use Rattle.line_laws.proofs.IssueCoordinator.{keyed_in}
 use Rattle.line_laws.proofs.IssueSteps.{keyed_same, no_keys}
 use Rattle.line_laws.proofs.IssueWords.{Each}
 use Rattle.line_laws.proofs.KeyedAnswers.{IsGrantedTo, hears_keyed, keyed_granted}
-use Rattle.line_laws.proofs.Tellings.{IsStep, Fails, Makes, Rests, Shows, Acts, BreaksLink, SendsFrom, AllowsMeter, Sets, SetsTwo, Provides, TurnsDown, Hears, Loses, Ticks, Restarts, Cuts}
+use Rattle.line_laws.proofs.Tellings.{IsStep, Fails, Makes, Rests, Shows, Acts, BreaksLink, SendsFrom, AllowsMeter, Sets, SetsTwo, Provides, TurnsDown, Hears}
+use Rattle.line_laws.proofs.Tellings.{Loses, Ticks, Restarts, Cuts}
 
 -- the meter of an issue has an EUI of 8 octets
 abbrev pub IssueNamed : Issued → Type 0
@@ -75,40 +76,48 @@ module _ (ciphers : Ciphers) (y : Node) (good : NodeOk y) (got : Accepted) (cost
   abbrev plan : Memory → Plan Memory (Result CoordinatorHeard Dropped)
   plan m = coordinator_rules.hear_coordinator (record { eui = y.eui; ciphers = ciphers }) m got cost note now
 
-  coordinator_named : (r : Result CoordinatorHeard Dropped) → (acts y (Err drops.Store) plan).answer ≡ r → Each IssueNamed (issued_of (coordinator_reception r).keyed)
+  coordinator_named : (r : Result CoordinatorHeard Dropped) → (acts y (Err drops.Store) plan).answer ≡ r
+      → Each IssueNamed (issued_of (coordinator_reception r).keyed)
   coordinator_named (Err reason) e = tt
   coordinator_named (Ok a) e = subst (λ o. Each IssueNamed (issued_of o)) (sym (keyed_same a).0) (by_word a e)
     where
       by_word : (a : CoordinatorHeard) → (acts y (Err drops.Store) plan).answer ≡ Ok a → Each IssueNamed (issued_of (keyed_in a))
       by_word (coordinator_heard.Keyed eui granted) e =
-          let a = acts_answered y drops.Store drops.Store plan (λ m. planned_failed (plan m) (hears_keyed (record { eui = y.eui; ciphers = ciphers }) m (heard_given got cost note now) got refl)) (coordinator_heard.Keyed eui granted) e in
+          let a = acts_answered y drops.Store drops.Store plan (λ m. planned_failed (plan m)
+          (hears_keyed (record { eui = y.eui; ciphers = ciphers }) m (heard_given got cost note now) got refl)) (coordinator_heard.Keyed eui granted) e in
           let k = node_kept y a.memory good a.there in
-          keys_named eui granted (session_named a.memory eui eui granted k.sessions (keyed_granted (record { eui = y.eui; ciphers = ciphers }) a.memory (heard_given got cost note now) got eui granted refl a.is))
+          keys_named eui granted (session_named a.memory eui eui granted k.sessions
+          (keyed_granted (record { eui = y.eui; ciphers = ciphers }) a.memory (heard_given got cost note now) got eui granted refl a.is))
       by_word _ e = tt
 
   heard_named : Each IssueNamed (issued_of (hears ciphers y got cost note now).answer.keyed)
   heard_named = by_role y.role
     where
       hears_as : Role → NodeStep Reception
-      hears_as Coordinator = answering coordinator_reception (acts y (Err drops.Store) (λ m. coordinator_rules.hear_coordinator (record { eui = y.eui; ciphers = ciphers }) m got cost note now))
+      hears_as Coordinator = answering coordinator_reception
+          (acts y (Err drops.Store) (λ m. coordinator_rules.hear_coordinator (record { eui = y.eui; ciphers = ciphers }) m got cost note now))
       hears_as (Meter psk) = answering meter_reception (acts y (Err drops.Store) (λ m. meters.hear_meter (identity ciphers y psk) m got cost note now))
 
       by_role : (role : Role) → Each IssueNamed (issued_of (hears_as role).answer.keyed)
       by_role Coordinator = coordinator_named (acts y (Err drops.Store) plan).answer refl
-      by_role (Meter psk) = subst (λ o. Each IssueNamed (issued_of o)) (sym (no_keys (acts y (Err drops.Store) (λ m. meters.hear_meter (identity ciphers y psk) m got cost note now)).answer)) tt
+      by_role (Meter psk) = subst (λ o. Each IssueNamed (issued_of o))
+          (sym (no_keys (acts y (Err drops.Store) (λ m. meters.hear_meter (identity ciphers y psk) m got cost note now)).answer)) tt
 
 abbrev pub StepNamed : Step → Type 0
 StepNamed (Ok r) = Each IssueNamed r.1.issued
 StepNamed (Err fault) = Unit {0}
 
 module _ (ciphers : Ciphers) (fits : KeepsRanges ciphers) (w : World) (ok : WorldOk w) (flown : All FlightFits w.flights) where
-  accepted_good : (event : Event) (number : ℕ) (x : Node) (octets : List ℕ) → node_at w number ≡ Some x → IsEvent event → Comes w event number octets → NodeOk (accepting ciphers x octets).node
+  accepted_good : (event : Event) (number : ℕ) (x : Node) (octets : List ℕ) → node_at w number ≡ Some x → IsEvent event → Comes w event number octets
+      → NodeOk (accepting ciphers x octets).node
   accepted_good event number x octets there says comes =
       let are = came_octets ciphers fits w ok flown event number octets says comes in
       let plan : Memory → Plan Memory (Result Accepted FrameRefusal) = λ m. of_station m (accept m.station x.eui (arrived ciphers octets)) in
-      (acts_ok x (Err frames.Halted) plan (at_place NodeOk w.nodes number x there ok.nodes) (λ m here kept sized. accept_ok ciphers fits octets are x.role m x.eui sized)).node
+      (acts_ok x (Err frames.Halted) plan (at_place NodeOk w.nodes number x there ok.nodes)
+      (λ m here kept sized. accept_ok ciphers fits octets are x.role m x.eui sized)).node
 
-  sent_named : (from to : ℕ) (datagram : List ℕ) (tag : ℕ) (b : Bool) (r : World × Trace) → Each IssueNamed r.1.issued → Each IssueNamed (sent_if w from to datagram tag b r).1.issued
+  sent_named : (from to : ℕ) (datagram : List ℕ) (tag : ℕ) (b : Bool) (r : World × Trace) → Each IssueNamed r.1.issued
+      → Each IssueNamed (sent_if w from to datagram tag b r).1.issued
   sent_named from to datagram tag true r h = h
   sent_named from to datagram tag false r h = h
 

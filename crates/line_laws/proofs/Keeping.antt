@@ -64,7 +64,8 @@ module _ {M : Type 0} (Q : M → Records → Type 0) where
       append_one [] one rest = refl
       append_one (x ∷ front) one rest = ap (λ ws. x ∷ ws) (append_one front one rest)
 
-      by_kind : (b : Bool) (front rest : List Write) (one : Write) → p.puts ≡ front ++ one ∷ rest → Reads Q (if b then all_put (front ++ one ∷ []) r else all_put front r)
+      by_kind : (b : Bool) (front rest : List Write) (one : Write) → p.puts ≡ front ++ one ∷ rest
+          → Reads Q (if b then all_put (front ++ one ∷ []) r else all_put front r)
       by_kind true front rest one e = front_reads p.puts (front ++ one ∷ []) rest r (e ∙ sym (append_one front one rest)) (f.run r q).0
       by_kind false front rest one e = front_reads p.puts front (one ∷ rest) r e (f.run r q).0
 

@@ -67,14 +67,17 @@ NotThis key i = i.key ≡ key → ⊥
 module _ (w : World) (given : List Issued) (now : Now w given) (key : Key) where
   not_issued : (eui : Eui) → Each (NotTo key eui) given → (index : ℕ) (o : Option Key) → IsIssued given eui index o → o ≡ Some key → ⊥
   not_issued eui none index None h e = absurd (cc)
-  not_issued eui none index (Some k) h e = each_place (NotTo key eui) given h.place (record { eui = eui; index = index; key = k }) h.is none refl (same_Some _ _ e)
+  not_issued eui none index (Some k) h e =
+      each_place (NotTo key eui) given h.place (record { eui = eui; index = index; key = k }) h.is none refl (same_Some _ _ e)
 
   meter_holds_none : (number : ℕ) (y : Node) → number ≢ 0 → node_at w number ≡ Some y → Each (NotTo key y.eui) given → HasKey y.memory key → ⊥
-  meter_holds_none number y ne there none = by_role y.role y.memory (now.keyed.roles number y ne there) (at_place (λ (x : Node). HasIssuedKeys given x.eui x.role x.memory) w.nodes number y there (world_holds w given now.ok now.keyed now.named))
+  meter_holds_none number y ne there none = by_role y.role y.memory (now.keyed.roles number y ne there)
+      (at_place (λ (x : Node). HasIssuedKeys given x.eui x.role x.memory) w.nodes number y there (world_holds w given now.ok now.keyed now.named))
     where
       by_ring : (r : Option Granted) → IfSome r (λ g. HoldsIssued given y.eui g) → (m : Memory) → m.station.ring ≡ r → HasKey (Some m) key → ⊥
       by_ring None h m e has = absurd (rw e at has)
-      by_ring (Some g) h m e has = ⊎_elim (λ (a : g.key0 ≡ Some key). not_issued y.eui none 0 g.key0 h.0 a) (λ (b : g.key1 ≡ Some key). not_issued y.eui none 1 g.key1 h.1 b) (rw e at has)
+      by_ring (Some g) h m e has = ⊎_elim (λ (a : g.key0 ≡ Some key). not_issued y.eui none 0 g.key0 h.0 a)
+          (λ (b : g.key1 ≡ Some key). not_issued y.eui none 1 g.key1 h.1 b) (rw e at has)
 
       by_role : (role : Role) (o : Option Memory) → IsMeter role → HasIssuedKeys given y.eui role o → HasKey o key → ⊥
       by_role Coordinator o is h has = absurd is
@@ -151,7 +154,8 @@ record IsOut (number : ℕ) (key : Key) (w : World) (given : List Issued) : Type
   none : Each (NotTo key meter.eui) given
 
 out_holds_none : (number : ℕ) (key : Key) (w : World) (given : List Issued) → number ≢ 0 → IsOut number key w given → NodeHasKey w number key → ⊥
-out_holds_none number key w given ne out = holds_none w given out.now key number ne (λ y there. subst (λ (z : Node). Each (NotTo key z.eui) given) (same_Some _ _ (sym out.there ∙ there)) out.none)
+out_holds_none number key w given ne out =
+    holds_none w given out.now key number ne (λ y there. subst (λ (z : Node). Each (NotTo key z.eui) given) (same_Some _ _ (sym out.there ∙ there)) out.none)
 
 abbrev HoldsNot : ℕ → Key → Entry → Type 0
 HoldsNot number key x = NodeHasKey x.after number key → ⊥

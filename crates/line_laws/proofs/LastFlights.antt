@@ -24,7 +24,8 @@ were_octets (f ∷ fs) [] keeps all = absurd keeps
 were_octets (f ∷ fs) (g ∷ gs) keeps all =
     All-cons OfOctets f fs (subst AreOctets keeps.0.octets (All-head OfOctets g gs all)) (were_octets fs gs keeps.1 (All-tail OfOctets g gs all))
 
-all_octets : (ciphers : Ciphers) (w : World) (entries : List Entry) → IsRun ciphers w entries → All OfOctets (world_after w entries).flights → All OfOctets w.flights × FlightsAreOctets entries
+all_octets : (ciphers : Ciphers) (w : World) (entries : List Entry) → IsRun ciphers w entries → All OfOctets (world_after w entries).flights
+    → All OfOctets w.flights × FlightsAreOctets entries
 all_octets ciphers w [] run all = (all, All-nil EntryFlies)
 all_octets ciphers w (x ∷ xs) run all =
     let later = all_octets ciphers x.after xs run.3 all in

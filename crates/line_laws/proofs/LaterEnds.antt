@@ -52,12 +52,14 @@ module _ {E : Type 0} (ends : Ends E) (halted : E) (to : ℕ) (unit : MeshUnit) 
   plan_sends rings keyed left =
       ap (λ (p : Plan Memory (Result (Unit {0}) E)). p.frames) (goes_out_is ends to unit m left)
       ∙ ap (λ r. sealed_by r m.station.counter.next (record { to = to; unit = unit; note = 0 } ∷ [])) rings
-      ∙ ap (λ (k : Option Key). option_map_or (λ (q : Key). Sealed (record { to = to; from = g.address; counter = m.station.counter.next; index = g.active; key = q; unit = unit; note = 0 }) ∷ []) k []) keyed
+      ∙ ap (λ (k : Option Key). option_map_or (λ (q : Key). Sealed
+      (record { to = to; from = g.address; counter = m.station.counter.next; index = g.active; key = q; unit = unit; note = 0 }) ∷ []) k []) keyed
 
   node_sends : x.memory ≡ Some m → x.store.cut ≡ None → (plan ends to unit m).frames ≡ letter ∷ [] → (seals_at ends halted to unit x).frames ≡ letter ∷ []
   unfolding acts
   node_sends here safe sends =
-      ap (λ (o : Option Memory). (option_map_or (λ n. left_by x (carry_out x.store.records x.store.cut (plan ends to unit n))) o (stays x (Err halted))).frames) here
+      ap (λ (o : Option Memory). (option_map_or (λ n. left_by x (carry_out x.store.records x.store.cut (plan ends to unit n))) o (stays x (Err halted))).frames)
+      here
       ∙ ap (λ c. (carry_out x.store.records c (plan ends to unit m)).frames) safe
       ∙ (no_cut x.store.records (plan ends to unit m)).frames
       ∙ sends

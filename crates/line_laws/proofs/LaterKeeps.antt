@@ -1,5 +1,6 @@
 -- A world in which a node seals a command alone of code 03, 04 or 05 holds as the one before.
-use Rattle.std.proofs.Common.{zero-le, inl, append-nil, ◌≡◌, ◌≢◌, ⊎_elim, ℕ, ◌≤◌, ◌<◌, true, false, List, [], ◌∷◌, ◌++◌, length, get_or, Option, Some, None, Result, Err, refl, sym, ap, ◌∙◌, subst, arith}
+use Rattle.std.proofs.Common.{zero-le, inl, append-nil, ◌≡◌, ◌≢◌, ⊎_elim, ℕ, ◌≤◌, ◌<◌, true, false, List, [], ◌∷◌, ◌++◌, length, get_or, Option, Some, None}
+use Rattle.std.proofs.Common.{Result, Err, refl, sym, ap, ◌∙◌, subst, arith}
 use Rattle.std.specs.Prelude.{All, slice_get, slice_set}
 use Rattle.std.specs.Option.{option_and_then}
 use Rattle.std.proofs.lemmas.Bool.{cases_eq}
@@ -28,7 +29,8 @@ use Rattle.line_laws.specs.Agreed.{Confirmed}
 use Rattle.line_laws.specs.InCustody.{Custody, SentUnder}
 use Rattle.line_laws.specs.Custody.{sent_is}
 use Rattle.line_laws.specs.Keyed.{CoordinatorOk, Keyed}
-use Rattle.line_laws.specs.Later.{GoesOn, Holds, IsOfLog, MayBeSealed, PlainKeeps, RunningKeeps, SealingKeeps, StoringKeeps, seals_at, sends_plain, stores, stores_at}
+use Rattle.line_laws.specs.Later.{GoesOn, Holds, IsOfLog, MayBeSealed, PlainKeeps, RunningKeeps, SealingKeeps, StoringKeeps, seals_at, sends_plain, stores}
+use Rattle.line_laws.specs.Later.{stores_at}
 use Rattle.plc_base.specs.Keeper.{Write}
 use Rattle.line_laws.specs.Later.{Keeps}
 use Rattle.node_rules.specs.NodeSteps.{acts}
@@ -95,7 +97,8 @@ keeps_more (f ∷ fs) gs = (record { from = refl; octets = refl; key = refl; not
 not_both : (w : World) → w.running ≡ true → w.running ≡ false → ⊥
 not_both w e f = cc (e, f)
 
-module _ (given : List Issued) (sent : List Sending) (taken : List Pairing) (all : List Sending) (home : ℕ → ℕ) (ups : List Handed) (w : World) (h : Holds given sent taken all home ups w) where
+module _ (given : List Issued) (sent : List Sending) (taken : List Pairing) (all : List Sending) (home : ℕ → ℕ) (ups : List Handed) (w : World)
+    (h : Holds given sent taken all home ups w) where
   abbrev S : ℕ → SentAs → Type 0
   S = SentUnder home all
 
@@ -121,11 +124,13 @@ module _ (given : List Issued) (sent : List Sending) (taken : List Pairing) (all
   -- # What nodes do
 
   -- a node that seals a unit
-  seals_beside : {E : Type 0} (ends : Ends E) (halted : E) (to : ℕ) (unit : MeshUnit) → IsTarget to → MayBeSealed unit → (number : ℕ) (x : Node) → node_at w number ≡ Some x → SentBeside number x (seals_at ends halted to unit x)
+  seals_beside : {E : Type 0} (ends : Ends E) (halted : E) (to : ℕ) (unit : MeshUnit) → IsTarget to → MayBeSealed unit → (number : ℕ) (x : Node)
+      → node_at w number ≡ Some x → SentBeside number x (seals_at ends halted to unit x)
   seals_beside {E = E} ends halted to unit target may number x there = record {
     did = acts_ok x (Err halted) does good (λ m here kept sized. plan_ok ends to unit x.role m sized);
     ranged = acts_ranged x (Err halted) does ranged (λ m here k. plan_ranged ends to unit target may m k);
-    clean = acts_clean S (home number) x (Err halted) does ranged (h.custody.nodes number x there) (λ m here k is. plan_clean ends to unit target may S (home number) m k is);
+    clean = acts_clean S (home number) x (Err halted) does ranged (h.custody.nodes number x there)
+        (λ m here k is. plan_clean ends to unit target may S (home number) m k is);
     octets = acts_send SentOctets x (Err halted) does (λ m here. plan_octets ends to unit target may m (ring_readable x m good here));
     stays = acts_stays x (Err halted) does (λ m. plan_away ends to unit m);
     keyed = quiet_told network network_ranges w given h.keyed number x there good (Err halted) does quietly;
@@ -153,7 +158,8 @@ module _ (given : List Issued) (sent : List Sending) (taken : List Pairing) (all
         where
           by_address : (o : Option ℕ) → address_of m.station ≡ o → IsAt (At old_homes number) o
           by_address None e = tt
-          by_address (Some a) e = (addressed w given h.line h.keyed).home number x there a (ap (option_and_then (λ (n : Memory). address_of n.station)) here ∙ e)
+          by_address (Some a) e =
+              (addressed w given h.line h.keyed).home number x there a (ap (option_and_then (λ (n : Memory). address_of n.station)) here ∙ e)
 
   -- a node that stores its log of broadcasts
   stores_beside : (ps : List Write) → Each IsOfLog ps → (number : ℕ) (x : Node) → node_at w number ≡ Some x → SentBeside number x (stores_at ps x)
@@ -194,15 +200,18 @@ module _ (given : List Issued) (sent : List Sending) (taken : List Pairing) (all
         where
           by_address : (o : Option ℕ) → address_of m.station ≡ o → IsAt (At old_homes number) o
           by_address None e = tt
-          by_address (Some a) e = (addressed w given h.line h.keyed).home number x there a (ap (option_and_then (λ (n : Memory). address_of n.station)) here ∙ e)
+          by_address (Some a) e =
+              (addressed w given h.line h.keyed).home number x there a (ap (option_and_then (λ (n : Memory). address_of n.station)) here ∙ e)
 
   -- a node that carries out a plan of its further rules
-  further_beside : {A : Type 0} (halted : A) (does : Memory → Plan Memory A) → ((m : Memory) → IsFurther AnyUnits m (does m)) → (number : ℕ) (x : Node) → ((m : Memory) → x.memory ≡ Some m → IsFurther IsOne m (does m)) → node_at w number ≡ Some x
+  further_beside : {A : Type 0} (halted : A) (does : Memory → Plan Memory A) → ((m : Memory) → IsFurther AnyUnits m (does m)) → (number : ℕ) (x : Node)
+      → ((m : Memory) → x.memory ≡ Some m → IsFurther IsOne m (does m)) → node_at w number ≡ Some x
       → SentBeside number x (acts x halted does)
   further_beside halted does is number x one there = record {
     did = acts_ok x halted does good (λ m here kept sized. further_ok AnyUnits x.role m sized (does m) (is m));
     ranged = acts_ranged x halted does ranged (λ m here k. further_ranged m (does m) (one m here) k);
-    clean = acts_clean S (home number) x halted does ranged (h.custody.nodes number x there) (λ m here k true_is. further_clean m S (home number) (does m) (one m here) k true_is);
+    clean = acts_clean S (home number) x halted does ranged (h.custody.nodes number x there)
+        (λ m here k true_is. further_clean m S (home number) (does m) (one m here) k true_is);
     octets = acts_send SentOctets x halted does (λ m here. further_octets m (does m) (one m here) (ring_readable x m good here));
     stays = acts_stays x halted does (λ m. further_away m (does m) (is m));
     keyed = quiet_told network network_ranges w given h.keyed number x there good halted does quietly;
@@ -227,12 +236,22 @@ module _ (given : List Issued) (sent : List Sending) (taken : List Pairing) (all
         where
           by_address : (o : Option ℕ) → address_of m.station ≡ o → IsAt (At old_homes number) o
           by_address None e = tt
-          by_address (Some a) e = (addressed w given h.line h.keyed).home number x there a (ap (option_and_then (λ (n : Memory). address_of n.station)) here ∙ e)
+          by_address (Some a) e =
+              (addressed w given h.line h.keyed).home number x there a (ap (option_and_then (λ (n : Memory). address_of n.station)) here ∙ e)
 
   -- a node that sends a plain frame
-  plain_beside : (frame : Sent) → IsPlainFrame frame → AreOctets (spelled network frame).octets → (number : ℕ) (x : Node) → node_at w number ≡ Some x → SentBeside number x (sends_plain frame x)
+  plain_beside : (frame : Sent) → IsPlainFrame frame → AreOctets (spelled network frame).octets → (number : ℕ) (x : Node) → node_at w number ≡ Some x
+      → SentBeside number x (sends_plain frame x)
   plain_beside frame plain are number x there = record {
-    did = record { node = good_at number x there; role = refl; eui = refl; few = omega arith; rises = numbered frame plain; from = from frame plain; marked = raised_same (marks_of x) };
+    did = record {
+      node = good_at number x there;
+      role = refl;
+      eui = refl;
+      few = omega arith;
+      rises = numbered frame plain;
+      from = from frame plain;
+      marked = raised_same (marks_of x);
+    };
     ranged = record { station = ranged; frames = one IsSent (sent_plain frame plain) };
     clean = record {
       ranged = ranged;
@@ -244,14 +263,21 @@ module _ (given : List Issued) (sent : List Sending) (taken : List Pairing) (all
     octets = one SentOctets are;
     stays = λ t e. e;
     keyed = ⊎_elim
-        (λ (e : number ≡ 0). subst (Keyed _) (append-nil given) (told_coordinator network w number x (sends_plain frame x) there refl given [] h.keyed e (record { book = h.keyed.book; node = coordinator e; grows = λ u a k. k; eui = refl; made = tt })))
-        (λ (ne : number ≢ 0). told_meter network w number x (sends_plain frame x) there refl given h.keyed ne (record { node = h.keyed.meters number x ne there; eui = refl; role = refl; made = tt }))
+        (λ (e : number ≡ 0). subst (Keyed _) (append-nil given) (told_coordinator network w number x (sends_plain frame x) there refl given [] h.keyed e
+        (record { book = h.keyed.book; node = coordinator e; grows = λ u a k. k; eui = refl; made = tt })))
+        (λ (ne : number ≢ 0). told_meter network w number x (sends_plain frame x) there refl given h.keyed ne
+        (record { node = h.keyed.meters number x ne there; eui = refl; role = refl; made = tt }))
         (cases_eq number 0);
     made = refl;
     book = λ first. record { book = h.keyed.book; kept = (coordinator first).book_kept; grows = λ u a k. k };
     shut = λ eui out first. out x (ap (slice_get w.nodes) (sym first) ∙ there);
     ranks = let same = same_ranks (At old_homes number) (Own old_homes number) (IsNearer old_homes w) x in
-        record { above = same.above; not_own = same.not_own; routes = same.routes; backed = one (FrameBacked (At old_homes number) (stored x)) (backed frame plain) };
+        record {
+          above = same.above;
+          not_own = same.not_own;
+          routes = same.routes;
+          backed = one (FrameBacked (At old_homes number) (stored x)) (backed frame plain);
+        };
   }
     where
       ranged : NodeRanged x
@@ -318,7 +344,8 @@ module _ (given : List Issued) (sent : List Sending) (taken : List Pairing) (all
     flown = all_flights FlightFits h.octets (All-map FlightFits (λ frame. flight_by number (spelled network frame)) d.frames f.octets)
 
     spelt : All (IsSpelled network) v.flights
-    spelt = all_flights (IsSpelled network) h.spelled (All-map (IsSpelled network) (λ frame. flight_by number (spelled network frame)) d.frames (λ k e lt. spelled_well network number (get_or d.frames k e)))
+    spelt = all_flights (IsSpelled network) h.spelled (All-map (IsSpelled network) (λ frame. flight_by number (spelled network frame)) d.frames
+        (λ k e lt. spelled_well network number (get_or d.frames k e)))
 
     in_range : WorldRanged v
     in_range = record {
@@ -332,7 +359,8 @@ module _ (given : List Issued) (sent : List Sending) (taken : List Pairing) (all
     -- # Books and homes
 
     on : Goes network network_ranges w h.line h.octets given h.keyed v
-    on = told_goes network network_ranges w h.line h.octets given h.keyed w v number x d (self_goes network network_ranges w h.line h.octets given h.keyed) nodes there f.did.eui f.book
+    on = told_goes network network_ranges w h.line h.octets given h.keyed w v number x d (self_goes network network_ranges w h.line h.octets given h.keyed)
+        nodes there f.did.eui f.book
 
     same_length : length v.nodes ≡ length w.nodes
     same_length = ap length nodes ∙ length-set w.nodes number d.node
@@ -368,16 +396,19 @@ module _ (given : List Issued) (sent : List Sending) (taken : List Pairing) (all
     falls : LiveFalls live w v None
     falls = none_falls w v follows (λ some.
         let same = same_length in
-        subst (λ (b : books.Book). Grows b (book_of v)) (sym (some_book w given h.line h.keyed some)) (subst (Grows h.keyed.book) (sym (some_book v given line f.keyed (omega arith))) (grows some)))
+        subst (λ (b : books.Book). Grows b (book_of v)) (sym (some_book w given h.line h.keyed some))
+        (subst (Grows h.keyed.book) (sym (some_book v given line f.keyed (omega arith))) (grows some)))
 
     -- # Tags
 
-    set_nodes : (P : ℕ → Node → Type 0) → ((n : ℕ) (y : Node) → node_at w n ≡ Some y → P n y) → P number d.node → (n : ℕ) (y : Node) → node_at v n ≡ Some y → P n y
+    set_nodes : (P : ℕ → Node → Type 0) → ((n : ℕ) (y : Node) → node_at w n ≡ Some y → P n y) → P number d.node → (n : ℕ) (y : Node) → node_at v n ≡ Some y
+        → P n y
     set_nodes P old new n y is =
         let at : slice_get (slice_set w.nodes number d.node) n ≡ Some y = ap (λ ns. slice_get ns n) (sym nodes) ∙ is in
         ⊎_elim
         (λ (e : n ≡ number).
-        let got : d.node ≡ y = same_Some _ _ (sym (slice_get-set w.nodes number d.node (within w.nodes number x there)) ∙ ap (slice_get (slice_set w.nodes number d.node)) (sym e) ∙ at) in
+        let got : d.node ≡ y = same_Some _ _
+        (sym (slice_get-set w.nodes number d.node (within w.nodes number x there)) ∙ ap (slice_get (slice_set w.nodes number d.node)) (sym e) ∙ at) in
         subst (P n) got (subst (λ k. P k d.node) (sym e) new))
         (λ (ne : n ≢ number). old n y (sym (slice_get-set_other w.nodes number n d.node ne) ∙ at))
         (cases_eq n number)
@@ -389,7 +420,8 @@ module _ (given : List Issued) (sent : List Sending) (taken : List Pairing) (all
     tags : TagsOk v sent
     tags = record {
       nodes = set_nodes (λ n y. TagOf sent n v.events y) (λ n y is. still n y (h.tags.nodes n y is))
-          (let o = h.tags.nodes number x there in record { tag = o.tag; is = f.stays o.tag o.is; few = let le = o.few in let same = events in omega arith; under = o.under });
+          (let o = h.tags.nodes number x there in
+          record { tag = o.tag; is = f.stays o.tag o.is; few = let le = o.few in let same = events in omega arith; under = o.under });
       homes = subst (λ k. All (λ (s : Sending). s.from < k) sent) (sym same_length) h.tags.homes;
       pairs = h.tags.pairs;
     }
@@ -400,7 +432,14 @@ module _ (given : List Issued) (sent : List Sending) (taken : List Pairing) (all
     -- # Custody
 
     custody : Custody network live S home v ups
-    custody = falls_on network live S home w v ups (told_at network network_opens_again S home (live w) ups w number x d (record { flights = h.custody.flights; ranged = h.custody.ranged; sent = h.custody.sent; nodes = h.custody.nodes; places = record { at_most = h.custody.places.at_most } }) there f.clean) falls
+    custody = falls_on network live S home w v ups (told_at network network_opens_again S home (live w) ups w number x d
+        (record {
+          flights = h.custody.flights;
+          ranged = h.custody.ranged;
+          sent = h.custody.sent;
+          nodes = h.custody.nodes;
+          places = record { at_most = h.custody.places.at_most };
+        }) there f.clean) falls
 
     -- # All of it
 
@@ -411,7 +450,8 @@ module _ (given : List Issued) (sent : List Sending) (taken : List Pairing) (all
       spelled = spelt;
       ranged = in_range;
       keyed = f.keyed;
-      senders = later_homes w v given given h.keyed f.keyed line grows euis (subst (KeepsFlights w.flights) (sym flights) (keeps_more w.flights (flights_of network number d))) h.line.rising.homes h.senders
+      senders = later_homes w v given given h.keyed f.keyed line grows euis
+          (subst (KeepsFlights w.flights) (sym flights) (keeps_more w.flights (flights_of network number d))) h.line.rising.homes h.senders
           (told_senders network w w v number x d refl refl refl refl there f.did.from (λ a e. address_low d.node a f.did.node e));
       joinings = joinings;
       routes = routes;
@@ -432,25 +472,34 @@ module _ (given : List Issued) (sent : List Sending) (taken : List Pairing) (all
 
 pub sealing_keeps : {E : Type 0} → SealingKeeps E
 sealing_keeps ends halted to unit target may w number x runs there given sent taken all home ups h =
-    let f = seals_beside given sent taken all home ups w h ends halted to unit target may number x there in
-    (holds given sent taken all home ups w h number x (seals_at ends halted to unit x) runs there f, goes_on given sent taken all home ups w h number x (seals_at ends halted to unit x) runs there f)
+    let f = seals_beside given sent taken all home ups w h ends halted to unit target may number x there in (
+      holds given sent taken all home ups w h number x (seals_at ends halted to unit x) runs there f,
+      goes_on given sent taken all home ups w h number x (seals_at ends halted to unit x) runs there f,
+    )
 
 pub plain_keeps : PlainKeeps
 plain_keeps frame plain are w number x runs there given sent taken all home ups h =
-    let f = plain_beside given sent taken all home ups w h frame plain are number x there in
-    (holds given sent taken all home ups w h number x (sends_plain frame x) runs there f, goes_on given sent taken all home ups w h number x (sends_plain frame x) runs there f)
+    let f = plain_beside given sent taken all home ups w h frame plain are number x there in (
+      holds given sent taken all home ups w h number x (sends_plain frame x) runs there f,
+      goes_on given sent taken all home ups w h number x (sends_plain frame x) runs there f,
+    )
 
 pub storing_keeps : StoringKeeps
 storing_keeps ps is w number x runs there given sent taken all home ups h =
-    let f = stores_beside given sent taken all home ups w h ps is number x there in
-    (holds given sent taken all home ups w h number x (stores_at ps x) runs there f, goes_on given sent taken all home ups w h number x (stores_at ps x) runs there f)
+    let f = stores_beside given sent taken all home ups w h ps is number x there in (
+      holds given sent taken all home ups w h number x (stores_at ps x) runs there f,
+      goes_on given sent taken all home ups w h number x (stores_at ps x) runs there f,
+    )
 
 -- a node that carries out a plan of its further rules keeps all of it
-pub further_keeps : {A : Type 0} (halted : A) (does : Memory → Plan Memory A) → ((m : Memory) → IsFurther AnyUnits m (does m)) → (w : World) (number : ℕ) (x : Node) → ((m : Memory) → x.memory ≡ Some m → IsFurther IsOne m (does m))
+pub further_keeps : {A : Type 0} (halted : A) (does : Memory → Plan Memory A) → ((m : Memory) → IsFurther AnyUnits m (does m))
+    → (w : World) (number : ℕ) (x : Node) → ((m : Memory) → x.memory ≡ Some m → IsFurther IsOne m (does m))
     → w.running ≡ true → node_at w number ≡ Some x → Keeps w (told network w number (acts x halted does))
 further_keeps halted does is w number x one runs there given sent taken all home ups h =
-    let f = further_beside given sent taken all home ups w h halted does is number x one there in
-    (holds given sent taken all home ups w h number x (acts x halted does) runs there f, goes_on given sent taken all home ups w h number x (acts x halted does) runs there f)
+    let f = further_beside given sent taken all home ups w h halted does is number x one there in (
+      holds given sent taken all home ups w h number x (acts x halted does) runs there f,
+      goes_on given sent taken all home ups w h number x (acts x halted does) runs there f,
+    )
 
 ran_homes : (b : books.Book) (w : World) → homed.Grows (homes_of b w) (homes_of b (ran w))
 unfolding homes_of
@@ -464,12 +513,33 @@ running_keeps w given sent taken all home ups h = (
     octets = h.octets;
     spelled = h.spelled;
     ranged = record { nodes = h.ranged.nodes; flights = h.ranged.flights };
-    keyed = record { book = k.book; coordinator = k.coordinator; meters = k.meters; made = k.made; roles = k.roles; apart = k.apart; still = k.still; named = k.named };
+    keyed = record {
+      book = k.book;
+      coordinator = k.coordinator;
+      meters = k.meters;
+      made = k.made;
+      roles = k.roles;
+      apart = k.apart;
+      still = k.still;
+      named = k.named;
+    };
     senders = h.senders;
     joinings = h.joinings;
     routes = routes;
-    tags = record { nodes = λ n y is. let o = h.tags.nodes n y is in record { tag = o.tag; is = o.is; few = let le = o.few in omega arith; under = o.under }; homes = h.tags.homes; pairs = h.tags.pairs };
-    custody = falls_on network live (SentUnder home all) home w (ran w) ups (ran_at network network_opens_again (SentUnder home all) home (live w) ups w (record { flights = h.custody.flights; ranged = h.custody.ranged; sent = h.custody.sent; nodes = h.custody.nodes; places = record { at_most = h.custody.places.at_most } })) falls;
+    tags = record {
+      nodes = λ n y is. let o = h.tags.nodes n y is in record { tag = o.tag; is = o.is; few = let le = o.few in omega arith; under = o.under };
+      homes = h.tags.homes;
+      pairs = h.tags.pairs;
+    };
+    custody = falls_on network live (SentUnder home all) home w (ran w) ups
+        (ran_at network network_opens_again (SentUnder home all) home (live w) ups w
+        (record {
+          flights = h.custody.flights;
+          ranged = h.custody.ranged;
+          sent = h.custody.sent;
+          nodes = h.custody.nodes;
+          places = record { at_most = h.custody.places.at_most };
+        })) falls;
   },
   record {
     marks = marks_rise w (ran w) follows;
@@ -494,4 +564,5 @@ running_keeps w given sent taken all home ups h = (
 
     routes : RoutingHolds network (homes_of h.keyed.book (ran w)) (ran w)
     routes = grow_homes network (homes_of h.keyed.book w) (homes_of h.keyed.book (ran w)) (ran_homes h.keyed.book w) (ran w)
-        (counts_hold network (homes_of h.keyed.book w) {b = w} w (ran w) refl refl (record { holds = h.routes; later = λ i x there. record { node = x; there = there; above = λ dest. inl refl } })).holds
+        (counts_hold network (homes_of h.keyed.book w) {b = w} w (ran w) refl refl
+        (record { holds = h.routes; later = λ i x there. record { node = x; there = there; above = λ dest. inl refl } })).holds

@@ -1,5 +1,6 @@
 -- What else a further rule may do to a world: a frame of discovery flies, flights are not sent after all, and what only further rules see changes.
-use Rattle.std.proofs.Common.{zero-le, inl, inr, ◌≡◌, ◌≢◌, ◌⊎◌, ℕ, zero, suc, ◌+◌, ◌≤◌, ◌<◌, Bool, true, false, List, [], ◌∷◌, ◌++◌, length, get_or, drop, take, Option, Some, None, refl, sym, ap, ◌∙◌, subst, arith}
+use Rattle.std.proofs.Common.{zero-le, inl, inr, ◌≡◌, ◌≢◌, ◌⊎◌, ℕ, zero, suc, ◌+◌, ◌≤◌, ◌<◌, Bool, true, false, List, [], ◌∷◌, ◌++◌, length, get_or, drop, take}
+use Rattle.std.proofs.Common.{Option, Some, None, refl, sym, ap, ◌∙◌, subst, arith}
 use Rattle.std.specs.Prelude.{All, AllPairs, IfSome, slice_get}
 use Rattle.std.specs.List.{sum_by}
 use Rattle.std.proofs.lemmas.List.Elements.{All-nil, All-cons, All-append, All-push}
@@ -70,11 +71,13 @@ drop_front : (fs gs : List Flight) → drop (length fs) (fs ++ gs) ≡ gs
 drop_front [] gs = refl
 drop_front (f ∷ fs) gs = drop_front fs gs
 
-module _ (given : List Issued) (sent : List Sending) (taken : List Pairing) (all : List Sending) (home : ℕ → ℕ) (ups : List Handed) (w : World) (h : Holds given sent taken all home ups w) where
+module _ (given : List Issued) (sent : List Sending) (taken : List Pairing) (all : List Sending) (home : ℕ → ℕ) (ups : List Handed) (w : World)
+    (h : Holds given sent taken all home ups w) where
   abbrev S : ℕ → SentAs → Type 0
   S = SentUnder home all
 
-  module _ (frame : Discovery) (is : IsDiscovery frame) (are : AreOctets (discovery_spelling frame)) (number : ℕ) (x : Node) (runs : w.running ≡ true) (there : node_at w number ≡ Some x) where
+  module _ (frame : Discovery) (is : IsDiscovery frame) (are : AreOctets (discovery_spelling frame)) (number : ℕ) (x : Node) (runs : w.running ≡ true)
+      (there : node_at w number ≡ Some x) where
     abbrev f : Flight
     f = discovery_flight number frame
 
@@ -99,11 +102,19 @@ module _ (given : List Issued) (sent : List Sending) (taken : List Pairing) (all
         by_parts None = tt
         by_parts (Some p) = unsaid _
 
-        rises : (k : ℕ) (d : Flight) → IfSome (nonce_parts (get_or w.flights k d)) (λ (p : NonceParts). IfSome (nonce_parts f) (λ (q : NonceParts). p.counter < q.counter))
+        rises : (k : ℕ) (d : Flight) → IfSome (nonce_parts (get_or w.flights k d))
+            (λ (p : NonceParts). IfSome (nonce_parts f) (λ (q : NonceParts). p.counter < q.counter))
         rises k d = by_parts (nonce_parts (get_or w.flights k d))
 
     line : WorldOk v
-    line = record { nodes = h.line.nodes; fits = h.line.fits; first = h.line.first; count = h.line.count; rising = rising; quiet = λ e. absurd (not_both w runs e) }
+    line = record {
+      nodes = h.line.nodes;
+      fits = h.line.fits;
+      first = h.line.first;
+      count = h.line.count;
+      rising = rising;
+      quiet = λ e. absurd (not_both w runs e);
+    }
 
     follows : Follows w v
     follows = same_follows w v refl
@@ -126,11 +137,13 @@ module _ (given : List Issued) (sent : List Sending) (taken : List Pairing) (all
     routes : RoutingHolds network (homes_of h.keyed.book v) v
     routes = grow_homes network (homes_of h.keyed.book w) (homes_of h.keyed.book v) homes_same v (record {
       ranks = record {
-        backed = All-push (FlightBacked network (homes_of h.keyed.book w) v) w.flights f (λ k d lt. backed_on (get_or w.flights k d) (h.routes.ranks.backed k d lt)) (IsPlain refl);
+        backed = All-push (FlightBacked network (homes_of h.keyed.book w) v) w.flights f
+            (λ k d lt. backed_on (get_or w.flights k d) (h.routes.ranks.backed k d lt)) (IsPlain refl);
         not_own = h.routes.ranks.not_own;
       };
       routes = record {
-        routes = λ i y here dest next e. let r = h.routes.routes.routes i y here dest next e in record { rank = r.rank; kept = r.kept; nearer = nearer_on next dest r.rank r.nearer };
+        routes = λ i y here dest next e. let r = h.routes.routes.routes i y here dest next e in
+            record { rank = r.rank; kept = r.kept; nearer = nearer_on next dest r.rank r.nearer };
       };
     })
 
@@ -162,11 +175,24 @@ module _ (given : List Issued) (sent : List Sending) (taken : List Pairing) (all
       octets = All-push FlightFits w.flights f h.octets are;
       spelled = All-push (IsSpelled network) w.flights f h.spelled (spelled number frame is);
       ranged = record { nodes = h.ranged.nodes; flights = All-push (IsFlight network) w.flights f h.ranged.flights (is_flight number frame) };
-      keyed = let k = h.keyed in record { book = k.book; coordinator = k.coordinator; meters = k.meters; made = k.made; roles = k.roles; apart = k.apart; still = k.still; named = k.named };
+      keyed = let k = h.keyed in record {
+        book = k.book;
+        coordinator = k.coordinator;
+        meters = k.meters;
+        made = k.made;
+        roles = k.roles;
+        apart = k.apart;
+        still = k.still;
+        named = k.named;
+      };
       senders = All-push (AtHome h.keyed.book v) w.flights f h.senders (unsaid _);
       joinings = h.joinings;
       routes = routes;
-      tags = record { nodes = λ n y here. let o = h.tags.nodes n y here in record { tag = o.tag; is = o.is; few = o.few; under = o.under }; homes = h.tags.homes; pairs = h.tags.pairs };
+      tags = record {
+        nodes = λ n y here. let o = h.tags.nodes n y here in record { tag = o.tag; is = o.is; few = o.few; under = o.under };
+        homes = h.tags.homes;
+        pairs = h.tags.pairs;
+      };
       custody = custody;
     }
 

@@ -110,11 +110,13 @@ module _ {E : Type 0} (ends : Ends E) (to : ℕ) (unit : MeshUnit) where
     opened = [];
   }
 
-  pub by_room : (Q : Plan Memory (Result (Unit {0}) E) → Type 0) (m : Memory) → Q (resting m (Err ends.spent) (Err ends.store)) → (1 ≤ counters_left m.station → Q (goes_out m)) → Q (plan m)
+  pub by_room : (Q : Plan Memory (Result (Unit {0}) E) → Type 0) (m : Memory) → Q (resting m (Err ends.spent) (Err ends.store))
+      → (1 ≤ counters_left m.station → Q (goes_out m)) → Q (plan m)
   unfolding sealed goes empty_draft resting
   by_room Q m rests leaves = by_test (nat_lt (counters_left m.station) 1) refl
     where
-      by_test : (b : Bool) → nat_lt (counters_left m.station) 1 ≡ b → Q (of_station m (if b then refused ends m.station ends.spent else sealing alone ends (goes to unit 0 (empty_draft m.station)) tt))
+      by_test : (b : Bool) → nat_lt (counters_left m.station) 1 ≡ b
+          → Q (of_station m (if b then refused ends m.station ends.spent else sealing alone ends (goes to unit 0 (empty_draft m.station)) tt))
       by_test true e = rests
       by_test false e = leaves (ltb-false _ _ e)
 
@@ -122,7 +124,8 @@ module _ {E : Type 0} (ends : Ends E) (to : ℕ) (unit : MeshUnit) where
   unfolding sealed goes empty_draft resting
   goes_out_is m left = by_test (nat_lt (counters_left m.station) 1) refl
     where
-      by_test : (b : Bool) → nat_lt (counters_left m.station) 1 ≡ b → of_station m (if b then refused ends m.station ends.spent else sealing alone ends (goes to unit 0 (empty_draft m.station)) tt) ≡ goes_out m
+      by_test : (b : Bool) → nat_lt (counters_left m.station) 1 ≡ b
+          → of_station m (if b then refused ends m.station ends.spent else sealing alone ends (goes to unit 0 (empty_draft m.station)) tt) ≡ goes_out m
       by_test true e = absurd (let less = ltb-true _ _ e in omega arith)
       by_test false e = refl
 
@@ -146,7 +149,8 @@ module _ {E : Type 0} (ends : Ends E) (to : ℕ) (unit : MeshUnit) where
   plan_grown : (m : Memory) (V : books.Book → Type 0) → Leads (Grown V) m (plan m).puts (plan m).memory
   unfolding resting
   plan_grown m V = by_room (λ p. Leads (Grown V) m p.puts p.memory) m (leads_beside (Grown V) m m (λ r k. k)) (λ left.
-      station_grown V m m.station (record m.station { counter = counter.reserved m.station.counter 1 }) _ (low_when (Rest Coordinator m) (rest_lasts Coordinator m) _ _ _ (λ r k.
+      station_grown V m m.station (record m.station { counter = counter.reserved m.station.counter 1 }) _
+      (low_when (Rest Coordinator m) (rest_lasts Coordinator m) _ _ _ (λ r k.
       let below = k.counter.below in
       let fits = k.range.counter in
       counter_leads (Rest Coordinator m) (rest_lasts Coordinator m) m.station 1 (omega arith) (omega arith))))
@@ -158,11 +162,21 @@ module _ {E : Type 0} (ends : Ends E) (to : ℕ) (unit : MeshUnit) where
   pub plan_ok : (role : Role) (m : Memory) → IsMemorySized m → PlanOk role m (plan m)
   unfolding resting
   plan_ok role m h = by_room (PlanOk role m) m (resting_ok role m h (Err ends.spent) (Err ends.store)) (λ left. record {
-    leads = station_leads role m m.station (record m.station { counter = counter.reserved m.station.counter 1 }) _ (low_when (Rest role m) (rest_lasts role m) _ _ _ (λ r k.
+    leads = station_leads role m m.station (record m.station { counter = counter.reserved m.station.counter 1 }) _
+        (low_when (Rest role m) (rest_lasts role m) _ _ _ (λ r k.
         let below = k.counter.below in
         let fits = k.range.counter in
         counter_leads (Rest role m) (rest_lasts role m) m.station 1 (omega arith) (omega arith)));
-    sized = record { station = record { reassemblies = h.station.reassemblies; waiting = record { bodies = h.station.waiting.bodies; blocks = h.station.waiting.blocks; datagrams = h.station.waiting.datagrams }; loads = h.station.loads; tag = h.station.tag }; sessions = h.sessions; randoms = h.randoms };
+    sized = record {
+      station = record {
+        reassemblies = h.station.reassemblies;
+        waiting = record { bodies = h.station.waiting.bodies; blocks = h.station.waiting.blocks; datagrams = h.station.waiting.datagrams };
+        loads = h.station.loads;
+        tag = h.station.tag;
+      };
+      sessions = h.sessions;
+      randoms = h.randoms;
+    };
     few = let few = sealed_few m.station.ring m.station.counter.next (one ∷ []) in omega arith;
     rises = λ fits. record {
       high = reserve_high m.station.counter 1 m.station.counter.limit (omega arith) fits;
@@ -194,7 +208,8 @@ module _ {E : Type 0} (ends : Ends E) (to : ℕ) (unit : MeshUnit) where
     sealed_true S None first = All-nil (SentIsOf S)
     sealed_true S (Some g) first = by_key (sealing_key g)
       where
-        by_key : (key : Option Key) → All (SentIsOf S) (option_map_or (λ k. Sealed (record { to = to; from = g.address; counter = first; index = g.active; key = k; unit = unit; note = 0 }) ∷ []) key [])
+        by_key : (key : Option Key) → All (SentIsOf S)
+            (option_map_or (λ k. Sealed (record { to = to; from = g.address; counter = first; index = g.active; key = k; unit = unit; note = 0 }) ∷ []) key [])
         by_key None = All-nil (SentIsOf S)
         by_key (Some key) = All-cons (SentIsOf S) _ [] (no_send S unit may.beside) (All-nil (SentIsOf S))
 
@@ -202,11 +217,13 @@ module _ {E : Type 0} (ends : Ends E) (to : ℕ) (unit : MeshUnit) where
     sealed_weighs n i None first = zero-le
     sealed_weighs n i (Some g) first = by_key (sealing_key g)
       where
-        by_key : (key : Option Key) → sum_by (sent_is n i) (option_map_or (λ k. Sealed (record { to = to; from = g.address; counter = first; index = g.active; key = k; unit = unit; note = 0 }) ∷ []) key []) ≤ 0
+        by_key : (key : Option Key) → sum_by (sent_is n i) (option_map_or
+            (λ k. Sealed (record { to = to; from = g.address; counter = first; index = g.active; key = k; unit = unit; note = 0 }) ∷ []) key []) ≤ 0
         by_key None = zero-le
         by_key (Some key) =
             let none = no_weight n i unit may.beside in
-            rw (sum_by-cons (sent_is n i) (Sealed (record { to = to; from = g.address; counter = first; index = g.active; key = key; unit = unit; note = 0 })) []) (omega arith)
+            rw (sum_by-cons (sent_is n i) (Sealed (record { to = to; from = g.address; counter = first; index = g.active; key = key; unit = unit; note = 0 }))
+            []) (omega arith)
 
     pub plan_clean : (S : ℕ → SentAs → Type 0) (own : ℕ) (m : Memory) → IsStationRanged m.station → StationIsTrue S own m.station → PlanClean S own m (plan m)
     unfolding resting
@@ -221,11 +238,13 @@ module _ {E : Type 0} (ends : Ends E) (to : ℕ) (unit : MeshUnit) where
 
     -- ranks and routes
     module _ (At Own : ℕ → Type 0) (C : ℕ → ℕ → Rank → Type 0) where
-      pub sealed_backed : (t : routing.Routing) (r : ring.Ring) (first : ℕ) → IsAt At (option_map (λ (g : Granted). g.address) r) → All (FrameBacked At t) (sealed_by r first (one ∷ []))
+      pub sealed_backed : (t : routing.Routing) (r : ring.Ring) (first : ℕ) → IsAt At (option_map (λ (g : Granted). g.address) r)
+          → All (FrameBacked At t) (sealed_by r first (one ∷ []))
       sealed_backed t None first h = All-nil (FrameBacked At t)
       sealed_backed t (Some g) first h = by_key (sealing_key g)
         where
-          by_key : (key : Option Key) → All (FrameBacked At t) (option_map_or (λ k. Sealed (record { to = to; from = g.address; counter = first; index = g.active; key = k; unit = unit; note = 0 }) ∷ []) key [])
+          by_key : (key : Option Key) → All (FrameBacked At t) (option_map_or
+              (λ k. Sealed (record { to = to; from = g.address; counter = first; index = g.active; key = k; unit = unit; note = 0 }) ∷ []) key [])
           by_key None = All-nil (FrameBacked At t)
           by_key (Some key) = All-cons (FrameBacked At t) _ [] (h, no_rank At t unit may.beside) (All-nil (FrameBacked At t))
 
@@ -240,11 +259,13 @@ module _ {E : Type 0} (ends : Ends E) (to : ℕ) (unit : MeshUnit) where
 -- # What is sent
 
 -- of all that a plan sends, and so of what the node sends that carries it out
-pub acts_send : {A : Type 0} (P : Sent → Type 0) (x : Node) (halted : A) (plan : Memory → Plan Memory A) → ((m : Memory) → x.memory ≡ Some m → All P (plan m).frames) → All P (acts x halted plan).frames
+pub acts_send : {A : Type 0} (P : Sent → Type 0) (x : Node) (halted : A) (plan : Memory → Plan Memory A)
+    → ((m : Memory) → x.memory ≡ Some m → All P (plan m).frames) → All P (acts x halted plan).frames
 unfolding acts
 acts_send {A = A} P x halted plan f = by_memory x.memory refl
   where
-    by_memory : (o : Option Memory) → x.memory ≡ o → All P (option_map_or (λ m. left_by x (carry_out x.store.records x.store.cut (plan m))) o (stays x halted)).frames
+    by_memory : (o : Option Memory) → x.memory ≡ o
+        → All P (option_map_or (λ m. left_by x (carry_out x.store.records x.store.cut (plan m))) o (stays x halted)).frames
     by_memory None e = All-nil P
     by_memory (Some m) e = ⊎_elim
         (λ (w : IsWhole x.store.records x.store.cut (plan m) (carry_out x.store.records x.store.cut (plan m))). rw w.frames (f m e))

@@ -63,12 +63,14 @@ kept_log role m r p is k = record { station = station_log m.station r p is k.sta
 
 pub log_leads : (role : Role) (m : Memory) (ps : List Write) → Each IsOfLog ps → Leads (IsKept role) m ps m
 log_leads role m [] is = leads_beside (IsKept role) m m (λ r k. k)
-log_leads role m (p ∷ ps) is = leads_append (IsKept role) m m m (p ∷ []) ps (leads_one (IsKept role) m m p (λ r k. kept_log role m r p is.0 k)) (log_leads role m ps is.1)
+log_leads role m (p ∷ ps) is =
+    leads_append (IsKept role) m m m (p ∷ []) ps (leads_one (IsKept role) m m p (λ r k. kept_log role m r p is.0 k)) (log_leads role m ps is.1)
 
 pub log_grown : (V : books.Book → Type 0) (m : Memory) (ps : List Write) → Each IsOfLog ps → Leads (Grown V) m ps m
 log_grown V m [] is = leads_beside (Grown V) m m (λ r k. k)
 log_grown V m (p ∷ ps) is =
-    leads_append (Grown V) m m m (p ∷ []) ps (leads_one (Grown V) m m p (λ r k. record { kept = kept_log Coordinator m r p is.0 k.kept; grows = k.grows })) (log_grown V m ps is.1)
+    leads_append (Grown V) m m m (p ∷ []) ps (leads_one (Grown V) m m p (λ r k. record { kept = kept_log Coordinator m r p is.0 k.kept; grows = k.grows }))
+    (log_grown V m ps is.1)
 
 pub log_high : (floor : ℕ) (ps : List Write) → Each IsOfLog ps → High floor ps
 log_high floor [] is = tt

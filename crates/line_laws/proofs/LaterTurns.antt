@@ -1,6 +1,7 @@
 -- What is kept from one world to the next is kept from the first to the last; and what is kept where flights are not sent after all, and
 -- where only that changes which further rules see.
-use Rattle.std.proofs.Common.{inl, inr, ◌≡◌, ℕ, ◌+◌, ◌≤◌, ◌<◌, Bool, true, false, List, [], ◌∷◌, ◌++◌, length, get_or, drop, take, Option, Some, None, refl, sym, ap, ◌∙◌, subst, arith}
+use Rattle.std.proofs.Common.{inl, inr, ◌≡◌, ℕ, ◌+◌, ◌≤◌, ◌<◌, Bool, true, false, List, [], ◌∷◌, ◌++◌, length, get_or, drop, take, Option, Some, None, refl}
+use Rattle.std.proofs.Common.{sym, ap, ◌∙◌, subst, arith}
 use Rattle.std.specs.Prelude.{All, AllPairs, IfSome, slice_get}
 use Rattle.std.specs.List.{sum_by}
 use Rattle.std.proofs.Math.Seq.{drop-length}
@@ -48,7 +49,13 @@ marks_trans w v u a b = record { later = later }
     later number x there =
         let one = a.later number x there in
         let two = b.later number one.node one.there in
-        record { node = two.node; there = two.there; role = two.role ∙ one.role; eui = two.eui ∙ one.eui; marks = λ from c e. one.marks from c (two.marks from c e) }
+        record {
+          node = two.node;
+          there = two.there;
+          role = two.role ∙ one.role;
+          eui = two.eui ∙ one.eui;
+          marks = λ from c e. one.marks from c (two.marks from c e);
+        }
 
 falls_trans : (w v u : World) → LiveFalls live w v None → LiveFalls live v u None → LiveFalls live w u None
 falls_trans w v u a b = record { falls = λ f e. a.falls f (b.falls f e); passes = λ place f is there. absurd (none_some place is) }
@@ -60,7 +67,8 @@ ranks_trans w v u a b i x there =
     record {
       node = two.node;
       there = two.there;
-      above = λ dest. at_least_trans (routing.held (stored two.node) dest) (routing.held (stored one.node) dest) (routing.held (stored x) dest) (two.above dest) (one.above dest);
+      above = λ dest. at_least_trans (routing.held (stored two.node) dest) (routing.held (stored one.node) dest) (routing.held (stored x) dest) (two.above dest)
+          (one.above dest);
     }
 
 pub keeps_in_turn : KeepsInTurn
@@ -71,7 +79,8 @@ keeps_in_turn w v u a b given sent taken all home ups h =
 
 -- # What only further rules see
 
-module _ (given : List Issued) (sent : List Sending) (taken : List Pairing) (all : List Sending) (home : ℕ → ℕ) (ups : List Handed) (w : World) (h : Holds given sent taken all home ups w) where
+module _ (given : List Issued) (sent : List Sending) (taken : List Pairing) (all : List Sending) (home : ℕ → ℕ) (ups : List Handed) (w : World)
+    (h : Holds given sent taken all home ups w) where
   abbrev S : ℕ → SentAs → Type 0
   S = SentUnder home all
 
@@ -91,10 +100,17 @@ module _ (given : List Issued) (sent : List Sending) (taken : List Pairing) (all
 
     routes : RoutingHolds network (homes_of h.keyed.book v) v
     routes = grow_homes network (homes_of h.keyed.book w) (homes_of h.keyed.book v) homes_same v
-        (counts_hold network (homes_of h.keyed.book w) {b = w} w v refl refl (record { holds = h.routes; later = λ i x there. record { node = x; there = there; above = λ dest. inl refl } })).holds
+        (counts_hold network (homes_of h.keyed.book w) {b = w} w v refl refl
+        (record { holds = h.routes; later = λ i x there. record { node = x; there = there; above = λ dest. inl refl } })).holds
 
     custody : Custody network live S home v ups
-    custody = falls_on network live S home w v ups (record { flights = h.custody.flights; ranged = h.custody.ranged; sent = h.custody.sent; nodes = h.custody.nodes; places = record { at_most = h.custody.places.at_most } }) falls
+    custody = falls_on network live S home w v ups (record {
+      flights = h.custody.flights;
+      ranged = h.custody.ranged;
+      sent = h.custody.sent;
+      nodes = h.custody.nodes;
+      places = record { at_most = h.custody.places.at_most };
+    }) falls
 
     holds : Holds given sent taken all home ups v
     holds = record {
@@ -102,11 +118,24 @@ module _ (given : List Issued) (sent : List Sending) (taken : List Pairing) (all
       octets = h.octets;
       spelled = h.spelled;
       ranged = record { nodes = h.ranged.nodes; flights = h.ranged.flights };
-      keyed = let k = h.keyed in record { book = k.book; coordinator = k.coordinator; meters = k.meters; made = k.made; roles = k.roles; apart = k.apart; still = k.still; named = k.named };
+      keyed = let k = h.keyed in record {
+        book = k.book;
+        coordinator = k.coordinator;
+        meters = k.meters;
+        made = k.made;
+        roles = k.roles;
+        apart = k.apart;
+        still = k.still;
+        named = k.named;
+      };
       senders = h.senders;
       joinings = h.joinings;
       routes = routes;
-      tags = record { nodes = λ n y here. let o = h.tags.nodes n y here in record { tag = o.tag; is = o.is; few = o.few; under = o.under }; homes = h.tags.homes; pairs = h.tags.pairs };
+      tags = record {
+        nodes = λ n y here. let o = h.tags.nodes n y here in record { tag = o.tag; is = o.is; few = o.few; under = o.under };
+        homes = h.tags.homes;
+        pairs = h.tags.pairs;
+      };
       custody = custody;
     }
 
@@ -165,7 +194,10 @@ module _ (given : List Issued) (sent : List Sending) (taken : List Pairing) (all
         backed = front (FlightBacked network (homes_of h.keyed.book w) u) (λ k d lt. backed_on (get_or w.flights k d) (h.routes.ranks.backed k d lt));
         not_own = h.routes.ranks.not_own;
       };
-      routes = record { routes = λ i y here dest next e. let r = h.routes.routes.routes i y here dest next e in record { rank = r.rank; kept = r.kept; nearer = unsent_nearer next dest r.rank r.nearer } };
+      routes = record {
+        routes = λ i y here dest next e. let r = h.routes.routes.routes i y here dest next e in
+            record { rank = r.rank; kept = r.kept; nearer = unsent_nearer next dest r.rank r.nearer };
+      };
     })
 
     unsent_custody : Custody network live S home u ups
@@ -184,15 +216,29 @@ module _ (given : List Issued) (sent : List Sending) (taken : List Pairing) (all
 
     unsent_all : w.running ≡ true → Holds given sent taken all home ups u
     unsent_all runs = record {
-      line = record { nodes = h.line.nodes; fits = h.line.fits; first = h.line.first; count = h.line.count; rising = rising; quiet = λ e. absurd (cc (runs, e)) };
+      line =
+          record { nodes = h.line.nodes; fits = h.line.fits; first = h.line.first; count = h.line.count; rising = rising; quiet = λ e. absurd (cc (runs, e)) };
       octets = front FlightFits h.octets;
       spelled = front (IsSpelled network) h.spelled;
       ranged = record { nodes = h.ranged.nodes; flights = front (IsFlight network) h.ranged.flights };
-      keyed = let k = h.keyed in record { book = k.book; coordinator = k.coordinator; meters = k.meters; made = k.made; roles = k.roles; apart = k.apart; still = k.still; named = k.named };
+      keyed = let k = h.keyed in record {
+        book = k.book;
+        coordinator = k.coordinator;
+        meters = k.meters;
+        made = k.made;
+        roles = k.roles;
+        apart = k.apart;
+        still = k.still;
+        named = k.named;
+      };
       senders = front (AtHome h.keyed.book u) h.senders;
       joinings = h.joinings;
       routes = unsent_routes;
-      tags = record { nodes = λ n y here. let o = h.tags.nodes n y here in record { tag = o.tag; is = o.is; few = o.few; under = o.under }; homes = h.tags.homes; pairs = h.tags.pairs };
+      tags = record {
+        nodes = λ n y here. let o = h.tags.nodes n y here in record { tag = o.tag; is = o.is; few = o.few; under = o.under };
+        homes = h.tags.homes;
+        pairs = h.tags.pairs;
+      };
       custody = unsent_custody;
     }
 

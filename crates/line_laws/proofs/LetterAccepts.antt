@@ -41,15 +41,18 @@ pub record IsOfLetter (l : Letter) (from counter : ℕ) (got : Accepted) : Type 
   pub payload : got.payload ≡ spelling l.unit
   pub unit : unit_in got.payload ≡ Some l.unit
 
-module _ (ciphers : Ciphers) (opens : OpensWhatItSeals ciphers) (l : Letter) (fits : IsLetter l) (station : StationMemory) (octets : List ℕ) (same : octets ≡ (spelled ciphers (Sealed l)).octets) where
-  pub accepts_letter : (from counter : ℕ) (got : Accepted) → (a : IsAdmitted station (arrived ciphers octets) from counter got) → a.key ≡ l.key → IsOfLetter l from counter got
+module _ (ciphers : Ciphers) (opens : OpensWhatItSeals ciphers) (l : Letter) (fits : IsLetter l) (station : StationMemory) (octets : List ℕ)
+    (same : octets ≡ (spelled ciphers (Sealed l)).octets) where
+  pub accepts_letter : (from counter : ℕ) (got : Accepted) → (a : IsAdmitted station (arrived ciphers octets) from counter got) → a.key ≡ l.key
+      → IsOfLetter l from counter got
   accepts_letter from counter got a key =
       let body : List ℕ = ciphers.seals l.key (head_of l) (spelling l.unit) in
       let came : Arrived = arrived_with ciphers (head_of l) (header (head_of l)) body in
       let is : came ≡ a.frame = same_Some came a.frame (sym (ap (arrived ciphers) same ∙ letter_arrives ciphers opens l fits) ∙ a.is) in
       let head : head_of l ≡ heads.Sealed a.head.0 a.head.1 a.head.2 a.to from counter a.index = ap (λ (x : Arrived). x.head) is ∙ a.head.3 in
       let opened : came.opened a.key ≡ Some a.payload = ap (λ (x : Arrived). x.opened a.key) is ∙ a.opened in
-      let payload : spelling l.unit ≡ a.payload = same_Some (spelling l.unit) a.payload (sym (letter_opens ciphers opens l fits) ∙ ap came.opened (sym key) ∙ opened) in
+      let payload : spelling l.unit ≡ a.payload = same_Some (spelling l.unit) a.payload
+      (sym (letter_opens ciphers opens l fits) ∙ ap came.opened (sym key) ∙ opened) in
       let sender : from ≡ l.from = sym (ap from_of head) in
       let to : a.to ≡ l.to = sym (ap to_of head) in
       record {

@@ -32,7 +32,8 @@ module _ (ciphers : Ciphers) (opens : OpensWhatItSeals ciphers) (l : Letter) (fi
 
   size : length octets ≤ 400
   size =
-      let whole : length octets ≡ length (header (head_of l)) + length body = ap length (header_then-append (head_of l) body) ∙ length-append (header (head_of l)) body in
+      let whole : length octets ≡ length (header (head_of l)) + length body = ap length (header_then-append (head_of l) body)
+      ∙ length-append (header (head_of l)) body in
       let front : length (header (head_of l)) ≡ 15 = length-header (head_of l) head_fits in
       let longer : length body ≡ length (spelling l.unit) + 4 = opens.tag l.key (head_of l) (spelling l.unit) in
       let unit : length (spelling l.unit) ≤ 381 = fits.unit.size in

@@ -79,7 +79,8 @@ letter_read ciphers opens l fits = record {
       let came : Arrived = arrived_with ciphers (head_of l) (header (head_of l)) body in
       let this : came ≡ a = same_Some came a (sym (letter_arrives ciphers opens l fits) ∙ is) in
       let heads_are : head_of l ≡ heads.Sealed ack seq pan to from counter index = ap (λ (x : Arrived). x.head) this ∙ head in
-      let payload_is : spelling l.unit ≡ payload = same_Some (spelling l.unit) payload (sym (letter_opens ciphers opens l fits) ∙ ap (λ (x : Arrived). x.opened l.key) this ∙ opened) in
+      let payload_is : spelling l.unit
+      ≡ payload = same_Some (spelling l.unit) payload (sym (letter_opens ciphers opens l fits) ∙ ap (λ (x : Arrived). x.opened l.key) this ∙ opened) in
       (sym (ap from_of heads_are), ap unit_in (sym payload_is) ∙ letter_unit ciphers opens l fits);
   messages = λ message is.
       let r : IsRoute (units.Local 1 (messages.spelling message)) = subst IsRoute is fits.route in

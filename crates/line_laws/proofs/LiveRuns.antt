@@ -1,5 +1,6 @@
 -- No flight comes to life again before an event is forged, and the flight that a node opens was live and is live no more.
-use Rattle.std.proofs.Common.{◌≡◌, ◌≢◌, ⊎_elim, ℕ, suc, ◌<◌, ◌^◌, Bool, true, false, not, List, [], ◌∷◌, ◌++◌, length, Option, Some, None, Result, Ok, Err, refl, sym, ap, ◌∙◌, subst, arith}
+use Rattle.std.proofs.Common.{◌≡◌, ◌≢◌, ⊎_elim, ℕ, suc, ◌<◌, ◌^◌, Bool, true, false, not, List, [], ◌∷◌, ◌++◌, length, Option, Some, None, Result, Ok, Err}
+use Rattle.std.proofs.Common.{refl, sym, ap, ◌∙◌, subst, arith}
 use Rattle.std.specs.Prelude.{All, if◌then◌else◌, ◌==◌, ◌&&◌, ◌||◌, is_some, slice_get, slice_set, take}
 use Rattle.std.specs.List.{list_any}
 use Rattle.std.specs.Option.{option_map, option_map_or, option_and_then}
@@ -35,7 +36,8 @@ use Rattle.line_events.specs.Events.{IsEvent}
 use Rattle.line_rules.specs.Forgery.{Comes, OfFlight, OfScript, accepting}
 use Rattle.line_rules.specs.Runs.{Entry}
 use Rattle.line_rules.specs.Worlds.{World, Flight, Trace, Issued, node_at, has_octets}
-use Rattle.line_rules.specs.Steps.{Step, memory_by, once_begun, has_begun, on_flight, ran, told, trace_of, happened, heard, hears, note_by, arrives, deliver, inject, step}
+use Rattle.line_rules.specs.Steps.{Step, memory_by, once_begun, has_begun, on_flight, ran, told, trace_of, happened, heard, hears, note_by, arrives, deliver}
+use Rattle.line_rules.specs.Steps.{inject, step}
 use Rattle.line_laws.specs.Live.{holding, marks_of, admits, book_in, book_of, home_by, home, is_past, is_live, live, FlightsFall}
 use Rattle.line_laws.specs.Owed.{AreOctets, KeepsRanges}
 use Rattle.line_laws.specs.Places.{LiveFalls, first_place, opened_by, opened_at}
@@ -92,10 +94,12 @@ home_grows b c g Coordinator eui a e = e
 home_grows b c g (Meter psk) eui a e = g eui a e
 
 home_later : (b c : books.Book) → Grows b c → (x y : Node) → y.role ≡ x.role → y.eui ≡ x.eui → (a : ℕ) → home b x ≡ Some a → home c y ≡ Some a
-home_later b c g x y role eui a e = subst (λ u. home_by c y.role u ≡ Some a) (sym eui) (subst (λ r. home_by c r x.eui ≡ Some a) (sym role) (home_grows b c g x.role x.eui a e))
+home_later b c g x y role eui a e =
+    subst (λ u. home_by c y.role u ≡ Some a) (sym eui) (subst (λ r. home_by c r x.eui ≡ Some a) (sym role) (home_grows b c g x.role x.eui a e))
 
 -- what lower marks did not admit, higher ones do not
-pub not_admitted : (x y : Node) → Raised (marks_of x) (marks_of y) → (from counter : ℕ) → admits (marks_of x) from counter ≡ false → admits (marks_of y) from counter ≡ false
+pub not_admitted : (x y : Node) → Raised (marks_of x) (marks_of y) → (from counter : ℕ) → admits (marks_of x) from counter ≡ false
+    → admits (marks_of y) from counter ≡ false
 not_admitted x y r from counter none = by_test (admits (marks_of y) from counter) refl
   where
     by_test : (b : Bool) → admits (marks_of y) from counter ≡ b → b ≡ false
@@ -109,7 +113,8 @@ not_less true b h e = absurd (let k = h refl in cc (k, e))
 not_less false b h e = refl
 
 module _ (w v : World) (follow : Follows w v) (grows : 0 < length w.nodes → Grows (book_of w) (book_of v)) where
-  any_later : (to from counter : ℕ) → list_any (is_past (book_of w) to from counter) w.nodes ≡ true → list_any (is_past (book_of v) to from counter) v.nodes ≡ true
+  any_later : (to from counter : ℕ) → list_any (is_past (book_of w) to from counter) w.nodes ≡ true
+      → list_any (is_past (book_of v) to from counter) v.nodes ≡ true
   any_later to from counter e =
       let p = some_passes (is_past (book_of w) to from counter) w.nodes e in
       let l = follow.at p.place p.one p.there in
@@ -136,7 +141,8 @@ module _ (w v : World) (follow : Follows w v) (grows : 0 < length w.nodes → Gr
 
 -- # Books
 
-held_book : (role : Role) (r : Records) (o : Option Memory) → role ≡ Coordinator → Left (IsKept role) r o → IsBookKept (book_in (option_map_or (λ (m : Memory). Some m) o (memory_by (memory_of role r)))) r
+held_book : (role : Role) (r : Records) (o : Option Memory) → role ≡ Coordinator → Left (IsKept role) r o
+    → IsBookKept (book_in (option_map_or (λ (m : Memory). Some m) o (memory_by (memory_of role r)))) r
 held_book Coordinator r None is k = let a = again Coordinator k.memory r k.kept in subst (λ x. IsBookKept (book_in (memory_by x)) r) (sym a.is) a.kept.book
 held_book Coordinator r (Some m) is k = k.book
 held_book (Meter psk) r o is k = absurd (cc)
@@ -197,10 +203,12 @@ module _ (w : World) (given : List Issued) (ok : WorldOk w) (k : Keyed w given) 
   one_home i j x y a hx hy ex ey = ⊎_elim
       (λ (e : i ≡ 0). ⊎_elim
       (λ (f : j ≡ 0). e ∙ sym f)
-      (λ (g : j ≢ 0). absurd (let low = home_zero x a (ap (slice_get w.nodes) (sym e) ∙ hx) ex in let high = above_nought k.book y.eui a (home_meter j y a g hy ey) in omega arith))
+      (λ (g : j ≢ 0). absurd (let low = home_zero x a (ap (slice_get w.nodes) (sym e) ∙ hx) ex in
+      let high = above_nought k.book y.eui a (home_meter j y a g hy ey) in omega arith))
       (cases_eq j 0))
       (λ (g : i ≢ 0). ⊎_elim
-      (λ (f : j ≡ 0). absurd (let low = home_zero y a (ap (slice_get w.nodes) (sym f) ∙ hy) ey in let high = above_nought k.book x.eui a (home_meter i x a g hx ex) in omega arith))
+      (λ (f : j ≡ 0). absurd (let low = home_zero y a (ap (slice_get w.nodes) (sym f) ∙ hy) ey in
+      let high = above_nought k.book x.eui a (home_meter i x a g hx ex) in omega arith))
       (λ (h : j ≢ 0). k.apart i j x y hx hy (one_meter k.book x.eui y.eui a (home_meter i x a g hx ex) (home_meter j y a h hy ey)))
       (cases_eq j 0))
       (cases_eq i 0)
@@ -211,7 +219,8 @@ arrived_head : (ciphers : Ciphers) (octets : List ℕ) (a : Arrived) → arrived
 unfolding arrived
 arrived_head ciphers octets a e = by_fault (is_some (frame_fault octets)) e
   where
-    by_fault : (b : Bool) → (if b then None else Some (arrived_with ciphers (head_in octets) (take 15 octets) (body_in octets))) ≡ Some a → a.head ≡ head_in octets
+    by_fault : (b : Bool) → (if b then None else Some (arrived_with ciphers (head_in octets) (take 15 octets) (body_in octets))) ≡ Some a
+        → a.head ≡ head_in octets
     by_fault true h = absurd (cc)
     by_fault false h = ap (λ (x : Arrived). x.head) (sym (same_Some _ _ h))
 
@@ -228,7 +237,8 @@ first_true true b e f = refl
 first_true false b e f = absurd (cc)
 
 -- a frame to one node is for the node of the address that it names
-own_address : (l : StationMemory) (own : Eui) (ack : Bool) (seq pan to from counter index : ℕ) → is_for_me l own (heads.Sealed ack seq pan to from counter index) ≡ true → (to == to_all) ≡ false → address_of l ≡ Some to
+own_address : (l : StationMemory) (own : Eui) (ack : Bool) (seq pan to from counter index : ℕ)
+    → is_for_me l own (heads.Sealed ack seq pan to from counter index) ≡ true → (to == to_all) ≡ false → address_of l ≡ Some to
 own_address l own ack seq pan to from counter index e one =
     let p = and_parts _ _ e in
     let q = and_parts _ _ p.1 in
@@ -254,7 +264,8 @@ record Taken (l : StationMemory) (octets : List ℕ) (all : Bool) (after : Stati
   room : marks.room_for l.marks from counter ≡ Ok (tt {0})
   left : after.marks ≡ marks.kept_after l.marks from counter
 
-module _ (ciphers : Ciphers) (fits : KeepsRanges ciphers) (octets : List ℕ) (are : AreOctets octets) (l : StationMemory) (own : Eui) (got : Accepted) (by : ℕ) (all : Bool) (key : Key) (path : got.path ≡ paths.Sealed by all key) (e : (accept l own (arrived ciphers octets)).answer ≡ Ok got) where
+module _ (ciphers : Ciphers) (fits : KeepsRanges ciphers) (octets : List ℕ) (are : AreOctets octets) (l : StationMemory) (own : Eui) (got : Accepted) (by : ℕ)
+    (all : Bool) (key : Key) (path : got.path ≡ paths.Sealed by all key) (e : (accept l own (arrived ciphers octets)).answer ≡ Ok got) where
   form_taken : (p : Accepting) → Accepts l (arrived ciphers octets) p → p.answer ≡ Ok got → Taken l octets all p.memory
   unfolding resting marking
   form_taken p (Turned reason) h = absurd (cc)
@@ -280,18 +291,21 @@ module _ (ciphers : Ciphers) (fits : KeepsRanges ciphers) (octets : List ℕ) (a
 
 -- # The flight that is opened
 
-place_octets : (fs : List Flight) (octets : List ℕ) (key : Key) (place : ℕ) (f : Flight) → first_place fs octets key ≡ Some place → slice_get fs place ≡ Some f → f.octets ≡ octets
+place_octets : (fs : List Flight) (octets : List ℕ) (key : Key) (place : ℕ) (f : Flight) → first_place fs octets key ≡ Some place → slice_get fs place ≡ Some f
+    → f.octets ≡ octets
 unfolding first_place
 place_octets [] octets key place f e there = absurd (none-some place e)
 place_octets (g ∷ fs) octets key place f e there = by_test (has_octets octets key g) refl (λ k. place_octets fs octets key k f) e
   where
-    by_rest : (o : Option ℕ) → first_place fs octets key ≡ o → ((k : ℕ) → first_place fs octets key ≡ Some k → slice_get fs k ≡ Some f → f.octets ≡ octets) → option_map (λ (k : ℕ). suc k) o ≡ Some place → f.octets ≡ octets
+    by_rest : (o : Option ℕ) → first_place fs octets key ≡ o → ((k : ℕ) → first_place fs octets key ≡ Some k → slice_get fs k ≡ Some f → f.octets ≡ octets)
+        → option_map (λ (k : ℕ). suc k) o ≡ Some place → f.octets ≡ octets
     by_rest None is rest h = absurd (none-some place h)
     by_rest (Some k) is rest h =
         let same : suc k ≡ place = same_Some _ _ h in
         rest k is (ap (slice_get (g ∷ fs)) same ∙ there)
 
-    by_test : (b : Bool) → has_octets octets key g ≡ b → ((k : ℕ) → first_place fs octets key ≡ Some k → slice_get fs k ≡ Some f → f.octets ≡ octets) → (if b then Some 0 else option_map (λ (k : ℕ). suc k) (first_place fs octets key)) ≡ Some place → f.octets ≡ octets
+    by_test : (b : Bool) → has_octets octets key g ≡ b → ((k : ℕ) → first_place fs octets key ≡ Some k → slice_get fs k ≡ Some f → f.octets ≡ octets)
+        → (if b then Some 0 else option_map (λ (k : ℕ). suc k) (first_place fs octets key)) ≡ Some place → f.octets ≡ octets
     by_test true is rest h =
         let same : 0 ≡ place = same_Some _ _ h in
         let this : g ≡ f = same_Some _ _ (ap (slice_get (g ∷ fs)) same ∙ there) in
@@ -318,7 +332,8 @@ module _ (ciphers : Ciphers) (w : World) where
   abbrev hearer : Node → List ℕ → Accepted → ℕ → Node
   hearer x octets got cost = (hears ciphers (accepting ciphers x octets).node got cost (note_by w octets got.path) w.clock).node
 
-  arrived_nodes : (number : ℕ) (x : Node) (octets : List ℕ) (cost : ℕ) (got : Accepted) → (accepting ciphers x octets).answer ≡ Ok got → (arrives ciphers w number x octets cost).0.nodes ≡ slice_set w.nodes number (hearer x octets got cost)
+  arrived_nodes : (number : ℕ) (x : Node) (octets : List ℕ) (cost : ℕ) (got : Accepted) → (accepting ciphers x octets).answer ≡ Ok got
+      → (arrives ciphers w number x octets cost).0.nodes ≡ slice_set w.nodes number (hearer x octets got cost)
   unfolding arrives told
   arrived_nodes number x octets cost got e = subst (λ a. (after a).0.nodes ≡ slice_set w.nodes number (hearer x octets got cost)) (sym e) refl
     where
@@ -341,17 +356,21 @@ module _ (ciphers : Ciphers) (w : World) where
     cost : ℕ
     nodes : v.nodes ≡ slice_set w.nodes number (hearer x octets got cost)
 
-  comes_heard : (event : Event) (number : ℕ) (octets : List ℕ) (x : Node) (got : Accepted) (v : World) (t : Trace) → Comes w event number octets → node_at w number ≡ Some x → (accepting ciphers x octets).answer ≡ Ok got → step ciphers w event ≡ Ok (v, t) → HeardAt number x octets got v
+  comes_heard : (event : Event) (number : ℕ) (octets : List ℕ) (x : Node) (got : Accepted) (v : World) (t : Trace) → Comes w event number octets
+      → node_at w number ≡ Some x → (accepting ciphers x octets).answer ≡ Ok got → step ciphers w event ≡ Ok (v, t) → HeardAt number x octets got v
   unfolding deliver inject
   comes_heard event number octets x got v t (OfFlight flight n cost f at) there is e =
       let a = taken_begun _ (v, t) e in
-      let b = sym (ap (λ o. option_map_or (λ (y : Node). on_flight w flight (λ (g : Flight). Ok (arrives ciphers w n y g.octets cost))) o (Err faults.Node)) there) ∙ a in
-      let c = sym (ap (λ o. option_map_or (λ (g : Flight). if g.lost then Err faults.Flight else Ok (arrives ciphers w n x g.octets cost)) o (Err faults.Flight)) at) ∙ b in
+      let b = sym (ap (λ o. option_map_or (λ (y : Node). on_flight w flight (λ (g : Flight). Ok (arrives ciphers w n y g.octets cost))) o (Err faults.Node))
+      there) ∙ a in
+      let c = sym (ap (λ o. option_map_or (λ (g : Flight). if g.lost then Err faults.Flight else Ok (arrives ciphers w n x g.octets cost)) o
+      (Err faults.Flight)) at) ∙ b in
       by_lost f.lost c
     where
       by_lost : (lost : Bool) → (if lost then Err faults.Flight else Ok (arrives ciphers w n x f.octets cost)) ≡ Ok (v, t) → HeardAt n x f.octets got v
       by_lost true h = absurd (cc)
-      by_lost false h = record { cost = cost; nodes = ap (λ (r : World × Trace). r.0.nodes) (sym (ok_is _ _ (v, t) refl h)) ∙ arrived_nodes n x f.octets cost got is }
+      by_lost false h =
+          record { cost = cost; nodes = ap (λ (r : World × Trace). r.0.nodes) (sym (ok_is _ _ (v, t) refl h)) ∙ arrived_nodes n x f.octets cost got is }
   comes_heard event number octets x got v t (OfScript n cost o) there is e =
       let a = taken_begun _ (v, t) e in
       let b = sym (ap (λ k. option_map_or (λ (y : Node). Ok (arrives ciphers w n y o cost)) k (Err faults.Node)) there) ∙ a in
@@ -382,20 +401,24 @@ pub record Admission (v : World) (number : ℕ) (octets : List ℕ) (node : Node
   pub shut_after : admits (marks_of left) from counter ≡ false
 
 module _ (ciphers : Ciphers) (fits : KeepsRanges ciphers) (w : World) (ok : WorldOk w) (flown : All FlightFits w.flights) (event : Event) (says : IsEvent event)
-    (number : ℕ) (octets : List ℕ) (node : Node) (comes : Comes w event number octets) (there : node_at w number ≡ Some node) (got : Accepted) (is : (accepting ciphers node octets).answer ≡ Ok got) (by : ℕ) (all : Bool) (key : Key) (path : got.path ≡ paths.Sealed by all key) where
+    (number : ℕ) (octets : List ℕ) (node : Node) (comes : Comes w event number octets) (there : node_at w number ≡ Some node) (got : Accepted)
+    (is : (accepting ciphers node octets).answer ≡ Ok got) (by : ℕ) (all : Bool) (key : Key) (path : got.path ≡ paths.Sealed by all key) where
   abbrev plan : Memory → Plan Memory (Result Accepted FrameRefusal)
   plan m = of_station m (accept m.station node.eui (arrived ciphers octets))
 
   pub admitted_once : (v : World) → Became v number (accepting ciphers node octets).node → Admission v number octets node all
   admitted_once v b =
       let are = came_octets ciphers fits w ok flown event number octets says comes in
-      let a = acts_whole node frames.Halted frames.Store plan (λ m. accept_failed ciphers fits octets are m.station _ (accept_is m.station node.eui (arrived ciphers octets))) got is in
-      let one : Taken a.memory.station octets all (plan a.memory).memory.station = taken_is ciphers fits octets are a.memory.station node.eui got by all key path a.is in
+      let a = acts_whole node frames.Halted frames.Store plan
+      (λ m. accept_failed ciphers fits octets are m.station _ (accept_is m.station node.eui (arrived ciphers octets))) got is in
+      let one : Taken a.memory.station octets all (plan a.memory).memory.station = taken_is ciphers fits octets are a.memory.station node.eui got by all key
+      path a.is in
       let held : marks_of node ≡ a.memory.station.marks = ap (marks_held node.role node.store.records) a.there in
       let did = (heard_marks ciphers fits w ok flown event number node octets 0 got there says comes is).0 in
       let z : Node = (accepting ciphers node octets).node in
       let left : marks_of z ≡ marks.kept_after a.memory.station.marks one.from one.counter = ap (marks_held z.role z.store.records) a.leaves ∙ one.left in
-      let shut : admits (marks_of z) one.from one.counter ≡ false = subst (λ t. admits t one.from one.counter ≡ false) (sym left) (kept_past a.memory.station.marks one.from one.counter one.fits) in
+      let shut : admits (marks_of z) one.from one.counter
+      ≡ false = subst (λ t. admits t one.from one.counter ≡ false) (sym left) (kept_past a.memory.station.marks one.from one.counter one.fits) in
       record {
         to = one.to;
         from = one.from;
@@ -410,8 +433,10 @@ module _ (ciphers : Ciphers) (fits : KeepsRanges ciphers) (w : World) (ok : Worl
         shut_after = not_admitted z b.node b.raised one.from one.counter shut;
       }
 
-module _ (ciphers : Ciphers) (fits : KeepsRanges ciphers) (w : World) (ok : WorldOk w) (flown : All FlightFits w.flights) (x : Entry) (says : IsEvent x.event) (e : step ciphers w x.event ≡ Ok (x.after, x.trace))
-    (number : ℕ) (octets : List ℕ) (node : Node) (comes : Comes w x.event number octets) (there : node_at w number ≡ Some node) (got : Accepted) (is : (accepting ciphers node octets).answer ≡ Ok got) (by : ℕ) (all : Bool) (key : Key) (path : got.path ≡ paths.Sealed by all key) where
+module _ (ciphers : Ciphers) (fits : KeepsRanges ciphers) (w : World) (ok : WorldOk w) (flown : All FlightFits w.flights) (x : Entry) (says : IsEvent x.event)
+    (e : step ciphers w x.event ≡ Ok (x.after, x.trace))
+    (number : ℕ) (octets : List ℕ) (node : Node) (comes : Comes w x.event number octets) (there : node_at w number ≡ Some node) (got : Accepted)
+    (is : (accepting ciphers node octets).answer ≡ Ok got) (by : ℕ) (all : Bool) (key : Key) (path : got.path ≡ paths.Sealed by all key) where
   pub admission : Admission x.after number octets node all
   admission =
       let h = comes_heard ciphers w x.event number octets node got x.after x.trace comes there is e in
@@ -428,13 +453,15 @@ module _ (ciphers : Ciphers) (fits : KeepsRanges ciphers) (w : World) (ok : Worl
 -- # An event
 
 -- an event after which marks are no lower, and the book has each address
-module _ (ciphers : Ciphers) (w : World) (ok : WorldOk w) (given : List Issued) (k : Keyed w given) (x : Entry) (okv : WorldOk x.after) (follow : Follows w x.after)
+module _ (ciphers : Ciphers) (w : World) (ok : WorldOk w) (given : List Issued) (k : Keyed w given) (x : Entry) (okv : WorldOk x.after)
+    (follow : Follows w x.after)
     (later : 0 < length w.nodes → (c : Node) → node_at x.after 0 ≡ Some c → (b : books.Book) → IsBookKept b c.store.records → Grows k.book b) where
   book_grows : 0 < length w.nodes → Grows (book_of w) (book_of x.after)
   book_grows some =
       let c = first_node w.nodes some in
       let d = follow.at 0 c.node c.there in
-      subst (λ b. Grows b (book_of x.after)) (sym (some_book w given ok k some)) (later some d.node d.there (book_of x.after) (world_book x.after okv d.node d.there))
+      subst (λ b. Grows b (book_of x.after)) (sym (some_book w given ok k some))
+      (later some d.node d.there (book_of x.after) (world_book x.after okv d.node d.there))
 
   falls_so : (f : Flight) → live x.after f ≡ true → live w f ≡ true
   falls_so = falls_to w x.after follow book_grows
@@ -443,20 +470,24 @@ module _ (ciphers : Ciphers) (w : World) (ok : WorldOk w) (given : List Issued) 
   head_falls_so = head_falls w x.after follow book_grows
 
   -- octets that a node accepts as a frame to it alone were live, and are not any more
-  pub passes_so : (number : ℕ) (octets : List ℕ) (node : Node) → node_at w number ≡ Some node → Admission x.after number octets node false → (is_live w (head_in octets) ≡ true) × (is_live x.after (head_in octets) ≡ false)
+  pub passes_so : (number : ℕ) (octets : List ℕ) (node : Node) → node_at w number ≡ Some node → Admission x.after number octets node false
+      → (is_live w (head_in octets) ≡ true) × (is_live x.after (head_in octets) ≡ false)
   passes_so number octets node there one =
       let inside = place_within w.nodes number node there in
       let some : 0 < length w.nodes = omega arith in
       let home_k : home k.book node ≡ Some one.to = home_is w given ok k number node one.to there (one.address refl) in
       let home_w : home (book_of w) node ≡ Some one.to = subst (λ b. home b node ≡ Some one.to) (sym (some_book w given ok k some)) home_k in
-      let home_v : home (book_of x.after) one.left ≡ Some one.to = home_later (book_of w) (book_of x.after) (book_grows some) node one.left one.role one.eui one.to home_w in
+      let home_v : home (book_of x.after) one.left
+      ≡ Some one.to = home_later (book_of w) (book_of x.after) (book_grows some) node one.left one.role one.eui one.to home_w in
       let past : list_any (is_past (book_of x.after) one.to one.from one.counter) x.after.nodes ≡ true =
-      any_at (is_past (book_of x.after) one.to one.from one.counter) x.after.nodes number one.left one.left_there (past_is (book_of x.after) one.to one.from one.counter one.left (record { at = home_v; none = one.shut_after })) in (
+      any_at (is_past (book_of x.after) one.to one.from one.counter) x.after.nodes number one.left one.left_there
+      (past_is (book_of x.after) one.to one.from one.counter one.left (record { at = home_v; none = one.shut_after })) in (
         subst (λ q. is_live w q ≡ true) (sym one.head.4) (was_live one.to one.from one.counter home_k one.open_before),
         subst (λ q. is_live x.after q ≡ false) (sym one.head.4) (ap not past),
       )
     where
-      was_live : (to from counter : ℕ) → home k.book node ≡ Some to → admits (marks_of node) from counter ≡ true → not (list_any (is_past (book_of w) to from counter) w.nodes) ≡ true
+      was_live : (to from counter : ℕ) → home k.book node ≡ Some to → admits (marks_of node) from counter ≡ true
+          → not (list_any (is_past (book_of w) to from counter) w.nodes) ≡ true
       was_live to from counter mine admitted = by_any (list_any (is_past (book_of w) to from counter) w.nodes) refl
         where
           by_any : (b : Bool) → list_any (is_past (book_of w) to from counter) w.nodes ≡ b → not b ≡ true
@@ -474,10 +505,12 @@ module _ (ciphers : Ciphers) (w : World) (ok : WorldOk w) (given : List Issued) 
               )
 
   -- where what a node accepts was admitted, and is not any more
-  module _ (admit : (number : ℕ) (octets : List ℕ) (node : Node) → Comes w x.event number octets → node_at w number ≡ Some node → (got : Accepted) → (accepting ciphers node octets).answer ≡ Ok got → (by : ℕ) (key : Key) → got.path ≡ paths.Sealed by false key
+  module _ (admit : (number : ℕ) (octets : List ℕ) (node : Node) → Comes w x.event number octets → node_at w number ≡ Some node → (got : Accepted)
+      → (accepting ciphers node octets).answer ≡ Ok got → (by : ℕ) (key : Key) → got.path ≡ paths.Sealed by false key
       → Admission x.after number octets node false) where
     module _ (number : ℕ) (octets : List ℕ) (node : Node) (comes : Comes w x.event number octets) (there : node_at w number ≡ Some node) where
-      passes_by : (got : Accepted) → (accepting ciphers node octets).answer ≡ Ok got → (place : ℕ) (f : Flight) → opened_by w octets got.path ≡ Some place → slice_get w.flights place ≡ Some f → (live w f ≡ true) × (live x.after f ≡ false)
+      passes_by : (got : Accepted) → (accepting ciphers node octets).answer ≡ Ok got → (place : ℕ) (f : Flight) → opened_by w octets got.path ≡ Some place
+          → slice_get w.flights place ≡ Some f → (live w f ≡ true) × (live x.after f ≡ false)
       passes_by got is place f at here =
           let o = opened_one w octets got.path place at in
           let same : f.octets ≡ octets = place_octets w.flights octets o.key place f o.first here in
@@ -487,7 +520,8 @@ module _ (ciphers : Ciphers) (w : World) (ok : WorldOk w) (given : List Issued) 
       opened_falls : LiveFalls live w x.after (opened_at w octets (accepting ciphers node octets).answer)
       opened_falls = record { falls = falls_so; passes = λ place f at here. by_answer (accepting ciphers node octets).answer refl place f at here }
         where
-          by_answer : (r : Result Accepted FrameRefusal) → (accepting ciphers node octets).answer ≡ r → (place : ℕ) (f : Flight) → opened_at w octets r ≡ Some place → slice_get w.flights place ≡ Some f → (live w f ≡ true) × (live x.after f ≡ false)
+          by_answer : (r : Result Accepted FrameRefusal) → (accepting ciphers node octets).answer ≡ r → (place : ℕ) (f : Flight)
+              → opened_at w octets r ≡ Some place → slice_get w.flights place ≡ Some f → (live w f ≡ true) × (live x.after f ≡ false)
           by_answer (Err reason) is place f at here = absurd (none-some place at)
           by_answer (Ok got) is place f at here = passes_by got is place f at here
 
@@ -497,7 +531,8 @@ module _ (ciphers : Ciphers) (w : World) (ok : WorldOk w) (given : List Issued) 
       opened = λ number octets node comes there. opened_falls number octets node comes there;
     }
 
-module _ (ciphers : Ciphers) (fits : KeepsRanges ciphers) (w : World) (ok : WorldOk w) (flown : All FlightFits w.flights) (given : List Issued) (k : Keyed w given) (x : Entry) (says : IsEvent x.event) (e : step ciphers w x.event ≡ Ok (x.after, x.trace)) where
+module _ (ciphers : Ciphers) (fits : KeepsRanges ciphers) (w : World) (ok : WorldOk w) (flown : All FlightFits w.flights) (given : List Issued)
+    (k : Keyed w given) (x : Entry) (says : IsEvent x.event) (e : step ciphers w x.event ≡ Ok (x.after, x.trace)) where
   follow : Follows w x.after
   follow = entry_follows ciphers fits w ok flown x says e
 
@@ -505,7 +540,8 @@ module _ (ciphers : Ciphers) (fits : KeepsRanges ciphers) (w : World) (ok : Worl
   okv = (taken_good ciphers fits w ok flown x says e).0
 
   goes_on : 0 < length w.nodes → Goes ciphers fits w ok flown given k x.after
-  goes_on = subst (GoesBy ciphers fits w ok flown given k) e (goes ciphers fits w ok flown given k x.event (step ciphers w x.event) (step_is ciphers w x.event says))
+  goes_on =
+      subst (GoesBy ciphers fits w ok flown given k) e (goes ciphers fits w ok flown given k x.event (step ciphers w x.event) (step_is ciphers w x.event says))
 
   later : 0 < length w.nodes → (c : Node) → node_at x.after 0 ≡ Some c → (b : books.Book) → IsBookKept b c.store.records → Grows k.book b
   later some = (goes_on some).grows
@@ -513,10 +549,13 @@ module _ (ciphers : Ciphers) (fits : KeepsRanges ciphers) (w : World) (ok : Worl
   pub head_falls_by : (h : MacHead) → is_live x.after h ≡ true → is_live w h ≡ true
   head_falls_by = head_falls_so ciphers w ok given k x okv follow later
 
-  pub passes_one : (number : ℕ) (octets : List ℕ) (node : Node) → Comes w x.event number octets → node_at w number ≡ Some node → (got : Accepted) → (accepting ciphers node octets).answer ≡ Ok got → (by : ℕ) (key : Key) → got.path ≡ paths.Sealed by false key
+  pub passes_one : (number : ℕ) (octets : List ℕ) (node : Node) → Comes w x.event number octets → node_at w number ≡ Some node → (got : Accepted)
+      → (accepting ciphers node octets).answer ≡ Ok got → (by : ℕ) (key : Key) → got.path ≡ paths.Sealed by false key
       → (is_live w (head_in octets) ≡ true) × (is_live x.after (head_in octets) ≡ false)
   passes_one number octets node comes there got is by key path =
-      passes_so ciphers w ok given k x okv follow later number octets node there (admission ciphers fits w ok flown x says e number octets node comes there got is by false key path)
+      passes_so ciphers w ok given k x okv follow later number octets node there
+      (admission ciphers fits w ok flown x says e number octets node comes there got is by false key path)
 
   pub event_falls : FlightsFall ciphers w x
-  event_falls = falls_where ciphers w ok given k x okv follow later (λ number octets node comes there got is by key path. admission ciphers fits w ok flown x says e number octets node comes there got is by false key path)
+  event_falls = falls_where ciphers w ok given k x okv follow later
+      (λ number octets node comes there got is by key path. admission ciphers fits w ok flown x says e number octets node comes there got is by false key path)

@@ -21,11 +21,13 @@ pub route_via : (x : Node) (dest next : ℕ) → node_route x dest ≡ Some next
 unfolding via next_hop
 route_via x dest next = by_memory x.memory
   where
-    by_ring : (l : StationMemory) (r : ring.Ring) → option_and_then (λ _. routing.next_of l.routing dest) r ≡ Some next → routing.next_of l.routing dest ≡ Some next
+    by_ring : (l : StationMemory) (r : ring.Ring) → option_and_then (λ _. routing.next_of l.routing dest) r ≡ Some next
+        → routing.next_of l.routing dest ≡ Some next
     by_ring l None e = absurd (none-some next e)
     by_ring l (Some g) e = e
 
-    by_memory : (o : Option Memory) → option_and_then (λ m. station_route m.station dest) o ≡ Some next → option_and_then (λ (m : Memory). routing.next_of m.station.routing dest) o ≡ Some next
+    by_memory : (o : Option Memory) → option_and_then (λ m. station_route m.station dest) o ≡ Some next
+        → option_and_then (λ (m : Memory). routing.next_of m.station.routing dest) o ≡ Some next
     by_memory None e = absurd (none-some next e)
     by_memory (Some m) e = by_ring m.station m.station.ring e
 
@@ -65,7 +67,8 @@ module _ (ciphers : Ciphers) (h : Homes) (w : World) (addressed : Addressed h w)
   hop i j next t here apart =
       let r = routed w dest i next t in
       let g = good.routes.routes i r.node r.there dest next r.route in
-      let held : option_map_or (λ x. routing.held (stored x) dest) (node_at w i) (record { number = 0; cost = 0 }) ≡ g.rank = rw r.there (held_kept (stored r.node) dest g.rank g.kept) in
+      let held : option_map_or (λ x. routing.held (stored x) dest) (node_at w i) (record { number = 0; cost = 0 })
+      ≡ g.rank = rw r.there (held_kept (stored r.node) dest g.rank g.kept) in
       ⊎_elim
       (λ (same : next ≡ dest). absurd (apart (here ∙ ap Some same)))
       (λ (n : Nearer h w next dest g.rank).
@@ -84,9 +87,11 @@ module _ (ciphers : Ciphers) (h : Homes) (w : World) (addressed : Addressed h w)
   leads_nearer : (first : ℕ) (rest : List ℕ) (end j : ℕ) → h j ≡ Some end → h j ≢ Some dest → Leads w dest first rest end → Beats (rank_at j) (rank_at first)
   leads_nearer first [] end j here apart l = hop first j end l here apart
   leads_nearer first (second ∷ rest) end j here apart l =
-      beats_trans _ _ _ (leads_nearer second rest end j here apart l.1) (hop first second l.0.0 l.0.1.0 (home_of second l.0.0 l.0.1.1) (first_apart second rest end l.1))
+      beats_trans _ _ _ (leads_nearer second rest end j here apart l.1)
+      (hop first second l.0.0 l.0.1.0 (home_of second l.0.0 l.0.1.1) (first_apart second rest end l.1))
 
 pub no_loop : (ciphers : Ciphers) (h : Homes) (w : World) → Addressed h w → RoutingHolds ciphers h w → HasNoLoop w
 no_loop ciphers h w addressed good dest first rest l =
-    beats_not_itself _ (leads_nearer ciphers h w addressed good dest first rest l.address first (home_of ciphers h w addressed good dest first l.address l.closes)
+    beats_not_itself _ (leads_nearer ciphers h w addressed good dest first rest l.address first
+    (home_of ciphers h w addressed good dest first l.address l.closes)
     (first_apart ciphers h w addressed good dest first rest l.address l.leads) l.leads)

@@ -60,7 +60,8 @@ module _ (ciphers : Ciphers) (h k : Homes) (grows : Grows h k) (w : World) where
 
   flight_grows : (f : Flight) → FlightBacked ciphers h w f → FlightBacked ciphers k w f
   flight_grows f (parts.IsPlain e) = parts.IsPlain e
-  flight_grows f (IsLetter letter x octets key from there b read) = IsLetter letter x octets key (grows f.from letter.from from) there (unit_grows f.from (stored x) letter.unit b) read
+  flight_grows f (IsLetter letter x octets key from there b read) =
+      IsLetter letter x octets key (grows f.from letter.from from) there (unit_grows f.from (stored x) letter.unit b) read
 
   nearer_grows : (next dest : ℕ) (rank : Rank) → IsNearer h w next dest rank → IsNearer k w next dest rank
   nearer_grows next dest rank (inl same) = inl same
@@ -83,8 +84,10 @@ module _ (ciphers : Ciphers) (h k : Homes) (grows : Grows h k) (w : World) where
 
 -- the grant of the workshop has the home of its meter, after the event
 module _ (ciphers : Ciphers) (fits : KeepsRanges ciphers) (w v : World) (ok : WorldOk w) (given more : List Issued) (k : Keyed w given) (kv : Keyed v more)
-    (longer : length w.nodes ≤ length v.nodes) (euis : (n : ℕ) (y : Node) → n < length w.nodes → node_at v n ≡ Some y → (x : Node) × (node_at w n ≡ Some x) × (x.eui ≡ y.eui)) where
-  depot_home : (number : ℕ) (x c : Node) (psk : Key) (g : Granted) (hx : node_at w number ≡ Some x) (hc : node_at w 0 ≡ Some c) (pair : psk_of x ≡ Some psk) → WasLeft ciphers w number x c psk hx hc pair v
+    (longer : length w.nodes ≤ length v.nodes)
+    (euis : (n : ℕ) (y : Node) → n < length w.nodes → node_at v n ≡ Some y → (x : Node) × (node_at w n ≡ Some x) × (x.eui ≡ y.eui)) where
+  depot_home : (number : ℕ) (x c : Node) (psk : Key) (g : Granted) (hx : node_at w number ≡ Some x) (hc : node_at w 0 ≡ Some c) (pair : psk_of x ≡ Some psk)
+      → WasLeft ciphers w number x c psk hx hc pair v
       → (acts c (Err orders.Halted) (λ m. coordinator_rules.depot m x.eui psk)).answer ≡ Ok g → homes_of kv.book v number ≡ Some g.address
   depot_home number x c psk g hx hc pair left e =
       let inside = within w.nodes number x hx in

@@ -20,7 +20,8 @@ use Rattle.node_rules.specs.declared.heard.Path.TheVariants as paths
 use Rattle.node_rules.specs.declared.heard.Accepted.{Accepted}
 use Rattle.node_rules.specs.Frames.{to_all}
 use Rattle.node_rules.specs.Memory.{StationMemory, Load, Datagram, load_octets, address_of, next_hop}
-use Rattle.node_rules.specs.Drafts.{Draft, Outgoing, with_rank, with_own_number, with_next_tag, with_ring, with_routing_by, goes, body_goes, waits, leave, no_room, numbers_spent}
+use Rattle.node_rules.specs.Drafts.{Draft, Outgoing, with_rank, with_own_number, with_next_tag, with_ring, with_routing_by, goes, body_goes, waits, leave}
+use Rattle.node_rules.specs.Drafts.{no_room, numbers_spent}
 use Rattle.node_rules.specs.Hearing.{rank_over, hop_less}
 use Rattle.node_rules.specs.Calls.{near_rank, idled}
 use Rattle.node_rules.specs.Laws.{IsShort}
@@ -121,28 +122,39 @@ pub record TakesTag (W : RingWord → Type 0) (s d : Draft StationMemory) : Type
 
 -- a unit of a route message, or another node's unit with one hop less
 pub data IsSaid (W : RingWord → Type 0) (g : Given) (s d : Draft StationMemory) : ℕ → MeshUnit → ℕ → Type 0 where
-  Seeks : (own dest number note : ℕ) (load : Load) → address_of d.memory ≡ Some own → d.memory.own_number.last ≡ number → 0 < number → W (Carry dest note load) → IsSaid W g s d to_all (units.Local 1 (messages.spelling (Rreq number 0 own dest))) 0
-  Answers : (own by origin number n c dest : ℕ) → address_of d.memory ≡ Some own → d.memory.own_number.last ≡ number → 0 < number → IsTold g by true (Rreq n c origin dest) → IsSaid W g s d by (units.Local 1 (messages.spelling (Rrep number 0 own origin))) 0
-  Relays : (by origin dest n c : ℕ) (rank : Rank) → Offered g (address_of d.memory) by origin rank → JustRanked g by origin rank d → IsTold g by true (Rreq n c origin dest)
+  Seeks : (own dest number note : ℕ) (load : Load) → address_of d.memory ≡ Some own → d.memory.own_number.last ≡ number → 0 < number → W (Carry dest note load)
+      → IsSaid W g s d to_all (units.Local 1 (messages.spelling (Rreq number 0 own dest))) 0
+  Answers : (own by origin number n c dest : ℕ) → address_of d.memory ≡ Some own → d.memory.own_number.last ≡ number → 0 < number
+      → IsTold g by true (Rreq n c origin dest) → IsSaid W g s d by (units.Local 1 (messages.spelling (Rrep number 0 own origin))) 0
+  Relays : (by origin dest n c : ℕ) (rank : Rank) → Offered g (address_of d.memory) by origin rank → JustRanked g by origin rank d
+      → IsTold g by true (Rreq n c origin dest)
       → IsSaid W g s d to_all (units.Local 1 (messages.spelling (Rreq rank.number rank.cost origin dest))) 0
-  Passes : (by origin to hop n c : ℕ) (rank : Rank) → Offered g (address_of d.memory) by origin rank → JustRanked g by origin rank d → IsTold g by false (Rrep n c origin to) → next_hop s.memory to ≡ Some hop
+  Passes : (by origin to hop n c : ℕ) (rank : Rank) → Offered g (address_of d.memory) by origin rank → JustRanked g by origin rank d
+      → IsTold g by false (Rrep n c origin to) → next_hop s.memory to ≡ Some hop
       → IsSaid W g s d hop (units.Local 1 (messages.spelling (Rrep rank.number rank.cost origin to))) 0
-  Tells : (hop lost to dest : ℕ) → IsLost g lost to → next_hop d.memory dest ≡ Some hop → IsSaid W g s d hop (units.Local 1 (messages.spelling (Rerr lost to))) 0
-  Forwards : (by hop dest : ℕ) (unit less : MeshUnit) → IsCome g by false unit → IsLess unit less → next_hop d.memory dest ≡ Some hop → IsSaid W g s d hop less g.note
+  Tells : (hop lost to dest : ℕ) → IsLost g lost to → next_hop d.memory dest ≡ Some hop
+      → IsSaid W g s d hop (units.Local 1 (messages.spelling (Rerr lost to))) 0
+  Forwards : (by hop dest : ℕ) (unit less : MeshUnit) → IsCome g by false unit → IsLess unit less → next_hop d.memory dest ≡ Some hop
+      → IsSaid W g s d hop less g.note
 
 -- The doing is made of words, from another one on.
 pub data Made (W : RingWord → Type 0) (g : Given) (s : Draft StationMemory) : Draft StationMemory → Type 0 where
   Starts : Made W g s s
-  Ranks : (by origin : ℕ) (rank : Rank) (d : Draft StationMemory) → Made W g s d → Offered g (address_of d.memory) by origin rank → RankFits d.memory.routing origin rank g.now
+  Ranks : (by origin : ℕ) (rank : Rank) (d : Draft StationMemory) → Made W g s d → Offered g (address_of d.memory) by origin rank
+      → RankFits d.memory.routing origin rank g.now
       → Made W g s (with_rank origin rank by g.now d)
   Numbers : (d : Draft StationMemory) → Made W g s d → numbers_spent d.memory ≡ false → Made W g s (with_own_number d)
   Tags : (d : Draft StationMemory) → Made W g s d → TakesTag W s d → Made W g s (with_next_tag d)
   Rings : (r : ring.Ring) (d : Draft StationMemory) → Made W g s d → RingChange W d.memory.ring r → Made W g s (with_ring r d)
   Idles : (d : Draft StationMemory) → Made W g s d → Made W g s (record d { memory = idled d.memory })
   Loses : (lost by : ℕ) (d : Draft StationMemory) → Made W g s d → Made W g s (with_routing_by (λ r. routing.without_next_to r lost by) d)
-  Goes : (to : ℕ) (unit : MeshUnit) (note : ℕ) (d : Draft StationMemory) → Made W g s d → IsSaid W g s d to unit note → IsAlone s d note → Made W g s (goes to unit note d)
-  Sends : (own hop to note : ℕ) (load : Load) (d : Draft StationMemory) → Made W g s d → address_of d.memory ≡ Some own → next_hop d.memory to ≡ Some hop → IsShort load → W (Carry to note load) → IsAlone s d note
+  Goes : (to : ℕ) (unit : MeshUnit) (note : ℕ) (d : Draft StationMemory) → Made W g s d → IsSaid W g s d to unit note → IsAlone s d note
+      → Made W g s (goes to unit note d)
+  Sends : (own hop to note : ℕ) (load : Load) (d : Draft StationMemory) → Made W g s d → address_of d.memory ≡ Some own → next_hop d.memory to ≡ Some hop
+      → IsShort load → W (Carry to note load) → IsAlone s d note
       → Made W g s (body_goes own hop to note load d)
-  Waits : (to note : ℕ) (load : Load) (now : ℕ) (d : Draft StationMemory) → Made W g s d → next_hop d.memory to ≡ None → no_room d.memory (length (load_octets load)) ≡ false → IsShort load → W (Carry to note load) → IsAlone s d note
+  Waits : (to note : ℕ) (load : Load) (now : ℕ) (d : Draft StationMemory) → Made W g s d → next_hop d.memory to ≡ None
+      → no_room d.memory (length (load_octets load)) ≡ false → IsShort load → W (Carry to note load) → IsAlone s d note
       → Made W g s (waits to note load now d)
-  Leaves : (own dest hop : ℕ) (rank : Rank) (d : Draft StationMemory) → Made W g s d → address_of d.memory ≡ Some own → Offered g (address_of d.memory) hop dest rank → Made W g s (leave own dest hop d)
+  Leaves : (own dest hop : ℕ) (rank : Rank) (d : Draft StationMemory) → Made W g s d → address_of d.memory ≡ Some own
+      → Offered g (address_of d.memory) hop dest rank → Made W g s (leave own dest hop d)

@@ -1,5 +1,6 @@
 -- Marks that rise: what admitting a counter and a restart make of a table, and which counters it admits then.
-use Rattle.std.proofs.Common.{◌≡◌, ◌≢◌, ◌⊎◌, inl, inr, ℕ, ◌≤◌, ◌<◌, ◌^◌, Bool, true, false, [], ◌∷◌, ◌++◌, length, map, set, Option, Some, None, Ok, Err, refl, sym, ap, ◌∙◌, subst, arith}
+use Rattle.std.proofs.Common.{◌≡◌, ◌≢◌, ◌⊎◌, inl, inr, ℕ, ◌≤◌, ◌<◌, ◌^◌, Bool, true, false, [], ◌∷◌, ◌++◌, length, map, set, Option, Some, None, Ok, Err, refl}
+use Rattle.std.proofs.Common.{sym, ap, ◌∙◌, subst, arith}
 use Rattle.std.specs.Prelude.{if◌then◌else◌, nat_le, nat_lt, ◌==◌, is_some}
 use Rattle.std.specs.Option.{option_map, option_map_or}
 use Rattle.std.proofs.lemmas.Bool.{ltb-true, eq-eqb, ne_eqb, cases_eq}
@@ -38,12 +39,14 @@ raised_trans s t u f g = record {
 pub raised_admits : (t u : marks.Table) → Raised t u → (from counter : ℕ) → admits u from counter ≡ true → admits t from counter ≡ true
 raised_admits t u r from counter h = by_place (marks.place_of t from) refl
   where
-    by_place : (o : Option ℕ) → marks.place_of t from ≡ o → option_map_or (λ (mark : ℕ). nat_lt mark counter) (option_map (λ place. (marks.peer_at t place).mark) o) true ≡ true
+    by_place : (o : Option ℕ) → marks.place_of t from ≡ o
+        → option_map_or (λ (mark : ℕ). nat_lt mark counter) (option_map (λ place. (marks.peer_at t place).mark) o) true ≡ true
     by_place None e = refl
     by_place (Some place) e =
         let a = r.stays from place e in
         let low = a.1 in
-        let at : nat_lt (marks.peer_at u place).mark counter ≡ true = sym (ap (λ (o : Option ℕ). option_map_or (λ (mark : ℕ). nat_lt mark counter) (option_map (λ (p : ℕ). (marks.peer_at u p).mark) o) true) a.0) ∙ h in
+        let at : nat_lt (marks.peer_at u place).mark counter ≡ true = sym
+        (ap (λ (o : Option ℕ). option_map_or (λ (mark : ℕ). nat_lt mark counter) (option_map (λ (p : ℕ). (marks.peer_at u p).mark) o) true) a.0) ∙ h in
         let less : (marks.peer_at u place).mark < counter = ltb-true _ _ at in
         grind (arith, nat_tests)
 
@@ -54,9 +57,11 @@ rest_raised t covered = record {
   stays = λ from place at.
       let there = found marks.peers t from place no_peer at in
       let long = length-map t marks.at_rest in
-      let rests : marks.peer_at (map marks.at_rest t) place ≡ marks.at_rest (marks.peer_at t place) = get_or-map marks.at_rest t place no_peer no_peer there.0 in
+      let rests : marks.peer_at (map marks.at_rest t) place
+      ≡ marks.at_rest (marks.peer_at t place) = get_or-map marks.at_rest t place no_peer no_peer there.0 in
       let over : (marks.peer_at t place).mark ≤ (marks.peer_at t place).stored = covered place no_peer there.0 in (
-        same_place marks.peers t (map marks.at_rest t) no_peer from place (omega arith) (λ k h. ap (λ (p : Peer). p.address) (get_or-map marks.at_rest t k no_peer no_peer h)) at,
+        same_place marks.peers t (map marks.at_rest t) no_peer from place (omega arith)
+            (λ k h. ap (λ (p : Peer). p.address) (get_or-map marks.at_rest t k no_peer no_peer h)) at,
         subst (λ (p : Peer). (marks.peer_at t place).mark ≤ p.mark) (sym rests) over,
       );
 }
@@ -70,10 +75,13 @@ rest_covered t place d within =
 
 module _ (t : marks.Table) (from counter : ℕ) (fits : counter < 2 ^ 32) where
   -- the entry that a sender has afterwards
-  advanced_is : (p : Peer) → p.address ≡ from → ((marks.advanced p from counter).address ≡ from) × ((marks.advanced p from counter).mark ≡ counter) × ((marks.advanced p from counter).mark ≤ (marks.advanced p from counter).stored)
+  advanced_is : (p : Peer) → p.address ≡ from
+      → ((marks.advanced p from counter).address ≡ from) × ((marks.advanced p from counter).mark ≡ counter)
+      × ((marks.advanced p from counter).mark ≤ (marks.advanced p from counter).stored)
   advanced_is p same = by_stored (nat_le counter p.stored) refl
     where
-      by_stored : (b : Bool) → nat_le counter p.stored ≡ b → let q : Peer = (if b then record p { mark = counter } else marks.peer_ahead from counter) in (q.address ≡ from) × (q.mark ≡ counter) × (q.mark ≤ q.stored)
+      by_stored : (b : Bool) → nat_le counter p.stored ≡ b → let q : Peer = (if b then record p { mark = counter } else marks.peer_ahead from counter) in
+          (q.address ≡ from) × (q.mark ≡ counter) × (q.mark ≤ q.stored)
       by_stored true e = (same, refl, grind (arith, nat_tests))
       by_stored false e = (refl, refl, omega arith)
 
@@ -82,9 +90,11 @@ module _ (t : marks.Table) (from counter : ℕ) (fits : counter < 2 ^ 32) where
 
   room_above : (place : ℕ) → marks.place_of t from ≡ Some place → marks.room_for t from counter ≡ Ok (tt {0}) → (marks.peer_at t place).mark < counter
   room_above place at room = by_test (nat_le counter (marks.peer_at t place).mark) refl
-      (sym (ap (λ (o : Option ℕ). option_map_or (λ (p : ℕ). if nat_le counter (marks.peer_at t p).mark then Err Replayed else Ok (tt {0})) o (if length t == 64 then Err PeersFull else Ok (tt {0}))) at) ∙ room)
+      (sym (ap (λ (o : Option ℕ). option_map_or (λ (p : ℕ). if nat_le counter (marks.peer_at t p).mark then Err Replayed else Ok (tt {0})) o
+      (if length t == 64 then Err PeersFull else Ok (tt {0}))) at) ∙ room)
     where
-      by_test : (b : Bool) → nat_le counter (marks.peer_at t place).mark ≡ b → (if b then Err Replayed else Ok (tt {0})) ≡ Ok (tt {0}) → (marks.peer_at t place).mark < counter
+      by_test : (b : Bool) → nat_le counter (marks.peer_at t place).mark ≡ b → (if b then Err Replayed else Ok (tt {0})) ≡ Ok (tt {0})
+          → (marks.peer_at t place).mark < counter
       by_test true e h = absurd (cc)
       by_test false e h = grind (arith, nat_tests)
 
@@ -92,28 +102,36 @@ module _ (t : marks.Table) (from counter : ℕ) (fits : counter < 2 ^ 32) where
   pub room_admits : marks.room_for t from counter ≡ Ok (tt {0}) → admits t from counter ≡ true
   room_admits room = by_place (marks.place_of t from) refl
     where
-      by_place : (o : Option ℕ) → marks.place_of t from ≡ o → option_map_or (λ (mark : ℕ). nat_lt mark counter) (option_map (λ place. (marks.peer_at t place).mark) o) true ≡ true
+      by_place : (o : Option ℕ) → marks.place_of t from ≡ o
+          → option_map_or (λ (mark : ℕ). nat_lt mark counter) (option_map (λ place. (marks.peer_at t place).mark) o) true ≡ true
       by_place None e = refl
       by_place (Some place) e = let low = room_above place e room in grind (arith, nat_tests)
 
   pub kept_covered : marks.IsCovered t → marks.IsCovered (marks.kept_after t from counter)
   kept_covered covered = by_place (marks.place_of t from) refl
     where
-      by_place : (o : Option ℕ) → marks.place_of t from ≡ o → marks.IsCovered (option_map_or (λ place. set t place (marks.advanced (marks.peer_at t place) from counter)) o (t ++ marks.peer_ahead from counter ∷ []))
+      by_place : (o : Option ℕ) → marks.place_of t from ≡ o
+          → marks.IsCovered (option_map_or (λ place. set t place (marks.advanced (marks.peer_at t place) from counter)) o
+          (t ++ marks.peer_ahead from counter ∷ []))
       by_place None e = All-push (λ (p : Peer). p.mark ≤ p.stored) t (marks.peer_ahead from counter) covered ahead_covered
       by_place (Some place) e =
           let there = found marks.peers t from place no_peer e in
-          All-set (λ (p : Peer). p.mark ≤ p.stored) t place (marks.advanced (marks.peer_at t place) from counter) (advanced_is (marks.peer_at t place) there.1).2 covered
+          All-set (λ (p : Peer). p.mark ≤ p.stored) t place (marks.advanced (marks.peer_at t place) from counter)
+          (advanced_is (marks.peer_at t place) there.1).2 covered
 
   pub kept_raised : marks.room_for t from counter ≡ Ok (tt {0}) → Raised t (marks.kept_after t from counter)
   kept_raised room = by_place (marks.place_of t from) refl
     where
-      by_place : (o : Option ℕ) → marks.place_of t from ≡ o → Raised t (option_map_or (λ place. set t place (marks.advanced (marks.peer_at t place) from counter)) o (t ++ marks.peer_ahead from counter ∷ []))
+      by_place : (o : Option ℕ) → marks.place_of t from ≡ o
+          → Raised t (option_map_or (λ place. set t place (marks.advanced (marks.peer_at t place) from counter)) o (t ++ marks.peer_ahead from counter ∷ []))
       by_place None e = record {
         stays = λ key at is.
             let there = found marks.peers t key at no_peer is in
-            let same : marks.peer_at (t ++ marks.peer_ahead from counter ∷ []) at ≡ marks.peer_at t at = get_or_append_left t (marks.peer_ahead from counter ∷ []) no_peer at there.0 in
-            (place_of-push marks.peers t (marks.peer_ahead from counter) key at is, subst (λ (p : Peer). (marks.peer_at t at).mark ≤ p.mark) (sym same) (omega arith));
+            let same : marks.peer_at (t ++ marks.peer_ahead from counter ∷ []) at
+            ≡ marks.peer_at t at = get_or_append_left t (marks.peer_ahead from counter ∷ []) no_peer at there.0 in (
+              place_of-push marks.peers t (marks.peer_ahead from counter) key at is,
+              subst (λ (p : Peer). (marks.peer_at t at).mark ≤ p.mark) (sym same) (omega arith),
+            );
       }
       by_place (Some place) e =
           let there = found marks.peers t from place no_peer e in
@@ -127,11 +145,13 @@ module _ (t : marks.Table) (from counter : ℕ) (fits : counter < 2 ^ 32) where
             );
           }
         where
-          by_same : (key at : ℕ) → marks.place_of t key ≡ Some at → (place : ℕ) (p : Peer) → place < length t → (marks.peer_at t place).mark ≤ p.mark → (at ≡ place) ⊎ (at ≢ place) → (marks.peer_at t at).mark ≤ (marks.peer_at (set t place p) at).mark
+          by_same : (key at : ℕ) → marks.place_of t key ≡ Some at → (place : ℕ) (p : Peer) → place < length t → (marks.peer_at t place).mark ≤ p.mark
+              → (at ≡ place) ⊎ (at ≢ place) → (marks.peer_at t at).mark ≤ (marks.peer_at (set t place p) at).mark
           by_same key at is place p within low (inl same) =
               subst (λ (k : ℕ). (marks.peer_at t k).mark ≤ (marks.peer_at (set t place p) k).mark) (sym same)
               (subst (λ (q : Peer). (marks.peer_at t place).mark ≤ q.mark) (sym (get_or-set_same t place p no_peer within)) low)
-          by_same key at is place p within low (inr other) = subst (λ (q : Peer). (marks.peer_at t at).mark ≤ q.mark) (sym (get_or-set_other t place at p no_peer other)) (omega arith)
+          by_same key at is place p within low (inr other) =
+              subst (λ (q : Peer). (marks.peer_at t at).mark ≤ q.mark) (sym (get_or-set_other t place at p no_peer other)) (omega arith)
 
   past_at : (u : marks.Table) (place : ℕ) → marks.place_of u from ≡ Some place → (marks.peer_at u place).mark ≡ counter → admits u from counter ≡ false
   past_at u place at is =
@@ -143,7 +163,8 @@ module _ (t : marks.Table) (from counter : ℕ) (fits : counter < 2 ^ 32) where
   new_place e =
       let long = length-append t (marks.peer_ahead from counter ∷ []) in
       let first = position_or_len_is (λ (p : Peer). p.address == from) (t ++ marks.peer_ahead from counter ∷ []) (length t) no_peer (omega arith)
-      (λ k h. ap (λ (q : Peer). q.address == from) (get_or_append_left t (marks.peer_ahead from counter ∷ []) no_peer k h) ∙ ne_eqb _ _ (apart marks.peers t from (ap is_some e) k no_peer h))
+      (λ k h. ap (λ (q : Peer). q.address == from) (get_or_append_left t (marks.peer_ahead from counter ∷ []) no_peer k h)
+      ∙ ne_eqb _ _ (apart marks.peers t from (ap is_some e) k no_peer h))
       (λ h. ap (λ (q : Peer). q.address == from) (get_or_push t (marks.peer_ahead from counter) no_peer (length t) refl) ∙ eq-eqb from from refl) in
       let inside : nat_lt (length t) (length (t ++ marks.peer_ahead from counter ∷ [])) ≡ true = grind (arith, nat_tests, long) in
       rw (first, inside) refl
@@ -152,8 +173,11 @@ module _ (t : marks.Table) (from counter : ℕ) (fits : counter < 2 ^ 32) where
   pub kept_past : admits (marks.kept_after t from counter) from counter ≡ false
   kept_past = by_place (marks.place_of t from) refl
     where
-      by_place : (o : Option ℕ) → marks.place_of t from ≡ o → admits (option_map_or (λ place. set t place (marks.advanced (marks.peer_at t place) from counter)) o (t ++ marks.peer_ahead from counter ∷ [])) from counter ≡ false
-      by_place None e = past_at (t ++ marks.peer_ahead from counter ∷ []) (length t) (new_place e) (ap (λ (p : Peer). p.mark) (get_or_push t (marks.peer_ahead from counter) no_peer (length t) refl))
+      by_place : (o : Option ℕ) → marks.place_of t from ≡ o
+          → admits (option_map_or (λ place. set t place (marks.advanced (marks.peer_at t place) from counter)) o (t ++ marks.peer_ahead from counter ∷ [])) from
+          counter ≡ false
+      by_place None e = past_at (t ++ marks.peer_ahead from counter ∷ []) (length t) (new_place e)
+          (ap (λ (p : Peer). p.mark) (get_or_push t (marks.peer_ahead from counter) no_peer (length t) refl))
       by_place (Some place) e =
           let there = found marks.peers t from place no_peer e in
           let p = marks.advanced (marks.peer_at t place) from counter in

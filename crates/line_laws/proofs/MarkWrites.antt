@@ -1,5 +1,6 @@
 -- What plans do to the marks: all but accepting a frame leave them, in memory and in the store.
-use Rattle.std.proofs.Common.{◌≡◌, ◌⊎◌, inl, inr, ℕ, ◌<◌, ◌≤◌, Bool, true, false, List, [], ◌∷◌, ◌++◌, length, Option, Some, None, Result, refl, sym, ap, ◌∙◌, subst, arith}
+use Rattle.std.proofs.Common.{◌≡◌, ◌⊎◌, inl, inr, ℕ, ◌<◌, ◌≤◌, Bool, true, false, List, [], ◌∷◌, ◌++◌, length, Option, Some, None, Result, refl, sym, ap, ◌∙◌}
+use Rattle.std.proofs.Common.{subst, arith}
 use Rattle.std.specs.Prelude.{if◌then◌else◌}
 use Rattle.std.specs.FinMap.{insert}
 use Rattle.plc_base.specs.Keeper.{Records, Write}
@@ -17,7 +18,8 @@ use Rattle.routing_set.specs.RoutingSet as routing
 use Rattle.routing_set.specs.OwnNumber as own_number
 use Rattle.node_rules.specs.Memory.{StationMemory, Memory}
 use Rattle.node_rules.specs.Plans.{Plan, resting}
-use Rattle.node_rules.specs.Drafts.{Draft, Ends, empty_draft, counted, with_rank, with_own_number, with_next_tag, with_ring, with_routing_by, goes, body_goes, waits, leave}
+use Rattle.node_rules.specs.Drafts.{Draft, Ends, empty_draft, counted, with_rank, with_own_number, with_next_tag, with_ring, with_routing_by, goes, body_goes}
+use Rattle.node_rules.specs.Drafts.{waits, leave}
 use Rattle.node_rules.specs.MemoryDrafts.{in_memory, on_station, station_part, with_memory_by, with_pair_tags, goes_up, goes_down}
 use Rattle.node_rules.specs.Coordinators.{with_book_entry}
 use Rattle.line_laws.proofs.Keeping.{Leads}
@@ -53,7 +55,11 @@ away_append (p ∷ ps) qs h k = (h.0, away_append ps qs h.1 k)
 
 module _ (first : marks.Table) where
   put_away : (m : Memory) (r : Records) (w : Write) → IsAway w → MarksFrom first m r → MarksFrom first m (insert r w.slot w.octets)
-  put_away m r w away k = record { stored = record { kept = marks_stay r w.slot w.octets m.station.marks k.stored.kept away; sound = k.stored.sound }; covered = k.covered; raised = k.raised }
+  put_away m r w away k = record {
+    stored = record { kept = marks_stay r w.slot w.octets m.station.marks k.stored.kept away; sound = k.stored.sound };
+    covered = k.covered;
+    raised = k.raised;
+  }
 
   same_marks : (m n : Memory) (r : Records) → n.station.marks ≡ m.station.marks → MarksFrom first m r → MarksFrom first n r
   same_marks m n r e k = record {
@@ -62,7 +68,8 @@ module _ (first : marks.Table) where
     raised = subst (Raised first) (sym e) k.raised;
   }
 
-  away_run : (m n : Memory) (ps : List Write) → AreAway ps → n.station.marks ≡ m.station.marks → (r : Records) → MarksFrom first m r → Leads (MarksFrom first) m ps n
+  away_run : (m n : Memory) (ps : List Write) → AreAway ps → n.station.marks ≡ m.station.marks → (r : Records) → MarksFrom first m r
+      → Leads (MarksFrom first) m ps n
   away_run m n [] away e r k = record { run = λ s q. (record { memory = m; kept = q }, same_marks m n s e q) }
   away_run m n (p ∷ ps) away e r k = record {
     run = λ s q.
@@ -121,15 +128,18 @@ module _ (W : RingWord → Type 0) (t : marks.Table) where
   made_unmarked : (g : Given) (s d : Draft StationMemory) → Made W g s d → Unmarked t s.puts s.memory → Unmarked t d.puts d.memory
   unfolding with_rank with_own_number with_next_tag with_ring with_routing_by goes body_goes waits leave
   made_unmarked g s d Starts h = h
-  made_unmarked g s d (Ranks by origin rank e made o fits) h = unmarked_more e.puts _ e.memory d.memory refl (offer_away e.memory.routing (routing.offered_entry origin rank by g.now) g.now) (made_unmarked g s e made h)
+  made_unmarked g s d (Ranks by origin rank e made o fits) h = unmarked_more e.puts _ e.memory d.memory refl
+      (offer_away e.memory.routing (routing.offered_entry origin rank by g.now) g.now) (made_unmarked g s e made h)
   made_unmarked g s d (Numbers e made left) h = unmarked_more e.puts _ e.memory d.memory refl (number_away e.memory.own_number) (made_unmarked g s e made h)
   made_unmarked g s d (Tags e made taken) h = unmarked_more e.puts _ e.memory d.memory refl (inl (omega arith), tt) (made_unmarked g s e made h)
   made_unmarked g s d (Rings x e made change) h = unmarked_more e.puts _ e.memory d.memory refl (inl (omega arith), tt) (made_unmarked g s e made h)
   made_unmarked g s d (Idles e made) h = let x = made_unmarked g s e made h in record { away = x.away; same = x.same }
   made_unmarked g s d (Loses lost by e made) h = let x = made_unmarked g s e made h in record { away = x.away; same = x.same }
   made_unmarked g s d (Goes to unit note e made said alone) h = let x = made_unmarked g s e made h in record { away = x.away; same = x.same }
-  made_unmarked g s d (Sends own hop to note load e made here there short carried alone) h = let x = made_unmarked g s e made h in record { away = x.away; same = x.same }
-  made_unmarked g s d (Waits to note load now e made none room short carried alone) h = let x = made_unmarked g s e made h in record { away = x.away; same = x.same }
+  made_unmarked g s d (Sends own hop to note load e made here there short carried alone) h =
+      let x = made_unmarked g s e made h in record { away = x.away; same = x.same }
+  made_unmarked g s d (Waits to note load now e made none room short carried alone) h =
+      let x = made_unmarked g s e made h in record { away = x.away; same = x.same }
   made_unmarked g s d (Leaves own dest hop rank e made here o) h = let x = made_unmarked g s e made h in record { away = x.away; same = x.same }
 
 module _ (W : RingWord → Type 0) (L : Granted → Type 0) (P : Eui → Key → Type 0) (E : Eui → Type 0) (g : Given) (m : Memory) where
@@ -139,21 +149,25 @@ module _ (W : RingWord → Type 0) (L : Granted → Type 0) (P : Eui → Key →
   made_in_unmarked : (d : Draft Memory) → MadeIn W L P E g m d → Is d
   unfolding empty_draft on_station with_memory_by with_pair_tags with_book_entry goes_up goes_down
   made_in_unmarked d Begins = record { away = tt; same = refl }
-  made_in_unmarked d (Station e made) = let x = made_unmarked W m.station.marks g (empty_draft m.station) e made (record { away = tt; same = refl }) in record { away = x.away; same = x.same }
+  made_in_unmarked d (Station e made) =
+      let x = made_unmarked W m.station.marks g (empty_draft m.station) e made (record { away = tt; same = refl }) in record { away = x.away; same = x.same }
   made_in_unmarked d (OnStation word e made step) =
       let h = made_in_unmarked e made in
       let x = made_unmarked W m.station.marks (unheard g) (station_part e) (word (station_part e)) step (record { away = h.away; same = h.same }) in
       record { away = x.away; same = x.same }
-  made_in_unmarked d (Remembers change e made beside) = let x = made_in_unmarked e made in record { away = x.away; same = ap (λ (l : StationMemory). l.marks) (beside_station_of E e.memory (change e.memory) beside) ∙ x.same }
+  made_in_unmarked d (Remembers change e made beside) = let x = made_in_unmarked e made in
+      record { away = x.away; same = ap (λ (l : StationMemory). l.marks) (beside_station_of E e.memory (change e.memory) beside) ∙ x.same }
   made_in_unmarked d (TagsIn made opened e x) = let h = made_in_unmarked e x in record { away = h.away; same = h.same }
-  made_in_unmarked d (Enters x e made change) = unmarked_more W m.station.marks e.puts _ e.memory.station e.memory.station refl (entry_away e.memory.book x) (made_in_unmarked e made)
+  made_in_unmarked d (Enters x e made change) =
+      unmarked_more W m.station.marks e.puts _ e.memory.station e.memory.station refl (entry_away e.memory.book x) (made_in_unmarked e made)
   made_in_unmarked d (Up agent own message e made) = let x = made_in_unmarked e made in record { away = x.away; same = x.same }
   made_in_unmarked d (Down own message e made) = let x = made_in_unmarked e made in record { away = x.away; same = x.same }
 
   -- # Plans
 
   pub plan_marks : {H F : Type 0} (ends : Ends F) (K : Memory → H → Type 0) (D : Draft Memory → H → Type 0)
-      → ((n : Memory) (answer : H) → K n answer → n.station.marks ≡ m.station.marks) → ((d : Draft Memory) (answer : H) → D d answer → MadeIn W L P E g m d) → (p : Plan Memory (Result H F)) → Planned in_memory ends m K D p
+      → ((n : Memory) (answer : H) → K n answer → n.station.marks ≡ m.station.marks) → ((d : Draft Memory) (answer : H) → D d answer → MadeIn W L P E g m d)
+      → (p : Plan Memory (Result H F)) → Planned in_memory ends m K D p
       → PlanMarks m p
   unfolding resting
   plan_marks ends K D same made p (Refuses reason) first = away_leads first m m [] tt refl

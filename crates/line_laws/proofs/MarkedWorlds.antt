@@ -1,5 +1,6 @@
 -- What each node of a world has handed up of broadcasts is among what its log has admitted, at every event.
-use Rattle.std.proofs.Common.{⊎_elim, inl, inr, ◌≡◌, ◌≢◌, ◌⊎◌, ℕ, zero, suc, ◌+◌, ◌-◌, ◌≤◌, ◌<◌, Bool, true, false, List, [], ◌∷◌, ◌++◌, length, Option, Some, None, Result, Ok, Err, refl, sym, ap, ◌∙◌, subst, arith}
+use Rattle.std.proofs.Common.{⊎_elim, inl, inr, ◌≡◌, ◌≢◌, ◌⊎◌, ℕ, zero, suc, ◌+◌, ◌-◌, ◌≤◌, ◌<◌, Bool, true, false, List, [], ◌∷◌, ◌++◌, length, Option, Some}
+use Rattle.std.proofs.Common.{None, Result, Ok, Err, refl, sym, ap, ◌∙◌, subst, arith}
 use Rattle.std.specs.Prelude.{if◌then◌else◌, ◌==◌, All, IfSome, is_some, map, slice_get, slice_set, unwrap_or}
 use Rattle.std.specs.Option.{option_map, option_map_or}
 use Rattle.std.proofs.lemmas.Bool.{eqb-false, eqb-true}
@@ -53,10 +54,12 @@ use Rattle.line_events.specs.declared.event.Answer.TheVariants as said
 use Rattle.line_events.specs.declared.event.Event.{Event}
 use Rattle.line_events.specs.declared.happenings.BroadcastUp.{BroadcastUp}
 use Rattle.line_rules.specs.Forgery.{accepting}
-use Rattle.line_rules.specs.Further.{acknowledged_if, acknowledging, adds_frames, asks_by, beside_after, beside_at, broadcast_up, broadcasts_by, checked, chooses_by, commanded, discovers_by, due, reaches, restarts_by, scans_by, sends_nothing, unbelieved, with_check}
+use Rattle.line_rules.specs.Further.{acknowledged_if, acknowledging, adds_frames, asks_by, beside_after, beside_at, broadcast_up, broadcasts_by, checked}
+use Rattle.line_rules.specs.Further.{chooses_by, commanded, discovers_by, due, reaches, restarts_by, scans_by, sends_nothing, unbelieved, with_check}
 use Rattle.line_rules.specs.Logs.{AreLogged, HaveShortTables, LogsKept}
 use Rattle.line_rules.specs.Runs.{one_of}
-use Rattle.line_rules.specs.Steps.{Step, acted, blank_node, coordinator_node, happened, heard, hears, identity, is_taken, note_by, offered_near, ran, restarts, sent_if, set_up, tag_of, ticked, told, trace_of}
+use Rattle.line_rules.specs.Steps.{Step, acted, blank_node, coordinator_node, happened, heard, hears, identity, is_taken, note_by, offered_near, ran, restarts}
+use Rattle.line_rules.specs.Steps.{sent_if, set_up, tag_of, ticked, told, trace_of}
 use Rattle.line_rules.specs.Worlds.{Trace, World, node_at}
 use Rattle.line_rules.proofs.LogPlans.{accept_short, acts_short, leave_leaves, random_leaves, tells_leave}
 use Rattle.line_rules.proofs.LogSteps.{Quiet, acts_quiet, quiet_on, quiet_same}
@@ -68,9 +71,11 @@ use Rattle.line_laws.specs.Lines.{FlightFits, WorldOk}
 use Rattle.line_laws.proofs.Readings.{network_ranges}
 use Rattle.line_laws.proofs.FurtherSteps.{tables_short}
 use Rattle.line_laws.proofs.FurtherLogs.{commands_fit}
-use Rattle.line_laws.proofs.MarkedLogs.{Marked, MarkedIn, PlanMarks, ask_marks, blank_marks, broadcast_marks, choice_marks, command_marks, further_marks, others_marks, quiet_marks, restart_marks, nothing_more}
+use Rattle.line_laws.proofs.MarkedLogs.{Marked, MarkedIn, PlanMarks, ask_marks, blank_marks, broadcast_marks, choice_marks, command_marks, further_marks}
+use Rattle.line_laws.proofs.MarkedLogs.{others_marks, quiet_marks, restart_marks, nothing_more}
 use Rattle.line_laws.proofs.ReachHistory.{aside, aside_more, aside_other, aside_set, aside_ticked, beside_within}
-use Rattle.line_laws.proofs.ReachSteps.{Asks, Bcasts, Checked, Chooses, Commands, Discovers, Fails, Hears, IsAccepted, IsOther, IsReachStep, Known, Opens, Restarts, Rests, Scans, Ticks, Unbelieves, after_accepting, heard_node}
+use Rattle.line_laws.proofs.ReachSteps.{Asks, Bcasts, Checked, Chooses, Commands, Discovers, Fails, Hears, IsAccepted, IsOther, IsReachStep, Known, Opens}
+use Rattle.line_laws.proofs.ReachSteps.{Restarts, Rests, Scans, Ticks, Unbelieves, after_accepting, heard_node}
 use Rattle.line_laws.proofs.Tellings as old
 
 -- so it is of each node

@@ -28,7 +28,8 @@ pub data HandedIn {H : Type 0} (word : Heard → H) (g : Given) (m : Memory) : M
 pub commands_well : (m : Memory) (to : ℕ) (message : JoinMessage) → command_lack m to message ≡ None → LacksNothing m.station to (length (command_of message))
 commands_well m to message e = by_lack (lack m.station to (length (command_of message))) refl e
   where
-    by_lack : (o : Option Lack) → lack m.station to (length (command_of message)) ≡ o → option_map dropped_for o ≡ None → LacksNothing m.station to (length (command_of message))
+    by_lack : (o : Option Lack) → lack m.station to (length (command_of message)) ≡ o → option_map dropped_for o ≡ None
+        → LacksNothing m.station to (length (command_of message))
     by_lack None is e = lacks_nothing m.station to (length (command_of message)) is
     by_lack (Some x) is e = absurd (cc)
 
@@ -41,9 +42,11 @@ module _ (W : RingWord → Type 0) (L : Granted → Type 0) (P : Eui → Key →
   abbrev pub MadeBy : {H : Type 0} → (H → Type 0) → Draft Memory → H → Type 0
   MadeBy N d answer = MadeIn W L P E g m d × IsDone m.station d × N answer
 
-  pub within_planned : {H : Type 0} (N : H → Type 0) (word : Heard → H) (p : Hearing) → ((h : Heard) → IsNoUp h → N (word h)) → Planned alone dropped m.station (Handed g m.station) (MadeOf W g m.station) p
+  pub within_planned : {H : Type 0} (N : H → Type 0) (word : Heard → H) (p : Hearing) → ((h : Heard) → IsNoUp h → N (word h))
+      → Planned alone dropped m.station (Handed g m.station) (MadeOf W g m.station) p
       → Planned in_memory dropped m (HandedIn word g m) (MadeBy N) (within (λ l. with_station l m) (reading word) p)
   unfolding resting
   within_planned N word p says (Refuses reason) = Refuses reason
   within_planned N word p says (Keeps n answer k) = Keeps (with_station n m) (word answer) (ByStation n answer k)
-  within_planned N word p says (Ended d answer done left) = Ended (whole m d) (word answer) (Station d done.0, of_station_done m d done.1, says answer done.2) left
+  within_planned N word p says (Ended d answer done left) =
+      Ended (whole m d) (word answer) (Station d done.0, of_station_done m d done.1, says answer done.2) left

@@ -29,8 +29,11 @@ use Rattle.node_rules.specs.Hearing as station_rules
 use Rattle.node_rules.specs.Hearing.{dropped}
 use Rattle.node_rules.specs.Joining.{message}
 use Rattle.eap_psk.specs.Sessions.{peer_for, identifier_of}
-use Rattle.node_rules.specs.MemoryDrafts.{in_memory, goes_up, goes_down, oldest, without_oldest, Unread, unread, packet_fault, with_memory_by, with_pair_tags, on_station}
-use Rattle.node_rules.specs.Meters.{Hearing, Identity, with_session, drop_it, ends, leaves, carry_up, carries_down, carry_down, reply_with, reply, take_with, take_by, take, takes, replies, challenged, declined, kicked, activated, hear_near, hear_order, hear_join, hear_join_in, heard_by, hear_meter, joining_ends, join, leaving_ends, leave}
+use Rattle.node_rules.specs.MemoryDrafts.{in_memory, goes_up, goes_down, oldest, without_oldest, Unread, unread, packet_fault, with_memory_by, with_pair_tags}
+use Rattle.node_rules.specs.MemoryDrafts.{on_station}
+use Rattle.node_rules.specs.Meters.{Hearing, Identity, with_session, drop_it, ends, leaves, carry_up, carries_down, carry_down, reply_with, reply, take_with}
+use Rattle.node_rules.specs.Meters.{take_by, take, takes, replies, challenged, declined, kicked, activated, hear_near, hear_order, hear_join, hear_join_in}
+use Rattle.node_rules.specs.Meters.{heard_by, hear_meter, joining_ends, join, leaving_ends, leave}
 use Rattle.node_rules.proofs.Words.{IsDone, Fits, memory_leaves, up_done, down_done, begun_fits, remembered_fits}
 use Rattle.line_laws.proofs.Planned.{Planned, Refuses, checked_planned, choose_planned, sealed_planned, option_planned, sealing_planned}
 use Rattle.line_laws.proofs.Made.{RingWord, Carry, Install, Activate, Given, Starts, Rings, Idles, Drops, Installs, Activates}
@@ -76,8 +79,10 @@ pub record IsTold (index : ℕ) : Type 0 where
 -- what a meter says to the coordinator: a message that it carries for another one, its second packet, and its fourth
 pub data IsSaidUp (x : Identity) (m : Memory) : JoinMessage → Type 0 where
   OfOther : (octets : List ℕ) (join : JoinMessage) → join_in octets ≡ Some join → IsSaidUp x m join
-  Second : (packet : List ℕ) (value : Rand) → oldest m ≡ Some value → IsSaidUp x m (message x.eui (body.Join (x.ciphers.second x.psk (identifier_of packet) (peer_for x.eui value packet))))
-  Fourth : (packet : List ℕ) (s : MeterSession) (peer : Peer) → m.session ≡ Some s → s.peer ≡ Some peer → IsSaidUp x m (message x.eui (body.Join (x.ciphers.fourth x.psk (identifier_of packet) peer)))
+  Second : (packet : List ℕ) (value : Rand) → oldest m ≡ Some value
+      → IsSaidUp x m (message x.eui (body.Join (x.ciphers.second x.psk (identifier_of packet) (peer_for x.eui value packet))))
+  Fourth : (packet : List ℕ) (s : MeterSession) (peer : Peer) → m.session ≡ Some s → s.peer ≡ Some peer
+      → IsSaidUp x m (message x.eui (body.Join (x.ciphers.fourth x.psk (identifier_of packet) peer)))
 
 -- why a meter's ring changes, and what it says
 pub data RingCause (g : Given) (x : Identity) (m : Memory) : RingWord → Type 0 where
@@ -109,7 +114,12 @@ module _ (L : Granted → Type 0) (P : Eui → Key → Type 0) (E : Eui → Type
   carry_up_is : (from : Eui) (octets : List ℕ) (join : JoinMessage) (b : JoinBody) → join_in octets ≡ Some join → Is (carry_up m from join b g.now)
   unfolding empty_draft
   carry_up_is from octets join (body.Join eap) read = choose_planned
-      (λ own. checked_planned (λ e. sealed_planned _ _ (commanded_made 0 join g.now (empty_draft m) Begins (commands_well m 0 join e) (ToCoordinator join (OfOther octets join read)), search memory_leaves depth 16, tt)))
+      (λ own. checked_planned (λ e. sealed_planned _ _ (
+        commanded_made 0 join g.now (empty_draft m) Begins (commands_well m 0 join e)
+            (ToCoordinator join (OfOther octets join read)),
+        search memory_leaves depth 16,
+        tt,
+      )))
       (λ other. Refuses _)
   carry_up_is from octets join _ read = Refuses _
 
@@ -132,21 +142,31 @@ module _ (L : Granted → Type 0) (P : Eui → Key → Type 0) (E : Eui → Type
   replied_made : (course : Course) (peer : Peer) (value : Rand) → oldest m ≡ Some value → MadeHere (replied course peer)
   unfolding empty_draft
   replied_made course peer value here = Tags _ _ _
-      (Remembers (λ n. with_session (Some (record { course = course; peer = Some peer; since = g.now })) (without_oldest n)) (empty_draft m) Begins (Replies (record { course = course; peer = Some peer; since = g.now }) value here))
+      (Remembers (λ n. with_session (Some (record { course = course; peer = Some peer; since = g.now })) (without_oldest n)) (empty_draft m) Begins
+      (Replies (record { course = course; peer = Some peer; since = g.now }) value here))
 
   replied_lacks : (course : Course) (peer : Peer) (octets : ℕ) → LacksNothing m.station 0 octets → LacksNothing (replied course peer).memory.station 0 octets
   unfolding empty_draft with_memory_by with_pair_tags
   replied_lacks course peer octets f = f
 
-  replies_is : (course : Course) (peer : Peer) (join : JoinMessage) (value : Rand) → IsSaidUp x m join → oldest m ≡ Some value → Is (replies m course peer join g.now)
-  replies_is (ByAgent agent) peer join value said here = checked_planned (λ e. sealed_planned _ _ (Up _ _ _ _ (replied_made (ByAgent agent) peer value here), search memory_leaves depth 16, tt))
+  replies_is : (course : Course) (peer : Peer) (join : JoinMessage) (value : Rand) → IsSaidUp x m join → oldest m ≡ Some value
+      → Is (replies m course peer join g.now)
+  replies_is (ByAgent agent) peer join value said here =
+      checked_planned (λ e. sealed_planned _ _ (Up _ _ _ _ (replied_made (ByAgent agent) peer value here), search memory_leaves depth 16, tt))
   replies_is ByCommand peer join value said here = checked_planned (λ e.
-      sealed_planned _ _ (commanded_made 0 join g.now (replied ByCommand peer) (replied_made ByCommand peer value here) (replied_lacks ByCommand peer _ (commands_well m 0 join e)) (ToCoordinator join said), search memory_leaves depth 16, tt))
+      sealed_planned _ _ (
+        commanded_made 0 join g.now (replied ByCommand peer) (replied_made ByCommand peer value here)
+            (replied_lacks ByCommand peer _ (commands_well m 0 join e)) (ToCoordinator join said),
+        search memory_leaves depth 16,
+        tt,
+      ))
 
   reply_is : (course : Course) (packet : List ℕ) → Is (reply x m course packet g.now)
   reply_is course packet = checked_planned (λ e.
-      option_planned (λ value. checked dropped m (option_map packet_fault (first_fault packet)) (reply_with x m course packet g.now value)) (oldest m) (drop_it m NoRandom)
-      (λ value here. checked_planned (λ right. replies_is course (peer_for x.eui value packet) (message x.eui (body.Join (x.ciphers.second x.psk (identifier_of packet) (peer_for x.eui value packet)))) value (Second packet value here) here))
+      option_planned (λ value. checked dropped m (option_map packet_fault (first_fault packet)) (reply_with x m course packet g.now value)) (oldest m)
+      (drop_it m NoRandom)
+      (λ value here. checked_planned (λ right. replies_is course (peer_for x.eui value packet)
+      (message x.eui (body.Join (x.ciphers.second x.psk (identifier_of packet) (peer_for x.eui value packet)))) value (Second packet value here) here))
       (λ none. Refuses _))
 
   abbrev took : Peer → ℕ → Granted → Draft Memory
@@ -156,32 +176,46 @@ module _ (L : Granted → Type 0) (P : Eui → Key → Type 0) (E : Eui → Type
 
   took_made : (peer : Peer) (identifier : ℕ) (granted : Granted) → IsTaken g x m granted → MadeHere (took peer identifier granted)
   unfolding empty_draft
-  took_made peer identifier granted taken = Tags _ _ _ (OnStation (with_ring (Some granted)) (with_memory_by (with_session None) (empty_draft m)) (Remembers (with_session None) (empty_draft m) Begins Ends)
+  took_made peer identifier granted taken = Tags _ _ _
+      (OnStation (with_ring (Some granted)) (with_memory_by (with_session None) (empty_draft m)) (Remembers (with_session None) (empty_draft m) Begins Ends)
       (Rings (Some granted) _ Starts (Installs granted (ByPacket granted taken))))
 
   -- the ring does not matter to what a command lacks
-  took_lacks : (peer : Peer) (identifier : ℕ) (granted : Granted) (octets : ℕ) → LacksNothing m.station 0 octets → LacksNothing (took peer identifier granted).memory.station 0 octets
+  took_lacks : (peer : Peer) (identifier : ℕ) (granted : Granted) (octets : ℕ) → LacksNothing m.station 0 octets
+      → LacksNothing (took peer identifier granted).memory.station 0 octets
   unfolding empty_draft with_memory_by with_pair_tags on_station with_ring next_hop
   took_lacks peer identifier granted octets f = record { room = f.room; number = f.number }
 
-  takes_is : (course : Course) (peer : Peer) (identifier : ℕ) (granted : Granted) (join : JoinMessage) → IsSaidUp x m join → IsTaken g x m granted → Is (takes m course peer identifier granted join g.now)
-  takes_is (ByAgent agent) peer identifier granted join said taken = checked_planned (λ e. sealed_planned _ _ (Up _ _ _ _ (took_made peer identifier granted taken), search memory_leaves depth 16, tt))
+  takes_is : (course : Course) (peer : Peer) (identifier : ℕ) (granted : Granted) (join : JoinMessage) → IsSaidUp x m join → IsTaken g x m granted
+      → Is (takes m course peer identifier granted join g.now)
+  takes_is (ByAgent agent) peer identifier granted join said taken =
+      checked_planned (λ e. sealed_planned _ _ (Up _ _ _ _ (took_made peer identifier granted taken), search memory_leaves depth 16, tt))
   takes_is ByCommand peer identifier granted join said taken = checked_planned (λ e.
-      sealed_planned _ _ (commanded_made 0 join g.now (took peer identifier granted) (took_made peer identifier granted taken) (took_lacks peer identifier granted _ (commands_well m 0 join e)) (ToCoordinator join said), search memory_leaves depth 16, tt))
+      sealed_planned _ _ (
+        commanded_made 0 join g.now (took peer identifier granted) (took_made peer identifier granted taken)
+            (took_lacks peer identifier granted _ (commands_well m 0 join e)) (ToCoordinator join said),
+        search memory_leaves depth 16,
+        tt,
+      ))
 
-  take_with_is : (course : Course) (packet : List ℕ) → IsPacket g m packet → (s : MeterSession) (peer : Peer) (granted : Option Granted) → m.session ≡ Some s → s.peer ≡ Some peer → x.ciphers.third_fault x.psk peer packet ≡ None → x.ciphers.granted x.psk peer packet ≡ granted
+  take_with_is : (course : Course) (packet : List ℕ) → IsPacket g m packet → (s : MeterSession) (peer : Peer) (granted : Option Granted) → m.session ≡ Some s
+      → s.peer ≡ Some peer → x.ciphers.third_fault x.psk peer packet ≡ None → x.ciphers.granted x.psk peer packet ≡ granted
       → Is (take_with x m course packet g.now peer granted)
   take_with_is course packet c s peer None there has right is = Refuses _
-  take_with_is course packet c s peer (Some granted) there has right is = takes_is course peer _ granted _ (Fourth packet s peer there has) (record { session = s; there = there; has = has; peer = peer; packet = packet; came = c; right = right; is = is })
+  take_with_is course packet c s peer (Some granted) there has right is = takes_is course peer _ granted _ (Fourth packet s peer there has)
+      (record { session = s; there = there; has = has; peer = peer; packet = packet; came = c; right = right; is = is })
 
-  take_by_is : (course : Course) (packet : List ℕ) → IsPacket g m packet → (s : MeterSession) (peer : Option Peer) → m.session ≡ Some s → s.peer ≡ peer → Is (take_by x m course packet g.now peer)
+  take_by_is : (course : Course) (packet : List ℕ) → IsPacket g m packet → (s : MeterSession) (peer : Option Peer) → m.session ≡ Some s → s.peer ≡ peer
+      → Is (take_by x m course packet g.now peer)
   take_by_is course packet c s None there has = Refuses _
   take_by_is course packet c s (Some peer) there has = checked_planned (λ e.
-      take_with_is course packet c s peer (x.ciphers.granted x.psk peer packet) there has (no_fault packet_fault (x.ciphers.third_fault x.psk peer packet) e) refl)
+      take_with_is course packet c s peer (x.ciphers.granted x.psk peer packet) there has (no_fault packet_fault (x.ciphers.third_fault x.psk peer packet) e)
+      refl)
 
   take_is : (course : Course) (packet : List ℕ) → IsPacket g m packet → Is (take x m course packet g.now)
   take_is course packet c = checked_planned (λ e.
-      option_planned (λ (s : MeterSession). take_by x m course packet g.now s.peer) m.session (drop_it m NoSession) (λ s here. take_by_is course packet c s s.peer here refl) (λ none. Refuses _))
+      option_planned (λ (s : MeterSession). take_by x m course packet g.now s.peer) m.session (drop_it m NoSession)
+      (λ s here. take_by_is course packet c s s.peer here refl) (λ none. Refuses _))
 
   challenged_is : (course : Course) (packet : List ℕ) → IsPacket g m packet → Is (challenged x m course packet g.now)
   challenged_is course packet c = choose_planned (λ first. reply_is course packet) (λ third. take_is course packet c)
@@ -201,7 +235,8 @@ module _ (L : Granted → Type 0) (P : Eui → Key → Type 0) (E : Eui → Type
 
   activated_is : (index : ℕ) → IsTold index → Is (activated m index)
   unfolding empty_draft
-  activated_is index told = choose_planned (λ held. sealed_planned _ _ (OnStation _ _ Begins (Rings _ _ Starts (Activates index (ByOrder index told) held)), search memory_leaves depth 16, tt)) (λ none. Refuses _)
+  activated_is index told = choose_planned (λ held. sealed_planned _ _
+      (OnStation _ _ Begins (Rings _ _ Starts (Activates index (ByOrder index told) held)), search memory_leaves depth 16, tt)) (λ none. Refuses _)
 
   noted_is : Is (ends m (empty_draft m) heard.Noted)
   noted_is = sealed_planned _ _ (Begins, search memory_leaves depth 16, tt)
@@ -214,7 +249,8 @@ module _ (L : Granted → Type 0) (P : Eui → Key → Type 0) (E : Eui → Type
   near_is agent body.Decline c = declined_is agent
   near_is agent _ c = Refuses _
 
-  order_is : (b : JoinBody) → ((packet : List ℕ) → b ≡ body.Challenge packet → IsPacket g m packet) → ((index : ℕ) → b ≡ body.Activate index → IsTold index) → Is (hear_order x m b g.now)
+  order_is : (b : JoinBody) → ((packet : List ℕ) → b ≡ body.Challenge packet → IsPacket g m packet) → ((index : ℕ) → b ≡ body.Activate index → IsTold index)
+      → Is (hear_order x m b g.now)
   order_is (body.Challenge eap) c told = challenged_is ByCommand eap (c eap refl)
   order_is (body.Accept identifier) c told = noted_is
   order_is body.Kick c told = kicked_is
@@ -223,20 +259,26 @@ module _ (L : Granted → Type 0) (P : Eui → Key → Type 0) (E : Eui → Type
 
   join_is : (octets : List ℕ) → IsBrought g m octets → (way : Way) (join : JoinMessage) → join_in octets ≡ Some join → Is (hear_join x m way join g.now)
   join_is octets brought (Air from) join read = carry_up_is from octets join join.body read
-  join_is octets brought (Near agent) join read = choose_planned (λ mine. near_is agent join.body (λ packet e. record { octets = octets; brought = brought; join = join; read = read; challenge = e })) (λ other. Refuses _)
-  join_is octets brought (Mesh origin) join read = choose_planned (λ coordinator. choose_planned (λ mine. order_is join.body (λ packet e. record { octets = octets; brought = brought; join = join; read = read; challenge = e }) (λ index e. record { octets = octets; join = join; read = read; body = e })) (λ other. carry_down_is join join.body)) (λ other. Refuses _)
+  join_is octets brought (Near agent) join read = choose_planned (λ mine. near_is agent join.body
+      (λ packet e. record { octets = octets; brought = brought; join = join; read = read; challenge = e })) (λ other. Refuses _)
+  join_is octets brought (Mesh origin) join read = choose_planned
+      (λ coordinator. choose_planned (λ mine. order_is join.body (λ packet
+      e. record { octets = octets; brought = brought; join = join; read = read; challenge = e })
+      (λ index e. record { octets = octets; join = join; read = read; body = e })) (λ other. carry_down_is join join.body)) (λ other. Refuses _)
 
   join_in_is : (octets : List ℕ) → IsBrought g m octets → (way : Way) (join : Option JoinMessage) → join_in octets ≡ join → Is (hear_join_in x m way join g.now)
   join_in_is octets brought way None read = Refuses _
   join_in_is octets brought way (Some join) read = join_is octets brought way join read
 
-  heard_by_is : (p : Plan StationMemory (Result Heard Dropped)) (u : Option Unread) → ((v : Unread) → u ≡ Some v → IsBrought g m v.body) → Planned alone dropped m.station (Handed g m.station) (MadeOf W g m.station) p → Is (heard_by x m g.now p u)
+  heard_by_is : (p : Plan StationMemory (Result Heard Dropped)) (u : Option Unread) → ((v : Unread) → u ≡ Some v → IsBrought g m v.body)
+      → Planned alone dropped m.station (Handed g m.station) (MadeOf W g m.station) p → Is (heard_by x m g.now p u)
   heard_by_is p None b s = within_planned W L P E g m HandsNothingUp heard.Station p (λ h k. k) s
   heard_by_is p (Some u) b s = join_in_is u.body (b u refl) u.way (join_in u.body) refl
 
   pub meter_is : (got : Accepted) → g.got ≡ Some got → Is (hear_meter x m got g.cost g.note g.now)
   meter_is got is =
-      let p = station_rules.hear m.station got g.cost g.note g.now in heard_by_is p (unread p.answer) (λ u e. record { got = got; is = is; handed = u; on = e; body = refl }) (hear_is W g m.station got is)
+      let p = station_rules.hear m.station got g.cost g.note g.now in
+      heard_by_is p (unread p.answer) (λ u e. record { got = got; is = is; handed = u; on = e; body = refl }) (hear_is W g m.station got is)
 
   -- # What a meter does by itself
 
@@ -247,18 +289,23 @@ module _ (L : Granted → Type 0) (P : Eui → Key → Type 0) (E : Eui → Type
   no_units units n e = rw e (omega arith)
 
   abbrev asks : ℕ → Draft Memory
-  asks agent = goes_up agent x.eui (message x.eui (body.Join [])) (with_memory_by (with_session (Some (record { course = ByAgent agent; peer = None; since = g.now }))) (empty_draft m))
+  asks agent = goes_up agent x.eui (message x.eui (body.Join []))
+      (with_memory_by (with_session (Some (record { course = ByAgent agent; peer = None; since = g.now }))) (empty_draft m))
 
   asks_units : (agent : ℕ) → (asks agent).units ≡ []
   unfolding empty_draft with_memory_by goes_up
   asks_units agent = refl
 
-  asks_fits : (agent : ℕ) → Fits m.station 0 1 (with_memory_by (with_session (Some (record { course = ByAgent agent; peer = None; since = g.now }))) (empty_draft m))
+  asks_fits : (agent : ℕ) → Fits m.station 0 1
+      (with_memory_by (with_session (Some (record { course = ByAgent agent; peer = None; since = g.now }))) (empty_draft m))
   asks_fits agent = remembered_fits m.station _ _ (begun_fits m.station 1 m)
 
   pub joins_is : (agent : ℕ) → Planned in_memory joining_ends m Nothing (MadeBy W L P E g m AnyAnswer) (join x m agent g.now)
-  joins_is agent = choose_planned (λ joined. Refuses _) (λ outside. sealing_planned (asks agent) tt
-      (Up agent x.eui _ _ (Remembers (with_session (Some (record { course = ByAgent agent; peer = None; since = g.now }))) (empty_draft m) Begins (Asks _)), up_done m.station agent x.eui _ _ (asks_fits agent), tt)
+  joins_is agent = choose_planned (λ joined. Refuses _) (λ outside. sealing_planned (asks agent) tt (
+    Up agent x.eui _ _ (Remembers (with_session (Some (record { course = ByAgent agent; peer = None; since = g.now }))) (empty_draft m) Begins (Asks _)),
+    up_done m.station agent x.eui _ _ (asks_fits agent),
+    tt,
+  )
       (no_units (asks agent).units _ (asks_units agent)))
 
   leaves_units : (leaves m).units ≡ []
@@ -269,4 +316,5 @@ module _ (L : Granted → Type 0) (P : Eui → Key → Type 0) (E : Eui → Type
   leaves_done = search memory_leaves depth 16
 
   pub leaves_is : Planned in_memory leaving_ends m Nothing (MadeBy W L P E g m AnyAnswer) (leave m)
-  leaves_is = choose_planned (λ joined. sealing_planned (leaves m) tt (leaves_made, leaves_done, tt) (no_units (leaves m).units _ leaves_units)) (λ outside. Refuses _)
+  leaves_is =
+      choose_planned (λ joined. sealing_planned (leaves m) tt (leaves_made, leaves_done, tt) (no_units (leaves m).units _ leaves_units)) (λ outside. Refuses _)

@@ -27,7 +27,8 @@ LoadBody b = IsLoad b.load
 
 loads_in : (bodies : List Body) → All AnyBody bodies → All BodySpeaks bodies → All LoadBody bodies
 loads_in [] h s = All-nil LoadBody
-loads_in (b ∷ bodies) h s = All-cons LoadBody b bodies (is_load b.load (All-head AnyBody b bodies h) (All-head BodySpeaks b bodies s).2) (loads_in bodies (All-tail AnyBody b bodies h) (All-tail BodySpeaks b bodies s))
+loads_in (b ∷ bodies) h s = All-cons LoadBody b bodies (is_load b.load (All-head AnyBody b bodies h) (All-head BodySpeaks b bodies s).2)
+    (loads_in bodies (All-tail AnyBody b bodies h) (All-tail BodySpeaks b bodies s))
 
 memory_within : (m : Memory) → IsWithin IsAnyLoad m → MemorySpeaks m → IsWithinSizes m
 memory_within m h s = record {
@@ -54,7 +55,8 @@ node_within x ok s = by_memory x.memory (node_sized x ok) s
 
 nodes_within : (xs : List Node) → All NodeOk xs → All NodeSpeaks xs → All NodeWithin xs
 nodes_within [] ok s = All-nil NodeWithin
-nodes_within (x ∷ xs) ok s = All-cons NodeWithin x xs (node_within x (All-head NodeOk x xs ok) (All-head NodeSpeaks x xs s)) (nodes_within xs (All-tail NodeOk x xs ok) (All-tail NodeSpeaks x xs s))
+nodes_within (x ∷ xs) ok s = All-cons NodeWithin x xs (node_within x (All-head NodeOk x xs ok) (All-head NodeSpeaks x xs s))
+    (nodes_within xs (All-tail NodeOk x xs ok) (All-tail NodeSpeaks x xs s))
 
 pub world_within : (w : World) → WorldOk w → WorldSpeaks w → IsSized w
 world_within w ok s = record { nodes = ok.count; memories = nodes_within w.nodes ok.nodes s.nodes }

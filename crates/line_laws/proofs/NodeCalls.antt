@@ -66,7 +66,8 @@ use Rattle.line_laws.proofs.MarkWrites.{away_leads}
 -- An accepted frame is octets, and route messages in it are in range.
 pub record RoutesFit (got : Accepted) : Type 0 where
   pub payload : AreOctets got.payload
-  pub run : (from : ℕ) (all : Bool) (key : Key) (code : ℕ) (body : List ℕ) (message : Message) → got.path ≡ paths.Sealed from all key → unit_in got.payload ≡ Some (units.Local code body) → message_in body ≡ Some message → IsMessage message
+  pub run : (from : ℕ) (all : Bool) (key : Key) (code : ℕ) (body : List ℕ) (message : Message) → got.path ≡ paths.Sealed from all key
+      → unit_in got.payload ≡ Some (units.Local code body) → message_in body ≡ Some message → IsMessage message
 
 abbrev pub heard_given : Accepted → (cost note now : ℕ) → Given
 heard_given got cost note now = record { got = Some got; cost = cost; note = note; now = now; near = None }
@@ -80,24 +81,29 @@ call_given cost note now = record { got = None; cost = cost; note = note; now = 
 pub no_some : {A : Type 0} (x : A) → None ≡ Some x → ⊥
 no_some x e = cc
 
-pub heard_offers : (got : Accepted) (cost note now : ℕ) → RoutesFit got → (address : Option ℕ) (by origin : ℕ) (rank : Rank) → Offered (heard_given got cost note now) address by origin rank → EntryFits (routing.offered_entry origin rank by now)
+pub heard_offers : (got : Accepted) (cost note now : ℕ) → RoutesFit got → (address : Option ℕ) (by origin : ℕ) (rank : Rank)
+    → Offered (heard_given got cost note now) address by origin rank → EntryFits (routing.offered_entry origin rank by now)
 heard_offers got cost note now fits address by origin rank (ByRequest own number c o dest here apart few told) =
     let same : got ≡ told.came.got = same_Some _ _ told.came.is in
-    let h = fits.run by true told.came.key told.code told.body (Rreq number c o dest) (ap (λ (x : Accepted). x.path) same ∙ told.came.path) (ap (λ (x : Accepted). unit_in x.payload) same ∙ told.came.unit) told.read in
+    let h = fits.run by true told.came.key told.code told.body (Rreq number c o dest) (ap (λ (x : Accepted). x.path) same ∙ told.came.path)
+    (ap (λ (x : Accepted). unit_in x.payload) same ∙ told.came.unit) told.read in
     record { address = h.2; low = h.0.0; number = h.0.1; cost = omega arith }
 heard_offers got cost note now fits address by origin rank (ByReply own number c o to here apart few told) =
     let same : got ≡ told.came.got = same_Some _ _ told.came.is in
-    let h = fits.run by false told.came.key told.code told.body (Rrep number c o to) (ap (λ (x : Accepted). x.path) same ∙ told.came.path) (ap (λ (x : Accepted). unit_in x.payload) same ∙ told.came.unit) told.read in
+    let h = fits.run by false told.came.key told.code told.body (Rrep number c o to) (ap (λ (x : Accepted). x.path) same ∙ told.came.path)
+    (ap (λ (x : Accepted). unit_in x.payload) same ∙ told.came.unit) told.read in
     record { address = h.2; low = h.0.0; number = h.0.1; cost = omega arith }
 heard_offers got cost note now fits address by origin rank (ByItself none) = absurd (no_some _ none)
 
 -- what a frame or a call without a neighbour offers
-pub call_offers : (cost note now : ℕ) (address : Option ℕ) (by origin : ℕ) (rank : Rank) → Offered (call_given cost note now) address by origin rank → EntryFits (routing.offered_entry origin rank by now)
+pub call_offers : (cost note now : ℕ) (address : Option ℕ) (by origin : ℕ) (rank : Rank) → Offered (call_given cost note now) address by origin rank
+    → EntryFits (routing.offered_entry origin rank by now)
 call_offers cost note now address by origin rank (ByRequest own number c o dest here apart few told) = absurd (no_some _ told.came.is)
 call_offers cost note now address by origin rank (ByReply own number c o to here apart few told) = absurd (no_some _ told.came.is)
 call_offers cost note now address by origin rank (ByItself none) = absurd (no_some _ none)
 
-pub near_offers : (to cost now : ℕ) → to < 0xFFFE → cost < 2 ^ 16 → (address : Option ℕ) (by origin : ℕ) (rank : Rank) → Offered (near_given to cost now) address by origin rank → EntryFits (routing.offered_entry origin rank by now)
+pub near_offers : (to cost now : ℕ) → to < 0xFFFE → cost < 2 ^ 16 → (address : Option ℕ) (by origin : ℕ) (rank : Rank)
+    → Offered (near_given to cost now) address by origin rank → EntryFits (routing.offered_entry origin rank by now)
 near_offers to cost now short low address by origin rank (ByRequest own number c o dest here apart few told) = absurd (no_some _ told.came.is)
 near_offers to cost now short low address by origin rank (ByReply own number c o q here apart few told) = absurd (no_some _ told.came.is)
 near_offers to cost now short low address by origin rank (ByItself is) =
@@ -121,10 +127,12 @@ no_change role m b e (Issues eui granted x from given allowed) = absurd given
 no_change role m b e (Kicks eui x is allowed) = absurd is
 
 -- the keys of a grant of the coordinator are those of its ring
-pub granted_keys : (role : Role) (m : Memory) (r : Records) → IsKept role m r → (granted : Granted) → IsGranted m granted → IsHeld granted.key0 × IsHeld granted.key1
+pub granted_keys : (role : Role) (m : Memory) (r : Records) → IsKept role m r → (granted : Granted) → IsGranted m granted
+    → IsHeld granted.key0 × IsHeld granted.key1
 granted_keys role m r k granted given = by_ring m.station.ring k.station.range.ring (book.address_of given.book given.eui) given.is
   where
-    by_ring : (x : ring.Ring) → IfSome x IsReadable → (address : Option ℕ) → option_and_then (λ a. option_map (λ (g : Granted). record g { address = a }) x) address ≡ Some granted → IsHeld granted.key0 × IsHeld granted.key1
+    by_ring : (x : ring.Ring) → IfSome x IsReadable → (address : Option ℕ)
+        → option_and_then (λ a. option_map (λ (g : Granted). record g { address = a }) x) address ≡ Some granted → IsHeld granted.key0 × IsHeld granted.key1
     by_ring x h None e = absurd (no_some _ e)
     by_ring None h (Some a) e = absurd (no_some _ e)
     by_ring (Some g) h (Some a) e =
@@ -133,14 +141,17 @@ granted_keys role m r k granted given = by_ring m.station.ring k.station.range.r
 
 -- # Plans over the memory
 
-pub few_of : {H : Type 0} (N : H → Type 0) (m : Memory) (W : RingWord → Type 0) (L : Granted → Type 0) (P : Eui → Key → Type 0) (E : Eui → Type 0) (g : Given) (d : Draft Memory) (answer : H) → MadeBy W L P E g m N d answer
+pub few_of : {H : Type 0} (N : H → Type 0) (m : Memory) (W : RingWord → Type 0) (L : Granted → Type 0) (P : Eui → Key → Type 0) (E : Eui → Type 0) (g : Given)
+    (d : Draft Memory) (answer : H) → MadeBy W L P E g m N d answer
     → MadeIn W L P E g m d × Few m.station d
 few_of N m W L P E g d answer x = (x.0, record { few = x.1.few })
 
 module _ (role : Role) (W : RingWord → Type 0) (words : (w : RingWord) → W w → WordFits w) (g : Given) (m : Memory)
-    (offers : (address : Option ℕ) (by origin : ℕ) (rank : Rank) → Offered g address by origin rank → EntryFits (routing.offered_entry origin rank by g.now)) where
+    (offers : (address : Option ℕ) (by origin : ℕ) (rank : Rank) → Offered g address by origin rank
+    → EntryFits (routing.offered_entry origin rank by g.now)) where
   -- a plan of the line
-  pub of_station_planned : {H F : Type 0} {ends : Ends F} (p : Plan StationMemory (Result H F)) → Planned alone ends m.station Nothing (λ d (a : H). Made W g (empty_draft m.station) d × Few m.station d) p
+  pub of_station_planned : {H F : Type 0} {ends : Ends F} (p : Plan StationMemory (Result H F))
+      → Planned alone ends m.station Nothing (λ d (a : H). Made W g (empty_draft m.station) d × Few m.station d) p
       → Planned in_memory ends m Nothing (λ d (a : H). MadeIn W NoGrant NoPair NoEui g m d × Few m.station d) (of_station m p)
   unfolding resting
   of_station_planned p (Refuses reason) = Refuses reason
@@ -148,12 +159,20 @@ module _ (role : Role) (W : RingWord → Type 0) (words : (w : RingWord) → W w
   of_station_planned p (Ended d answer done left) = Ended (whole m d) answer (Station d done.0, record { few = done.1.few }) left
 
   -- a plan that touches no book
-  pub bookless_ok : {H F : Type 0} (ends : Ends F) (K : Memory → H → Type 0) → ((n : Memory) (answer : H) → K n answer → (r : Records) → IsKept role m r → IsKept role n r) → ((n : Memory) (answer : H) → K n answer → IsMemorySized m → IsMemorySized n) → ((n : Memory) (answer : H) → K n answer → (n.station.counter ≡ m.station.counter) × (n.station.marks ≡ m.station.marks))
-      → (p : Plan Memory (Result H F)) → Planned in_memory ends m K (λ d a. MadeIn W NoGrant NoPair NoEui g m d × Few m.station d) p → IsMemorySized m → PlanOk role m p
-  bookless_ok ends K kept sized same p s h = plan_ok role W NoGrant NoPair NoEui g m words offers (λ eui none. absurd none) (λ eui psk none. absurd none) (no_change role m) (λ r k granted none. absurd none) ends K kept sized same p s h
+  pub bookless_ok : {H F : Type 0} (ends : Ends F) (K : Memory → H → Type 0)
+      → ((n : Memory) (answer : H) → K n answer → (r : Records) → IsKept role m r → IsKept role n r)
+      → ((n : Memory) (answer : H) → K n answer → IsMemorySized m → IsMemorySized n)
+      → ((n : Memory) (answer : H) → K n answer → (n.station.counter ≡ m.station.counter) × (n.station.marks ≡ m.station.marks))
+      → (p : Plan Memory (Result H F)) → Planned in_memory ends m K (λ d a. MadeIn W NoGrant NoPair NoEui g m d × Few m.station d) p → IsMemorySized m
+      → PlanOk role m p
+  bookless_ok ends K kept sized same p s h = plan_ok role W NoGrant NoPair NoEui g m words offers (λ eui none. absurd none) (λ eui psk none. absurd none)
+      (no_change role m) (λ r k granted none. absurd none) ends K kept sized same p s h
 
-  pub station_ok : {H F : Type 0} (ends : Ends F) (p : Plan StationMemory (Result H F)) → Planned alone ends m.station Nothing (λ d (a : H). Made W g (empty_draft m.station) d × Few m.station d) p → IsMemorySized m → PlanOk role m (of_station m p)
-  station_ok ends p s h = bookless_ok ends Nothing (λ n answer k. absurd k) (λ n answer k. absurd k) (λ n answer k. absurd k) (of_station m p) (of_station_planned p s) h
+  pub station_ok : {H F : Type 0} (ends : Ends F) (p : Plan StationMemory (Result H F))
+      → Planned alone ends m.station Nothing (λ d (a : H). Made W g (empty_draft m.station) d × Few m.station d) p → IsMemorySized m
+      → PlanOk role m (of_station m p)
+  station_ok ends p s h =
+      bookless_ok ends Nothing (λ n answer k. absurd k) (λ n answer k. absurd k) (λ n answer k. absurd k) (of_station m p) (of_station_planned p s) h
 
 -- # The calls of a node
 
@@ -177,23 +196,37 @@ station_same g l n a (Gathers by own mesh piece came here mine e) = (refl, refl)
 station_same g l n a (Completes by own mesh piece note octets came here mine e) = (refl, refl)
 
 -- what is handed on changes neither the counter nor the marks
-pub handed_same : (m : Memory) {H : Type 0} (word : Heard → H) (g : Given) (n : Memory) (answer : H) → HandedIn word g m n answer → (n.station.counter ≡ m.station.counter) × (n.station.marks ≡ m.station.marks)
+pub handed_same : (m : Memory) {H : Type 0} (word : Heard → H) (g : Given) (n : Memory) (answer : H) → HandedIn word g m n answer
+    → (n.station.counter ≡ m.station.counter) × (n.station.marks ≡ m.station.marks)
 handed_same m word g n answer (ByStation l a k) = station_same g m.station l a k
 
 module _ (role : Role) (m : Memory) (h : IsMemorySized m) where
   pub send_ok : (to : ℕ) (datagram : List ℕ) (note now : ℕ) → PlanOk role m (of_station m (calls.send m.station to datagram note now))
-  send_ok to datagram note now = station_ok role IsCarried carried_fits (call_given 0 note now) m (call_offers 0 note now) calls.sending_ends _ (send_is IsCarried (call_given 0 note now) m.station to datagram (λ some short. Carries to note (Datagram datagram m.station.next_tag) (some, short, h.station.tag))) h
+  send_ok to datagram note now = station_ok role IsCarried carried_fits (call_given 0 note now) m (call_offers 0 note now) calls.sending_ends _
+      (send_is IsCarried (call_given 0 note now) m.station to datagram
+      (λ some short. Carries to note (Datagram datagram m.station.next_tag) (some, short, h.station.tag))) h
 
   pub near_ok : (to cost now : ℕ) → to < 0xFFFE → cost < 2 ^ 16 → PlanOk role m (of_station m (calls.preset_near m.station to cost now))
-  near_ok to cost now short low = station_ok role NoWord never (near_given to cost now) m (near_offers to cost now short low) calls.presetting_ends _ (near_is NoWord (near_given to cost now) m.station to refl) h
+  near_ok to cost now short low = station_ok role NoWord never (near_given to cost now) m (near_offers to cost now short low) calls.presetting_ends _
+      (near_is NoWord (near_given to cost now) m.station to refl) h
 
   -- a value of the workshop
   pub counter_ok : (value : ℕ) → value < 2 ^ 32 → PlanFits role m (of_station m (calls.preset_counter m.station value))
   unfolding resting
   counter_ok value fits = record {
     leads = station_leads role m m.station (record m.station { counter = counter.counting_at value }) _
-        (low_one (Rest role m) (rest_lasts role m) m.station _ _ (omega arith) (λ r k. limit_kept m.station r (counter.counting_at value) k fits (omega arith)));
-    sized = record { station = record { reassemblies = h.station.reassemblies; waiting = record { bodies = h.station.waiting.bodies; blocks = h.station.waiting.blocks; datagrams = h.station.waiting.datagrams }; loads = h.station.loads; tag = h.station.tag }; sessions = h.sessions; randoms = h.randoms };
+        (low_one (Rest role m) (rest_lasts role m) m.station _ _ (omega arith)
+        (λ r k. limit_kept m.station r (counter.counting_at value) k fits (omega arith)));
+    sized = record {
+      station = record {
+        reassemblies = h.station.reassemblies;
+        waiting = record { bodies = h.station.waiting.bodies; blocks = h.station.waiting.blocks; datagrams = h.station.waiting.datagrams };
+        loads = h.station.loads;
+        tag = h.station.tag;
+      };
+      sessions = h.sessions;
+      randoms = h.randoms;
+    };
     few = omega arith;
     marked = λ first. away_leads first m _ _ (inl (omega arith), tt) refl;
   }
@@ -202,8 +235,18 @@ module _ (role : Role) (m : Memory) (h : IsMemorySized m) where
   unfolding resting
   number_ok value low fits = record {
     leads = station_leads role m m.station (record m.station { own_number = own_number.numbering_at value }) _
-        (low_one (Rest role m) (rest_lasts role m) m.station _ _ (omega arith) (λ r k. number_kept m.station r (own_number.numbering_at value) k low fits (omega arith)));
-    sized = record { station = record { reassemblies = h.station.reassemblies; waiting = record { bodies = h.station.waiting.bodies; blocks = h.station.waiting.blocks; datagrams = h.station.waiting.datagrams }; loads = h.station.loads; tag = h.station.tag }; sessions = h.sessions; randoms = h.randoms };
+        (low_one (Rest role m) (rest_lasts role m) m.station _ _ (omega arith)
+        (λ r k. number_kept m.station r (own_number.numbering_at value) k low fits (omega arith)));
+    sized = record {
+      station = record {
+        reassemblies = h.station.reassemblies;
+        waiting = record { bodies = h.station.waiting.bodies; blocks = h.station.waiting.blocks; datagrams = h.station.waiting.datagrams };
+        loads = h.station.loads;
+        tag = h.station.tag;
+      };
+      sessions = h.sessions;
+      randoms = h.randoms;
+    };
     few = omega arith;
     marked = λ first. away_leads first m _ _ (inl (omega arith), tt) refl;
   }
@@ -212,8 +255,18 @@ module _ (role : Role) (m : Memory) (h : IsMemorySized m) where
   pub broke_ok : {A : Type 0} (next : ℕ) (answer : A) → PlanOk role m (resting (with_station (calls.broke next m.station) m) answer answer)
   unfolding resting
   broke_ok next answer = record {
-    leads = leads_beside (IsKept role) m _ (λ r k. record { station = ended_kept m.station r (routing.goes_by next) k.station; book = k.book; sessions = k.sessions });
-    sized = record { station = record { reassemblies = h.station.reassemblies; waiting = record { bodies = h.station.waiting.bodies; blocks = h.station.waiting.blocks; datagrams = h.station.waiting.datagrams }; loads = h.station.loads; tag = h.station.tag }; sessions = h.sessions; randoms = h.randoms };
+    leads = leads_beside (IsKept role) m _
+        (λ r k. record { station = ended_kept m.station r (routing.goes_by next) k.station; book = k.book; sessions = k.sessions });
+    sized = record {
+      station = record {
+        reassemblies = h.station.reassemblies;
+        waiting = record { bodies = h.station.waiting.bodies; blocks = h.station.waiting.blocks; datagrams = h.station.waiting.datagrams };
+        loads = h.station.loads;
+        tag = h.station.tag;
+      };
+      sessions = h.sessions;
+      randoms = h.randoms;
+    };
     few = omega arith;
     rises = λ fits. record { high = tt; with_own_number = omega arith };
     from = tt;
@@ -228,13 +281,17 @@ module _ (role : Role) (m : Memory) (h : IsMemorySized m) where
   installed granted fits w e = subst WordFits (sym e) fits
 
   pub provision_ok : (granted : Granted) → IsReadable granted → PlanOk role m (meters.provision m granted)
-  provision_ok granted fits = station_ok role (Given1 granted) (installed granted fits) (call_given 0 0 0) m (call_offers 0 0 0) calls.ringing_ends _ (install_is (Given1 granted) (call_given 0 0 0) m.station granted refl) h
+  provision_ok granted fits = station_ok role (Given1 granted) (installed granted fits) (call_given 0 0 0) m (call_offers 0 0 0) calls.ringing_ends _
+      (install_is (Given1 granted) (call_given 0 0 0) m.station granted refl) h
 
   pub random_ok : (value : Rand) → PlanOk role m (give_random m value)
-  random_ok value = bookless_ok role NoWord never (call_given 0 0 0) m (call_offers 0 0 0) given_ends Nothing (λ n answer k. absurd k) (λ n answer k. absurd k) (λ n answer k. absurd k) _
-      (planned_weaker _ (λ n answer k. k) (few_of AnyAnswer m NoWord NoGrant NoPair NoEui (call_given 0 0 0)) (random_is NoWord NoGrant NoPair NoEui (call_given 0 0 0) m value)) h
+  random_ok value = bookless_ok role NoWord never (call_given 0 0 0) m (call_offers 0 0 0) given_ends Nothing (λ n answer k. absurd k) (λ n answer k. absurd k)
+      (λ n answer k. absurd k) _
+      (planned_weaker _ (λ n answer k. k) (few_of AnyAnswer m NoWord NoGrant NoPair NoEui (call_given 0 0 0))
+      (random_is NoWord NoGrant NoPair NoEui (call_given 0 0 0) m value)) h
 
-  pub handed_kept : {H : Type 0} (word : Heard → H) (g : Given) (n : Memory) (answer : H) → HandedIn word g m n answer → (r : Records) → IsKept role m r → IsKept role n r
+  pub handed_kept : {H : Type 0} (word : Heard → H) (g : Given) (n : Memory) (answer : H) → HandedIn word g m n answer → (r : Records) → IsKept role m r
+      → IsKept role n r
   handed_kept word g n answer (ByStation l a k) r q = record { station = station_of_handed g l a k r q.station; book = q.book; sessions = q.sessions }
     where
       station_of_handed : (g : Given) (l : StationMemory) (a : Heard) → Handed g m.station l a → (r : Records) → IsStationKept m.station r → IsStationKept l r
@@ -256,7 +313,8 @@ module _ (role : Role) (m : Memory) (h : IsMemorySized m) where
     packet_octets : (g : Given) (packet : List ℕ) (got : Accepted) → AreOctets got.payload → (p : IsPacket g m packet) → p.brought.got ≡ got → AreOctets packet
     packet_octets g packet got are p same =
         let b = p.brought in
-        let body : AreOctets p.octets = subst AreOctets b.body (unread_octets m.station b.got g.cost g.note g.now b.handed (subst (λ (a : Accepted). AreOctets a.payload) (sym same) are) b.on) in
+        let body : AreOctets p.octets = subst AreOctets b.body
+        (unread_octets m.station b.got g.cost g.note g.now b.handed (subst (λ (a : Accepted). AreOctets a.payload) (sym same) are) b.on) in
         subst (λ (b : JoinBody). AreOctets (rest_of b)) p.challenge (read_octets p.join p.octets body p.read).rest
 
     pub meter_words : (g : Given) → HeardWell g → (w : RingWord) → RingCause g x m w → WordFits w
@@ -264,18 +322,28 @@ module _ (role : Role) (m : Memory) (h : IsMemorySized m) where
     meter_words g well w (ByPacket granted taken) =
         let b = taken.came.brought in
         let are = well b.got b.is in
-        fits.granted x.psk taken.peer taken.packet granted are.1 (packet_octets g taken.packet b.got are.0 taken.came refl) (ap (λ (c : Ciphers). c.third_fault x.psk taken.peer taken.packet) (sym same) ∙ taken.right) (ap (λ (c : Ciphers). c.granted x.psk taken.peer taken.packet) (sym same) ∙ taken.is)
+        fits.granted x.psk taken.peer taken.packet granted are.1 (packet_octets g taken.packet b.got are.0 taken.came refl)
+        (ap (λ (c : Ciphers). c.third_fault x.psk taken.peer taken.packet) (sym same) ∙ taken.right)
+        (ap (λ (c : Ciphers). c.granted x.psk taken.peer taken.packet) (sym same) ∙ taken.is)
     meter_words g well w (ByOrder index told) = (read_fits told.join told.octets told.read).index index told.body
 
     pub join_ok : (agent now : ℕ) → PlanOk role m (meters.join x m agent now)
-    join_ok agent now = bookless_ok role (RingCause (call_given 0 0 now) x m) (meter_words (call_given 0 0 now) (λ got e. absurd (no_some got e))) (call_given 0 0 now) m (call_offers 0 0 now) meters.joining_ends Nothing (λ n answer k. absurd k) (λ n answer k. absurd k) (λ n answer k. absurd k) _
-        (planned_weaker _ (λ n answer k. k) (few_of AnyAnswer m (RingCause (call_given 0 0 now) x m) NoGrant NoPair NoEui (call_given 0 0 now)) (joins_is NoGrant NoPair NoEui (call_given 0 0 now) x m agent)) h
+    join_ok agent now = bookless_ok role (RingCause (call_given 0 0 now) x m) (meter_words (call_given 0 0 now) (λ got e. absurd (no_some got e)))
+        (call_given 0 0 now) m (call_offers 0 0 now) meters.joining_ends Nothing (λ n answer k. absurd k) (λ n answer k. absurd k) (λ n answer k. absurd k) _
+        (planned_weaker _ (λ n answer k. k) (few_of AnyAnswer m (RingCause (call_given 0 0 now) x m) NoGrant NoPair NoEui (call_given 0 0 now))
+        (joins_is NoGrant NoPair NoEui (call_given 0 0 now) x m agent)) h
 
     pub leave_ok : PlanOk role m (meters.leave m)
-    leave_ok = bookless_ok role (RingCause (call_given 0 0 0) x m) (meter_words (call_given 0 0 0) (λ got e. absurd (no_some got e))) (call_given 0 0 0) m (call_offers 0 0 0) meters.leaving_ends Nothing (λ n answer k. absurd k) (λ n answer k. absurd k) (λ n answer k. absurd k) _
-        (planned_weaker _ (λ n answer k. k) (few_of AnyAnswer m (RingCause (call_given 0 0 0) x m) NoGrant NoPair NoEui (call_given 0 0 0)) (leaves_is NoGrant NoPair NoEui (call_given 0 0 0) x m)) h
+    leave_ok = bookless_ok role (RingCause (call_given 0 0 0) x m) (meter_words (call_given 0 0 0) (λ got e. absurd (no_some got e))) (call_given 0 0 0) m
+        (call_offers 0 0 0) meters.leaving_ends Nothing (λ n answer k. absurd k) (λ n answer k. absurd k) (λ n answer k. absurd k) _
+        (planned_weaker _ (λ n answer k. k) (few_of AnyAnswer m (RingCause (call_given 0 0 0) x m) NoGrant NoPair NoEui (call_given 0 0 0))
+        (leaves_is NoGrant NoPair NoEui (call_given 0 0 0) x m)) h
 
     pub meter_hears_ok : (got : Accepted) (cost note now : ℕ) → AreOctets x.psk.0 → RoutesFit got → PlanOk role m (meters.hear_meter x m got cost note now)
-    meter_hears_ok got cost note now pair routes = bookless_ok role (RingCause (heard_given got cost note now) x m) (meter_words (heard_given got cost note now) (λ a e. (subst (λ (b : Accepted). AreOctets b.payload) (same_Some got a e) routes.payload, pair))) (heard_given got cost note now) m (heard_offers got cost note now routes) dropped (HandedIn meter_heard.Station (heard_given got cost note now) m)
-        (handed_kept meter_heard.Station (heard_given got cost note now)) (handed_within meter_heard.Station (heard_given got cost note now)) (handed_same m meter_heard.Station (heard_given got cost note now)) _
-        (planned_weaker _ (λ n answer k. k) (few_of HandsNothingUp m (RingCause (heard_given got cost note now) x m) NoGrant NoPair NoEui (heard_given got cost note now)) (meter_is NoGrant NoPair NoEui (heard_given got cost note now) x m got refl)) h
+    meter_hears_ok got cost note now pair routes = bookless_ok role (RingCause (heard_given got cost note now) x m)
+        (meter_words (heard_given got cost note now) (λ a e. (subst (λ (b : Accepted). AreOctets b.payload) (same_Some got a e) routes.payload, pair)))
+        (heard_given got cost note now) m (heard_offers got cost note now routes) dropped (HandedIn meter_heard.Station (heard_given got cost note now) m)
+        (handed_kept meter_heard.Station (heard_given got cost note now)) (handed_within meter_heard.Station (heard_given got cost note now))
+        (handed_same m meter_heard.Station (heard_given got cost note now)) _
+        (planned_weaker _ (λ n answer k. k) (few_of HandsNothingUp m (RingCause (heard_given got cost note now) x m) NoGrant NoPair NoEui
+        (heard_given got cost note now)) (meter_is NoGrant NoPair NoEui (heard_given got cost note now) x m got refl)) h

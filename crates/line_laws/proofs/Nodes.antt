@@ -83,13 +83,16 @@ outcome_sized : {A : Type 0} (x : Node) (m : Memory) (p : Plan Memory A) → IsM
     → let o : Outcome Memory A = carry_out x.store.records x.store.cut p in IfSome o.memory IsMemorySized × (length o.frames ≤ 24)
 outcome_sized {A = A} x m p sized few = ⊎_elim whole cut_off (clean x.store.records x.store.cut p)
   where
-    whole : IsWhole x.store.records x.store.cut p (carry_out x.store.records x.store.cut p) → let o : Outcome Memory A = carry_out x.store.records x.store.cut p in IfSome o.memory IsMemorySized × (length o.frames ≤ 24)
+    whole : IsWhole x.store.records x.store.cut p (carry_out x.store.records x.store.cut p)
+        → let o : Outcome Memory A = carry_out x.store.records x.store.cut p in IfSome o.memory IsMemorySized × (length o.frames ≤ 24)
     whole w = rw (w.memory, w.frames) (sized, few)
 
-    cut_off : IsCutOff x.store.records x.store.cut p (carry_out x.store.records x.store.cut p) → let o : Outcome Memory A = carry_out x.store.records x.store.cut p in IfSome o.memory IsMemorySized × (length o.frames ≤ 24)
+    cut_off : IsCutOff x.store.records x.store.cut p (carry_out x.store.records x.store.cut p)
+        → let o : Outcome Memory A = carry_out x.store.records x.store.cut p in IfSome o.memory IsMemorySized × (length o.frames ≤ 24)
     cut_off c = rw (c.memory, c.frames) (tt, omega arith)
 
-pub acts_fits : {A : Type 0} (x : Node) (halted : A) (plan : Memory → Plan Memory A) → NodeOk x → ((m : Memory) → x.memory ≡ Some m → IsKept x.role m x.store.records → IsMemorySized m → PlanFits x.role m (plan m))
+pub acts_fits : {A : Type 0} (x : Node) (halted : A) (plan : Memory → Plan Memory A) → NodeOk x
+    → ((m : Memory) → x.memory ≡ Some m → IsKept x.role m x.store.records → IsMemorySized m → PlanFits x.role m (plan m))
     → DidFits x (acts x halted plan)
 unfolding acts
 acts_fits {A = A} x halted plan ok f = by_memory x.memory refl ok.kept ok.sized ok.covered
@@ -102,19 +105,23 @@ acts_fits {A = A} x halted plan ok f = by_memory x.memory refl ok.kept ok.sized 
         let o = outcome_sized x m (plan m) p.sized p.few in
         let c : Outcome Memory A = carry_out x.store.records x.store.cut (plan m) in
         let left = carried (IsKept x.role) x.store.records x.store.cut (plan m) m kept p.leads in
-        let marks = carried (MarksFrom m.station.marks) x.store.records x.store.cut (plan m) m (marks_from m x.role x.store.records kept covered) (p.marked m.station.marks) in
+        let marks = carried (MarksFrom m.station.marks) x.store.records x.store.cut (plan m) m (marks_from m x.role x.store.records kept covered)
+        (p.marked m.station.marks) in
         record {
           node = record { kept = left; sized = o.0; covered = left_covered m.station.marks c.records c.memory marks };
           role = refl;
           eui = refl;
           few = o.1;
-          marked = subst (λ (q : Option Memory). Raised (marks_held x.role x.store.records q) (marks_held x.role c.records c.memory)) (sym e) (left_raised m.station.marks x.role c.records c.memory left marks);
+          marked = subst (λ (q : Option Memory). Raised (marks_held x.role x.store.records q) (marks_held x.role c.records c.memory)) (sym e)
+              (left_raised m.station.marks x.role c.records c.memory left marks);
         }
 
-pub acts_ok : {A : Type 0} (x : Node) (halted : A) (plan : Memory → Plan Memory A) → NodeOk x → ((m : Memory) → x.memory ≡ Some m → IsKept x.role m x.store.records → IsMemorySized m → PlanOk x.role m (plan m))
+pub acts_ok : {A : Type 0} (x : Node) (halted : A) (plan : Memory → Plan Memory A) → NodeOk x
+    → ((m : Memory) → x.memory ≡ Some m → IsKept x.role m x.store.records → IsMemorySized m → PlanOk x.role m (plan m))
     → DidOk x (acts x halted plan)
 acts_ok x halted plan ok f =
-    let d = acts_fits x halted plan ok (λ m there kept sized. let p = f m there kept sized in record { leads = p.leads; sized = p.sized; few = p.few; marked = p.marked }) in
+    let d = acts_fits x halted plan ok
+    (λ m there kept sized. let p = f m there kept sized in record { leads = p.leads; sized = p.sized; few = p.few; marked = p.marked }) in
     record {
       node = d.node;
       role = d.role;
@@ -125,7 +132,8 @@ acts_ok x halted plan ok f =
           let kept : IsKept x.role m x.store.records = subst (λ o. Left (IsKept x.role) x.store.records o) there ok.kept in
           let sized : IsMemorySized m = subst (λ o. IfSome o IsMemorySized) there ok.sized in
           ((f m there kept sized).rises kept.station.range.counter, kept.station.counter.limit, kept.station.counter.below));
-      from = acts_from x halted plan (λ m there. (f m there (subst (λ o. Left (IsKept x.role) x.store.records o) there ok.kept) (subst (λ o. IfSome o IsMemorySized) there ok.sized)).from);
+      from = acts_from x halted plan (λ m
+          there. (f m there (subst (λ o. Left (IsKept x.role) x.store.records o) there ok.kept) (subst (λ o. IfSome o IsMemorySized) there ok.sized)).from);
     }
 
 -- what a node that is not halted keeps
@@ -165,7 +173,8 @@ module _ (role : Role) (W : RingWord → Type 0) (L : Granted → Type 0) (P : E
     (known : (eui : Eui) → E eui → HasEui eui) (pairs : (eui : Eui) (psk : Key) → P eui psk → IsPair psk)
     (coordinator : (b : book.Book) (e : BookEntry) → EntryChange L P E m b e → role ≡ Coordinator)
     (grants : (r : Records) → IsKept role m r → (granted : Granted) → L granted → IsHeld granted.key0 × IsHeld granted.key1) where
-  plan_few : {H F : Type 0} (ends : Ends F) (K : Memory → H → Type 0) (p : Plan Memory (Result H F)) → Planned in_memory ends m K (λ d a. MadeIn W L P E g m d × Few m.station d) p → pending m.station ≤ 21 → length p.frames ≤ 24
+  plan_few : {H F : Type 0} (ends : Ends F) (K : Memory → H → Type 0) (p : Plan Memory (Result H F))
+      → Planned in_memory ends m K (λ d a. MadeIn W L P E g m d × Few m.station d) p → pending m.station ≤ 21 → length p.frames ≤ 24
   unfolding resting
   plan_few ends K p (Refuses reason) waits = omega arith
   plan_few ends K p (Keeps n answer k) waits = omega arith
@@ -175,13 +184,17 @@ module _ (role : Role) (W : RingWord → Type 0) (L : Granted → Type 0) (P : E
       let both = length-append d.plain (sealed_by d.memory.station.ring d.memory.station.counter.next d.units) in
       omega arith
 
-  pub plan_ok : {H F : Type 0} (ends : Ends F) (K : Memory → H → Type 0) → ((n : Memory) (answer : H) → K n answer → (r : Records) → IsKept role m r → IsKept role n r) → ((n : Memory) (answer : H) → K n answer → IsMemorySized m → IsMemorySized n) → ((n : Memory) (answer : H) → K n answer → (n.station.counter ≡ m.station.counter) × (n.station.marks ≡ m.station.marks))
+  pub plan_ok : {H F : Type 0} (ends : Ends F) (K : Memory → H → Type 0)
+      → ((n : Memory) (answer : H) → K n answer → (r : Records) → IsKept role m r → IsKept role n r)
+      → ((n : Memory) (answer : H) → K n answer → IsMemorySized m → IsMemorySized n)
+      → ((n : Memory) (answer : H) → K n answer → (n.station.counter ≡ m.station.counter) × (n.station.marks ≡ m.station.marks))
       → (p : Plan Memory (Result H F)) → Planned in_memory ends m K (λ d a. MadeIn W L P E g m d × Few m.station d) p → IsMemorySized m → PlanOk role m p
   plan_ok ends K kept sized same p s h = record {
     leads = plan_leads role W L P E g m words offers known pairs coordinator grants ends K kept p s (waits_little m h);
     sized = plan_sized W L P E g m words ends K (λ d a. MadeIn W L P E g m d × Few m.station d) sized (λ d answer x. x.0) p s h;
     few = plan_few ends K p s (waits_little m h);
-    rises = λ fits. plan_rises W L P E g m ends K (λ d a. MadeIn W L P E g m d × Few m.station d) (λ n answer k. (same n answer k).0) (λ d answer x. x.0) p s fits;
+    rises =
+        λ fits. plan_rises W L P E g m ends K (λ d a. MadeIn W L P E g m d × Few m.station d) (λ n answer k. (same n answer k).0) (λ d answer x. x.0) p s fits;
     from = plan_from W L P E g m ends K (λ d a. MadeIn W L P E g m d × Few m.station d) (λ d answer x. x.0) p s;
     marked = plan_marks W L P E g m ends K (λ d a. MadeIn W L P E g m d × Few m.station d) (λ n answer k. (same n answer k).1) (λ d answer x. x.0) p s;
   }

@@ -37,10 +37,12 @@ some_node w n a t = by_node (node_at w n) refl
     by_node None e = absurd (rw e at t)
     by_node (Some x) e = record { node = x; there = e; address = rw e at t }
 
-all_homes : (P Q : Flight → Type 0) → ((f g : Flight) → SameFlight f g → P f → Q g) → (fs gs : List Flight) → KeepsFlights fs gs → All P fs → All Q (drop (length fs) gs) → All Q gs
+all_homes : (P Q : Flight → Type 0) → ((f g : Flight) → SameFlight f g → P f → Q g) → (fs gs : List Flight) → KeepsFlights fs gs → All P fs
+    → All Q (drop (length fs) gs) → All Q gs
 all_homes P Q h [] gs keeps all new = new
 all_homes P Q h (f ∷ fs) [] keeps all new = absurd keeps
-all_homes P Q h (f ∷ fs) (g ∷ gs) keeps all new = All-cons Q g gs (h f g keeps.0 (All-head P f fs all)) (all_homes P Q h fs gs keeps.1 (All-tail P f fs all) new)
+all_homes P Q h (f ∷ fs) (g ∷ gs) keeps all new =
+    All-cons Q g gs (h f g keeps.0 (All-head P f fs all)) (all_homes P Q h fs gs keeps.1 (All-tail P f fs all) new)
 
 all_both : {A : Type 0} (P Q : A → Type 0) (xs : List A) → All P xs → All Q xs → All (λ x. P x × Q x) xs
 all_both P Q xs a b k d lt = (a k d lt, b k d lt)
@@ -48,7 +50,8 @@ all_both P Q xs a b k d lt = (a k d lt, b k d lt)
 -- # A later world
 
 module _ (w v : World) (given more : List Issued) (k : Keyed w given) (kv : Keyed v more) (okv : WorldOk v)
-    (grows : (0 < length w.nodes) → Grows k.book kv.book) (euis : (0 < length w.nodes) → (n : ℕ) (y : Node) → n < length w.nodes → node_at v n ≡ Some y → (x : Node) × (node_at w n ≡ Some x) × (x.eui ≡ y.eui)) where
+    (grows : (0 < length w.nodes) → Grows k.book kv.book) (euis : (0 < length w.nodes) → (n : ℕ) (y : Node) → n < length w.nodes → node_at v n ≡ Some y
+    → (x : Node) × (node_at w n ≡ Some x) × (x.eui ≡ y.eui)) where
   home_stays : (n a : ℕ) → n < length w.nodes → IsHome k.book w n a → IsHome kv.book v n a
   home_stays n a lt home y there =
       let some : 0 < length w.nodes = omega arith in
@@ -58,9 +61,11 @@ module _ (w v : World) (given more : List Issued) (k : Keyed w given) (kv : Keye
 
   old_home : (f g : Flight) → SameFlight f g → (f.from < length w.nodes) × AtHome k.book w f → AtHome kv.book v g
   old_home f g same h =
-      let moved : IfSome (nonce_parts f) (λ p. IsHome kv.book v f.from p.from) = if_parts (nonce_parts f) (λ p. IsHome k.book w f.from p.from) (λ p. IsHome kv.book v f.from p.from) (λ p. home_stays f.from p.from h.0) h.1 in
+      let moved : IfSome (nonce_parts f) (λ p. IsHome kv.book v f.from p.from) = if_parts (nonce_parts f) (λ p. IsHome k.book w f.from p.from)
+      (λ p. IsHome kv.book v f.from p.from) (λ p. home_stays f.from p.from h.0) h.1 in
       let parts : nonce_parts g ≡ nonce_parts f = ap (λ octets. nonce_in_head (head_in octets)) same.octets in
-      subst (λ n. IfSome (nonce_parts g) (λ p. IsHome kv.book v n p.from)) (sym same.from) (subst (λ o. IfSome o (λ p. IsHome kv.book v f.from p.from)) (sym parts) moved)
+      subst (λ n. IfSome (nonce_parts g) (λ p. IsHome kv.book v n p.from)) (sym same.from)
+      (subst (λ o. IfSome o (λ p. IsHome kv.book v f.from p.from)) (sym parts) moved)
 
   -- a node's address is its home
   home_of : (n a : ℕ) → HasAddress v n a → IsHome kv.book v n a
@@ -72,9 +77,11 @@ module _ (w v : World) (given more : List Issued) (k : Keyed w given) (kv : Keye
   new_home : (f : Flight) → HasSender v f → AtHome kv.book v f
   new_home f t = if_parts (nonce_parts f) (λ p. HasAddress v f.from p.from) (λ p. IsHome kv.book v f.from p.from) (λ p. home_of f.from p.from) t
 
-  pub later_homes : KeepsFlights w.flights v.flights → All (λ (f : Flight). f.from < length w.nodes) w.flights → All (AtHome k.book w) w.flights → NewSenders w v → All (AtHome kv.book v) v.flights
+  pub later_homes : KeepsFlights w.flights v.flights → All (λ (f : Flight). f.from < length w.nodes) w.flights → All (AtHome k.book w) w.flights
+      → NewSenders w v → All (AtHome kv.book v) v.flights
   later_homes keeps from home new =
-      all_homes (λ f. (f.from < length w.nodes) × AtHome k.book w f) (AtHome kv.book v) old_home w.flights v.flights keeps (all_both (λ (f : Flight). f.from < length w.nodes) (AtHome k.book w) w.flights from home)
+      all_homes (λ f. (f.from < length w.nodes) × AtHome k.book w f) (AtHome kv.book v) old_home w.flights v.flights keeps
+      (all_both (λ (f : Flight). f.from < length w.nodes) (AtHome k.book w) w.flights from home)
       (λ i d lt. new_home (get_or (drop (length w.flights) v.flights) i d) (new i d lt))
 
 -- # Nonces
@@ -95,7 +102,8 @@ module _ (v : World) (given : List Issued) (k : Keyed v given) (ok : WorldOk v) 
   another : (f g : Flight) → CounterRises f g → f.from < length v.nodes → g.from < length v.nodes → AtHome k.book v f → AtHome k.book v g → HasAnotherNonce f g
   another f g rises lf lg hf hg same_key = by_key f.key
     where
-      by_parts : (o u : Option NonceParts) → (f.from ≡ g.from → IfSome o (λ p. IfSome u (λ q. p.counter < q.counter))) → IfSome o (λ p. IsHome k.book v f.from p.from) → IfSome u (λ q. IsHome k.book v g.from q.from) → IfSome o (λ p. IfSome u (λ q. p ≢ q))
+      by_parts : (o u : Option NonceParts) → (f.from ≡ g.from → IfSome o (λ p. IfSome u (λ q. p.counter < q.counter)))
+          → IfSome o (λ p. IsHome k.book v f.from p.from) → IfSome u (λ q. IsHome k.book v g.from q.from) → IfSome o (λ p. IfSome u (λ q. p ≢ q))
       by_parts None u r a b = tt
       by_parts (Some p) None r a b = tt
       by_parts (Some p) (Some q) r a b = λ same.
@@ -113,7 +121,8 @@ module _ (v : World) (given : List Issued) (k : Keyed v given) (ok : WorldOk v) 
 
   pub nonces_differ : All (AtHome k.book v) v.flights → AllPairs HasAnotherNonce v.flights
   nonces_differ homes i j d lt inside =
-      another (get_or v.flights i d) (get_or v.flights j d) (ok.rising.pairs i j d lt inside) (ok.rising.homes i d (omega arith)) (ok.rising.homes j d inside) (homes i d (omega arith)) (homes j d inside)
+      another (get_or v.flights i d) (get_or v.flights j d) (ok.rising.pairs i j d lt inside) (ok.rising.homes i d (omega arith)) (ok.rising.homes j d inside)
+      (homes i d (omega arith)) (homes j d inside)
 
   pub nodes_apart : AddressesDiffer v
   nodes_apart i j a hi hj =

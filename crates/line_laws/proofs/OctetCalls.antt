@@ -29,7 +29,9 @@ use Rattle.line_laws.proofs.CoordinatorOctets.{EntrySpeaks}
 use Rattle.line_laws.proofs.Made.{Made}
 use Rattle.line_laws.proofs.NodeCalls.{NoWord, near_given, no_some}
 use Rattle.line_laws.proofs.Nodes.{NodeOk, node_kept}
-use Rattle.line_laws.proofs.OctetDrafts.{BodySpeaks, RandSpeaks, SessionSpeaks, ServerSpeaks, MemorySpeaks, SentOctets, DraftSpeaks, DraftSpeaksIn, PlanSpeaks, OutSpeaks, PlainSpeaks, made_speaks, sealing_speaks, rests_speaks, choose_speaks, refuses, begun_speaks, remembers_speaks, sets_out_speaks}
+use Rattle.line_laws.proofs.OctetDrafts.{BodySpeaks, RandSpeaks, SessionSpeaks, ServerSpeaks, MemorySpeaks, SentOctets, DraftSpeaks, DraftSpeaksIn, PlanSpeaks}
+use Rattle.line_laws.proofs.OctetDrafts.{OutSpeaks, PlainSpeaks, made_speaks, sealing_speaks, rests_speaks, choose_speaks, refuses, begun_speaks}
+use Rattle.line_laws.proofs.OctetDrafts.{remembers_speaks, sets_out_speaks}
 use Rattle.line_laws.proofs.Planned.{Planned, Refuses, Keeps, Ended, checked_planned, sealed_planned, option_planned}
 use Rattle.line_laws.proofs.Quiet.{install_quiet}
 use Rattle.line_laws.proofs.Restarting.{IsBlank}
@@ -47,7 +49,8 @@ pub record DidSpeak {A : Type 0} (d : NodeStep A) : Type 0 where
   pub node : NodeSpeaks d.node
   pub frames : All SentOctets d.frames
 
-outcome_speaks : {A : Type 0} (x : Node) (p : Plan Memory A) → PlanSpeaks p → let o : Outcome Memory A = carry_out x.store.records x.store.cut p in IfSome o.memory MemorySpeaks × All SentOctets o.frames
+outcome_speaks : {A : Type 0} (x : Node) (p : Plan Memory A) → PlanSpeaks p → let o : Outcome Memory A = carry_out x.store.records x.store.cut p in
+    IfSome o.memory MemorySpeaks × All SentOctets o.frames
 outcome_speaks {A = A} x p s = ⊎_elim full cut_off (clean x.store.records x.store.cut p)
   where
     Goal : Type 0
@@ -59,11 +62,13 @@ outcome_speaks {A = A} x p s = ⊎_elim full cut_off (clean x.store.records x.st
     cut_off : IsCutOff x.store.records x.store.cut p (carry_out x.store.records x.store.cut p) → Goal
     cut_off c = rw (c.memory, c.frames) (tt, All-nil SentOctets)
 
-pub acts_speaks : {A : Type 0} (x : Node) (halted : A) (plan : Memory → Plan Memory A) → NodeSpeaks x → ((m : Memory) → x.memory ≡ Some m → MemorySpeaks m → PlanSpeaks (plan m)) → DidSpeak (acts x halted plan)
+pub acts_speaks : {A : Type 0} (x : Node) (halted : A) (plan : Memory → Plan Memory A) → NodeSpeaks x
+    → ((m : Memory) → x.memory ≡ Some m → MemorySpeaks m → PlanSpeaks (plan m)) → DidSpeak (acts x halted plan)
 unfolding acts
 acts_speaks {A = A} x halted plan s f = by_memory x.memory refl s
   where
-    by_memory : (o : Option Memory) → x.memory ≡ o → IfSome o MemorySpeaks → DidSpeak (option_map_or (λ m. left_by x (carry_out x.store.records x.store.cut (plan m))) o (stays x halted))
+    by_memory : (o : Option Memory) → x.memory ≡ o → IfSome o MemorySpeaks
+        → DidSpeak (option_map_or (λ m. left_by x (carry_out x.store.records x.store.cut (plan m))) o (stays x halted))
     by_memory None e h = record { node = s; frames = All-nil SentOctets }
     by_memory (Some m) e h = let o = outcome_speaks x (plan m) (f m e h) in record { node = o.0; frames = o.1 }
 
@@ -72,7 +77,8 @@ answering_speaks reads d s = record { node = s.node; frames = s.frames }
 
 -- the coordinator's book is of octets
 pub booked : (x : Node) (m : Memory) → NodeOk x → x.role ≡ Coordinator → x.memory ≡ Some m → All EntrySpeaks m.book
-booked x m ok is there = All-weaker IsReadableEntry EntrySpeaks (λ e k. (k.eui, k.psk.1)) m.book (subst (λ (role : Role). BookKept role m.book x.store.records) is (node_kept x m ok there).book).each
+booked x m ok is there = All-weaker IsReadableEntry EntrySpeaks (λ e k. (k.eui, k.psk.1)) m.book
+    (subst (λ (role : Role). BookKept role m.book x.store.records) is (node_kept x m ok there).book).each
 
 -- and has room for no more than 999 meters
 pub booked_short : (x : Node) (m : Memory) → NodeOk x → x.role ≡ Coordinator → x.memory ≡ Some m → length m.book ≤ 999
@@ -111,11 +117,18 @@ session_ticked now (Some s) h = by_time (calls.is_within 120 now s.since)
 pub ticked_speaks : (now : ℕ) (x : Node) → NodeSpeaks x → NodeSpeaks (ticked now x)
 ticked_speaks now x h = by_role x.role x.memory h
   where
-    by_role : (role : Role) (o : Option Memory) → IfSome o MemorySpeaks → NodeSpeaks (ticked now (record { role = role; eui = x.eui; store = x.store; memory = o }))
+    by_role : (role : Role) (o : Option Memory) → IfSome o MemorySpeaks
+        → NodeSpeaks (ticked now (record { role = role; eui = x.eui; store = x.store; memory = o }))
     by_role Coordinator None h = tt
     by_role (Meter psk) None h = tt
-    by_role Coordinator (Some m) h = record { waiting = waited now m h; randoms = h.randoms; session = h.session; sessions = All-filter (λ (s : CoordinatorSession). calls.is_within 120 now s.since) ServerSpeaks m.sessions h.sessions }
-    by_role (Meter psk) (Some m) h = record { waiting = waited now m h; randoms = h.randoms; session = session_ticked now m.session h.session; sessions = h.sessions }
+    by_role Coordinator (Some m) h = record {
+      waiting = waited now m h;
+      randoms = h.randoms;
+      session = h.session;
+      sessions = All-filter (λ (s : CoordinatorSession). calls.is_within 120 now s.since) ServerSpeaks m.sessions h.sessions;
+    }
+    by_role (Meter psk) (Some m) h =
+        record { waiting = waited now m h; randoms = h.randoms; session = session_ticked now m.session h.session; sessions = h.sessions }
 
 -- # Calls of the line
 
@@ -124,7 +137,8 @@ module _ (m : Memory) (h : MemorySpeaks m) where
   pub same_line : (l : StationMemory) → All BodySpeaks l.waiting → MemorySpeaks (with_station l m)
   same_line l all = record { waiting = all; randoms = h.randoms; session = h.session; sessions = h.sessions }
 
-  station_speaks : {H F : Type 0} (ends : Ends F) (K : StationMemory → H → Type 0) (p : Plan StationMemory (Result H F)) → ((n : StationMemory) (answer : H) → K n answer → ⊥) → Planned alone ends m.station K (λ d answer. DraftSpeaks d) p → PlanSpeaks (of_station m p)
+  station_speaks : {H F : Type 0} (ends : Ends F) (K : StationMemory → H → Type 0) (p : Plan StationMemory (Result H F))
+      → ((n : StationMemory) (answer : H) → K n answer → ⊥) → Planned alone ends m.station K (λ d answer. DraftSpeaks d) p → PlanSpeaks (of_station m p)
   unfolding resting
   station_speaks ends K p never (Refuses reason) = record { memory = same_line m.station h.waiting; frames = All-nil SentOctets }
   station_speaks ends K p never (Keeps n answer k) = absurd (never n answer k)
@@ -183,17 +197,21 @@ module _ (m : Memory) (h : MemorySpeaks m) where
         (option_planned (λ own. calls.send_from m.station own to datagram note now) (address_of m.station) (refused calls.sending_ends m.station NotJoined)
         (λ own here. checked_planned (λ e.
         let passes : SendPasses m.station to datagram = send_passes m.station to datagram e in
-        sealed_planned _ _ (sets_out_speaks own to note (Datagram datagram m.station.next_tag) now (calls.tag_taken datagram (empty_draft m.station)) (are, passes.short, tt) (tagged_line datagram))))
+        sealed_planned _ _ (sets_out_speaks own to note (Datagram datagram m.station.next_tag) now (calls.tag_taken datagram (empty_draft m.station))
+        (are, passes.short, tt) (tagged_line datagram))))
         (λ none. Refuses _))
 
     pub near_speaks : (to cost now : ℕ) → PlanSpeaks (of_station m (calls.preset_near m.station to cost now))
-    near_speaks to cost now = station_speaks calls.presetting_ends Nothing (calls.preset_near m.station to cost now) (λ n answer k. k) (over (calls.preset_near m.station to cost now) (near_is NoWord (near_given to cost now) m.station to refl))
+    near_speaks to cost now = station_speaks calls.presetting_ends Nothing (calls.preset_near m.station to cost now) (λ n answer k. k)
+        (over (calls.preset_near m.station to cost now) (near_is NoWord (near_given to cost now) m.station to refl))
       where
-        over : {H F : Type 0} {ends : Ends F} (p : Plan StationMemory (Result H F)) → Planned alone ends m.station Nothing (λ d (a : H). Made NoWord (near_given to cost now) (empty_draft m.station) d × Few m.station d) p
+        over : {H F : Type 0} {ends : Ends F} (p : Plan StationMemory (Result H F))
+            → Planned alone ends m.station Nothing (λ d (a : H). Made NoWord (near_given to cost now) (empty_draft m.station) d × Few m.station d) p
             → Planned alone ends m.station Nothing (λ d (a : H). DraftSpeaks d) p
         over p (Refuses reason) = Refuses reason
         over p (Keeps n answer k) = absurd k
-        over p (Ended d answer done left) = Ended d answer (made_speaks (near_given to cost now) (λ by all u c. absurd (no_some _ c.is)) (empty_draft m.station) d done.0 begun_line) left
+        over p (Ended d answer done left) =
+            Ended d answer (made_speaks (near_given to cost now) (λ by all u c. absurd (no_some _ c.is)) (empty_draft m.station) d done.0 begun_line) left
 
     more_randoms : (value : Rand) → RandSpeaks value → DraftSpeaksIn (with_memory_by (λ n. record n { randoms = n.randoms ++ value ∷ [] }) (empty_draft m))
     unfolding empty_draft
@@ -201,4 +219,5 @@ module _ (m : Memory) (h : MemorySpeaks m) where
         (record { waiting = h.waiting; randoms = All-push RandSpeaks m.randoms value h.randoms is; session = h.session; sessions = h.sessions })
 
     pub random_speaks : (value : Rand) → RandSpeaks value → PlanSpeaks (give_random m value)
-    random_speaks value is = choose_speaks (λ full. refuses m h _ _) (λ room. sealing_speaks given_ends (with_memory_by (λ n. record n { randoms = n.randoms ++ value ∷ [] }) (empty_draft m)) tt (more_randoms value is))
+    random_speaks value is = choose_speaks (λ full. refuses m h _ _)
+        (λ room. sealing_speaks given_ends (with_memory_by (λ n. record n { randoms = n.randoms ++ value ∷ [] }) (empty_draft m)) tt (more_randoms value is))

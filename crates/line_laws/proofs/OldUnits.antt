@@ -22,12 +22,14 @@ use Rattle.node_rules.specs.Accepting.{accept}
 use Rattle.node_rules.specs.Calls as calls
 use Rattle.node_rules.specs.Ciphers.{Ciphers}
 use Rattle.node_rules.specs.Coordinators as coordinators
-use Rattle.node_rules.specs.Drafts.{Draft, Ends, Outgoing, all_go, alone, body_goes, empty_draft, goes, leave, letters, own_mesh, sealed_by, sealing_key, units_of, waits, waits_for, with_next_tag, with_own_number, with_rank, with_ring, with_routing_by}
+use Rattle.node_rules.specs.Drafts.{Draft, Ends, Outgoing, all_go, alone, body_goes, empty_draft, goes, leave, letters, own_mesh, sealed_by, sealing_key}
+use Rattle.node_rules.specs.Drafts.{units_of, waits, waits_for, with_next_tag, with_own_number, with_rank, with_ring, with_routing_by}
 use Rattle.node_rules.specs.Frames.{Sent, Sealed, Up, Down, arrived}
 use Rattle.node_rules.specs.Hearing.{dropped}
 use Rattle.node_rules.specs.Joining.{command_of}
 use Rattle.node_rules.specs.Memory.{StationMemory, Memory, Node, Body, Load, Datagram, Command, Role, Coordinator, Meter}
-use Rattle.node_rules.specs.MemoryDrafts.{give_random, given_ends, goes_down, goes_up, in_memory, on_station, station_part, with_memory_by, with_pair_tags, with_station}
+use Rattle.node_rules.specs.MemoryDrafts.{give_random, given_ends, goes_down, goes_up, in_memory, on_station, station_part, with_memory_by, with_pair_tags}
+use Rattle.node_rules.specs.MemoryDrafts.{with_station}
 use Rattle.node_rules.specs.Meters as meters
 use Rattle.node_rules.specs.NodeSteps.{NodeStep, acts, answering, changing, left_by, of_station, stays}
 use Rattle.node_rules.specs.Plans.{Plan, Outcome, carry_out, resting}
@@ -39,7 +41,8 @@ use Rattle.line_rules.specs.Steps.{hears, identity}
 use Rattle.line_rules.specs.Worlds.{World}
 use Rattle.line_laws.proofs.CallForms.{Few, Nothing, random_is, send_is}
 use Rattle.line_laws.proofs.CoordinatorForms.{IsGranted, IsReached, IsSaidDown, activate_is, activate_self_is, challenge_is, coordinator_is, kick_is, rekey_is}
-use Rattle.line_laws.proofs.Made.{Given, IsLess, Whole, Part, Carried, IsSaid, Seeks, Answers, Relays, Passes, Tells, Forwards, Made, Starts, Ranks, Numbers, Tags as TagsOn, Rings, Idles, Loses, Goes, Sends, Waits, Leaves, RingWord, Carry}
+use Rattle.line_laws.proofs.Made.{Given, IsLess, Whole, Part, Carried, IsSaid, Seeks, Answers, Relays, Passes, Tells, Forwards, Made, Starts, Ranks, Numbers}
+use Rattle.line_laws.proofs.Made.{Tags as TagsOn, Rings, Idles, Loses, Goes, Sends, Waits, Leaves, RingWord, Carry}
 use Rattle.line_laws.proofs.MadeIn.{MadeIn, Begins, Station, OnStation, Remembers, Tags, Enters, Up as UpIn, Down as DownIn}
 use Rattle.line_laws.proofs.MemoryDraftForms.{AnyAnswer, MadeBy}
 use Rattle.line_laws.proofs.MeterForms.{joins_is, leaves_is, meter_is}

@@ -7,7 +7,8 @@ use Rattle.node_rules.specs.Plans.{Plan, resting}
 use Rattle.node_rules.specs.Drafts.{Draft, StationPlace, Ends, counters_left, refused, sealing, sealed, checked, choose}
 
 -- K holds of what is kept beside the store and of the answer, D of the doing and the answer
-pub data Planned {M H E : Type 0} (h : StationPlace M) (ends : Ends E) (m : M) (K : M → H → Type 0) (D : Draft M → H → Type 0) : Plan M (Result H E) → Type 0 where
+pub data Planned {M H E : Type 0} (h : StationPlace M) (ends : Ends E) (m : M) (K : M → H → Type 0) (D : Draft M → H → Type 0) : Plan M (Result H E)
+    → Type 0 where
   Refuses : (reason : E) → Planned h ends m K D (resting m (Err reason) (Err ends.store))
   Keeps : (n : M) (answer : H) → K n answer → Planned h ends m K D (resting n (Ok answer) (Err ends.store))
   Ended : (d : Draft M) (answer : H) → D d answer → length d.units ≤ counters_left (h.station m) → Planned h ends m K D (sealing h ends d answer)
@@ -19,7 +20,8 @@ module _ {M H E : Type 0} {h : StationPlace M} {ends : Ends E} {m : M} {K : M �
   checked_planned {fault = None} s = s refl
   checked_planned {fault = Some reason} s = Refuses reason
 
-  pub choose_planned : {test : Bool} {p q : Plan M (Result H E)} → (test ≡ true → Planned h ends m K D p) → (test ≡ false → Planned h ends m K D q) → Planned h ends m K D (choose test p q)
+  pub choose_planned : {test : Bool} {p q : Plan M (Result H E)} → (test ≡ true → Planned h ends m K D p) → (test ≡ false → Planned h ends m K D q)
+      → Planned h ends m K D (choose test p q)
   unfolding choose
   choose_planned {test = true} s t = s refl
   choose_planned {test = false} s t = t refl
@@ -28,7 +30,8 @@ module _ {M H E : Type 0} {h : StationPlace M} {ends : Ends E} {m : M} {K : M �
   unfolding sealed
   sealed_planned d answer done = by_test (nat_lt (counters_left (h.station m)) (length d.units)) refl
     where
-      by_test : (b : Bool) → nat_lt (counters_left (h.station m)) (length d.units) ≡ b → Planned h ends m K D (if b then refused ends m ends.spent else sealing h ends d answer)
+      by_test : (b : Bool) → nat_lt (counters_left (h.station m)) (length d.units) ≡ b
+          → Planned h ends m K D (if b then refused ends m ends.spent else sealing h ends d answer)
       by_test true t = Refuses ends.spent
       by_test false t = Ended d answer done (ltb-false _ _ t)
 
@@ -43,13 +46,15 @@ module _ {M H E : Type 0} {h : StationPlace M} {ends : Ends E} {m : M} {K : M �
 
 -- what holds of a doing may be said more weakly
 pub planned_weaker : {M H E : Type 0} {h : StationPlace M} {ends : Ends E} {m : M} {K J : M → H → Type 0} {D C : Draft M → H → Type 0} (p : Plan M (Result H E))
-    → ((n : M) (answer : H) → K n answer → J n answer) → ((d : Draft M) (answer : H) → D d answer → C d answer) → Planned h ends m K D p → Planned h ends m J C p
+    → ((n : M) (answer : H) → K n answer → J n answer) → ((d : Draft M) (answer : H) → D d answer → C d answer) → Planned h ends m K D p
+    → Planned h ends m J C p
 planned_weaker p f k (Refuses reason) = Refuses reason
 planned_weaker p f k (Keeps n answer x) = Keeps n answer (f n answer x)
 planned_weaker p f k (Ended d answer done left) = Ended d answer (k d answer done) left
 
 -- the word of a failed write
-pub planned_failed : {M H E : Type 0} {h : StationPlace M} {ends : Ends E} {m : M} {K : M → H → Type 0} {D : Draft M → H → Type 0} (p : Plan M (Result H E)) → Planned h ends m K D p → p.failed ≡ Err ends.store
+pub planned_failed : {M H E : Type 0} {h : StationPlace M} {ends : Ends E} {m : M} {K : M → H → Type 0} {D : Draft M → H → Type 0} (p : Plan M (Result H E))
+    → Planned h ends m K D p → p.failed ≡ Err ends.store
 unfolding resting
 planned_failed p (Refuses reason) = refl
 planned_failed p (Keeps n answer k) = refl

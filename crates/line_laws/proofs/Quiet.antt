@@ -14,7 +14,8 @@ use Rattle.node_rules.specs.Frames.{Arrived}
 use Rattle.node_rules.specs.Memory.{StationMemory, Memory, Node}
 use Rattle.node_rules.specs.Plans.{Plan, carry_out, resting}
 use Rattle.node_rules.specs.Accepting.{Accepting, marking}
-use Rattle.node_rules.specs.Drafts.{Draft, alone, StationPlace, Ends, letters, sealed_by, sealing_key, empty_draft, with_rank, with_ring, sealing, refused, checked, choose}
+use Rattle.node_rules.specs.Drafts.{Draft, alone, StationPlace, Ends, letters, sealed_by, sealing_key, empty_draft, with_rank, with_ring, sealing, refused}
+use Rattle.node_rules.specs.Drafts.{checked, choose}
 use Rattle.node_rules.specs.MemoryDrafts.{in_memory, with_memory_by}
 use Rattle.node_rules.specs.Calls as calls
 use Rattle.node_rules.specs.Coordinators as coordinators
@@ -33,7 +34,8 @@ sealed_none (Some g) first = by_key (sealing_key g)
     by_key (Some key) = refl
 
 -- a doing without units and plain frames
-pub quiet_sealing : {M H E : Type 0} (h : StationPlace M) (ends : Ends E) (d : Draft M) (answer : H) → d.units ≡ [] → d.plain ≡ [] → (sealing h ends d answer).frames ≡ []
+pub quiet_sealing : {M H E : Type 0} (h : StationPlace M) (ends : Ends E) (d : Draft M) (answer : H) → d.units ≡ [] → d.plain ≡ []
+    → (sealing h ends d answer).frames ≡ []
 quiet_sealing h ends d answer units plain =
     ap (λ us. d.plain ++ sealed_by (h.station d.memory).ring (h.station d.memory).counter.next us) units
     ∙ ap (λ ps. ps ++ sealed_by (h.station d.memory).ring (h.station d.memory).counter.next []) plain
@@ -46,7 +48,8 @@ acts_quiet {A = A} x halted plan quiet = by_memory x.memory
   where
     by_outcome : (m : Memory) → (carry_out x.store.records x.store.cut (plan m)).frames ≡ []
     by_outcome m = ⊎_elim (λ (w : IsWhole x.store.records x.store.cut (plan m) (carry_out x.store.records x.store.cut (plan m))). w.frames ∙ quiet m)
-        (λ (c : IsCutOff x.store.records x.store.cut (plan m) (carry_out x.store.records x.store.cut (plan m))). c.frames) (clean x.store.records x.store.cut (plan m))
+        (λ (c : IsCutOff x.store.records x.store.cut (plan m) (carry_out x.store.records x.store.cut (plan m))). c.frames)
+        (clean x.store.records x.store.cut (plan m))
 
     by_memory : (o : Option Memory) → (option_map_or (λ m. left_by x (carry_out x.store.records x.store.cut (plan m))) o (stays x halted)).frames ≡ []
     by_memory None = refl
@@ -67,21 +70,26 @@ unfolding checked resting
 checked_quiet ends m None p e = e
 checked_quiet ends m (Some reason) p e = refl
 
-ranked_none : (l : StationMemory) (to cost now : ℕ) → ((with_rank to (calls.near_rank cost) to now (empty_draft l)).units ≡ []) × ((with_rank to (calls.near_rank cost) to now (empty_draft l)).plain ≡ [])
+ranked_none : (l : StationMemory) (to cost now : ℕ)
+    → ((with_rank to (calls.near_rank cost) to now (empty_draft l)).units ≡ []) × ((with_rank to (calls.near_rank cost) to now (empty_draft l)).plain ≡ [])
 unfolding empty_draft with_rank
 ranked_none l to cost now = (refl, refl)
 
 pub near_quiet : (l : StationMemory) (to cost now : ℕ) → (calls.preset_near l to cost now).frames ≡ []
 near_quiet l to cost now =
     let none = ranked_none l to cost now in
-    checked_quiet calls.presetting_ends l (calls.preset_fault l to cost now) (sealing alone calls.presetting_ends (with_rank to (calls.near_rank cost) to now (empty_draft l)) (tt {0})) (quiet_sealing alone calls.presetting_ends (with_rank to (calls.near_rank cost) to now (empty_draft l)) (tt {0}) none.0 none.1)
+    checked_quiet calls.presetting_ends l (calls.preset_fault l to cost now)
+    (sealing alone calls.presetting_ends (with_rank to (calls.near_rank cost) to now (empty_draft l)) (tt {0}))
+    (quiet_sealing alone calls.presetting_ends (with_rank to (calls.near_rank cost) to now (empty_draft l)) (tt {0}) none.0 none.1)
 
-ringed_none : (l : StationMemory) (granted : Granted) → ((with_ring (Some granted) (empty_draft l)).units ≡ []) × ((with_ring (Some granted) (empty_draft l)).plain ≡ [])
+ringed_none : (l : StationMemory) (granted : Granted)
+    → ((with_ring (Some granted) (empty_draft l)).units ≡ []) × ((with_ring (Some granted) (empty_draft l)).plain ≡ [])
 unfolding empty_draft with_ring
 ringed_none l granted = (refl, refl)
 
 pub install_quiet : (l : StationMemory) (granted : Granted) → (calls.install l granted).frames ≡ []
-install_quiet l granted = let none = ringed_none l granted in quiet_sealing alone calls.ringing_ends (with_ring (Some granted) (empty_draft l)) (tt {0}) none.0 none.1
+install_quiet l granted =
+    let none = ringed_none l granted in quiet_sealing alone calls.ringing_ends (with_ring (Some granted) (empty_draft l)) (tt {0}) none.0 none.1
 
 -- # The coordinator's orders of setup
 
@@ -89,7 +97,8 @@ changed_none : (m : Memory) (e : BookEntry) → ((changed m e).units ≡ []) × 
 unfolding empty_draft with_book_entry with_memory_by
 changed_none m e = by_change (changes m e)
   where
-    by_change : (b : Bool) → let d : Draft Memory = (if b then with_memory_by (without_session e.eui) (with_book_entry e (empty_draft m)) else empty_draft m) in (d.units ≡ []) × (d.plain ≡ [])
+    by_change : (b : Bool) → let d : Draft Memory = (if b then with_memory_by (without_session e.eui) (with_book_entry e (empty_draft m)) else empty_draft m) in
+        (d.units ≡ []) × (d.plain ≡ [])
     by_change true = (refl, refl)
     by_change false = (refl, refl)
 
@@ -106,7 +115,8 @@ unfolding choose
 choose_quiet true p q e f = e
 choose_quiet false p q e f = f
 
-option_quiet : {A X : Type 0} (f : X → Plan Memory A) (o : Option X) (q : Plan Memory A) → ((x : X) → (f x).frames ≡ []) → q.frames ≡ [] → (option_map_or f o q).frames ≡ []
+option_quiet : {A X : Type 0} (f : X → Plan Memory A) (o : Option X) (q : Plan Memory A) → ((x : X) → (f x).frames ≡ []) → q.frames ≡ []
+    → (option_map_or f o q).frames ≡ []
 option_quiet f None q e g = g
 option_quiet f (Some x) q e g = e x
 
@@ -114,17 +124,22 @@ pub allow_quiet : (m : Memory) (eui : Eui) (psk : Key) → (coordinators.allow m
 allow_quiet m eui psk =
     let e = book.allowed_entry eui psk (book.entry_for m.book eui) in
     let none = changed_none m e in
-    choose_quiet (book.has_room m.book eui) _ _ (quiet_sealing in_memory coordinators.orders (changed m e) (book.place_for m.book eui + 1) none.0 none.1) (refused_quiet ℕ m refusal.MetersFull)
+    choose_quiet (book.has_room m.book eui) _ _ (quiet_sealing in_memory coordinators.orders (changed m e) (book.place_for m.book eui + 1) none.0 none.1)
+    (refused_quiet ℕ m refusal.MetersFull)
 
 pub depot_quiet : (m : Memory) (eui : Eui) (psk : Key) → (coordinators.depot m eui psk).frames ≡ []
 depot_quiet m eui psk =
     let d = changed m (book.allowed_entry eui psk (book.entry_for m.book eui)) in
     let none = changed_none m (book.allowed_entry eui psk (book.entry_for m.book eui)) in
     choose_quiet (book.has_room m.book eui) _ _
-    (option_quiet (λ granted. option_map_or (λ e. sealing in_memory coordinators.orders (with_book_entry (book.issued_entry eui granted e) d) granted) (book.allowed_one d.memory.book eui) (refused coordinators.orders m refusal.MetersFull))
+    (option_quiet (λ granted. option_map_or (λ e. sealing in_memory coordinators.orders (with_book_entry (book.issued_entry eui granted e) d) granted)
+    (book.allowed_one d.memory.book eui) (refused coordinators.orders m refusal.MetersFull))
     (coordinators.grant_for d.memory eui) (refused coordinators.orders m refusal.MetersFull)
-    (λ granted. option_quiet (λ e. sealing in_memory coordinators.orders (with_book_entry (book.issued_entry eui granted e) d) granted) (book.allowed_one d.memory.book eui) (refused coordinators.orders m refusal.MetersFull)
-    (λ e. let n = entered_none (book.issued_entry eui granted e) d none.0 none.1 in quiet_sealing in_memory coordinators.orders (with_book_entry (book.issued_entry eui granted e) d) granted n.0 n.1) (refused_quiet Granted m refusal.MetersFull))
+    (λ granted. option_quiet (λ e. sealing in_memory coordinators.orders (with_book_entry (book.issued_entry eui granted e) d) granted)
+    (book.allowed_one d.memory.book eui) (refused coordinators.orders m refusal.MetersFull)
+    (λ e. let n = entered_none (book.issued_entry eui granted e) d none.0 none.1 in
+    quiet_sealing in_memory coordinators.orders (with_book_entry (book.issued_entry eui granted e) d) granted n.0 n.1)
+    (refused_quiet Granted m refusal.MetersFull))
     (refused_quiet Granted m refusal.MetersFull)) (refused_quiet Granted m refusal.MetersFull)
 
 -- # Accepting

@@ -27,7 +27,8 @@ use Rattle.line_laws.proofs.RangeFrames.{IsSent}
 use Rattle.line_laws.proofs.RangePlans.{RangeOk, plan_ranged}
 
 -- what a call without a frame is given
-pub call_ranged : (W : RingWord → Type 0) (cost note now : ℕ) (near : Option ℕ) → IfSome near (λ by. (by < 0xFFFE) × (cost < 2 ^ 16)) → ((to n : ℕ) (load : Load) → W (Carry to n load) → (to < 0xFFFE) × HasRoomInFrames load) → ((w : RingWord) → W w → WordFits w)
+pub call_ranged : (W : RingWord → Type 0) (cost note now : ℕ) (near : Option ℕ) → IfSome near (λ by. (by < 0xFFFE) × (cost < 2 ^ 16))
+    → ((to n : ℕ) (load : Load) → W (Carry to n load) → (to < 0xFFFE) × HasRoomInFrames load) → ((w : RingWord) → W w → WordFits w)
     → InRange W (record { got = None; cost = cost; note = note; now = now; near = near })
 call_ranged W cost note now near h carries words = record {
   comes = λ by all u c. absurd (no_some _ c.is);
@@ -42,11 +43,14 @@ call_ranged W cost note now near h carries words = record {
     by_near (Some a) h by e = (subst (λ k. k < 0xFFFE) (same_Some a by e) h.0, h.1)
 
 module _ (m : Memory) (h : IsStationRanged m.station) where
-  pub station_ranged : {H F : Type 0} (W : RingWord → Type 0) (g : Given) → InRange W g → (ends : Ends F) (p : Plan StationMemory (Result H F)) → Planned alone ends m.station Nothing (λ d (a : H). Made W g (empty_draft m.station) d × Few m.station d) p → RangeOk (of_station m p)
+  pub station_ranged : {H F : Type 0} (W : RingWord → Type 0) (g : Given) → InRange W g → (ends : Ends F) (p : Plan StationMemory (Result H F))
+      → Planned alone ends m.station Nothing (λ d (a : H). Made W g (empty_draft m.station) d × Few m.station d) p → RangeOk (of_station m p)
   unfolding resting
-  station_ranged {H = H} {F = F} W g known ends p s = plan_ranged W NoGrant NoPair NoEui g known m h ends Nothing (λ d a. MadeIn W NoGrant NoPair NoEui g m d × Few m.station d) (λ n answer k. absurd k) (λ d a x. x.0) (of_station m p) (over p s)
+  station_ranged {H = H} {F = F} W g known ends p s = plan_ranged W NoGrant NoPair NoEui g known m h ends Nothing
+      (λ d a. MadeIn W NoGrant NoPair NoEui g m d × Few m.station d) (λ n answer k. absurd k) (λ d a x. x.0) (of_station m p) (over p s)
     where
-      over : (p : Plan StationMemory (Result H F)) → Planned alone ends m.station Nothing (λ d (a : H). Made W g (empty_draft m.station) d × Few m.station d) p → Planned in_memory ends m Nothing (λ d (a : H). MadeIn W NoGrant NoPair NoEui g m d × Few m.station d) (of_station m p)
+      over : (p : Plan StationMemory (Result H F)) → Planned alone ends m.station Nothing (λ d (a : H). Made W g (empty_draft m.station) d × Few m.station d) p
+          → Planned in_memory ends m Nothing (λ d (a : H). MadeIn W NoGrant NoPair NoEui g m d × Few m.station d) (of_station m p)
       over p (Refuses reason) = Refuses reason
       over p (Keeps n answer k) = absurd k
       over p (Ended d answer done left) = Ended (whole m d) answer (Station d done.0, record { few = done.1.few }) left
@@ -57,7 +61,8 @@ module _ (m : Memory) (h : IsStationRanged m.station) where
     some : 0 < length datagram
     short : length datagram ≤ 1280
 
-  send_carries : (to note : ℕ) (datagram : List ℕ) → to < 0xFFFE → (t n : ℕ) (load : Load) → IsTheSend to note datagram (Carry t n load) → (t < 0xFFFE) × HasRoomInFrames load
+  send_carries : (to note : ℕ) (datagram : List ℕ) → to < 0xFFFE → (t n : ℕ) (load : Load) → IsTheSend to note datagram (Carry t n load)
+      → (t < 0xFFFE) × HasRoomInFrames load
   send_carries to note datagram there t n load c = subst Fits (sym c.is) (there, (c.some, c.short, h.tag))
     where
       Fits : RingWord → Type 0
@@ -72,7 +77,8 @@ module _ (m : Memory) (h : IsStationRanged m.station) where
 
   pub send_ranged : (to : ℕ) (datagram : List ℕ) (note now : ℕ) → to < 0xFFFE → RangeOk (of_station m (calls.send m.station to datagram note now))
   send_ranged to datagram note now there =
-      station_ranged (IsTheSend to note datagram) (call_given 0 note now) (call_ranged (IsTheSend to note datagram) 0 note now None tt (send_carries to note datagram there) (send_words to note datagram)) calls.sending_ends _
+      station_ranged (IsTheSend to note datagram) (call_given 0 note now)
+      (call_ranged (IsTheSend to note datagram) 0 note now None tt (send_carries to note datagram there) (send_words to note datagram)) calls.sending_ends _
       (send_is (IsTheSend to note datagram) (call_given 0 note now) m.station to datagram (λ some short. record { is = refl; some = some; short = short }))
 
   never : (w : RingWord) → ⊥ → WordFits w
@@ -80,7 +86,8 @@ module _ (m : Memory) (h : IsStationRanged m.station) where
 
   pub near_ranged : (to cost now : ℕ) → to < 0xFFFE → cost < 2 ^ 16 → RangeOk (of_station m (calls.preset_near m.station to cost now))
   near_ranged to cost now there low =
-      station_ranged NoWord (near_given to cost now) (call_ranged NoWord cost 0 now (Some to) (there, low) (λ t n load none. absurd none) never) calls.presetting_ends _
+      station_ranged NoWord (near_given to cost now) (call_ranged NoWord cost 0 now (Some to) (there, low) (λ t n load none. absurd none) never)
+      calls.presetting_ends _
       (near_is NoWord (near_given to cost now) m.station to refl)
 
   -- marks are no part of the ranges
@@ -91,12 +98,28 @@ module _ (m : Memory) (h : IsStationRanged m.station) where
       by_form : (p : Accepting) → Accepts m.station a p → RangeOk (of_station m p)
       by_form p (Turned reason) = record { station = h; frames = All-nil IsSent }
       by_form p (Plain got plain) = record { station = h; frames = All-nil IsSent }
-      by_form p (Marked from counter got x) = record { station = record { ring = h.ring; tag = h.tag; hops = h.hops; bodies = h.bodies; number = h.number }; frames = All-nil IsSent }
+      by_form p (Marked from counter got x) =
+          record { station = record { ring = h.ring; tag = h.tag; hops = h.hops; bodies = h.bodies; number = h.number }; frames = All-nil IsSent }
 
   -- time, and a link that breaks
   pub tick_ranged : (now : ℕ) → IsStationRanged (calls.tick now m.station)
-  tick_ranged now = record { ring = h.ring; tag = h.tag; hops = ended_hops (routing.is_old now) m.station.routing h.hops; bodies = All-filter (λ (b : Body). calls.is_within 30 now b.since) IsBody m.station.waiting h.bodies; number = h.number }
+  tick_ranged now = record {
+    ring = h.ring;
+    tag = h.tag;
+    hops = ended_hops (routing.is_old now) m.station.routing h.hops;
+    bodies = All-filter (λ (b : Body). calls.is_within 30 now b.since) IsBody m.station.waiting h.bodies;
+    number = h.number;
+  }
 
   pub broke_ranged : {A : Type 0} (next : ℕ) (answer : A) → RangeOk (resting (with_station (calls.broke next m.station) m) answer answer)
   unfolding resting
-  broke_ranged next answer = record { station = record { ring = h.ring; tag = h.tag; hops = ended_hops (routing.goes_by next) m.station.routing h.hops; bodies = h.bodies; number = h.number }; frames = All-nil IsSent }
+  broke_ranged next answer = record {
+    station = record {
+      ring = h.ring;
+      tag = h.tag;
+      hops = ended_hops (routing.goes_by next) m.station.routing h.hops;
+      bodies = h.bodies;
+      number = h.number;
+    };
+    frames = All-nil IsSent;
+  }

@@ -34,7 +34,8 @@ pub record SpeaksWell (own : coordinators.CoordinatorIdentity) (g : Given) (m : 
 pub data SaysOnly (own : coordinators.CoordinatorIdentity) (g : Given) (m : Memory) : RingWord → Type 0 where
   ToMeter : (to : ℕ) (join : JoinMessage) → IsReached g m to → IsSaidDown HasEight own m join → SaysOnly own g m (Carry to 0 (Command (command_of join)))
 
-pub coordinator_carries : (own : coordinators.CoordinatorIdentity) (g : Given) (m : Memory) → SpeaksWell own g m → (to n : ℕ) (load : Load) → SaysOnly own g m (Carry to n load) → (to < 0xFFFE) × HasRoomInFrames load
+pub coordinator_carries : (own : coordinators.CoordinatorIdentity) (g : Given) (m : Memory) → SpeaksWell own g m → (to n : ℕ) (load : Load)
+    → SaysOnly own g m (Carry to n load) → (to < 0xFFFE) × HasRoomInFrames load
 coordinator_carries own g m speaks to n load (ToMeter t join there said) = (speaks.reached t there, speaks.short join said)
 
 pub coordinator_words : (own : coordinators.CoordinatorIdentity) (g : Given) (m : Memory) (w : RingWord) → SaysOnly own g m w → WordFits w
@@ -46,9 +47,12 @@ AnyKey eui psk = Unit {0}
 any_eui : (octets : List ℕ) (join : JoinMessage) → join_in octets ≡ Some join → HasEight join.eui
 any_eui octets join e = (read_fits join octets e).eui
 
-pub coordinator_hears_ranged : (own : coordinators.CoordinatorIdentity) (m : Memory) (got : Accepted) (cost note now : ℕ) → InRange (SaysOnly own (heard_given got cost note now) m) (heard_given got cost note now) → IsStationRanged m.station
+pub coordinator_hears_ranged : (own : coordinators.CoordinatorIdentity) (m : Memory) (got : Accepted) (cost note now : ℕ)
+    → InRange (SaysOnly own (heard_given got cost note now) m) (heard_given got cost note now) → IsStationRanged m.station
     → RangeOk (coordinators.hear_coordinator own m got cost note now)
 coordinator_hears_ranged own m got cost note now known h =
-    plan_ranged (SaysOnly own (heard_given got cost note now) m) (λ granted. IsGranted m granted) AnyKey HasEight (heard_given got cost note now) known m h dropped (HandedIn coordinator_heard.Station (heard_given got cost note now) m) _
+    plan_ranged (SaysOnly own (heard_given got cost note now) m) (λ granted. IsGranted m granted) AnyKey HasEight (heard_given got cost note now) known m h
+    dropped (HandedIn coordinator_heard.Station (heard_given got cost note now) m) _
     (λ k answer x. handed_ranged coordinator_heard.Station (heard_given got cost note now) m k answer x h) (λ d answer x. x.0) _
-    (coordinator_is (SaysOnly own (heard_given got cost note now) m) AnyKey HasEight (heard_given got cost note now) own m (λ to there join said. ToMeter to join there said) got refl (λ u join e read. any_eui u.body join read))
+    (coordinator_is (SaysOnly own (heard_given got cost note now) m) AnyKey HasEight (heard_given got cost note now) own m
+    (λ to there join said. ToMeter to join there said) got refl (λ u join e read. any_eui u.body join read))

@@ -23,13 +23,15 @@ use Rattle.loadng_messages.specs.declared.message.Message.TheVariants.{Rreq, Rre
 use Rattle.loadng_messages.specs.Grammar as messages
 use Rattle.node_rules.specs.Frames.{to_all}
 use Rattle.node_rules.specs.Memory.{StationMemory, Body, Load, address_of, next_hop}
-use Rattle.node_rules.specs.Drafts.{Draft, tag_after, all_go, units_of, waits_for, with_rank, with_own_number, with_next_tag, with_ring, with_routing_by, goes, body_goes, waits, leave, numbers_spent}
+use Rattle.node_rules.specs.Drafts.{Draft, tag_after, all_go, units_of, waits_for, with_rank, with_own_number, with_next_tag, with_ring, with_routing_by, goes}
+use Rattle.node_rules.specs.Drafts.{body_goes, waits, leave, numbers_spent}
 use Rattle.line_laws.specs.Letters.{IsFit}
 use Rattle.line_laws.specs.Ranges.{HasRoomInFrames, IsBody, HasHop, IsStationRanged, IsOut, IsRanged}
 use Rattle.line_laws.specs.Stores.{IsReadable}
 use Rattle.line_laws.proofs.StoreFold.{WordFits, ring_fits}
 use Rattle.line_laws.proofs.RangeUnits.{less_fit, less_route, all_out}
-use Rattle.line_laws.proofs.Made.{Given, IsCome, IsTold, Offered, ByRequest, ByReply, ByItself, RingWord, Carry, mesh_of, IsLost, ByError, OnWay, IsSaid, Seeks, Answers, Relays, Passes, Tells, Forwards, Made, Starts, Ranks, Numbers, Tags, Rings, Idles, Loses, Goes, Sends, Waits, Leaves}
+use Rattle.line_laws.proofs.Made.{Given, IsCome, IsTold, Offered, ByRequest, ByReply, ByItself, RingWord, Carry, mesh_of, IsLost, ByError, OnWay, IsSaid, Seeks}
+use Rattle.line_laws.proofs.Made.{Answers, Relays, Passes, Tells, Forwards, Made, Starts, Ranks, Numbers, Tags, Rings, Idles, Loses, Goes, Sends, Waits, Leaves}
 
 -- What is known of a call and of what came: the readings and the call's own words say it.
 pub record InRange (W : RingWord → Type 0) (g : Given) : Type 0 where
@@ -55,7 +57,8 @@ hop_of entries (Some place) hop all e = by_entry (slice_get entries place) refl 
     by_route None h e = absurd (cc)
     by_route (Some t) h e = subst (λ k. k < 0xFFFE) (same_Some t.next hop e) h
 
-    by_entry : (x : Option RoutingEntry) → slice_get entries place ≡ x → option_map (λ (t : Route). t.next) (option_and_then (λ (e : RoutingEntry). e.route) x) ≡ Some hop → hop < 0xFFFE
+    by_entry : (x : Option RoutingEntry) → slice_get entries place ≡ x
+        → option_map (λ (t : Route). t.next) (option_and_then (λ (e : RoutingEntry). e.route) x) ≡ Some hop → hop < 0xFFFE
     by_entry None at e = absurd (cc)
     by_entry (Some x) at e = by_route x.route (subst HasHop (get_or_from_slice_get entries place x x at) (all place x (slice_get_within entries place x at))) e
 
@@ -64,14 +67,16 @@ unfolding next_hop routing.route_of
 hop_ranged l dest hop h e = hop_of l.routing.entries (routing.place_of l.routing.entries dest) hop h.hops e
 
 -- an offer keeps the hops one node each
-offered_hops : (r : routing.Routing) (dest : ℕ) (rank : Rank) (next now : ℕ) → next < 0xFFFE → All HasHop r.entries → All HasHop (routing.offered r dest rank next now).entries
+offered_hops : (r : routing.Routing) (dest : ℕ) (rank : Rank) (next now : ℕ) → next < 0xFFFE → All HasHop r.entries
+    → All HasHop (routing.offered r dest rank next now).entries
 unfolding routing.entered
 offered_hops r dest rank next now short all = by_gone (routing.forgotten r dest now)
   where
     e : RoutingEntry
     e = routing.offered_entry dest rank next now
 
-    by_place : (o : Option ℕ) → All HasHop (option_map_or (λ place. set r.entries place (routing.offered_entry dest rank next now)) o (r.entries ++ routing.offered_entry dest rank next now ∷ []))
+    by_place : (o : Option ℕ) → All HasHop (option_map_or (λ place. set r.entries place (routing.offered_entry dest rank next now)) o
+        (r.entries ++ routing.offered_entry dest rank next now ∷ []))
     by_place None = All-push HasHop r.entries (routing.offered_entry dest rank next now) all short
     by_place (Some place) = All-set HasHop r.entries place (routing.offered_entry dest rank next now) short all
 
@@ -79,7 +84,8 @@ offered_hops r dest rank next now short all = by_gone (routing.forgotten r dest 
     by_gone gone = by_place (routing.place_after r.entries dest gone)
 
 pub ended_hops : (test : RoutingEntry → Bool) (r : routing.Routing) → All HasHop r.entries → All HasHop (routing.ended test r).entries
-ended_hops test r all = All-map HasHop (λ e. if test e then routing.without_route e else e) r.entries (All-weaker HasHop (λ e. HasHop (if test e then routing.without_route e else e)) (λ e h. same (test e) e h) r.entries all)
+ended_hops test r all = All-map HasHop (λ e. if test e then routing.without_route e else e) r.entries
+    (All-weaker HasHop (λ e. HasHop (if test e then routing.without_route e else e)) (λ e h. same (test e) e h) r.entries all)
   where
     same : (b : Bool) (e : RoutingEntry) → HasHop e → HasHop (if b then routing.without_route e else e)
     same true e h = tt
@@ -105,11 +111,13 @@ number_ranged l left h = let other = eqb-false _ _ left in omega arith
 
 -- # Bodies that leave
 
-bodies_out : (own hop : ℕ) (bodies : List Body) → own < 0xFFFE → hop < 0xFFFE → All IsBody bodies → All IsOut (flat_map (λ b. all_go hop b.note (units_of own b.to b.load)) bodies)
+bodies_out : (own hop : ℕ) (bodies : List Body) → own < 0xFFFE → hop < 0xFFFE → All IsBody bodies
+    → All IsOut (flat_map (λ b. all_go hop b.note (units_of own b.to b.load)) bodies)
 bodies_out own hop [] here short all = All-nil IsOut
 bodies_out own hop (b ∷ bodies) here short all =
     let x = All-head IsBody b bodies all in
-    All-append IsOut (all_go hop b.note (units_of own b.to b.load)) _ (all_out own b.to here x.to hop b.note b.load short x.load) (bodies_out own hop bodies here short (All-tail IsBody b bodies all))
+    All-append IsOut (all_go hop b.note (units_of own b.to b.load)) _ (all_out own b.to here x.to hop b.note b.load short x.load)
+    (bodies_out own hop bodies here short (All-tail IsBody b bodies all))
 
 module _ (W : RingWord → Type 0) (g : Given) (s : Draft StationMemory) (known : InRange W g) (first : IsStationRanged s.memory) where
   -- # Offers
@@ -140,7 +148,8 @@ module _ (W : RingWord → Type 0) (g : Given) (s : Draft StationMemory) (known 
   message_fit (Rerr lost to) = record { fields = (omega arith, omega arith); size = omega arith }
 
   -- a route message to one node or to all
-  message_out : (to : ℕ) (m : Message) (note : ℕ) → IsTarget to → messages.IsMessage m → IsOut (record { to = to; unit = units.Local 1 (messages.spelling m); note = note })
+  message_out : (to : ℕ) (m : Message) (note : ℕ) → IsTarget to → messages.IsMessage m
+      → IsOut (record { to = to; unit = units.Local 1 (messages.spelling m); note = note })
   message_out to m note target fits = record { to = target; unit = message_fit m; route = λ e. (m, fits, refl) }
 
   one : (a : ℕ) → a < 0xFFFE → IsTarget a
@@ -162,19 +171,23 @@ module _ (W : RingWord → Type 0) (g : Given) (s : Draft StationMemory) (known 
       by_unit (units.Carried a body) h e = of_mesh a mesh h.fields e
       by_unit (units.Local code body) h e = absurd (cc)
 
-  said_out : (d : Draft StationMemory) (to : ℕ) (unit : MeshUnit) (note : ℕ) → IsStationRanged d.memory → IsSaid W g s d to unit note → IsOut (record { to = to; unit = unit; note = note })
+  said_out : (d : Draft StationMemory) (to : ℕ) (unit : MeshUnit) (note : ℕ) → IsStationRanged d.memory → IsSaid W g s d to unit note
+      → IsOut (record { to = to; unit = unit; note = note })
   said_out d to unit note h (Seeks own dest number n load here last some carried) =
-      let x = h.number in message_out to_all (Rreq number 0 own dest) 0 every ((some, omega arith), omega arith, own_ranged d.memory own h here, (known.carries dest n load carried).0)
+      let x = h.number in message_out to_all (Rreq number 0 own dest) 0 every
+      ((some, omega arith), omega arith, own_ranged d.memory own h here, (known.carries dest n load carried).0)
   said_out d to unit note h (Answers own by origin number n c dest here last some told) =
       let x = h.number in let m = known.told by true (Rreq n c origin dest) told in
-      message_out by (Rrep number 0 own origin) 0 (one by (known.comes by true _ told.came).0) ((some, omega arith), omega arith, own_ranged d.memory own h here, m.2)
+      message_out by (Rrep number 0 own origin) 0 (one by (known.comes by true _ told.came).0)
+      ((some, omega arith), omega arith, own_ranged d.memory own h here, m.2)
   said_out d to unit note h (Relays by origin dest n c rank o just told) =
       let f = offer_fits _ by origin rank o in let m = known.told by true (Rreq n c origin dest) told in
       message_out to_all (Rreq rank.number rank.cost origin dest) 0 every (f.number, f.cost, f.address, m.3)
   said_out d to unit note h (Passes by origin t hop n c rank o just told there) =
       let f = offer_fits _ by origin rank o in let m = known.told by false (Rrep n c origin t) told in
       message_out hop (Rrep rank.number rank.cost origin t) 0 (one hop (hop_ranged s.memory t hop first there)) (f.number, f.cost, f.address, m.3)
-  said_out d to unit note h (Tells hop lost t dest why there) = message_out hop (Rerr lost t) 0 (one hop (hop_ranged d.memory dest hop h there)) (lost_fits lost t why)
+  said_out d to unit note h (Tells hop lost t dest why there) =
+      message_out hop (Rerr lost t) 0 (one hop (hop_ranged d.memory dest hop h there)) (lost_fits lost t why)
   said_out d to unit note h (Forwards by hop dest u less came is there) =
       record { to = one hop (hop_ranged d.memory dest hop h there); unit = less_fit u less is (known.comes by false u came).1; route = less_route u less is }
 
@@ -186,29 +199,107 @@ module _ (W : RingWord → Type 0) (g : Given) (s : Draft StationMemory) (known 
   made_ranged d (Ranks by origin rank e made o fits) us =
       let r = made_ranged e made us in
       let f = offer_fits _ by origin rank o in
-      record { station = record { ring = r.station.ring; tag = r.station.tag; hops = offered_hops e.memory.routing origin rank by g.now f.neighbour r.station.hops; bodies = r.station.bodies; number = r.station.number }; units = r.units }
+      record {
+        station = record {
+          ring = r.station.ring;
+          tag = r.station.tag;
+          hops = offered_hops e.memory.routing origin rank by g.now f.neighbour r.station.hops;
+          bodies = r.station.bodies;
+          number = r.station.number;
+        };
+        units = r.units;
+      }
   made_ranged d (Numbers e made left) us =
       let r = made_ranged e made us in
-      record { station = record { ring = r.station.ring; tag = r.station.tag; hops = r.station.hops; bodies = r.station.bodies; number = number_ranged e.memory left r.station.number }; units = r.units }
-  made_ranged d (Tags e made first) us = let r = made_ranged e made us in record { station = record { ring = r.station.ring; tag = tag_ranged e.memory.next_tag; hops = r.station.hops; bodies = r.station.bodies; number = r.station.number }; units = r.units }
-  made_ranged d (Rings x e made change) us = let r = made_ranged e made us in record { station = record { ring = ring_fits W known.words e.memory.ring x change r.station.ring; tag = r.station.tag; hops = r.station.hops; bodies = r.station.bodies; number = r.station.number }; units = r.units }
-  made_ranged d (Idles e made) us = let r = made_ranged e made us in record { station = record { ring = r.station.ring; tag = r.station.tag; hops = rested_hops e.memory.routing r.station.hops; bodies = All-nil IsBody; number = r.station.number }; units = r.units }
-  made_ranged d (Loses lost by e made) us = let r = made_ranged e made us in record { station = record { ring = r.station.ring; tag = r.station.tag; hops = ended_hops _ e.memory.routing r.station.hops; bodies = r.station.bodies; number = r.station.number }; units = r.units }
+      record {
+        station = record {
+          ring = r.station.ring;
+          tag = r.station.tag;
+          hops = r.station.hops;
+          bodies = r.station.bodies;
+          number = number_ranged e.memory left r.station.number;
+        };
+        units = r.units;
+      }
+  made_ranged d (Tags e made first) us = let r = made_ranged e made us in
+      record {
+        station = record {
+          ring = r.station.ring;
+          tag = tag_ranged e.memory.next_tag;
+          hops = r.station.hops;
+          bodies = r.station.bodies;
+          number = r.station.number;
+        };
+        units = r.units;
+      }
+  made_ranged d (Rings x e made change) us = let r = made_ranged e made us in
+      record {
+        station = record {
+          ring = ring_fits W known.words e.memory.ring x change r.station.ring;
+          tag = r.station.tag;
+          hops = r.station.hops;
+          bodies = r.station.bodies;
+          number = r.station.number;
+        };
+        units = r.units;
+      }
+  made_ranged d (Idles e made) us = let r = made_ranged e made us in
+      record {
+        station = record {
+          ring = r.station.ring;
+          tag = r.station.tag;
+          hops = rested_hops e.memory.routing r.station.hops;
+          bodies = All-nil IsBody;
+          number = r.station.number;
+        };
+        units = r.units;
+      }
+  made_ranged d (Loses lost by e made) us = let r = made_ranged e made us in
+      record {
+        station = record {
+          ring = r.station.ring;
+          tag = r.station.tag;
+          hops = ended_hops _ e.memory.routing r.station.hops;
+          bodies = r.station.bodies;
+          number = r.station.number;
+        };
+        units = r.units;
+      }
   made_ranged d (Goes to unit note e made said alone) us =
       let r = made_ranged e made us in
       record { station = r.station; units = All-push IsOut e.units _ r.units (said_out e to unit note r.station said) }
   made_ranged d (Sends own hop to note load e made here there short carried alone) us =
       let r = made_ranged e made us in
       let c = known.carries to note load carried in
-      record { station = r.station; units = All-append IsOut e.units _ r.units (all_out own to (own_ranged e.memory own r.station here) c.0 hop note load (hop_ranged e.memory to hop r.station there) c.1) }
+      record {
+        station = r.station;
+        units = All-append IsOut e.units _ r.units
+            (all_out own to (own_ranged e.memory own r.station here) c.0 hop note load (hop_ranged e.memory to hop r.station there) c.1);
+      }
   made_ranged d (Waits to note load now e made none room short carried alone) us =
       let r = made_ranged e made us in
       let c = known.carries to note load carried in
-      record { station = record { ring = r.station.ring; tag = r.station.tag; hops = r.station.hops; bodies = All-push IsBody e.memory.waiting _ r.station.bodies (record { to = c.0; load = c.1 }); number = r.station.number }; units = r.units }
+      record {
+        station = record {
+          ring = r.station.ring;
+          tag = r.station.tag;
+          hops = r.station.hops;
+          bodies = All-push IsBody e.memory.waiting _ r.station.bodies (record { to = c.0; load = c.1 });
+          number = r.station.number;
+        };
+        units = r.units;
+      }
   made_ranged d (Leaves own dest hop rank e made here o) us =
       let r = made_ranged e made us in
       let f = offer_fits _ hop dest rank o in
       record {
-        station = record { ring = r.station.ring; tag = r.station.tag; hops = r.station.hops; bodies = All-filter (λ b. not (waits_for dest b)) IsBody e.memory.waiting r.station.bodies; number = r.station.number };
-        units = All-append IsOut e.units _ r.units (bodies_out own hop (filter (waits_for dest) e.memory.waiting) (own_ranged e.memory own r.station here) f.neighbour (All-filter (waits_for dest) IsBody e.memory.waiting r.station.bodies));
+        station = record {
+          ring = r.station.ring;
+          tag = r.station.tag;
+          hops = r.station.hops;
+          bodies = All-filter (λ b. not (waits_for dest b)) IsBody e.memory.waiting r.station.bodies;
+          number = r.station.number;
+        };
+        units = All-append IsOut e.units _ r.units (bodies_out own hop (filter (waits_for dest) e.memory.waiting) (own_ranged e.memory own r.station here)
+            f.neighbour (All-filter (waits_for dest) IsBody e.memory.waiting r.station.bodies));
       }

@@ -11,7 +11,8 @@ use Rattle.group_keys.specs.KeyRing as ring
 use Rattle.node_rules.specs.Ciphers.{Ciphers}
 use Rattle.node_rules.specs.Frames.{Sent, Sealed, Up, Down, spelled}
 use Rattle.node_rules.specs.Memory.{StationMemory, Memory}
-use Rattle.node_rules.specs.Drafts.{Draft, Outgoing, empty_draft, letters, sealed_by, sealing_key, with_rank, with_own_number, with_next_tag, with_ring, with_routing_by, goes, body_goes, waits, leave}
+use Rattle.node_rules.specs.Drafts.{Draft, Outgoing, empty_draft, letters, sealed_by, sealing_key, with_rank, with_own_number, with_next_tag, with_ring}
+use Rattle.node_rules.specs.Drafts.{with_routing_by, goes, body_goes, waits, leave}
 use Rattle.node_rules.specs.MemoryDrafts.{on_station, station_part, with_memory_by, with_pair_tags, goes_up, goes_down}
 use Rattle.node_rules.specs.Coordinators.{with_book_entry}
 use Rattle.node_rules.specs.NodeSteps.{NodeStep}
@@ -33,14 +34,16 @@ plain_sent (Down from message) h = tt
 
 -- # Letters
 
-letters_fit : (g : Granted) (key : Key) (first : ℕ) (units : List Outgoing) → IsReadable g → length units ≤ 4294967295 - first → All IsOut units → All IsSent (letters g key first units)
+letters_fit : (g : Granted) (key : Key) (first : ℕ) (units : List Outgoing) → IsReadable g → length units ≤ 4294967295 - first → All IsOut units
+    → All IsSent (letters g key first units)
 letters_fit g key first [] fits left all = All-nil IsSent
 letters_fit g key first (o ∷ rest) fits left all =
     let out = All-head IsOut o rest all in
     All-cons IsSent _ _ (record { to = out.to; from = fits.address; counter = omega arith; index = fits.grant.index; unit = out.unit; route = out.route })
     (letters_fit g key (first + 1) rest fits (omega arith) (All-tail IsOut o rest all))
 
-pub sealed_fit : (r : ring.Ring) (first : ℕ) (units : List Outgoing) → IfSome r IsReadable → length units ≤ 4294967295 - first → All IsOut units → All IsSent (sealed_by r first units)
+pub sealed_fit : (r : ring.Ring) (first : ℕ) (units : List Outgoing) → IfSome r IsReadable → length units ≤ 4294967295 - first → All IsOut units
+    → All IsSent (sealed_by r first units)
 sealed_fit None first units fits left all = All-nil IsSent
 sealed_fit (Some g) first units fits left all = by_key (sealing_key g)
   where
@@ -83,7 +86,8 @@ module _ (W : RingWord → Type 0) (g : Given) where
   }
 
 module _ (W : RingWord → Type 0) (g : Given) (known : InRange W g) where
-  pub made_in_ranged : (L : Granted → Type 0) (P : Eui → Key → Type 0) (E : Eui → Type 0) (m : Memory) (d : Draft Memory) → MadeIn W L P E g m d → IsStationRanged m.station → IsRangedIn d
+  pub made_in_ranged : (L : Granted → Type 0) (P : Eui → Key → Type 0) (E : Eui → Type 0) (m : Memory) (d : Draft Memory) → MadeIn W L P E g m d
+      → IsStationRanged m.station → IsRangedIn d
   unfolding empty_draft on_station with_memory_by with_pair_tags with_book_entry goes_up goes_down
   made_in_ranged L P E m d Begins h = record { station = h; units = All-nil IsOut; plain = All-nil IsPlainFrame }
   made_in_ranged L P E m d (Station e made) h =
@@ -97,24 +101,31 @@ module _ (W : RingWord → Type 0) (g : Given) (known : InRange W g) where
       let r = made_in_ranged L P E m e made h in
       record { station = subst IsStationRanged (sym (beside_station_of E e.memory (change e.memory) beside)) r.station; units = r.units; plain = r.plain }
   made_in_ranged L P E m d (Tags made opened e x) h = let r = made_in_ranged L P E m e x h in record { station = r.station; units = r.units; plain = r.plain }
-  made_in_ranged L P E m d (Enters x e made change) h = let r = made_in_ranged L P E m e made h in record { station = r.station; units = r.units; plain = r.plain }
+  made_in_ranged L P E m d (Enters x e made change) h =
+      let r = made_in_ranged L P E m e made h in record { station = r.station; units = r.units; plain = r.plain }
   made_in_ranged L P E m d (UpIn agent own message e made) h =
-      let r = made_in_ranged L P E m e made h in record { station = r.station; units = r.units; plain = All-push IsPlainFrame e.plain (Up agent own message) r.plain tt }
+      let r = made_in_ranged L P E m e made h in
+      record { station = r.station; units = r.units; plain = All-push IsPlainFrame e.plain (Up agent own message) r.plain tt }
   made_in_ranged L P E m d (DownIn own message e made) h =
-      let r = made_in_ranged L P E m e made h in record { station = r.station; units = r.units; plain = All-push IsPlainFrame e.plain (Down own message) r.plain tt }
+      let r = made_in_ranged L P E m e made h in
+      record { station = r.station; units = r.units; plain = All-push IsPlainFrame e.plain (Down own message) r.plain tt }
 
 -- the frames of a doing that is carried to its end
-pub frames_fit : (d : Draft Memory) → IsRangedIn d → length d.units ≤ 4294967295 - d.memory.station.counter.next → All IsSent (d.plain ++ sealed_by d.memory.station.ring d.memory.station.counter.next d.units)
-frames_fit d r left = All-append IsSent d.plain _ (All-weaker IsPlainFrame IsSent plain_sent d.plain r.plain) (sealed_fit d.memory.station.ring d.memory.station.counter.next d.units r.station.ring left r.units)
+pub frames_fit : (d : Draft Memory) → IsRangedIn d → length d.units ≤ 4294967295 - d.memory.station.counter.next
+    → All IsSent (d.plain ++ sealed_by d.memory.station.ring d.memory.station.counter.next d.units)
+frames_fit d r left = All-append IsSent d.plain _ (All-weaker IsPlainFrame IsSent plain_sent d.plain r.plain)
+    (sealed_fit d.memory.station.ring d.memory.station.counter.next d.units r.station.ring left r.units)
 
 -- # Flights
 
 flight_fits : (ciphers : Ciphers) (number : ℕ) (f : Sent) → IsSent f → IsFlight ciphers (flight_by number (spelled ciphers f))
 unfolding spelled
-flight_fits ciphers number (Sealed l) h = record { sealed = λ key e. record { letter = l; fits = h; key_is = same_Some l.key key e; octets = refl; note = refl }; plain = λ e. absurd (cc) }
+flight_fits ciphers number (Sealed l) h =
+    record { sealed = λ key e. record { letter = l; fits = h; key_is = same_Some l.key key e; octets = refl; note = refl }; plain = λ e. absurd (cc) }
 flight_fits ciphers number (Up agent from message) h = record { sealed = λ key e. absurd (cc); plain = λ e. (GoesUp agent from message refl, refl) }
 flight_fits ciphers number (Down from message) h = record { sealed = λ key e. absurd (cc); plain = λ e. (GoesDown from message refl, refl) }
 
 -- what a node sends flies as it was spelled
 pub flights_fit : {A : Type 0} (ciphers : Ciphers) (number : ℕ) (d : NodeStep A) → All IsSent d.frames → AreFlights ciphers (flights_of ciphers number d)
-flights_fit ciphers number d all = All-map (IsFlight ciphers) (λ frame. flight_by number (spelled ciphers frame)) d.frames (All-weaker IsSent (λ f. IsFlight ciphers (flight_by number (spelled ciphers f))) (flight_fits ciphers number) d.frames all)
+flights_fit ciphers number d all = All-map (IsFlight ciphers) (λ frame. flight_by number (spelled ciphers frame)) d.frames
+    (All-weaker IsSent (λ f. IsFlight ciphers (flight_by number (spelled ciphers f))) (flight_fits ciphers number) d.frames all)

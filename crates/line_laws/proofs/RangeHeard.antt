@@ -68,12 +68,15 @@ module _ (l : Letter) (fits : IsLetter l) (from counter : ℕ) (got : Accepted) 
       let read : message_in t.body ≡ Some m.0 = message_read m.0 t.body (m.1, m.2) in
       subst messages.IsMessage (same_Some m.0 message (sym read ∙ t.read)) m.1
 
-  pub heard_ranged : (W : RingWord → Type 0) → ((to n : ℕ) (load : Load) → W (Carry to n load) → (to < 0xFFFE) × HasRoomInFrames load) → ((w : RingWord) → W w → WordFits w) → InRange W heard
+  pub heard_ranged : (W : RingWord → Type 0) → ((to n : ℕ) (load : Load) → W (Carry to n load) → (to < 0xFFFE) × HasRoomInFrames load)
+      → ((w : RingWord) → W w → WordFits w) → InRange W heard
   heard_ranged W carries words = record { comes = heard_fits; told = heard_told; near = λ by e. absurd (cc); carries = carries; words = words }
 
 -- a plain frame brings no unit
-pub plain_ranged : (got : Accepted) (cost note now : ℕ) → ((from : ℕ) (all : Bool) (key : Key) → got.path ≡ paths.Sealed from all key → ⊥) → (W : RingWord → Type 0)
-    → ((to n : ℕ) (load : Load) → W (Carry to n load) → (to < 0xFFFE) × HasRoomInFrames load) → ((w : RingWord) → W w → WordFits w) → InRange W (heard_given got cost note now)
+pub plain_ranged : (got : Accepted) (cost note now : ℕ) → ((from : ℕ) (all : Bool) (key : Key) → got.path ≡ paths.Sealed from all key → ⊥)
+    → (W : RingWord → Type 0)
+    → ((to n : ℕ) (load : Load) → W (Carry to n load) → (to < 0xFFFE) × HasRoomInFrames load) → ((w : RingWord) → W w → WordFits w)
+    → InRange W (heard_given got cost note now)
 plain_ranged got cost note now plain W carries words = record {
   comes = λ by all u c. absurd (plain by all c.key (ap (λ (x : Accepted). x.path) (same_Some got c.got c.is) ∙ c.path));
   told = λ by all message t. absurd (plain by all t.came.key (ap (λ (x : Accepted). x.path) (same_Some got t.came.got t.came.is) ∙ t.came.path));
@@ -85,24 +88,31 @@ plain_ranged got cost note now plain W carries words = record {
 -- # A meter
 
 -- what the line keeps beside the store
-pub handed_ranged : {H : Type 0} (word : Heard → H) (g : Given) (m : Memory) (n : Memory) (answer : H) → HandedIn word g m n answer → IsStationRanged m.station → IsStationRanged n.station
+pub handed_ranged : {H : Type 0} (word : Heard → H) (g : Given) (m : Memory) (n : Memory) (answer : H) → HandedIn word g m n answer → IsStationRanged m.station
+    → IsStationRanged n.station
 handed_ranged word g m n answer (ByStation l a k) h = of_station_handed g m.station l a k h
   where
     of_station_handed : (g : Given) (l n : StationMemory) (a : Heard) → Handed g l n a → IsStationRanged l → IsStationRanged n
     of_station_handed g l n a (HandsUp by own mesh octets came here mine) h = h
     of_station_handed g l n a (HandsOn x none) h = h
-    of_station_handed g l n a (Gathers by own mesh piece came here mine e) h = record { ring = h.ring; tag = h.tag; hops = h.hops; bodies = h.bodies; number = h.number }
-    of_station_handed g l n a (Completes by own mesh piece note octets came here mine e) h = record { ring = h.ring; tag = h.tag; hops = h.hops; bodies = h.bodies; number = h.number }
+    of_station_handed g l n a (Gathers by own mesh piece came here mine e) h =
+        record { ring = h.ring; tag = h.tag; hops = h.hops; bodies = h.bodies; number = h.number }
+    of_station_handed g l n a (Completes by own mesh piece note octets came here mine e) h =
+        record { ring = h.ring; tag = h.tag; hops = h.hops; bodies = h.bodies; number = h.number }
 
 -- what a meter says to the coordinator fits a command
 abbrev pub SaysShort : meters.Identity → Memory → Type 0
 SaysShort x m = (join : JoinMessage) → IsSaidUp x m join → length (command_of join) ≤ 375
 
-pub meter_carries : (g : Given) (x : meters.Identity) (m : Memory) → SaysShort x m → (to n : ℕ) (load : Load) → RingCause g x m (Carry to n load) → (to < 0xFFFE) × HasRoomInFrames load
+pub meter_carries : (g : Given) (x : meters.Identity) (m : Memory) → SaysShort x m → (to n : ℕ) (load : Load) → RingCause g x m (Carry to n load)
+    → (to < 0xFFFE) × HasRoomInFrames load
 meter_carries g x m short to n load (ToCoordinator join said) = (omega arith, short join said)
 
-pub meter_hears_ranged : (x : meters.Identity) (m : Memory) (got : Accepted) (cost note now : ℕ) → InRange (RingCause (heard_given got cost note now) x m) (heard_given got cost note now) → IsStationRanged m.station → RangeOk (meters.hear_meter x m got cost note now)
+pub meter_hears_ranged : (x : meters.Identity) (m : Memory) (got : Accepted) (cost note now : ℕ)
+    → InRange (RingCause (heard_given got cost note now) x m) (heard_given got cost note now) → IsStationRanged m.station
+    → RangeOk (meters.hear_meter x m got cost note now)
 meter_hears_ranged x m got cost note now known h =
-    plan_ranged (RingCause (heard_given got cost note now) x m) NoGrant NoPair NoEui (heard_given got cost note now) known m h dropped (HandedIn meter_heard.Station (heard_given got cost note now) m) _
+    plan_ranged (RingCause (heard_given got cost note now) x m) NoGrant NoPair NoEui (heard_given got cost note now) known m h dropped
+    (HandedIn meter_heard.Station (heard_given got cost note now) m) _
     (λ n answer k. handed_ranged meter_heard.Station (heard_given got cost note now) m n answer k h) (λ d answer x. x.0) _
     (meter_is NoGrant NoPair NoEui (heard_given got cost note now) x m got refl)

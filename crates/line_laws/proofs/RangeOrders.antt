@@ -23,7 +23,8 @@ use Rattle.line_laws.specs.Ranges.{HasRoomInFrames, IsStationRanged}
 use Rattle.line_laws.specs.Sizes.{IsMemorySized}
 use Rattle.line_laws.specs.Stores.{IsHeld, IsReadable}
 use Rattle.line_laws.proofs.CallForms.{Nothing, install_is, random_is}
-use Rattle.line_laws.proofs.CoordinatorForms.{IsReached, IsSaidDown, IsGranted, allow_is, depot_is, rekey_is, activate_self_is, challenge_is, activate_is, kick_is}
+use Rattle.line_laws.proofs.CoordinatorForms.{IsReached, IsSaidDown, IsGranted, allow_is, depot_is, rekey_is, activate_self_is, challenge_is, activate_is}
+use Rattle.line_laws.proofs.CoordinatorForms.{kick_is}
 use Rattle.line_laws.proofs.Made.{RingWord, Carry, Drop, Install, Draw, Activate}
 use Rattle.line_laws.proofs.MemoryDraftForms.{AnyAnswer, MadeBy}
 use Rattle.line_laws.proofs.MeterForms.{RingCause, joins_is, leaves_is}
@@ -85,7 +86,8 @@ choose_ranged true p q a b = a
 choose_ranged false p q a b = b
 
 module _ (m : Memory) (h : IsStationRanged m.station) where
-  abbrev call : (W : RingWord → Type 0) → ((to n : ℕ) (load : Load) → W (Carry to n load) → (to < 0xFFFE) × HasRoomInFrames load) → ((w : RingWord) → W w → WordFits w) → (now : ℕ) → InRange W (call_given 0 0 now)
+  abbrev call : (W : RingWord → Type 0) → ((to n : ℕ) (load : Load) → W (Carry to n load) → (to < 0xFFFE) × HasRoomInFrames load)
+      → ((w : RingWord) → W w → WordFits w) → (now : ℕ) → InRange W (call_given 0 0 now)
   call W carries words now = call_ranged W 0 0 now None tt carries words
 
   pub rests_ranged : {A : Type 0} (answer failed : A) → RangeOk (resting m answer failed)
@@ -94,28 +96,33 @@ module _ (m : Memory) (h : IsStationRanged m.station) where
 
   pub random_ranged : (value : Rand) → RangeOk (give_random m value)
   random_ranged value =
-      plan_ranged NoWord NoGrant NoPair NoEui (call_given 0 0 0) (call NoWord (λ to n load none. absurd none) never 0) m h given_ends Nothing (MadeBy NoWord NoGrant NoPair NoEui (call_given 0 0 0) m AnyAnswer)
+      plan_ranged NoWord NoGrant NoPair NoEui (call_given 0 0 0) (call NoWord (λ to n load none. absurd none) never 0) m h given_ends Nothing
+      (MadeBy NoWord NoGrant NoPair NoEui (call_given 0 0 0) m AnyAnswer)
       (λ n answer k. absurd k) (λ d answer x. x.0) _ (random_is NoWord NoGrant NoPair NoEui (call_given 0 0 0) m value)
 
   -- a value of the workshop
   pub counter_ranged : (value : ℕ) → RangeOk (of_station m (calls.preset_counter m.station value))
   unfolding resting
-  counter_ranged value = record { station = record { ring = h.ring; tag = h.tag; hops = h.hops; bodies = h.bodies; number = h.number }; frames = All-nil IsSent }
+  counter_ranged value =
+      record { station = record { ring = h.ring; tag = h.tag; hops = h.hops; bodies = h.bodies; number = h.number }; frames = All-nil IsSent }
 
   pub number_ranged : (value : ℕ) → value < 2 ^ 16 → RangeOk (of_station m (calls.preset_number m.station value))
   unfolding resting
-  number_ranged value low = record { station = record { ring = h.ring; tag = h.tag; hops = h.hops; bodies = h.bodies; number = omega arith }; frames = All-nil IsSent }
+  number_ranged value low =
+      record { station = record { ring = h.ring; tag = h.tag; hops = h.hops; bodies = h.bodies; number = omega arith }; frames = All-nil IsSent }
 
   -- a grant of the workshop, and the first one
   pub provision_ranged : (granted : Granted) → IsReadable granted → RangeOk (meters.provision m granted)
-  provision_ranged granted fits = station_ranged m h Installing (call_given 0 0 0) (call Installing (λ to n load none. absurd none) install_words 0) calls.ringing_ends _ (install_is Installing (call_given 0 0 0) m.station granted fits)
+  provision_ranged granted fits = station_ranged m h Installing (call_given 0 0 0) (call Installing (λ to n load none. absurd none) install_words 0)
+      calls.ringing_ends _ (install_is Installing (call_given 0 0 0) m.station granted fits)
 
   pub begin_ranged : (granted : Granted) → IsReadable granted → RangeOk (coordinators.begin m granted)
   begin_ranged granted fits = choose_ranged (is_some m.station.ring) _ _ (rests_ranged _ _) (provision_ranged granted fits)
 
   -- # A meter
 
-  module _ (sized : IsMemorySized m) (ciphers : Ciphers) (fits : KeepsRanges ciphers) (eui : Eui) (psk : Key) (short : SaysShort (record { eui = eui; psk = psk; ciphers = ciphers }) m) where
+  module _ (sized : IsMemorySized m) (ciphers : Ciphers) (fits : KeepsRanges ciphers) (eui : Eui) (psk : Key)
+      (short : SaysShort (record { eui = eui; psk = psk; ciphers = ciphers }) m) where
     abbrev x : meters.Identity
     x = record { eui = eui; psk = psk; ciphers = ciphers }
 
@@ -130,23 +137,28 @@ module _ (m : Memory) (h : IsStationRanged m.station) where
 
     pub join_ranged : (agent now : ℕ) → RangeOk (meters.join x m agent now)
     join_ranged agent now =
-        plan_ranged (Says now) NoGrant NoPair NoEui (call_given 0 0 now) (known now) m h meters.joining_ends Nothing (MadeBy (Says now) NoGrant NoPair NoEui (call_given 0 0 now) m AnyAnswer)
+        plan_ranged (Says now) NoGrant NoPair NoEui (call_given 0 0 now) (known now) m h meters.joining_ends Nothing
+        (MadeBy (Says now) NoGrant NoPair NoEui (call_given 0 0 now) m AnyAnswer)
         (λ n answer k. absurd k) (λ d answer y. y.0) _ (joins_is NoGrant NoPair NoEui (call_given 0 0 now) x m agent)
 
     pub leave_ranged : RangeOk (meters.leave m)
     leave_ranged =
-        plan_ranged (Says 0) NoGrant NoPair NoEui (call_given 0 0 0) (known 0) m h meters.leaving_ends Nothing (MadeBy (Says 0) NoGrant NoPair NoEui (call_given 0 0 0) m AnyAnswer)
+        plan_ranged (Says 0) NoGrant NoPair NoEui (call_given 0 0 0) (known 0) m h meters.leaving_ends Nothing
+        (MadeBy (Says 0) NoGrant NoPair NoEui (call_given 0 0 0) m AnyAnswer)
         (λ n answer k. absurd k) (λ d answer y. y.0) _ (leaves_is NoGrant NoPair NoEui (call_given 0 0 0) x m)
 
   -- # Orders
 
   module _ (own : coordinators.CoordinatorIdentity) (now : ℕ) (speaks : SpeaksWell own (call_given 0 0 now) m) where
-    says_to : (to : ℕ) → IsReached (call_given 0 0 now) m to → (join : JoinMessage) → IsSaidDown HasEight own m join → Orders (Carry to 0 (Command (command_of join)))
+    says_to : (to : ℕ) → IsReached (call_given 0 0 now) m to → (join : JoinMessage) → IsSaidDown HasEight own m join
+        → Orders (Carry to 0 (Command (command_of join)))
     says_to to there join said = (speaks.reached to there, speaks.short join said, omega arith)
 
-    order_ranged : {H : Type 0} (p : Plan Memory (Result H CoordinatorRefusal)) → Planned in_memory coordinators.orders m Nothing (MadeBy Orders (IsGranted m) AnyKey HasEight (call_given 0 0 now) m AnyAnswer) p → RangeOk p
+    order_ranged : {H : Type 0} (p : Plan Memory (Result H CoordinatorRefusal))
+        → Planned in_memory coordinators.orders m Nothing (MadeBy Orders (IsGranted m) AnyKey HasEight (call_given 0 0 now) m AnyAnswer) p → RangeOk p
     order_ranged p s =
-        plan_ranged Orders (IsGranted m) AnyKey HasEight (call_given 0 0 now) (call Orders order_carries order_words now) m h coordinators.orders Nothing (MadeBy Orders (IsGranted m) AnyKey HasEight (call_given 0 0 now) m AnyAnswer)
+        plan_ranged Orders (IsGranted m) AnyKey HasEight (call_given 0 0 now) (call Orders order_carries order_words now) m h coordinators.orders Nothing
+        (MadeBy Orders (IsGranted m) AnyKey HasEight (call_given 0 0 now) m AnyAnswer)
         (λ n answer k. absurd k) (λ d answer x. x.0) p s
 
     pub challenge_ranged : (eui : Eui) → HasEight eui → RangeOk (coordinators.challenge own.eui m eui now)

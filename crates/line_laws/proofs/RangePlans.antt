@@ -30,11 +30,14 @@ pub record RangeOk {A : Type 0} (p : Plan Memory A) : Type 0 where
   pub station : IsStationRanged p.memory.station
   pub frames : All IsSent p.frames
 
-module _ (W : RingWord → Type 0) (L : Granted → Type 0) (P : Eui → Key → Type 0) (E : Eui → Type 0) (g : Given) (known : InRange W g) (m : Memory) (first : IsStationRanged m.station) where
-  counted_left : (d : Draft Memory) → MadeIn W L P E g m d → length d.units ≤ counters_left m.station → length d.units ≤ 4294967295 - d.memory.station.counter.next
+module _ (W : RingWord → Type 0) (L : Granted → Type 0) (P : Eui → Key → Type 0) (E : Eui → Type 0) (g : Given) (known : InRange W g) (m : Memory)
+    (first : IsStationRanged m.station) where
+  counted_left : (d : Draft Memory) → MadeIn W L P E g m d → length d.units ≤ counters_left m.station
+      → length d.units ≤ 4294967295 - d.memory.station.counter.next
   counted_left d made left = let same = ap (λ (c : counter.Counting). c.next) (made_in_counter W L P E g m d made) in omega arith
 
-  pub plan_ranged : {H F : Type 0} (ends : Ends F) (K : Memory → H → Type 0) (D : Draft Memory → H → Type 0) → ((n : Memory) (answer : H) → K n answer → IsStationRanged n.station)
+  pub plan_ranged : {H F : Type 0} (ends : Ends F) (K : Memory → H → Type 0) (D : Draft Memory → H → Type 0)
+      → ((n : Memory) (answer : H) → K n answer → IsStationRanged n.station)
       → ((d : Draft Memory) (answer : H) → D d answer → MadeIn W L P E g m d) → (p : Plan Memory (Result H F)) → Planned in_memory ends m K D p → RangeOk p
   unfolding resting
   plan_ranged ends K D kept made p (Refuses reason) = record { station = first; frames = All-nil IsSent }
@@ -57,7 +60,8 @@ outcome_ranged : {A : Type 0} (x : Node) (p : Plan Memory A) → RangeOk p
 outcome_ranged {A = A} x p ok = ⊎_elim whole cut_off (clean x.store.records x.store.cut p)
   where
     Goal : Type 0
-    Goal = let o : Outcome Memory A = carry_out x.store.records x.store.cut p in IfSome o.memory (λ (m : Memory). IsStationRanged m.station) × All IsSent o.frames
+    Goal =
+        let o : Outcome Memory A = carry_out x.store.records x.store.cut p in IfSome o.memory (λ (m : Memory). IsStationRanged m.station) × All IsSent o.frames
 
     whole : IsWhole x.store.records x.store.cut p (carry_out x.store.records x.store.cut p) → Goal
     whole w = rw (w.memory, w.frames) (ok.station, ok.frames)
@@ -70,7 +74,8 @@ pub acts_ranged : {A : Type 0} (x : Node) (halted : A) (plan : Memory → Plan M
 unfolding acts
 acts_ranged {A = A} x halted plan ok f = by_memory x.memory refl ok
   where
-    by_memory : (o : Option Memory) → x.memory ≡ o → IfSome o (λ (m : Memory). IsStationRanged m.station) → DidRanged (option_map_or (λ m. left_by x (carry_out x.store.records x.store.cut (plan m))) o (stays x halted))
+    by_memory : (o : Option Memory) → x.memory ≡ o → IfSome o (λ (m : Memory). IsStationRanged m.station)
+        → DidRanged (option_map_or (λ m. left_by x (carry_out x.store.records x.store.cut (plan m))) o (stays x halted))
     by_memory None e h = record { station = ok; frames = All-nil IsSent }
     by_memory (Some m) e h = let o = outcome_ranged x (plan m) (f m e h) in record { station = o.0; frames = o.1 }
 

@@ -1,5 +1,6 @@
 -- The units of a body are in their ranges, and so is a unit with one hop less.
-use Rattle.std.proofs.Common.{◌≡◌, ℕ, ◌+◌, ◌-◌, ◌*◌, ◌%◌, ◌<◌, ◌≤◌, ◌^◌, min, Bool, true, false, List, [], ◌∷◌, ◌++◌, length, drop, map, refl, sym, ap, ◌∙◌, subst, arith}
+use Rattle.std.proofs.Common.{◌≡◌, ℕ, ◌+◌, ◌-◌, ◌*◌, ◌%◌, ◌<◌, ◌≤◌, ◌^◌, min, Bool, true, false, List, [], ◌∷◌, ◌++◌, length, drop, map, refl, sym, ap, ◌∙◌}
+use Rattle.std.proofs.Common.{subst, arith}
 use Rattle.std.specs.Prelude.{if◌then◌else◌, nat_lt, nat_le, ◌==◌, All}
 use Rattle.std.specs.Int.{div_ceil}
 use Rattle.std.specs.List.{range_with_len}
@@ -78,7 +79,8 @@ length-piece : (p : Placed) → length (piece_spelling p) ≡ 5 + length p.octet
 unfolding piece_spelling
 length-piece p = by_offset (p.offset == 0)
   where
-    by_offset : (b : Bool) → length (if b then big_bytes 2 (0xC000 + p.size) ++ (big_bytes 2 p.tag ++ (0x41 ∷ p.octets)) else big_bytes 2 (0xE000 + p.size) ++ (big_bytes 2 p.tag ++ (p.offset ∷ p.octets))) ≡ 5 + length p.octets
+    by_offset : (b : Bool) → length (if b then big_bytes 2 (0xC000 + p.size) ++ (big_bytes 2 p.tag ++ (0x41 ∷ p.octets))
+        else big_bytes 2 (0xE000 + p.size) ++ (big_bytes 2 p.tag ++ (p.offset ∷ p.octets))) ≡ 5 + length p.octets
     by_offset true = omega arith
     by_offset false = omega arith
 
@@ -111,7 +113,8 @@ module _ (own to : ℕ) (here : own < 0xFFFE) (there : to < 0xFFFE) where
   own_is : IsMesh (own_mesh own to)
   own_is = record { hops = omega arith; origin = here; to = there }
 
-  part_fit : (d : List ℕ) (tag k : ℕ) → 375 < length d → length d ≤ 1280 → tag < 2 ^ 16 → k < div_ceil (length d) 368 → IsFit (units.Part (own_mesh own to) (piece_of d tag k))
+  part_fit : (d : List ℕ) (tag k : ℕ) → 375 < length d → length d ≤ 1280 → tag < 2 ^ 16 → k < div_ceil (length d) 368
+      → IsFit (units.Part (own_mesh own to) (piece_of d tag k))
   part_fit d tag k above below low lt = record {
     fields = (own_is, is_piece d tag k above below low lt);
     size =
@@ -128,7 +131,8 @@ module _ (own to : ℕ) (here : own < 0xFFFE) (there : to < 0xFFFE) where
       (All-map (λ (p : Placed). IsFit (units.Part (own_mesh own to) p)) (piece_of d tag) (range_with_len 0 (div_ceil (length d) 368))
       (λ k e lt.
       let within : k < div_ceil (length d) 368 = omega (arith, length-range_with_len 0 (div_ceil (length d) 368)) in
-      subst (λ (j : ℕ). IsFit (units.Part (own_mesh own to) (piece_of d tag j))) (sym (get_or-range_with_len 0 (div_ceil (length d) 368) k e within ∙ omega arith)) (part_fit d tag k above below low within)))
+      subst (λ (j : ℕ). IsFit (units.Part (own_mesh own to) (piece_of d tag j)))
+      (sym (get_or-range_with_len 0 (div_ceil (length d) 368) k e within ∙ omega arith)) (part_fit d tag k above below low within)))
 
   pub units_fit : (load : Load) → HasRoomInFrames load → All IsFit (units_of own to load)
   unfolding cut
@@ -149,7 +153,8 @@ module _ (own to : ℕ) (here : own < 0xFFFE) (there : to < 0xFFFE) where
   routeless (Command octets) = All-cons IsRoute _ [] tt (All-nil IsRoute)
   routeless (Datagram octets tag) = by_size (nat_le (length octets) 375) (cut octets tag)
     where
-      by_size : (b : Bool) (pieces : List Placed) → All IsRoute (if b then units.Whole (own_mesh own to) octets ∷ [] else map (λ piece. units.Part (own_mesh own to) piece) pieces)
+      by_size : (b : Bool) (pieces : List Placed)
+          → All IsRoute (if b then units.Whole (own_mesh own to) octets ∷ [] else map (λ piece. units.Part (own_mesh own to) piece) pieces)
       by_size true pieces = All-cons IsRoute _ [] tt (All-nil IsRoute)
       by_size false pieces = All-map IsRoute (λ piece. units.Part (own_mesh own to) piece) pieces (λ k p lt. tt)
 

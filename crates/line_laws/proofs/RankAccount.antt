@@ -28,7 +28,8 @@ pub record Account (Own : ℕ → Type 0) (C : ℕ → ℕ → Rank → Type 0) 
   pub routes : (dest next : ℕ) → next_of now dest ≡ Some next → RouteCause C first now dest next
 
 -- the same kept rank
-cause_moves : {C : ℕ → ℕ → Rank → Type 0} (first t s : Routing) (dest next : ℕ) → rank_of s dest ≡ rank_of t dest → RouteCause C first t dest next → RouteCause C first s dest next
+cause_moves : {C : ℕ → ℕ → Rank → Type 0} (first t s : Routing) (dest next : ℕ) → rank_of s dest ≡ rank_of t dest → RouteCause C first t dest next
+    → RouteCause C first s dest next
 cause_moves first t s dest next same (Stays e k) = Stays e (same ∙ k)
 cause_moves first t s dest next same (Began rank e c) = Began rank (same ∙ e) c
 
@@ -51,7 +52,8 @@ module _ {Own : ℕ → Type 0} {C : ℕ → ℕ → Rank → Type 0} where
 
   -- # An offer that is taken
 
-  entered_account : (t : Routing) (e : RoutingEntry) (route : Route) (now : ℕ) → IsRouting t → is_better t e.address e.rank ≡ true → is_full t e.address now ≡ false
+  entered_account : (t : Routing) (e : RoutingEntry) (route : Route) (now : ℕ) → IsRouting t → is_better t e.address e.rank ≡ true
+      → is_full t e.address now ≡ false
       → ¬ (Own e.address) → e.route ≡ Some route → C route.next e.address e.rank → Account Own C t (entered t e now)
   entered_account t e route now sound better room apart is cause = record {
     sound = entered_sound t e now sound room;
@@ -98,6 +100,7 @@ module _ {Own : ℕ → Type 0} {C : ℕ → ℕ → Rank → Type 0} where
     routes = λ dest next e. by_route dest next e (ended_routes test t dest);
   }
     where
-      by_route : (dest next : ℕ) → next_of (ended test t) dest ≡ Some next → (route_of (ended test t) dest ≡ route_of t dest) ⊎ (route_of (ended test t) dest ≡ None) → RouteCause C t (ended test t) dest next
+      by_route : (dest next : ℕ) → next_of (ended test t) dest ≡ Some next
+          → (route_of (ended test t) dest ≡ route_of t dest) ⊎ (route_of (ended test t) dest ≡ None) → RouteCause C t (ended test t) dest next
       by_route dest next e (inl same) = Stays (sym (ap (option_map (λ (x : Route). x.next)) same) ∙ e) (ended_ranks test t dest)
       by_route dest next e (inr none) = absurd (none-some next (sym (ap (option_map (λ (x : Route). x.next)) none) ∙ e))

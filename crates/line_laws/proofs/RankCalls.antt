@@ -86,30 +86,39 @@ module _ (At Own : ℕ → Type 0) (C : ℕ → ℕ → Rank → Type 0) (m : Me
   abbrev Ranked : {A : Type 0} → Plan Memory A → Type 0
   Ranked p = PlanRanks At Own C m p
 
-  of_station_planned : {H F : Type 0} {ends : Ends F} (W : RingWord → Type 0) (g : Given) (D : Draft StationMemory → H → Type 0) → ((d : Draft StationMemory) (a : H) → D d a → Made W g (empty_draft m.station) d)
-      → (p : Plan StationMemory (Result H F)) → Planned alone ends m.station Nothing D p → Planned in_memory ends m Nothing (λ d (a : H). MadeIn W NoGrant NoPair NoEui g m d) (of_station m p)
+  of_station_planned : {H F : Type 0} {ends : Ends F} (W : RingWord → Type 0) (g : Given) (D : Draft StationMemory → H → Type 0)
+      → ((d : Draft StationMemory) (a : H) → D d a → Made W g (empty_draft m.station) d)
+      → (p : Plan StationMemory (Result H F)) → Planned alone ends m.station Nothing D p
+      → Planned in_memory ends m Nothing (λ d (a : H). MadeIn W NoGrant NoPair NoEui g m d) (of_station m p)
   unfolding resting
   of_station_planned W g D made p (Refuses reason) = Refuses reason
   of_station_planned W g D made p (Keeps n answer k) = absurd k
   of_station_planned W g D made p (Ended d answer done left) = Ended (whole m d) answer (Station d (made d answer done)) left
 
   -- a plan that is made of words without an offer
-  quiet : {H F : Type 0} (ends : Ends F) (cost note now : ℕ) (W : RingWord → Type 0) (L : Granted → Type 0) (P : Eui → Key → Type 0) (E : Eui → Type 0) (D : Draft Memory → H → Type 0)
-      → ((granted : Granted) → W (Install granted) → At granted.address) → ((d : Draft Memory) (answer : H) → D d answer → MadeIn W L P E (call_given cost note now) m d)
+  quiet : {H F : Type 0} (ends : Ends F) (cost note now : ℕ) (W : RingWord → Type 0) (L : Granted → Type 0) (P : Eui → Key → Type 0) (E : Eui → Type 0)
+      (D : Draft Memory → H → Type 0)
+      → ((granted : Granted) → W (Install granted) → At granted.address)
+      → ((d : Draft Memory) (answer : H) → D d answer → MadeIn W L P E (call_given cost note now) m d)
       → (p : Plan Memory (Result H F)) → Planned in_memory ends m Nothing D p → Ranked p
   quiet ends cost note now W L P E D installs made p s =
-      planned_ranks At Own C W L P E (call_given cost note now) m installs (λ address at by origin rank o. absurd (no_offers cost note now address by origin rank o)) ends Nothing D (λ n answer k. absurd k) made p s here
+      planned_ranks At Own C W L P E (call_given cost note now) m installs
+      (λ address at by origin rank o. absurd (no_offers cost note now address by origin rank o)) ends Nothing D (λ n answer k. absurd k) made p s here
 
   pub send_ranks : (to : ℕ) (datagram : List ℕ) (note now : ℕ) → Ranked (of_station m (calls.send m.station to datagram note now))
   unfolding NoInstall
   send_ranks to datagram note now = quiet calls.sending_ends 0 note now NoInstall NoGrant NoPair NoEui _ (λ granted none. absurd none) (λ d a x. x) _
-      (of_station_planned NoInstall (call_given 0 note now) _ (λ d a x. x.0) _ (send_is NoInstall (call_given 0 note now) m.station to datagram (λ some short. tt)))
+      (of_station_planned NoInstall (call_given 0 note now) _ (λ d a x. x.0) _
+      (send_is NoInstall (call_given 0 note now) m.station to datagram (λ some short. tt)))
 
-  pub near_ranks : (to cost now : ℕ) → EntryFits (routing.offered_entry to (calls.near_rank cost) to now) → ¬ (Own to) → C to to (calls.near_rank cost) → Ranked (of_station m (calls.preset_near m.station to cost now))
-  near_ranks to cost now fits apart cause = planned_ranks At Own C NoWord NoGrant NoPair NoEui (near_given to cost now) m (λ granted none. absurd none) offers calls.presetting_ends Nothing _ (λ n answer k. absurd k) (λ d a x. x) _
+  pub near_ranks : (to cost now : ℕ) → EntryFits (routing.offered_entry to (calls.near_rank cost) to now) → ¬ (Own to) → C to to (calls.near_rank cost)
+      → Ranked (of_station m (calls.preset_near m.station to cost now))
+  near_ranks to cost now fits apart cause = planned_ranks At Own C NoWord NoGrant NoPair NoEui (near_given to cost now) m (λ granted none. absurd none) offers
+      calls.presetting_ends Nothing _ (λ n answer k. absurd k) (λ d a x. x) _
       (of_station_planned NoWord (near_given to cost now) _ (λ d a x. x.0) _ (near_is NoWord (near_given to cost now) m.station to refl)) here
     where
-      offers : (address : Option ℕ) → IsAt At address → (by origin : ℕ) (rank : Rank) → Offered (near_given to cost now) address by origin rank → OfferFits Own C by origin rank now
+      offers : (address : Option ℕ) → IsAt At address → (by origin : ℕ) (rank : Rank) → Offered (near_given to cost now) address by origin rank
+          → OfferFits Own C by origin rank now
       offers address at by origin rank (ByRequest own number c o dest there other few told) = absurd (no_some _ told.came.is)
       offers address at by origin rank (ByReply own number c o q there other few told) = absurd (no_some _ told.came.is)
       offers address at by origin rank (ByItself is) =
@@ -138,7 +147,8 @@ module _ (At Own : ℕ → Type 0) (C : ℕ → ℕ → Rank → Type 0) (m : Me
   pub broke_ranks : {A : Type 0} (next : ℕ) (answer : A) → Ranked (resting (with_station (calls.broke next m.station) m) answer answer)
   unfolding resting
   broke_ranks next answer = record {
-    leads = λ first. ended_leads At Own C NoWord (call_given 0 0 0) (λ granted none. absurd none) (λ address at by origin rank o. absurd (no_offers 0 0 0 address by origin rank o)) first m.station.routing (routing.goes_by next);
+    leads = λ first. ended_leads At Own C NoWord (call_given 0 0 0) (λ granted none. absurd none)
+        (λ address at by origin rank o. absurd (no_offers 0 0 0 address by origin rank o)) first m.station.routing (routing.goes_by next);
     account = λ sound. ended_account m.station.routing (routing.goes_by next) sound;
     backed = λ sound. All-nil (FrameBacked At _);
     here = here;
@@ -160,12 +170,14 @@ module _ (At Own : ℕ → Type 0) (C : ℕ → ℕ → Rank → Type 0) (m : Me
   unfolding choose
   begin_ranks key at = by_ring (is_some m.station.ring)
     where
-      by_ring : (b : Bool) → Ranked (if b then resting m (Ok tt) (Err RingStore) else within (λ l. with_station l m) (λ r. r) (calls.install m.station (first_grant key)))
+      by_ring : (b : Bool) → Ranked (if b then resting m (Ok tt) (Err RingStore)
+          else within (λ l. with_station l m) (λ r. r) (calls.install m.station (first_grant key)))
       by_ring true = resting_ranks At Own C m m _ _ refl refl here
       by_ring false = provision_ranks (first_grant key) at
 
   pub random_ranks : (value : Rand) → Ranked (give_random m value)
-  random_ranks value = quiet given_ends 0 0 0 NoWord NoGrant NoPair NoEui _ (λ granted none. absurd none) (λ d a x. x.0) _ (random_is NoWord NoGrant NoPair NoEui (call_given 0 0 0) m value)
+  random_ranks value = quiet given_ends 0 0 0 NoWord NoGrant NoPair NoEui _ (λ granted none. absurd none) (λ d a x. x.0) _
+      (random_is NoWord NoGrant NoPair NoEui (call_given 0 0 0) m value)
 
   -- # A meter
 
@@ -179,14 +191,17 @@ module _ (At Own : ℕ → Type 0) (C : ℕ → ℕ → Rank → Type 0) (m : Me
 
   pub join_ranks : (x : meters.Identity) (agent now : ℕ) → Ranked (meters.join x m agent now)
   unfolding deaf
-  join_ranks x agent now = quiet meters.joining_ends 0 0 now (RingCause (call_given 0 0 now) (deaf x) m) NoGrant NoPair NoEui _ (deaf_installs (call_given 0 0 now) x) (λ d a k. k.0) _ (joins_is NoGrant NoPair NoEui (call_given 0 0 now) (deaf x) m agent)
+  join_ranks x agent now = quiet meters.joining_ends 0 0 now (RingCause (call_given 0 0 now) (deaf x) m) NoGrant NoPair NoEui _
+      (deaf_installs (call_given 0 0 now) x) (λ d a k. k.0) _ (joins_is NoGrant NoPair NoEui (call_given 0 0 now) (deaf x) m agent)
 
   pub leave_ranks : (x : meters.Identity) → Ranked (meters.leave m)
   unfolding deaf
-  leave_ranks x = quiet meters.leaving_ends 0 0 0 (RingCause (call_given 0 0 0) (deaf x) m) NoGrant NoPair NoEui _ (deaf_installs (call_given 0 0 0) x) (λ d a k. k.0) _ (leaves_is NoGrant NoPair NoEui (call_given 0 0 0) (deaf x) m)
+  leave_ranks x = quiet meters.leaving_ends 0 0 0 (RingCause (call_given 0 0 0) (deaf x) m) NoGrant NoPair NoEui _ (deaf_installs (call_given 0 0 0) x)
+      (λ d a k. k.0) _ (leaves_is NoGrant NoPair NoEui (call_given 0 0 0) (deaf x) m)
 
   -- what is gathered and handed up is beside ranks and ring
-  handed_same : {H : Type 0} (word : Heard → H) (g : Given) (n : Memory) (answer : H) → HandedIn word g m n answer → (n.station.routing ≡ m.station.routing) × (n.station.ring ≡ m.station.ring)
+  handed_same : {H : Type 0} (word : Heard → H) (g : Given) (n : Memory) (answer : H) → HandedIn word g m n answer
+      → (n.station.routing ≡ m.station.routing) × (n.station.ring ≡ m.station.ring)
   handed_same word g n answer (ByStation l a k) = by_station l a k
     where
       by_station : (l : StationMemory) (a : Heard) → Handed g m.station l a → (l.routing ≡ m.station.routing) × (l.ring ≡ m.station.ring)
@@ -196,29 +211,38 @@ module _ (At Own : ℕ → Type 0) (C : ℕ → ℕ → Rank → Type 0) (m : Me
       by_station l a (Completes by own mesh piece note octets came there mine e) = (refl, refl)
 
   module _ (got : Accepted) (cost note now : ℕ)
-      (offers : (address : Option ℕ) → IsAt At address → (by origin : ℕ) (rank : Rank) → Offered (heard_given got cost note now) address by origin rank → OfferFits Own C by origin rank now) where
+      (offers : (address : Option ℕ) → IsAt At address → (by origin : ℕ) (rank : Rank) → Offered (heard_given got cost note now) address by origin rank
+      → OfferFits Own C by origin rank now) where
     -- what the line makes of a frame, whoever reads it
     pub hear_ranks : {H : Type 0} (word : Heard → H) → Ranked (within (λ l. with_station l m) (reading word) (hear m.station got cost note now))
-    hear_ranks word = planned_ranks At Own C NoWord NoGrant NoPair NoEui (heard_given got cost note now) m (λ granted none. absurd none) offers dropped (HandedIn word (heard_given got cost note now) m) _
+    hear_ranks word = planned_ranks At Own C NoWord NoGrant NoPair NoEui (heard_given got cost note now) m (λ granted none. absurd none) offers dropped
+        (HandedIn word (heard_given got cost note now) m) _
         (handed_same word (heard_given got cost note now)) (λ d a x. x.0) _
-        (within_planned NoWord NoGrant NoPair NoEui (heard_given got cost note now) m AnyAnswer word _ (λ h none. tt) (hear_is NoWord (heard_given got cost note now) m.station got refl)) here
+        (within_planned NoWord NoGrant NoPair NoEui (heard_given got cost note now) m AnyAnswer word _ (λ h none. tt)
+        (hear_is NoWord (heard_given got cost note now) m.station got refl)) here
 
-    pub meter_hears_ranks : (x : meters.Identity) → ((granted : Granted) → IsTaken (heard_given got cost note now) x m granted → At granted.address) → Ranked (meters.hear_meter x m got cost note now)
-    meter_hears_ranks x grants = planned_ranks At Own C (RingCause (heard_given got cost note now) x m) NoGrant NoPair NoEui (heard_given got cost note now) m installs offers dropped (HandedIn meter_heard.Station (heard_given got cost note now) m) _
-        (handed_same meter_heard.Station (heard_given got cost note now)) (λ d a k. k.0) _ (meter_is NoGrant NoPair NoEui (heard_given got cost note now) x m got refl) here
+    pub meter_hears_ranks : (x : meters.Identity) → ((granted : Granted) → IsTaken (heard_given got cost note now) x m granted → At granted.address)
+        → Ranked (meters.hear_meter x m got cost note now)
+    meter_hears_ranks x grants = planned_ranks At Own C (RingCause (heard_given got cost note now) x m) NoGrant NoPair NoEui (heard_given got cost note now) m
+        installs offers dropped (HandedIn meter_heard.Station (heard_given got cost note now) m) _
+        (handed_same meter_heard.Station (heard_given got cost note now)) (λ d a k. k.0) _
+        (meter_is NoGrant NoPair NoEui (heard_given got cost note now) x m got refl) here
       where
         installs : (granted : Granted) → RingCause (heard_given got cost note now) x m (Install granted) → At granted.address
         installs granted (ByPacket g taken) = grants granted taken
 
     pub coordinator_hears_ranks : (own : coordinators.CoordinatorIdentity) → Ranked (coordinators.hear_coordinator own m got cost note now)
     unfolding NoInstall
-    coordinator_hears_ranks own = planned_ranks At Own C NoInstall (IsGranted m) AnyPair Anyone (heard_given got cost note now) m (λ granted none. absurd none) offers dropped (HandedIn coordinator_heard.Station (heard_given got cost note now) m) _
-        (handed_same coordinator_heard.Station (heard_given got cost note now)) (λ d a k. k.0) _ (coordinator_is NoInstall AnyPair Anyone (heard_given got cost note now) own m (λ to there join said. tt) got refl (λ u join e read. tt)) here
+    coordinator_hears_ranks own = planned_ranks At Own C NoInstall (IsGranted m) AnyPair Anyone (heard_given got cost note now) m (λ granted none. absurd none)
+        offers dropped (HandedIn coordinator_heard.Station (heard_given got cost note now) m) _
+        (handed_same coordinator_heard.Station (heard_given got cost note now)) (λ d a k. k.0) _
+        (coordinator_is NoInstall AnyPair Anyone (heard_given got cost note now) own m (λ to there join said. tt) got refl (λ u join e read. tt)) here
 
   -- # Orders
 
   module _ (own : coordinators.CoordinatorIdentity) where
-    order : {H F : Type 0} (ends : Ends F) (now : ℕ) (p : Plan Memory (Result H F)) → Planned in_memory ends m Nothing (MadeBy NoInstall (IsGranted m) AnyPair Anyone (call_given 0 0 now) m AnyAnswer) p → Ranked p
+    order : {H F : Type 0} (ends : Ends F) (now : ℕ) (p : Plan Memory (Result H F))
+        → Planned in_memory ends m Nothing (MadeBy NoInstall (IsGranted m) AnyPair Anyone (call_given 0 0 now) m AnyAnswer) p → Ranked p
     unfolding NoInstall
     order ends now p s = quiet ends 0 0 now NoInstall (IsGranted m) AnyPair Anyone _ (λ granted none. absurd none) (λ d a k. k.0) p s
 
@@ -236,15 +260,18 @@ module _ (At Own : ℕ → Type 0) (C : ℕ → ℕ → Rank → Type 0) (m : Me
 
     pub activate_self_ranks : (index : ℕ) → Ranked (coordinators.activate_self m index)
     unfolding NoInstall
-    activate_self_ranks index = order coordinators.orders 0 _ (activate_self_is NoInstall AnyPair Anyone (call_given 0 0 0) own m (λ to there join said. tt) index tt)
+    activate_self_ranks index =
+        order coordinators.orders 0 _ (activate_self_is NoInstall AnyPair Anyone (call_given 0 0 0) own m (λ to there join said. tt) index tt)
 
     pub challenge_ranks : (eui : Eui) (now : ℕ) → Ranked (coordinators.challenge own.eui m eui now)
     unfolding NoInstall
-    challenge_ranks eui now = order coordinators.orders now _ (challenge_is NoInstall AnyPair Anyone (call_given 0 0 now) own m (λ to there join said. tt) eui tt)
+    challenge_ranks eui now =
+        order coordinators.orders now _ (challenge_is NoInstall AnyPair Anyone (call_given 0 0 now) own m (λ to there join said. tt) eui tt)
 
     pub activate_ranks : (eui : Eui) (index now : ℕ) → Ranked (coordinators.activate m eui index now)
     unfolding NoInstall
-    activate_ranks eui index now = order coordinators.orders now _ (activate_is NoInstall AnyPair Anyone (call_given 0 0 now) own m (λ to there join said. tt) eui index)
+    activate_ranks eui index now =
+        order coordinators.orders now _ (activate_is NoInstall AnyPair Anyone (call_given 0 0 now) own m (λ to there join said. tt) eui index)
 
     pub kick_ranks : (eui : Eui) → Ranked (coordinators.kick m eui)
     unfolding NoInstall
@@ -255,15 +282,19 @@ module _ (At Own : ℕ → Type 0) (C : ℕ → ℕ → Rank → Type 0) (m : Me
   mark_away : (place : ℕ) (octets : List ℕ) → place < 64 → IsAway (record { slot = 0x0100 + place; octets = octets })
   mark_away place octets low = record { floors = omega arith; ranks = inl (omega arith) }
 
-  keep_away : (t : marks.Table) (from counter : ℕ) → slots.IsTable marks.peers t → marks.room_for t from counter ≡ Ok (tt {0}) → AreAway (puts_of (marks.keep_write t from counter))
+  keep_away : (t : marks.Table) (from counter : ℕ) → slots.IsTable marks.peers t → marks.room_for t from counter ≡ Ok (tt {0})
+      → AreAway (puts_of (marks.keep_write t from counter))
   keep_away t from counter table room = by_place (marks.place_of t from) refl
     where
-      by_stored : (place : ℕ) (b : Bool) → place < 64 → AreAway (puts_of (if b then None else Some (slots.entry_write marks.peers place (marks.peer_ahead from counter))))
+      by_stored : (place : ℕ) (b : Bool) → place < 64
+          → AreAway (puts_of (if b then None else Some (slots.entry_write marks.peers place (marks.peer_ahead from counter))))
       by_stored place true low = tt
       by_stored place false low = (mark_away place _ low, tt)
 
       by_place : (o : Option ℕ) → marks.place_of t from ≡ o
-          → AreAway (puts_of (option_map_or (λ place. if nat_le counter (marks.peer_at t place).stored then None else Some (slots.entry_write marks.peers place (marks.peer_ahead from counter))) o (Some (slots.entry_write marks.peers (length t) (marks.peer_ahead from counter)))))
+          → AreAway (puts_of (option_map_or (λ place. if nat_le counter (marks.peer_at t place).stored then None
+          else Some (slots.entry_write marks.peers place (marks.peer_ahead from counter))) o
+          (Some (slots.entry_write marks.peers (length t) (marks.peer_ahead from counter)))))
       by_place (Some place) at =
           let there = found marks.peers t from place (record { address = 0; mark = 0; stored = 0 }) at in
           let short = table.short in

@@ -44,19 +44,23 @@ pub record PlanRanks (At Own : ℕ → Type 0) (C : ℕ → ℕ → Rank → Typ
   pub here : IsAt At (address_of p.memory.station)
 
 -- a plan that leaves ranks, routes and ring, and sends nothing
-pub resting_ranks : {A : Type 0} (At Own : ℕ → Type 0) (C : ℕ → ℕ → Rank → Type 0) (m n : Memory) (answer failed : A) → n.station.routing ≡ m.station.routing → n.station.ring ≡ m.station.ring → IsAt At (address_of m.station)
+pub resting_ranks : {A : Type 0} (At Own : ℕ → Type 0) (C : ℕ → ℕ → Rank → Type 0) (m n : Memory) (answer failed : A) → n.station.routing ≡ m.station.routing
+    → n.station.ring ≡ m.station.ring → IsAt At (address_of m.station)
     → PlanRanks At Own C m (resting n answer failed)
 unfolding resting
 resting_ranks At Own C m n answer failed same ring_same h = record {
-  leads = λ first. subst (λ t. Leads (RankKept Own C first) m.station.routing [] t) (sym same) (leads_beside (RankKept Own C first) m.station.routing m.station.routing (λ r q. q));
+  leads = λ first. subst (λ t. Leads (RankKept Own C first) m.station.routing [] t) (sym same)
+      (leads_beside (RankKept Own C first) m.station.routing m.station.routing (λ r q. q));
   account = λ sound. subst (λ t. Account Own C m.station.routing t) (sym same) (account_same m.station.routing sound);
   backed = λ sound. All-nil (FrameBacked At n.station.routing);
   here = subst (λ r. IsAt At (option_map (λ (g : Granted). g.address) r)) (sym ring_same) h;
 }
 
-module _ (At Own : ℕ → Type 0) (C : ℕ → ℕ → Rank → Type 0) (W : RingWord → Type 0) (L : Granted → Type 0) (P : Eui → Key → Type 0) (E : Eui → Type 0) (g : Given) (m : Memory)
+module _ (At Own : ℕ → Type 0) (C : ℕ → ℕ → Rank → Type 0) (W : RingWord → Type 0) (L : Granted → Type 0) (P : Eui → Key → Type 0) (E : Eui → Type 0)
+    (g : Given) (m : Memory)
     (installs : (granted : Granted) → W (Install granted) → At granted.address)
-    (offers : (address : Option ℕ) → IsAt At address → (by origin : ℕ) (rank : Rank) → Offered g address by origin rank → OfferFits Own C by origin rank g.now) where
+    (offers : (address : Option ℕ) → IsAt At address → (by origin : ℕ) (rank : Rank) → Offered g address by origin rank
+    → OfferFits Own C by origin rank g.now) where
   pub planned_ranks : {H F : Type 0} (ends : Ends F) (K : Memory → H → Type 0) (D : Draft Memory → H → Type 0)
       → ((n : Memory) (answer : H) → K n answer → (n.station.routing ≡ m.station.routing) × (n.station.ring ≡ m.station.ring))
       → ((d : Draft Memory) (answer : H) → D d answer → MadeIn W L P E g m d)
@@ -103,7 +107,8 @@ pub record NodeRanks (At Own : ℕ → Type 0) (C : ℕ → ℕ → Rank → Typ
 
 module _ (At Own : ℕ → Type 0) (C : ℕ → ℕ → Rank → Type 0) where
   pub same_ranks : (x : Node) → NodeRanks At Own C x x []
-  same_ranks x = record { above = λ dest. inl refl; not_own = λ dest is none. none; routes = λ dest next e. Stood e refl; backed = All-nil (FrameBacked At (stored x)) }
+  same_ranks x =
+      record { above = λ dest. inl refl; not_own = λ dest is none. none; routes = λ dest next e. Stood e refl; backed = All-nil (FrameBacked At (stored x)) }
 
   -- the ranks that the records before and after give
   module _ (x y : Node) (t s : routing.Routing) (sound : IsRouting t) (kept : routing.IsKept t x.store.records) (q : RankKept Own C t s y.store.records) where
@@ -114,10 +119,12 @@ module _ (At Own : ℕ → Type 0) (C : ℕ → ℕ → Rank → Type 0) where
     now dest = held_read s y.store.records q.account.sound q.kept dest
 
     above_by : (dest : ℕ) → IsAtLeast (routing.held (stored y) dest) (routing.held (stored x) dest)
-    above_by dest = subst (λ (k : Rank). IsAtLeast k (routing.held (stored x) dest)) (sym (now dest)) (subst (λ (k : Rank). IsAtLeast (routing.held s dest) k) (sym (was dest)) (q.account.above dest))
+    above_by dest = subst (λ (k : Rank). IsAtLeast k (routing.held (stored x) dest)) (sym (now dest))
+        (subst (λ (k : Rank). IsAtLeast (routing.held s dest) k) (sym (was dest)) (q.account.above dest))
 
     not_own_by : (dest : ℕ) → Own dest → routing.rank_of (stored x) dest ≡ None → routing.rank_of (stored y) dest ≡ None
-    not_own_by dest is none = rank_read s y.store.records q.account.sound q.kept dest ∙ q.account.not_own dest is (sym (rank_read t x.store.records sound kept dest) ∙ none)
+    not_own_by dest is none =
+        rank_read s y.store.records q.account.sound q.kept dest ∙ q.account.not_own dest is (sym (rank_read t x.store.records sound kept dest) ∙ none)
 
     cause_by : (dest next : ℕ) → ((h : ℕ) → routing.next_of t dest ≡ Some h → via x dest ≡ Some h) → RouteCause C t s dest next → NodeCause C x y dest next
     cause_by dest next there (Stays e k) =
@@ -133,17 +140,20 @@ module _ (At Own : ℕ → Type 0) (C : ℕ → ℕ → Rank → Type 0) where
       backed = All-nil (FrameBacked At (stored y));
     }
 
-    live_by : (n : Memory) (frames : List Sent) → y.memory ≡ Some n → n.station.routing ≡ s → ((dest h : ℕ) → routing.next_of t dest ≡ Some h → via x dest ≡ Some h) → All (FrameBacked At s) frames → NodeRanks At Own C x y frames
+    live_by : (n : Memory) (frames : List Sent) → y.memory ≡ Some n → n.station.routing ≡ s
+        → ((dest h : ℕ) → routing.next_of t dest ≡ Some h → via x dest ≡ Some h) → All (FrameBacked At s) frames → NodeRanks At Own C x y frames
     unfolding via
     live_by n frames e is there backed = record {
       above = above_by;
       not_own = not_own_by;
       routes = λ dest next k. cause_by dest next (there dest)
-          (q.account.routes dest next (sym (ap (option_and_then (λ (m : Memory). routing.next_of m.station.routing dest)) e ∙ ap (λ u. routing.next_of u dest) is) ∙ k));
+          (q.account.routes dest next (sym
+          (ap (option_and_then (λ (m : Memory). routing.next_of m.station.routing dest)) e ∙ ap (λ u. routing.next_of u dest) is) ∙ k));
       backed = All-weaker (FrameBacked At s) (FrameBacked At (stored y)) (λ f h. frame_rises At s (stored y) f (λ dest. inl (now dest)) h) frames backed;
     }
 
-  pub acts_ranks : {A : Type 0} (x : Node) (halted : A) (plan : Memory → Plan Memory A) → NodeOk x → ((m : Memory) → x.memory ≡ Some m → IsKept x.role m x.store.records → PlanRanks At Own C m (plan m))
+  pub acts_ranks : {A : Type 0} (x : Node) (halted : A) (plan : Memory → Plan Memory A) → NodeOk x
+      → ((m : Memory) → x.memory ≡ Some m → IsKept x.role m x.store.records → PlanRanks At Own C m (plan m))
       → NodeRanks At Own C x (acts x halted plan).node (acts x halted plan).frames
   unfolding acts via
   acts_ranks {A = A} x halted plan ok f = by_memory x.memory refl ok.kept
@@ -169,28 +179,39 @@ module _ (At Own : ℕ → Type 0) (C : ℕ → ℕ → Rank → Type 0) where
           sound = k.station.range.routing
 
           at_first : RankKept Own C m.station.routing m.station.routing x.store.records
-          at_first = record { account = account_same m.station.routing k.station.range.routing; ranged = record { sound = k.station.range.routing; floors = k.station.range.floors; ranks = k.station.range.ranks }; kept = k.station.routing }
+          at_first = record {
+            account = account_same m.station.routing k.station.range.routing;
+            ranged = record { sound = k.station.range.routing; floors = k.station.range.floors; ranks = k.station.range.ranks };
+            kept = k.station.routing;
+          }
 
-          whole : IsWhole x.store.records x.store.cut (plan m) (carry_out x.store.records x.store.cut (plan m)) → NodeRanks At Own C x (left_by x (carry_out x.store.records x.store.cut (plan m))).node (carry_out x.store.records x.store.cut (plan m)).frames
+          whole : IsWhole x.store.records x.store.cut (plan m) (carry_out x.store.records x.store.cut (plan m))
+              → NodeRanks At Own C x (left_by x (carry_out x.store.records x.store.cut (plan m))).node (carry_out x.store.records x.store.cut (plan m)).frames
           whole w =
               let q = ((p.leads m.station.routing).run x.store.records at_first).1 in
-              rw w.frames (live_by x (left_by x (carry_out x.store.records x.store.cut (plan m))).node m.station.routing (plan m).memory.station.routing k.station.range.routing k.station.routing
+              rw w.frames (live_by x (left_by x (carry_out x.store.records x.store.cut (plan m))).node m.station.routing (plan m).memory.station.routing
+              k.station.range.routing k.station.routing
               (subst (RankKept Own C m.station.routing (plan m).memory.station.routing) (sym w.left) q) (plan m).memory (plan m).frames w.memory refl
               (λ dest h e. ap (option_and_then (λ (n : Memory). routing.next_of n.station.routing dest)) there ∙ e) (p.backed k.station.range.routing))
 
           by_kind : (b : Bool) (front rest : List Write) (one : Write) → (plan m).puts ≡ front ++ one ∷ rest
               → Reads (RankKept Own C m.station.routing) (if b then all_put (front ++ one ∷ []) x.store.records else all_put front x.store.records)
-          by_kind true front rest one e = front_reads (RankKept Own C m.station.routing) (plan m).puts (front ++ one ∷ []) rest x.store.records (e ∙ sym (append_one front one rest)) ((p.leads m.station.routing).run x.store.records at_first).0
-          by_kind false front rest one e = front_reads (RankKept Own C m.station.routing) (plan m).puts front (one ∷ rest) x.store.records e ((p.leads m.station.routing).run x.store.records at_first).0
+          by_kind true front rest one e = front_reads (RankKept Own C m.station.routing) (plan m).puts (front ++ one ∷ []) rest x.store.records
+              (e ∙ sym (append_one front one rest)) ((p.leads m.station.routing).run x.store.records at_first).0
+          by_kind false front rest one e = front_reads (RankKept Own C m.station.routing) (plan m).puts front (one ∷ rest) x.store.records e
+              ((p.leads m.station.routing).run x.store.records at_first).0
 
-          cut_off : IsCutOff x.store.records x.store.cut (plan m) (carry_out x.store.records x.store.cut (plan m)) → NodeRanks At Own C x (left_by x (carry_out x.store.records x.store.cut (plan m))).node (carry_out x.store.records x.store.cut (plan m)).frames
+          cut_off : IsCutOff x.store.records x.store.cut (plan m) (carry_out x.store.records x.store.cut (plan m))
+              → NodeRanks At Own C x (left_by x (carry_out x.store.records x.store.cut (plan m))).node (carry_out x.store.records x.store.cut (plan m)).frames
           cut_off c =
               let q = by_kind c.by.keeps_new c.front c.rest c.write c.split in
-              rw c.frames (halted_by x (left_by x (carry_out x.store.records x.store.cut (plan m))).node m.station.routing q.memory k.station.range.routing k.station.routing
+              rw c.frames (halted_by x (left_by x (carry_out x.store.records x.store.cut (plan m))).node m.station.routing q.memory k.station.range.routing
+              k.station.routing
               (subst (RankKept Own C m.station.routing q.memory) (sym c.left) q.kept) c.memory)
 
       by_memory : (o : Option Memory) → x.memory ≡ o → Left (IsKept x.role) x.store.records o
-          → let d : NodeStep A = option_map_or (λ m. left_by x (carry_out x.store.records x.store.cut (plan m))) o (stays x halted) in NodeRanks At Own C x d.node d.frames
+          → let d : NodeStep A = option_map_or (λ m. left_by x (carry_out x.store.records x.store.cut (plan m))) o (stays x halted) in
+          NodeRanks At Own C x d.node d.frames
       by_memory None e kept = same_ranks x
       by_memory (Some m) e kept = by_plan m e kept (f m e kept)
 

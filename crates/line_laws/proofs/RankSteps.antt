@@ -30,7 +30,8 @@ pub data After (r s : Routing) (e : RoutingEntry) (dest : ℕ) : Type 0 where
 
 by_found : (s : Routing) (dest : ℕ) (o : Option RoutingEntry) → find (is_at dest) s.entries ≡ o
     → (rank_of s dest ≡ option_map (λ (x : RoutingEntry). x.rank) o) × (route_of s dest ≡ option_and_then (λ (x : RoutingEntry). x.route) o)
-by_found s dest o e = (rank-by s dest ∙ ap (option_map (λ (x : RoutingEntry). x.rank)) e, route-by s dest ∙ ap (option_and_then (λ (x : RoutingEntry). x.route)) e)
+by_found s dest o e =
+    (rank-by s dest ∙ ap (option_map (λ (x : RoutingEntry). x.rank)) e, route-by s dest ∙ ap (option_and_then (λ (x : RoutingEntry). x.route)) e)
 
 came_after : (r s : Routing) (e : RoutingEntry) (lost : Option RoutingEntry) → Came r.entries s.entries e lost → (dest : ℕ) → After r s e dest
 came_after r s e lost c dest = by_dest lost c (cases_eq dest e.address)
@@ -68,14 +69,16 @@ entered_after r e now h room dest = by_place (place_of r.entries e.address) refl
     short : (length r.entries == 64) ≡ false → length r.entries < 64
     short is = let top = h.entries.short in grind (arith, nat_tests)
 
-    by_given : place_of r.entries e.address ≡ None → (g : RoutingEntry) → first_to_go now r.entries ≡ Some g → (length r.entries == 64) ≡ true → (o : Option ℕ) → place_of r.entries g.address ≡ o
+    by_given : place_of r.entries e.address ≡ None → (g : RoutingEntry) → first_to_go now r.entries ≡ Some g → (length r.entries == 64) ≡ true → (o : Option ℕ)
+        → place_of r.entries g.address ≡ o
         → is_some o ≡ true → After r (entered r e now) e dest
     by_given at g first whole None given there = absurd (cc (there))
     by_given at g first whole (Some k) given there =
         let is = entered_first r e now at whole ∙ ap (λ (o : Option RoutingEntry). after_of r o e) first ∙ after_gone r g e k given in
         to _ (Some g) is (came_gone r.entries e g k h.entries at (gone_among now r.entries g first) given)
 
-    by_gone : place_of r.entries e.address ≡ None → (length r.entries == 64) ≡ true → (o : Option RoutingEntry) → first_to_go now r.entries ≡ o → is_some o ≡ true → After r (entered r e now) e dest
+    by_gone : place_of r.entries e.address ≡ None → (length r.entries == 64) ≡ true → (o : Option RoutingEntry) → first_to_go now r.entries ≡ o
+        → is_some o ≡ true → After r (entered r e now) e dest
     by_gone at whole None first there = absurd (cc (there))
     by_gone at whole (Some g) first there =
         by_given at g first whole (place_of r.entries g.address) refl (place_there r.entries g (gone_among now r.entries g first))
@@ -89,7 +92,8 @@ entered_after r e now h room dest = by_place (place_of r.entries e.address) refl
     by_place None at = by_length at (length r.entries == 64) refl
 
 -- between the two writes every kept rank and route is as before
-pub half_same : (r : Routing) (at now dest : ℕ) → (rank_of (half_entered r at now) dest ≡ rank_of r dest) × (route_of (half_entered r at now) dest ≡ route_of r dest)
+pub half_same : (r : Routing) (at now dest : ℕ)
+    → (rank_of (half_entered r at now) dest ≡ rank_of r dest) × (route_of (half_entered r at now) dest ≡ route_of r dest)
 unfolding half_entered rank_of route_of
 half_same r at now dest = by_gone (forgotten r at now)
   where

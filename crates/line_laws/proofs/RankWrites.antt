@@ -1,6 +1,7 @@
 -- The writes of an offer, and each front of them, leave records that give ranks by the account.
 use Rattle.std.proofs.lemmas.List.{length-append}
-use Rattle.std.proofs.Common.{◌≡◌, ◌≢◌, ◌⊎◌, inl, ⊎_elim, ℕ, zero, suc, ◌+◌, ◌<◌, ◌^◌, Bool, true, false, List, [], ◌∷◌, ◌++◌, length, get_or, set, Option, Some, None, refl, sym, ap, ◌∙◌, subst, arith}
+use Rattle.std.proofs.Common.{◌≡◌, ◌≢◌, ◌⊎◌, inl, ⊎_elim, ℕ, zero, suc, ◌+◌, ◌<◌, ◌^◌, Bool, true, false, List, [], ◌∷◌, ◌++◌, length, get_or, set, Option}
+use Rattle.std.proofs.Common.{Some, None, refl, sym, ap, ◌∙◌, subst, arith}
 use Rattle.std.specs.Prelude.{if◌then◌else◌, All, is_some, ◌==◌, unwrap_or, slice_get}
 use Rattle.std.specs.FinMap.{get, insert}
 use Rattle.std.proofs.lemmas.Bool.{cases_eq}
@@ -16,7 +17,8 @@ use Rattle.routing_set.specs.declared.entry.RoutingEntry.{RoutingEntry}
 use Rattle.routing_set.specs.RoutingSet as routing
 use Rattle.routing_set.proofs.Entries.{entry_in-octets_of}
 use Rattle.routing_set.proofs.FloorRecords.{floors_in-insert}
-use Rattle.routing_set.proofs.Offers.{entered_held, writes_held, entered_new, writes_new, entered_first, writes_first, after_gone, gone_among, place_there, one_goes, room_old, half_first}
+use Rattle.routing_set.proofs.Offers.{entered_held, writes_held, entered_new, writes_new, entered_first, writes_first, after_gone, gone_among, place_there}
+use Rattle.routing_set.proofs.Offers.{one_goes, room_old, half_first}
 use Rattle.line_laws.specs.Stores.{HasShortRank}
 use Rattle.line_laws.proofs.Keeping.{Leads, leads_beside, leads_one, leads_append, leads_when}
 use Rattle.line_laws.proofs.Slots.{put_outside, routing_stays}
@@ -82,7 +84,8 @@ module _ (Own : ℕ → Type 0) (C : ℕ → ℕ → Rank → Type 0) (first : r
     ranged = x;
     kept = record {
       floors = floors_stay t r (length t.entries) (routing.octets_of e) q.kept;
-      ranks = stored_push routing.ranks t.entries r _ e q.kept.ranks (let longer = length-append t.entries (e ∷ []) in omega (arith, x.sound.entries.short)) refl (reads_entry e (length t.entries) f);
+      ranks = stored_push routing.ranks t.entries r _ e q.kept.ranks (let longer = length-append t.entries (e ∷ []) in omega (arith, x.sound.entries.short))
+          refl (reads_entry e (length t.entries) f);
     };
   })
 
@@ -95,10 +98,13 @@ module _ (Own : ℕ → Type 0) (C : ℕ → ℕ → Rank → Type 0) (first : r
       by_rise false = fits class
       by_rise true =
           let within : routing.class_of gone.address < length floors = omega arith in
-          ⊎_elim (λ (here : class ≡ routing.class_of gone.address). rw (here, get_or-set_same floors (routing.class_of gone.address) gone.rank.number 0 within) number.0)
-          (λ (other : class ≢ routing.class_of gone.address). rw (get_or-set_other floors (routing.class_of gone.address) class gone.rank.number 0 other) (fits class)) (cases_eq class (routing.class_of gone.address))
+          ⊎_elim (λ (here : class ≡ routing.class_of gone.address). rw (here, get_or-set_same floors (routing.class_of gone.address) gone.rank.number 0 within)
+          number.0)
+          (λ (other : class ≢ routing.class_of gone.address). rw (get_or-set_other floors (routing.class_of gone.address) class gone.rank.number 0 other)
+          (fits class)) (cases_eq class (routing.class_of gone.address))
 
-  half_leads : (t : routing.Routing) (gone : RoutingEntry) → ((r : Records) → Q t r → Account Own C first (record t { floors = routing.raised t.floors gone })) → IsRanged (record t { floors = routing.raised t.floors gone })
+  half_leads : (t : routing.Routing) (gone : RoutingEntry) → ((r : Records) → Q t r → Account Own C first (record t { floors = routing.raised t.floors gone }))
+      → IsRanged (record t { floors = routing.raised t.floors gone })
       → Leads Q t (puts_of (routing.floors_due t.floors (Some gone))) (record t { floors = routing.raised t.floors gone })
   half_leads t gone a x = by_rise (routing.raises t.floors gone) refl
     where
@@ -106,7 +112,8 @@ module _ (Own : ℕ → Type 0) (C : ℕ → ℕ → Rank → Type 0) (first : r
       rose b = if b then set t.floors (routing.class_of gone.address) gone.rank.number else t.floors
 
       by_rise : (b : Bool) → routing.raises t.floors gone ≡ b
-          → Leads Q t (puts_of (if b then Some (routing.floors_write (routing.raised t.floors gone)) else None)) (record t { floors = routing.raised t.floors gone })
+          → Leads Q t (puts_of (if b then Some (routing.floors_write (routing.raised t.floors gone)) else None))
+          (record t { floors = routing.raised t.floors gone })
       by_rise false e =
           let same : routing.raised t.floors gone ≡ t.floors = ap rose e in
           subst (λ fs. Leads Q t [] (record t { floors = fs })) (sym same) (leads_beside Q t t (λ r q. q))
@@ -120,7 +127,8 @@ module _ (Own : ℕ → Type 0) (C : ℕ → ℕ → Rank → Type 0) (first : r
       })
 
   module _ (e : RoutingEntry) (now : ℕ) (t : routing.Routing) (f : EntryFits e) (x : IsRanged t) (room : routing.is_full t e.address now ≡ false)
-      (account : (r : Records) → Q t r → Account Own C first (routing.entered t e now)) (between : (r : Records) → Q t r → Account Own C first (routing.half_entered t e.address now)) where
+      (account : (r : Records) → Q t r → Account Own C first (routing.entered t e now))
+      (between : (r : Records) → Q t r → Account Own C first (routing.half_entered t e.address now)) where
     abbrev Goal : Type 0
     Goal = Leads Q t (routing.entry_writes t e now) (routing.entered t e now)
 
@@ -146,7 +154,8 @@ module _ (Own : ℕ → Type 0) (C : ℕ → ℕ → Rank → Type 0) (first : r
           ranks = All-push HasShortRank t.entries e x.ranks (f.number, f.cost);
         })))
 
-    among_number : (entries : List RoutingEntry) (gone : RoutingEntry) (place : ℕ) → slice_get entries place ≡ Some gone → All HasShortRank entries → HasShortRank gone
+    among_number : (entries : List RoutingEntry) (gone : RoutingEntry) (place : ℕ) → slice_get entries place ≡ Some gone → All HasShortRank entries
+        → HasShortRank gone
     among_number [] gone place e all = absurd (cc)
     among_number (y ∷ ys) gone zero e all = let is : y ≡ gone = cc in subst HasShortRank is (all 0 y (omega arith))
     among_number (y ∷ ys) gone (suc place) e all = among_number ys gone place e (λ k d lt. all (suc k) d (omega arith))
@@ -156,13 +165,15 @@ module _ (Own : ℕ → Type 0) (C : ℕ → ℕ → Rank → Type 0) (first : r
     writes_gone gone place at =
         ap (λ (o : Option ℕ). puts_of (routing.floors_due t.floors (Some gone)) ++ slots.entry_write routing.ranks (unwrap_or o (length t.entries)) e ∷ []) at
 
-    in_place : (gone : RoutingEntry) (place : ℕ) → routing.place_of t.entries e.address ≡ None → (length t.entries == 64) ≡ true → routing.first_to_go now t.entries ≡ Some gone
+    in_place : (gone : RoutingEntry) (place : ℕ) → routing.place_of t.entries e.address ≡ None → (length t.entries == 64) ≡ true
+        → routing.first_to_go now t.entries ≡ Some gone
         → routing.place_of t.entries gone.address ≡ Some place → Goal
     in_place gone place at whole first_is there =
         let within = found routing.ranks t.entries gone.address place gone there in
         let is : routing.entered t e now ≡ record { entries = set t.entries place e; floors = routing.raised t.floors gone }
         = entered_first t e now at whole ∙ ap (λ o. routing.after_of t o e) first_is ∙ after_gone t gone e place there in
-        let half_is : routing.half_entered t e.address now ≡ record t { floors = routing.raised t.floors gone } = half_first t e.address now at whole ∙ ap (λ o. routing.half_of t o) first_is in
+        let half_is : routing.half_entered t e.address now
+        ≡ record t { floors = routing.raised t.floors gone } = half_first t e.address now at whole ∙ ap (λ o. routing.half_of t o) first_is in
         let puts : routing.entry_writes t e now ≡ puts_of (routing.floors_due t.floors (Some gone)) ++ slots.entry_write routing.ranks place e ∷ []
         = writes_first t e now at whole ∙ ap (λ o. routing.writes_of t o e) first_is ∙ writes_gone gone place there in
         let there_is = gone_among now t.entries gone first_is in
@@ -173,12 +184,14 @@ module _ (Own : ℕ → Type 0) (C : ℕ → ℕ → Rank → Type 0) (first : r
         let half = subst (Account Own C first) half_is (between r q) in
         leads_append Q t (record t { floors = routing.raised t.floors gone }) _ _ _
         (half_leads t gone (λ s p. half) (record { sound = half.sound; floors = low; ranks = x.ranks }))
-        (place_leads (record t { floors = routing.raised t.floors gone }) e place within.0 f (λ s p. after) (record { sound = after.sound; floors = low; ranks = All-set HasShortRank t.entries place e (f.number, f.cost) x.ranks }))))
+        (place_leads (record t { floors = routing.raised t.floors gone }) e place within.0 f (λ s p. after)
+        (record { sound = after.sound; floors = low; ranks = All-set HasShortRank t.entries place e (f.number, f.cost) x.ranks }))))
 
     entry_leads : Goal
     entry_leads = by_place (routing.place_of t.entries e.address) refl
       where
-        by_given : (gone : RoutingEntry) (o : Option ℕ) → routing.place_of t.entries gone.address ≡ o → is_some o ≡ true → routing.place_of t.entries e.address ≡ None
+        by_given : (gone : RoutingEntry) (o : Option ℕ) → routing.place_of t.entries gone.address ≡ o → is_some o ≡ true
+            → routing.place_of t.entries e.address ≡ None
             → (length t.entries == 64) ≡ true → routing.first_to_go now t.entries ≡ Some gone → Goal
         by_given gone None there some at whole first_is = absurd (cc)
         by_given gone (Some place) there some at whole first_is = in_place gone place at whole first_is there
@@ -198,7 +211,8 @@ module _ (Own : ℕ → Type 0) (C : ℕ → ℕ → Rank → Type 0) (first : r
         by_place None at = by_length (length t.entries == 64) refl at
 
   -- an offer that is taken, also where it is cut off between its writes
-  pub offered_leads : (t : routing.Routing) (dest : ℕ) (rank : Rank) (by now : ℕ) → EntryFits (routing.offered_entry dest rank by now) → routing.is_better t dest rank ≡ true → routing.is_full t dest now ≡ false
+  pub offered_leads : (t : routing.Routing) (dest : ℕ) (rank : Rank) (by now : ℕ) → EntryFits (routing.offered_entry dest rank by now)
+      → routing.is_better t dest rank ≡ true → routing.is_full t dest now ≡ false
       → ¬ (Own dest) → C by dest rank → Leads Q t (routing.offer_writes t dest rank by now) (routing.offered t dest rank by now)
   offered_leads t dest rank by now f better room apart cause = leads_when Q t _ _ (λ r q.
       entry_leads (routing.offered_entry dest rank by now) now t f q.ranged room

@@ -1,5 +1,6 @@
 -- What each node holds of checks and of its scan follows its history, event by event.
-use Rattle.std.proofs.Common.{zero, suc, ◌≡◌, ◌≢◌, ℕ, ◌+◌, ◌≤◌, ◌<◌, Bool, true, false, List, [], ◌∷◌, ◌++◌, length, Option, Some, None, Result, Ok, Err, refl, sym, ap, ◌∙◌, subst, arith}
+use Rattle.std.proofs.Common.{zero, suc, ◌≡◌, ◌≢◌, ℕ, ◌+◌, ◌≤◌, ◌<◌, Bool, true, false, List, [], ◌∷◌, ◌++◌, length, Option, Some, None, Result, Ok, Err, refl}
+use Rattle.std.proofs.Common.{sym, ap, ◌∙◌, subst, arith}
 use Rattle.std.specs.Prelude.{if◌then◌else◌, ◌==◌, All, is_some, nat_lt, slice_get, slice_set, map, unwrap_or}
 use Rattle.std.specs.Option.{option_map, option_map_or}
 use Rattle.std.proofs.lemmas.Bool.{eq-eqb, eqb-false, eqb-true}
@@ -56,8 +57,10 @@ use Rattle.reach_rules.specs.declared.refusal.ChooseRefusal.TheVariants as choic
 use Rattle.reach_rules.specs.declared.refusal.DiscoveryDropped.{DiscoveryDropped}
 use Rattle.reach_rules.specs.declared.refusal.DiscoveryDropped.TheVariants as discovery_drops
 use Rattle.reach_rules.specs.declared.refusal.ScanRefusal.TheVariants as scan_faults
-use Rattle.reach_rules.specs.Beacons.{Discovering, beacons, begin_scan, choose_agent, choosing_ends, cost_home, hear_discovery_in, is_foreign, joins_by, takes_beacon, takes_beacons, stays as stays_scan}
-use Rattle.reach_rules.specs.Broadcasts.{admits_broadcast, broadcast, broadcast_ends, broadcast_fault, broadcast_from, datagram_fault, goes_further, hear_broadcast_in, hop_less, own_broadcast, with_broadcast_mark, with_broadcast_number}
+use Rattle.reach_rules.specs.Beacons.{Discovering, beacons, begin_scan, choose_agent, choosing_ends, cost_home, hear_discovery_in, is_foreign, joins_by}
+use Rattle.reach_rules.specs.Beacons.{takes_beacon, takes_beacons, stays as stays_scan}
+use Rattle.reach_rules.specs.Broadcasts.{admits_broadcast, broadcast, broadcast_ends, broadcast_fault, broadcast_from, datagram_fault, goes_further}
+use Rattle.reach_rules.specs.Broadcasts.{hear_broadcast_in, hop_less, own_broadcast, with_broadcast_mark, with_broadcast_number}
 use Rattle.reach_rules.specs.CheckedReplies.{checks_after, hear_acknowledgement_in, message_of}
 use Rattle.reach_rules.specs.PathAsking.{ask_ends, ask_path, asks_by as asks_over, asks_from, follows_path, hear_path_in, next_toward, path_word}
 use Rattle.reach_rules.specs.ReachingNodes.{Beside, Reaching, drop_it, in_reach, nothing_beside, reach_ends, restarted_by, tells_neighbours, tick_beside}
@@ -67,7 +70,8 @@ use Rattle.line_events.specs.declared.event.Answer.{Answer}
 use Rattle.line_events.specs.declared.event.Event.{Event}
 use Rattle.line_events.specs.declared.event.Event.TheVariants as events
 use Rattle.line_events.specs.Events.{AreEvents, IsEvent}
-use Rattle.line_rules.specs.Further.{acknowledged_by, acknowledged_if, acknowledging, adds_frames, beacon_taken, beside_after, beside_at, checked, due, line_step, reaches, replied, restarts_by, scanning as scanning_of, sends_nothing, with_beside, with_check, without_log}
+use Rattle.line_rules.specs.Further.{acknowledged_by, acknowledged_if, acknowledging, adds_frames, beacon_taken, beside_after, beside_at, checked, due}
+use Rattle.line_rules.specs.Further.{line_step, reaches, replied, restarts_by, scanning as scanning_of, sends_nothing, with_beside, with_check, without_log}
 use Rattle.line_rules.specs.FurtherRuns.{AreOfHistoryAfter, IsOfHistory, check_history, check_step, checked_by, scan_history, scan_step, scanned_by}
 use Rattle.line_rules.specs.Logs.{AreLogged, LogsKept}
 use Rattle.line_rules.specs.Runs.{Entry, IsRun, events_of}
@@ -77,7 +81,8 @@ use Rattle.line_rules.specs.Worlds.{Heard as HeardOf}
 use Rattle.line_laws.specs.FurtherLines.{HoldsAfter}
 use Rattle.line_laws.specs.Reach.{EveryHistoryIsKept}
 use Rattle.line_laws.proofs.FurtherOctets.{every_run_holds}
-use Rattle.line_laws.proofs.ReachSteps.{Asks, Bcasts, Checked, Chooses, Commands, Discovers, Fails, Hears, IsAccepted, IsOther, IsReachStep, Known, Opens, Restarts, Rests, Scans as Begins, Ticks, Unbelieves, after_accepting, heard_node, reach_step_is}
+use Rattle.line_laws.proofs.ReachSteps.{Asks, Bcasts, Checked, Chooses, Commands, Discovers, Fails, Hears, IsAccepted, IsOther, IsReachStep, Known, Opens}
+use Rattle.line_laws.proofs.ReachSteps.{Restarts, Rests, Scans as Begins, Ticks, Unbelieves, after_accepting, heard_node, reach_step_is}
 use Rattle.line_laws.proofs.Tellings as old
 
 -- # Histories

@@ -72,7 +72,8 @@ module _ (w : World) (before : List Entry) (o : Sound w before) where
             (λ m here. speaks.asks number x m target there here)).frames;
         choices = λ number k x psk there pair. (choice_ranged w o.stands.ok o.stands.speaks o.ranged number k x psk there).frames;
         commands = λ event number x octets got cost c h e.
-            (one_did (left_hearing w x octets got cost) (Err (reach_drops.Known drops.Store)) (with_beside (beside_at w number) (λ y. hear_command in_memory y c))
+            (one_did (left_hearing w x octets got cost) (Err (reach_drops.Known drops.Store))
+            (with_beside (beside_at w number) (λ y. hear_command in_memory y c))
             (left_ranged event number x octets got cost h)
             (λ m here. speaks.commands event number x octets got cost c m h.says h.comes h.there h.is e here)).frames;
         acknowledges = λ event number x octets got cost reply h owed.

@@ -26,9 +26,12 @@ use Rattle.line_rules.specs.Answers.{Reception, frame_word}
 use Rattle.line_events.specs.Events.{IsEvent, IsLineOctets}
 use Rattle.line_rules.specs.Forgery.{Comes, OfFlight, OfScript, accepting}
 use Rattle.line_rules.specs.FurtherRuns.{is_restart_of, is_tick}
-use Rattle.line_rules.specs.Further.{accepted_further, after_ok, asks_by, bcast, broadcasts_by, checked, checks, choose, chooses_by, comes, commanded, delivers, discovers_by, heard_by, heard_further, injects, is_dropped, line_step, path, restarts_by, restarts_further, scan, scans_by, ticks, unbelieved}
+use Rattle.line_rules.specs.Further.{accepted_further, after_ok, asks_by, bcast, broadcasts_by, checked, checks, choose, chooses_by, comes, commanded, delivers}
+use Rattle.line_rules.specs.Further.{discovers_by, heard_by, heard_further, injects, is_dropped, line_step, path, restarts_by, restarts_further, scan, scans_by}
+use Rattle.line_rules.specs.Further.{ticks, unbelieved}
 use Rattle.line_rules.specs.Logs.{LogsKept}
-use Rattle.line_rules.specs.Steps.{Step, happened, has_begun, heard, hears, in_setup, note_by, on_flight, on_meter, on_node, once_begun, psk_of, ran, set_up, takes_setup, tick, ticked, told, trace_of}
+use Rattle.line_rules.specs.Steps.{Step, happened, has_begun, heard, hears, in_setup, note_by, on_flight, on_meter, on_node, once_begun, psk_of, ran, set_up}
+use Rattle.line_rules.specs.Steps.{takes_setup, tick, ticked, told, trace_of}
 use Rattle.line_rules.specs.Worlds.{World, Trace, Flight, flight_at, node_at}
 use Rattle.line_laws.specs.ReachTraces.{link_of}
 use Rattle.line_laws.proofs.FurtherSteps.{restarts_read}

@@ -1,5 +1,6 @@
 -- What the history and the report have of further reach is there exactly where the answer says so, event by event, with its frame.
-use Rattle.std.proofs.Common.{zero, suc, ◌≡◌, ℕ, ◌+◌, Bool, true, false, List, [], ◌∷◌, ◌++◌, length, drop, map, append-nil, Option, Some, None, Result, Ok, Err, refl, sym, ap, ◌∙◌, subst}
+use Rattle.std.proofs.Common.{zero, suc, ◌≡◌, ℕ, ◌+◌, Bool, true, false, List, [], ◌∷◌, ◌++◌, length, drop, map, append-nil, Option, Some, None, Result, Ok}
+use Rattle.std.proofs.Common.{Err, refl, sym, ap, ◌∙◌, subst}
 use Rattle.std.specs.Prelude.{All, IfSome, is_some, slice_get, if◌then◌else◌}
 use Rattle.std.specs.Option.{option_map, option_map_or}
 use Rattle.std.proofs.Math.Seq.{drop-append_seam}
@@ -47,7 +48,8 @@ use Rattle.reach_rules.specs.declared.refusal.BroadcastRefusal.TheVariants as br
 use Rattle.reach_rules.specs.declared.refusal.ScanRefusal.{ScanRefusal}
 use Rattle.reach_rules.specs.declared.refusal.ScanRefusal.TheVariants as scan_faults
 use Rattle.reach_rules.specs.PathAsking.{ask_path}
-use Rattle.reach_rules.specs.Beacons.{Discovering, beacons, begin_scan, choose_agent, cost_home, hear_discovery, hear_discovery_in, is_foreign, takes_beacon, takes_beacons, stays as stays_scan}
+use Rattle.reach_rules.specs.Beacons.{Discovering, beacons, begin_scan, choose_agent, cost_home, hear_discovery, hear_discovery_in, is_foreign, takes_beacon}
+use Rattle.reach_rules.specs.Beacons.{takes_beacons, stays as stays_scan}
 use Rattle.reach_rules.specs.Broadcasts.{broadcast, broadcast_ends, broadcast_from}
 use Rattle.reach_rules.specs.CheckedReplies.{message_of}
 use Rattle.reach_rules.specs.ReachingNodes.{Beside, Reaching}
@@ -58,7 +60,9 @@ use Rattle.line_events.specs.declared.event.Answer.TheVariants as said
 use Rattle.line_events.specs.declared.event.Event.{Event}
 use Rattle.line_events.specs.declared.event.Event.TheVariants as events
 use Rattle.line_events.specs.Events.{AreEvents, IsEvent}
-use Rattle.line_rules.specs.Further.{acknowledged_by, acknowledged_if, acknowledging, adds_frames, beacon_taken, beside_at, broadcast_sent, broadcast_up, broadcasts_by, checked, commanded, discovers_by, due, has_discovered, line_step, path_line, reaches, replied, scanning, scans_by, sends_nothing, with_beside, with_check}
+use Rattle.line_rules.specs.Further.{acknowledged_by, acknowledged_if, acknowledging, adds_frames, beacon_taken, beside_at, broadcast_sent, broadcast_up}
+use Rattle.line_rules.specs.Further.{broadcasts_by, checked, commanded, discovers_by, due, has_discovered, line_step, path_line, reaches, replied, scanning}
+use Rattle.line_rules.specs.Further.{scans_by, sends_nothing, with_beside, with_check}
 use Rattle.line_rules.specs.Logs.{LogsKept}
 use Rattle.line_rules.specs.Runs.{Entry, IsRun, events_of, one_of}
 use Rattle.line_rules.specs.Steps.{Step, acted, flight_by, flights_of, happened, heard, identity, is_taken, note_by, ran, sent_if, tag_of, told, trace_of}
@@ -66,11 +70,16 @@ use Rattle.line_rules.specs.Forgery.{Comes}
 use Rattle.line_rules.specs.FurtherRuns.{broadcasts}
 use Rattle.line_rules.specs.Worlds.{Acknowledged, Broadcasting, Flight, Noticed, Trace, World, start}
 use Rattle.line_laws.specs.FurtherLines.{HoldsAfter}
-use Rattle.line_laws.specs.ReachTraces.{AckCame, AreReachTold, BeaconCame, BroadcastCame, FrameCame, EveryBroadcastIsListed, EveryEventIsTold, HasFrame, IsReachTold, ListsBroadcasts, ReplyFlew, WalkCame, as_bcast, is_acked, is_acknowledged, is_beacon, is_beaconed, is_bup, is_path, is_scan, is_scanning, is_sent, link_of, sent_to_all, to_all_of}
+use Rattle.line_laws.specs.ReachTraces.{AckCame, AreReachTold, BeaconCame, BroadcastCame, FrameCame, EveryBroadcastIsListed, EveryEventIsTold, HasFrame}
+use Rattle.line_laws.specs.ReachTraces.{IsReachTold, ListsBroadcasts, ReplyFlew, WalkCame, as_bcast, is_acked, is_acknowledged, is_beacon, is_beaconed, is_bup}
+use Rattle.line_laws.specs.ReachTraces.{is_path, is_scan, is_scanning, is_sent, link_of, sent_to_all, to_all_of}
 use Rattle.line_laws.proofs.FurtherOctets.{every_run_holds}
 use Rattle.line_laws.proofs.ReachCame.{Says, acts_says, command_came, command_said}
-use Rattle.line_laws.proofs.ReachSteps.{Asks, Bcasts, Checked, Chooses, Commands, Discovers, Fails, Hears, IsAccepted, IsReachStep, Known, Opens, Restarts, Rests, Scans as Begins, Ticks, Unbelieves, after_accepting, heard_node, reach_step_is}
-use Rattle.line_laws.proofs.ReachWords.{IsUnsent, Quiet, Untold, ask_quiet, breaks_quiet, broadcast_quiet, choice_quiet, frame_quiet, hears_quiet, idle_quiet, lost_quiet, ordered_quiet, reach_untold, restart_quiet, sent_quiet, unsent_answer, unsent_event, unsent_octets, unsent_word, untold, word_quiet}
+use Rattle.line_laws.proofs.ReachSteps.{Asks, Bcasts, Checked, Chooses, Commands, Discovers, Fails, Hears, IsAccepted, IsReachStep, Known, Opens, Restarts}
+use Rattle.line_laws.proofs.ReachSteps.{Rests, Scans as Begins, Ticks, Unbelieves, after_accepting, heard_node, reach_step_is}
+use Rattle.line_laws.proofs.ReachWords.{IsUnsent, Quiet, Untold, ask_quiet, breaks_quiet, broadcast_quiet, choice_quiet, frame_quiet, hears_quiet, idle_quiet}
+use Rattle.line_laws.proofs.ReachWords.{lost_quiet, ordered_quiet, reach_untold, restart_quiet, sent_quiet, unsent_answer, unsent_event, unsent_octets}
+use Rattle.line_laws.proofs.ReachWords.{unsent_word, untold, word_quiet}
 use Rattle.line_laws.proofs.Tellings as old
 use Rattle.line_laws.proofs.TracesRight.{entry}
 

@@ -41,14 +41,16 @@ grant_readable octets g are e =
     record { grant = fits.active; address = fits.address; key0 = is_held g.key0 fits.first has.key0; key1 = is_held g.key1 fits.second has.key1 }
 
 -- so is what the network's third packet grants, which is octets, under a pair key of octets
-pub network_grants : (psk : Key) (peer : Peer) (packet : List ℕ) (g : Granted) → AreOctets psk.0 → AreOctets packet → network.granted psk peer packet ≡ Some g → IsReadable g
+pub network_grants : (psk : Key) (peer : Peer) (packet : List ℕ) (g : Granted) → AreOctets psk.0 → AreOctets packet → network.granted psk peer packet ≡ Some g
+    → IsReadable g
 unfolding derived
 network_grants psk peer packet g fits are e =
     let keys : PairKeys = keys_of psk.0 in
     let kdk : AreOctets keys.kdk = encrypted_octets psk.0 (xor_bytes (encrypted psk.0 (numbered_block 0)) (numbered_block 2)) fits in
     let tek : AreOctets (tek_of keys peer.rand_p) = encrypted_octets keys.kdk (xor_bytes (encrypted keys.kdk peer.rand_p.0) (numbered_block 1)) kdk in
     let text : List ℕ = channel_text (tek_of keys peer.rand_p) 0 (after 58 packet) in
-    grant_readable (after 2 text) g (after_octets 2 text (eax_octets (tek_of keys peer.rand_p) (nonce_block 0) (after 58 packet) tek (after_octets 58 packet are))) e
+    grant_readable (after 2 text) g
+    (after_octets 2 text (eax_octets (tek_of keys peer.rand_p) (nonce_block 0) (after 58 packet) tek (after_octets 58 packet are))) e
 
 -- The network keeps the ranges.
 pub network_ranges : KeepsRanges network

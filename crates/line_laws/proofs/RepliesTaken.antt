@@ -19,7 +19,8 @@ use Rattle.node_rules.specs.declared.refusal.Dropped.{Dropped}
 use Rattle.node_rules.specs.declared.refusal.Dropped.TheVariants as drops
 use Rattle.node_rules.specs.Coordinators as coordinator_rules
 use Rattle.node_rules.specs.Drafts.{Draft, alone, checked, choose, counters_left, refused, sealed, sealing}
-use Rattle.node_rules.specs.Hearing.{Hearing, drop_it, dropped, ends, hear, hear_command, hear_message_in, hear_reply, hear_reply_for, hear_sealed, hear_unit_in, learns, passes_on, rank_fault, rank_over}
+use Rattle.node_rules.specs.Hearing.{Hearing, drop_it, dropped, ends, hear, hear_command, hear_message_in, hear_reply, hear_reply_for, hear_sealed}
+use Rattle.node_rules.specs.Hearing.{hear_unit_in, learns, passes_on, rank_fault, rank_over}
 use Rattle.node_rules.specs.Memory.{StationMemory, Memory, address_of, next_hop}
 use Rattle.node_rules.specs.MemoryDrafts.{unread}
 use Rattle.node_rules.specs.Meters as meters

@@ -12,4 +12,5 @@ no_routes x ok dest = by_route (node_route (restarts x).node dest) refl
   where
     by_route : (o : Option ℕ) → node_route (restarts x).node dest ≡ o → o ≡ None
     by_route None e = refl
-    by_route (Some next) e = absurd (restarted_none (λ a. Unit {0}) (λ a. Unit {0}) (λ a b (r : Rank). Unit {0}) x ok dest next (route_via (restarts x).node dest next e))
+    by_route (Some next) e =
+        absurd (restarted_none (λ a. Unit {0}) (λ a. Unit {0}) (λ a b (r : Rank). Unit {0}) x ok dest next (route_via (restarts x).node dest next e))

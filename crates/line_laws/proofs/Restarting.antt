@@ -89,7 +89,14 @@ pub record IsBlank (m : Memory) : Type 0 where
 
 rested_blank : (l : StationMemory) (b : book.Book) → IsBlank (remembering (rested l) b)
 unfolding rested
-rested_blank l b = record { waiting = refl; gathered = refl; hops = All-map HasHop routing.without_route l.routing.entries (λ k e lt. tt); randoms = refl; session = refl; sessions = refl }
+rested_blank l b = record {
+  waiting = refl;
+  gathered = refl;
+  hops = All-map HasHop routing.without_route l.routing.entries (λ k e lt. tt);
+  randoms = refl;
+  session = refl;
+  sessions = refl;
+}
 
 -- no route is left
 rested_routes : (l : StationMemory) → All (λ (e : RoutingEntry). e.route ≡ None) (rested l).routing.entries
@@ -111,7 +118,12 @@ pub record Again (role : Role) (r : Records) : Type 0 where
 rested_sized : (l : StationMemory) (b : book.Book) → l.next_tag < 2 ^ 16 → IsMemorySized (remembering (rested l) b)
 unfolding rested
 rested_sized l b low = record {
-  station = record { reassemblies = (omega arith, omega arith); waiting = record { bodies = omega arith; blocks = omega arith; datagrams = All-nil (λ (x : Body). IsShort x.load) }; loads = All-nil (λ (x : Body). IsAnyLoad x.load); tag = low };
+  station = record {
+    reassemblies = (omega arith, omega arith);
+    waiting = record { bodies = omega arith; blocks = omega arith; datagrams = All-nil (λ (x : Body). IsShort x.load) };
+    loads = All-nil (λ (x : Body). IsAnyLoad x.load);
+    tag = low;
+  };
   sessions = omega arith;
   randoms = omega arith;
 }

@@ -1,5 +1,6 @@
 -- What a node hears of ranks, where no event is forged, was said by the node of its neighbour's address, which backs it.
-use Rattle.std.proofs.Common.{◌≡◌, inl, inr, ℕ, ◌≤◌, ◌<◌, ◌^◌, ◌/◌, ◌%◌, Bool, true, false, not, List, [], ◌∷◌, Option, Some, None, Ok, refl, sym, ap, ◌∙◌, subst, arith}
+use Rattle.std.proofs.Common.{◌≡◌, inl, inr, ℕ, ◌≤◌, ◌<◌, ◌^◌, ◌/◌, ◌%◌, Bool, true, false, not, List, [], ◌∷◌, Option, Some, None, Ok, refl, sym, ap, ◌∙◌}
+use Rattle.std.proofs.Common.{subst, arith}
 use Rattle.std.specs.Prelude.{All, ◌==◌, ◌||◌, slice_index}
 use Rattle.std.specs.List.{list_any}
 use Rattle.std.specs.Option.{option_map_or}
@@ -52,7 +53,8 @@ pub record SaidBy (h : Homes) (w : World) (by : ℕ) (message : Message) : Type 
 
 -- Each route message of an accepted frame was said so.
 pub record SaidRight (h : Homes) (w : World) (got : Accepted) : Type 0 where
-  pub run : (by : ℕ) (all : Bool) (key : Key) (code : ℕ) (body : List ℕ) (message : Message) → got.path ≡ paths.Sealed by all key → unit_in got.payload ≡ Some (units.Local code body) → (code == 1) ≡ true → message_in body ≡ Some message
+  pub run : (by : ℕ) (all : Bool) (key : Key) (code : ℕ) (body : List ℕ) (message : Message) → got.path ≡ paths.Sealed by all key
+      → unit_in got.payload ≡ Some (units.Local code body) → (code == 1) ≡ true → message_in body ≡ Some message
       → SaidBy h w by message
 
 -- a number of two octets is that of its spelling
@@ -75,7 +77,8 @@ record SameTwo (a b : ℕ) : Type 0 where
 
 -- the number, the cost and the address in the spellings of two messages that are the same
 module _ (At : ℕ → Type 0) (t : routing.Routing) (low : (a : ℕ) → At a → a < 0xFFFE) where
-  rank_same : (n c o m d p : ℕ) → messages.IsNumber m → d < 2 ^ 16 → p < 0xFFFE → SameTwo n m → SameTwo c d → SameTwo o p → RankBacked At t n c o → RankBacked At t m d p
+  rank_same : (n c o m d p : ℕ) → messages.IsNumber m → d < 2 ^ 16 → p < 0xFFFE → SameTwo n m → SameTwo c d → SameTwo o p → RankBacked At t n c o
+      → RankBacked At t m d p
   rank_same n c o m d p fm fd fp sn sc so (inl own) =
       let small = low o own.0 in
       let there : o ≡ p = same_number o p (omega arith) (omega arith) so.high so.low in
@@ -86,17 +89,21 @@ module _ (At : ℕ → Type 0) (t : routing.Routing) (low : (a : ℕ) → At a �
       let cost : c ≡ d = same_number c d k.1.1 fd sc.high sc.low in
       let there : o ≡ p = same_number o p k.1.2 (omega arith) so.high so.low in
       inr (
-        subst (λ (x : ℕ). IsAtLeast (routing.held t x) (record { number = m; cost = d })) there (subst (λ (x : ℕ). IsAtLeast (routing.held t o) (record { number = m; cost = x })) cost (subst (λ (x : ℕ). IsAtLeast (routing.held t o) (record { number = x; cost = c })) number k.0)),
+        subst (λ (x : ℕ). IsAtLeast (routing.held t x) (record { number = m; cost = d })) there
+            (subst (λ (x : ℕ). IsAtLeast (routing.held t o) (record { number = m; cost = x })) cost
+            (subst (λ (x : ℕ). IsAtLeast (routing.held t o) (record { number = x; cost = c })) number k.0)),
         (fm.1, fd, omega arith),
       )
 
   -- a message that is read of the spelling of one that is backed is backed
   same_backed : (a b : Message) → messages.spelling a ≡ messages.spelling b → messages.IsMessage b → MessageBacked At t a → MessageBacked At t b
   same_backed (Rreq n c o x) (Rreq m d p y) e fits k = rank_same n c o m d p fits.0 fits.1 fits.2
-      (record { high = ap (λ xs. slice_index xs 1) e; low = ap (λ xs. slice_index xs 2) e }) (record { high = ap (λ xs. slice_index xs 3) e; low = ap (λ xs. slice_index xs 4) e })
+      (record { high = ap (λ xs. slice_index xs 1) e; low = ap (λ xs. slice_index xs 2) e })
+      (record { high = ap (λ xs. slice_index xs 3) e; low = ap (λ xs. slice_index xs 4) e })
       (record { high = ap (λ xs. slice_index xs 5) e; low = ap (λ xs. slice_index xs 6) e }) k
   same_backed (Rrep n c o x) (Rrep m d p y) e fits k = rank_same n c o m d p fits.0 fits.1 fits.2
-      (record { high = ap (λ xs. slice_index xs 1) e; low = ap (λ xs. slice_index xs 2) e }) (record { high = ap (λ xs. slice_index xs 3) e; low = ap (λ xs. slice_index xs 4) e })
+      (record { high = ap (λ xs. slice_index xs 1) e; low = ap (λ xs. slice_index xs 2) e })
+      (record { high = ap (λ xs. slice_index xs 3) e; low = ap (λ xs. slice_index xs 4) e })
       (record { high = ap (λ xs. slice_index xs 5) e; low = ap (λ xs. slice_index xs 6) e }) k
   same_backed (Rreq n c o x) (Rrep m d p y) e fits k = absurd (not_below 1 2 (ap (λ (xs : List ℕ). slice_index xs 0) e) (omega arith))
   same_backed (Rrep n c o x) (Rreq m d p y) e fits k = absurd (not_above 2 1 (ap (λ (xs : List ℕ). slice_index xs 0) e) (omega arith))
@@ -106,7 +113,8 @@ module _ (At : ℕ → Type 0) (t : routing.Routing) (low : (a : ℕ) → At a �
   same_backed (Rrep n c o x) (Rerr lost to) e fits k = tt
   same_backed (Rerr a b) (Rerr lost to) e fits k = tt
 
-module _ (ciphers : Ciphers) (h : Homes) (w : World) (low : (i address : ℕ) → h i ≡ Some address → address < 0xFFFE) (backed : All (FlightBacked ciphers h w) w.flights) where
+module _ (ciphers : Ciphers) (h : Homes) (w : World) (low : (i address : ℕ) → h i ≡ Some address → address < 0xFFFE)
+    (backed : All (FlightBacked ciphers h w) w.flights) where
   -- A flight with these octets under this key.
   record Found (octets : List ℕ) (key : Key) : Type 0 where
     flight : Flight
@@ -125,24 +133,40 @@ module _ (ciphers : Ciphers) (h : Homes) (w : World) (low : (i address : ℕ) �
   found octets key [] all e = absurd (cc)
   found octets key (f ∷ fs) all e = by_first (found octets key fs (All-tail (FlightBacked ciphers h w) f fs all)) (has_octets octets key f) refl e
     where
-      by_first : (list_any (has_octets octets key) fs ≡ true → Found octets key) → (b : Bool) → has_octets octets key f ≡ b → (b || list_any (has_octets octets key) fs) ≡ true → Found octets key
+      by_first : (list_any (has_octets octets key) fs ≡ true → Found octets key) → (b : Bool) → has_octets octets key f ≡ b
+          → (b || list_any (has_octets octets key) fs) ≡ true → Found octets key
       by_first more true is e =
           let parts = and_parts (bytes_eq f.octets octets) (option_map_or (same_key key) f.key false) is in
-          record { flight = f; octets_are = same_bytes f.octets octets parts.0; key_is = key_same key f.key parts.1; says = All-head (FlightBacked ciphers h w) f fs all }
+          record {
+            flight = f;
+            octets_are = same_bytes f.octets octets parts.0;
+            key_is = key_same key f.key parts.1;
+            says = All-head (FlightBacked ciphers h w) f fs all;
+          }
       by_first more false is e = more e
 
   -- what is opened of a flight is what its sender said
-  opened_said : (octets : List ℕ) (l : StationMemory) (from counter : ℕ) (got : Accepted) (a : IsAdmitted l (arrived ciphers octets) from counter got) → Found octets a.key
-      → (code : ℕ) (body : List ℕ) (message : Message) → unit_in a.payload ≡ Some (units.Local code body) → (code == 1) ≡ true → message_in body ≡ Some message → SaidBy h w from message
+  opened_said : (octets : List ℕ) (l : StationMemory) (from counter : ℕ) (got : Accepted) (a : IsAdmitted l (arrived ciphers octets) from counter got)
+      → Found octets a.key
+      → (code : ℕ) (body : List ℕ) (message : Message) → unit_in a.payload ≡ Some (units.Local code body) → (code == 1) ≡ true → message_in body ≡ Some message
+      → SaidBy h w from message
   opened_said octets l from counter got a x code body message unit first read = by_flight x.says
     where
-      by_unit : (letter : Letter) (node : Node) → h x.flight.from ≡ Some from → node_at w x.flight.from ≡ Some node → LetterRead ciphers letter → (u : MeshUnit) → letter.unit ≡ u → u ≡ units.Local code body
+      by_unit : (letter : Letter) (node : Node) → h x.flight.from ≡ Some from → node_at w x.flight.from ≡ Some node → LetterRead ciphers letter → (u : MeshUnit)
+          → letter.unit ≡ u → u ≡ units.Local code body
           → UnitBacked (At h x.flight.from) (stored node) u → SaidBy h w from message
       by_unit letter node home there reads u is same (Says m b) =
           let body_is : messages.spelling m ≡ body = cc in
           let r = reads.messages m is in
           let this : r.0 ≡ message = same_Some _ _ (sym r.1 ∙ ap message_in body_is ∙ read) in
-          record { number = x.flight.from; node = node; home = home; there = there; backed = subst (MessageBacked (At h x.flight.from) (stored node)) this (same_backed (At h x.flight.from) (stored node) (low x.flight.from) m r.0 r.2 r.3 b) }
+          record {
+            number = x.flight.from;
+            node = node;
+            home = home;
+            there = there;
+            backed = subst (MessageBacked (At h x.flight.from) (stored node)) this
+                (same_backed (At h x.flight.from) (stored node) (low x.flight.from) m r.0 r.2 r.3 b);
+          }
       by_unit letter node home there reads u is same (IsWhole mesh os) = absurd (cc)
       by_unit letter node home there reads u is same (IsPart mesh piece) = absurd (cc)
       by_unit letter node home there reads u is same (IsCarried mesh bs) = absurd (cc)
@@ -162,12 +186,15 @@ module _ (ciphers : Ciphers) (h : Homes) (w : World) (low : (i address : ℕ) �
   not_false false e = absurd (cc)
 
   -- a frame that was accepted, and is not forged
-  pub admitted_said : (octets : List ℕ) (l : StationMemory) (from counter : ℕ) (got : Accepted) → IsAdmitted l (arrived ciphers octets) from counter got → forged_by w octets got.path ≡ false → SaidRight h w got
+  pub admitted_said : (octets : List ℕ) (l : StationMemory) (from counter : ℕ) (got : Accepted) → IsAdmitted l (arrived ciphers octets) from counter got
+      → forged_by w octets got.path ≡ false → SaidRight h w got
   admitted_said octets l from counter got a honest = record {
     run = λ by all key code body message path unit first read.
         let path_is : paths.Sealed by all key ≡ paths.Sealed from (a.to == to_all) a.key = sym path ∙ ap (λ (x : Accepted). x.path) a.got_is in
-        let any : list_any (has_octets octets a.key) w.flights ≡ true = not_false _ (sym (ap (λ (x : Accepted). forged_by w octets x.path) a.got_is) ∙ honest) in
-        let said = opened_said octets l from counter got a (found octets a.key w.flights backed any) code body message (sym (ap (λ (x : Accepted). unit_in x.payload) a.got_is) ∙ unit) first read in
+        let any : list_any (has_octets octets a.key) w.flights
+        ≡ true = not_false _ (sym (ap (λ (x : Accepted). forged_by w octets x.path) a.got_is) ∙ honest) in
+        let said = opened_said octets l from counter got a (found octets a.key w.flights backed any) code body message
+        (sym (ap (λ (x : Accepted). unit_in x.payload) a.got_is) ∙ unit) first read in
         let by_is : from ≡ by = cc in
         subst (λ (k : ℕ). SaidBy h w k message) by_is said;
   }
@@ -175,11 +202,13 @@ module _ (ciphers : Ciphers) (h : Homes) (w : World) (low : (i address : ℕ) �
   plain_said : (got : Accepted) → IsPlain got.path → SaidRight h w got
   plain_said got plain = record { run = λ by all key code body message path unit first read. absurd (subst IsPlain path plain) }
 
-  pub accepted_said : (octets : List ℕ) (l : StationMemory) (p : Accepting) (got : Accepted) → Accepts l (arrived ciphers octets) p → p.answer ≡ Ok got → forged_by w octets got.path ≡ false → SaidRight h w got
+  pub accepted_said : (octets : List ℕ) (l : StationMemory) (p : Accepting) (got : Accepted) → Accepts l (arrived ciphers octets) p → p.answer ≡ Ok got
+      → forged_by w octets got.path ≡ false → SaidRight h w got
   unfolding resting marking
   accepted_said octets l p got (Turned reason) e honest = absurd (cc)
   accepted_said octets l p got (Plain x plain) e honest = let same : x ≡ got = cc in plain_said got (subst (λ (y : Accepted). IsPlain y.path) same plain.path)
-  accepted_said octets l p got (Marked from counter x a) e honest = let same : x ≡ got = cc in admitted_said octets l from counter got (subst (IsAdmitted l (arrived ciphers octets) from counter) same a) honest
+  accepted_said octets l p got (Marked from counter x a) e honest =
+      let same : x ≡ got = cc in admitted_said octets l from counter got (subst (IsAdmitted l (arrived ciphers octets) from counter) same a) honest
 
 -- # What it offers
 
@@ -195,11 +224,13 @@ not_own : (h : Homes) (i own origin : ℕ) → h i ≡ Some own → (origin == o
 not_own h i own origin here apart (inl same) = eqb-false _ _ apart (same_Some _ _ (sym same ∙ here))
 not_own h i own origin here apart (inr none) = none-some own (sym none ∙ here)
 
-pub said_offers : (h : Homes) (w : World) (i : ℕ) (got : Accepted) (cost note now : ℕ) → RoutesFit got → SaidRight h w got → 1 ≤ cost → (address : Option ℕ) → IsAt (At h i) address → (by origin : ℕ) (rank : Rank)
+pub said_offers : (h : Homes) (w : World) (i : ℕ) (got : Accepted) (cost note now : ℕ) → RoutesFit got → SaidRight h w got → 1 ≤ cost → (address : Option ℕ)
+    → IsAt (At h i) address → (by origin : ℕ) (rank : Rank)
     → Offered (heard_given got cost note now) address by origin rank → OfferFits (Own h i) (IsNearer h w) by origin rank now
 said_offers h w i got cost note now fits right far address at by origin rank (ByRequest own number c o dest here apart few told) =
     let same : got ≡ told.came.got = same_Some _ _ told.came.is in
-    let said = right.run by true told.came.key told.code told.body (Rreq number c o dest) (ap (λ (x : Accepted). x.path) same ∙ told.came.path) (ap (λ (x : Accepted). unit_in x.payload) same ∙ told.came.unit) told.first told.read in
+    let said = right.run by true told.came.key told.code told.body (Rreq number c o dest) (ap (λ (x : Accepted). x.path) same ∙ told.came.path)
+    (ap (λ (x : Accepted). unit_in x.payload) same ∙ told.came.unit) told.first told.read in
     record {
       fits = heard_offers got cost note now fits address by origin rank (ByRequest own number c o dest here apart few told);
       apart = not_own h i own origin (subst (IsAt (At h i)) here at) apart;
@@ -207,7 +238,8 @@ said_offers h w i got cost note now fits right far address at by origin rank (By
     }
 said_offers h w i got cost note now fits right far address at by origin rank (ByReply own number c o to here apart few told) =
     let same : got ≡ told.came.got = same_Some _ _ told.came.is in
-    let said = right.run by false told.came.key told.code told.body (Rrep number c o to) (ap (λ (x : Accepted). x.path) same ∙ told.came.path) (ap (λ (x : Accepted). unit_in x.payload) same ∙ told.came.unit) told.first told.read in
+    let said = right.run by false told.came.key told.code told.body (Rrep number c o to) (ap (λ (x : Accepted). x.path) same ∙ told.came.path)
+    (ap (λ (x : Accepted). unit_in x.payload) same ∙ told.came.unit) told.first told.read in
     record {
       fits = heard_offers got cost note now fits address by origin rank (ByReply own number c o to here apart few told);
       apart = not_own h i own origin (subst (IsAt (At h i)) here at) apart;

@@ -1,5 +1,6 @@
 -- The account of ranks of what one node does: a call, time, a new start, and a node that is new.
-use Rattle.std.proofs.Common.{◌≡◌, ◌⊎◌, inl, inr, ⊎_elim, ℕ, Bool, true, false, cond, List, [], ◌∷◌, map, Option, Some, None, Result, Ok, Err, refl, sym, ap, ◌∙◌, subst}
+use Rattle.std.proofs.Common.{◌≡◌, ◌⊎◌, inl, inr, ⊎_elim, ℕ, Bool, true, false, cond, List, [], ◌∷◌, map, Option, Some, None, Result, Ok, Err, refl, sym, ap}
+use Rattle.std.proofs.Common.{◌∙◌, subst}
 use Rattle.std.specs.Prelude.{All, IfSome, ◌==◌}
 use Rattle.std.specs.List.{find}
 use Rattle.std.specs.Option.{option_map, option_map_or, option_and_then}
@@ -64,18 +65,22 @@ acts_frames {A = A} P x halted plan ok f = by_memory x.memory refl ok.kept ok.si
     by_memory (Some m) e kept sized = by_plan m (f m e kept sized)
 
 -- the memory that a call leaves is its plan's
-pub acts_memory : {A : Type 0} (P : Memory → Type 0) (x : Node) (halted : A) (plan : Memory → Plan Memory A) → ((m : Memory) → x.memory ≡ Some m → P (plan m).memory)
+pub acts_memory : {A : Type 0} (P : Memory → Type 0) (x : Node) (halted : A) (plan : Memory → Plan Memory A)
+    → ((m : Memory) → x.memory ≡ Some m → P (plan m).memory)
     → (n : Memory) → (acts x halted plan).node.memory ≡ Some n → P n
 unfolding acts
 acts_memory {A = A} P x halted plan f n = by_memory x.memory refl
   where
     by_plan : (m : Memory) → x.memory ≡ Some m → (carry_out x.store.records x.store.cut (plan m)).memory ≡ Some n → P n
     by_plan m there e = ⊎_elim
-        (λ (w : IsWhole x.store.records x.store.cut (plan m) (carry_out x.store.records x.store.cut (plan m))). subst P (same_Some _ _ (sym w.memory ∙ e)) (f m there))
+        (λ (w : IsWhole x.store.records x.store.cut (plan m) (carry_out x.store.records x.store.cut (plan m))). subst P (same_Some _ _ (sym w.memory ∙ e))
+        (f m there))
         (λ (c : IsCutOff x.store.records x.store.cut (plan m) (carry_out x.store.records x.store.cut (plan m))). absurd (none-some n (sym c.memory ∙ e)))
         (clean x.store.records x.store.cut (plan m))
 
-    by_memory : (o : Option Memory) → x.memory ≡ o → let d : NodeStep A = option_map_or (λ m. left_by x (carry_out x.store.records x.store.cut (plan m))) o (stays x halted) in d.node.memory ≡ Some n → P n
+    by_memory : (o : Option Memory) → x.memory ≡ o
+        → let d : NodeStep A = option_map_or (λ m. left_by x (carry_out x.store.records x.store.cut (plan m))) o (stays x halted) in d.node.memory ≡ Some n
+        → P n
     by_memory None e k = absurd (none-some n (sym e ∙ k))
     by_memory (Some m) e k = by_plan m e k
 
@@ -83,7 +88,8 @@ acts_memory {A = A} P x halted plan f n = by_memory x.memory refl
 
 module _ (At Own : ℕ → Type 0) (C : ℕ → ℕ → Rank → Type 0) where
   -- a node with the same records, of whose routes some have ended
-  pub same_store : (x y : Node) → y.store.records ≡ x.store.records → ((dest next : ℕ) → via y dest ≡ Some next → via x dest ≡ Some next) → NodeRanks At Own C x y []
+  pub same_store : (x y : Node) → y.store.records ≡ x.store.records → ((dest next : ℕ) → via y dest ≡ Some next → via x dest ≡ Some next)
+      → NodeRanks At Own C x y []
   same_store x y e still = record {
     above = λ dest. inl (ap (λ r. routing.held (ranks_in r) dest) e);
     not_own = λ dest own none. ap (λ r. routing.rank_of (ranks_in r) dest) e ∙ none;
@@ -96,7 +102,8 @@ module _ (At Own : ℕ → Type 0) (C : ℕ → ℕ → Rank → Type 0) where
   expired_next : (t : routing.Routing) (now dest next : ℕ) → routing.next_of (routing.expired t now) dest ≡ Some next → routing.next_of t dest ≡ Some next
   expired_next t now dest next e = by_route (ended_routes (routing.is_old now) t dest)
     where
-      by_route : (routing.route_of (routing.expired t now) dest ≡ routing.route_of t dest) ⊎ (routing.route_of (routing.expired t now) dest ≡ None) → routing.next_of t dest ≡ Some next
+      by_route : (routing.route_of (routing.expired t now) dest ≡ routing.route_of t dest) ⊎ (routing.route_of (routing.expired t now) dest ≡ None)
+          → routing.next_of t dest ≡ Some next
       by_route (inl same) = sym (ap (option_map (λ (r : Route). r.next)) same) ∙ e
       by_route (inr none) = absurd (none-some next (sym (ap (option_map (λ (r : Route). r.next)) none) ∙ e))
 
@@ -104,7 +111,8 @@ module _ (At Own : ℕ → Type 0) (C : ℕ → ℕ → Rank → Type 0) where
   unfolding via
   ticked_ranks now x = same_store x (ticked now x) refl (λ dest next e. by_role x.role x.memory dest next e)
     where
-      by_role : (role : Role) (o : Option Memory) (dest next : ℕ) → via (ticked now (record { role = role; eui = x.eui; store = x.store; memory = o })) dest ≡ Some next
+      by_role : (role : Role) (o : Option Memory) (dest next : ℕ)
+          → via (ticked now (record { role = role; eui = x.eui; store = x.store; memory = o })) dest ≡ Some next
           → via (record { role = role; eui = x.eui; store = x.store; memory = o }) dest ≡ Some next
       by_role Coordinator None dest next e = e
       by_role (Meter psk) None dest next e = e
@@ -113,12 +121,14 @@ module _ (At Own : ℕ → Type 0) (C : ℕ → ℕ → Rank → Type 0) where
 
   -- # A new start
 
-  rested_found : (entries : List RoutingEntry) (dest : ℕ) → option_and_then (λ (e : RoutingEntry). e.route) (find (is_at dest) (map routing.without_route entries)) ≡ None
+  rested_found : (entries : List RoutingEntry) (dest : ℕ)
+      → option_and_then (λ (e : RoutingEntry). e.route) (find (is_at dest) (map routing.without_route entries)) ≡ None
   rested_found [] dest = refl
   rested_found (e ∷ entries) dest = by_here (e.address == dest) (rested_found entries dest)
     where
       by_here : (b : Bool) → option_and_then (λ (x : RoutingEntry). x.route) (find (is_at dest) (map routing.without_route entries)) ≡ None
-          → option_and_then (λ (x : RoutingEntry). x.route) (cond b (Some (routing.without_route e)) (find (is_at dest) (map routing.without_route entries))) ≡ None
+          → option_and_then (λ (x : RoutingEntry). x.route) (cond b (Some (routing.without_route e)) (find (is_at dest) (map routing.without_route entries)))
+          ≡ None
       by_here true h = refl
       by_here false h = h
 
@@ -133,34 +143,63 @@ module _ (At Own : ℕ → Type 0) (C : ℕ → ℕ → Rank → Type 0) where
       not_ok bad e = cc
 
       by_marks : (a : ring.Ring) (b : counter.Counting) (c : own_number.Numbering) (tag : ℕ) (m : Result marks.Table BadStore)
-          → reading m (λ m. Ok (record { ring = a; counter = b; marks = m; routing = t; own_number = c; next_tag = tag; reassemblies = []; waiting = [] })) ≡ Ok l → l.routing ≡ t
+          → reading m (λ m. Ok (record { ring = a; counter = b; marks = m; routing = t; own_number = c; next_tag = tag; reassemblies = []; waiting = [] }))
+          ≡ Ok l → l.routing ≡ t
       by_marks a b c tag (Err bad) e = absurd (not_ok bad e)
       by_marks a b c tag (Ok m) e = cc
 
       by_routing : (a : ring.Ring) (b : counter.Counting) (c : own_number.Numbering) (tag : ℕ) (o : Result routing.Routing BadStore) → o ≡ Ok t
-          → reading o (λ s. reading (slots.opened marks.peers r) (λ m. Ok (record { ring = a; counter = b; marks = m; routing = s; own_number = c; next_tag = tag; reassemblies = []; waiting = [] }))) ≡ Ok l → l.routing ≡ t
+          → reading o (λ s. reading (slots.opened marks.peers r) (λ m. Ok
+          (record { ring = a; counter = b; marks = m; routing = s; own_number = c; next_tag = tag; reassemblies = []; waiting = [] }))) ≡ Ok l → l.routing ≡ t
       by_routing a b c tag (Err bad) k e = absurd (not_ok bad e)
       by_routing a b c tag (Ok s) k e =
           let same : s ≡ t = cc in
-          by_marks a b c tag (slots.opened marks.peers r) (subst (λ (v : routing.Routing). reading (slots.opened marks.peers r) (λ m. Ok (record { ring = a; counter = b; marks = m; routing = v; own_number = c; next_tag = tag; reassemblies = []; waiting = [] })) ≡ Ok l) same e)
+          by_marks a b c tag (slots.opened marks.peers r) (subst (λ (v : routing.Routing). reading (slots.opened marks.peers r)
+          (λ m. Ok (record { ring = a; counter = b; marks = m; routing = v; own_number = c; next_tag = tag; reassemblies = []; waiting = [] })) ≡ Ok l) same e)
 
       by_tag : (a : ring.Ring) (b : counter.Counting) (c : own_number.Numbering) (o : Result ℕ BadStore)
-          → reading o (λ tag. reading (routing.opened r) (λ s. reading (slots.opened marks.peers r) (λ m. Ok (record { ring = a; counter = b; marks = m; routing = s; own_number = c; next_tag = tag; reassemblies = []; waiting = [] })))) ≡ Ok l → l.routing ≡ t
+          → reading o (λ tag. reading (routing.opened r) (λ s. reading (slots.opened marks.peers r)
+          (λ m. Ok (record { ring = a; counter = b; marks = m; routing = s; own_number = c; next_tag = tag; reassemblies = []; waiting = [] })))) ≡ Ok l
+          → l.routing ≡ t
       by_tag a b c (Err bad) e = absurd (not_ok bad e)
       by_tag a b c (Ok tag) e = by_routing a b c tag (routing.opened r) is e
 
       by_number : (a : ring.Ring) (b : counter.Counting) (o : Result own_number.Numbering BadStore)
-          → reading o (λ c. reading (tag_in (get r tag_slot)) (λ tag. reading (routing.opened r) (λ s. reading (slots.opened marks.peers r) (λ m. Ok (record { ring = a; counter = b; marks = m; routing = s; own_number = c; next_tag = tag; reassemblies = []; waiting = [] }))))) ≡ Ok l → l.routing ≡ t
+          → reading o (λ c. reading (tag_in (get r tag_slot)) (λ tag. reading (routing.opened r)
+          (λ s. reading (slots.opened marks.peers r) (λ m. Ok (record {
+            ring = a;
+            counter = b;
+            marks = m;
+            routing = s;
+            own_number = c;
+            next_tag = tag;
+            reassemblies = [];
+            waiting = [];
+          }))))) ≡ Ok l → l.routing ≡ t
       by_number a b (Err bad) e = absurd (not_ok bad e)
       by_number a b (Ok c) e = by_tag a b c (tag_in (get r tag_slot)) e
 
       by_counter : (a : ring.Ring) (o : Result counter.Counting BadStore)
-          → reading o (λ b. reading (own_number.opened r) (λ c. reading (tag_in (get r tag_slot)) (λ tag. reading (routing.opened r) (λ s. reading (slots.opened marks.peers r) (λ m. Ok (record { ring = a; counter = b; marks = m; routing = s; own_number = c; next_tag = tag; reassemblies = []; waiting = [] })))))) ≡ Ok l → l.routing ≡ t
+          → reading o (λ b. reading (own_number.opened r) (λ c. reading (tag_in (get r tag_slot))
+          (λ tag. reading (routing.opened r) (λ s. reading (slots.opened marks.peers r)
+          (λ m. Ok (record { ring = a; counter = b; marks = m; routing = s; own_number = c; next_tag = tag; reassemblies = []; waiting = [] })))))) ≡ Ok l
+          → l.routing ≡ t
       by_counter a (Err bad) e = absurd (not_ok bad e)
       by_counter a (Ok b) e = by_number a b (own_number.opened r) e
 
       by_ring : (o : Result ring.Ring BadStore)
-          → reading o (λ a. reading (counter.opened r) (λ b. reading (own_number.opened r) (λ c. reading (tag_in (get r tag_slot)) (λ tag. reading (routing.opened r) (λ s. reading (slots.opened marks.peers r) (λ m. Ok (record { ring = a; counter = b; marks = m; routing = s; own_number = c; next_tag = tag; reassemblies = []; waiting = [] }))))))) ≡ Ok l → l.routing ≡ t
+          → reading o (λ a. reading (counter.opened r) (λ b. reading (own_number.opened r)
+          (λ c. reading (tag_in (get r tag_slot)) (λ tag. reading (routing.opened r)
+          (λ s. reading (slots.opened marks.peers r) (λ m. Ok (record {
+            ring = a;
+            counter = b;
+            marks = m;
+            routing = s;
+            own_number = c;
+            next_tag = tag;
+            reassemblies = [];
+            waiting = [];
+          }))))))) ≡ Ok l → l.routing ≡ t
       by_ring (Err bad) e = absurd (not_ok bad e)
       by_ring (Ok a) e = by_counter a (counter.opened r) e
 
@@ -176,7 +215,8 @@ module _ (At Own : ℕ → Type 0) (C : ℕ → ℕ → Rank → Type 0) where
       by_book l (Err bad) k e = absurd (cc)
       by_book l (Ok b) k e = let same : remembering l b ≡ n = cc in ap (λ (m : Memory). m.station.routing) (sym same) ∙ opened_station r t is l k
 
-      by_station : (o : Result StationMemory BadStore) → station_of r ≡ o → reading o (λ l. reading (slots.opened book.entries r) (λ b. Ok (remembering l b))) ≡ Ok n → n.station.routing ≡ t
+      by_station : (o : Result StationMemory BadStore) → station_of r ≡ o
+          → reading o (λ l. reading (slots.opened book.entries r) (λ b. Ok (remembering l b))) ≡ Ok n → n.station.routing ≡ t
       by_station (Err bad) k e = absurd (cc)
       by_station (Ok l) k e = by_book l (slots.opened book.entries r) k e
 
@@ -189,7 +229,8 @@ module _ (At Own : ℕ → Type 0) (C : ℕ → ℕ → Rank → Type 0) where
   unfolding via
   restarted_none x ok dest next e = no_route dest next (memory_of x.role x.store.records) refl e
     where
-      no_route : (dest next : ℕ) (o : Result Memory BadStore) → memory_of x.role x.store.records ≡ o → option_and_then (λ (m : Memory). routing.next_of m.station.routing dest) (memory_by o) ≡ Some next → ⊥
+      no_route : (dest next : ℕ) (o : Result Memory BadStore) → memory_of x.role x.store.records ≡ o
+          → option_and_then (λ (m : Memory). routing.next_of m.station.routing dest) (memory_by o) ≡ Some next → ⊥
       no_route dest next (Err bad) is e = none-some next e
       no_route dest next (Ok n) is e =
           let t = left_routing x.role x.store.records x.memory ok.kept in
@@ -216,8 +257,10 @@ Every address = Unit {0}
 abbrev Nobody : ℕ → ℕ → Rank → Type 0
 Nobody by origin rank = ⊥
 
-begun_ranks : (eui : Eui) (key : Key) → NodeRanks Every Every Nobody (blank_node Coordinator eui) (coordinator_node eui key) (acts (blank_node Coordinator eui) (Ok tt) (λ m. coordinator_rules.begin m (first_grant key))).frames
-begun_ranks eui key = acts_ranks Every Every Nobody (blank_node Coordinator eui) (Ok tt) (λ m. coordinator_rules.begin m (first_grant key)) (blank_ok Coordinator eui tt)
+begun_ranks : (eui : Eui) (key : Key) → NodeRanks Every Every Nobody (blank_node Coordinator eui) (coordinator_node eui key)
+    (acts (blank_node Coordinator eui) (Ok tt) (λ m. coordinator_rules.begin m (first_grant key))).frames
+begun_ranks eui key =
+    acts_ranks Every Every Nobody (blank_node Coordinator eui) (Ok tt) (λ m. coordinator_rules.begin m (first_grant key)) (blank_ok Coordinator eui tt)
     (λ m there kept. begin_ranks Every Every Nobody m (by_address (address_of m.station)) key tt)
   where
     by_address : (o : Option ℕ) → IfSome o Every

@@ -44,13 +44,15 @@ pub record Reached (ciphers : Ciphers) (h : Homes) (b v : World) : Type 0 where
   pub later : (i : ℕ) (x : Node) → node_at b i ≡ Some x → Later v i x
 
 module _ (ciphers : Ciphers) (h : Homes) where
-  pub nearer_later : (w v : World) → ((i : ℕ) (x : Node) → node_at w i ≡ Some x → Later v i x) → (next dest : ℕ) (rank : Rank) → IsNearer h w next dest rank → IsNearer h v next dest rank
+  pub nearer_later : (w v : World) → ((i : ℕ) (x : Node) → node_at w i ≡ Some x → Later v i x) → (next dest : ℕ) (rank : Rank) → IsNearer h w next dest rank
+      → IsNearer h v next dest rank
   nearer_later w v forward next dest rank (inl same) = inl same
   nearer_later w v forward next dest rank (inr n) =
       let l = forward n.number n.node n.there in
       inr (record { number = n.number; node = l.node; home = n.home; there = l.there; beats = beats_at_least _ _ _ (l.above dest) n.beats })
 
-  pub flight_later : (w v : World) → ((i : ℕ) (x : Node) → node_at w i ≡ Some x → Later v i x) → (f : Flight) → FlightBacked ciphers h w f → FlightBacked ciphers h v f
+  pub flight_later : (w v : World) → ((i : ℕ) (x : Node) → node_at w i ≡ Some x → Later v i x) → (f : Flight) → FlightBacked ciphers h w f
+      → FlightBacked ciphers h v f
   flight_later w v forward f (IsPlain e) = IsPlain e
   flight_later w v forward f (IsLetter letter x octets key from there backed read) =
       let l = forward f.from x there in
@@ -92,13 +94,16 @@ module _ (ciphers : Ciphers) (h : Homes) where
   within (y ∷ ys) zero x e = omega arith
   within (y ∷ ys) (suc k) x e = let less = within ys k x e in omega arith
 
-  frame_flies : (v : World) (number : ℕ) (y : Node) → node_at v number ≡ Some y → (frame : Sent) → FrameBacked (At h number) (stored y) frame → FrameRead ciphers frame → FlightBacked ciphers h v (flight_by number (spelled ciphers frame))
+  frame_flies : (v : World) (number : ℕ) (y : Node) → node_at v number ≡ Some y → (frame : Sent) → FrameBacked (At h number) (stored y) frame
+      → FrameRead ciphers frame → FlightBacked ciphers h v (flight_by number (spelled ciphers frame))
   unfolding spelled
   frame_flies v number y there (Sealed letter) b read = IsLetter letter y refl refl b.0 there b.1 read
   frame_flies v number y there (Up agent from message) b read = IsPlain refl
   frame_flies v number y there (Down from message) b read = IsPlain refl
 
-  pub told_step : {A : Type 0} (w : World) (number : ℕ) (x : Node) (d : NodeStep A) → node_at w number ≡ Some x → NodeRanks (At h number) (Own h number) (IsNearer h w) x d.node d.frames → All (FrameRead ciphers) d.frames → StationStep ciphers h w (told ciphers w number d)
+  pub told_step : {A : Type 0} (w : World) (number : ℕ) (x : Node) (d : NodeStep A) → node_at w number ≡ Some x
+      → NodeRanks (At h number) (Own h number) (IsNearer h w) x d.node d.frames → All (FrameRead ciphers) d.frames
+      → StationStep ciphers h w (told ciphers w number d)
   unfolding told
   told_step {A = A} w number x d there r reads = record {
     forward = forward;
@@ -124,7 +129,11 @@ module _ (ciphers : Ciphers) (h : Homes) where
       forward_by : (i : ℕ) (z : Node) → slice_get w.nodes i ≡ Some z → (i ≡ number) ⊎ (i ≢ number) → Later v i z
       forward_by i z e (inl same) =
           let this : x ≡ z = same_Some _ _ (sym there ∙ ap (slice_get w.nodes) (sym same) ∙ e) in
-          record { node = d.node; there = ap (slice_get (set w.nodes number d.node)) same ∙ here; above = subst (λ (y : Node). (dest : ℕ) → IsAtLeast (routing.held (stored d.node) dest) (routing.held (stored y) dest)) this r.above }
+          record {
+            node = d.node;
+            there = ap (slice_get (set w.nodes number d.node)) same ∙ here;
+            above = subst (λ (y : Node). (dest : ℕ) → IsAtLeast (routing.held (stored d.node) dest) (routing.held (stored y) dest)) this r.above;
+          }
       forward_by i z e (inr ne) = record { node = z; there = others i ne ∙ e; above = λ dest. inl refl }
 
       forward : (i : ℕ) (z : Node) → slice_get w.nodes i ≡ Some z → Later v i z

@@ -40,17 +40,20 @@ pub rekey_quiet : (m : Memory) (index : ℕ) (key : Key) → (coordinators.rekey
 rekey_quiet m index key =
     let d : Draft Memory = on_station (with_ring (ring.with_key m.station.ring index key)) (empty_draft m) in
     let none = ringed_none m (ring.with_key m.station.ring index key) in
-    chosen (λ p. p.frames ≡ []) (option_map_or (λ (g : Granted). g.active == index) m.station.ring false) (refused coordinators.orders m refusal.IndexActive) (sealing in_memory coordinators.orders d (tt {0}))
+    chosen (λ p. p.frames ≡ []) (option_map_or (λ (g : Granted). g.active == index) m.station.ring false) (refused coordinators.orders m refusal.IndexActive)
+    (sealing in_memory coordinators.orders d (tt {0}))
     (refused_none (Unit {0}) coordinators.orders m refusal.IndexActive) (quiet_sealing in_memory coordinators.orders d (tt {0}) none.0 none.1)
 
 pub activate_self_quiet : (m : Memory) (index : ℕ) → (coordinators.activate_self m index).frames ≡ []
 activate_self_quiet m index =
     let d : Draft Memory = on_station (with_ring (ring.with_active m.station.ring index)) (empty_draft m) in
     let none = ringed_none m (ring.with_active m.station.ring index) in
-    chosen (λ p. p.frames ≡ []) (is_some (ring.key_in_ring m.station.ring index)) (sealing in_memory coordinators.orders d (tt {0})) (refused coordinators.orders m refusal.NotHeld)
+    chosen (λ p. p.frames ≡ []) (is_some (ring.key_in_ring m.station.ring index)) (sealing in_memory coordinators.orders d (tt {0}))
+    (refused coordinators.orders m refusal.NotHeld)
     (quiet_sealing in_memory coordinators.orders d (tt {0}) none.0 none.1) (refused_none (Unit {0}) coordinators.orders m refusal.NotHeld)
 
-given_none : (m : Memory) (value : Rand) → let d : Draft Memory = with_memory_by (λ n. record n { randoms = n.randoms ++ value ∷ [] }) (empty_draft m) in (d.units ≡ []) × (d.plain ≡ [])
+given_none : (m : Memory) (value : Rand) → let d : Draft Memory = with_memory_by (λ n. record n { randoms = n.randoms ++ value ∷ [] }) (empty_draft m) in
+    (d.units ≡ []) × (d.plain ≡ [])
 unfolding empty_draft with_memory_by
 given_none m value = (refl, refl)
 
@@ -58,7 +61,8 @@ pub random_quiet : (m : Memory) (value : Rand) → (give_random m value).frames 
 random_quiet m value =
     let d : Draft Memory = with_memory_by (λ n. record n { randoms = n.randoms ++ value ∷ [] }) (empty_draft m) in
     let none = given_none m value in
-    chosen (λ p. p.frames ≡ []) (nat_lt 7 (length m.randoms)) (refused given_ends m _) (sealing in_memory given_ends d (tt {0})) (refused_none (Unit {0}) given_ends m _) (quiet_sealing in_memory given_ends d (tt {0}) none.0 none.1)
+    chosen (λ p. p.frames ≡ []) (nat_lt 7 (length m.randoms)) (refused given_ends m _) (sealing in_memory given_ends d (tt {0}))
+    (refused_none (Unit {0}) given_ends m _) (quiet_sealing in_memory given_ends d (tt {0}) none.0 none.1)
 
 leaves_none : (m : Memory) → ((meters.leaves m).units ≡ []) × ((meters.leaves m).plain ≡ [])
 unfolding empty_draft with_ring on_station with_memory_by
@@ -81,12 +85,17 @@ module _ (ciphers : Ciphers) where
       by_key None = All-nil (FrameRead ciphers)
       by_key (Some key) = All-nil (FrameRead ciphers)
 
-  plain_read : (d : Draft Memory) → d.units ≡ [] → All (FrameRead ciphers) d.plain → All (FrameRead ciphers) (d.plain ++ sealed_by d.memory.station.ring d.memory.station.counter.next d.units)
-  plain_read d none all = All-append (FrameRead ciphers) d.plain _ all (subst (λ us. All (FrameRead ciphers) (sealed_by d.memory.station.ring d.memory.station.counter.next us)) (sym none) (sealed_read d.memory.station.ring d.memory.station.counter.next))
+  plain_read : (d : Draft Memory) → d.units ≡ [] → All (FrameRead ciphers) d.plain
+      → All (FrameRead ciphers) (d.plain ++ sealed_by d.memory.station.ring d.memory.station.counter.next d.units)
+  plain_read d none all = All-append (FrameRead ciphers) d.plain _ all
+      (subst (λ us. All (FrameRead ciphers) (sealed_by d.memory.station.ring d.memory.station.counter.next us)) (sym none)
+      (sealed_read d.memory.station.ring d.memory.station.counter.next))
 
   pub join_read : (x : meters.Identity) (m : Memory) (agent now : ℕ) → All (FrameRead ciphers) (meters.join x m agent now).frames
   unfolding resting goes_up with_memory_by empty_draft
   join_read x m agent now =
-      let d : Draft Memory = goes_up agent x.eui (message x.eui (body.Join [])) (with_memory_by (meters.with_session (Some (record { course = ByAgent agent; peer = None; since = now }))) (empty_draft m)) in
-      chosen (λ p. All (FrameRead ciphers) p.frames) (meters.is_joined m) (refused meters.joining_ends m _) (sealing in_memory meters.joining_ends d (tt {0})) (All-nil (FrameRead ciphers))
+      let d : Draft Memory = goes_up agent x.eui (message x.eui (body.Join []))
+      (with_memory_by (meters.with_session (Some (record { course = ByAgent agent; peer = None; since = now }))) (empty_draft m)) in
+      chosen (λ p. All (FrameRead ciphers) p.frames) (meters.is_joined m) (refused meters.joining_ends m _) (sealing in_memory meters.joining_ends d (tt {0}))
+      (All-nil (FrameRead ciphers))
       (plain_read d refl (All-push (FrameRead ciphers) [] (Up agent x.eui (message x.eui (body.Join []))) (All-nil (FrameRead ciphers)) tt))

@@ -21,7 +21,14 @@ use Rattle.line_laws.proofs.Worlds.{none_rising, NodeFits, FlightFits, WorldOk}
 use Rattle.line_laws.proofs.StepsOk.{StepGood, Fails, Taken, step_good, read_again}
 
 pub start_ok : WorldOk start
-start_ok = record { rising = none_rising start refl; quiet = λ e. refl; nodes = All-nil NodeOk; fits = All-nil NodeFits; first = λ c e. absurd (cc); count = omega arith }
+start_ok = record {
+  rising = none_rising start refl;
+  quiet = λ e. refl;
+  nodes = All-nil NodeOk;
+  fits = All-nil NodeFits;
+  first = λ c e. absurd (cc);
+  count = omega arith;
+}
 
 -- what holds of a step that was taken
 abbrev Good : Step → Type 0
@@ -32,7 +39,8 @@ good : (w : World) (s : Step) → StepGood w s → Good s
 good w s (Fails fault) = tt
 good w s (Taken r ok few is) = (ok, few)
 
-pub taken_good : (ciphers : Ciphers) → KeepsRanges ciphers → (w : World) → WorldOk w → All FlightFits w.flights → (x : Entry) → IsEvent x.event → step ciphers w x.event ≡ Ok (x.after, x.trace) → WorldOk x.after × (x.trace.happened.flights ≤ 24)
+pub taken_good : (ciphers : Ciphers) → KeepsRanges ciphers → (w : World) → WorldOk w → All FlightFits w.flights → (x : Entry) → IsEvent x.event
+    → step ciphers w x.event ≡ Ok (x.after, x.trace) → WorldOk x.after × (x.trace.happened.flights ≤ 24)
 taken_good ciphers fits w ok flown x says e = subst Good e (good w _ (step_good ciphers fits w ok flown x.event says))
 
 -- # Sizes

@@ -19,7 +19,8 @@ use Rattle.line_laws.proofs.FurtherUps.{every_up}
 abbrev EntrySized : Entry → Type 0
 EntrySized x = IsSized x.after × (x.trace.happened.flights ≤ 24)
 
-safe_from : (w : World) (before entries : List Entry) → UpsAreSentAfter before entries → AreLoopFree w entries → IsIssuedAfter before entries → IsAlwaysSized entries → IsSafeAfter before entries
+safe_from : (w : World) (before entries : List Entry) → UpsAreSentAfter before entries → AreLoopFree w entries → IsIssuedAfter before entries
+    → IsAlwaysSized entries → IsSafeAfter before entries
 safe_from w before [] ups loops keys sized = tt
 safe_from w before (x ∷ xs) ups loops keys sized = λ honest.
     let up = ups honest in

@@ -51,19 +51,26 @@ sealed_from (Some g) first units = by_key (sealing_key g)
     by_key (Some key) = letters_from g key first units
 
 -- a plan that is made of words: its letters have the address of the ring that is left
-pub plan_from : {H F : Type 0} (W : RingWord → Type 0) (L : Granted → Type 0) (P : Eui → Key → Type 0) (E : Eui → Type 0) (g : Given) (m : Memory) (ends : Ends F) (K : Memory → H → Type 0) (D : Draft Memory → H → Type 0)
-    → ((d : Draft Memory) (answer : H) → D d answer → MadeIn W L P E g m d) → (p : Plan Memory (Result H F)) → Planned in_memory ends m K D p → AreFrom (address_of p.memory.station) p.frames
+pub plan_from : {H F : Type 0} (W : RingWord → Type 0) (L : Granted → Type 0) (P : Eui → Key → Type 0) (E : Eui → Type 0) (g : Given) (m : Memory)
+    (ends : Ends F) (K : Memory → H → Type 0) (D : Draft Memory → H → Type 0)
+    → ((d : Draft Memory) (answer : H) → D d answer → MadeIn W L P E g m d) → (p : Plan Memory (Result H F)) → Planned in_memory ends m K D p
+    → AreFrom (address_of p.memory.station) p.frames
 unfolding resting
 plan_from W L P E g m ends K D made p (Refuses reason) = tt
 plan_from W L P E g m ends K D made p (Keeps n answer k) = tt
 plan_from W L P E g m ends K D made p (Ended d answer done left) =
-    from_append _ d.plain _ (plain_from _ d.plain (made_in_plain W L P E g m d (made d answer done))) (sealed_from d.memory.station.ring d.memory.station.counter.next d.units)
+    from_append _ d.plain _ (plain_from _ d.plain (made_in_plain W L P E g m d (made d answer done)))
+    (sealed_from d.memory.station.ring d.memory.station.counter.next d.units)
 
-pub acts_from : {A : Type 0} (x : Node) (halted : A) (plan : Memory → Plan Memory A) → ((m : Memory) → x.memory ≡ Some m → AreFrom (address_of (plan m).memory.station) (plan m).frames) → AreFrom (node_address (acts x halted plan).node) (acts x halted plan).frames
+pub acts_from : {A : Type 0} (x : Node) (halted : A) (plan : Memory → Plan Memory A)
+    → ((m : Memory) → x.memory ≡ Some m → AreFrom (address_of (plan m).memory.station) (plan m).frames)
+    → AreFrom (node_address (acts x halted plan).node) (acts x halted plan).frames
 unfolding acts
 acts_from {A = A} x halted plan f = by_memory x.memory refl
   where
-    by_memory : (o : Option Memory) → x.memory ≡ o → let d : NodeStep A = option_map_or (λ m. left_by x (carry_out x.store.records x.store.cut (plan m))) o (stays x halted) in AreFrom (node_address d.node) d.frames
+    by_memory : (o : Option Memory) → x.memory ≡ o
+        → let d : NodeStep A = option_map_or (λ m. left_by x (carry_out x.store.records x.store.cut (plan m))) o (stays x halted) in
+        AreFrom (node_address d.node) d.frames
     by_memory None e = tt
     by_memory (Some m) e = ⊎_elim
         (λ (w : IsWhole x.store.records x.store.cut (plan m) (carry_out x.store.records x.store.cut (plan m))). rw (w.memory, w.frames) (f m e))

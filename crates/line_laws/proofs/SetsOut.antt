@@ -8,7 +8,8 @@ use Rattle.plc_base.specs.declared.address.Eui.{Eui}
 use Rattle.plc_base.specs.Grant.{Granted}
 use Rattle.joining_messages.specs.declared.message.JoinMessage.{JoinMessage}
 use Rattle.node_rules.specs.Memory.{StationMemory, Load, Command, Memory, load_octets, address_of, next_hop}
-use Rattle.node_rules.specs.Drafts.{Draft, Outgoing, OfRoom, OfNumbers, with_own_number, goes, no_room, numbers_spent, is_awaited, lack, seeks, seeks_once, sets_out}
+use Rattle.node_rules.specs.Drafts.{Draft, Outgoing, OfRoom, OfNumbers, with_own_number, goes, no_room, numbers_spent, is_awaited, lack, seeks, seeks_once}
+use Rattle.node_rules.specs.Drafts.{sets_out}
 use Rattle.node_rules.specs.MemoryDrafts.{on_station, station_part, is_commanded}
 use Rattle.node_rules.specs.Joining.{command_of}
 use Rattle.node_rules.specs.Laws.{IsShort}
@@ -33,7 +34,8 @@ lacks_nothing l to octets = by_hop (next_hop l to) (no_room l octets) (is_awaite
     by_hop None false false false eh ea eb ec e = record { room = λ _. ea; number = λ _ _. ec }
 
 -- what waits, and whether a route is there, are as before
-sought_same : (own dest to octets : ℕ) (d : Draft StationMemory) → (next_hop (seeks_once own dest d).memory to ≡ next_hop d.memory to) × (no_room (seeks_once own dest d).memory octets ≡ no_room d.memory octets)
+sought_same : (own dest to octets : ℕ) (d : Draft StationMemory)
+    → (next_hop (seeks_once own dest d).memory to ≡ next_hop d.memory to) × (no_room (seeks_once own dest d).memory octets ≡ no_room d.memory octets)
 unfolding seeks_once with_own_number goes next_hop
 sought_same own dest to octets d = by_wait (is_awaited d.memory dest)
   where
@@ -59,7 +61,8 @@ sought_alone s own dest note d (Alone n same none) = by_wait (is_awaited d.memor
 
 module _ {W : RingWord → Type 0} {g : Given} where
   -- the request, unless something waits for the address
-  seeks_made : (s : Draft StationMemory) (own dest note : ℕ) (load : Load) (d : Draft StationMemory) → Made W g s d → address_of d.memory ≡ Some own → (is_awaited d.memory dest ≡ false → numbers_spent d.memory ≡ false)
+  seeks_made : (s : Draft StationMemory) (own dest note : ℕ) (load : Load) (d : Draft StationMemory) → Made W g s d → address_of d.memory ≡ Some own
+      → (is_awaited d.memory dest ≡ false → numbers_spent d.memory ≡ false)
       → W (Carry dest note load) → Made W g s (seeks_once own dest d)
   unfolding seeks_once with_own_number
   seeks_made s own dest note load d made here left carried = by_wait (is_awaited d.memory dest) refl
@@ -68,22 +71,29 @@ module _ {W : RingWord → Type 0} {g : Given} where
       by_wait true e = made
       by_wait false e = Goes _ _ _ _ (Numbers d made (left e)) (Seeks own dest _ note load here refl (omega arith) carried) Unnoted
 
-  pub sets_out_made : (s : Draft StationMemory) (own to note : ℕ) (load : Load) (now : ℕ) (d : Draft StationMemory) → Made W g s d → address_of d.memory ≡ Some own
-      → LacksNothing d.memory to (length (load_octets load)) → IsShort load → W (Carry to note load) → IsAlone s d note → Made W g s (sets_out own to note load now d)
+  pub sets_out_made : (s : Draft StationMemory) (own to note : ℕ) (load : Load) (now : ℕ) (d : Draft StationMemory) → Made W g s d
+      → address_of d.memory ≡ Some own
+      → LacksNothing d.memory to (length (load_octets load)) → IsShort load → W (Carry to note load) → IsAlone s d note
+      → Made W g s (sets_out own to note load now d)
   sets_out_made s own to note load now d made here fits short carried alone = by_hop (next_hop d.memory to) refl
     where
       by_hop : (hop : Option ℕ) → next_hop d.memory to ≡ hop → Made W g s (sets_out own to note load now d)
       by_hop None e =
           let same = sought_same own to to (length (load_octets load)) d in
-          rw e (Waits to note load now _ (seeks_made s own to note load d made here (fits.number e) carried) (same.0 ∙ e) (same.1 ∙ fits.room e) short carried (sought_alone s own to note d alone))
+          rw e (Waits to note load now _ (seeks_made s own to note load d made here (fits.number e) carried) (same.0 ∙ e) (same.1 ∙ fits.room e) short carried
+          (sought_alone s own to note d alone))
       by_hop (Some hop) e = rw e (Sends own hop to note load d made here e short carried alone)
 
 -- a command that sets out, later in a joining
-pub commanded_made : {W : RingWord → Type 0} {g : Given} {L : Granted → Type 0} {P : Eui → Key → Type 0} {E : Eui → Type 0} {m : Memory} (to : ℕ) (message : JoinMessage) (now : ℕ) (d : Draft Memory)
-    → MadeIn W L P E g m d → LacksNothing d.memory.station to (length (command_of message)) → W (Carry to 0 (Command (command_of message))) → MadeIn W L P E g m (is_commanded to message now d)
+pub commanded_made : {W : RingWord → Type 0} {g : Given} {L : Granted → Type 0} {P : Eui → Key → Type 0} {E : Eui → Type 0} {m : Memory} (to : ℕ)
+    (message : JoinMessage) (now : ℕ) (d : Draft Memory)
+    → MadeIn W L P E g m d → LacksNothing d.memory.station to (length (command_of message)) → W (Carry to 0 (Command (command_of message)))
+    → MadeIn W L P E g m (is_commanded to message now d)
 unfolding is_commanded
 commanded_made {W = W} {g = g} {L = L} {P = P} {E = E} {m = m} to message now d made fits carried = by_address (address_of d.memory.station) refl
   where
-    by_address : (own : Option ℕ) → address_of d.memory.station ≡ own → MadeIn W L P E g m (option_map_or (λ own. on_station (sets_out own to 0 (Command (command_of message)) now) d) own d)
+    by_address : (own : Option ℕ) → address_of d.memory.station ≡ own
+        → MadeIn W L P E g m (option_map_or (λ own. on_station (sets_out own to 0 (Command (command_of message)) now) d) own d)
     by_address None e = made
-    by_address (Some own) e = OnStation (sets_out own to 0 (Command (command_of message)) now) d made (sets_out_made {W = W} {g = unheard g} (station_part d) own to 0 (Command (command_of message)) now (station_part d) Starts e fits tt carried Unnoted)
+    by_address (Some own) e = OnStation (sets_out own to 0 (Command (command_of message)) now) d made
+        (sets_out_made {W = W} {g = unheard g} (station_part d) own to 0 (Command (command_of message)) now (station_part d) Starts e fits tt carried Unnoted)

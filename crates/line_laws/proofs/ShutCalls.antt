@@ -30,7 +30,8 @@ use Rattle.line_laws.specs.Stores.{HasEui, IsHeld, IsBookKept, IsKept}
 use Rattle.line_laws.proofs.AddressBook.{Grown, one_book, plan_grown}
 use Rattle.line_laws.proofs.CallForms.{Nothing}
 use Rattle.line_laws.proofs.CoordinatorCalls.{heard_euis}
-use Rattle.line_laws.proofs.CoordinatorForms.{HandsNothingUp, IsGranted, coordinator_is, allow_is, rekey_is, activate_self_is, challenge_is, activate_is, kick_is}
+use Rattle.line_laws.proofs.CoordinatorForms.{HandsNothingUp, IsGranted, coordinator_is, allow_is, rekey_is, activate_self_is, challenge_is, activate_is}
+use Rattle.line_laws.proofs.CoordinatorForms.{kick_is}
 use Rattle.line_laws.proofs.IssueCalls.{CoordinatorWord, coordinator_words, handed_grown}
 use Rattle.line_laws.proofs.IssueWords.{commanded_leaves}
 use Rattle.line_laws.proofs.Keeping.{Leads, Left, carried}
@@ -56,45 +57,59 @@ module _ (eui : Eui) where
       by_left r None k b kept = subst (Shut eui) (one_book k.memory.book b r k.kept.kept.book kept) k.kept.grows
       by_left r (Some n) k b kept = subst (Shut eui) (one_book n.book b r k.kept.book kept) k.grows
 
-      by_memory : (q : Option Memory) → Left (IsKept Coordinator) x.store.records q → IfSome q IsMemorySized → BookShut eui (option_map_or (λ m. left_by x (carry_out x.store.records x.store.cut (plan m))) q (stays x halted)).node
+      by_memory : (q : Option Memory) → Left (IsKept Coordinator) x.store.records q → IfSome q IsMemorySized
+          → BookShut eui (option_map_or (λ m. left_by x (carry_out x.store.records x.store.cut (plan m))) q (stays x halted)).node
       by_memory None kept sized = shut
       by_memory (Some m) kept sized =
           let o : Outcome Memory A = carry_out x.store.records x.store.cut (plan m) in
-          by_left o.records o.memory (carried (Grown (Shut eui)) x.store.records x.store.cut (plan m) m (record { kept = kept; grows = shut m.book kept.book }) (f m sized))
+          by_left o.records o.memory (carried (Grown (Shut eui)) x.store.records x.store.cut (plan m) m (record { kept = kept; grows = shut m.book kept.book })
+          (f m sized))
 
   module _ (own : coordinators.CoordinatorIdentity) (m : Memory) (h : IsMemorySized m) where
-    plan_shut : {H F : Type 0} (g : Given) → ((address : Option ℕ) (by origin : ℕ) (rank : Rank) → Offered g address by origin rank → EntryFits (routing.offered_entry origin rank by g.now))
-        → (ends : Ends F) (K : Memory → H → Type 0) (N : H → Type 0) → ((n : Memory) (answer : H) → K n answer → (r : Records) → Grown (Shut eui) m r → Grown (Shut eui) n r)
-        → (p : Plan Memory (Result H F)) → Planned in_memory ends m K (MadeBy CoordinatorWord (IsGranted m) (OfOther eui) HasEui g m N) p → Leads (Grown (Shut eui)) m p.puts p.memory
+    plan_shut : {H F : Type 0} (g : Given)
+        → ((address : Option ℕ) (by origin : ℕ) (rank : Rank) → Offered g address by origin rank → EntryFits (routing.offered_entry origin rank by g.now))
+        → (ends : Ends F) (K : Memory → H → Type 0) (N : H → Type 0)
+        → ((n : Memory) (answer : H) → K n answer → (r : Records) → Grown (Shut eui) m r → Grown (Shut eui) n r)
+        → (p : Plan Memory (Result H F)) → Planned in_memory ends m K (MadeBy CoordinatorWord (IsGranted m) (OfOther eui) HasEui g m N) p
+        → Leads (Grown (Shut eui)) m p.puts p.memory
     plan_shut g offers ends K N beside p s =
-        plan_grown (Shut eui) CoordinatorWord (IsGranted m) (OfOther eui) HasEui g m coordinator_words offers (λ u k. k) (λ u psk k. k.0) (shut_step eui (IsGranted m) HasEui m) (granted_keys Coordinator m) ends K beside p
+        plan_grown (Shut eui) CoordinatorWord (IsGranted m) (OfOther eui) HasEui g m coordinator_words offers (λ u k. k) (λ u psk k. k.0)
+        (shut_step eui (IsGranted m) HasEui m) (granted_keys Coordinator m) ends K beside p
         (planned_weaker p (λ n answer k. k) (few_of N m CoordinatorWord (IsGranted m) (OfOther eui) HasEui g) s) (waits_little m h)
 
-    pub hears_shut : (got : Accepted) (cost note now : ℕ) → RoutesFit got → let p = coordinators.hear_coordinator own m got cost note now in Leads (Grown (Shut eui)) m p.puts p.memory
+    pub hears_shut : (got : Accepted) (cost note now : ℕ) → RoutesFit got → let p = coordinators.hear_coordinator own m got cost note now in
+        Leads (Grown (Shut eui)) m p.puts p.memory
     hears_shut got cost note now routes =
         let g = heard_given got cost note now in
-        plan_shut g (heard_offers got cost note now routes) dropped (HandedIn coordinator_heard.Station g m) HandsNothingUp (handed_grown (Shut eui) m h g) _ (coordinator_is CoordinatorWord (OfOther eui) HasEui g own m (λ to there join said. omega arith) got refl (heard_euis m got cost note now routes))
+        plan_shut g (heard_offers got cost note now routes) dropped (HandedIn coordinator_heard.Station g m) HandsNothingUp (handed_grown (Shut eui) m h g) _
+        (coordinator_is CoordinatorWord (OfOther eui) HasEui g own m (λ to there join said. omega arith) got refl (heard_euis m got cost note now routes))
 
     abbrev Order : {H : Type 0} → Plan Memory (Result H CoordinatorRefusal) → Type 0
     Order p = Leads (Grown (Shut eui)) m p.puts p.memory
 
-    order_shut : {H : Type 0} (now : ℕ) (p : Plan Memory (Result H CoordinatorRefusal)) → Planned in_memory orders m Nothing (MadeBy CoordinatorWord (IsGranted m) (OfOther eui) HasEui (call_given 0 0 now) m AnyAnswer) p → Order p
+    order_shut : {H : Type 0} (now : ℕ) (p : Plan Memory (Result H CoordinatorRefusal))
+        → Planned in_memory orders m Nothing (MadeBy CoordinatorWord (IsGranted m) (OfOther eui) HasEui (call_given 0 0 now) m AnyAnswer) p → Order p
     order_shut now p s = plan_shut (call_given 0 0 now) (call_offers 0 0 now) orders Nothing AnyAnswer (λ n answer k. absurd k) p s
 
     pub allow_shut : (u : Eui) (psk : Key) → HasEui u → OfOther eui u psk → Order (coordinators.allow m u psk)
-    allow_shut u psk known pair = order_shut 0 _ (allow_is CoordinatorWord (OfOther eui) HasEui (call_given 0 0 0) own m (λ to there join said. omega arith) u psk known pair)
+    allow_shut u psk known pair =
+        order_shut 0 _ (allow_is CoordinatorWord (OfOther eui) HasEui (call_given 0 0 0) own m (λ to there join said. omega arith) u psk known pair)
 
     pub rekey_shut : (index : ℕ) (key : Key) → IsHeld (Some key) → Order (coordinators.rekey m index key)
-    rekey_shut index key held = order_shut 0 _ (rekey_is CoordinatorWord (OfOther eui) HasEui (call_given 0 0 0) own m (λ to there join said. omega arith) index key held)
+    rekey_shut index key held =
+        order_shut 0 _ (rekey_is CoordinatorWord (OfOther eui) HasEui (call_given 0 0 0) own m (λ to there join said. omega arith) index key held)
 
     pub activate_self_shut : (index : ℕ) → index ≤ 1 → Order (coordinators.activate_self m index)
-    activate_self_shut index low = order_shut 0 _ (activate_self_is CoordinatorWord (OfOther eui) HasEui (call_given 0 0 0) own m (λ to there join said. omega arith) index low)
+    activate_self_shut index low =
+        order_shut 0 _ (activate_self_is CoordinatorWord (OfOther eui) HasEui (call_given 0 0 0) own m (λ to there join said. omega arith) index low)
 
     pub challenge_shut : (u : Eui) (now : ℕ) → HasEui u → Order (coordinators.challenge own.eui m u now)
-    challenge_shut u now known = order_shut now _ (challenge_is CoordinatorWord (OfOther eui) HasEui (call_given 0 0 now) own m (λ to there join said. omega arith) u known)
+    challenge_shut u now known =
+        order_shut now _ (challenge_is CoordinatorWord (OfOther eui) HasEui (call_given 0 0 now) own m (λ to there join said. omega arith) u known)
 
     pub activate_shut : (u : Eui) (index now : ℕ) → Order (coordinators.activate m u index now)
-    activate_shut u index now = order_shut now _ (activate_is CoordinatorWord (OfOther eui) HasEui (call_given 0 0 now) own m (λ to there join said. omega arith) u index)
+    activate_shut u index now =
+        order_shut now _ (activate_is CoordinatorWord (OfOther eui) HasEui (call_given 0 0 now) own m (λ to there join said. omega arith) u index)
 
     pub kick_shut : (u : Eui) → HasEui u → Order (coordinators.kick m u)
     kick_shut u known = order_shut 0 _ (kick_is CoordinatorWord (OfOther eui) HasEui (call_given 0 0 0) own m (λ to there join said. omega arith) u known)
@@ -126,16 +141,20 @@ module _ (eui : Eui) where
     pub kick_leaves_shut : (kick m eui).answer ≡ Ok tt → Shut eui (kick m eui).memory.book
     kick_leaves_shut = by_entry (allowed_entry m eui) refl
       where
-        by_address : (e : BookEntry) → books.allowed_one m.book eui ≡ Some e → (o : Option ℕ) → let p : Plan Memory (Result (Unit {0}) CoordinatorRefusal) = option_map_or (kick_by m e) o (refused orders m refusal.NotAllowed) in p.answer ≡ Ok tt → Shut eui p.memory.book
+        by_address : (e : BookEntry) → books.allowed_one m.book eui ≡ Some e → (o : Option ℕ)
+            → let p : Plan Memory (Result (Unit {0}) CoordinatorRefusal) = option_map_or (kick_by m e) o (refused orders m refusal.NotAllowed) in
+            p.answer ≡ Ok tt → Shut eui p.memory.book
         by_address e is None h = absurd (refused_not _ h)
         by_address e is (Some to) h = subst (Shut eui) (sym (goes_book e to (message e.eui body.Kick) ∙ kicked_book e)) (kicked_shut eui m.book e table is)
 
         by_entry : (o : Option BookEntry) → books.allowed_one m.book eui ≡ o
-            → let p : Plan Memory (Result (Unit {0}) CoordinatorRefusal) = option_map_or (λ e. option_map_or (kick_by m e) (books.address_of m.book eui) (refused orders m refusal.NotAllowed)) o (refused orders m refusal.NotAllowed) in
+            → let p : Plan Memory (Result (Unit {0}) CoordinatorRefusal) = option_map_or
+            (λ e. option_map_or (kick_by m e) (books.address_of m.book eui) (refused orders m refusal.NotAllowed)) o (refused orders m refusal.NotAllowed) in
             p.answer ≡ Ok tt → Shut eui p.memory.book
         by_entry None is h = absurd (refused_not _ h)
         by_entry (Some e) is h = by_address e is (books.address_of m.book eui) h
 
 -- a kick whose store write failed says so
 pub kick_failed : (own : coordinators.CoordinatorIdentity) (m : Memory) (u : Eui) → HasEui u → (coordinators.kick m u).failed ≡ Err refusal.Store
-kick_failed own m u known = planned_failed (coordinators.kick m u) (kick_is CoordinatorWord AnyPair HasEui (call_given 0 0 0) own m (λ to there join said. omega arith) u known)
+kick_failed own m u known =
+    planned_failed (coordinators.kick m u) (kick_is CoordinatorWord AnyPair HasEui (call_given 0 0 0) own m (λ to there join said. omega arith) u known)

@@ -27,8 +27,10 @@ write_append (p ∷ ps) qs cut r = by_test (succeeds cut) (write_append ps qs (c
     next : List Write → Written
     next ws = write ws (cut_after cut) (records_after cut r p.slot p.octets)
 
-    by_test : (b : Bool) → next (ps ++ qs) ≡ (if (next ps).whole then write qs (next ps).cut (next ps).records else next ps) → (if b then next (ps ++ qs) else lost)
-        ≡ (if (if b then next ps else lost).whole then write qs (if b then next ps else lost).cut (if b then next ps else lost).records else (if b then next ps else lost))
+    by_test : (b : Bool) → next (ps ++ qs) ≡ (if (next ps).whole then write qs (next ps).cut (next ps).records else next ps)
+        → (if b then next (ps ++ qs) else lost)
+        ≡ (if (if b then next ps else lost).whole then write qs (if b then next ps else lost).cut (if b then next ps else lost).records
+        else (if b then next ps else lost))
     by_test true e = e
     by_test false e = refl
 
@@ -47,7 +49,8 @@ module _ {A : Type 0} (answer : A) (ps : List Write) (q : Memory → Plan Memory
       rest : Written
       rest = write (q m).puts a.cut a.records
 
-      both : (t : Bool) → rest.whole ≡ t → (left_by (node_with (Some m)) (outcome_of rest (behind ps (q m)))).node ≡ (left_by (record (node_with (Some m)) { store = record { records = a.records; cut = a.cut }; memory = Some m }) (outcome_of rest (q m))).node
+      both : (t : Bool) → rest.whole ≡ t → (left_by (node_with (Some m)) (outcome_of rest (behind ps (q m)))).node
+          ≡ (left_by (record (node_with (Some m)) { store = record { records = a.records; cut = a.cut }; memory = Some m }) (outcome_of rest (q m))).node
       both true e = rw e refl
       both false e = rw e refl
 
@@ -60,7 +63,8 @@ module _ {A : Type 0} (answer : A) (ps : List Write) (q : Memory → Plan Memory
       tags false e = rw e refl
   by_first m a false e = rw e (record { node = refl; frames = refl; made = refl; silent = refl; untold = refl })
 
-  by_memory : (o : Option Memory) → IsSplit (acts (node_with o) answer (λ m. behind ps (q m))) (acts (node_with o) tt (storing ps)) (acts (acts (node_with o) tt (storing ps)).node answer q)
+  by_memory : (o : Option Memory) → IsSplit (acts (node_with o) answer (λ m. behind ps (q m))) (acts (node_with o) tt (storing ps))
+      (acts (acts (node_with o) tt (storing ps)).node answer q)
   unfolding acts carry_out
   by_memory None = record { node = refl; frames = refl; made = refl; silent = refl; untold = refl }
   by_memory (Some m) = rw (write_append ps (q m).puts store.cut store.records) (by_first m (write ps store.cut store.records) _ refl)

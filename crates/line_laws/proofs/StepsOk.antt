@@ -1,5 +1,6 @@
 -- Every event keeps what holds of a line of nodes, and sends at most 24 frames.
-use Rattle.std.proofs.Common.{◌≡◌, ◌≢◌, ⊎_elim, ℕ, zero, suc, ◌+◌, ◌-◌, ◌≤◌, ◌<◌, ◌^◌, Bool, true, false, not, List, [], ◌∷◌, ◌++◌, length, map, Option, Some, None, Result, Ok, Err, refl, sym, ap, ◌∙◌, subst, arith}
+use Rattle.std.proofs.Common.{◌≡◌, ◌≢◌, ⊎_elim, ℕ, zero, suc, ◌+◌, ◌-◌, ◌≤◌, ◌<◌, ◌^◌, Bool, true, false, not, List, [], ◌∷◌, ◌++◌, length, map, Option, Some}
+use Rattle.std.proofs.Common.{None, Result, Ok, Err, refl, sym, ap, ◌∙◌, subst, arith}
 use Rattle.std.specs.Prelude.{if◌then◌else◌, All, IfSome, is_some, ◌==◌, ◌||◌, ◌&&◌, nat_lt, slice_get, slice_set, replicate, get_or}
 use Rattle.std.specs.List.{filter, list_any}
 use Rattle.std.specs.Option.{option_map, option_map_or, option_and_then}
@@ -57,7 +58,11 @@ use Rattle.node_rules.specs.MemoryDrafts.{with_station}
 use Rattle.node_rules.specs.Laws.{IsShort}
 use Rattle.line_events.specs.Events.{IsEvent}
 use Rattle.line_rules.specs.Worlds.{World, Flight, Trace, node_at, flight_at, is_forged_tag}
-use Rattle.line_rules.specs.Steps.{Step, set_up, ran, told, flights_of, acted, once_begun, in_setup, has_begun, takes_setup, on_node, on_meter, made_node, blank_node, identity, hears, restarts, memory_by, ticked, rand, join, joins_by, leave, send, sends_by, sent_if, breaks, breaks_by, lose, tick, restart, cut, show, psk_of, trace_of, happened, coordinator, coordinator_node, meter, is_known, depot, depot_by, provisioned, near, near_by, keeps_rank, ranks_full, offered_near, preset, allow, allowed, deliver, inject, arrives, accepted_by, received, by_coordinator, forged_by, note_by, rekey, challenge, activate, kick, step}
+use Rattle.line_rules.specs.Steps.{Step, set_up, ran, told, flights_of, acted, once_begun, in_setup, has_begun, takes_setup, on_node, on_meter, made_node}
+use Rattle.line_rules.specs.Steps.{blank_node, identity, hears, restarts, memory_by, ticked, rand, join, joins_by, leave, send, sends_by, sent_if, breaks}
+use Rattle.line_rules.specs.Steps.{breaks_by, lose, tick, restart, cut, show, psk_of, trace_of, happened, coordinator, coordinator_node, meter, is_known, depot}
+use Rattle.line_rules.specs.Steps.{depot_by, provisioned, near, near_by, keeps_rank, ranks_full, offered_near, preset, allow, allowed, deliver, inject, arrives}
+use Rattle.line_rules.specs.Steps.{accepted_by, received, by_coordinator, forged_by, note_by, rekey, challenge, activate, kick, step}
 use Rattle.node_rules.specs.NodeSteps.{NodeStep, acts, stays, answering, of_station}
 use Rattle.line_laws.specs.Stores.{IsReadable, IsStationKept, BookKept, IsNamed, IsKept, HasEui, IsPair}
 use Rattle.line_laws.specs.Sizes.{IsAnyLoad, IsStationSized, IsMemorySized}
@@ -75,8 +80,10 @@ use Rattle.line_laws.proofs.MarkWrites.{away_leads}
 use Rattle.line_laws.proofs.MarkNodes.{AreCovered, marks_held, restart_raised}
 use Rattle.line_laws.proofs.Frontiers.{next_of, frontier, same_low, numbered_lower, numbered_le}
 use Rattle.frame_counters.proofs.Limits.{stored_limit-kept}
-use Rattle.line_laws.proofs.NodeCalls.{RoutesFit, no_some, meter_hears_ok, random_ok, join_ok, leave_ok, send_ok, near_ok, counter_ok, number_ok, broke_ok, provision_ok}
-use Rattle.line_laws.proofs.CoordinatorCalls.{coordinator_hears_ok, accept_ok, accept_failed, accepted_routes, allow_ok, depot_ok, depot_failed, rekey_ok, activate_self_ok, challenge_ok, activate_ok, kick_ok}
+use Rattle.line_laws.proofs.NodeCalls.{RoutesFit, no_some, meter_hears_ok, random_ok, join_ok, leave_ok, send_ok, near_ok, counter_ok, number_ok, broke_ok}
+use Rattle.line_laws.proofs.NodeCalls.{provision_ok}
+use Rattle.line_laws.proofs.CoordinatorCalls.{coordinator_hears_ok, accept_ok, accept_failed, accepted_routes, allow_ok, depot_ok, depot_failed, rekey_ok}
+use Rattle.line_laws.proofs.CoordinatorCalls.{activate_self_ok, challenge_ok, activate_ok, kick_ok}
 use Rattle.line_laws.proofs.StoreMarks.{accept_is}
 use Rattle.line_laws.proofs.Quiet.{acts_quiet, counter_quiet, number_quiet, near_quiet, install_quiet, allow_quiet, depot_quiet, accept_quiet}
 use Rattle.line_laws.proofs.Answered.{acts_answered, depot_grants}
@@ -88,10 +95,12 @@ answering_ok : {A B : Type 0} (x : Node) (reads : A → B) (d : NodeStep A) → 
 answering_ok x reads d h = record { node = h.node; role = h.role; eui = h.eui; few = h.few; rises = h.rises; from = h.from; marked = h.marked }
 
 stays_ok : {A : Type 0} (x : Node) (answer : A) → NodeOk x → DidOk x (stays x answer)
-stays_ok x answer ok = record { node = ok; role = refl; eui = refl; few = omega arith; rises = same_low (frontier x); from = tt; marked = raised_same (marks_of x) }
+stays_ok x answer ok =
+    record { node = ok; role = refl; eui = refl; few = omega arith; rises = same_low (frontier x); from = tt; marked = raised_same (marks_of x) }
 
 -- a plan of the coordinator, at node 0
-pub coordinator_acts : {A : Type 0} (x : Node) (halted : A) (plan : Memory → Plan Memory A) → x.role ≡ Coordinator → NodeOk x → ((m : Memory) → IsMemorySized m → PlanOk Coordinator m (plan m)) → DidOk x (acts x halted plan)
+pub coordinator_acts : {A : Type 0} (x : Node) (halted : A) (plan : Memory → Plan Memory A) → x.role ≡ Coordinator → NodeOk x
+    → ((m : Memory) → IsMemorySized m → PlanOk Coordinator m (plan m)) → DidOk x (acts x halted plan)
 coordinator_acts x halted plan is ok f = acts_ok x halted plan ok (λ m there kept sized. subst (λ r. PlanOk r m (plan m)) (sym is) (f m sized))
 
 -- what a restart gives
@@ -111,13 +120,18 @@ restarts_ok x ok =
     let next = a.next in
     let rises : next_of x.memory x.store.records ≤ a.memory.station.counter.next = omega arith in
     record {
-      node = record { kept = subst (λ o. Left (IsKept x.role) x.store.records (memory_by o)) (sym a.is) a.kept; sized = subst (λ o. IfSome (memory_by o) IsMemorySized) (sym a.is) a.sized; covered = subst (λ o. AreCovered (memory_by o)) (sym a.is) a.covered };
+      node = record {
+        kept = subst (λ o. Left (IsKept x.role) x.store.records (memory_by o)) (sym a.is) a.kept;
+        sized = subst (λ o. IfSome (memory_by o) IsMemorySized) (sym a.is) a.sized;
+        covered = subst (λ o. AreCovered (memory_by o)) (sym a.is) a.covered;
+      };
       role = refl;
       eui = refl;
       few = omega arith;
       rises = subst (λ o. next_of x.memory x.store.records ≤ next_of (memory_by o) x.store.records) (sym a.is) rises;
       from = tt;
-      marked = subst (λ o. Raised (marks_of x) (marks_held x.role x.store.records (memory_by o))) (sym a.is) (restart_raised x.role x.store.records x.memory a ok.kept ok.covered);
+      marked = subst (λ o. Raised (marks_of x) (marks_held x.role x.store.records (memory_by o))) (sym a.is)
+          (restart_raised x.role x.store.records x.memory a ok.kept ok.covered);
     }
 
 -- time
@@ -128,33 +142,48 @@ tick_station_sized : (now : ℕ) (l : StationMemory) → IsStationSized l → Is
 unfolding pieces.unexpired
 tick_station_sized now l h =
     let young : Reassembly → Bool = λ r. nat_lt now (r.since + 60) in
-    let count : length (filter young l.reassemblies) + length (filter (λ r. not (young r)) l.reassemblies) ≡ length l.reassemblies = length-filter_both young (λ r. not (young r)) (λ r. refl) l.reassemblies in
-    let sum : pieces.blocks_held (filter young l.reassemblies) + pieces.blocks_held (filter (λ r. not (young r)) l.reassemblies) ≡ pieces.blocks_held l.reassemblies
+    let count : length (filter young l.reassemblies) + length (filter (λ r. not (young r)) l.reassemblies)
+    ≡ length l.reassemblies = length-filter_both young (λ r. not (young r)) (λ r. refl) l.reassemblies in
+    let sum : pieces.blocks_held (filter young l.reassemblies) + pieces.blocks_held (filter (λ r. not (young r)) l.reassemblies)
+    ≡ pieces.blocks_held l.reassemblies
     = sum_by-filter_both young (λ r. not (young r)) (λ r. refl) (λ (r : Reassembly). pieces.blocks r.size) l.reassemblies in
     let few = h.reassemblies.0 in
     let low = h.reassemblies.1 in
     let w = stays_sized l (λ (b : Body). calls.is_within 30 now b.since) h in
-    record { reassemblies = (omega arith, omega arith); waiting = record { bodies = w.waiting.bodies; blocks = w.waiting.blocks; datagrams = w.waiting.datagrams }; loads = w.loads; tag = w.tag }
+    record {
+      reassemblies = (omega arith, omega arith);
+      waiting = record { bodies = w.waiting.bodies; blocks = w.waiting.blocks; datagrams = w.waiting.datagrams };
+      loads = w.loads;
+      tag = w.tag;
+    }
 
-tick_meter : (now : ℕ) (psk : Key) (m : Memory) (r : Records) → IsKept (Meter psk) m r → IsMemorySized m → IsKept (Meter psk) (meters.tick now m) r × IsMemorySized (meters.tick now m)
+tick_meter : (now : ℕ) (psk : Key) (m : Memory) (r : Records) → IsKept (Meter psk) m r → IsMemorySized m
+    → IsKept (Meter psk) (meters.tick now m) r × IsMemorySized (meters.tick now m)
 tick_meter now psk m r k h = (
   record { station = tick_station_kept now m.station r k.station; book = k.book; sessions = k.sessions },
   record { station = tick_station_sized now m.station h.station; sessions = h.sessions; randoms = h.randoms },
 )
 
-tick_coordinator : (now : ℕ) (m : Memory) (r : Records) → IsKept Coordinator m r → IsMemorySized m → IsKept Coordinator (coordinator_rules.tick now m) r × IsMemorySized (coordinator_rules.tick now m)
+tick_coordinator : (now : ℕ) (m : Memory) (r : Records) → IsKept Coordinator m r → IsMemorySized m
+    → IsKept Coordinator (coordinator_rules.tick now m) r × IsMemorySized (coordinator_rules.tick now m)
 tick_coordinator now m r k h =
     let young : CoordinatorSession → Bool = λ s. calls.is_within 120 now s.since in
-    let count : length (filter young m.sessions) + length (filter (λ s. not (young s)) m.sessions) ≡ length m.sessions = length-filter_both young (λ s. not (young s)) (λ s. refl) m.sessions in
+    let count : length (filter young m.sessions) + length (filter (λ s. not (young s)) m.sessions)
+    ≡ length m.sessions = length-filter_both young (λ s. not (young s)) (λ s. refl) m.sessions in
     let few = h.sessions in (
-      record { station = tick_station_kept now m.station r k.station; book = k.book; sessions = All-filter (λ (s : CoordinatorSession). calls.is_within 120 now s.since) IsNamed m.sessions k.sessions },
+      record {
+        station = tick_station_kept now m.station r k.station;
+        book = k.book;
+        sessions = All-filter (λ (s : CoordinatorSession). calls.is_within 120 now s.since) IsNamed m.sessions k.sessions;
+      },
       record { station = tick_station_sized now m.station h.station; sessions = omega arith; randoms = h.randoms },
     )
 
 pub ticked_ok : (now : ℕ) (x : Node) → NodeOk x → NodeOk (ticked now x)
 ticked_ok now x ok = by_role x.role x.memory ok.kept ok.sized ok.covered
   where
-    by_role : (role : Role) (o : Option Memory) → Left (IsKept role) x.store.records o → IfSome o IsMemorySized → AreCovered o → NodeOk (ticked now (record { role = role; eui = x.eui; store = x.store; memory = o }))
+    by_role : (role : Role) (o : Option Memory) → Left (IsKept role) x.store.records o → IfSome o IsMemorySized → AreCovered o
+        → NodeOk (ticked now (record { role = role; eui = x.eui; store = x.store; memory = o }))
     by_role Coordinator None k h c = record { kept = k; sized = tt; covered = tt }
     by_role (Meter psk) None k h c = record { kept = k; sized = tt; covered = tt }
     by_role Coordinator (Some m) k h c = let t = tick_coordinator now m x.store.records k h in record { kept = t.0; sized = t.1; covered = c }
@@ -162,7 +191,14 @@ ticked_ok now x ok = by_role x.role x.memory ok.kept ok.sized ok.covered
 
 pub resting_ok : {A : Type 0} (role : Role) (m : Memory) → IsMemorySized m → (answer failed : A) → PlanOk role m (resting m answer failed)
 unfolding resting
-resting_ok role m h answer failed = record { leads = leads_beside (IsKept role) m m (λ r k. k); sized = h; few = omega arith; rises = λ fits. record { high = tt; with_own_number = omega arith }; from = tt; marked = λ first. away_leads first m m [] tt refl }
+resting_ok role m h answer failed = record {
+  leads = leads_beside (IsKept role) m m (λ r k. k);
+  sized = h;
+  few = omega arith;
+  rises = λ fits. record { high = tt; with_own_number = omega arith };
+  from = tt;
+  marked = λ first. away_leads first m m [] tt refl;
+}
 
 -- # A new node
 
@@ -210,7 +246,12 @@ pub blank_ok : (role : Role) (eui : Eui) → PairOctets role → NodeOk (blank_n
 blank_ok role eui pair = record {
   kept = record { station = blank_kept; book = by_role role pair; sessions = All-nil IsNamed };
   sized = record {
-    station = record { reassemblies = (omega arith, omega arith); waiting = record { bodies = omega arith; blocks = omega arith; datagrams = All-nil (λ (b : Body). IsShort b.load) }; loads = All-nil (λ (b : Body). IsAnyLoad b.load); tag = omega arith };
+    station = record {
+      reassemblies = (omega arith, omega arith);
+      waiting = record { bodies = omega arith; blocks = omega arith; datagrams = All-nil (λ (b : Body). IsShort b.load) };
+      loads = All-nil (λ (b : Body). IsAnyLoad b.load);
+      tag = omega arith;
+    };
     sessions = omega arith;
     randoms = omega arith;
   };
@@ -224,7 +265,8 @@ blank_ok role eui pair = record {
 ticked_frontier : (now : ℕ) (x : Node) → frontier (ticked now x) ≡ frontier x
 ticked_frontier now x = by_role x.role x.memory
   where
-    by_role : (role : Role) (o : Option Memory) → frontier (ticked now (record { role = role; eui = x.eui; store = x.store; memory = o })) ≡ next_of o x.store.records
+    by_role : (role : Role) (o : Option Memory)
+        → frontier (ticked now (record { role = role; eui = x.eui; store = x.store; memory = o })) ≡ next_of o x.store.records
     by_role Coordinator None = refl
     by_role (Meter psk) None = refl
     by_role Coordinator (Some m) = refl
@@ -244,11 +286,14 @@ pub data StepGood (w : World) : Step → Type 0 where
   Taken : (r : World × Trace) → WorldOk r.0 → r.1.happened.flights ≤ 24 → IsTold w r → StepGood w (Ok r)
 
 -- a node's frames are flights more
-pub told_more : {A : Type 0} (ciphers : Ciphers) (w : World) (number : ℕ) (d : NodeStep A) → length (told ciphers w number d).flights ≡ length w.flights + length d.frames
+pub told_more : {A : Type 0} (ciphers : Ciphers) (w : World) (number : ℕ) (d : NodeStep A)
+    → length (told ciphers w number d).flights ≡ length w.flights + length d.frames
 unfolding told
-told_more ciphers w number d = let both = length-append w.flights (flights_of ciphers number d) in let same : length (flights_of ciphers number d) ≡ length d.frames = length-map d.frames _ in omega arith
+told_more ciphers w number d = let both = length-append w.flights (flights_of ciphers number d) in
+    let same : length (flights_of ciphers number d) ≡ length d.frames = length-map d.frames _ in omega arith
 
-pub told_none : {A : Type 0} (ciphers : Ciphers) (w : World) (number : ℕ) (d : NodeStep A) → d.frames ≡ [] → length (told ciphers w number d).flights ≡ length w.flights + 0
+pub told_none : {A : Type 0} (ciphers : Ciphers) (w : World) (number : ℕ) (d : NodeStep A) → d.frames ≡ []
+    → length (told ciphers w number d).flights ≡ length w.flights + 0
 told_none ciphers w number d none = told_more ciphers w number d ∙ ap (λ fs. length w.flights + length fs) none
 
 pub none_more : (w v : World) → v.flights ≡ w.flights → length v.flights ≡ length w.flights + 0
@@ -259,7 +304,8 @@ module _ (ciphers : Ciphers) (fits : KeepsRanges ciphers) (w : World) (ok : Worl
   branch true p q s t = s refl
   branch false p q s t = t refl
 
-  pub by_option : {X : Type 0} (f : X → Step) (x : Option X) (p : Step) → ((y : X) → x ≡ Some y → StepGood w (f y)) → StepGood w p → StepGood w (option_map_or f x p)
+  pub by_option : {X : Type 0} (f : X → Step) (x : Option X) (p : Step) → ((y : X) → x ≡ Some y → StepGood w (f y)) → StepGood w p
+      → StepGood w (option_map_or f x p)
   by_option f None p s t = t
   by_option f (Some y) p s t = s y refl
 
@@ -308,17 +354,24 @@ module _ (ciphers : Ciphers) (fits : KeepsRanges ciphers) (w : World) (ok : Worl
 
   -- what a node did is told to the world and to the report
   pub acted_good : (number : ℕ) (x : Node) (d : NodeStep Answer) → node_at w number ≡ Some x → DidOk x d → StepGood w (Ok (acted ciphers w number d))
-  acted_good number x d there did = Taken _ (told_ok ciphers fits (ran w) number x d ran_ok there did (λ e. absurd (true_false e))) did.few (told_more ciphers (ran w) number d)
+  acted_good number x d there did =
+      Taken _ (told_ok ciphers fits (ran w) number x d ran_ok there did (λ e. absurd (true_false e))) did.few (told_more ciphers (ran w) number d)
 
   -- # coordinator, meter
 
-  made_ok : (x : Node) → NodeOk x → NodeFits x → length w.nodes ≤ 999 → ((c : Node) → node_at (made_node w x).0 0 ≡ Some c → c.role ≡ Coordinator) → WorldOk (made_node w x).0
+  made_ok : (x : Node) → NodeOk x → NodeFits x → length w.nodes ≤ 999 → ((c : Node) → node_at (made_node w x).0 0 ≡ Some c → c.role ≡ Coordinator)
+      → WorldOk (made_node w x).0
   made_ok x good given room first = record {
     nodes = All-push NodeOk w.nodes x ok.nodes good;
     fits = All-push NodeFits w.nodes x ok.fits given;
     first = first;
     count = let longer = length-append w.nodes (x ∷ []) in omega arith;
-    rising = record { below = made_below; pairs = ok.rising.pairs; homes = λ k e lt. let h = ok.rising.homes k e lt in let longer = length-append w.nodes (x ∷ []) in omega arith };
+    rising = record {
+      below = made_below;
+      pairs = ok.rising.pairs;
+      homes = λ k e lt. let h = ok.rising.homes k e lt in
+          let longer = length-append w.nodes (x ∷ []) in omega arith;
+    };
     quiet = ok.quiet;
   }
     where
@@ -334,12 +387,15 @@ module _ (ciphers : Ciphers) (fits : KeepsRanges ciphers) (w : World) (ok : Worl
   rand_good : (number : ℕ) (value : Rand) → StepGood w (rand ciphers w number value)
   unfolding rand
   rand_good number value = once _ (at_node number _ (λ x there.
-      acted_good number x _ there (answering_ok x random_word _ (acts_ok x (Err randoms.Halted) _ (node_ok number x there) (λ m here kept sized. random_ok x.role m sized value)))))
+      acted_good number x _ there (answering_ok x random_word _
+      (acts_ok x (Err randoms.Halted) _ (node_ok number x there) (λ m here kept sized. random_ok x.role m sized value)))))
 
-  joins_good : (number agent : ℕ) (x : Node) (address : Option ℕ) (psk : Option Key) → node_at w number ≡ Some x → StepGood w (Ok (joins_by ciphers w number x address psk))
+  joins_good : (number agent : ℕ) (x : Node) (address : Option ℕ) (psk : Option Key) → node_at w number ≡ Some x
+      → StepGood w (Ok (joins_by ciphers w number x address psk))
   joins_good number agent x None psk there = Taken _ ran_ok (omega arith) (none_more w (ran w) refl)
   joins_good number agent x (Some a) None there = Taken _ ran_ok (omega arith) (none_more w (ran w) refl)
-  joins_good number agent x (Some a) (Some psk) there = acted_good number x _ there (answering_ok x join_word _ (acts_ok x (Err joins.Halted) _ (node_ok number x there)
+  joins_good number agent x (Some a) (Some psk) there =
+      acted_good number x _ there (answering_ok x join_word _ (acts_ok x (Err joins.Halted) _ (node_ok number x there)
       (λ m here kept sized. join_ok x.role m sized ciphers fits (identity ciphers x psk) refl a w.clock)))
 
   join_good : (number agent : ℕ) → StepGood w (join ciphers w number agent)
@@ -352,15 +408,19 @@ module _ (ciphers : Ciphers) (fits : KeepsRanges ciphers) (w : World) (ok : Worl
       acted_good number x _ there (answering_ok x leave_word _ (acts_ok x (Err leaves.Halted) meters.leave (node_ok number x there)
       (λ m here kept sized. leave_ok x.role m sized ciphers fits (identity ciphers x (record { 0 = [] })) refl)))))
 
-  sent_good : (from to : ℕ) (datagram : List ℕ) (tag : ℕ) (b : Bool) (r : World × Trace) → WorldOk r.0 → r.1.happened.flights ≤ 24 → IsTold w r → StepGood w (Ok (sent_if w from to datagram tag b r))
+  sent_good : (from to : ℕ) (datagram : List ℕ) (tag : ℕ) (b : Bool) (r : World × Trace) → WorldOk r.0 → r.1.happened.flights ≤ 24 → IsTold w r
+      → StepGood w (Ok (sent_if w from to datagram tag b r))
   sent_good from to datagram tag false r g few is = Taken _ g few is
   sent_good from to datagram tag true r g few is = Taken _ (counts_ok r.0 (record r.0 { sends = r.0.sends + 1 }) g refl refl (λ e. e)) few is
 
-  sends_good : (from to : ℕ) (datagram : List ℕ) (x : Node) (address : Option ℕ) → node_at w from ≡ Some x → StepGood w (Ok (sends_by ciphers w from to datagram x address))
+  sends_good : (from to : ℕ) (datagram : List ℕ) (x : Node) (address : Option ℕ) → node_at w from ≡ Some x
+      → StepGood w (Ok (sends_by ciphers w from to datagram x address))
   sends_good from to datagram x None there = Taken _ ran_ok (omega arith) (none_more w (ran w) refl)
   sends_good from to datagram x (Some a) there =
-      let did = answering_ok x sent_word _ (acts_ok x (Err sends.Halted) (λ m. of_station m (calls.send m.station a datagram (w.sends + 1) w.clock)) (node_ok from x there) (λ m here kept sized. send_ok x.role m sized a datagram (w.sends + 1) w.clock)) in
-      sent_good from to datagram _ _ _ (told_ok ciphers fits (ran w) from x _ ran_ok there did (λ e. absurd (true_false e))) did.few (told_more ciphers (ran w) from _)
+      let did = answering_ok x sent_word _ (acts_ok x (Err sends.Halted) (λ m. of_station m (calls.send m.station a datagram (w.sends + 1) w.clock))
+      (node_ok from x there) (λ m here kept sized. send_ok x.role m sized a datagram (w.sends + 1) w.clock)) in
+      sent_good from to datagram _ _ _ (told_ok ciphers fits (ran w) from x _ ran_ok there did (λ e. absurd (true_false e))) did.few
+      (told_more ciphers (ran w) from _)
 
   send_good : (from to : ℕ) (datagram : List ℕ) → StepGood w (send ciphers w from to datagram)
   unfolding send
@@ -368,7 +428,8 @@ module _ (ciphers : Ciphers) (fits : KeepsRanges ciphers) (w : World) (ok : Worl
 
   breaks_good : (number : ℕ) (x : Node) (next : Option ℕ) → node_at w number ≡ Some x → StepGood w (Ok (breaks_by ciphers w number x next))
   breaks_good number x None there = Taken _ ran_ok (omega arith) (none_more w (ran w) refl)
-  breaks_good number x (Some next) there = acted_good number x _ there (acts_ok x said.Halted _ (node_ok number x there) (λ m here kept sized. broke_ok x.role m sized next said.Broken))
+  breaks_good number x (Some next) there =
+      acted_good number x _ there (acts_ok x said.Halted _ (node_ok number x there) (λ m here kept sized. broke_ok x.role m sized next said.Broken))
 
   break_good : (number next : ℕ) → StepGood w (breaks ciphers w number next)
   unfolding breaks
@@ -381,47 +442,67 @@ module _ (ciphers : Ciphers) (fits : KeepsRanges ciphers) (w : World) (ok : Worl
       by_number true e = absurd (no_some f e)
       by_number false e = e
 
-  lost_rising : (number : ℕ) (f : Flight) → flight_at w number ≡ Some f → Rising (record (ran w) { flights = slice_set w.flights (number - 1) (record f { lost = true }) })
+  lost_rising : (number : ℕ) (f : Flight) → flight_at w number ≡ Some f
+      → Rising (record (ran w) { flights = slice_set w.flights (number - 1) (record f { lost = true }) })
   lost_rising number f there =
       let is = flight_is number f there in
       record {
-        below = λ n x here. All-set (IsBelow n (frontier x)) w.flights (number - 1) (record f { lost = true }) (at_place (IsBelow n (frontier x)) w.flights (number - 1) f is (ok.rising.below n x here)) (ok.rising.below n x here);
+        below = λ n x here. All-set (IsBelow n (frontier x)) w.flights (number - 1) (record f { lost = true })
+            (at_place (IsBelow n (frontier x)) w.flights (number - 1) f is (ok.rising.below n x here)) (ok.rising.below n x here);
         pairs = lost_pairs w.flights (number - 1) f is (place_within w.flights (number - 1) f is) ok.rising.pairs;
-        homes = All-set (λ (g : Flight). g.from < length w.nodes) w.flights (number - 1) (record f { lost = true }) (at_place (λ (g : Flight). g.from < length w.nodes) w.flights (number - 1) f is ok.rising.homes) ok.rising.homes;
+        homes = All-set (λ (g : Flight). g.from < length w.nodes) w.flights (number - 1) (record f { lost = true })
+            (at_place (λ (g : Flight). g.from < length w.nodes) w.flights (number - 1) f is ok.rising.homes) ok.rising.homes;
       }
 
   lose_good : (number : ℕ) → StepGood w (lose w number)
   unfolding lose
   lose_good number = once _ (by_flight (flight_at w number) refl)
     where
-      by_lost : (f : Flight) (b : Bool) → flight_at w number ≡ Some f → StepGood w (if b then Err faults.Flight else Ok (record (ran w) { flights = slice_set w.flights (number - 1) (record f { lost = true }) }, trace_of (happened w said.Lost)))
+      by_lost : (f : Flight) (b : Bool) → flight_at w number ≡ Some f
+          → StepGood w (if b then Err faults.Flight
+          else Ok (record (ran w) { flights = slice_set w.flights (number - 1) (record f { lost = true }) }, trace_of (happened w said.Lost)))
       by_lost f true there = Fails faults.Flight
-      by_lost f false there = Taken _ (record { nodes = ok.nodes; fits = ok.fits; first = ok.first; count = ok.count; rising = lost_rising number f there; quiet = λ e. absurd (true_false e) }) (omega arith) (let same = length-set w.flights (number - 1) (record f { lost = true }) in omega arith)
+      by_lost f false there = Taken _ (record {
+        nodes = ok.nodes;
+        fits = ok.fits;
+        first = ok.first;
+        count = ok.count;
+        rising = lost_rising number f there;
+        quiet = λ e. absurd (true_false e);
+      }) (omega arith) (let same = length-set w.flights (number - 1) (record f { lost = true }) in omega arith)
 
-      by_flight : (o : Option Flight) → flight_at w number ≡ o → StepGood w (option_map_or (λ f. if f.lost then Err faults.Flight else Ok (record (ran w) { flights = slice_set w.flights (number - 1) (record f { lost = true }) }, trace_of (happened w said.Lost))) o (Err faults.Flight))
+      by_flight : (o : Option Flight) → flight_at w number ≡ o
+          → StepGood w (option_map_or (λ f. if f.lost then Err faults.Flight
+          else Ok (record (ran w) { flights = slice_set w.flights (number - 1) (record f { lost = true }) }, trace_of (happened w said.Lost))) o
+          (Err faults.Flight))
       by_flight None there = Fails faults.Flight
       by_flight (Some f) there = by_lost f f.lost there
 
   pub tick_good : (seconds : ℕ) → StepGood w (tick w seconds)
   unfolding tick
   tick_good seconds = once _ (Taken _ (record {
-    nodes = All-map NodeOk (ticked (w.clock + seconds)) w.nodes (All-weaker NodeOk (λ x. NodeOk (ticked (w.clock + seconds) x)) (ticked_ok (w.clock + seconds)) w.nodes ok.nodes);
-    fits = All-map NodeFits (ticked (w.clock + seconds)) w.nodes (All-weaker NodeFits (λ x. NodeFits (ticked (w.clock + seconds) x)) (λ x h. record { eui = h.eui; psk = h.psk }) w.nodes ok.fits);
+    nodes = All-map NodeOk (ticked (w.clock + seconds)) w.nodes
+        (All-weaker NodeOk (λ x. NodeOk (ticked (w.clock + seconds) x)) (ticked_ok (w.clock + seconds)) w.nodes ok.nodes);
+    fits = All-map NodeFits (ticked (w.clock + seconds)) w.nodes
+        (All-weaker NodeFits (λ x. NodeFits (ticked (w.clock + seconds) x)) (λ x h. record { eui = h.eui; psk = h.psk }) w.nodes ok.fits);
     first = λ c is. ticked_first c (sym (slice_get-map (ticked (w.clock + seconds)) w.nodes 0) ∙ is);
     count = let same : length (map (ticked (w.clock + seconds)) w.nodes) ≡ length w.nodes = length-map w.nodes _ in let few = ok.count in omega arith;
     rising = record {
       below = λ n y is. ticked_below n y (slice_get w.nodes n) refl (sym (slice_get-map (ticked (w.clock + seconds)) w.nodes n) ∙ is);
       pairs = ok.rising.pairs;
-      homes = λ k e lt. let h = ok.rising.homes k e lt in let same : length (map (ticked (w.clock + seconds)) w.nodes) ≡ length w.nodes = length-map w.nodes _ in omega arith;
+      homes = λ k e lt. let h = ok.rising.homes k e lt in
+          let same : length (map (ticked (w.clock + seconds)) w.nodes) ≡ length w.nodes = length-map w.nodes _ in omega arith;
     };
     quiet = λ e. absurd (true_false e);
   }) (omega arith) (none_more w (ran w) refl))
     where
-      ticked_below : (n : ℕ) (y : Node) (o : Option Node) → slice_get w.nodes n ≡ o → option_map (ticked (w.clock + seconds)) o ≡ Some y → All (IsBelow n (frontier y)) w.flights
+      ticked_below : (n : ℕ) (y : Node) (o : Option Node) → slice_get w.nodes n ≡ o → option_map (ticked (w.clock + seconds)) o ≡ Some y
+          → All (IsBelow n (frontier y)) w.flights
       ticked_below n y None there is = absurd (no_some _ is)
       ticked_below n y (Some x) there is =
           let this : ticked (w.clock + seconds) x ≡ y = same_Some _ _ is in
-          subst (λ (z : Node). All (IsBelow n (frontier z)) w.flights) this (subst (λ k. All (IsBelow n k) w.flights) (sym (ticked_frontier (w.clock + seconds) x)) (ok.rising.below n x there))
+          subst (λ (z : Node). All (IsBelow n (frontier z)) w.flights) this
+          (subst (λ k. All (IsBelow n k) w.flights) (sym (ticked_frontier (w.clock + seconds) x)) (ok.rising.below n x there))
 
       ticked_first : (c : Node) → option_map (ticked (w.clock + seconds)) (slice_get w.nodes 0) ≡ Some c → c.role ≡ Coordinator
       ticked_first c = by_first (slice_get w.nodes 0) refl
@@ -437,7 +518,16 @@ module _ (ciphers : Ciphers) (fits : KeepsRanges ciphers) (w : World) (ok : Worl
   cut_good : (number nth : ℕ) (keeps_new : Bool) → StepGood w (cut ciphers w number nth keeps_new)
   unfolding cut
   cut_good number nth keeps_new = once _ (at_node number _ (λ x there.
-      let h = node_ok number x there in acted_good number x _ there (record { node = record { kept = h.kept; sized = h.sized; covered = h.covered }; role = refl; eui = refl; few = omega arith; rises = same_low (frontier x); from = tt; marked = raised_same (marks_of x) })))
+      let h = node_ok number x there in acted_good number x _ there
+      (record {
+        node = record { kept = h.kept; sized = h.sized; covered = h.covered };
+        role = refl;
+        eui = refl;
+        few = omega arith;
+        rises = same_low (frontier x);
+        from = tt;
+        marked = raised_same (marks_of x);
+      })))
 
   show_good : (number : ℕ) → StepGood w (show w number)
   unfolding show
@@ -454,17 +544,25 @@ module _ (ciphers : Ciphers) (fits : KeepsRanges ciphers) (w : World) (ok : Worl
   hears_ok x got cost note now h routes = by_role x.role refl
     where
       hears_as : Role → NodeStep Reception
-      hears_as Coordinator = answering coordinator_reception (acts x (Err drops.Store) (λ m. coordinator_rules.hear_coordinator (record { eui = x.eui; ciphers = ciphers }) m got cost note now))
+      hears_as Coordinator = answering coordinator_reception
+          (acts x (Err drops.Store) (λ m. coordinator_rules.hear_coordinator (record { eui = x.eui; ciphers = ciphers }) m got cost note now))
       hears_as (Meter psk) = answering meter_reception (acts x (Err drops.Store) (λ m. meters.hear_meter (identity ciphers x psk) m got cost note now))
 
       by_role : (role : Role) → x.role ≡ role → DidOk x (hears_as role)
-      by_role Coordinator is = answering_ok x coordinator_reception _ (coordinator_acts x (Err drops.Store) _ is h (λ m sized. coordinator_hears_ok ciphers fits (record { eui = x.eui; ciphers = ciphers }) m sized got cost note now routes))
-      by_role (Meter psk) is = answering_ok x meter_reception _ (acts_ok x (Err drops.Store) _ h (λ m there kept sized. meter_hears_ok x.role m sized ciphers fits (identity ciphers x psk) refl got cost note now (pair_octets x m psk kept is) routes))
+      by_role Coordinator is = answering_ok x coordinator_reception _
+          (coordinator_acts x (Err drops.Store) _ is h
+          (λ m sized. coordinator_hears_ok ciphers fits (record { eui = x.eui; ciphers = ciphers }) m sized got cost note now routes))
+      by_role (Meter psk) is = answering_ok x meter_reception _ (acts_ok x (Err drops.Store) _ h
+          (λ m there kept sized. meter_hears_ok x.role m sized ciphers fits (identity ciphers x psk) refl got cost note now (pair_octets x m psk kept is)
+          routes))
 
-  pub received_good : (number : ℕ) (x : Node) (forged : Bool) (d : NodeStep Reception) → node_at w number ≡ Some x → DidOk x d → StepGood w (Ok (received ciphers w number forged d))
-  received_good number x forged d there did = Taken _ (counts_ok (told ciphers (ran w) number d) _ (told_ok ciphers fits (ran w) number x d ran_ok there did (λ e. absurd (true_false e))) refl refl (λ e. e)) did.few (told_more ciphers (ran w) number d)
+  pub received_good : (number : ℕ) (x : Node) (forged : Bool) (d : NodeStep Reception) → node_at w number ≡ Some x → DidOk x d
+      → StepGood w (Ok (received ciphers w number forged d))
+  received_good number x forged d there did = Taken _ (counts_ok (told ciphers (ran w) number d) _
+      (told_ok ciphers fits (ran w) number x d ran_ok there did (λ e. absurd (true_false e))) refl refl (λ e. e)) did.few (told_more ciphers (ran w) number d)
 
-  arrives_good : (number : ℕ) (x : Node) (octets : List ℕ) (cost : ℕ) → node_at w number ≡ Some x → AreOctets octets → StepGood w (Ok (arrives ciphers w number x octets cost))
+  arrives_good : (number : ℕ) (x : Node) (octets : List ℕ) (cost : ℕ) → node_at w number ≡ Some x → AreOctets octets
+      → StepGood w (Ok (arrives ciphers w number x octets cost))
   unfolding arrives
   arrives_good number x octets cost there are = by_answer (acts x (Err frames.Halted) plan).answer refl
     where
@@ -476,29 +574,54 @@ module _ (ciphers : Ciphers) (fits : KeepsRanges ciphers) (w : World) (ok : Worl
 
       routes : (got : Accepted) → (acts x (Err frames.Halted) plan).answer ≡ Ok got → RoutesFit got
       routes got e =
-          let a = acts_answered x frames.Halted frames.Store plan (λ m. accept_failed ciphers fits octets are m.station _ (accept_is m.station x.eui (arrived ciphers octets))) got e in
-          accepted_routes ciphers fits octets are a.memory.station (ring_readable x a.memory (node_ok number x there) a.there) _ got (accept_is a.memory.station x.eui (arrived ciphers octets)) a.is
+          let a = acts_answered x frames.Halted frames.Store plan
+          (λ m. accept_failed ciphers fits octets are m.station _ (accept_is m.station x.eui (arrived ciphers octets))) got e in
+          accepted_routes ciphers fits octets are a.memory.station (ring_readable x a.memory (node_ok number x there) a.there) _ got
+          (accept_is a.memory.station x.eui (arrived ciphers octets)) a.is
 
-      by_answer : (r : Result Accepted FrameRefusal) → (acts x (Err frames.Halted) plan).answer ≡ r → StepGood w (Ok (accepted_by ciphers w number octets cost (acts x (Err frames.Halted) plan)))
+      by_answer : (r : Result Accepted FrameRefusal) → (acts x (Err frames.Halted) plan).answer ≡ r
+          → StepGood w (Ok (accepted_by ciphers w number octets cost (acts x (Err frames.Halted) plan)))
       by_answer (Err reason) e =
           let k : NodeStep (Result Accepted FrameRefusal) = record (acts x (Err frames.Halted) plan) { answer = Err reason } in
-          rw e (Taken (told ciphers (ran w) number k, trace_of (happened w (frame_word reason))) (told_ok ciphers fits (ran w) number x k ran_ok there (record { node = did.node; role = did.role; eui = did.eui; few = did.few; rises = did.rises; from = did.from; marked = did.marked }) (λ e. absurd (true_false e))) (omega arith)
-          (told_none ciphers (ran w) number k (acts_quiet x (Err frames.Halted) plan (λ m. accept_quiet m.station _ _ (accept_is m.station x.eui (arrived ciphers octets))))))
+          rw e (Taken (told ciphers (ran w) number k, trace_of (happened w (frame_word reason)))
+          (told_ok ciphers fits (ran w) number x k ran_ok there (record {
+            node = did.node;
+            role = did.role;
+            eui = did.eui;
+            few = did.few;
+            rises = did.rises;
+            from = did.from;
+            marked = did.marked;
+          }) (λ e. absurd (true_false e))) (omega arith)
+          (told_none ciphers (ran w) number k
+          (acts_quiet x (Err frames.Halted) plan (λ m. accept_quiet m.station _ _ (accept_is m.station x.eui (arrived ciphers octets))))))
       by_answer (Ok got) e =
           let y = (acts x (Err frames.Halted) plan).node in
           let d = hears ciphers y got cost (note_by w octets got.path) w.clock in
           let heard = hears_ok y got cost (note_by w octets got.path) w.clock did.node (routes got e) in
-          rw e (received_good number x (forged_by w octets got.path || list_any (is_forged_tag w.made) d.opened) d there (record { node = heard.node; role = heard.role ∙ did.role; eui = heard.eui ∙ did.eui; few = heard.few; rises = numbered_lower (frontier x) (frontier y) (frontier d.node) d.frames (numbered_le (frontier x) (frontier y) (acts x (Err frames.Halted) plan).frames did.rises) heard.rises; from = heard.from; marked = raised_trans (marks_of x) (marks_of y) (marks_of d.node) did.marked heard.marked }))
+          rw e (received_good number x (forged_by w octets got.path || list_any (is_forged_tag w.made) d.opened) d there
+          (record {
+            node = heard.node;
+            role = heard.role ∙ did.role;
+            eui = heard.eui ∙ did.eui;
+            few = heard.few;
+            rises = numbered_lower (frontier x) (frontier y) (frontier d.node) d.frames
+                (numbered_le (frontier x) (frontier y) (acts x (Err frames.Halted) plan).frames did.rises) heard.rises;
+            from = heard.from;
+            marked = raised_trans (marks_of x) (marks_of y) (marks_of d.node) did.marked heard.marked;
+          }))
 
   deliver_good : (flight number cost : ℕ) → StepGood w (deliver ciphers w flight number cost)
   unfolding deliver
   deliver_good flight number cost = once _ (at_node number _ (λ x there. by_flight x there (flight_at w flight) refl))
     where
-      by_lost : (x : Node) → node_at w number ≡ Some x → (f : Flight) (b : Bool) → flight_at w flight ≡ Some f → StepGood w (if b then Err faults.Flight else Ok (arrives ciphers w number x f.octets cost))
+      by_lost : (x : Node) → node_at w number ≡ Some x → (f : Flight) (b : Bool) → flight_at w flight ≡ Some f
+          → StepGood w (if b then Err faults.Flight else Ok (arrives ciphers w number x f.octets cost))
       by_lost x there f true is = Fails faults.Flight
       by_lost x there f false is = arrives_good number x f.octets cost there (flight_octets flight f is)
 
-      by_flight : (x : Node) → node_at w number ≡ Some x → (o : Option Flight) → flight_at w flight ≡ o → StepGood w (option_map_or (λ f. if f.lost then Err faults.Flight else Ok (arrives ciphers w number x f.octets cost)) o (Err faults.Flight))
+      by_flight : (x : Node) → node_at w number ≡ Some x → (o : Option Flight) → flight_at w flight ≡ o
+          → StepGood w (option_map_or (λ f. if f.lost then Err faults.Flight else Ok (arrives ciphers w number x f.octets cost)) o (Err faults.Flight))
       by_flight x there None is = Fails faults.Flight
       by_flight x there (Some f) is = by_lost x there f f.lost is
 
@@ -511,29 +634,36 @@ module _ (ciphers : Ciphers) (fits : KeepsRanges ciphers) (w : World) (ok : Worl
   abbrev own_of : Node → coordinator_rules.CoordinatorIdentity
   own_of c = record { eui = c.eui; ciphers = ciphers }
 
-  order_good : {A : Type 0} (c : Node) (answer : Answer) (order : Memory → Plan Memory (Result A CoordinatorRefusal)) → node_at w 0 ≡ Some c → ((m : Memory) → IsMemorySized m → PlanOk Coordinator m (order m))
+  order_good : {A : Type 0} (c : Node) (answer : Answer) (order : Memory → Plan Memory (Result A CoordinatorRefusal)) → node_at w 0 ≡ Some c
+      → ((m : Memory) → IsMemorySized m → PlanOk Coordinator m (order m))
       → StepGood w (Ok (by_coordinator ciphers w c answer order))
-  order_good c answer order there f = acted_good 0 c _ there (answering_ok c (ordered_word answer) _ (coordinator_acts c (Err orders.Halted) order (ok.first c there) (node_ok 0 c there) f))
+  order_good c answer order there f =
+      acted_good 0 c _ there (answering_ok c (ordered_word answer) _ (coordinator_acts c (Err orders.Halted) order (ok.first c there) (node_ok 0 c there) f))
 
   rekey_good : (index : ℕ) (key : Key) → length key.0 ≡ 16 → AreOctets key.0 → StepGood w (rekey ciphers w index key)
   unfolding rekey
-  rekey_good index key long are = once _ (at_node 0 _ (λ c there. order_good c said.Drawn _ there (λ m sized. rekey_ok ciphers fits (own_of c) m sized index key (held key long are))))
+  rekey_good index key long are =
+      once _ (at_node 0 _ (λ c there. order_good c said.Drawn _ there (λ m sized. rekey_ok ciphers fits (own_of c) m sized index key (held key long are))))
 
   challenge_good : (number : ℕ) → StepGood w (challenge ciphers w number)
   unfolding challenge
-  challenge_good number = once _ (at_meter number _ (λ x is. at_node 0 _ (λ c there. order_good c said.Challenged _ there (λ m sized. challenge_ok ciphers fits (own_of c) m sized x.eui w.clock (node_fits number x is).eui))))
+  challenge_good number = once _ (at_meter number _ (λ x is. at_node 0 _
+      (λ c there. order_good c said.Challenged _ there (λ m sized. challenge_ok ciphers fits (own_of c) m sized x.eui w.clock (node_fits number x is).eui))))
 
   activate_good : (number index : ℕ) → index ≤ 1 → StepGood w (activate ciphers w number index)
   unfolding activate
   activate_good number index low = once _ (at_node number _ (λ x is. at_node 0 _ (λ c there. by_number (number == 0) x c there)))
     where
-      by_number : (b : Bool) (x c : Node) → node_at w 0 ≡ Some c → StepGood w (Ok (if b then by_coordinator ciphers w c said.Activated (λ m. coordinator_rules.activate_self m index) else by_coordinator ciphers w c said.Ordered (λ m. coordinator_rules.activate m x.eui index w.clock)))
+      by_number : (b : Bool) (x c : Node) → node_at w 0 ≡ Some c
+          → StepGood w (Ok (if b then by_coordinator ciphers w c said.Activated (λ m. coordinator_rules.activate_self m index)
+          else by_coordinator ciphers w c said.Ordered (λ m. coordinator_rules.activate m x.eui index w.clock)))
       by_number true x c there = order_good c said.Activated _ there (λ m sized. activate_self_ok ciphers fits (own_of c) m sized index low)
       by_number false x c there = order_good c said.Ordered _ there (λ m sized. activate_ok ciphers fits (own_of c) m sized x.eui index w.clock)
 
   kick_good : (number : ℕ) → StepGood w (kick ciphers w number)
   unfolding kick
-  kick_good number = once _ (at_meter number _ (λ x is. at_node 0 _ (λ c there. order_good c said.Kicked _ there (λ m sized. kick_ok ciphers fits (own_of c) m sized x.eui (node_fits number x is).eui))))
+  kick_good number = once _ (at_meter number _ (λ x is. at_node 0 _
+      (λ c there. order_good c said.Kicked _ there (λ m sized. kick_ok ciphers fits (own_of c) m sized x.eui (node_fits number x is).eui))))
 
   -- the pair key of a meter
   psk_is : (x : Node) (psk : Key) → psk_of x ≡ Some psk → x.role ≡ Meter psk
@@ -548,33 +678,40 @@ module _ (ciphers : Ciphers) (fits : KeepsRanges ciphers) (w : World) (ok : Worl
   allow_good number = once _ (at_meter number _ (λ x is. at_node 0 _ (λ c there.
       by_option (λ psk. Ok (allowed ciphers w number (acts c (Err orders.Halted) (λ m. coordinator_rules.allow m x.eui psk)))) (psk_of x) (Err faults.Node)
       (λ psk pair. Taken _ (told_ok ciphers fits (ran w) 0 c _ ran_ok there (coordinator_acts c (Err orders.Halted) _ (ok.first c there) (node_ok 0 c there)
-      (λ m sized. allow_ok ciphers fits (own_of c) m sized x.eui psk (node_fits number x is).eui ((node_fits number x is).psk psk (psk_is x psk pair)))) (λ e. absurd (true_false e))) (omega arith) (told_none ciphers (ran w) 0 _ (acts_quiet c (Err orders.Halted) _ (λ m. allow_quiet m x.eui psk)))) (Fails faults.Node))))
+      (λ m sized. allow_ok ciphers fits (own_of c) m sized x.eui psk (node_fits number x is).eui ((node_fits number x is).psk psk (psk_is x psk pair))))
+      (λ e. absurd (true_false e))) (omega arith) (told_none ciphers (ran w) 0 _ (acts_quiet c (Err orders.Halted) _ (λ m. allow_quiet m x.eui psk))))
+      (Fails faults.Node))))
 
   -- # Setup
 
-  pub begin_ok : (key : Key) → length key.0 ≡ 16 → AreOctets key.0 → (m : Memory) → IsMemorySized m → PlanOk Coordinator m (coordinator_rules.begin m (first_grant key))
+  pub begin_ok : (key : Key) → length key.0 ≡ 16 → AreOctets key.0 → (m : Memory) → IsMemorySized m
+      → PlanOk Coordinator m (coordinator_rules.begin m (first_grant key))
   unfolding choose
   begin_ok key long are m sized = by_ring (is_some m.station.ring)
     where
       readable : IsReadable (first_grant key)
       readable = record { grant = record { index = omega arith; held = refl }; address = omega arith; key0 = held key long are; key1 = none_held }
 
-      by_ring : (b : Bool) → PlanOk Coordinator m (if b then resting m (Ok tt) (Err RingStore) else within (λ l. with_station l m) (λ r. r) (calls.install m.station (first_grant key)))
+      by_ring : (b : Bool) → PlanOk Coordinator m
+          (if b then resting m (Ok tt) (Err RingStore) else within (λ l. with_station l m) (λ r. r) (calls.install m.station (first_grant key)))
       by_ring true = resting_ok Coordinator m sized (Ok tt) (Err RingStore)
       by_ring false = provision_ok Coordinator m sized (first_grant key) readable
 
   coordinator_good : (eui : Eui) (key : Key) → HasEui eui → length key.0 ≡ 16 → AreOctets key.0 → StepGood w (coordinator w eui key)
   unfolding coordinator
   coordinator_good eui key known long are = branch (has_begun w) _ _ (λ _. Fails faults.Setup) (λ none.
-      let did = acts_ok (blank_node Coordinator eui) (Ok tt) (λ m. coordinator_rules.begin m (first_grant key)) (blank_ok Coordinator eui tt) (λ m there kept sized. begin_ok key long are m sized) in
+      let did = acts_ok (blank_node Coordinator eui) (Ok tt) (λ m. coordinator_rules.begin m (first_grant key)) (blank_ok Coordinator eui tt)
+      (λ m there kept sized. begin_ok key long are m sized) in
       let few : length w.nodes ≤ 0 = ltb-false _ _ none in
-      Taken _ (made_ok (coordinator_node eui key) did.node (record { eui = subst HasEui (sym did.eui) known; psk = λ psk e. absurd (not_meter psk (sym did.role ∙ e)) }) (omega arith)
+      Taken _ (made_ok (coordinator_node eui key) did.node
+      (record { eui = subst HasEui (sym did.eui) known; psk = λ psk e. absurd (not_meter psk (sym did.role ∙ e)) }) (omega arith)
       (λ c is. first_made w.nodes few (coordinator_node eui key) did.role c is)) (omega arith) (none_more w (set_up w) refl))
     where
       not_meter : (psk : Key) → Coordinator ≡ Meter psk → ⊥
       not_meter psk e = cc
 
-      first_made : (xs : List Node) → length xs ≤ 0 → (x : Node) → x.role ≡ Coordinator → (c : Node) → slice_get (xs ++ x ∷ []) 0 ≡ Some c → c.role ≡ Coordinator
+      first_made : (xs : List Node) → length xs ≤ 0 → (x : Node) → x.role ≡ Coordinator → (c : Node) → slice_get (xs ++ x ∷ []) 0 ≡ Some c
+          → c.role ≡ Coordinator
       first_made [] few x is c e = let this : x ≡ c = same_Some _ _ e in ap (λ (y : Node). y.role) (sym this) ∙ is
       first_made (y ∷ xs) few x is c e = absurd (omega arith)
 
@@ -585,7 +722,8 @@ module _ (ciphers : Ciphers) (fits : KeepsRanges ciphers) (w : World) (ok : Worl
       let room = or_parts _ _ parts.1 in
       let few : length w.nodes ≤ 999 = ltb-false _ _ room.0 in
       let some : 0 < length w.nodes = begun_some (has_begun w) (not w.running) refl parts.0 in
-      Taken _ (made_ok (blank_node (Meter psk) eui) (blank_ok (Meter psk) eui are) (record { eui = known; psk = λ k e. subst IsPair (same_psk psk k e) (long, are) }) few
+      Taken _ (made_ok (blank_node (Meter psk) eui) (blank_ok (Meter psk) eui are)
+      (record { eui = known; psk = λ k e. subst IsPair (same_psk psk k e) (long, are) }) few
       (λ c is. ok.first c (sym (first_same w.nodes some (blank_node (Meter psk) eui)) ∙ is))) (omega arith) (none_more w (set_up w) refl))
     where
       same_psk : (a b : Key) → Meter a ≡ Meter b → a ≡ b
@@ -599,9 +737,13 @@ module _ (ciphers : Ciphers) (fits : KeepsRanges ciphers) (w : World) (ok : Worl
       first_same [] some x = absurd (omega arith)
       first_same (y ∷ xs) some x = refl
 
-  preset_good : (number : ℕ) (plan : StationMemory → calls.Presetting) → ((role : Role) (m : Memory) → IsMemorySized m → PlanFits role m (of_station m (plan m.station))) → ((l : StationMemory) → (plan l).frames ≡ []) → StepGood w (preset ciphers w number plan)
+  preset_good : (number : ℕ) (plan : StationMemory → calls.Presetting)
+      → ((role : Role) (m : Memory) → IsMemorySized m → PlanFits role m (of_station m (plan m.station))) → ((l : StationMemory) → (plan l).frames ≡ [])
+      → StepGood w (preset ciphers w number plan)
   preset_good number plan f quiet = setup_with _ (λ began. at_node number _ (λ x there.
-      Taken _ (told_fits ciphers (set_up w) number x _ set_up_ok there (acts_fits x (Ok tt) _ (node_ok number x there) (λ m here kept sized. f x.role m sized)) (set_up_ok.quiet (still began)) (acts_quiet x (Ok tt) _ (λ m. quiet m.station))) (omega arith) (told_none ciphers (set_up w) number _ (acts_quiet x (Ok tt) _ (λ m. quiet m.station)))))
+      Taken _ (told_fits ciphers (set_up w) number x _ set_up_ok there (acts_fits x (Ok tt) _ (node_ok number x there) (λ m here kept sized. f x.role m sized))
+      (set_up_ok.quiet (still began)) (acts_quiet x (Ok tt) _ (λ m. quiet m.station))) (omega arith)
+      (told_none ciphers (set_up w) number _ (acts_quiet x (Ok tt) _ (λ m. quiet m.station)))))
 
   -- an address of a node is below FFFE
   address_low : (x : Node) (address : ℕ) → NodeOk x → node_address x ≡ Some address → address < 0xFFFE
@@ -611,32 +753,41 @@ module _ (ciphers : Ciphers) (fits : KeepsRanges ciphers) (w : World) (ok : Worl
       by_ring None k e = absurd (no_some _ e)
       by_ring (Some g) k e = let this : g.address ≡ address = same_Some _ _ e in let low = k.address in omega arith
 
-      by_memory : (o : Option Memory) → Left (IsKept x.role) x.store.records o → option_and_then (λ (m : Memory). address_of m.station) o ≡ Some address → address < 0xFFFE
+      by_memory : (o : Option Memory) → Left (IsKept x.role) x.store.records o → option_and_then (λ (m : Memory). address_of m.station) o ≡ Some address
+          → address < 0xFFFE
       by_memory None k e = absurd (no_some _ e)
       by_memory (Some m) k e = by_ring m.station.ring k.station.range.ring e
 
-  near_by_good : (a b cost : ℕ) (x y : Node) (p q : Option ℕ) → cost ≤ 255 → node_at w a ≡ Some x → node_at w b ≡ Some y → node_address x ≡ p → node_address y ≡ q → StepGood w (near_by ciphers w a b cost x y p q)
+  near_by_good : (a b cost : ℕ) (x y : Node) (p q : Option ℕ) → cost ≤ 255 → node_at w a ≡ Some x → node_at w b ≡ Some y → node_address x ≡ p
+      → node_address y ≡ q → StepGood w (near_by ciphers w a b cost x y p q)
   near_by_good a b cost x y None q low hx hy ep eq = Fails faults.Setup
   near_by_good a b cost x y (Some p) None low hx hy ep eq = Fails faults.Setup
-  near_by_good a b cost x y (Some p) (Some q) low hx hy ep eq = branch ((a == b) || (keeps_rank x q || (ranks_full x || ranks_full y))) _ _ (λ _. Fails faults.Setup) (λ may.
+  near_by_good a b cost x y (Some p) (Some q) low hx hy ep eq =
+      branch ((a == b) || (keeps_rank x q || (ranks_full x || ranks_full y))) _ _ (λ _. Fails faults.Setup) (λ may.
       let parts = or_parts _ _ may in
       let apart : b ≢ a = λ same. eqb-false _ _ parts.0 (sym same) in
       let first = offered x q (node_ok a x hx) (address_low y q (node_ok b y hy) eq) in
       let second = offered y p (node_ok b y hy) (address_low x p (node_ok a x hx) ep) in
-      Taken _ (told_ok ciphers fits (told ciphers (set_up w) a (offered_near x q cost w.clock)) b y _ (told_ok ciphers fits (set_up w) a x _ set_up_ok hx first (λ e. offered_quiet x q)) (other_there a b (offered_near x q cost w.clock) y apart hy) second (λ e. offered_quiet y p)) (omega arith)
-      (let one = told_none ciphers (set_up w) a (offered_near x q cost w.clock) (offered_quiet x q) in let two = told_none ciphers (told ciphers (set_up w) a (offered_near x q cost w.clock)) b (offered_near y p cost w.clock) (offered_quiet y p) in omega arith))
+      Taken _ (told_ok ciphers fits (told ciphers (set_up w) a (offered_near x q cost w.clock)) b y _
+      (told_ok ciphers fits (set_up w) a x _ set_up_ok hx first (λ e. offered_quiet x q)) (other_there a b (offered_near x q cost w.clock) y apart hy) second
+      (λ e. offered_quiet y p)) (omega arith)
+      (let one = told_none ciphers (set_up w) a (offered_near x q cost w.clock) (offered_quiet x q) in
+      let two = told_none ciphers (told ciphers (set_up w) a (offered_near x q cost w.clock)) b (offered_near y p cost w.clock) (offered_quiet y p) in
+      omega arith))
     where
       offered_quiet : (z : Node) (to : ℕ) → (offered_near z to cost w.clock).frames ≡ []
       offered_quiet z to = acts_quiet z (Ok tt) (λ m. of_station m (calls.preset_near m.station to cost w.clock)) (λ m. near_quiet m.station to cost w.clock)
 
       offered : (z : Node) (to : ℕ) → NodeOk z → to < 0xFFFE → DidOk z (offered_near z to cost w.clock)
-      offered z to h short = answering_ok z (λ _. tt) _ (acts_ok z (Ok tt) _ h (λ m here kept sized. near_ok z.role m sized to cost w.clock short (omega arith)))
+      offered z to h short =
+          answering_ok z (λ _. tt) _ (acts_ok z (Ok tt) _ h (λ m here kept sized. near_ok z.role m sized to cost w.clock short (omega arith)))
 
   near_good : (a b cost : ℕ) → cost ≤ 255 → StepGood w (near ciphers w a b cost)
   unfolding near
   near_good a b cost low = setup _ (at_node a _ (λ x hx. at_node b _ (λ y hy. near_by_good a b cost x y (node_address x) (node_address y) low hx hy refl refl)))
 
-  depot_by_good : (number : ℕ) (x c : Node) (d : NodeStep (Result Granted CoordinatorRefusal)) → 0 ≢ number → node_at w number ≡ Some x → node_at w 0 ≡ Some c → DidOk c d → ((g : Granted) → d.answer ≡ Ok g → IsReadable g) → d.frames ≡ []
+  depot_by_good : (number : ℕ) (x c : Node) (d : NodeStep (Result Granted CoordinatorRefusal)) → 0 ≢ number → node_at w number ≡ Some x → node_at w 0 ≡ Some c
+      → DidOk c d → ((g : Granted) → d.answer ≡ Ok g → IsReadable g) → d.frames ≡ []
       → StepGood w (depot_by ciphers w number x d)
   depot_by_good number x c d apart hx hc did readable quiet = by_answer d.answer refl
     where
@@ -644,20 +795,29 @@ module _ (ciphers : Ciphers) (fits : KeepsRanges ciphers) (w : World) (ok : Worl
       by_answer (Err reason) e = rw e (Fails faults.Setup)
       by_answer (Ok g) e =
           let k : NodeStep (Result Granted CoordinatorRefusal) = record d { answer = Ok g } in
-          let first = told_ok ciphers fits (set_up w) 0 c k set_up_ok hc (record { node = did.node; role = did.role; eui = did.eui; few = did.few; rises = did.rises; from = did.from; marked = did.marked }) (λ e. quiet) in
-          let second = acts_ok x (Ok tt) (λ m. meters.provision m g) (node_ok number x hx) (λ m here kept sized. provision_ok x.role m sized g (readable g e)) in
-          rw e (Taken (provisioned ciphers (told ciphers (set_up w) 0 k) number x g) (told_ok ciphers fits (told ciphers (set_up w) 0 k) number x _ first (other_there 0 number k x (λ same. apart (sym same)) hx) second (λ e. acts_quiet x (Ok tt) (λ m. meters.provision m g) (λ m. install_quiet m.station g))) (omega arith)
-          (let one = told_none ciphers (set_up w) 0 k quiet in let two = told_none ciphers (told ciphers (set_up w) 0 k) number (acts x (Ok tt) (λ m. meters.provision m g)) (acts_quiet x (Ok tt) (λ m. meters.provision m g) (λ m. install_quiet m.station g)) in omega arith))
+          let first = told_ok ciphers fits (set_up w) 0 c k set_up_ok hc
+          (record { node = did.node; role = did.role; eui = did.eui; few = did.few; rises = did.rises; from = did.from; marked = did.marked }) (λ e. quiet) in
+          let second = acts_ok x (Ok tt) (λ m. meters.provision m g) (node_ok number x hx)
+          (λ m here kept sized. provision_ok x.role m sized g (readable g e)) in
+          rw e (Taken (provisioned ciphers (told ciphers (set_up w) 0 k) number x g)
+          (told_ok ciphers fits (told ciphers (set_up w) 0 k) number x _ first (other_there 0 number k x (λ same. apart (sym same)) hx) second
+          (λ e. acts_quiet x (Ok tt) (λ m. meters.provision m g) (λ m. install_quiet m.station g))) (omega arith)
+          (let one = told_none ciphers (set_up w) 0 k quiet in
+          let two = told_none ciphers (told ciphers (set_up w) 0 k) number (acts x (Ok tt) (λ m. meters.provision m g))
+          (acts_quiet x (Ok tt) (λ m. meters.provision m g) (λ m. install_quiet m.station g)) in omega arith))
 
   depot_good : (number : ℕ) → StepGood w (depot ciphers w number)
   unfolding depot
-  depot_good number = setup _ (at_node number _ (λ x hx. at_node 0 _ (λ c hc. branch ((number == 0) || is_some (node_address x)) _ _ (λ _. Fails faults.Setup) (λ may.
+  depot_good number =
+      setup _ (at_node number _ (λ x hx. at_node 0 _ (λ c hc. branch ((number == 0) || is_some (node_address x)) _ _ (λ _. Fails faults.Setup) (λ may.
       by_option (λ psk. depot_by ciphers w number x (acts c (Err orders.Halted) (λ m. coordinator_rules.depot m x.eui psk))) (psk_of x) (Err faults.Setup)
       (λ psk pair.
       let known = (node_fits number x hx).eui in
       let long = (node_fits number x hx).psk psk (psk_is x psk pair) in
       let apart : 0 ≢ number = λ same. eqb-false _ _ (or_parts _ _ may).0 (sym same) in
-      depot_by_good number x c _ apart hx hc (coordinator_acts c (Err orders.Halted) _ (ok.first c hc) (node_ok 0 c hc) (λ m sized. depot_ok ciphers fits (own_of c) m sized x.eui psk known long)) (λ g e. granted c x.eui psk g (ok.first c hc) (node_ok 0 c hc) known long e) (acts_quiet c (Err orders.Halted) _ (λ m. depot_quiet m x.eui psk)))
+      depot_by_good number x c _ apart hx hc (coordinator_acts c (Err orders.Halted) _ (ok.first c hc) (node_ok 0 c hc)
+      (λ m sized. depot_ok ciphers fits (own_of c) m sized x.eui psk known long)) (λ g e. granted c x.eui psk g (ok.first c hc) (node_ok 0 c hc) known long e)
+      (acts_quiet c (Err orders.Halted) _ (λ m. depot_quiet m x.eui psk)))
       (Fails faults.Setup)))))
     where
       of_role : (role : Role) (m : Memory) (r : Records) → role ≡ Coordinator → IsKept role m r → length m.book ≤ 999
@@ -667,7 +827,8 @@ module _ (ciphers : Ciphers) (fits : KeepsRanges ciphers) (w : World) (ok : Worl
       kept_at : (c : Node) (m : Memory) → NodeOk c → c.memory ≡ Some m → IsKept c.role m c.store.records × IsMemorySized m
       kept_at c m h e = (subst (λ o. Left (IsKept c.role) c.store.records o) e h.kept, subst (λ o. IfSome o IsMemorySized) e h.sized)
 
-      granted : (c : Node) (eui : Eui) (psk : Key) (g : Granted) → c.role ≡ Coordinator → NodeOk c → HasEui eui → IsPair psk → (acts c (Err orders.Halted) (λ m. coordinator_rules.depot m eui psk)).answer ≡ Ok g → IsReadable g
+      granted : (c : Node) (eui : Eui) (psk : Key) (g : Granted) → c.role ≡ Coordinator → NodeOk c → HasEui eui → IsPair psk
+          → (acts c (Err orders.Halted) (λ m. coordinator_rules.depot m eui psk)).answer ≡ Ok g → IsReadable g
       granted c eui psk g is h known long e =
           let a = acts_answered c orders.Halted orders.Store (λ m. coordinator_rules.depot m eui psk) (λ m. coordinator_failed m eui psk known long) g e in
           let k = kept_at c a.memory h a.there in

@@ -1,5 +1,6 @@
 -- Each step of an ask that the history has was taken by a node over a valid next hop: by the one that its line names, or by one that heard the ask.
-use Rattle.std.proofs.Common.{◌≡◌, ⊎_elim, ◌⊎◌, inl, inr, ℕ, ◌+◌, Bool, true, false, List, [], ◌∷◌, ◌++◌, length, Option, Some, None, Result, Ok, Err, refl, sym, ap, ◌∙◌, subst}
+use Rattle.std.proofs.Common.{◌≡◌, ⊎_elim, ◌⊎◌, inl, inr, ℕ, ◌+◌, Bool, true, false, List, [], ◌∷◌, ◌++◌, length, Option, Some, None, Result, Ok, Err, refl}
+use Rattle.std.proofs.Common.{sym, ap, ◌∙◌, subst}
 use Rattle.std.specs.Prelude.{All, IfSome, nat_lt, ◌==◌, is_some, if◌then◌else◌}
 use Rattle.std.specs.Option.{option_and_then, option_map, option_map_or}
 use Rattle.std.proofs.lemmas.Bool.{eqb-true}
@@ -49,7 +50,8 @@ use Rattle.line_rules.specs.Answers.{Reception}
 use Rattle.line_events.specs.declared.event.Event.{Event}
 use Rattle.line_events.specs.declared.event.Event.TheVariants as events
 use Rattle.line_events.specs.Events.{AreEvents, IsEvent}
-use Rattle.line_rules.specs.Further.{acknowledged_if, acknowledging, adds_frames, asked, asks_by, beside_at, checked, commanded, due, goes_toward, line_step, reaches, sends_nothing, step_by, with_beside, with_check}
+use Rattle.line_rules.specs.Further.{acknowledged_if, acknowledging, adds_frames, asked, asks_by, beside_at, checked, commanded, due, goes_toward, line_step}
+use Rattle.line_rules.specs.Further.{reaches, sends_nothing, step_by, with_beside, with_check}
 use Rattle.line_rules.specs.Logs.{LogsKept}
 use Rattle.line_rules.specs.Runs.{Entry, IsRun, events_of}
 use Rattle.line_rules.specs.Steps.{Step, heard, ran, told}
@@ -61,7 +63,8 @@ use Rattle.line_laws.proofs.FurtherOctets.{every_run_holds}
 use Rattle.line_laws.proofs.IssueWorlds.{told_here}
 use Rattle.line_laws.proofs.ReachCame.{command_came}
 use Rattle.line_laws.proofs.ReachHistory.{UntouchedIn, untouched}
-use Rattle.line_laws.proofs.ReachSteps.{Asks, Bcasts, Checked, Chooses, Commands, Discovers, Fails, Hears, IsAccepted, IsReachStep, Known, Opens, Restarts, Rests, Scans, Ticks, Unbelieves, after_accepting, heard_node, reach_step_is}
+use Rattle.line_laws.proofs.ReachSteps.{Asks, Bcasts, Checked, Chooses, Commands, Discovers, Fails, Hears, IsAccepted, IsReachStep, Known, Opens, Restarts}
+use Rattle.line_laws.proofs.ReachSteps.{Rests, Scans, Ticks, Unbelieves, after_accepting, heard_node, reach_step_is}
 use Rattle.line_laws.proofs.TracesRight.{entry}
 
 -- # What a node keeps

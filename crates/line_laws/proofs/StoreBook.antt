@@ -1,5 +1,6 @@
 -- What a meter or the coordinator stores is what it leaves in memory: the book, and the words over all of the memory.
-use Rattle.std.proofs.Common.{◌≡◌, inl, inr, ℕ, zero, suc, ◌+◌, ◌≤◌, ◌<◌, Bool, true, false, List, [], ◌∷◌, ◌++◌, length, set, Option, Some, None, refl, sym, ap, ◌∙◌, subst, arith}
+use Rattle.std.proofs.Common.{◌≡◌, inl, inr, ℕ, zero, suc, ◌+◌, ◌≤◌, ◌<◌, Bool, true, false, List, [], ◌∷◌, ◌++◌, length, set, Option, Some, None, refl, sym}
+use Rattle.std.proofs.Common.{ap, ◌∙◌, subst, arith}
 use Rattle.std.specs.Prelude.{if◌then◌else◌, All, is_some, ◌||◌, nat_lt, slice_get, position, get_or, not}
 use Rattle.std.specs.Option.{option_map_or, option_and_then}
 use Rattle.std.specs.FinMap.{insert}
@@ -30,7 +31,8 @@ use Rattle.line_laws.proofs.Beside.{Lasts, With}
 use Rattle.line_laws.proofs.StoreRanks.{EntryFits}
 use Rattle.line_laws.proofs.StoreFold.{WordFits, Adds, adds_none, adds_then, adds_beside, made_adds}
 use Rattle.line_laws.proofs.Made.{RingWord, Given, ByRequest, ByReply, ByItself, Offered}
-use Rattle.line_laws.proofs.MadeIn.{unheard, Beside, Ends, Asks, Replies, Opens, Answers, Closes, Gives, EuiFrom, Known, OfSession, EntryChange, Allows, Issues, Kicks, MadeIn, Begins, Station, OnStation, Remembers, Tags, Enters, Up, Down}
+use Rattle.line_laws.proofs.MadeIn.{unheard, Beside, Ends, Asks, Replies, Opens, Answers, Closes, Gives, EuiFrom, Known, OfSession, EntryChange, Allows, Issues}
+use Rattle.line_laws.proofs.MadeIn.{Kicks, MadeIn, Begins, Station, OnStation, Remembers, Tags, Enters, Up, Down}
 use Rattle.line_laws.proofs.Slots.{book_stays, ring_stays, counter_stays, number_stays, tag_stays, routing_stays, marks_stay}
 
 -- the line stays where the book is written
@@ -77,19 +79,23 @@ book_with b e r k fits room = by_place (book.place_of b e.eui) refl
 pub holds_same : (b : book.Book) (e : BookEntry) → book.holds b e ≡ true → book.with_entry b e ≡ b
 holds_same b e = by_place (book.place_of b e.eui) refl
   where
-    by_entry : (place : ℕ) (o : Option BookEntry) → book.place_of b e.eui ≡ Some place → slice_get b place ≡ o → option_map_or (λ before. book.same_entry before e) o false ≡ true → book.with_entry b e ≡ b
+    by_entry : (place : ℕ) (o : Option BookEntry) → book.place_of b e.eui ≡ Some place → slice_get b place ≡ o
+        → option_map_or (λ before. book.same_entry before e) o false ≡ true → book.with_entry b e ≡ b
     by_entry place None is got same = absurd (cc)
     by_entry place (Some before) is got same = entry_same b e before place is got same
 
-    by_place : (o : Option ℕ) → book.place_of b e.eui ≡ o → option_map_or (λ before. book.same_entry before e) (option_and_then (slice_get b) o) false ≡ true → book.with_entry b e ≡ b
+    by_place : (o : Option ℕ) → book.place_of b e.eui ≡ o → option_map_or (λ before. book.same_entry before e) (option_and_then (slice_get b) o) false ≡ true
+        → book.with_entry b e ≡ b
     by_place None is same = absurd (cc)
     by_place (Some place) is same = by_entry place (slice_get b place) is refl same
 
 -- # The memory of a role
 
 module _ (role : Role) where
-  pub kept_with : (m : Memory) (e : BookEntry) (r : Records) → IsKept role m r → ((r : Records) → IsBookKept m.book r → IsReadableEntry e) → book.has_room m.book e.eui ≡ true → role ≡ Coordinator
-      → IsKept role (record m { book = book.with_entry m.book e }) (insert r (0x1000 + book.place_for m.book e.eui) (book.entry_octets (book.place_for m.book e.eui) e))
+  pub kept_with : (m : Memory) (e : BookEntry) (r : Records) → IsKept role m r → ((r : Records) → IsBookKept m.book r → IsReadableEntry e)
+      → book.has_room m.book e.eui ≡ true → role ≡ Coordinator
+      → IsKept role (record m { book = book.with_entry m.book e })
+      (insert r (0x1000 + book.place_for m.book e.eui) (book.entry_octets (book.place_for m.book e.eui) e))
   kept_with m e r k fits room coordinator = record {
     station = station_stays m.station r _ _ k.station (omega arith);
     book = by_role role coordinator k.book (fits r) room;
@@ -105,11 +111,13 @@ module _ (role : Role) where
   same_book m b r k e = record { station = k.station; book = subst (λ c. BookKept role c r) (sym e) k.book; sessions = k.sessions }
 
   -- an entry is stored where it changes
-  pub entry_leads : (m : Memory) (e : BookEntry) → ((r : Records) → IsBookKept m.book r → IsReadableEntry e) → book.has_room m.book e.eui ≡ true → role ≡ Coordinator
+  pub entry_leads : (m : Memory) (e : BookEntry) → ((r : Records) → IsBookKept m.book r → IsReadableEntry e) → book.has_room m.book e.eui ≡ true
+      → role ≡ Coordinator
       → Leads (IsKept role) m (puts_of (book.change_write m.book e)) (record m { book = book.with_entry m.book e })
   entry_leads m e fits room coordinator = by_holding (book.holds m.book e) refl
     where
-      by_holding : (b : Bool) → book.holds m.book e ≡ b → Leads (IsKept role) m (puts_of (if b then None else book.entry_write m.book e)) (record m { book = book.with_entry m.book e })
+      by_holding : (b : Bool) → book.holds m.book e ≡ b
+          → Leads (IsKept role) m (puts_of (if b then None else book.entry_write m.book e)) (record m { book = book.with_entry m.book e })
       by_holding true same = leads_beside (IsKept role) m _ (λ r k. same_book m _ r k (holds_same m.book e same))
       by_holding false other = leads_one (IsKept role) m _ _ (λ r k. kept_with m e r k fits room coordinator)
 
@@ -157,7 +165,8 @@ same_number b eui e = by_place (book.place_of b eui) refl
 -- # A doing of a meter or the coordinator
 
 -- the book stays while lower slots are written
-book_lasts : (role : Role) (b : book.Book) (r : Records) (slot : ℕ) (octets : List ℕ) → slot < 0x1000 → BookKept role b r → BookKept role b (insert r slot octets)
+book_lasts : (role : Role) (b : book.Book) (r : Records) (slot : ℕ) (octets : List ℕ) → slot < 0x1000 → BookKept role b r
+    → BookKept role b (insert r slot octets)
 book_lasts Coordinator b r slot octets low k = record { table = k.table; each = k.each; stored = book_stays r slot octets b k.stored (inl low) }
 book_lasts (Meter psk) b r slot octets low k = k
 
@@ -170,7 +179,8 @@ unfolding Rest
 rest_lasts role n r slot octets low k = (book_lasts role n.book r slot octets low k.0, k.1)
 
 -- a line's writes over all of the memory
-pub station_leads : (role : Role) (n : Memory) (l k : StationMemory) (ps : List Write) → Leads (With (Rest role n)) l ps k → Leads (IsKept role) (with_station l n) ps (with_station k n)
+pub station_leads : (role : Role) (n : Memory) (l k : StationMemory) (ps : List Write) → Leads (With (Rest role n)) l ps k
+    → Leads (IsKept role) (with_station l n) ps (with_station k n)
 unfolding Rest
 station_leads role n l k ps x = leads_map (With (Rest role n)) (IsKept role) (λ (j : StationMemory). with_station j n)
     (λ j r q. record { station = q.kept; book = q.rest.0; sessions = q.rest.1 }) (λ j r q. record { kept = q.station; rest = (q.book, q.sessions) }) l k ps x
@@ -244,10 +254,12 @@ module _ (role : Role) (W : RingWord → Type 0) (L : Granted → Type 0) (P : E
   beside_station n k (Gives value room) = (refl, refl)
 
   pub beside_stays : (n k : Memory) (r : Records) → Beside E n k → IsKept role n r → IsKept role k r
-  beside_stays n k r x q = let same = beside_station n k x in record { station = rw same.0 q.station; book = rw same.1 q.book; sessions = beside_named n k x q.sessions }
+  beside_stays n k r x q =
+      let same = beside_station n k x in record { station = rw same.0 q.station; book = rw same.1 q.book; sessions = beside_named n k x q.sessions }
 
   -- nothing is offered where nothing is heard
-  pub unheard_offers : (k : Given) (address : Option ℕ) (by origin : ℕ) (rank : Rank) → Offered (unheard k) address by origin rank → EntryFits (routing.offered_entry origin rank by k.now)
+  pub unheard_offers : (k : Given) (address : Option ℕ) (by origin : ℕ) (rank : Rank) → Offered (unheard k) address by origin rank
+      → EntryFits (routing.offered_entry origin rank by k.now)
   unheard_offers k address by origin rank (ByRequest own number c o dest here apart few told) = let x = told.came.is in absurd (cc)
   unheard_offers k address by origin rank (ByReply own number c o to here apart few told) = let x = told.came.is in absurd (cc)
   unheard_offers k address by origin rank (ByItself is) = absurd (cc)
@@ -260,9 +272,12 @@ module _ (role : Role) (W : RingWord → Type 0) (L : Granted → Type 0) (P : E
       record { more = a.more; puts = a.puts; leads = station_leads role m m.station e.memory a.more a.leads }
   made_in_adds d (OnStation word e made step) =
       let a = made_adds (Rest role e.memory) (rest_lasts role e.memory) W (unheard g) words (unheard_offers g) (station_part e) (word (station_part e)) step in
-      adds_then (IsKept role) (empty_draft m) e d a.more (made_in_adds e made) a.puts (station_leads role e.memory e.memory.station (word (station_part e)).memory a.more a.leads)
-  made_in_adds d (Remembers change e made beside) = adds_beside (IsKept role) (empty_draft m) e d (made_in_adds e made) refl (λ r k. beside_stays e.memory (change e.memory) r beside k)
+      adds_then (IsKept role) (empty_draft m) e d a.more (made_in_adds e made) a.puts
+      (station_leads role e.memory e.memory.station (word (station_part e)).memory a.more a.leads)
+  made_in_adds d (Remembers change e made beside) =
+      adds_beside (IsKept role) (empty_draft m) e d (made_in_adds e made) refl (λ r k. beside_stays e.memory (change e.memory) r beside k)
   made_in_adds d (Tags made opened e x) = adds_beside (IsKept role) (empty_draft m) e d (made_in_adds e x) refl (λ r k. k)
-  made_in_adds d (Enters x e made change) = adds_then (IsKept role) (empty_draft m) e d _ (made_in_adds e made) refl (entry_leads role e.memory x (entry_fits e.memory.book x change) (entry_room e.memory.book x change) (coordinator e.memory.book x change))
+  made_in_adds d (Enters x e made change) = adds_then (IsKept role) (empty_draft m) e d _ (made_in_adds e made) refl
+      (entry_leads role e.memory x (entry_fits e.memory.book x change) (entry_room e.memory.book x change) (coordinator e.memory.book x change))
   made_in_adds d (Up agent own message e made) = adds_beside (IsKept role) (empty_draft m) e d (made_in_adds e made) refl (λ r k. k)
   made_in_adds d (Down own message e made) = adds_beside (IsKept role) (empty_draft m) e d (made_in_adds e made) refl (λ r k. k)

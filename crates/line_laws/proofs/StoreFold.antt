@@ -19,7 +19,8 @@ use Rattle.line_laws.proofs.Keeping.{Leads, leads_beside, leads_append}
 use Rattle.line_laws.proofs.Beside.{Lasts, With, low_one}
 use Rattle.line_laws.proofs.StoreWords.{ring_kept, number_leads, tag_leads}
 use Rattle.line_laws.proofs.StoreRanks.{EntryFits, ranks_lead}
-use Rattle.line_laws.proofs.Made.{Given, Offered, RingWord, Carry, Drop, Install, Draw, Activate, RingChange, Drops, Installs, Draws, Activates, Made, Starts, Ranks, Numbers, Tags, Rings, Idles, Loses, Goes, Sends, Waits, Leaves}
+use Rattle.line_laws.proofs.Made.{Given, Offered, RingWord, Carry, Drop, Install, Draw, Activate, RingChange, Drops, Installs, Draws, Activates, Made, Starts}
+use Rattle.line_laws.proofs.Made.{Ranks, Numbers, Tags, Rings, Idles, Loses, Goes, Sends, Waits, Leaves}
 
 -- # Rings
 
@@ -43,8 +44,18 @@ keyed_readable gr index key h fits = by_index (index == 0)
     held1 false k0 k1 e = refl
 
     by_index : (b : Bool) → IsReadable (if b then record gr { key0 = Some key } else record gr { key1 = Some key })
-    by_index true = record { grant = record { index = h.grant.index; held = held0 (gr.active == 0) gr.key0 gr.key1 h.grant.held }; address = h.address; key0 = fits; key1 = h.key1 }
-    by_index false = record { grant = record { index = h.grant.index; held = held1 (gr.active == 0) gr.key0 gr.key1 h.grant.held }; address = h.address; key0 = h.key0; key1 = fits }
+    by_index true = record {
+      grant = record { index = h.grant.index; held = held0 (gr.active == 0) gr.key0 gr.key1 h.grant.held };
+      address = h.address;
+      key0 = fits;
+      key1 = h.key1;
+    }
+    by_index false = record {
+      grant = record { index = h.grant.index; held = held1 (gr.active == 0) gr.key0 gr.key1 h.grant.held };
+      address = h.address;
+      key0 = h.key0;
+      key1 = fits;
+    }
 
 module _ (W : RingWord → Type 0) (words : (w : RingWord) → W w → WordFits w) where
   pub ring_fits : (r s : ring.Ring) → RingChange W r s → IfSome r IsReadable → IfSome s IsReadable
@@ -53,7 +64,8 @@ module _ (W : RingWord → Type 0) (words : (w : RingWord) → W w → WordFits 
   ring_fits None s (Draws index key w) h = tt
   ring_fits (Some gr) s (Draws index key w) h = keyed_readable gr index key h (words (Draw index key) w)
   ring_fits None s (Activates index w held) h = tt
-  ring_fits (Some gr) s (Activates index w held) h = record { grant = record { index = words (Activate index) w; held = held }; address = h.address; key0 = h.key0; key1 = h.key1 }
+  ring_fits (Some gr) s (Activates index w held) h =
+      record { grant = record { index = words (Activate index) w; held = held }; address = h.address; key0 = h.key0; key1 = h.key1 }
 
 -- # A doing of some writes more
 
@@ -82,7 +94,8 @@ module _ {M : Type 0} (Q : M → Records → Type 0) where
 -- # The words of the line
 
 -- routes end and bodies come and go beside the store
-pub ended_kept : (l : StationMemory) (r : Records) (test : RoutingEntry → Bool) → IsStationKept l r → IsStationKept (record l { routing = routing.ended test l.routing }) r
+pub ended_kept : (l : StationMemory) (r : Records) (test : RoutingEntry → Bool) → IsStationKept l r
+    → IsStationKept (record l { routing = routing.ended test l.routing }) r
 ended_kept l r test k = record {
   range = record {
     ring = k.range.ring;
@@ -91,7 +104,9 @@ ended_kept l r test k = record {
     tag = k.range.tag;
     routing = ended_sound test l.routing k.range.routing;
     floors = k.range.floors;
-    ranks = All-map HasShortRank (λ e. if test e then routing.without_route e else e) l.routing.entries (All-weaker HasShortRank (λ e. HasShortRank (if test e then routing.without_route e else e)) (λ e h. same (test e) e h) l.routing.entries k.range.ranks);
+    ranks = All-map HasShortRank (λ e. if test e then routing.without_route e else e) l.routing.entries
+        (All-weaker HasShortRank (λ e. HasShortRank (if test e then routing.without_route e else e)) (λ e h. same (test e) e h) l.routing.entries
+        k.range.ranks);
     marks = k.range.marks;
   };
   ring = k.ring;
@@ -107,7 +122,8 @@ ended_kept l r test k = record {
     same false e h = h
 
 -- only what waits and what is gathered are others
-pub beside_kept : (l n : StationMemory) (r : Records) → IsStationKept l r → n.ring ≡ l.ring → n.counter ≡ l.counter → n.own_number ≡ l.own_number → n.next_tag ≡ l.next_tag → n.routing ≡ l.routing → n.marks ≡ l.marks → IsStationKept n r
+pub beside_kept : (l n : StationMemory) (r : Records) → IsStationKept l r → n.ring ≡ l.ring → n.counter ≡ l.counter → n.own_number ≡ l.own_number
+    → n.next_tag ≡ l.next_tag → n.routing ≡ l.routing → n.marks ≡ l.marks → IsStationKept n r
 beside_kept l n r k e1 e2 e3 e4 e5 e6 = record {
   range = record {
     ring = rw e1 k.range.ring;
@@ -128,21 +144,27 @@ beside_kept l n r k e1 e2 e3 e4 e5 e6 = record {
 }
 
 module _ (B : Records → Type 0) (lasts : Lasts B) (W : RingWord → Type 0) (g : Given) (words : (w : RingWord) → W w → WordFits w)
-    (offers : (address : Option ℕ) (by origin : ℕ) (rank : Rank) → Offered g address by origin rank → EntryFits (routing.offered_entry origin rank by g.now)) where
+    (offers : (address : Option ℕ) (by origin : ℕ) (rank : Rank) → Offered g address by origin rank
+    → EntryFits (routing.offered_entry origin rank by g.now)) where
   abbrev StationAdds : Draft StationMemory → Draft StationMemory → Type 0
   StationAdds s d = Adds (With B) s d
 
   pub made_adds : (s d : Draft StationMemory) → Made W g s d → StationAdds s d
   unfolding with_rank with_own_number with_next_tag with_ring with_routing_by goes body_goes waits leave
   made_adds s d Starts = adds_none (With B) s
-  made_adds s d (Ranks by origin rank e made o fits) = adds_then (With B) s e _ _ (made_adds s e made) refl (ranks_lead B lasts e.memory origin rank by g.now (offers _ by origin rank o) fits.room)
+  made_adds s d (Ranks by origin rank e made o fits) =
+      adds_then (With B) s e _ _ (made_adds s e made) refl (ranks_lead B lasts e.memory origin rank by g.now (offers _ by origin rank o) fits.room)
   made_adds s d (Numbers e made left) = adds_then (With B) s e _ _ (made_adds s e made) refl (number_leads B lasts e.memory left)
   made_adds s d (Tags e made first) = adds_then (With B) s e _ _ (made_adds s e made) refl (tag_leads B lasts e.memory)
   made_adds s d (Rings x e made change) = adds_then (With B) s e _ _ (made_adds s e made) refl
       (low_one B lasts _ _ _ (omega arith) (λ t h. ring_kept e.memory t x h (ring_fits W words e.memory.ring x change h.range.ring)))
-  made_adds s d (Idles e made) = adds_beside (With B) s e _ (made_adds s e made) refl (λ r k. record { kept = beside_kept _ _ r (ended_kept e.memory r (λ _. true) k.kept) refl refl refl refl refl refl; rest = k.rest })
-  made_adds s d (Loses lost by e made) = adds_beside (With B) s e _ (made_adds s e made) refl (λ r k. record { kept = ended_kept e.memory r _ k.kept; rest = k.rest })
+  made_adds s d (Idles e made) = adds_beside (With B) s e _ (made_adds s e made) refl
+      (λ r k. record { kept = beside_kept _ _ r (ended_kept e.memory r (λ _. true) k.kept) refl refl refl refl refl refl; rest = k.rest })
+  made_adds s d (Loses lost by e made) =
+      adds_beside (With B) s e _ (made_adds s e made) refl (λ r k. record { kept = ended_kept e.memory r _ k.kept; rest = k.rest })
   made_adds s d (Goes to unit note e made said alone) = adds_beside (With B) s e _ (made_adds s e made) refl (λ r k. k)
   made_adds s d (Sends own hop to note load e made here there short carried alone) = adds_beside (With B) s e _ (made_adds s e made) refl (λ r k. k)
-  made_adds s d (Waits to note load now e made none room short carried alone) = adds_beside (With B) s e _ (made_adds s e made) refl (λ r k. record { kept = beside_kept e.memory _ r k.kept refl refl refl refl refl refl; rest = k.rest })
-  made_adds s d (Leaves own dest hop rank e made here offered) = adds_beside (With B) s e _ (made_adds s e made) refl (λ r k. record { kept = beside_kept e.memory _ r k.kept refl refl refl refl refl refl; rest = k.rest })
+  made_adds s d (Waits to note load now e made none room short carried alone) = adds_beside (With B) s e _ (made_adds s e made) refl
+      (λ r k. record { kept = beside_kept e.memory _ r k.kept refl refl refl refl refl refl; rest = k.rest })
+  made_adds s d (Leaves own dest hop rank e made here offered) = adds_beside (With B) s e _ (made_adds s e made) refl
+      (λ r k. record { kept = beside_kept e.memory _ r k.kept refl refl refl refl refl refl; rest = k.rest })

@@ -1,5 +1,6 @@
 -- What accepting a frame is, and that it stores what it leaves in memory.
-use Rattle.std.proofs.Common.{◌≡◌, inl, ℕ, ◌+◌, ◌<◌, ◌^◌, Bool, true, false, List, [], ◌∷◌, ◌++◌, length, set, Option, Some, None, Result, Ok, Err, refl, sym, ap, subst, arith}
+use Rattle.std.proofs.Common.{◌≡◌, inl, ℕ, ◌+◌, ◌<◌, ◌^◌, Bool, true, false, List, [], ◌∷◌, ◌++◌, length, set, Option, Some, None, Result, Ok, Err, refl, sym}
+use Rattle.std.proofs.Common.{ap, subst, arith}
 use Rattle.std.specs.Prelude.{if◌then◌else◌, ◌==◌, is_some, nat_le, slice_get}
 use Rattle.std.specs.Option.{option_map_or}
 use Rattle.std.specs.FinMap.{insert}
@@ -69,16 +70,31 @@ module _ (l : StationMemory) (x : Arrived) where
   abbrev Is : Accepting → Type 0
   Is p = Accepts l (Some x) p
 
-  payload_is : (ack : Bool) (seq pan to from counter index : ℕ) (key : Key) (payload : Option (List ℕ)) → x.head ≡ heads.Sealed ack seq pan to from counter index → ring.key_in_ring l.ring index ≡ Some key → x.opened key ≡ payload
+  payload_is : (ack : Bool) (seq pan to from counter index : ℕ) (key : Key) (payload : Option (List ℕ))
+      → x.head ≡ heads.Sealed ack seq pan to from counter index → ring.key_in_ring l.ring index ≡ Some key → x.opened key ≡ payload
       → Is (open_sealed l to from counter key payload)
   payload_is ack seq pan to from counter index key None head held opened = Turned _
   payload_is ack seq pan to from counter index key (Some payload) head held opened = by_room (marks.room_for l.marks from counter) refl
     where
-      by_room : (r : Result (Unit {0}) PeerFault) → marks.room_for l.marks from counter ≡ r → Is (admitted l from counter (record { path = paths.Sealed from (to == to_all) key; payload = payload }) r)
-      by_room (Ok u) e = Marked from counter _ (record { frame = x; is = refl; to = to; index = index; head = (ack, seq, pan, head); key = key; held = held; payload = payload; opened = opened; got_is = refl; room = e })
+      by_room : (r : Result (Unit {0}) PeerFault) → marks.room_for l.marks from counter ≡ r
+          → Is (admitted l from counter (record { path = paths.Sealed from (to == to_all) key; payload = payload }) r)
+      by_room (Ok u) e = Marked from counter _ (record {
+        frame = x;
+        is = refl;
+        to = to;
+        index = index;
+        head = (ack, seq, pan, head);
+        key = key;
+        held = held;
+        payload = payload;
+        opened = opened;
+        got_is = refl;
+        room = e;
+      })
       by_room (Err fault) e = Turned _
 
-  key_is : (ack : Bool) (seq pan to from counter index : ℕ) (key : Option Key) → x.head ≡ heads.Sealed ack seq pan to from counter index → ring.key_in_ring l.ring index ≡ key → Is (with_key l x to from counter key)
+  key_is : (ack : Bool) (seq pan to from counter index : ℕ) (key : Option Key) → x.head ≡ heads.Sealed ack seq pan to from counter index
+      → ring.key_in_ring l.ring index ≡ key → Is (with_key l x to from counter key)
   key_is ack seq pan to from counter index None head held = Turned _
   key_is ack seq pan to from counter index (Some key) head held = payload_is ack seq pan to from counter index key (x.opened key) head held refl
 
@@ -97,10 +113,20 @@ accept_is l own (Some x) = for_me_is l x (is_for_me l own x.head)
 
 -- # What it stores
 
-marks_kept : (l : StationMemory) (r : Records) (place : ℕ) (octets : List ℕ) (t : marks.Table) → IsStationKept l r → place < 64 → slots.IsTable marks.peers t → marks.IsKept t (insert r (0x0100 + place) octets)
+marks_kept : (l : StationMemory) (r : Records) (place : ℕ) (octets : List ℕ) (t : marks.Table) → IsStationKept l r → place < 64 → slots.IsTable marks.peers t
+    → marks.IsKept t (insert r (0x0100 + place) octets)
     → IsStationKept (record l { marks = t }) (insert r (0x0100 + place) octets)
 marks_kept l r place octets t k within table kept = record {
-  range = record { ring = k.range.ring; counter = k.range.counter; number = k.range.number; tag = k.range.tag; routing = k.range.routing; floors = k.range.floors; ranks = k.range.ranks; marks = table };
+  range = record {
+    ring = k.range.ring;
+    counter = k.range.counter;
+    number = k.range.number;
+    tag = k.range.tag;
+    routing = k.range.routing;
+    floors = k.range.floors;
+    ranks = k.range.ranks;
+    marks = table;
+  };
   ring = ring_stays r _ octets l.ring k.ring (omega arith);
   counter = counter_stays r _ octets l.counter k.counter (omega arith);
   number = number_stays r _ octets l.own_number k.number (omega arith);
@@ -109,9 +135,19 @@ marks_kept l r place octets t k within table kept = record {
   marks = kept;
 }
 
-same_marks : (l : StationMemory) (r : Records) (t : marks.Table) → IsStationKept l r → slots.IsTable marks.peers t → marks.IsKept t r → IsStationKept (record l { marks = t }) r
+same_marks : (l : StationMemory) (r : Records) (t : marks.Table) → IsStationKept l r → slots.IsTable marks.peers t → marks.IsKept t r
+    → IsStationKept (record l { marks = t }) r
 same_marks l r t k table kept = record {
-  range = record { ring = k.range.ring; counter = k.range.counter; number = k.range.number; tag = k.range.tag; routing = k.range.routing; floors = k.range.floors; ranks = k.range.ranks; marks = table };
+  range = record {
+    ring = k.range.ring;
+    counter = k.range.counter;
+    number = k.range.number;
+    tag = k.range.tag;
+    routing = k.range.routing;
+    floors = k.range.floors;
+    ranks = k.range.ranks;
+    marks = table;
+  };
   ring = k.ring;
   counter = k.counter;
   number = k.number;
@@ -128,13 +164,15 @@ module _ (B : Records → Type 0) (lasts : Lasts B) (l : StationMemory) (from co
   unfolding ahead
   reads place = peer_in-octets_of (marks.peer_ahead from counter) address (omega arith)
 
-  new_leads : marks.place_of l.marks from ≡ None → length l.marks < 64 → Leads (With B) l (slots.entry_write marks.peers (length l.marks) ahead ∷ []) (record l { marks = l.marks ++ ahead ∷ [] })
+  new_leads : marks.place_of l.marks from ≡ None → length l.marks < 64
+      → Leads (With B) l (slots.entry_write marks.peers (length l.marks) ahead ∷ []) (record l { marks = l.marks ++ ahead ∷ [] })
   unfolding ahead
   new_leads at room = low_one B lasts l _ _ (omega arith) (λ r k. marks_kept l r (length l.marks) _ _ k room
       (IsTable-push marks.peers l.marks ahead k.range.marks room (free_new marks.peers l.marks from (length l.marks) (ap is_some at)))
       (stored_push marks.peers l.marks r _ ahead k.marks room refl (reads (length l.marks))))
 
-  high_leads : (place : ℕ) → marks.place_of l.marks from ≡ Some place → Leads (With B) l (slots.entry_write marks.peers place ahead ∷ []) (record l { marks = set l.marks place ahead })
+  high_leads : (place : ℕ) → marks.place_of l.marks from ≡ Some place
+      → Leads (With B) l (slots.entry_write marks.peers place ahead ∷ []) (record l { marks = set l.marks place ahead })
   unfolding ahead
   high_leads place at = low_when B lasts l _ _ (λ r k.
       let there = found marks.peers l.marks from place (record { address = 0; mark = 0; stored = 0 }) at in
@@ -143,17 +181,21 @@ module _ (B : Records → Type 0) (lasts : Lasts B) (l : StationMemory) (from co
       (IsTable-set marks.peers l.marks place ahead h.range.marks there.0 (free_found marks.peers l.marks from place h.range.marks at))
       (stored_set marks.peers l.marks s _ place ahead h.marks there.0 refl (reads place))))
 
-  low_leads : (place : ℕ) → marks.place_of l.marks from ≡ Some place → Leads (With B) l [] (record l { marks = set l.marks place (record (marks.peer_at l.marks place) { mark = counter }) })
+  low_leads : (place : ℕ) → marks.place_of l.marks from ≡ Some place
+      → Leads (With B) l [] (record l { marks = set l.marks place (record (marks.peer_at l.marks place) { mark = counter }) })
   low_leads place at =
       let there = found marks.peers l.marks from place (record { address = 0; mark = 0; stored = 0 }) at in
       let peer = marks.peer_at l.marks place in
       let e : Peer = record (marks.peer_at l.marks place) { mark = counter } in
-      let got : slice_get l.marks place ≡ Some (marks.peer_at l.marks place) = slice_get-get_or l.marks place (record { address = 0; mark = 0; stored = 0 }) there.0 in
+      let got : slice_get l.marks place
+      ≡ Some (marks.peer_at l.marks place) = slice_get-get_or l.marks place (record { address = 0; mark = 0; stored = 0 }) there.0 in
       low_beside B lasts l _ (λ r k. same_marks l r (set l.marks place e) k
-      (IsTable-set marks.peers l.marks place e k.range.marks there.0 (subst (λ (q : ℕ). slots.IsFree marks.peers l.marks place q) (sym there.1) (free_found marks.peers l.marks from place k.range.marks at)))
+      (IsTable-set marks.peers l.marks place e k.range.marks there.0
+      (subst (λ (q : ℕ). slots.IsFree marks.peers l.marks place q) (sym there.1) (free_found marks.peers l.marks from place k.range.marks at)))
       (stored_rest marks.peers l.marks r place e there.0 (rw got refl) k.marks))
 
-  pub marks_lead : marks.room_for l.marks from counter ≡ Ok (tt {0}) → Leads (With B) l (puts_of (marks.keep_write l.marks from counter)) (record l { marks = marks.kept_after l.marks from counter })
+  pub marks_lead : marks.room_for l.marks from counter ≡ Ok (tt {0})
+      → Leads (With B) l (puts_of (marks.keep_write l.marks from counter)) (record l { marks = marks.kept_after l.marks from counter })
   unfolding ahead
   marks_lead room = by_place (marks.place_of l.marks from) refl
     where
@@ -164,7 +206,11 @@ module _ (B : Records → Type 0) (lasts : Lasts B) (l : StationMemory) (from co
       by_stored place false at = high_leads place at
 
       by_place : (o : Option ℕ) → marks.place_of l.marks from ≡ o
-          → Leads (With B) l (puts_of (option_map_or (λ place. if nat_le counter (marks.peer_at l.marks place).stored then None else Some (slots.entry_write marks.peers place ahead)) o (Some (slots.entry_write marks.peers (length l.marks) ahead))))
-          (record l { marks = option_map_or (λ place. set l.marks place (marks.advanced (marks.peer_at l.marks place) from counter)) o (l.marks ++ ahead ∷ []) })
+          → Leads (With B) l (puts_of (option_map_or (λ place. if nat_le counter (marks.peer_at l.marks place).stored then None
+          else Some (slots.entry_write marks.peers place ahead)) o (Some (slots.entry_write marks.peers (length l.marks) ahead))))
+          (record l {
+            marks = option_map_or (λ place. set l.marks place (marks.advanced (marks.peer_at l.marks place) from counter)) o
+                (l.marks ++ ahead ∷ []);
+          })
       by_place (Some place) at = by_stored place (nat_le counter (marks.peer_at l.marks place).stored) at
       by_place None at = low_when B lasts l _ _ (λ r k. new_leads at (room_new l.marks from counter k.range.marks.short at room))

@@ -12,7 +12,8 @@ use Rattle.routing_set.specs.declared.rank.Rank.{Rank}
 use Rattle.routing_set.specs.RoutingSet as routing
 use Rattle.node_rules.specs.Memory.{StationMemory, Memory, Role, Coordinator}
 use Rattle.node_rules.specs.Plans.{Plan, resting}
-use Rattle.node_rules.specs.Drafts.{Draft, Ends, empty_draft, counters_left, counted, with_rank, with_own_number, with_next_tag, with_ring, with_routing_by, goes, body_goes, waits, leave}
+use Rattle.node_rules.specs.Drafts.{Draft, Ends, empty_draft, counters_left, counted, with_rank, with_own_number, with_next_tag, with_ring, with_routing_by}
+use Rattle.node_rules.specs.Drafts.{goes, body_goes, waits, leave}
 use Rattle.node_rules.specs.MemoryDrafts.{in_memory, on_station, station_part, with_memory_by, with_pair_tags, goes_up, goes_down}
 use Rattle.node_rules.specs.Coordinators.{with_book_entry}
 use Rattle.node_rules.proofs.Sizes.{pending}
@@ -25,7 +26,8 @@ use Rattle.line_laws.proofs.StoreFold.{WordFits}
 use Rattle.line_laws.proofs.StoreBook.{Rest, rest_lasts, station_leads, made_in_adds}
 use Rattle.line_laws.proofs.Planned.{Planned, Refuses, Keeps, Ended}
 use Rattle.line_laws.proofs.Made.{RingWord, Given, Offered, Made, Starts, Ranks, Numbers, Tags, Rings, Idles, Loses, Goes, Sends, Waits, Leaves}
-use Rattle.line_laws.proofs.MadeIn.{unheard, EntryChange, MadeIn, Begins, Station, OnStation, Remembers, Tags as TagsIn, Enters, Up, Down, Beside, Ends as EndsIn, Asks, Replies, Opens, Answers, Closes, Gives}
+use Rattle.line_laws.proofs.MadeIn.{unheard, EntryChange, MadeIn, Begins, Station, OnStation, Remembers, Tags as TagsIn, Enters, Up, Down, Beside}
+use Rattle.line_laws.proofs.MadeIn.{Ends as EndsIn, Asks, Replies, Opens, Answers, Closes, Gives}
 use Rattle.line_laws.proofs.CallForms.{Few}
 
 -- # The counter stays until the units are sealed
@@ -53,13 +55,16 @@ beside_station_of E n k (Answers s t eui there same) = refl
 beside_station_of E n k (Closes eui) = refl
 beside_station_of E n k (Gives value room) = refl
 
-pub made_in_counter : (W : RingWord → Type 0) (L : Granted → Type 0) (P : Eui → Key → Type 0) (E : Eui → Type 0) (g : Given) (m : Memory) (d : Draft Memory) → MadeIn W L P E g m d
+pub made_in_counter : (W : RingWord → Type 0) (L : Granted → Type 0) (P : Eui → Key → Type 0) (E : Eui → Type 0) (g : Given) (m : Memory) (d : Draft Memory)
+    → MadeIn W L P E g m d
     → d.memory.station.counter ≡ m.station.counter
 unfolding empty_draft on_station with_memory_by with_pair_tags with_book_entry goes_up goes_down
 made_in_counter W L P E g m d Begins = refl
 made_in_counter W L P E g m d (Station e made) = made_counter W g (empty_draft m.station) e made
-made_in_counter W L P E g m d (OnStation word e made step) = made_counter W (unheard g) (station_part e) (word (station_part e)) step ∙ made_in_counter W L P E g m e made
-made_in_counter W L P E g m d (Remembers change e made beside) = ap (λ (l : StationMemory). l.counter) (beside_station_of E e.memory (change e.memory) beside) ∙ made_in_counter W L P E g m e made
+made_in_counter W L P E g m d (OnStation word e made step) =
+    made_counter W (unheard g) (station_part e) (word (station_part e)) step ∙ made_in_counter W L P E g m e made
+made_in_counter W L P E g m d (Remembers change e made beside) =
+    ap (λ (l : StationMemory). l.counter) (beside_station_of E e.memory (change e.memory) beside) ∙ made_in_counter W L P E g m e made
 made_in_counter W L P E g m d (TagsIn made opened e x) = made_in_counter W L P E g m e x
 made_in_counter W L P E g m d (Enters x e made change) = made_in_counter W L P E g m e made
 made_in_counter W L P E g m d (Up agent own message e made) = made_in_counter W L P E g m e made
@@ -88,7 +93,8 @@ module _ (role : Role) (W : RingWord → Type 0) (L : Granted → Type 0) (P : E
       counter_leads (Rest role d.memory) (rest_lasts role d.memory) d.memory.station count (omega arith) (omega arith)))
 
   ended_leads : (d : Draft Memory) → MadeIn W L P E g m d → Few m.station d → length d.units ≤ counters_left m.station → pending m.station ≤ 21
-      → Leads (IsKept role) m (d.puts ++ puts_of (counter.reserve_write d.memory.station.counter (length d.units))) (counted in_memory (length d.units) d.memory)
+      → Leads (IsKept role) m (d.puts ++ puts_of (counter.reserve_write d.memory.station.counter (length d.units)))
+      (counted in_memory (length d.units) d.memory)
   unfolding empty_draft
   ended_leads d made f left waits = leads_when (IsKept role) m _ _ (λ r k.
       let a = made_in_adds role W L P E g m words offers known pairs coordinator (grants r k) k.sessions d made in
@@ -96,7 +102,8 @@ module _ (role : Role) (W : RingWord → Type 0) (L : Granted → Type 0) (P : E
       leads_append (IsKept role) m d.memory _ d.puts _ (subst (λ ps. Leads (IsKept role) m ps d.memory) (sym a.puts) a.leads)
       (counted_leads d (length d.units) (omega arith) left (made_in_counter W L P E g m d made)))
 
-  pub plan_leads : {H F : Type 0} (ends : Ends F) (K : Memory → H → Type 0) → ((n : Memory) (answer : H) → K n answer → (r : Records) → IsKept role m r → IsKept role n r)
+  pub plan_leads : {H F : Type 0} (ends : Ends F) (K : Memory → H → Type 0)
+      → ((n : Memory) (answer : H) → K n answer → (r : Records) → IsKept role m r → IsKept role n r)
       → (p : Plan Memory (Result H F)) → Planned in_memory ends m K MadeFew p → pending m.station ≤ 21 → Leads (IsKept role) m p.puts p.memory
   unfolding resting
   plan_leads ends K beside p (Refuses reason) waits = leads_beside (IsKept role) m m (λ r k. k)

@@ -30,9 +30,19 @@ ring_reads : (x : ring.Ring) → IfSome x IsReadable → ring.ring_in (ring.ring
 ring_reads None h = refl
 ring_reads (Some g) h = ring_in-ring_octets g h.grant h.address h.key0.0 h.key1.0
 
-pub ring_kept : (l : StationMemory) (r : Records) (x : ring.Ring) → IsStationKept l r → IfSome x IsReadable → IsStationKept (record l { ring = x }) (insert r 1 (ring.ring_octets x))
+pub ring_kept : (l : StationMemory) (r : Records) (x : ring.Ring) → IsStationKept l r → IfSome x IsReadable
+    → IsStationKept (record l { ring = x }) (insert r 1 (ring.ring_octets x))
 ring_kept l r x k h = record {
-  range = record { ring = h; counter = k.range.counter; number = k.range.number; tag = k.range.tag; routing = k.range.routing; floors = k.range.floors; ranks = k.range.ranks; marks = k.range.marks };
+  range = record {
+    ring = h;
+    counter = k.range.counter;
+    number = k.range.number;
+    tag = k.range.tag;
+    routing = k.range.routing;
+    floors = k.range.floors;
+    ranks = k.range.ranks;
+    marks = k.range.marks;
+  };
   ring = record { stored = ap ring.ring_at (get-insert_same r 1 1 (ring.ring_octets x) refl) ∙ ring_reads x h };
   counter = counter_stays r 1 _ l.counter k.counter (omega arith);
   number = number_stays r 1 _ l.own_number k.number (omega arith);
@@ -46,7 +56,16 @@ ring_kept l r x k h = record {
 pub limit_kept : (l : StationMemory) (r : Records) (c : counter.Counting) → IsStationKept l r → c.limit < 2 ^ 32 → c.next ≤ c.limit
     → IsStationKept (record l { counter = c }) (insert r 2 (big_bytes 4 c.limit))
 limit_kept l r c k fits below = record {
-  range = record { ring = k.range.ring; counter = fits; number = k.range.number; tag = k.range.tag; routing = k.range.routing; floors = k.range.floors; ranks = k.range.ranks; marks = k.range.marks };
+  range = record {
+    ring = k.range.ring;
+    counter = fits;
+    number = k.range.number;
+    tag = k.range.tag;
+    routing = k.range.routing;
+    floors = k.range.floors;
+    ranks = k.range.ranks;
+    marks = k.range.marks;
+  };
   ring = ring_stays r 2 _ l.ring k.ring (omega arith);
   counter = record { limit = counter_limits.limit_in-insert r c.limit fits; below = below };
   number = number_stays r 2 _ l.own_number k.number (omega arith);
@@ -55,9 +74,19 @@ limit_kept l r c k fits below = record {
   marks = marks_stay r 2 _ l.marks k.marks (inl (omega arith));
 }
 
-next_kept : (l : StationMemory) (r : Records) (next : ℕ) → IsStationKept l r → next ≤ l.counter.limit → IsStationKept (record l { counter = record l.counter { next = next } }) r
+next_kept : (l : StationMemory) (r : Records) (next : ℕ) → IsStationKept l r → next ≤ l.counter.limit
+    → IsStationKept (record l { counter = record l.counter { next = next } }) r
 next_kept l r next k below = record {
-  range = record { ring = k.range.ring; counter = k.range.counter; number = k.range.number; tag = k.range.tag; routing = k.range.routing; floors = k.range.floors; ranks = k.range.ranks; marks = k.range.marks };
+  range = record {
+    ring = k.range.ring;
+    counter = k.range.counter;
+    number = k.range.number;
+    tag = k.range.tag;
+    routing = k.range.routing;
+    floors = k.range.floors;
+    ranks = k.range.ranks;
+    marks = k.range.marks;
+  };
   ring = k.ring;
   counter = record { limit = k.counter.limit; below = below };
   number = k.number;
@@ -83,7 +112,16 @@ counter_leads B lasts l count few left = by_due (counter.passes l.counter count)
 pub number_kept : (l : StationMemory) (r : Records) (n : own_number.Numbering) → IsStationKept l r → 1 ≤ n.limit → n.limit < 2 ^ 16 → n.last ≤ n.limit
     → IsStationKept (record l { own_number = n }) (insert r 3 (big_bytes 2 n.limit))
 number_kept l r n k low fits below = record {
-  range = record { ring = k.range.ring; counter = k.range.counter; number = (low, fits); tag = k.range.tag; routing = k.range.routing; floors = k.range.floors; ranks = k.range.ranks; marks = k.range.marks };
+  range = record {
+    ring = k.range.ring;
+    counter = k.range.counter;
+    number = (low, fits);
+    tag = k.range.tag;
+    routing = k.range.routing;
+    floors = k.range.floors;
+    ranks = k.range.ranks;
+    marks = k.range.marks;
+  };
   ring = ring_stays r 3 _ l.ring k.ring (omega arith);
   counter = counter_stays r 3 _ l.counter k.counter (omega arith);
   number = record { limit = number_limits.limit_in-insert r n.limit low fits; below = below };
@@ -92,9 +130,19 @@ number_kept l r n k low fits below = record {
   marks = marks_stay r 3 _ l.marks k.marks (inl (omega arith));
 }
 
-last_kept : (l : StationMemory) (r : Records) (last : ℕ) → IsStationKept l r → last ≤ l.own_number.limit → IsStationKept (record l { own_number = record l.own_number { last = last } }) r
+last_kept : (l : StationMemory) (r : Records) (last : ℕ) → IsStationKept l r → last ≤ l.own_number.limit
+    → IsStationKept (record l { own_number = record l.own_number { last = last } }) r
 last_kept l r last k below = record {
-  range = record { ring = k.range.ring; counter = k.range.counter; number = k.range.number; tag = k.range.tag; routing = k.range.routing; floors = k.range.floors; ranks = k.range.ranks; marks = k.range.marks };
+  range = record {
+    ring = k.range.ring;
+    counter = k.range.counter;
+    number = k.range.number;
+    tag = k.range.tag;
+    routing = k.range.routing;
+    floors = k.range.floors;
+    ranks = k.range.ranks;
+    marks = k.range.marks;
+  };
   ring = k.ring;
   counter = k.counter;
   number = record { limit = k.number.limit; below = below };
@@ -103,7 +151,8 @@ last_kept l r last k below = record {
   marks = k.marks;
 }
 
-pub number_leads : (B : Records → Type 0) (lasts : Lasts B) (l : StationMemory) → numbers_spent l ≡ false → Leads (With B) l (puts_of (own_number.advance_write l.own_number)) (record l { own_number = own_number.advanced l.own_number })
+pub number_leads : (B : Records → Type 0) (lasts : Lasts B) (l : StationMemory) → numbers_spent l ≡ false
+    → Leads (With B) l (puts_of (own_number.advance_write l.own_number)) (record l { own_number = own_number.advanced l.own_number })
 number_leads B lasts l left = by_due (own_number.passes l.own_number) refl
   where
     by_due : (b : Bool) → own_number.passes l.own_number ≡ b
@@ -119,9 +168,19 @@ number_leads B lasts l left = by_due (own_number.passes l.own_number) refl
 pub tag_reads : (r : Records) (tag : ℕ) → tag < 2 ^ 16 → tag_in (get (insert r tag_slot (big_bytes 2 tag)) tag_slot) ≡ Ok tag
 tag_reads r tag fits = ap (read_result tag_at) (stored-insert tag_at r tag (omega arith) (omega arith))
 
-pub tag_kept : (l : StationMemory) (r : Records) (tag : ℕ) → IsStationKept l r → tag < 2 ^ 16 → IsStationKept (record l { next_tag = tag }) (insert r tag_slot (big_bytes 2 tag))
+pub tag_kept : (l : StationMemory) (r : Records) (tag : ℕ) → IsStationKept l r → tag < 2 ^ 16
+    → IsStationKept (record l { next_tag = tag }) (insert r tag_slot (big_bytes 2 tag))
 tag_kept l r tag k fits = record {
-  range = record { ring = k.range.ring; counter = k.range.counter; number = k.range.number; tag = fits; routing = k.range.routing; floors = k.range.floors; ranks = k.range.ranks; marks = k.range.marks };
+  range = record {
+    ring = k.range.ring;
+    counter = k.range.counter;
+    number = k.range.number;
+    tag = fits;
+    routing = k.range.routing;
+    floors = k.range.floors;
+    ranks = k.range.ranks;
+    marks = k.range.marks;
+  };
   ring = ring_stays r 4 _ l.ring k.ring (omega arith);
   counter = counter_stays r 4 _ l.counter k.counter (omega arith);
   number = number_stays r 4 _ l.own_number k.number (omega arith);
@@ -130,5 +189,6 @@ tag_kept l r tag k fits = record {
   marks = marks_stay r 4 _ l.marks k.marks (inl (omega arith));
 }
 
-pub tag_leads : (B : Records → Type 0) (lasts : Lasts B) (l : StationMemory) → Leads (With B) l (record { slot = tag_slot; octets = big_bytes 2 (tag_after l.next_tag) } ∷ []) (record l { next_tag = tag_after l.next_tag })
+pub tag_leads : (B : Records → Type 0) (lasts : Lasts B) (l : StationMemory)
+    → Leads (With B) l (record { slot = tag_slot; octets = big_bytes 2 (tag_after l.next_tag) } ∷ []) (record l { next_tag = tag_after l.next_tag })
 tag_leads B lasts l = low_one B lasts l _ _ (omega arith) (λ r k. tag_kept l r (tag_after l.next_tag) k (omega arith))

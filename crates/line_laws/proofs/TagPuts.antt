@@ -30,14 +30,17 @@ use Rattle.node_rules.specs.Calls as calls
 use Rattle.node_rules.specs.Coordinators as coordinators
 use Rattle.node_rules.specs.Coordinators.{with_book_entry}
 use Rattle.node_rules.specs.Meters as meters
-use Rattle.node_rules.specs.Drafts.{Draft, Ends, alone, empty_draft, tag_write, with_rank, with_own_number, with_next_tag, with_ring, with_routing_by, goes, body_goes, waits, leave}
+use Rattle.node_rules.specs.Drafts.{Draft, Ends, alone, empty_draft, tag_write, with_rank, with_own_number, with_next_tag, with_ring, with_routing_by, goes}
+use Rattle.node_rules.specs.Drafts.{body_goes, waits, leave}
 use Rattle.node_rules.specs.Hearing.{dropped}
-use Rattle.node_rules.specs.MemoryDrafts.{in_memory, on_station, station_part, with_memory_by, with_pair_tags, goes_up, goes_down, with_station, give_random, given_ends}
+use Rattle.node_rules.specs.MemoryDrafts.{in_memory, on_station, station_part, with_memory_by, with_pair_tags, goes_up, goes_down, with_station, give_random}
+use Rattle.node_rules.specs.MemoryDrafts.{given_ends}
 use Rattle.node_rules.specs.NodeSteps.{of_station}
 use Rattle.node_rules.specs.Laws.{all_put, IsWhole, IsCutOff}
 use Rattle.node_rules.proofs.Writing.{clean}
 use Rattle.line_laws.proofs.Planned.{Planned, Refuses, Keeps, Ended}
-use Rattle.line_laws.proofs.Made.{RingWord, Carry, Install, Given, TakesTag, Made, Starts, Ranks, Numbers, Tags, Rings, Idles, Loses, Goes, Sends, Waits, Leaves}
+use Rattle.line_laws.proofs.Made.{RingWord, Carry, Install, Given, TakesTag, Made, Starts, Ranks, Numbers, Tags, Rings, Idles, Loses, Goes, Sends, Waits}
+use Rattle.line_laws.proofs.Made.{Leaves}
 use Rattle.line_laws.proofs.MadeIn.{unheard, MadeIn, Begins, Station, OnStation, Remembers, Tags as TagsIn, Enters, Up as UpIn, Down as DownIn}
 use Rattle.line_laws.proofs.MemoryDraftForms.{AnyAnswer, MadeBy, HandedIn}
 use Rattle.line_laws.proofs.MeterForms.{RingCause, ToCoordinator, meter_is, joins_is, leaves_is}
@@ -91,15 +94,19 @@ module _ (Q : Write → Type 0) (away : (w : Write) → w.slot ≢ 4 → Q w) wh
       by_stored place true = tt
       by_stored place false = (away _ (omega arith), tt)
 
-      by_place : (o : Option ℕ) → Each Q (puts_of (option_map_or (λ place. if nat_le count (marks.peer_at table place).stored then None else Some (slots.entry_write marks.peers place (marks.peer_ahead from count))) o (Some (slots.entry_write marks.peers (length table) (marks.peer_ahead from count)))))
+      by_place : (o : Option ℕ) → Each Q (puts_of (option_map_or (λ place. if nat_le count (marks.peer_at table place).stored then None
+          else Some (slots.entry_write marks.peers place (marks.peer_ahead from count))) o
+          (Some (slots.entry_write marks.peers (length table) (marks.peer_ahead from count)))))
       by_place None = (away _ (omega arith), tt)
       by_place (Some place) = by_stored place (nat_le count (marks.peer_at table place).stored)
 
   module _ (W : RingWord → Type 0) (g : Given) where
-    made_puts : (s d : Draft StationMemory) → ((e : Draft StationMemory) → TakesTag W s e → Q (tag_write e.memory.next_tag)) → Made W g s d → Each Q s.puts → Each Q d.puts
+    made_puts : (s d : Draft StationMemory) → ((e : Draft StationMemory) → TakesTag W s e → Q (tag_write e.memory.next_tag)) → Made W g s d → Each Q s.puts
+        → Each Q d.puts
     unfolding with_rank with_own_number with_next_tag with_ring with_routing_by goes body_goes waits leave
     made_puts s d tagged Starts h = h
-    made_puts s d tagged (Ranks by origin rank e made o fits) h = each_append Q e.puts _ (made_puts s e tagged made h) (offer_away e.memory.routing origin rank by g.now)
+    made_puts s d tagged (Ranks by origin rank e made o fits) h =
+        each_append Q e.puts _ (made_puts s e tagged made h) (offer_away e.memory.routing origin rank by g.now)
     made_puts s d tagged (Numbers e made left) h = each_append Q e.puts _ (made_puts s e tagged made h) (number_away e.memory.own_number)
     made_puts s d tagged (Tags e made first) h = each_append Q e.puts _ (made_puts s e tagged made h) (tagged e first, tt)
     made_puts s d tagged (Rings x e made change) h = each_append Q e.puts _ (made_puts s e tagged made h) (away _ (omega arith), tt)
@@ -130,8 +137,10 @@ module _ (Q : Write → Type 0) (away : (w : Write) → w.slot ≢ 4 → Q w) wh
         append_one [] one rest = refl
         append_one (x ∷ front) one rest = ap (λ ws. x ∷ ws) (append_one front one rest)
 
-        by_kind : (b : Bool) (front rest : List Write) (one : Write) → p.puts ≡ front ++ one ∷ rest → R (if b then all_put (front ++ one ∷ []) r else all_put front r)
-        by_kind true front rest one e = all_puts (front ++ one ∷ []) r (front_of (front ++ one ∷ []) rest (subst (Each Q) (e ∙ sym (append_one front one rest)) q)) h
+        by_kind : (b : Bool) (front rest : List Write) (one : Write) → p.puts ≡ front ++ one ∷ rest
+            → R (if b then all_put (front ++ one ∷ []) r else all_put front r)
+        by_kind true front rest one e =
+            all_puts (front ++ one ∷ []) r (front_of (front ++ one ∷ []) rest (subst (Each Q) (e ∙ sym (append_one front one rest)) q)) h
         by_kind false front rest one e = all_puts front r (front_of front (one ∷ rest) (subst (Each Q) e q)) h
 
         cut_off : IsCutOff r cut p (carry_out r cut p) → R (carry_out r cut p).records
@@ -181,24 +190,30 @@ module _ (W : RingWord → Type 0) (silent : NoneSent W) (L : Granted → Type 0
   unfolding empty_draft on_station with_memory_by with_pair_tags with_book_entry goes_up goes_down
   made_in_away d Begins = tt
   made_in_away d (Station e made) = made_puts Away away_so W g (empty_draft m.station) e (untagged (empty_draft m.station)) made tt
-  made_in_away d (OnStation word e made step) = made_puts Away away_so W (unheard g) (station_part e) (word (station_part e)) (untagged (station_part e)) step (made_in_away e made)
+  made_in_away d (OnStation word e made step) =
+      made_puts Away away_so W (unheard g) (station_part e) (word (station_part e)) (untagged (station_part e)) step (made_in_away e made)
   made_in_away d (Remembers change e made beside) = made_in_away e made
   made_in_away d (TagsIn made opened e x) = made_in_away e x
   made_in_away d (Enters x e made change) = each_append Away e.puts _ (made_in_away e made) (entry_away Away away_so e.memory.book x)
   made_in_away d (UpIn agent own message e made) = made_in_away e made
   made_in_away d (DownIn own message e made) = made_in_away e made
 
-  plan_away : {H F : Type 0} (ends : Ends F) (K : Memory → H → Type 0) (N : H → Type 0) (p : Plan Memory (Result H F)) → Planned in_memory ends m K (MadeBy W L P E g m N) p → Each Away p.puts
+  plan_away : {H F : Type 0} (ends : Ends F) (K : Memory → H → Type 0) (N : H → Type 0) (p : Plan Memory (Result H F))
+      → Planned in_memory ends m K (MadeBy W L P E g m N) p → Each Away p.puts
   unfolding resting
   plan_away ends K N p (Refuses reason) = tt
   plan_away ends K N p (Keeps n answer k) = tt
-  plan_away ends K N p (Ended d answer done left) = each_append Away d.puts _ (made_in_away d done.0) (counter_away Away away_so d.memory.station.counter (length d.units))
+  plan_away ends K N p (Ended d answer done left) =
+      each_append Away d.puts _ (made_in_away d done.0) (counter_away Away away_so d.memory.station.counter (length d.units))
 
-  station_away : {H F : Type 0} {ends : Ends F} (p : Plan StationMemory (Result H F)) → Planned alone ends m.station Nothing (λ d (a : H). Made W g (empty_draft m.station) d × Few m.station d) p → Each Away (of_station m p).puts
+  station_away : {H F : Type 0} {ends : Ends F} (p : Plan StationMemory (Result H F))
+      → Planned alone ends m.station Nothing (λ d (a : H). Made W g (empty_draft m.station) d × Few m.station d) p → Each Away (of_station m p).puts
   unfolding resting empty_draft
   station_away p (Refuses reason) = tt
   station_away p (Keeps n answer k) = absurd k
-  station_away p (Ended d answer done left) = each_append Away d.puts _ (made_puts Away away_so W g (empty_draft m.station) d (untagged (empty_draft m.station)) done.0 tt) (counter_away Away away_so d.memory.counter (length d.units))
+  station_away p (Ended d answer done left) = each_append Away d.puts _
+      (made_puts Away away_so W g (empty_draft m.station) d (untagged (empty_draft m.station)) done.0 tt)
+      (counter_away Away away_so d.memory.counter (length d.units))
 
 -- the one grant that is installed
 abbrev Installed : Granted → RingWord → Type 0
@@ -206,20 +221,24 @@ Installed granted w = w ≡ Install granted
 
 module _ (m : Memory) where
   pub random_away : (value : Rand) → Each Away (give_random m value).puts
-  random_away value = plan_away NoWord no_word NoGrant NoPair NoEui (call_given 0 0 0) m given_ends Nothing AnyAnswer _ (random_is NoWord NoGrant NoPair NoEui (call_given 0 0 0) m value)
+  random_away value = plan_away NoWord no_word NoGrant NoPair NoEui (call_given 0 0 0) m given_ends Nothing AnyAnswer _
+      (random_is NoWord NoGrant NoPair NoEui (call_given 0 0 0) m value)
 
   pub join_away : (x : meters.Identity) (agent now : ℕ) → Each Away (meters.join x m agent now).puts
-  join_away x agent now = plan_away (RingCause (call_given 0 0 now) x m) (meter_word (call_given 0 0 now) x m) NoGrant NoPair NoEui (call_given 0 0 now) m meters.joining_ends Nothing AnyAnswer _ (joins_is NoGrant NoPair NoEui (call_given 0 0 now) x m agent)
+  join_away x agent now = plan_away (RingCause (call_given 0 0 now) x m) (meter_word (call_given 0 0 now) x m) NoGrant NoPair NoEui (call_given 0 0 now) m
+      meters.joining_ends Nothing AnyAnswer _ (joins_is NoGrant NoPair NoEui (call_given 0 0 now) x m agent)
 
   pub leave_away : (x : meters.Identity) → Each Away (meters.leave m).puts
-  leave_away x = plan_away (RingCause (call_given 0 0 0) x m) (meter_word (call_given 0 0 0) x m) NoGrant NoPair NoEui (call_given 0 0 0) m meters.leaving_ends Nothing AnyAnswer _ (leaves_is NoGrant NoPair NoEui (call_given 0 0 0) x m)
+  leave_away x = plan_away (RingCause (call_given 0 0 0) x m) (meter_word (call_given 0 0 0) x m) NoGrant NoPair NoEui (call_given 0 0 0) m meters.leaving_ends
+      Nothing AnyAnswer _ (leaves_is NoGrant NoPair NoEui (call_given 0 0 0) x m)
 
   pub broke_away : {A : Type 0} (next : ℕ) (answer : A) → Each Away (resting (with_station (calls.broke next m.station) m) answer answer).puts
   unfolding resting
   broke_away next answer = tt
 
   pub near_away : (to cost now : ℕ) → Each Away (of_station m (calls.preset_near m.station to cost now)).puts
-  near_away to cost now = station_away NoWord no_word NoGrant NoPair NoEui (near_given to cost now) m _ (near_is NoWord (near_given to cost now) m.station to refl)
+  near_away to cost now =
+      station_away NoWord no_word NoGrant NoPair NoEui (near_given to cost now) m _ (near_is NoWord (near_given to cost now) m.station to refl)
 
   pub counter_put_away : (value : ℕ) → Each Away (of_station m (calls.preset_counter m.station value)).puts
   unfolding resting
@@ -230,7 +249,8 @@ module _ (m : Memory) where
   number_put_away value = (omega arith, tt)
 
   pub provision_away : (granted : Granted) → Each Away (meters.provision m granted).puts
-  provision_away granted = station_away (Installed granted) (record { none = λ to note tag datagram w. absurd (cc) }) NoGrant NoPair NoEui (call_given 0 0 0) m _ (install_is (Installed granted) (call_given 0 0 0) m.station granted refl)
+  provision_away granted = station_away (Installed granted) (record { none = λ to note tag datagram w. absurd (cc) }) NoGrant NoPair NoEui (call_given 0 0 0) m
+      _ (install_is (Installed granted) (call_given 0 0 0) m.station granted refl)
 
   accepting_away : (a : Option Arrived) (p : Accepting) → Accepts m.station a p → Each Away (of_station m p).puts
   unfolding resting marking
@@ -244,35 +264,46 @@ module _ (m : Memory) where
   pub meter_away : (x : meters.Identity) (got : Accepted) (cost note now : ℕ) → Each Away (meters.hear_meter x m got cost note now).puts
   meter_away x got cost note now =
       let g = heard_given got cost note now in
-      plan_away (RingCause g x m) (meter_word g x m) NoGrant NoPair NoEui g m dropped (HandedIn meter_heard.Station g m) _ _ (meter_is NoGrant NoPair NoEui g x m got refl)
+      plan_away (RingCause g x m) (meter_word g x m) NoGrant NoPair NoEui g m dropped (HandedIn meter_heard.Station g m) _ _
+      (meter_is NoGrant NoPair NoEui g x m got refl)
 
-  pub coordinator_away : (own : coordinators.CoordinatorIdentity) (got : Accepted) (cost note now : ℕ) → Each Away (coordinators.hear_coordinator own m got cost note now).puts
+  pub coordinator_away : (own : coordinators.CoordinatorIdentity) (got : Accepted) (cost note now : ℕ)
+      → Each Away (coordinators.hear_coordinator own m got cost note now).puts
   coordinator_away own got cost note now =
       let g = heard_given got cost note now in
-      plan_away CoordinatorWord coordinator_word (λ granted. coordinator.IsGranted m granted) AnyPair AnyEui g m dropped (HandedIn coordinator_heard.Station g m) _ _
+      plan_away CoordinatorWord coordinator_word (λ granted. coordinator.IsGranted m granted) AnyPair AnyEui g m dropped
+      (HandedIn coordinator_heard.Station g m) _ _
       (coordinator.coordinator_is CoordinatorWord AnyPair AnyEui g own m (λ to there join said. Says to join) got refl (λ u join e read. tt))
 
   module _ (own : coordinators.CoordinatorIdentity) (now : ℕ) where
-    order_away : {A : Type 0} (p : coordinators.Ordering A) → coordinator.IsOrder CoordinatorWord AnyPair AnyEui (call_given 0 0 now) own m (λ to there join said. Says to join) p → Each Away p.puts
-    order_away p s = plan_away CoordinatorWord coordinator_word (λ granted. coordinator.IsGranted m granted) AnyPair AnyEui (call_given 0 0 now) m coordinators.orders Nothing AnyAnswer p s
+    order_away : {A : Type 0} (p : coordinators.Ordering A)
+        → coordinator.IsOrder CoordinatorWord AnyPair AnyEui (call_given 0 0 now) own m (λ to there join said. Says to join) p → Each Away p.puts
+    order_away p s = plan_away CoordinatorWord coordinator_word (λ granted. coordinator.IsGranted m granted) AnyPair AnyEui (call_given 0 0 now) m
+        coordinators.orders Nothing AnyAnswer p s
 
     pub allow_away : (eui : Eui) (psk : Key) → Each Away (coordinators.allow m eui psk).puts
-    allow_away eui psk = order_away _ (coordinator.allow_is CoordinatorWord AnyPair AnyEui (call_given 0 0 now) own m (λ to there join said. Says to join) eui psk tt tt)
+    allow_away eui psk =
+        order_away _ (coordinator.allow_is CoordinatorWord AnyPair AnyEui (call_given 0 0 now) own m (λ to there join said. Says to join) eui psk tt tt)
 
     pub depot_away : (eui : Eui) (psk : Key) → Each Away (coordinators.depot m eui psk).puts
-    depot_away eui psk = order_away _ (coordinator.depot_is CoordinatorWord AnyPair AnyEui (call_given 0 0 now) own m (λ to there join said. Says to join) eui psk tt tt)
+    depot_away eui psk =
+        order_away _ (coordinator.depot_is CoordinatorWord AnyPair AnyEui (call_given 0 0 now) own m (λ to there join said. Says to join) eui psk tt tt)
 
     pub rekey_away : (index : ℕ) (key : Key) → Each Away (coordinators.rekey m index key).puts
-    rekey_away index key = order_away _ (coordinator.rekey_is CoordinatorWord AnyPair AnyEui (call_given 0 0 now) own m (λ to there join said. Says to join) index key (Draws index key))
+    rekey_away index key = order_away _
+        (coordinator.rekey_is CoordinatorWord AnyPair AnyEui (call_given 0 0 now) own m (λ to there join said. Says to join) index key (Draws index key))
 
     pub activate_self_away : (index : ℕ) → Each Away (coordinators.activate_self m index).puts
-    activate_self_away index = order_away _ (coordinator.activate_self_is CoordinatorWord AnyPair AnyEui (call_given 0 0 now) own m (λ to there join said. Says to join) index (Activates index))
+    activate_self_away index = order_away _
+        (coordinator.activate_self_is CoordinatorWord AnyPair AnyEui (call_given 0 0 now) own m (λ to there join said. Says to join) index (Activates index))
 
     pub challenge_away : (eui : Eui) → Each Away (coordinators.challenge own.eui m eui now).puts
-    challenge_away eui = order_away _ (coordinator.challenge_is CoordinatorWord AnyPair AnyEui (call_given 0 0 now) own m (λ to there join said. Says to join) eui tt)
+    challenge_away eui =
+        order_away _ (coordinator.challenge_is CoordinatorWord AnyPair AnyEui (call_given 0 0 now) own m (λ to there join said. Says to join) eui tt)
 
     pub activate_away : (eui : Eui) (index : ℕ) → Each Away (coordinators.activate m eui index now).puts
-    activate_away eui index = order_away _ (coordinator.activate_is CoordinatorWord AnyPair AnyEui (call_given 0 0 now) own m (λ to there join said. Says to join) eui index)
+    activate_away eui index =
+        order_away _ (coordinator.activate_is CoordinatorWord AnyPair AnyEui (call_given 0 0 now) own m (λ to there join said. Says to join) eui index)
 
     pub kick_away : (eui : Eui) → Each Away (coordinators.kick m eui).puts
     kick_away eui = order_away _ (coordinator.kick_is CoordinatorWord AnyPair AnyEui (call_given 0 0 now) own m (λ to there join said. Says to join) eui tt)
@@ -290,11 +321,13 @@ AnyWord w = ⊤
 pub away_tags : (old : ℕ) (ps : List Write) → Each Away ps → Each (TagPut old) ps
 away_tags old ps h = each_weaker Away (TagPut old) (λ w ne. Elsewhere ne) ps h
 
-pub send_tags : (m : Memory) (to : ℕ) (datagram : List ℕ) (note now : ℕ) → Each (TagPut m.station.next_tag) (of_station m (calls.send m.station to datagram note now)).puts
+pub send_tags : (m : Memory) (to : ℕ) (datagram : List ℕ) (note now : ℕ)
+    → Each (TagPut m.station.next_tag) (of_station m (calls.send m.station to datagram note now)).puts
 unfolding resting empty_draft
 send_tags m to datagram note now = by_form _ (send_is AnyWord (call_given 0 note now) m.station to datagram (λ some short. tt))
   where
-    tagged : (s e : Draft StationMemory) → s.memory.next_tag ≡ m.station.next_tag → TakesTag AnyWord s e → TagPut m.station.next_tag (tag_write e.memory.next_tag)
+    tagged : (s e : Draft StationMemory) → s.memory.next_tag ≡ m.station.next_tag → TakesTag AnyWord s e
+        → TagPut m.station.next_tag (tag_write e.memory.next_tag)
     tagged s e same first = Next (ap tag_write (first.same ∙ same))
 
     begun_tag : (empty_draft m.station).memory.next_tag ≡ m.station.next_tag
@@ -303,9 +336,12 @@ send_tags m to datagram note now = by_form _ (send_is AnyWord (call_given 0 note
     begun_puts : Each (TagPut m.station.next_tag) (empty_draft m.station).puts
     begun_puts = tt
 
-    by_form : {H F : Type 0} {ends : Ends F} (p : Plan StationMemory (Result H F)) → Planned alone ends m.station Nothing (λ d (a : H). Made AnyWord (call_given 0 note now) (empty_draft m.station) d × Few m.station d) p → Each (TagPut m.station.next_tag) (of_station m p).puts
+    by_form : {H F : Type 0} {ends : Ends F} (p : Plan StationMemory (Result H F))
+        → Planned alone ends m.station Nothing (λ d (a : H). Made AnyWord (call_given 0 note now) (empty_draft m.station) d × Few m.station d) p
+        → Each (TagPut m.station.next_tag) (of_station m p).puts
     by_form p (Refuses reason) = tt
     by_form p (Keeps n answer k) = absurd k
     by_form p (Ended d answer done left) = each_append (TagPut m.station.next_tag) d.puts _
-        (made_puts (TagPut m.station.next_tag) (λ w ne. Elsewhere ne) AnyWord (call_given 0 note now) (empty_draft m.station) d (λ e first. tagged (empty_draft m.station) e begun_tag first) done.0 begun_puts)
+        (made_puts (TagPut m.station.next_tag) (λ w ne. Elsewhere ne) AnyWord (call_given 0 note now) (empty_draft m.station) d
+        (λ e first. tagged (empty_draft m.station) e begun_tag first) done.0 begun_puts)
         (counter_away (TagPut m.station.next_tag) (λ w ne. Elsewhere ne) d.memory.counter (length d.units))

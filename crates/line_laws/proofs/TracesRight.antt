@@ -1,5 +1,6 @@
 -- What the history has of an event is what the report says of it, and the counts of the world are those of its history.
-use Rattle.std.proofs.Common.{◌≡◌, ◌⊎◌, inl, inr, ℕ, ◌+◌, ◌-◌, Bool, true, false, ⊎_elim, List, [], ◌++◌, length, Option, Some, None, Result, Ok, Err, refl, sym, ap, ◌∙◌, subst, append-nil, arith}
+use Rattle.std.proofs.Common.{◌≡◌, ◌⊎◌, inl, inr, ℕ, ◌+◌, ◌-◌, Bool, true, false, ⊎_elim, List, [], ◌++◌, length, Option, Some, None, Result, Ok, Err, refl}
+use Rattle.std.proofs.Common.{sym, ap, ◌∙◌, subst, append-nil, arith}
 use Rattle.std.specs.Prelude.{◌↔◌, ◌||◌, IfSome, is_some, if◌then◌else◌, slice_get}
 use Rattle.std.specs.List.{list_any}
 use Rattle.std.specs.Option.{option_map, option_map_or}
@@ -50,19 +51,26 @@ use Rattle.node_rules.specs.Frames.{arrived}
 use Rattle.node_rules.specs.NodeSteps.{NodeStep, acts, stays, answering, changing, of_station, left_by}
 use Rattle.node_rules.specs.Plans.{Plan, carry_out, resting}
 use Rattle.node_rules.specs.StoreReading.{memory_of}
-use Rattle.line_rules.specs.Answers.{Reception, Up, SentGrant, drop_word, send_word, order_word, frame_word, random_word, join_word, leave_word, sent_word, ordered_word, station_reception, meter_reception, coordinator_reception}
+use Rattle.line_rules.specs.Answers.{Reception, Up, SentGrant, drop_word, send_word, order_word, frame_word, random_word, join_word, leave_word, sent_word}
+use Rattle.line_rules.specs.Answers.{ordered_word, station_reception, meter_reception, coordinator_reception}
 use Rattle.line_rules.specs.Worlds.{World, Flight, Trace, Pairing, node_at, flight_at, is_forged_tag, nothing_further}
-use Rattle.line_rules.specs.Steps.{Step, is_taken, set_up, ran, told, flights_of, acted, trace_of, happened, sending, sent_if, tag_of, offered_near, hears, received, forged_by, note_by, number_if, handed_by, issued_of, identity, restart_word, restarts, made_node}
+use Rattle.line_rules.specs.Steps.{Step, is_taken, set_up, ran, told, flights_of, acted, trace_of, happened, sending, sent_if, tag_of, offered_near, hears}
+use Rattle.line_rules.specs.Steps.{received, forged_by, note_by, number_if, handed_by, issued_of, identity, restart_word, restarts, made_node}
 use Rattle.line_rules.specs.Runs.{Entry, one_of}
 use Rattle.line_rules.specs.Forgery.{Comes, OfFlight, OfScript, accepting, AcceptsSealed, NoneFlew, IsForged, ByFrame, ByTag}
 use Rattle.line_rules.specs.Traces.{Adds, IsSendOf, IsIssue, ComesTo, is_up, is_took, is_done, is_issue}
 use Rattle.line_laws.proofs.StoreMarks.{accept_is}
 use Rattle.line_laws.proofs.Quiet.{acts_quiet, counter_quiet, number_quiet, near_quiet, install_quiet, allow_quiet, depot_quiet, accept_quiet}
-use Rattle.line_laws.proofs.Untagged.{acts_untagged, allow_untagged, depot_untagged, rekey_untagged, activate_self_untagged, challenge_untagged, activate_untagged, kick_untagged, send_untagged, near_untagged, counter_untagged, number_untagged, rested_untagged, random_untagged, provision_untagged, accept_untagged}
+use Rattle.line_laws.proofs.Untagged.{acts_untagged, allow_untagged, depot_untagged, rekey_untagged, activate_self_untagged, challenge_untagged}
+use Rattle.line_laws.proofs.Untagged.{activate_untagged, kick_untagged, send_untagged, near_untagged, counter_untagged, number_untagged, rested_untagged}
+use Rattle.line_laws.proofs.Untagged.{random_untagged, provision_untagged, accept_untagged}
 use Rattle.line_laws.proofs.IssueMeters.{joins_opened, leaves_opened}
 use Rattle.line_laws.proofs.IssueNodes.{acts_opened}
 use Rattle.line_laws.proofs.ForgeryRight.{some_passes, any_at, none_flew, flew_none, none_made, made_none}
-use Rattle.line_laws.proofs.Tellings.{IsCall, Gives, Joins, Leaves, Sends, Breaks, Nears, Counts, Numbers, Accepts, Provisions, Depots, Allows, Rekeys, Turns, Challenges, Activates, Kicks, workshop, IsPreset, OfCounter, OfNumber, IsBrought, IsWord, OfRandom, OfJoin, OfLeave, OfDraw, OfChallenge, OfTurn, OfOrder, OfKick, IsMade, OfCoordinator, OfMeter, IsStep, Fails, Makes, Rests, Shows, Acts, BreaksLink, SendsFrom, AllowsMeter, Sets, SetsTwo, Provides, TurnsDown, Hears, Loses, Ticks, Restarts, Cuts}
+use Rattle.line_laws.proofs.Tellings.{IsCall, Gives, Joins, Leaves, Sends, Breaks, Nears, Counts, Numbers, Accepts, Provisions, Depots, Allows, Rekeys, Turns}
+use Rattle.line_laws.proofs.Tellings.{Challenges, Activates, Kicks, workshop, IsPreset, OfCounter, OfNumber, IsBrought, IsWord, OfRandom, OfJoin, OfLeave}
+use Rattle.line_laws.proofs.Tellings.{OfDraw, OfChallenge, OfTurn, OfOrder, OfKick, IsMade, OfCoordinator, OfMeter, IsStep, Fails, Makes, Rests, Shows, Acts}
+use Rattle.line_laws.proofs.Tellings.{BreaksLink, SendsFrom, AllowsMeter, Sets, SetsTwo, Provides, TurnsDown, Hears, Loses, Ticks, Restarts, Cuts}
 
 -- # Words of the report
 
@@ -213,16 +221,19 @@ hears_fits : (ciphers : Ciphers) (x : Node) (got : Accepted) (cost note now : �
 hears_fits ciphers x got cost note now = by_role x.role
   where
     hears_as : Role → NodeStep Reception
-    hears_as Coordinator = answering coordinator_reception (acts x (Err drops.Store) (λ m. coordinator_rules.hear_coordinator (record { eui = x.eui; ciphers = ciphers }) m got cost note now))
+    hears_as Coordinator = answering coordinator_reception
+        (acts x (Err drops.Store) (λ m. coordinator_rules.hear_coordinator (record { eui = x.eui; ciphers = ciphers }) m got cost note now))
     hears_as (Meter psk) = answering meter_reception (acts x (Err drops.Store) (λ m. meters.hear_meter (identity ciphers x psk) m got cost note now))
 
     by_role : (role : Role) → Fits (hears_as role).answer
-    by_role Coordinator = coordinator_fits (acts x (Err drops.Store) (λ m. coordinator_rules.hear_coordinator (record { eui = x.eui; ciphers = ciphers }) m got cost note now)).answer
+    by_role Coordinator = coordinator_fits
+        (acts x (Err drops.Store) (λ m. coordinator_rules.hear_coordinator (record { eui = x.eui; ciphers = ciphers }) m got cost note now)).answer
     by_role (Meter psk) = meter_fits (acts x (Err drops.Store) (λ m. meters.hear_meter (identity ciphers x psk) m got cost note now)).answer
 
 -- # Calls find no pair tag right
 
-call_opened : (ciphers : Ciphers) (w : World) (number : ℕ) (x : Node) (A : Type 0) (halted : A) (plan : Memory → Plan Memory A) → IsCall ciphers w number x A halted plan → (m : Memory) → (plan m).opened ≡ []
+call_opened : (ciphers : Ciphers) (w : World) (number : ℕ) (x : Node) (A : Type 0) (halted : A) (plan : Memory → Plan Memory A)
+    → IsCall ciphers w number x A halted plan → (m : Memory) → (plan m).opened ≡ []
 call_opened ciphers w number x A halted plan (Gives value are) m = (random_untagged m value).1
 call_opened ciphers w number x A halted plan (Joins psk a ne pair other) m = joins_opened (identity ciphers x psk) m a w.clock
 call_opened ciphers w number x A halted plan (Leaves ne) m = leaves_opened m
@@ -262,7 +273,8 @@ comes_is w event number octets (OfFlight flight n cost f e) = (refl, (f, e, refl
 comes_is w event number octets (OfScript n cost o) = (refl, refl)
 
 pub is_same : (w : World) (event : Event) (m n : ℕ) (xs ys : List ℕ) → Is w event m xs → Is w event n ys → (m ≡ n) × (xs ≡ ys)
-is_same w (events.Deliver flight node cost) m n xs ys h k = (sym h.0 ∙ k.0, h.1.2 ∙ ap (λ (f : Flight). f.octets) (same_Some h.1.0 k.1.0 (sym h.1.1 ∙ k.1.1)) ∙ sym k.1.2)
+is_same w (events.Deliver flight node cost) m n xs ys h k =
+    (sym h.0 ∙ k.0, h.1.2 ∙ ap (λ (f : Flight). f.octets) (same_Some h.1.0 k.1.0 (sym h.1.1 ∙ k.1.1)) ∙ sym k.1.2)
 is_same w (events.Inject node cost own) m n xs ys h k = (sym h.0 ∙ k.0, sym h.1 ∙ k.1)
 is_same w _ m n xs ys h k = absurd (h)
 
@@ -308,7 +320,8 @@ pub told_counted : {A : Type 0} (ciphers : Ciphers) (w u : World) (number : ℕ)
 unfolding told
 told_counted ciphers w u number d c = record { events = c.events; sends = c.sends; ups = c.ups; forged = c.forged; done = c.done }
 
-pub told_flights : {A : Type 0} (ciphers : Ciphers) (u : World) (number : ℕ) (d : NodeStep A) → length (told ciphers u number d).flights ≡ length u.flights + length d.frames
+pub told_flights : {A : Type 0} (ciphers : Ciphers) (u : World) (number : ℕ) (d : NodeStep A)
+    → length (told ciphers u number d).flights ≡ length u.flights + length d.frames
 unfolding told
 told_flights ciphers u number d = length-append u.flights (flights_of ciphers number d) ∙ ap (λ n. length u.flights + n) (length-map d.frames _)
 
@@ -328,7 +341,8 @@ none_at place tag opened none e = nothing place (sym (ap (λ xs. slice_get xs pl
 module _ (ciphers : Ciphers) (w : World) where
   -- what is said where nothing was heard
   abbrev quiet_trace : Happenings → List PairTag → List PairTag → Trace
-  quiet_trace h made opened = record { happened = h; sent = None; issued = []; taken = None; done = None; made = made; opened = opened; further = nothing_further }
+  quiet_trace h made opened =
+      record { happened = h; sent = None; issued = []; taken = None; done = None; made = made; opened = opened; further = nothing_further }
 
   abbrev pub NoneCame : Event → Type 0
   NoneCame event = (octets : List ℕ) (key : Key) → AcceptsSealed ciphers w event octets key → ⊥
@@ -336,14 +350,16 @@ module _ (ciphers : Ciphers) (w : World) where
   pub unbrought : (event : Event) → (IsBrought event → ⊥) → NoneCame event
   unbrought event quiet octets key a = quiet (comes_brought w event a.number octets a.comes)
 
-  pub unforged : (event : Event) (forged : Bool) (opened : List PairTag) → forged ≡ false → opened ≡ [] → NoneCame event → (forged ≡ true) ↔ IsForged ciphers w event opened
+  pub unforged : (event : Event) (forged : Bool) (opened : List PairTag) → forged ≡ false → opened ≡ [] → NoneCame event
+      → (forged ≡ true) ↔ IsForged ciphers w event opened
   unforged event forged opened not_it none came = (λ e. absurd (false_true (sym not_it ∙ e)), never)
     where
       never : IsForged ciphers w event opened → forged ≡ true
       never (ByFrame octets key a unflown) = absurd (came octets key a)
       never (ByTag place tag there unmade) = absurd (none_at place tag opened none there)
 
-  pub quiet_adds : (number : ℕ) (event : Event) (v : World) (h : Happenings) (made opened : List PairTag) → h.forged ≡ false → h.up ≡ None → Counted w v → h.first_flight ≡ length w.flights + 1 → length v.flights ≡ length w.flights + h.flights → v.made ≡ w.made ++ made
+  pub quiet_adds : (number : ℕ) (event : Event) (v : World) (h : Happenings) (made opened : List PairTag) → h.forged ≡ false → h.up ≡ None → Counted w v
+      → h.first_flight ≡ length w.flights + 1 → length v.flights ≡ length w.flights + h.flights → v.made ≡ w.made ++ made
       → Adds w (entry number event (v, quiet_trace h made opened))
   quiet_adds number event v h made opened unforged_is none c first flights made_is = record {
     events = c.events;
@@ -356,7 +372,8 @@ module _ (ciphers : Ciphers) (w : World) where
     made = made_is;
   }
 
-  quiet_traced : (number : ℕ) (event : Event) (v : World) (h : Happenings) (made opened : List PairTag) → Plain h.answer → h.up ≡ None → h.took ≡ None → h.done ≡ None → IsTracedSo w (entry number event (v, quiet_trace h made opened))
+  quiet_traced : (number : ℕ) (event : Event) (v : World) (h : Happenings) (made opened : List PairTag) → Plain h.answer → h.up ≡ None → h.took ≡ None
+      → h.done ≡ None → IsTracedSo w (entry number event (v, quiet_trace h made opened))
   quiet_traced number event v h made opened p up took done = record {
     sent = sym p.0;
     send = tt;
@@ -371,8 +388,10 @@ module _ (ciphers : Ciphers) (w : World) where
     none_issued = λ e. refl;
   }
 
-  pub quiet_right : (number : ℕ) (event : Event) (v : World) (h : Happenings) (made opened : List PairTag) → Plain h.answer → h.forged ≡ false → h.up ≡ None → h.took ≡ None → h.done ≡ None → opened ≡ [] → NoneCame event
-      → Counted w v → h.first_flight ≡ length w.flights + 1 → length v.flights ≡ length w.flights + h.flights → v.made ≡ w.made ++ made → Right ciphers w (entry number event (v, quiet_trace h made opened))
+  pub quiet_right : (number : ℕ) (event : Event) (v : World) (h : Happenings) (made opened : List PairTag) → Plain h.answer → h.forged ≡ false → h.up ≡ None
+      → h.took ≡ None → h.done ≡ None → opened ≡ [] → NoneCame event
+      → Counted w v → h.first_flight ≡ length w.flights + 1 → length v.flights ≡ length w.flights + h.flights → v.made ≡ w.made ++ made
+      → Right ciphers w (entry number event (v, quiet_trace h made opened))
   quiet_right number event v h made opened p not_it up took done none came c first flights made_is = record {
     adds = quiet_adds number event v h made opened not_it up c first flights made_is;
     traced = quiet_traced number event v h made opened p up took done;
@@ -380,16 +399,22 @@ module _ (ciphers : Ciphers) (w : World) where
   }
 
   -- a word, and nothing sent or made
-  pub still_right : (number : ℕ) (event : Event) (v : World) (answer : Answer) → Plain answer → NoneCame event → Counted w v → length v.flights ≡ length w.flights + 0 → v.made ≡ w.made ++ []
+  pub still_right : (number : ℕ) (event : Event) (v : World) (answer : Answer) → Plain answer → NoneCame event → Counted w v
+      → length v.flights ≡ length w.flights + 0 → v.made ≡ w.made ++ []
       → Right ciphers w (entry number event (v, trace_of (happened w answer)))
-  still_right number event v answer p came c flights made_is = quiet_right number event v (happened w answer) [] [] p refl refl refl refl refl came c refl flights made_is
+  still_right number event v answer p came c flights made_is =
+      quiet_right number event v (happened w answer) [] [] p refl refl refl refl refl came c refl flights made_is
 
-  pub acted_right : (n : ℕ) (event : Event) (number : ℕ) (d : NodeStep Answer) → Plain d.answer → d.opened ≡ [] → NoneCame event → Right ciphers w (entry n event (acted ciphers w number d))
-  acted_right n event number d p none came = quiet_right n event (told ciphers (ran w) number d) (record (happened w d.answer) { flights = length d.frames }) d.made d.opened p refl refl refl refl none came
+  pub acted_right : (n : ℕ) (event : Event) (number : ℕ) (d : NodeStep Answer) → Plain d.answer → d.opened ≡ [] → NoneCame event
+      → Right ciphers w (entry n event (acted ciphers w number d))
+  acted_right n event number d p none came = quiet_right n event (told ciphers (ran w) number d) (record (happened w d.answer) { flights = length d.frames })
+      d.made d.opened p refl refl refl refl none came
       (told_counted ciphers w (ran w) number d (ran_counted w)) refl (told_flights ciphers (ran w) number d) (told_made ciphers (ran w) number d)
 
-  none_told : {A : Type 0} (u : World) (number : ℕ) (d : NodeStep A) → d.frames ≡ [] → d.made ≡ [] → (length (told ciphers u number d).flights ≡ length u.flights + 0) × ((told ciphers u number d).made ≡ u.made ++ [])
-  none_told u number d frames made = (told_flights ciphers u number d ∙ ap (λ fs. length u.flights + length fs) frames, told_made ciphers u number d ∙ ap (λ ts. u.made ++ ts) made)
+  none_told : {A : Type 0} (u : World) (number : ℕ) (d : NodeStep A) → d.frames ≡ [] → d.made ≡ []
+      → (length (told ciphers u number d).flights ≡ length u.flights + 0) × ((told ciphers u number d).made ≡ u.made ++ [])
+  none_told u number d frames made =
+      (told_flights ciphers u number d ∙ ap (λ fs. length u.flights + length fs) frames, told_made ciphers u number d ∙ ap (λ ts. u.made ++ ts) made)
 
   none_twice : {A B : Type 0} (u : World) (a b : ℕ) (d : NodeStep A) (e : NodeStep B) → d.frames ≡ [] → d.made ≡ [] → e.frames ≡ [] → e.made ≡ []
       → (length (told ciphers (told ciphers u a d) b e).flights ≡ length u.flights + 0) × ((told ciphers (told ciphers u a d) b e).made ≡ u.made ++ [])
@@ -402,11 +427,13 @@ module _ (ciphers : Ciphers) (w : World) where
 
   -- # A send
 
-  sent_right : (n from to : ℕ) (datagram : List ℕ) (x : Node) (d : NodeStep Answer) → node_at w from ≡ Some x → (is_up d.answer ≡ false) × (is_took d.answer ≡ false) × (is_done d.answer ≡ false) × (is_issue d.answer ≡ false) → d.opened ≡ []
+  sent_right : (n from to : ℕ) (datagram : List ℕ) (x : Node) (d : NodeStep Answer) → node_at w from ≡ Some x
+      → (is_up d.answer ≡ false) × (is_took d.answer ≡ false) × (is_done d.answer ≡ false) × (is_issue d.answer ≡ false) → d.opened ≡ []
       → Right ciphers w (entry n (events.Send from to datagram) (sending ciphers w from to datagram (tag_of x) d))
   sent_right n from to datagram x d there p none = by_taken (is_taken d.answer) refl
     where
-      by_taken : (b : Bool) → is_taken d.answer ≡ b → Right ciphers w (entry n (events.Send from to datagram) (sent_if w from to datagram (tag_of x) b (acted ciphers w from d)))
+      by_taken : (b : Bool) → is_taken d.answer ≡ b
+          → Right ciphers w (entry n (events.Send from to datagram) (sent_if w from to datagram (tag_of x) b (acted ciphers w from d)))
       by_taken false e = acted_right n (events.Send from to datagram) from d (e, p.0, p.1, p.2, p.3) none (unbrought (events.Send from to datagram) (λ b. b))
       by_taken true e =
           let c = told_counted ciphers w (ran w) from d (ran_counted w) in
@@ -451,11 +478,13 @@ module _ (ciphers : Ciphers) (w : World) where
   handed_to event number c None = tt
   handed_to event number c (Some u) = c
 
-  taken_to : (event : Event) (number : ℕ) → ComesTo event number → (o : Option Agreed) → IfSome (option_map (λ (a : Agreed). record { node = number; agreed = a }) o) (λ (p : Pairing). ComesTo event p.node)
+  taken_to : (event : Event) (number : ℕ) → ComesTo event number → (o : Option Agreed)
+      → IfSome (option_map (λ (a : Agreed). record { node = number; agreed = a }) o) (λ (p : Pairing). ComesTo event p.node)
   taken_to event number c None = tt
   taken_to event number c (Some a) = c
 
-  took_same : (number : ℕ) (o : Option Agreed) → option_map (λ (a : Agreed). number) o ≡ option_map (λ (p : Pairing). p.node) (option_map (λ (a : Agreed). record { node = number; agreed = a }) o)
+  took_same : (number : ℕ) (o : Option Agreed)
+      → option_map (λ (a : Agreed). number) o ≡ option_map (λ (p : Pairing). p.node) (option_map (λ (a : Agreed). record { node = number; agreed = a }) o)
   took_same number None = refl
   took_same number (Some a) = refl
 
@@ -471,7 +500,8 @@ module _ (ciphers : Ciphers) (w : World) where
   forged_count true n = refl
   forged_count false n = omega arith
 
-  pub received_right : (n : ℕ) (event : Event) (number : ℕ) (octets : List ℕ) (forged : Bool) (d : NodeStep Reception) → Comes w event number octets → Fits d.answer → (forged ≡ true) ↔ IsForged ciphers w event d.opened
+  pub received_right : (n : ℕ) (event : Event) (number : ℕ) (octets : List ℕ) (forged : Bool) (d : NodeStep Reception) → Comes w event number octets
+      → Fits d.answer → (forged ≡ true) ↔ IsForged ciphers w event d.opened
       → Right ciphers w (entry n event (received ciphers w number forged d))
   received_right n event number octets forged d comes fits is =
       let c = told_counted ciphers w (ran w) number d (ran_counted w) in
@@ -518,7 +548,8 @@ module _ (ciphers : Ciphers) (w : World) where
   ok_same : (r : Result Accepted FrameRefusal) (a b : Accepted) → r ≡ Ok a → r ≡ Ok b → a ≡ b
   ok_same r a b e f = let both : Ok a ≡ Ok b = sym e ∙ f in cc (both)
 
-  module _ (event : Event) (number : ℕ) (x : Node) (octets : List ℕ) (got : Accepted) (there : node_at w number ≡ Some x) (comes : Comes w event number octets) (is : (accepting ciphers x octets).answer ≡ Ok got) where
+  module _ (event : Event) (number : ℕ) (x : Node) (octets : List ℕ) (got : Accepted) (there : node_at w number ≡ Some x) (comes : Comes w event number octets)
+      (is : (accepting ciphers x octets).answer ≡ Ok got) where
     -- the one frame that was accepted is this one
     one_frame : (own : List ℕ) (key : Key) → (a : AcceptsSealed ciphers w event own key) → (own ≡ octets) × (got.path ≡ paths.Sealed a.from a.to_all key)
     one_frame own key a =
@@ -529,17 +560,25 @@ module _ (ciphers : Ciphers) (w : World) where
         (same.1, ap (λ (z : Accepted). z.path) (sym this) ∙ a.path)
 
     forged_path : (p : Path) → got.path ≡ p → forged_by w octets p ≡ true → (opened : List PairTag) → IsForged ciphers w event opened
-    forged_path (paths.Sealed from all key) e t opened = ByFrame octets key (record { number = number; comes = comes; node = x; there = there; got = got; is = is; from = from; to_all = all; path = e }) (none_flew w.flights octets key t)
+    forged_path (paths.Sealed from all key) e t opened = ByFrame octets key
+        (record { number = number; comes = comes; node = x; there = there; got = got; is = is; from = from; to_all = all; path = e })
+        (none_flew w.flights octets key t)
     forged_path (paths.Up from) e t opened = absurd (false_true t)
     forged_path (paths.Down from) e t opened = absurd (false_true t)
 
-    pub forged_right : (opened : List PairTag) → ((forged_by w octets got.path || list_any (is_forged_tag w.made) opened) ≡ true) ↔ IsForged ciphers w event opened
-    forged_right opened = (λ e. ⊎_elim (λ t. forged_path got.path refl t opened) (λ t. let p = some_passes (is_forged_tag w.made) opened t in ByTag p.place p.one p.there (none_made w.made p.one p.is)) (or_parts_true _ _ e), back)
+    pub forged_right : (opened : List PairTag)
+        → ((forged_by w octets got.path || list_any (is_forged_tag w.made) opened) ≡ true) ↔ IsForged ciphers w event opened
+    forged_right opened = (
+      λ e. ⊎_elim (λ t. forged_path got.path refl t opened)
+          (λ t. let p = some_passes (is_forged_tag w.made) opened t in ByTag p.place p.one p.there (none_made w.made p.one p.is)) (or_parts_true _ _ e),
+      back,
+    )
       where
         back : IsForged ciphers w event opened → (forged_by w octets got.path || list_any (is_forged_tag w.made) opened) ≡ true
         back (ByFrame own key a unflown) =
             let one = one_frame own key a in
-            or_left _ _ (subst (λ p. forged_by w octets p ≡ true) (sym one.1) (flew_none w.flights octets key (subst (λ z. NoneFlew w.flights z key) one.0 unflown)))
+            or_left _ _ (subst (λ p. forged_by w octets p ≡ true) (sym one.1)
+            (flew_none w.flights octets key (subst (λ z. NoneFlew w.flights z key) one.0 unflown)))
         back (ByTag place tag at unmade) = or_right _ _ (any_at (is_forged_tag w.made) opened place tag at (made_none w.made tag unmade))
 
   -- # Every event
@@ -548,7 +587,8 @@ module _ (ciphers : Ciphers) (w : World) where
   Good n event (Ok r) = Right ciphers w (entry n event r)
   Good n event (Err fault) = Unit {0}
 
-  send_unsaid : (r : Result SentHow SendRefusal) → (is_up (sent_word r) ≡ false) × (is_took (sent_word r) ≡ false) × (is_done (sent_word r) ≡ false) × (is_issue (sent_word r) ≡ false)
+  send_unsaid : (r : Result SentHow SendRefusal)
+      → (is_up (sent_word r) ≡ false) × (is_took (sent_word r) ≡ false) × (is_done (sent_word r) ≡ false) × (is_issue (sent_word r) ≡ false)
   send_unsaid (Ok how.Sent) = (refl, refl, refl, refl)
   send_unsaid (Ok how.Waiting) = (refl, refl, refl, refl)
   send_unsaid (Err reason) = let p = send_plain reason in (p.1, p.2, p.3, p.4)
@@ -561,7 +601,8 @@ module _ (ciphers : Ciphers) (w : World) where
   unfolding acts carry_out resting
   breaks_plain x a = by_memory x.memory
     where
-      by_memory : (o : Option Memory) → Plain (option_map_or (λ m. left_by x (carry_out x.store.records x.store.cut (changing said.Broken (with_station (calls.broke a m.station) m)))) o (stays x said.Halted)).answer
+      by_memory : (o : Option Memory) → Plain (option_map_or (λ m. left_by x
+          (carry_out x.store.records x.store.cut (changing said.Broken (with_station (calls.broke a m.station) m)))) o (stays x said.Halted)).answer
       by_memory None = (refl, refl, refl, refl, refl)
       by_memory (Some m) = (refl, refl, refl, refl, refl)
 
@@ -572,9 +613,12 @@ module _ (ciphers : Ciphers) (w : World) where
   allowed_plain : (r : Result ℕ CoordinatorRefusal) → Plain (ordered_word said.Allowed r)
   allowed_plain r = ordered_plain said.Allowed (refl, refl, refl, refl, refl) r
 
-  preset_none : (x : Node) (plan : _) → IsPreset plan → let d : NodeStep _ = acts x (Ok tt) (λ m. of_station m (plan m.station)) in (d.frames ≡ []) × (d.made ≡ [])
-  preset_none x plan (OfCounter value fits) = (acts_quiet x (Ok tt) _ (λ m. counter_quiet m.station value), (acts_untagged x (Ok tt) _ (λ m. counter_untagged m value)).0)
-  preset_none x plan (OfNumber value low fits) = (acts_quiet x (Ok tt) _ (λ m. number_quiet m.station value), (acts_untagged x (Ok tt) _ (λ m. number_untagged m value)).0)
+  preset_none : (x : Node) (plan : _) → IsPreset plan → let d : NodeStep _ = acts x (Ok tt) (λ m. of_station m (plan m.station)) in
+      (d.frames ≡ []) × (d.made ≡ [])
+  preset_none x plan (OfCounter value fits) =
+      (acts_quiet x (Ok tt) _ (λ m. counter_quiet m.station value), (acts_untagged x (Ok tt) _ (λ m. counter_untagged m value)).0)
+  preset_none x plan (OfNumber value low fits) =
+      (acts_quiet x (Ok tt) _ (λ m. number_quiet m.station value), (acts_untagged x (Ok tt) _ (λ m. number_untagged m value)).0)
 
   near_none : (x : Node) (to cost : ℕ) → ((offered_near x to cost w.clock).frames ≡ []) × ((offered_near x to cost w.clock).made ≡ [])
   near_none x to cost = (
@@ -583,39 +627,57 @@ module _ (ciphers : Ciphers) (w : World) where
   )
 
   depot_none : (c : Node) (x : Node) (psk : Key) → ((workshop c x.eui psk).frames ≡ []) × ((workshop c x.eui psk).made ≡ [])
-  depot_none c x psk = (acts_quiet c (Err orders.Halted) (λ m. coordinator_rules.depot m x.eui psk) (λ m. depot_quiet m x.eui psk), (acts_untagged c (Err orders.Halted) (λ m. coordinator_rules.depot m x.eui psk) (λ m. depot_untagged m x.eui psk)).0)
+  depot_none c x psk = (
+    acts_quiet c (Err orders.Halted) (λ m. coordinator_rules.depot m x.eui psk) (λ m. depot_quiet m x.eui psk),
+    (acts_untagged c (Err orders.Halted) (λ m. coordinator_rules.depot m x.eui psk) (λ m. depot_untagged m x.eui psk)).0,
+  )
 
   pub right : (event : Event) (s : Step) → IsStep ciphers w event s → (n : ℕ) → Good n event s
   right event s (Fails e fault) n = tt
-  right event s (Makes e x is) n = still_right n event (made_node w x).0 said.Made (refl, refl, refl, refl, refl) (unbrought event (made_quiet event x is)) (record { events = refl; sends = refl; ups = refl; forged = refl; done = refl }) (omega arith) (sym (append-nil w.made))
-  right event s (Rests e quiet) n = still_right n event (ran w) said.NoAddress (refl, refl, refl, refl, refl) (unbrought event quiet) (ran_counted w) (omega arith) (sym (append-nil w.made))
-  right event s (Shows number x) n = quiet_right n (events.Show number) (ran w) _ [] [] (refl, refl, refl, refl, refl) refl refl refl refl refl (unbrought (events.Show number) (λ b. b)) (ran_counted w) refl (omega arith) (sym (append-nil w.made))
+  right event s (Makes e x is) n = still_right n event (made_node w x).0 said.Made (refl, refl, refl, refl, refl) (unbrought event (made_quiet event x is))
+      (record { events = refl; sends = refl; ups = refl; forged = refl; done = refl }) (omega arith) (sym (append-nil w.made))
+  right event s (Rests e quiet) n =
+      still_right n event (ran w) said.NoAddress (refl, refl, refl, refl, refl) (unbrought event quiet) (ran_counted w) (omega arith) (sym (append-nil w.made))
+  right event s (Shows number x) n = quiet_right n (events.Show number) (ran w) _ [] [] (refl, refl, refl, refl, refl) refl refl refl refl refl
+      (unbrought (events.Show number) (λ b. b)) (ran_counted w) refl (omega arith) (sym (append-nil w.made))
   right event s (Acts e number x A halted plan reads there call word asked) n =
-      acted_right n event number (answering reads (acts x halted plan)) (word_plain A reads event word (acts x halted plan).answer) (acts_opened x halted plan (call_opened ciphers w number x A halted plan call)) (unbrought event (word_quiet A reads event word))
+      acted_right n event number (answering reads (acts x halted plan)) (word_plain A reads event word (acts x halted plan).answer)
+      (acts_opened x halted plan (call_opened ciphers w number x A halted plan call)) (unbrought event (word_quiet A reads event word))
   right event s (BreaksLink number next x a there call) n =
-      acted_right n (events.Break number next) number _ (breaks_plain x a) (acts_opened x said.Halted _ (call_opened ciphers w number x _ said.Halted _ call)) (unbrought (events.Break number next) (λ b. b))
+      acted_right n (events.Break number next) number _ (breaks_plain x a) (acts_opened x said.Halted _ (call_opened ciphers w number x _ said.Halted _ call))
+      (unbrought (events.Break number next) (λ b. b))
   right event s (SendsFrom from to datagram x a there call target) n =
-      sent_right n from to datagram x (answering sent_word (acts x (Err sends.Halted) (λ m. of_station m (calls.send m.station a datagram (w.sends + 1) w.clock)))) there (send_unsaid (acts x (Err sends.Halted) (λ m. of_station m (calls.send m.station a datagram (w.sends + 1) w.clock))).answer) (acts_opened x (Err sends.Halted) (λ m. of_station m (calls.send m.station a datagram (w.sends + 1) w.clock)) (call_opened ciphers w from x _ (Err sends.Halted) _ call))
+      sent_right n from to datagram x (answering sent_word (acts x (Err sends.Halted)
+      (λ m. of_station m (calls.send m.station a datagram (w.sends + 1) w.clock)))) there
+      (send_unsaid (acts x (Err sends.Halted) (λ m. of_station m (calls.send m.station a datagram (w.sends + 1) w.clock))).answer)
+      (acts_opened x (Err sends.Halted) (λ m. of_station m (calls.send m.station a datagram (w.sends + 1) w.clock))
+      (call_opened ciphers w from x _ (Err sends.Halted) _ call))
   right event s (AllowsMeter number y c psk there call meter) n =
       let d = acts c (Err orders.Halted) (λ m. coordinator_rules.allow m y.eui psk) in
-      let none = none_told (ran w) 0 d (acts_quiet c (Err orders.Halted) _ (λ m. allow_quiet m y.eui psk)) (acts_untagged c (Err orders.Halted) _ (λ m. allow_untagged m y.eui psk)).0 in
-      quiet_right n (events.Allow number) (told ciphers (ran w) 0 d) _ [] [] (allowed_plain d.answer) refl refl refl refl refl (unbrought (events.Allow number) (λ b. b)) (told_counted ciphers w (ran w) 0 d (ran_counted w)) refl none.0 none.1
+      let none = none_told (ran w) 0 d (acts_quiet c (Err orders.Halted) _ (λ m. allow_quiet m y.eui psk))
+      (acts_untagged c (Err orders.Halted) _ (λ m. allow_untagged m y.eui psk)).0 in
+      quiet_right n (events.Allow number) (told ciphers (ran w) 0 d) _ [] [] (allowed_plain d.answer) refl refl refl refl refl
+      (unbrought (events.Allow number) (λ b. b)) (told_counted ciphers w (ran w) 0 d (ran_counted w)) refl none.0 none.1
   right event s (Sets e quiet number x plan there open_is is) n =
       let d = acts x (Ok tt) (λ m. of_station m (plan m.station)) in
       let p = preset_none x plan is in
       let none = none_told (set_up w) number d p.0 p.1 in
-      still_right n event (told ciphers (set_up w) number d) said.Set (refl, refl, refl, refl, refl) (unbrought event quiet) (told_counted ciphers w (set_up w) number d (set_up_counted w)) none.0 none.1
+      still_right n event (told ciphers (set_up w) number d) said.Set (refl, refl, refl, refl, refl) (unbrought event quiet)
+      (told_counted ciphers w (set_up w) number d (set_up_counted w)) none.0 none.1
   right event s (SetsTwo e quiet a b cost x y p q hx hy apart open_is first second fresh near) n =
       let d = offered_near x q cost w.clock in
       let k = offered_near y p cost w.clock in
       let u = near_none x q cost in
       let v = near_none y p cost in
       let none = none_twice (set_up w) a b d k u.0 u.1 v.0 v.1 in
-      still_right n event _ said.Set (refl, refl, refl, refl, refl) (unbrought event quiet) (told_counted ciphers w _ b k (told_counted ciphers w (set_up w) a d (set_up_counted w))) none.0 none.1
+      still_right n event _ said.Set (refl, refl, refl, refl, refl) (unbrought event quiet)
+      (told_counted ciphers w _ b k (told_counted ciphers w (set_up w) a d (set_up_counted w))) none.0 none.1
   right event s (Provides number x c psk g d ne open_is hx hc pair same is) n =
       let k = acts x (Ok tt) (λ m. meters.provision m g) in
       let none = depot_none c x psk in
-      let both = none_twice (set_up w) 0 number d k (ap (λ (z : NodeStep _). z.frames) same ∙ none.0) (ap (λ (z : NodeStep _). z.made) same ∙ none.1) (acts_quiet x (Ok tt) (λ m. meters.provision m g) (λ m. install_quiet m.station g)) (acts_untagged x (Ok tt) (λ m. meters.provision m g) (λ m. provision_untagged m g)).0 in
+      let both = none_twice (set_up w) 0 number d k (ap (λ (z : NodeStep _). z.frames) same ∙ none.0) (ap (λ (z : NodeStep _). z.made) same ∙ none.1)
+      (acts_quiet x (Ok tt) (λ m. meters.provision m g) (λ m. install_quiet m.station g))
+      (acts_untagged x (Ok tt) (λ m. meters.provision m g) (λ m. provision_untagged m g)).0 in
       let counted = told_counted ciphers w _ number k (told_counted ciphers w (set_up w) 0 d (set_up_counted w)) in
       let one = none_told (set_up w) 0 d (ap (λ (z : NodeStep _). z.frames) same ∙ none.0) (ap (λ (z : NodeStep _). z.made) same ∙ none.1) in
       record {
@@ -648,10 +710,13 @@ module _ (ciphers : Ciphers) (w : World) where
       depot_at : (a b : ℕ) → events.Depot a ≡ events.Depot b → node_at w a ≡ Some x → node_at w b ≡ Some x
       depot_at a b e h = let same : a ≡ b = cc (e) in ap (node_at w) (sym same) ∙ h
   right event s (TurnsDown e number x octets reason d there says comes same is) n =
-      let quiet : d.frames ≡ [] = ap (λ (z : NodeStep _). z.frames) same ∙ acts_quiet x (Err frames.Halted) _ (λ m. accept_quiet m.station _ _ (accept_is m.station x.eui (arrived ciphers octets))) in
-      let bare : d.made ≡ [] = ap (λ (z : NodeStep _). z.made) same ∙ (acts_untagged x (Err frames.Halted) _ (λ m. accept_untagged m x.eui (arrived ciphers octets))).0 in
+      let quiet : d.frames ≡ [] = ap (λ (z : NodeStep _). z.frames) same
+      ∙ acts_quiet x (Err frames.Halted) _ (λ m. accept_quiet m.station _ _ (accept_is m.station x.eui (arrived ciphers octets))) in
+      let bare : d.made ≡ [] = ap (λ (z : NodeStep _). z.made) same
+      ∙ (acts_untagged x (Err frames.Halted) _ (λ m. accept_untagged m x.eui (arrived ciphers octets))).0 in
       let none = none_told (ran w) number d quiet bare in
-      still_right n event (told ciphers (ran w) number d) (frame_word reason) (frame_plain reason) turned (told_counted ciphers w (ran w) number d (ran_counted w)) none.0 none.1
+      still_right n event (told ciphers (ran w) number d) (frame_word reason) (frame_plain reason) turned
+      (told_counted ciphers w (ran w) number d (ran_counted w)) none.0 none.1
     where
       not_ok : (r : FrameRefusal) (got : Accepted) → Err r ≡ Ok got → ⊥
       not_ok r got e = cc
@@ -665,10 +730,16 @@ module _ (ciphers : Ciphers) (w : World) where
   right event s (Hears e number x octets cost got there says comes low is) n =
       let y = (accepting ciphers x octets).node in
       let d = hears ciphers y got cost (note_by w octets got.path) w.clock in
-      received_right n event number octets (forged_by w octets got.path || list_any (is_forged_tag w.made) d.opened) d comes (hears_fits ciphers y got cost (note_by w octets got.path) w.clock) (forged_right event number x octets got there comes is d.opened)
+      received_right n event number octets (forged_by w octets got.path || list_any (is_forged_tag w.made) d.opened) d comes
+      (hears_fits ciphers y got cost (note_by w octets got.path) w.clock) (forged_right event number x octets got there comes is d.opened)
   right event s (Loses number f there) n =
-      still_right n (events.Lose number) _ said.Lost (refl, refl, refl, refl, refl) (unbrought (events.Lose number) (λ b. b)) (record { events = refl; sends = refl; ups = refl; forged = refl; done = refl }) (length-set w.flights (number - 1) (record f { lost = true }) ∙ omega arith) (sym (append-nil w.made))
+      still_right n (events.Lose number) _ said.Lost (refl, refl, refl, refl, refl) (unbrought (events.Lose number) (λ b. b))
+      (record { events = refl; sends = refl; ups = refl; forged = refl; done = refl })
+      (length-set w.flights (number - 1) (record f { lost = true }) ∙ omega arith) (sym (append-nil w.made))
   right event s (Ticks seconds) n =
-      still_right n (events.Tick seconds) _ said.Ticked (refl, refl, refl, refl, refl) (unbrought (events.Tick seconds) (λ b. b)) (record { events = refl; sends = refl; ups = refl; forged = refl; done = refl }) (omega arith) (sym (append-nil w.made))
-  right event s (Restarts number x there) n = acted_right n (events.Restart number) number (restarts x) (restart_plain (memory_of x.role x.store.records)) refl (unbrought (events.Restart number) (λ b. b))
-  right event s (Cuts number nth keeps_new x there) n = acted_right n (events.Cut number nth keeps_new) number _ (refl, refl, refl, refl, refl) refl (unbrought (events.Cut number nth keeps_new) (λ b. b))
+      still_right n (events.Tick seconds) _ said.Ticked (refl, refl, refl, refl, refl) (unbrought (events.Tick seconds) (λ b. b))
+      (record { events = refl; sends = refl; ups = refl; forged = refl; done = refl }) (omega arith) (sym (append-nil w.made))
+  right event s (Restarts number x there) n = acted_right n (events.Restart number) number (restarts x) (restart_plain (memory_of x.role x.store.records)) refl
+      (unbrought (events.Restart number) (λ b. b))
+  right event s (Cuts number nth keeps_new x there) n =
+      acted_right n (events.Cut number nth keeps_new) number _ (refl, refl, refl, refl, refl) refl (unbrought (events.Cut number nth keeps_new) (λ b. b))

@@ -68,12 +68,14 @@ unfolding choose
 choose_untagged true p q e f = e
 choose_untagged false p q e f = f
 
-checked_untagged : {H F : Type 0} (ends : Ends F) (m : Memory) (fault : Option F) (p : Plan Memory (Result H F)) → Untagged p → Untagged (checked ends m fault p)
+checked_untagged : {H F : Type 0} (ends : Ends F) (m : Memory) (fault : Option F) (p : Plan Memory (Result H F)) → Untagged p
+    → Untagged (checked ends m fault p)
 unfolding checked resting
 checked_untagged ends m None p e = e
 checked_untagged ends m (Some reason) p e = (refl, refl)
 
-option_untagged : {A X : Type 0} (f : X → Plan Memory A) (o : Option X) (q : Plan Memory A) → ((x : X) → Untagged (f x)) → Untagged q → Untagged (option_map_or f o q)
+option_untagged : {A X : Type 0} (f : X → Plan Memory A) (o : Option X) (q : Plan Memory A) → ((x : X) → Untagged (f x)) → Untagged q
+    → Untagged (option_map_or f o q)
 option_untagged f None q e g = g
 option_untagged f (Some x) q e g = e x
 
@@ -85,7 +87,8 @@ changed_bare : (m : Memory) (e : BookEntry) → Bare (coordinators.changed m e)
 unfolding empty_draft coordinators.with_book_entry with_memory_by
 changed_bare m e = by_change (coordinators.changes m e)
   where
-    by_change : (b : Bool) → Bare (if b then with_memory_by (coordinators.without_session e.eui) (coordinators.with_book_entry e (empty_draft m)) else empty_draft m)
+    by_change : (b : Bool) → Bare (if b then with_memory_by (coordinators.without_session e.eui) (coordinators.with_book_entry e (empty_draft m))
+        else empty_draft m)
     by_change true = (refl, refl)
     by_change false = (refl, refl)
 
@@ -106,38 +109,51 @@ module _ (m : Memory) where
   refused_order H reason = refused_untagged H coordinators.orders m reason
 
   pub allow_untagged : (eui : Eui) (psk : Key) → Untagged (coordinators.allow m eui psk)
-  allow_untagged eui psk = choose_untagged (book.has_room m.book eui) _ _ (changed_bare m (book.allowed_entry eui psk (book.entry_for m.book eui))) (refused_order _ refusal.MetersFull)
+  allow_untagged eui psk = choose_untagged (book.has_room m.book eui) _ _ (changed_bare m (book.allowed_entry eui psk (book.entry_for m.book eui)))
+      (refused_order _ refusal.MetersFull)
 
   pub depot_untagged : (eui : Eui) (psk : Key) → Untagged (coordinators.depot m eui psk)
   depot_untagged eui psk =
       let d = coordinators.changed m (book.allowed_entry eui psk (book.entry_for m.book eui)) in
       choose_untagged (book.has_room m.book eui) _ _
-      (option_untagged (λ granted. option_map_or (λ e. sealing in_memory coordinators.orders (coordinators.with_book_entry (book.issued_entry eui granted e) d) granted) (book.allowed_one d.memory.book eui) (refused coordinators.orders m refusal.MetersFull))
+      (option_untagged (λ granted. option_map_or (λ e. sealing in_memory coordinators.orders (coordinators.with_book_entry (book.issued_entry eui granted e) d)
+      granted) (book.allowed_one d.memory.book eui) (refused coordinators.orders m refusal.MetersFull))
       (coordinators.grant_for d.memory eui) (refused coordinators.orders m refusal.MetersFull)
-      (λ granted. option_untagged (λ e. sealing in_memory coordinators.orders (coordinators.with_book_entry (book.issued_entry eui granted e) d) granted) (book.allowed_one d.memory.book eui) (refused coordinators.orders m refusal.MetersFull)
-      (λ e. entered_bare (book.issued_entry eui granted e) d (changed_bare m (book.allowed_entry eui psk (book.entry_for m.book eui)))) (refused_order _ refusal.MetersFull))
+      (λ granted. option_untagged (λ e. sealing in_memory coordinators.orders (coordinators.with_book_entry (book.issued_entry eui granted e) d) granted)
+      (book.allowed_one d.memory.book eui) (refused coordinators.orders m refusal.MetersFull)
+      (λ e. entered_bare (book.issued_entry eui granted e) d (changed_bare m (book.allowed_entry eui psk (book.entry_for m.book eui))))
+      (refused_order _ refusal.MetersFull))
       (refused_order _ refusal.MetersFull)) (refused_order _ refusal.MetersFull)
 
   pub rekey_untagged : (index : ℕ) (key : Key) → Untagged (coordinators.rekey m index key)
-  rekey_untagged index key = choose_untagged (option_map_or (λ (g : Granted). g.active == index) m.station.ring false) _ _ (refused_order _ refusal.IndexActive) (rung_bare m (ring.with_key m.station.ring index key))
+  rekey_untagged index key = choose_untagged (option_map_or (λ (g : Granted). g.active == index) m.station.ring false) _ _ (refused_order _ refusal.IndexActive)
+      (rung_bare m (ring.with_key m.station.ring index key))
 
   pub activate_self_untagged : (index : ℕ) → Untagged (coordinators.activate_self m index)
-  activate_self_untagged index = choose_untagged (is_some (ring.key_in_ring m.station.ring index)) _ _ (rung_bare m (ring.with_active m.station.ring index)) (refused_order _ refusal.NotHeld)
+  activate_self_untagged index = choose_untagged (is_some (ring.key_in_ring m.station.ring index)) _ _ (rung_bare m (ring.with_active m.station.ring index))
+      (refused_order _ refusal.NotHeld)
 
   pub challenge_untagged : (own eui : Eui) (now : ℕ) → Untagged (coordinators.challenge own m eui now)
   challenge_untagged own eui now = option_untagged (coordinators.challenge_at own m eui now) (coordinators.allowed_address m eui) _
       (λ to. checked_untagged coordinators.orders m _ _
       (option_untagged (λ value. coordinators.challenge_by own m to now (server_for eui own value)) (oldest m) _
-      (λ value. checked_untagged coordinators.orders m _ _ (sealed_untagged coordinators.orders m _ _ (commanded_bare to _ now _ (remembered_bare _ (empty_draft m) (begun_bare m))))) (refused_order _ refusal.NoRandom))) (refused_order _ refusal.NotAllowed)
+      (λ value. checked_untagged coordinators.orders m _ _ (sealed_untagged coordinators.orders m _ _
+      (commanded_bare to _ now _ (remembered_bare _ (empty_draft m) (begun_bare m))))) (refused_order _ refusal.NoRandom))) (refused_order _ refusal.NotAllowed)
 
   pub activate_untagged : (eui : Eui) (index now : ℕ) → Untagged (coordinators.activate m eui index now)
-  activate_untagged eui index now = option_untagged (λ e. option_map_or (coordinators.activate_by m e index now) (book.address_of m.book eui) (refused coordinators.orders m refusal.NotAllowed)) (coordinators.allowed_entry m eui) _
+  activate_untagged eui index now = option_untagged (λ e. option_map_or (coordinators.activate_by m e index now) (book.address_of m.book eui)
+      (refused coordinators.orders m refusal.NotAllowed)) (coordinators.allowed_entry m eui) _
       (λ e. option_untagged (coordinators.activate_by m e index now) (book.address_of m.book eui) _
-      (λ to. choose_untagged (coordinators.was_issued m e index) _ _ (checked_untagged coordinators.orders m _ _ (sealed_untagged coordinators.orders m _ _ (commanded_bare to _ now _ (begun_bare m)))) (refused_order _ refusal.NotIssued)) (refused_order _ refusal.NotAllowed)) (refused_order _ refusal.NotAllowed)
+      (λ to. choose_untagged (coordinators.was_issued m e index) _ _
+      (checked_untagged coordinators.orders m _ _ (sealed_untagged coordinators.orders m _ _ (commanded_bare to _ now _ (begun_bare m))))
+      (refused_order _ refusal.NotIssued)) (refused_order _ refusal.NotAllowed)) (refused_order _ refusal.NotAllowed)
 
   pub kick_untagged : (eui : Eui) → Untagged (coordinators.kick m eui)
-  kick_untagged eui = option_untagged (λ e. option_map_or (coordinators.kick_by m e) (book.address_of m.book eui) (refused coordinators.orders m refusal.NotAllowed)) (coordinators.allowed_entry m eui) _
-      (λ e. option_untagged (coordinators.kick_by m e) (book.address_of m.book eui) _ (λ to. by_route e to (is_some (next_hop m.station to) && nat_lt 0 (counters_left m.station))) (refused_order _ refusal.NotAllowed)) (refused_order _ refusal.NotAllowed)
+  kick_untagged eui = option_untagged (λ e. option_map_or (coordinators.kick_by m e) (book.address_of m.book eui)
+      (refused coordinators.orders m refusal.NotAllowed)) (coordinators.allowed_entry m eui) _
+      (λ e. option_untagged (coordinators.kick_by m e) (book.address_of m.book eui) _
+      (λ to. by_route e to (is_some (next_hop m.station to) && nat_lt 0 (counters_left m.station))) (refused_order _ refusal.NotAllowed))
+      (refused_order _ refusal.NotAllowed)
     where
       kicked : BookEntry → Draft Memory
       kicked e = with_memory_by (coordinators.without_session e.eui) (coordinators.with_book_entry (book.kicked_entry e.eui e) (empty_draft m))
@@ -155,14 +171,16 @@ abbrev AnyWord : RingWord → Type 0
 AnyWord w = ⊤
 
 -- a plan of words of a station
-made_untagged : (g : Given) (m : Memory) {H F : Type 0} {ends : Ends F} (p : Plan StationMemory (Result H F)) → Planned alone ends m.station Nothing (λ d (a : H). Made AnyWord g (empty_draft m.station) d × Few m.station d) p → Untagged (of_station m p)
+made_untagged : (g : Given) (m : Memory) {H F : Type 0} {ends : Ends F} (p : Plan StationMemory (Result H F))
+    → Planned alone ends m.station Nothing (λ d (a : H). Made AnyWord g (empty_draft m.station) d × Few m.station d) p → Untagged (of_station m p)
 unfolding resting empty_draft
 made_untagged g m p (Refuses reason) = (refl, refl)
 made_untagged g m p (Keeps n answer k) = absurd k
 made_untagged g m p (Ended d answer done left) = made_tags AnyWord g (empty_draft m.station) d done.0
 
 pub send_untagged : (m : Memory) (to : ℕ) (datagram : List ℕ) (note now : ℕ) → Untagged (of_station m (calls.send m.station to datagram note now))
-send_untagged m to datagram note now = made_untagged (call_given 0 note now) m _ (send_is AnyWord (call_given 0 note now) m.station to datagram (λ some short. tt))
+send_untagged m to datagram note now =
+    made_untagged (call_given 0 note now) m _ (send_is AnyWord (call_given 0 note now) m.station to datagram (λ some short. tt))
 
 pub near_untagged : (m : Memory) (to cost now : ℕ) → Untagged (of_station m (calls.preset_near m.station to cost now))
 near_untagged m to cost now = made_untagged (near_given to cost now) m _ (near_is AnyWord (near_given to cost now) m.station to refl)
@@ -183,7 +201,9 @@ pub random_untagged : (m : Memory) (value : Rand) → Untagged (give_random m va
 unfolding choose empty_draft resting with_memory_by
 random_untagged m value = by_room (nat_lt 7 (length m.randoms))
   where
-    by_room : (b : Bool) → let p : Plan Memory (Result (Unit {0}) RandomFault) = (if b then refused given_ends m RandomsFull else sealing in_memory given_ends (with_memory_by (λ n. record n { randoms = n.randoms ++ value ∷ [] }) (empty_draft m)) tt) in Untagged p
+    by_room : (b : Bool) → let p : Plan Memory (Result (Unit {0}) RandomFault) =
+        (if b then refused given_ends m RandomsFull
+        else sealing in_memory given_ends (with_memory_by (λ n. record n { randoms = n.randoms ++ value ∷ [] }) (empty_draft m)) tt) in Untagged p
     by_room true = (refl, refl)
     by_room false = (refl, refl)
 
@@ -202,11 +222,15 @@ accept_untagged m own a = accepting_untagged m a _ (accept_is m.station own a)
 
 -- # A node whose plan makes and finds none
 
-pub acts_untagged : {A : Type 0} (x : Node) (halted : A) (plan : Memory → Plan Memory A) → ((m : Memory) → Untagged (plan m)) → ((acts x halted plan).made ≡ []) × ((acts x halted plan).opened ≡ [])
+pub acts_untagged : {A : Type 0} (x : Node) (halted : A) (plan : Memory → Plan Memory A) → ((m : Memory) → Untagged (plan m))
+    → ((acts x halted plan).made ≡ []) × ((acts x halted plan).opened ≡ [])
 unfolding acts
 acts_untagged {A = A} x halted plan none = by_memory x.memory
   where
-    by_memory : (o : Option Memory) → let d : NodeStep A = option_map_or (λ m. left_by x (carry_out x.store.records x.store.cut (plan m))) o (stays x halted) in (d.made ≡ []) × (d.opened ≡ [])
+    by_memory : (o : Option Memory) → let d : NodeStep A = option_map_or (λ m. left_by x (carry_out x.store.records x.store.cut (plan m))) o (stays x halted) in
+        (d.made ≡ []) × (d.opened ≡ [])
     by_memory None = (refl, refl)
-    by_memory (Some m) = ⊎_elim (λ (w : IsWhole x.store.records x.store.cut (plan m) (carry_out x.store.records x.store.cut (plan m))). (w.made ∙ (none m).0, w.opened ∙ (none m).1))
-        (λ (c : IsCutOff x.store.records x.store.cut (plan m) (carry_out x.store.records x.store.cut (plan m))). (c.made, c.opened ∙ (none m).1)) (clean x.store.records x.store.cut (plan m))
+    by_memory (Some m) = ⊎_elim (λ (w : IsWhole x.store.records x.store.cut (plan m) (carry_out x.store.records x.store.cut (plan m))).
+        (w.made ∙ (none m).0, w.opened ∙ (none m).1))
+        (λ (c : IsCutOff x.store.records x.store.cut (plan m) (carry_out x.store.records x.store.cut (plan m))). (c.made, c.opened ∙ (none m).1))
+        (clean x.store.records x.store.cut (plan m))

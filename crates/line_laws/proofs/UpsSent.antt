@@ -22,7 +22,8 @@ pub record Sound (w : World) (before : List Entry) : Type 0 where
   pub ranged : WorldRanged w
   pub keyed : Keyed w (issued before)
 
-pub owed_at : (w : World) (before : List Entry) → Sound w before → (x : Entry) → IsEvent x.event → step network w x.event ≡ Ok (x.after, x.trace) → Owed network live w x
+pub owed_at : (w : World) (before : List Entry) → Sound w before → (x : Entry) → IsEvent x.event → step network w x.event ≡ Ok (x.after, x.trace)
+    → Owed network live w x
 owed_at w before o x says run =
     let fall : FlightsFall network w x = event_falls network network_ranges w o.ok o.speaks.flights (issued before) o.keyed x says run in
     record {

@@ -1,5 +1,6 @@
 -- A walk that is reported was taken: each ask that flies has walked what it says, in its order, and so has each tell.
-use Rattle.std.proofs.Common.{⊎_elim, ◌≡◌, ◌≢◌, ℕ, ◌+◌, ◌-◌, ◌≤◌, ◌<◌, Bool, true, false, List, [], ◌∷◌, ◌++◌, length, Option, Some, None, Result, Ok, Err, refl, sym, ap, ◌∙◌, subst, arith}
+use Rattle.std.proofs.Common.{⊎_elim, ◌≡◌, ◌≢◌, ℕ, ◌+◌, ◌-◌, ◌≤◌, ◌<◌, Bool, true, false, List, [], ◌∷◌, ◌++◌, length, Option, Some, None, Result, Ok, Err}
+use Rattle.std.proofs.Common.{refl, sym, ap, ◌∙◌, subst, arith}
 use Rattle.std.specs.Prelude.{◌==◌, ◌||◌, All, IfSome, IfOk, if◌then◌else◌, is_some, nat_lt, position}
 use Rattle.std.specs.Option.{option_map_or, option_and_then}
 use Rattle.std.proofs.lemmas.Bool.{eq-eqb, eqb-true, lt-ltb, or_parts}
@@ -33,7 +34,8 @@ use Rattle.node_rules.specs.declared.refusal.Dropped.TheVariants as drops
 use Rattle.node_rules.specs.declared.refusal.LocalRefusal.{LocalRefusal}
 use Rattle.node_rules.specs.declared.refusal.LocalRefusal.TheVariants as locals
 use Rattle.node_rules.specs.Ciphers.{network}
-use Rattle.node_rules.specs.Drafts.{Draft, choose as choose_plan, checked as checked_plan, alone, counters_left, empty_draft, goes, refused, sealed, sealed_by, sealing}
+use Rattle.node_rules.specs.Drafts.{Draft, choose as choose_plan, checked as checked_plan, alone, counters_left, empty_draft, goes, refused, sealed, sealed_by}
+use Rattle.node_rules.specs.Drafts.{sealing}
 use Rattle.node_rules.specs.Frames.{Sent, to_all}
 use Rattle.node_rules.specs.Memory.{Memory, Node, address_of, node_address, node_route, station_route}
 use Rattle.node_rules.specs.MemoryDrafts.{in_memory, with_station}
@@ -58,7 +60,8 @@ use Rattle.reach_rules.specs.Beacons.{ChosenAgent, Discovering, begin_scan, choo
 use Rattle.pan_discovery.specs.Reading.{discovery_in}
 use Rattle.pan_discovery.specs.declared.message.Discovery.{Discovery}
 use Rattle.pan_discovery.specs.Agents.{kth_of}
-use Rattle.reach_rules.specs.Broadcasts.{admits_broadcast, broadcast, broadcast_ends, broadcast_fault, broadcast_from, datagram_fault, goes_further, hear_broadcast_in, hop_less, own_broadcast, with_broadcast_mark, with_broadcast_number}
+use Rattle.reach_rules.specs.Broadcasts.{admits_broadcast, broadcast, broadcast_ends, broadcast_fault, broadcast_from, datagram_fault, goes_further}
+use Rattle.reach_rules.specs.Broadcasts.{hear_broadcast_in, hop_less, own_broadcast, with_broadcast_mark, with_broadcast_number}
 use Rattle.reach_rules.specs.CheckedReplies.{acknowledges, hear_acknowledgement_in, message_of}
 use Rattle.reach_rules.specs.PathAsking.{ask_ends, ask_path, asks_by as asks_over, asks_from, follows_path, hear_path_in, path_word}
 use Rattle.reach_rules.specs.ReachingNodes.{Beside, Reaching, drop_it, in_reach, reach_ends, tells_neighbours}
@@ -69,7 +72,8 @@ use Rattle.line_events.specs.declared.event.Event.{Event}
 use Rattle.line_events.specs.declared.happenings.PathLine.{PathLine}
 use Rattle.line_rules.specs.Answers.{discovery_word, only, scan_word, sent_word}
 use Rattle.line_events.specs.Events.{AreEvents, IsEvent}
-use Rattle.line_rules.specs.Further.{acknowledged_if, acknowledging, adds_frames, asked, beacon_taken, beside_at, checked, commanded, discovery_flights, due, goes_toward, has_discovered, line_step, path_line, reaches, scanning, sends_nothing, step_by, with_beside, with_check}
+use Rattle.line_rules.specs.Further.{acknowledged_if, acknowledging, adds_frames, asked, beacon_taken, beside_at, checked, commanded, discovery_flights, due}
+use Rattle.line_rules.specs.Further.{goes_toward, has_discovered, line_step, path_line, reaches, scanning, sends_nothing, step_by, with_beside, with_check}
 use Rattle.line_rules.specs.FurtherRuns.{AreWalked, AreWalkedAfter, Nothing, Passes, StandIn, Takes, WasWalked, last_of, steps_taken, steps_toward}
 use Rattle.line_rules.specs.Logs.{LogsKept}
 use Rattle.line_rules.specs.Runs.{Entry, IsRun, events_of, one_of}
@@ -88,7 +92,8 @@ use Rattle.line_laws.proofs.LetterAccepts.{to_of}
 use Rattle.line_laws.proofs.OctetRuns.{SpeaksIn, WorldSpeaks, start_speaks}
 use Rattle.line_laws.proofs.OldUnits.{IsOldFrame, IsOldUnit, joins_old}
 use Rattle.line_laws.proofs.Readings.{network_ranges}
-use Rattle.line_laws.proofs.ReachSteps.{Asks, Bcasts, Checked, Chooses, Commands, Discovers, Fails, Hears, IsAccepted, IsReachStep, Known, Opens, Restarts, Rests, Scans, Ticks, Unbelieves, after_accepting, heard_node, reach_step_is}
+use Rattle.line_laws.proofs.ReachSteps.{Asks, Bcasts, Checked, Chooses, Commands, Discovers, Fails, Hears, IsAccepted, IsReachStep, Known, Opens, Restarts}
+use Rattle.line_laws.proofs.ReachSteps.{Rests, Scans, Ticks, Unbelieves, after_accepting, heard_node, reach_step_is}
 use Rattle.line_laws.proofs.Running.{start_ok}
 use Rattle.line_laws.proofs.SendsSay.{Both, acts_by, none_sealed, one_sealed, refused_by, sealed_by_plan}
 use Rattle.line_laws.proofs.Tellings as old

@@ -1,5 +1,6 @@
 -- What holds of a line of nodes, and that every event keeps it.
-use Rattle.std.proofs.Common.{◌≡◌, ◌≢◌, ⊎_elim, ℕ, zero, suc, ◌≤◌, ◌<◌, Bool, true, false, List, [], ◌∷◌, ◌++◌, length, map, set, Option, Some, None, refl, sym, ap, ◌∙◌, subst, arith}
+use Rattle.std.proofs.Common.{◌≡◌, ◌≢◌, ⊎_elim, ℕ, zero, suc, ◌≤◌, ◌<◌, Bool, true, false, List, [], ◌∷◌, ◌++◌, length, map, set, Option, Some, None, refl, sym}
+use Rattle.std.proofs.Common.{ap, ◌∙◌, subst, arith}
 use Rattle.std.specs.Prelude.{AllPairs, All, ◌==◌, slice_get}
 use Rattle.std.proofs.lemmas.Bool.{cases_eq, eqb-false, eqb-true}
 use Rattle.std.proofs.lemmas.List.{length-set}
@@ -32,12 +33,15 @@ within [] k x e = absurd (cc)
 within (y ∷ ys) zero x e = omega arith
 within (y ∷ ys) (suc k) x e = let less = within ys k x e in omega arith
 
-flights_none : {A : Type 0} (ciphers : Ciphers) (w : World) (number : ℕ) (d : NodeStep A) → w.flights ≡ [] → d.frames ≡ [] → (told ciphers w number d).flights ≡ []
+flights_none : {A : Type 0} (ciphers : Ciphers) (w : World) (number : ℕ) (d : NodeStep A) → w.flights ≡ [] → d.frames ≡ []
+    → (told ciphers w number d).flights ≡ []
 unfolding told
-flights_none ciphers w number d e f = ap (λ fs. fs ++ flights_of ciphers number d) e ∙ ap (λ frames. map (λ frame. flight_by number (spelled ciphers frame)) frames) f
+flights_none ciphers w number d e f =
+    ap (λ fs. fs ++ flights_of ciphers number d) e ∙ ap (λ frames. map (λ frame. flight_by number (spelled ciphers frame)) frames) f
 
 -- what a node did is told
-pub told_with : {A : Type 0} (ciphers : Ciphers) (w : World) (number : ℕ) (x : Node) (d : NodeStep A) → WorldOk w → node_at w number ≡ Some x → DidFits x d → Rising (told ciphers w number d) → (w.running ≡ false → d.frames ≡ []) → WorldOk (told ciphers w number d)
+pub told_with : {A : Type 0} (ciphers : Ciphers) (w : World) (number : ℕ) (x : Node) (d : NodeStep A) → WorldOk w → node_at w number ≡ Some x → DidFits x d
+    → Rising (told ciphers w number d) → (w.running ≡ false → d.frames ≡ []) → WorldOk (told ciphers w number d)
 unfolding told
 told_with ciphers w number x d ok there did rising still = record {
   nodes = All-set NodeOk w.nodes number d.node did.node ok.nodes;
@@ -45,7 +49,8 @@ told_with ciphers w number x d ok there did rising still = record {
   first = by_number (number == 0) refl;
   count = let same = length-set w.nodes number d.node in let few = ok.count in omega arith;
   rising = rising;
-  quiet = λ e. ap (λ fs. fs ++ flights_of ciphers number d) (ok.quiet e) ∙ ap (λ frames. map (λ frame. flight_by number (spelled ciphers frame)) frames) (still e);
+  quiet =
+      λ e. ap (λ fs. fs ++ flights_of ciphers number d) (ok.quiet e) ∙ ap (λ frames. map (λ frame. flight_by number (spelled ciphers frame)) frames) (still e);
 }
   where
     old : NodeFits x
@@ -76,8 +81,10 @@ none_rising w e = record {
     none_pairs i j d lt inside = absurd (omega arith)
 
 -- in the setup, where nothing flies yet
-pub told_fits : {A : Type 0} (ciphers : Ciphers) (w : World) (number : ℕ) (x : Node) (d : NodeStep A) → WorldOk w → node_at w number ≡ Some x → DidFits x d → w.flights ≡ [] → d.frames ≡ [] → WorldOk (told ciphers w number d)
-told_fits ciphers w number x d ok there did none still = told_with ciphers w number x d ok there did (none_rising (told ciphers w number d) (flies none still)) (λ e. still)
+pub told_fits : {A : Type 0} (ciphers : Ciphers) (w : World) (number : ℕ) (x : Node) (d : NodeStep A) → WorldOk w → node_at w number ≡ Some x → DidFits x d
+    → w.flights ≡ [] → d.frames ≡ [] → WorldOk (told ciphers w number d)
+told_fits ciphers w number x d ok there did none still =
+    told_with ciphers w number x d ok there did (none_rising (told ciphers w number d) (flies none still)) (λ e. still)
   where
     flies : w.flights ≡ [] → d.frames ≡ [] → (told ciphers w number d).flights ≡ []
     flies e f = flights_none ciphers w number d e f
@@ -86,15 +93,22 @@ frontier_cap : (x : Node) → NodeOk x → frontier x ≤ 4294967295
 frontier_cap x ok = by_memory x.memory ok.kept
   where
     by_memory : (o : Option Memory) → Left (IsKept x.role) x.store.records o → next_of o x.store.records ≤ 4294967295
-    by_memory None k = let e = stored_limit-kept k.memory.station.counter x.store.records k.kept.station.counter in let fits = k.kept.station.range.counter in omega arith
+    by_memory None k =
+        let e = stored_limit-kept k.memory.station.counter x.store.records k.kept.station.counter in let fits = k.kept.station.range.counter in omega arith
     by_memory (Some m) k = let fits = k.station.range.counter in let below = k.station.counter.below in omega arith
 
-told_rising : {A : Type 0} (ciphers : Ciphers) → KeepsRanges ciphers → (w : World) (number : ℕ) (x : Node) (d : NodeStep A) → WorldOk w → node_at w number ≡ Some x → DidOk x d → Rising (told ciphers w number d)
+told_rising : {A : Type 0} (ciphers : Ciphers) → KeepsRanges ciphers → (w : World) (number : ℕ) (x : Node) (d : NodeStep A) → WorldOk w
+    → node_at w number ≡ Some x → DidOk x d → Rising (told ciphers w number d)
 unfolding told
-told_rising ciphers fits w number x d ok there did = record { below = below; pairs = grown.pairs; homes = All-append (λ (f : Flight). f.from < length (set w.nodes number d.node)) w.flights (flights_of ciphers number d) old_homes new_homes }
+told_rising ciphers fits w number x d ok there did = record {
+  below = below;
+  pairs = grown.pairs;
+  homes = All-append (λ (f : Flight). f.from < length (set w.nodes number d.node)) w.flights (flights_of ciphers number d) old_homes new_homes;
+}
   where
     grown : Grown ciphers fits number (w.flights ++ flights_of ciphers number d) (frontier d.node)
-    grown = grows ciphers fits number w.flights d.frames (frontier x) (frontier d.node) (frontier_cap d.node did.node) (record { pairs = ok.rising.pairs; below = ok.rising.below number x there }) did.rises
+    grown = grows ciphers fits number w.flights d.frames (frontier x) (frontier d.node) (frontier_cap d.node did.node)
+        (record { pairs = ok.rising.pairs; below = ok.rising.below number x there }) did.rises
 
     same : length (set w.nodes number d.node) ≡ length w.nodes
     same = length-set w.nodes number d.node
@@ -106,7 +120,8 @@ told_rising ciphers fits w number x d ok there did = record { below = below; pai
     here = let h = within w.nodes number x there in omega (arith, same)
 
     new_homes : All (λ (f : Flight). f.from < length (set w.nodes number d.node)) (flights_of ciphers number d)
-    new_homes = All-map (λ (f : Flight). f.from < length (set w.nodes number d.node)) (λ frame. flight_by number (spelled ciphers frame)) d.frames (λ k e lt. here)
+    new_homes =
+        All-map (λ (f : Flight). f.from < length (set w.nodes number d.node)) (λ frame. flight_by number (spelled ciphers frame)) d.frames (λ k e lt. here)
 
     others : (n : ℕ) → n ≢ number → (bound : ℕ) → All (IsBelow n bound) (flights_of ciphers number d)
     others n ne bound = All-map (IsBelow n bound) (λ frame. flight_by number (spelled ciphers frame)) d.frames (λ k e lt home. absurd (ne (sym home)))
@@ -114,20 +129,26 @@ told_rising ciphers fits w number x d ok there did = record { below = below; pai
     below : (n : ℕ) (y : Node) → slice_get (set w.nodes number d.node) n ≡ Some y → All (IsBelow n (frontier y)) (w.flights ++ flights_of ciphers number d)
     below n y is = ⊎_elim
         (λ (e : n ≡ number).
-        let got : d.node ≡ y = same_Some _ _ (sym (slice_get-set w.nodes number d.node (within w.nodes number x there)) ∙ ap (slice_get (set w.nodes number d.node)) (sym e) ∙ is) in
-        subst (λ k. All (IsBelow k (frontier y)) (w.flights ++ flights_of ciphers number d)) (sym e) (subst (λ (z : Node). All (IsBelow number (frontier z)) (w.flights ++ flights_of ciphers number d)) got grown.below))
-        (λ (e : n ≢ number). All-append (IsBelow n (frontier y)) w.flights (flights_of ciphers number d) (ok.rising.below n y (sym (slice_get-set_other w.nodes number n d.node e) ∙ is)) (others n e (frontier y))) (cases_eq n number)
+        let got : d.node ≡ y = same_Some _ _
+        (sym (slice_get-set w.nodes number d.node (within w.nodes number x there)) ∙ ap (slice_get (set w.nodes number d.node)) (sym e) ∙ is) in
+        subst (λ k. All (IsBelow k (frontier y)) (w.flights ++ flights_of ciphers number d)) (sym e)
+        (subst (λ (z : Node). All (IsBelow number (frontier z)) (w.flights ++ flights_of ciphers number d)) got grown.below))
+        (λ (e : n ≢ number). All-append (IsBelow n (frontier y)) w.flights (flights_of ciphers number d)
+        (ok.rising.below n y (sym (slice_get-set_other w.nodes number n d.node e) ∙ is)) (others n e (frontier y))) (cases_eq n number)
 
-pub told_ok : {A : Type 0} (ciphers : Ciphers) → KeepsRanges ciphers → (w : World) (number : ℕ) (x : Node) (d : NodeStep A) → WorldOk w → node_at w number ≡ Some x → DidOk x d → (w.running ≡ false → d.frames ≡ []) → WorldOk (told ciphers w number d)
+pub told_ok : {A : Type 0} (ciphers : Ciphers) → KeepsRanges ciphers → (w : World) (number : ℕ) (x : Node) (d : NodeStep A) → WorldOk w
+    → node_at w number ≡ Some x → DidOk x d → (w.running ≡ false → d.frames ≡ []) → WorldOk (told ciphers w number d)
 told_ok ciphers fits w number x d ok there did still =
-    told_with ciphers w number x d ok there (record { node = did.node; role = did.role; eui = did.eui; few = did.few; marked = did.marked }) (told_rising ciphers fits w number x d ok there did) still
+    told_with ciphers w number x d ok there (record { node = did.node; role = did.role; eui = did.eui; few = did.few; marked = did.marked })
+    (told_rising ciphers fits w number x d ok there did) still
 
 -- the same nodes and flights
 pub same_rising : (w v : World) → Rising w → v.nodes ≡ w.nodes → v.flights ≡ w.flights → Rising v
 same_rising w v r e f = record {
   below = λ number x there. subst (All (IsBelow number (frontier x))) (sym f) (r.below number x (sym (ap (λ ns. slice_get ns number) e) ∙ there));
   pairs = subst (AllPairs CounterRises) (sym f) r.pairs;
-  homes = subst (λ fs. All (λ (g : Flight). g.from < length v.nodes) fs) (sym f) (subst (λ ns. All (λ (g : Flight). g.from < length ns) w.flights) (sym e) r.homes);
+  homes = subst (λ fs. All (λ (g : Flight). g.from < length v.nodes) fs) (sym f)
+      (subst (λ ns. All (λ (g : Flight). g.from < length ns) w.flights) (sym e) r.homes);
 }
 
 -- clock and counts do not matter

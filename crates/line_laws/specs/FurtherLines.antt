@@ -155,5 +155,6 @@ TablesAreShort = (w : World) → WorldOk w → HaveShortTables w
 abbrev pub CallsKeepAll : Type 0
 CallsKeepAll =
     (w : World) (number : ℕ) (x : Node) (b : Beside) → w.running ≡ true → node_at w number ≡ Some x
-    → ((datagram : List ℕ) → AreOctets datagram → Keeps w (told network w number (reaches x b (Err broadcasts_by.Halted) (λ y. broadcast in_memory y datagram))))
+    → ((datagram : List ℕ) → AreOctets datagram
+    → Keeps w (told network w number (reaches x b (Err broadcasts_by.Halted) (λ y. broadcast in_memory y datagram))))
     × ((target : ℕ) → Keeps w (told network w number (reaches x b (Err asks_of.Halted) (λ y. ask_path in_memory y target))))

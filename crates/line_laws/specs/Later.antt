@@ -72,7 +72,8 @@ sends_plain frame x = record (stays x tt) { frames = frame ∷ [] }
 
 -- What holds of a world of the network that was reached with no event forged: with the keys that were issued, the sends and the joinings
 -- that were taken and what was handed up before it, and all the sends of its run. Home says at which address each node is.
-pub record Holds (given : List Issued) (sent : List Sending) (taken : List Pairing) (all : List Sending) (home : ℕ → ℕ) (ups : List Handed) (w : World) : Type 0 where
+pub record Holds (given : List Issued) (sent : List Sending) (taken : List Pairing) (all : List Sending) (home : ℕ → ℕ) (ups : List Handed)
+    (w : World) : Type 0 where
   -- stores, sizes, marks and counters
   pub line : WorldOk w
   pub octets : All FlightFits w.flights
@@ -176,7 +177,8 @@ unsent count w = record w { flights = take count w.flights }
 abbrev pub UnsentHolds : Type 0
 UnsentHolds =
     (given : List Issued) (sent : List Sending) (taken : List Pairing) (all : List Sending) (home : ℕ → ℕ) (ups : List Handed)
-    (w : World) (count : ℕ) → count ≤ length w.flights → w.running ≡ true → Holds given sent taken all home ups w → Holds given sent taken all home ups (unsent count w)
+    (w : World) (count : ℕ) → count ≤ length w.flights → w.running ≡ true → Holds given sent taken all home ups w
+    → Holds given sent taken all home ups (unsent count w)
 
 -- # What only further rules see
 

@@ -118,7 +118,8 @@ pub record SealedOnce (v : World) (number : ℕ) (octets : List ℕ) (node : Nod
 abbrev pub LineNodesAcceptOnce : Type 0
 LineNodesAcceptOnce =
     (ciphers : Ciphers) → KeepsRanges ciphers → (w : World) → WorldOk w → All FlightFits w.flights → LogsKept w
-    → (x : Entry) → IsEvent x.event → line_step ciphers w x.event ≡ Ok (x.after, x.trace) → (octets : List ℕ) (key : Key) (a : AcceptsSealed ciphers w x.event octets key)
+    → (x : Entry) → IsEvent x.event → line_step ciphers w x.event ≡ Ok (x.after, x.trace)
+    → (octets : List ℕ) (key : Key) (a : AcceptsSealed ciphers w x.event octets key)
     → SealedOnce x.after a.number octets a.node
 
 -- # The history and the report

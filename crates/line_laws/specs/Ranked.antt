@@ -47,7 +47,8 @@ IsSmall number cost origin = (number < 2 ^ 16) × (cost < 2 ^ 16) × (origin < 2
 
 -- the rank is the node's own at cost 0, or what is held is that rank or beats it
 abbrev pub RankBacked : (ℕ → Type 0) → routing.Routing → (number cost origin : ℕ) → Type 0
-RankBacked At t number cost origin = (At origin × (cost ≡ 0)) ⊎ (IsAtLeast (routing.held t origin) (record { number = number; cost = cost }) × IsSmall number cost origin)
+RankBacked At t number cost origin =
+    (At origin × (cost ≡ 0)) ⊎ (IsAtLeast (routing.held t origin) (record { number = number; cost = cost }) × IsSmall number cost origin)
 
 -- a request and a reply offer a rank, an error none
 abbrev pub MessageBacked : (ℕ → Type 0) → routing.Routing → Message → Type 0
@@ -93,7 +94,8 @@ IsNearer h w next dest rank = (next ≡ dest) ⊎ Nearer h w next dest rank
 -- A flight is plain, or the spelling of a letter from its sender's address whose rank is the sender's own at cost 0, or backed by what the sender stores.
 pub data FlightBacked (ciphers : Ciphers) (h : Homes) (w : World) (f : Flight) : Type 0 where
   IsPlain : f.key ≡ None → FlightBacked ciphers h w f
-  IsLetter : (letter : Letter) (x : Node) → f.octets ≡ (spelled ciphers (Sealed letter)).octets → f.key ≡ Some letter.key → h f.from ≡ Some letter.from → node_at w f.from ≡ Some x
+  IsLetter : (letter : Letter) (x : Node) → f.octets ≡ (spelled ciphers (Sealed letter)).octets → f.key ≡ Some letter.key → h f.from ≡ Some letter.from
+      → node_at w f.from ≡ Some x
       → UnitBacked (At h f.from) (stored x) letter.unit → LetterRead ciphers letter → FlightBacked ciphers h w f
 
 -- A valid route is at a stored rank, and leads to its end or nearer.

@@ -1,7 +1,10 @@
 //! Laws of single events and moves of a line: each carried by a function that does nothing.
-ghost use Rattle.line_laws.specs.FurtherLines.{CallsKeepAll, CallsKeepTheLine, CommandsFit, CommandsKeepTheLine, DiscoveryKeepsTheLine, LineLogsHold, LineStepsHold, LineStepsRise, LineStepsSpell, LinesSpellBeacons, LogsFit, TablesAreShort};
-ghost use Rattle.line_laws.specs.Later.{BesideKeeps, CommandsMayBeSealed, DiscoveringKeeps, JoinedNodesSeal, KeepsInTurn, OthersMayNot, PlainKeeps, PlansSplit, RunningKeeps, SealingKeeps, StartHolds, StoringKeeps, UnsentHolds};
-ghost use Rattle.line_laws.specs.LineAccounts.{LineBooksGrow, LineFlightsFall, LineKicksShut, LineNodesAcceptOnce, LineRestartsAreRight, LineSendersAreRight, LineStepsShut, LineTagsRise, LineTracesRight};
+ghost use Rattle.line_laws.specs.FurtherLines.{CallsKeepAll, CallsKeepTheLine, CommandsFit, CommandsKeepTheLine, DiscoveryKeepsTheLine, LineLogsHold};
+ghost use Rattle.line_laws.specs.FurtherLines.{LineStepsHold, LineStepsRise, LineStepsSpell, LinesSpellBeacons, LogsFit, TablesAreShort};
+ghost use Rattle.line_laws.specs.Later.{BesideKeeps, CommandsMayBeSealed, DiscoveringKeeps, JoinedNodesSeal, KeepsInTurn, OthersMayNot, PlainKeeps, PlansSplit};
+ghost use Rattle.line_laws.specs.Later.{RunningKeeps, SealingKeeps, StartHolds, StoringKeeps, UnsentHolds};
+ghost use Rattle.line_laws.specs.LineAccounts.{LineBooksGrow, LineFlightsFall, LineKicksShut, LineNodesAcceptOnce, LineRestartsAreRight, LineSendersAreRight};
+ghost use Rattle.line_laws.specs.LineAccounts.{LineStepsShut, LineTagsRise, LineTracesRight};
 ghost use Rattle.line_laws.specs.OnePlan.{AcknowledgesInTurn, ChecksInTurn, CommandsInTurn, OthersInTurn, RepliesTakenAlike};
 
 /// Where a node seals a command alone of code 03, 04 or 05, under note 0 and with its next counter, as it seals each of its commands, all is

@@ -1,5 +1,6 @@
 -- The loops of a drill.
-use Rattle.std.proofs.Common.{◌≡◌, ℕ, suc, zero, ◌+◌, ◌-◌, ◌^◌, ◌<◌, ◌≤◌, ◌==◌, Bool, true, false, List, length, nat_lt, if◌then◌else◌, Option, Some, None, refl, sym, ap, subst, ◌∙◌, arith}
+use Rattle.std.proofs.Common.{◌≡◌, ℕ, suc, zero, ◌+◌, ◌-◌, ◌^◌, ◌<◌, ◌≤◌, ◌==◌, Bool, true, false, List, length, nat_lt, if◌then◌else◌, Option, Some, None}
+use Rattle.std.proofs.Common.{refl, sym, ap, subst, ◌∙◌, arith}
 use Rattle.std.specs.Prelude.{All, slice_get}
 use Rattle.std.specs.Option.{option_map, option_map_or}
 use Rattle.std.proofs.lemmas.Bool.{lt-ltb, ltb-true}
@@ -24,12 +25,14 @@ not_after event d full = by (nat_lt d.world.events MAX_EVENTS) refl
     by true is = absurd (let low = ltb-true d.world.events MAX_EVENTS is in omega (arith, low, full))
     by false is = refl
 
-pub is_after : (event : Event) (d : Drilling) (next : World) → d.world.events < MAX_EVENTS → world_by d.world (line_step network d.world event) ≡ next → record d { world = next } ≡ after event d
+pub is_after : (event : Event) (d : Drilling) (next : World) → d.world.events < MAX_EVENTS → world_by d.world (line_step network d.world event) ≡ next
+    → record d { world = next } ≡ after event d
 unfolding after
 is_after event d next room is = rw (lt-ltb d.world.events MAX_EVENTS room) (ap (λ (w : World). record d { world = w }) (sym is))
 
 -- a reading is one that a line can say
-pub says : (node zeros : ℕ) (shown octets : List ℕ) → node < 2 ^ 32 → shown ≡ octets → zeros ≤ 2044 → length octets ≡ 4 + zeros → All (λ x. x < 256) octets → IsEvent (events.Send node 0 shown)
+pub says : (node zeros : ℕ) (shown octets : List ℕ) → node < 2 ^ 32 → shown ≡ octets → zeros ≤ 2044 → length octets ≡ 4 + zeros → All (λ x. x < 256) octets
+    → IsEvent (events.Send node 0 shown)
 says node zeros shown octets number is few long all =
     let line : IsLineOctets octets = (omega (arith, long), omega (arith, long, few), all) in
     (number, omega arith, subst IsLineOctets (sym is) line)
@@ -75,18 +78,22 @@ no_flight None is = refl
 no_flight (Some f) is = absurd (cc)
 
 -- nor where none has the next number
-pub none_next : (turns meters : ℕ) (d : Drilling) → None ≡ option_map (λ (f : Flight). f.from) (flight_at d.world (d.drained + 1)) → drain_within turns meters d ≡ d
+pub none_next : (turns meters : ℕ) (d : Drilling) → None ≡ option_map (λ (f : Flight). f.from) (flight_at d.world (d.drained + 1))
+    → drain_within turns meters d ≡ d
 none_next turns meters d is = none_left turns meters d (no_flight (flight_at d.world (d.drained + 1)) is)
 
 one_by : (turns meters : ℕ) (d : Drilling) (from : ℕ) (o : Option Flight) → Some from ≡ option_map (λ (f : Flight). f.from) o
-    → option_map_or (λ f. drain_within turns meters (drain_one meters f d)) o d ≡ drain_within turns meters (record (bring_round meters (d.drained + 1) from d) { drained = d.drained + 1 })
+    → option_map_or (λ f. drain_within turns meters (drain_one meters f d)) o d
+    ≡ drain_within turns meters (record (bring_round meters (d.drained + 1) from d) { drained = d.drained + 1 })
 one_by turns meters d from None is = absurd (cc)
 one_by turns meters d from (Some f) is =
     let same : f.from ≡ from = cc in
     ap (λ n. drain_within turns meters (record (bring_round meters (d.drained + 1) n d) { drained = d.drained + 1 })) same
 
-pub one_more : (max turn meters : ℕ) (d new : Drilling) (from : ℕ) → turn < max → Some from ≡ option_map (λ (f : Flight). f.from) (flight_at d.world (d.drained + 1))
-    → new ≡ record (bring_round meters (d.drained + 1) from d) { drained = d.drained + 1 } → drain_within (max - turn) meters d ≡ drain_within (max - (turn + 1)) meters new
+pub one_more : (max turn meters : ℕ) (d new : Drilling) (from : ℕ) → turn < max
+    → Some from ≡ option_map (λ (f : Flight). f.from) (flight_at d.world (d.drained + 1))
+    → new ≡ record (bring_round meters (d.drained + 1) from d) { drained = d.drained + 1 }
+    → drain_within (max - turn) meters d ≡ drain_within (max - (turn + 1)) meters new
 unfolding drain_within
 one_more max turn meters d new from room is so =
     let left : max - turn ≡ suc (max - (turn + 1)) = omega (arith, room) in

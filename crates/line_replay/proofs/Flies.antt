@@ -8,9 +8,11 @@ pub flies_none : (w : World) (first : ℕ) (old : List ℕ) → old ≡ old ++ f
 unfolding flies_text
 flies_none w first old = let none : first - first ≡ 0 = omega arith in rw none (sym (append-nil old))
 
-pub flies_more : (w : World) (first number : ℕ) (old : List ℕ) → first ≤ number → (old ++ flies_text w first (number - first)) ++ flight_text w number ≡ old ++ flies_text w first ((number + 1) - first)
+pub flies_more : (w : World) (first number : ℕ) (old : List ℕ) → first ≤ number
+    → (old ++ flies_text w first (number - first)) ++ flight_text w number ≡ old ++ flies_text w first ((number + 1) - first)
 unfolding flies_text
 flies_more w first number old from =
     let more : (number + 1) - first ≡ suc (number - first) = omega arith in
     let here : number ≡ first + (number - first) = omega arith in
-    rw more (append_assoc old (flies_text w first (number - first)) (flight_text w number) ∙ ap (λ n. old ++ (flies_text w first (number - first) ++ flight_text w n)) here)
+    rw more (append_assoc old (flies_text w first (number - first)) (flight_text w number)
+    ∙ ap (λ n. old ++ (flies_text w first (number - first) ++ flight_text w n)) here)

@@ -1,12 +1,14 @@
 -- The quiet report is the full one without the lines of the flights.
-use Rattle.std.proofs.Common.{◌≡◌, ℕ, zero, suc, ◌+◌, ◌-◌, Bool, true, false, List, [], ◌∷◌, ◌++◌, length, codes, Option, Some, None, refl, sym, ◌∙◌, ap, append_assoc}
+use Rattle.std.proofs.Common.{◌≡◌, ℕ, zero, suc, ◌+◌, ◌-◌, Bool, true, false, List, [], ◌∷◌, ◌++◌, length, codes, Option, Some, None, refl, sym, ◌∙◌, ap}
+use Rattle.std.proofs.Common.{append_assoc}
 use Rattle.std.proofs.lemmas.List.{append-nil}
 use Rattle.line_driver.specs.Lines.{Line, lines}
 use Rattle.line_rules.specs.Worlds.{World, Flight, flight_at, start}
 use Rattle.line_rules.specs.Runs.{Entry}
 use Rattle.line_script.specs.Texts.{happened_text}
 use Rattle.line_replay.specs.Texts.{fly_by, flight_text, flies_text, sent_text, totals}
-use Rattle.line_replay.specs.Replay.{Taking, Skipped, Taken, Refused, taking, without_flights, report, entry_text, entries, entries_text, last_by, last_from, last_text}
+use Rattle.line_replay.specs.Replay.{Taking, Skipped, Taken, Refused, taking, without_flights, report, entry_text, entries, entries_text, last_by, last_from}
+use Rattle.line_replay.specs.Replay.{last_text}
 use Rattle.line_replay.proofs.ReportLines.{IsKept, none_kept, IsLeftOut, happened_kept, bad_kept, end_kept, fly_left_out}
 use Rattle.line_replay.proofs.Running.{report_by_entries}
 

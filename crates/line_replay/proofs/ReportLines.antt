@@ -1,5 +1,6 @@
 -- The lines of a report: each but a flight's is kept in a quiet report.
-use Rattle.std.proofs.Common.{◌≡◌, ℕ, ◌+◌, ◌<◌, ◌==◌, Bool, true, false, not, List, [], ◌∷◌, ◌++◌, codes, Option, Some, None, if◌then◌else◌, refl, sym, ◌∙◌, ap, append_assoc, arith}
+use Rattle.std.proofs.Common.{◌≡◌, ℕ, ◌+◌, ◌<◌, ◌==◌, Bool, true, false, not, List, [], ◌∷◌, ◌++◌, codes, Option, Some, None, if◌then◌else◌, refl, sym, ◌∙◌, ap}
+use Rattle.std.proofs.Common.{append_assoc, arith}
 use Rattle.std.specs.Fmt.{decimal}
 use Rattle.std.proofs.lemmas.Bool.{ne_eqb}
 use Rattle.hex.specs.Hex.{encode_lower}
@@ -21,8 +22,10 @@ use Rattle.line_script.specs.declared.report.Reason.{Reason}
 use Rattle.line_script.specs.declared.report.Reason.TheVariants as reasons
 use Rattle.line_script.specs.declared.report.Totals.{Totals}
 use Rattle.line_script.specs.AnswerWords.{answer_word, verdict_word}
-use Rattle.line_script.specs.NodeTexts.{address_word, index_word, next_word, head_text, key_text, route_text, routes_text, floor_text, floors_text, peer_text, peers_text, running_text, node_text}
-use Rattle.line_script.specs.Texts.{answer_text, forged_text, up_text, bup_text, agent_text, walk_text, path_text, further_text, grant_text, took_text, done_text, shown_text, details_text, happened_text, fly_text, reason_word, bad_text, end_text}
+use Rattle.line_script.specs.NodeTexts.{address_word, index_word, next_word, head_text, key_text, route_text, routes_text, floor_text, floors_text, peer_text}
+use Rattle.line_script.specs.NodeTexts.{peers_text, running_text, node_text}
+use Rattle.line_script.specs.Texts.{answer_text, forged_text, up_text, bup_text, agent_text, walk_text, path_text, further_text, grant_text, took_text}
+use Rattle.line_script.specs.Texts.{done_text, shown_text, details_text, happened_text, fly_text, reason_word, bad_text, end_text}
 use Rattle.line_replay.specs.Replay.{is_fly, rest_without, without_flights}
 use Rattle.line_replay.proofs.Inside.{IsInside, is_inside, inside, joined, decimal_has, decimal_inside, hex_inside}
 use Rattle.line_replay.proofs.AnswerLines.{answer_inside, verdict_inside}

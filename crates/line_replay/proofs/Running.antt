@@ -1,5 +1,6 @@
 -- What a run over the driver is as a replay.
-use Rattle.std.proofs.Common.{◌≡◌, ℕ, ◌+◌, ◌<◌, Bool, true, false, List, [], ◌∷◌, ◌++◌, nat_lt, if◌then◌else◌, Ok, Err, refl, sym, ◌∙◌, ap, subst, append_assoc, add-zero, arith}
+use Rattle.std.proofs.Common.{◌≡◌, ℕ, ◌+◌, ◌<◌, Bool, true, false, List, [], ◌∷◌, ◌++◌, nat_lt, if◌then◌else◌, Ok, Err, refl, sym, ◌∙◌, ap, subst, append_assoc}
+use Rattle.std.proofs.Common.{add-zero, arith}
 use Rattle.std.proofs.lemmas.Bool.{ltb-true, ltb-false}
 use Rattle.std.proofs.lemmas.List.Elements.{All-nil, All-cons}
 use Rattle.line_driver.specs.Lines.{Content, Text, Long, TooMuch, Line, lines}
@@ -25,7 +26,8 @@ use Rattle.line_script.specs.declared.report.Reason.TheVariants as reasons
 use Rattle.line_script.specs.Lines.{IsInRange}
 use Rattle.line_script.specs.Readings.{reading}
 use Rattle.line_script.proofs.Ranges.{reading_fits}
-use Rattle.line_replay.specs.Replay.{Taking, Skipped, Taken, Refused, step_taking, reading_taking, taking, Playing, entry_text, turn_by, turn_of, end_of, is_forged, outcome, report, entries_by, entries_from, entries, entries_text, last_by, last_from, last_text, forged_in}
+use Rattle.line_replay.specs.Replay.{Taking, Skipped, Taken, Refused, step_taking, reading_taking, taking, Playing, entry_text, turn_by, turn_of, end_of}
+use Rattle.line_replay.specs.Replay.{is_forged, outcome, report, entries_by, entries_from, entries, entries_text, last_by, last_from, last_text, forged_in}
 use Rattle.line_replay.specs.declared.status.Status.{Status}
 use Rattle.line_replay.specs.declared.status.Status.TheVariants as status
 use Rattle.line_replay.specs.Tool.{status_of, Ran, Names, is_whole}
@@ -43,7 +45,8 @@ step_goes w event (Err faults.Setup) said room is = tt
 step_goes w event (Err faults.Node) said room is = tt
 step_goes w event (Err faults.Flight) said room is = tt
 
-room_goes : (w : World) (event : Event) (b : Bool) → IsEvent event → nat_lt w.events MAX_EVENTS ≡ b → GoesOn w (if b then step_taking w event (line_step network w event) else Refused reasons.Events)
+room_goes : (w : World) (event : Event) (b : Bool) → IsEvent event → nat_lt w.events MAX_EVENTS ≡ b
+    → GoesOn w (if b then step_taking w event (line_step network w event) else Refused reasons.Events)
 room_goes w event true said room = step_goes w event (line_step network w event) said (ltb-true w.events MAX_EVENTS room) refl
 room_goes w event false said room = tt
 
@@ -59,7 +62,8 @@ taking_goes w TooMuch = tt
 taking_goes w Long = tt
 taking_goes w (Text octets) = reading_goes w (reading octets) (reading_fits octets)
 
-run_by : (w : World) (t : Taking) (rest : World → List Entry) → GoesOn w t → ((next : World) → IsRun network next (rest next)) → IsRun network w (entries_by w t rest)
+run_by : (w : World) (t : Taking) (rest : World → List Entry) → GoesOn w t → ((next : World) → IsRun network next (rest next))
+    → IsRun network w (entries_by w t rest)
 run_by w Skipped rest on all = all w
 run_by w (Taken x) rest on all = (on.1, on.2, on.3, all x.after)
 run_by w (Refused reason) rest on all = tt
@@ -68,7 +72,8 @@ run_from : (ls : List Line) (w : World) → IsRun network w (entries_from w ls)
 run_from [] w = tt
 run_from (line ∷ ls) w = run_by w (taking w line.content) (λ next. entries_from next ls) (taking_goes w line.content) (run_from ls)
 
-events_by : (w : World) (t : Taking) (rest : World → List Entry) → GoesOn w t → ((next : World) → AreEvents (events_of (rest next))) → AreEvents (events_of (entries_by w t rest))
+events_by : (w : World) (t : Taking) (rest : World → List Entry) → GoesOn w t → ((next : World) → AreEvents (events_of (rest next)))
+    → AreEvents (events_of (entries_by w t rest))
 events_by w Skipped rest on all = all w
 events_by w (Taken x) rest on all = All-cons IsEvent x.event (events_of (rest x.after)) on.0 (all x.after)
 events_by w (Refused reason) rest on all = All-nil IsEvent
@@ -86,16 +91,20 @@ entries_run octets ended = record { events = events_from (lines octets ended) st
 module _ (quiet : Bool) where
   text_by : (line : Line) (w : World) (t : Taking) (ended : Bool) (rest : Playing → Outcome Playing) (more : World → List Entry) (last : World → List ℕ)
       → ((next : World) → (rest (record { quiet = quiet; world = next })).text ≡ entries_text quiet (more next) ++ last next)
-      → (outcome_turn (record { quiet = quiet; world = w }) line (turn_by quiet line.number t) rest).text ≡ entries_text quiet (entries_by w t more) ++ last_by w line.number t last
+      → (outcome_turn (record { quiet = quiet; world = w }) line (turn_by quiet line.number t) rest).text
+      ≡ entries_text quiet (entries_by w t more) ++ last_by w line.number t last
   text_by line w Skipped ended rest more last all = all w
-  text_by line w (Taken x) ended rest more last all = ap (λ (l : List ℕ). entry_text quiet x ++ l) (all x.after) ∙ sym (append_assoc (entry_text quiet x) (entries_text quiet (more x.after)) (last x.after))
+  text_by line w (Taken x) ended rest more last all =
+      ap (λ (l : List ℕ). entry_text quiet x ++ l) (all x.after) ∙ sym (append_assoc (entry_text quiet x) (entries_text quiet (more x.after)) (last x.after))
   text_by line w (Refused reason) ended rest more last all = refl
 
-  text_from : (ls : List Line) (w : World) (ended : Bool) → (outcome_from turn_of end_of (record { quiet = quiet; world = w }) ls ended).text ≡ entries_text quiet (entries_from w ls) ++ last_from w ls ended
+  text_from : (ls : List Line) (w : World) (ended : Bool)
+      → (outcome_from turn_of end_of (record { quiet = quiet; world = w }) ls ended).text ≡ entries_text quiet (entries_from w ls) ++ last_from w ls ended
   unfolding outcome_from
   text_from [] w ended = refl
   text_from (line ∷ ls) w ended =
-      text_by line w (taking w line.content) ended (λ next. outcome_from turn_of end_of next ls ended) (λ next. entries_from next ls) (λ next. last_from next ls ended) (λ next. text_from ls next ended)
+      text_by line w (taking w line.content) ended (λ next. outcome_from turn_of end_of next ls ended) (λ next. entries_from next ls)
+      (λ next. last_from next ls ended) (λ next. text_from ls next ended)
 
   -- the report is the lines of the entries, and then the last line
   pub report_by_entries : (octets : List ℕ) (ended : Bool) → report quiet octets ended ≡ entries_text quiet (entries octets ended) ++ last_text octets ended
@@ -111,7 +120,8 @@ module _ (quiet : Bool) where
   not_ended number behind last is = cc
 
   counted_by : (line : Line) (w : World) (t : Taking) (rest : Playing → Outcome Playing) (more : World → List Entry) (last : Playing)
-      → ((next : World) → CountsRight next (more next) → (rest (record { quiet = quiet; world = next })).ending ≡ Ended last → CountedBehind next (more next) last)
+      → ((next : World) → CountsRight next (more next) → (rest (record { quiet = quiet; world = next })).ending ≡ Ended last
+      → CountedBehind next (more next) last)
       → CountsRight w (entries_by w t more)
       → (outcome_turn (record { quiet = quiet; world = w }) line (turn_by quiet line.number t) rest).ending ≡ Ended last
       → CountedBehind w (entries_by w t more) last
@@ -122,11 +132,14 @@ module _ (quiet : Bool) where
   same_last : (first last : Playing) → Ended first ≡ Ended last → first ≡ last
   same_last first last is = cc
 
-  counted_from : (last : Playing) (ls : List Line) (w : World) → CountsRight w (entries_from w ls) → (outcome_from turn_of end_of (record { quiet = quiet; world = w }) ls true).ending ≡ Ended last → CountedBehind w (entries_from w ls) last
+  counted_from : (last : Playing) (ls : List Line) (w : World) → CountsRight w (entries_from w ls)
+      → (outcome_from turn_of end_of (record { quiet = quiet; world = w }) ls true).ending ≡ Ended last → CountedBehind w (entries_from w ls) last
   unfolding outcome_from
-  counted_from last [] w right ends = ap (λ (p : Playing). p.world.forged) (sym (same_last (record { quiet = quiet; world = w }) last ends)) ∙ sym (add-zero w.forged)
+  counted_from last [] w right ends =
+      ap (λ (p : Playing). p.world.forged) (sym (same_last (record { quiet = quiet; world = w }) last ends)) ∙ sym (add-zero w.forged)
   counted_from last (line ∷ ls) w right ends =
-      counted_by line w (taking w line.content) (λ next. outcome_from turn_of end_of next ls true) (λ next. entries_from next ls) last (λ next. counted_from last ls next) right ends
+      counted_by line w (taking w line.content) (λ next. outcome_from turn_of end_of next ls true) (λ next. entries_from next ls) last
+      (λ next. counted_from last ls next) right ends
 
   none_told : (last : Playing) (n : ℕ) → is_forged last ≡ false → last.world.forged ≡ 0 + n → n ≡ 0
   none_told last n told counted = let low = ltb-false 0 last.world.forged told in omega (arith, low, counted)
@@ -134,10 +147,13 @@ module _ (quiet : Bool) where
   one_told : (last : Playing) (n : ℕ) → is_forged last ≡ true → last.world.forged ≡ 0 + n → 0 < n
   one_told last n told counted = let low = ltb-true 0 last.world.forged told in omega (arith, low, counted)
 
-  names_by : (source0 source1 : SourceState) (sink0 sink1 : SinkState) (b w : List ℕ) (last : Playing) (exit : Exit) (flag : Bool) → is_forged last ≡ flag → Comes (outcome quiet) last source0 source1 sink0 sink1 b w exit
+  names_by : (source0 source1 : SourceState) (sink0 sink1 : SinkState) (b w : List ℕ) (last : Playing) (exit : Exit) (flag : Bool) → is_forged last ≡ flag
+      → Comes (outcome quiet) last source0 source1 sink0 sink1 b w exit
       → CountsRight start (entries b true) → Names (status_of exit flag) (forged_in (entries b true))
-  names_by source0 source1 sink0 sink1 b w last exits.Fine false is comes right = none_told last (forged_in (entries b true)) is (counted_from last (lines b true) start right comes.1)
-  names_by source0 source1 sink0 sink1 b w last exits.Fine true is comes right = one_told last (forged_in (entries b true)) is (counted_from last (lines b true) start right comes.1)
+  names_by source0 source1 sink0 sink1 b w last exits.Fine false is comes right =
+      none_told last (forged_in (entries b true)) is (counted_from last (lines b true) start right comes.1)
+  names_by source0 source1 sink0 sink1 b w last exits.Fine true is comes right =
+      one_told last (forged_in (entries b true)) is (counted_from last (lines b true) start right comes.1)
   names_by source0 source1 sink0 sink1 b w last exits.BadScript flag is comes right = tt
   names_by source0 source1 sink0 sink1 b w last exits.ReadFault flag is comes right = tt
   names_by source0 source1 sink0 sink1 b w last exits.WriteFault flag is comes right = tt
@@ -146,12 +162,14 @@ module _ (quiet : Bool) where
   -- the status of a replay names a forged event exactly where its run has one
   pub names : {source0 source1 : SourceState} {sink0 sink1 : SinkState} {s : Status} (ran : Ran is_forged (outcome quiet) source0 source1 sink0 sink1 s)
       → CountsRight start (entries ran.drives.b true) → Names s (forged_in (entries ran.drives.b true))
-  names {source0} {source1} {sink0} {sink1} {s} ran right = subst (λ t. Names t (forged_in (entries ran.drives.b true))) (sym ran.status) (names_by source0 source1 sink0 sink1 ran.drives.b ran.drives.w ran.last ran.exit (is_forged ran.last) refl ran.drives.comes right)
+  names {source0} {source1} {sink0} {sink1} {s} ran right = subst (λ t. Names t (forged_in (entries ran.drives.b true))) (sym ran.status)
+      (names_by source0 source1 sink0 sink1 ran.drives.b ran.drives.w ran.last ran.exit (is_forged ran.last) refl ran.drives.comes right)
 
 -- ---- why a status came
 
 -- what a run over lines did, by its status
-pub ran_of : {M : Type 0} (judge : M → Bool) (outcome : List ℕ → Bool → Outcome M) {source0 source1 : SourceState} {sink0 sink1 : SinkState} (exit : Exit) (last : M) (flag : Bool) (s : Status) → s ≡ status_of exit flag → judge last ≡ flag
+pub ran_of : {M : Type 0} (judge : M → Bool) (outcome : List ℕ → Bool → Outcome M) {source0 source1 : SourceState} {sink0 sink1 : SinkState} (exit : Exit)
+    (last : M) (flag : Bool) (s : Status) → s ≡ status_of exit flag → judge last ≡ flag
     → Drives outcome last source0 source1 sink0 sink1 exit → Ran judge outcome source0 source1 sink0 sink1 s
 ran_of judge outcome exit last flag s of is d = record { exit = exit; last = last; drives = d; status = of ∙ ap (status_of exit) (sym is) }
 
@@ -165,8 +183,10 @@ whole_of exits.WriteFault flag whole = absurd (let no : false ≡ true → ⊥ =
 pub whole_exit : (exit : Exit) (flag : Bool) (s : Status) → s ≡ status_of exit flag → is_whole s ≡ true → exit ≡ exits.Fine
 whole_exit exit flag s of whole = whole_of exit flag (ap is_whole (sym of) ∙ whole)
 
-module _ {M : Type 0} {judge : M → Bool} {outcome : List ℕ → Bool → Outcome M} {source0 source1 : SourceState} {sink0 sink1 : SinkState} {s : Status} (ran : Ran judge outcome source0 source1 sink0 sink1 s) where
-  read_by : (exit : Exit) (flag : Bool) → Comes outcome ran.last source0 source1 sink0 sink1 ran.drives.b ran.drives.w exit → status_of exit flag ≡ status.ReadFault → SourceRose source0 source1
+module _ {M : Type 0} {judge : M → Bool} {outcome : List ℕ → Bool → Outcome M} {source0 source1 : SourceState} {sink0 sink1 : SinkState} {s : Status}
+    (ran : Ran judge outcome source0 source1 sink0 sink1 s) where
+  read_by : (exit : Exit) (flag : Bool) → Comes outcome ran.last source0 source1 sink0 sink1 ran.drives.b ran.drives.w exit
+      → status_of exit flag ≡ status.ReadFault → SourceRose source0 source1
   read_by exits.Fine false comes is = absurd (let no : status.Fine ≡ status.ReadFault → ⊥ = λ e. cc in no is)
   read_by exits.Fine true comes is = absurd (let no : status.Forged ≡ status.ReadFault → ⊥ = λ e. cc in no is)
   read_by exits.BadScript flag comes is = absurd (let no : status.BadScript ≡ status.ReadFault → ⊥ = λ e. cc in no is)
@@ -174,7 +194,8 @@ module _ {M : Type 0} {judge : M → Bool} {outcome : List ℕ → Bool → Outc
   read_by exits.WriteFault flag comes is = absurd (let no : status.WriteFault ≡ status.ReadFault → ⊥ = λ e. cc in no is)
   read_by exits.ReadFault flag comes is = comes.0
 
-  write_by : (exit : Exit) (flag : Bool) → Comes outcome ran.last source0 source1 sink0 sink1 ran.drives.b ran.drives.w exit → status_of exit flag ≡ status.WriteFault → SinkRose sink0 sink1
+  write_by : (exit : Exit) (flag : Bool) → Comes outcome ran.last source0 source1 sink0 sink1 ran.drives.b ran.drives.w exit
+      → status_of exit flag ≡ status.WriteFault → SinkRose sink0 sink1
   write_by exits.Fine false comes is = absurd (let no : status.Fine ≡ status.WriteFault → ⊥ = λ e. cc in no is)
   write_by exits.Fine true comes is = absurd (let no : status.Forged ≡ status.WriteFault → ⊥ = λ e. cc in no is)
   write_by exits.BadScript flag comes is = absurd (let no : status.BadScript ≡ status.WriteFault → ⊥ = λ e. cc in no is)

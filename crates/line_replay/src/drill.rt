@@ -1,7 +1,8 @@
 //! A large run out of one number: meters that join over up to three hops, send readings, and change their key.
 ghost use Rattle.std.specs.Prelude.{◌≡◌, ◌+◌, ◌<◌, ◌≤◌, min, length, All, IfOk, OnOk, string_bytes};
 ghost use Rattle.line_events.specs.Events.{AreOctets, IsEui, IsCost, IsEvent};
-ghost use Rattle.line_replay.specs.Drills.{wide, eui, parent, cost, reading, after, each, bring, bring_both, bring_round, drain, make_coordinator, make_meter, make, draw, join, send, read, challenge, activate, rekey, drill_from, drilled, drill_text, drill_text_of};
+ghost use Rattle.line_replay.specs.Drills.{wide, eui, parent, cost, reading, after, each, bring, bring_both, bring_round, drain, make_coordinator, make_meter};
+ghost use Rattle.line_replay.specs.Drills.{make, draw, join, send, read, challenge, activate, rekey, drill_from, drilled, drill_text, drill_text_of};
 
 use crate::report::totals;
 use line_events::{Event, MAX_EVENTS, StepFault};

@@ -1,6 +1,7 @@
 //! Frames in hexadecimal, one a line, and what each is.
 ghost use Rattle.std.specs.Prelude.{◌≡◌, ◌≤◌, length, IfOk, string_bytes, List, ℕ};
-ghost use Rattle.line_replay.specs.Shown.{frame_line, kind_word, payload_word, plain_text, head_text, fault_text, frame_text_by, shown_text, frames_text, show_turn, show_stops};
+ghost use Rattle.line_replay.specs.Shown.{frame_line, kind_word, payload_word, plain_text, head_text, fault_text, frame_text_by, shown_text, frames_text};
+ghost use Rattle.line_replay.specs.Shown.{show_turn, show_stops};
 ghost use Rattle.mac_frames.specs.Faults.{frame_fault};
 
 use crate::report::refuse;

@@ -1,5 +1,6 @@
 -- What each plan writes of the log.
-use Rattle.std.proofs.Common.{inl, inr, ◌≡◌, ◌≢◌, ℕ, ◌+◌, ◌≤◌, ◌<◌, Bool, true, false, List, [], ◌∷◌, ◌++◌, length, Option, Some, None, Result, Ok, Err, refl, sym, ap, ◌∙◌, subst, arith}
+use Rattle.std.proofs.Common.{inl, inr, ◌≡◌, ◌≢◌, ℕ, ◌+◌, ◌≤◌, ◌<◌, Bool, true, false, List, [], ◌∷◌, ◌++◌, length, Option, Some, None, Result, Ok, Err, refl}
+use Rattle.std.proofs.Common.{sym, ap, ◌∙◌, subst, arith}
 use Rattle.std.specs.Prelude.{if◌then◌else◌, ◌==◌, ◌||◌, nat_lt, nat_le, All, AllPairs, ◌^◌, set}
 use Rattle.std.specs.Option.{option_map, option_map_or}
 use Rattle.std.specs.FinMap.{get-empty}
@@ -67,7 +68,8 @@ use Rattle.reach_rules.specs.declared.refusal.BroadcastRefusal.TheVariants as br
 use Rattle.reach_rules.specs.declared.refusal.AskRefusal.TheVariants as asks_of
 use Rattle.reach_rules.specs.ReachingNodes.{Beside, Reaching, in_reach, nothing_beside, reach_ends, drop_it, remembers, tells_neighbours, with_checks}
 use Rattle.reach_rules.specs.CheckedReplies.{acknowledges, hear_acknowledgement, hear_acknowledgement_in}
-use Rattle.reach_rules.specs.Broadcasts.{broadcast, broadcast_from, broadcast_ends, broadcast_fault, datagram_fault, own_broadcast, with_broadcast_number, with_broadcast_mark, hop_less, goes_further, admits_broadcast, hear_broadcast, hear_broadcast_in, mark_fault}
+use Rattle.reach_rules.specs.Broadcasts.{broadcast, broadcast_from, broadcast_ends, broadcast_fault, datagram_fault, own_broadcast, with_broadcast_number}
+use Rattle.reach_rules.specs.Broadcasts.{with_broadcast_mark, hop_less, goes_further, admits_broadcast, hear_broadcast, hear_broadcast_in, mark_fault}
 use Rattle.reach_rules.specs.PathAsking.{ask_path, asks_from, asks_by, ask_ends, follows_path, hear_path, hear_path_in, next_toward, tells_path}
 use Rattle.reach_rules.specs.Receiving.{NeighbourCommand, hear_command, hear_command_at}
 use Rattle.reach_rules.specs.Beacons.{choose_agent, choosing_ends, joins_by}
@@ -87,30 +89,37 @@ accept_short l h own a = by_shape _ (accept_shape l own a)
     by_shape p (Stays answer) = h
     by_shape p (Marks from count accepted room) = record { marks = after_room (marks.room_for l.marks from count) refl room; ranks = h.ranks }
       where
-        after_room : (r : Result (Unit {0}) PeerFault) → marks.room_for l.marks from count ≡ r → IsAdmitted r → length (marks.kept_after l.marks from count) ≤ 64
+        after_room : (r : Result (Unit {0}) PeerFault) → marks.room_for l.marks from count ≡ r → IsAdmitted r
+            → length (marks.kept_after l.marks from count) ≤ 64
         after_room (Err fault) e a = absurd a
         after_room (Ok u) e a = peers_short l.marks from count (marks.place_of l.marks from) e h.marks
           where
             peers_short : (table : marks.Table) (from count : ℕ) (place : Option ℕ)
-                → option_map_or (λ p. if nat_le count (marks.peer_at table p).mark then Err Replayed else Ok tt) place (if length table == 64 then Err PeersFull else Ok (tt {0})) ≡ Ok (tt {0})
+                → option_map_or (λ p. if nat_le count (marks.peer_at table p).mark then Err Replayed else Ok tt) place
+                (if length table == 64 then Err PeersFull else Ok (tt {0})) ≡ Ok (tt {0})
                 → length table ≤ 64
-                → length (option_map_or (λ p. set table p (tables.advanced 0x0100 64 (marks.peer_at table p) from count)) place (table ++ tables.mark_ahead 0x0100 64 from count ∷ [])) ≤ 64
-            peers_short table from count (Some p) room k = let same = length-set table p (tables.advanced 0x0100 64 (marks.peer_at table p) from count) in omega arith
+                → length (option_map_or (λ p. set table p (tables.advanced 0x0100 64 (marks.peer_at table p) from count)) place
+                (table ++ tables.mark_ahead 0x0100 64 from count ∷ [])) ≤ 64
+            peers_short table from count (Some p) room k =
+                let same = length-set table p (tables.advanced 0x0100 64 (marks.peer_at table p) from count) in omega arith
             peers_short table from count None room k = by_room (length table == 64) refl room
               where
-                by_room : (b : Bool) → (length table == 64) ≡ b → (if b then Err PeersFull else Ok (tt {0})) ≡ Ok (tt {0}) → length (table ++ tables.mark_ahead 0x0100 64 from count ∷ []) ≤ 64
+                by_room : (b : Bool) → (length table == 64) ≡ b → (if b then Err PeersFull else Ok (tt {0})) ≡ Ok (tt {0})
+                    → length (table ++ tables.mark_ahead 0x0100 64 from count ∷ []) ≤ 64
                 by_room true e is = absurd (cc (is))
                 by_room false e is =
                     let other = eqb-false _ _ e in
                     let longer = length-append table (tables.mark_ahead 0x0100 64 from count ∷ []) in
                     omega arith
 
-pub acts_short : {A : Type 0} (x : Node) (halted : A) (plan : Memory → Plan Memory A) → ((m : Memory) → x.memory ≡ Some m → HasShortTables (plan m).memory.station)
+pub acts_short : {A : Type 0} (x : Node) (halted : A) (plan : Memory → Plan Memory A)
+    → ((m : Memory) → x.memory ≡ Some m → HasShortTables (plan m).memory.station)
     → (n : Memory) → (acts x halted plan).node.memory ≡ Some n → HasShortTables n.station
 unfolding acts carry_out
 acts_short {A} x halted plan short n e = by_memory x.memory refl e
   where
-    by_memory : (o : Option Memory) → x.memory ≡ o → (option_map_or (λ m. left_by x (carry_out x.store.records x.store.cut (plan m))) o (stays x halted)).node.memory ≡ Some n → HasShortTables n.station
+    by_memory : (o : Option Memory) → x.memory ≡ o
+        → (option_map_or (λ m. left_by x (carry_out x.store.records x.store.cut (plan m))) o (stays x halted)).node.memory ≡ Some n → HasShortTables n.station
     by_memory None is k = absurd (cc (is, k))
     by_memory (Some m) is k = by_done (write (plan m).puts x.store.cut x.store.records) (write (plan m).puts x.store.cut x.store.records).whole k
       where
@@ -143,7 +152,8 @@ pub tells_leave : (m : Memory) (reply : Reply) → LeavesLog (acknowledges in_me
 unfolding sealed resting goes empty_draft
 tells_leave m reply = by_left (nat_lt (counters_left m.station) 1)
   where
-    by_left : (b : Bool) → All IsBesideLog (if b then refused {H = Unit {0}} local_ends m.station local_ends.spent else sealing alone local_ends (local_draft m.station 3 (Some reply.to) (ack_spelling reply.number reply.origin)) tt).puts
+    by_left : (b : Bool) → All IsBesideLog (if b then refused {H = Unit {0}} local_ends m.station local_ends.spent
+        else sealing alone local_ends (local_draft m.station 3 (Some reply.to) (ack_spelling reply.number reply.origin)) tt).puts
     by_left true = All-nil IsBesideLog
     by_left false = counter_beside m.station.counter 1
 
@@ -180,20 +190,23 @@ unfolding choose
 either x true p q s t = s
 either x false p q s t = t
 
-sealed_leads : {H E : Type 0} (ends : Ends E) (x : Reaching Memory) (d : Draft (Reaching Memory)) (answer : H) → Leads x.beside.log d.puts d.memory.beside.log → PlanLeads x (sealed (in_reach in_memory) ends x d answer)
+sealed_leads : {H E : Type 0} (ends : Ends E) (x : Reaching Memory) (d : Draft (Reaching Memory)) (answer : H) → Leads x.beside.log d.puts d.memory.beside.log
+    → PlanLeads x (sealed (in_reach in_memory) ends x d answer)
 unfolding sealed
 sealed_leads ends x d answer leads = by_left (nat_lt (counters_left x.memory.station) (length d.units))
   where
     by_left : (b : Bool) → PlanLeads x (if b then refused ends x ends.spent else sealing (in_reach in_memory) ends d answer)
     by_left true = refused_leads ends x ends.spent
-    by_left false = record { leads = then_others x.beside.log d.memory.beside.log d.puts _ leads (counter_beside d.memory.memory.station.counter (length d.units)) }
+    by_left false =
+        record { leads = then_others x.beside.log d.memory.beside.log d.puts _ leads (counter_beside d.memory.memory.station.counter (length d.units)) }
 
 module _ (m : Memory) (b : Beside) where
   abbrev held : Reaching Memory
   held = record { memory = m; beside = b }
 
   -- an ask
-  told_leads : {H E : Type 0} (ends : Ends E) (to code : ℕ) (body : List ℕ) (answer : H) → PlanLeads held (sealed (in_reach in_memory) ends held (tells_neighbours to code body (empty_draft held)) answer)
+  told_leads : {H E : Type 0} (ends : Ends E) (to code : ℕ) (body : List ℕ) (answer : H)
+      → PlanLeads held (sealed (in_reach in_memory) ends held (tells_neighbours to code body (empty_draft held)) answer)
   unfolding tells_neighbours empty_draft
   told_leads ends to code body answer = sealed_leads ends held _ answer (still held)
 
@@ -218,14 +231,16 @@ module _ (m : Memory) (b : Beside) where
   broadcast_from_leads own datagram = by_fault (datagram_fault b.log datagram) refl
     where
       by_fault : (o : Option BroadcastRefusal) → datagram_fault b.log datagram ≡ o
-          → PlanLeads held (checked broadcast_ends held o (sealed (in_reach in_memory) broadcast_ends held (tells_neighbours to_all 4 (spelling (own_broadcast own b.log datagram)) (with_broadcast_number (empty_draft held))) (tt {0})))
+          → PlanLeads held (checked broadcast_ends held o (sealed (in_reach in_memory) broadcast_ends held
+          (tells_neighbours to_all 4 (spelling (own_broadcast own b.log datagram)) (with_broadcast_number (empty_draft held))) (tt {0})))
       by_fault (Some reason) e = refused_leads broadcast_ends held reason
       by_fault None e = sealed_leads broadcast_ends held _ (tt {0}) (number_leads b.log (number_left datagram e))
 
   pub broadcast_leads : (datagram : List ℕ) → PlanLeads held (broadcast in_memory held datagram)
   broadcast_leads datagram = by_address (address_of m.station)
     where
-      by_address : (o : Option ℕ) → PlanLeads held (option_map_or (λ own. broadcast_from in_memory held own datagram) o (refused broadcast_ends held broadcast_faults.NotJoined))
+      by_address : (o : Option ℕ) → PlanLeads held
+          (option_map_or (λ own. broadcast_from in_memory held own datagram) o (refused broadcast_ends held broadcast_faults.NotJoined))
       by_address None = refused_leads broadcast_ends held _
       by_address (Some own) = broadcast_from_leads own datagram
 
@@ -277,11 +292,13 @@ module _ (m : Memory) (b : Beside) where
       marked : Draft (Reaching Memory)
       marked = with_broadcast_mark c.origin c.number (empty_draft held)
 
-      by_hops : (t : Bool) → PlanLeads held (sealed (in_reach in_memory) reach_ends held (if t then marked else tells_neighbours to_all 4 (spelling (hop_less c)) marked) answer)
+      by_hops : (t : Bool) → PlanLeads held
+          (sealed (in_reach in_memory) reach_ends held (if t then marked else tells_neighbours to_all 4 (spelling (hop_less c)) marked) answer)
       by_hops true = sealed_leads reach_ends held _ answer leads
       by_hops false = sealed_leads reach_ends held _ answer leads
 
-  heard_in_leads : (own : ℕ) (o : Option Broadcast) → ((c : Broadcast) → o ≡ Some c → (c.origin < 0xFFFE) × (c.number < 2 ^ 32)) → PlanLeads held (hear_broadcast_in in_memory held own o)
+  heard_in_leads : (own : ℕ) (o : Option Broadcast) → ((c : Broadcast) → o ≡ Some c → (c.origin < 0xFFFE) × (c.number < 2 ^ 32))
+      → PlanLeads held (hear_broadcast_in in_memory held own o)
   unfolding checked
   heard_in_leads own None are = drops _
   heard_in_leads own (Some c) are = by_fault (broadcast_fault own b.log c) refl
@@ -293,12 +310,14 @@ module _ (m : Memory) (b : Beside) where
   at_leads : (own : ℕ) (c : NeighbourCommand) → AreOctets c.body → PlanLeads held (hear_command_at in_memory held own c)
   at_leads own c are =
       either held (c.code == 3) _ _ (either held c.to_all _ _ (drops _) (ack_in_leads c.from (ack_in c.body)))
-      (either held (c.code == 4) _ _ (either held c.to_all _ _ (heard_in_leads own (broadcast_in c.body) (λ a e. let s : Spells a c.body = broadcast_spelled a c.body are e in (s.0.origin, s.0.number))) (drops _))
+      (either held (c.code == 4) _ _ (either held c.to_all _ _
+      (heard_in_leads own (broadcast_in c.body) (λ a e. let s : Spells a c.body = broadcast_spelled a c.body are e in (s.0.origin, s.0.number))) (drops _))
       (either held (c.code == 5) _ _ (either held c.to_all _ _ (drops _) (path_leads own c.from (path_in c.body))) (drops _)))
 
   pub command_leads : (c : NeighbourCommand) → AreOctets c.body → PlanLeads held (hear_command in_memory held c)
   command_leads c are = by_address (address_of m.station)
     where
-      by_address : (o : Option ℕ) → PlanLeads held (option_map_or (λ own. hear_command_at in_memory held own c) o (drop_it held (reach_drops.Known drops_by.BadUnit)))
+      by_address : (o : Option ℕ) → PlanLeads held
+          (option_map_or (λ own. hear_command_at in_memory held own c) o (drop_it held (reach_drops.Known drops_by.BadUnit)))
       by_address None = drops _
       by_address (Some own) = at_leads own c are

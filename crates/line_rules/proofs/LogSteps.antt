@@ -1,6 +1,7 @@
 -- Each kind of event keeps the logs: what nodes without further reach write leaves them, and what further rules write leads from one log to
 -- another.
-use Rattle.std.proofs.Common.{inl, inr, ◌≡◌, ◌≢◌, ℕ, zero, suc, Bool, true, false, List, [], ◌∷◌, ◌++◌, length, Option, Some, None, Result, Ok, Err, refl, sym, ap, ◌∙◌, subst, arith}
+use Rattle.std.proofs.Common.{inl, inr, ◌≡◌, ◌≢◌, ℕ, zero, suc, Bool, true, false, List, [], ◌∷◌, ◌++◌, length, Option, Some, None, Result, Ok, Err, refl, sym}
+use Rattle.std.proofs.Common.{ap, ◌∙◌, subst, arith}
 use Rattle.std.specs.Prelude.{if◌then◌else◌, slice_get, slice_set, is_some, map, unwrap_or, All}
 use Rattle.std.specs.Option.{option_map, option_map_or}
 use Rattle.std.specs.FinMap.{get, insert}
@@ -57,7 +58,8 @@ set_aside (b ∷ bs) [] n c h e = absurd h
 set_aside (b ∷ bs) (x ∷ ns) zero c h e = (subst (λ (l : Log). NodeIn l x) (sym e) h.0, h.1)
 set_aside (b ∷ bs) (x ∷ ns) (suc n) c h e = (h.0, set_aside bs ns n c h.1 e)
 
-pub set_both : (bs : List Beside) (ns : List Node) (n : ℕ) (c : Beside) (y : Node) → AreLogged bs ns → NodeIn c.log y → AreLogged (slice_set bs n c) (slice_set ns n y)
+pub set_both : (bs : List Beside) (ns : List Node) (n : ℕ) (c : Beside) (y : Node) → AreLogged bs ns → NodeIn c.log y
+    → AreLogged (slice_set bs n c) (slice_set ns n y)
 set_both [] [] n c y h l = tt
 set_both [] (x ∷ ns) n c y h l = absurd h
 set_both (b ∷ bs) [] n c y h l = absurd h
@@ -70,7 +72,8 @@ one_more [] (x ∷ ns) c y h l = absurd h
 one_more (b ∷ bs) [] c y h l = absurd h
 one_more (b ∷ bs) (x ∷ ns) c y h l = (h.0, one_more bs ns c y h.1 l)
 
-pub all_changed : (f : Beside → Beside) (g : Node → Node) → ((b : Beside) (x : Node) → NodeIn b.log x → NodeIn (f b).log (g x)) → (bs : List Beside) (ns : List Node) → AreLogged bs ns → AreLogged (map f bs) (map g ns)
+pub all_changed : (f : Beside → Beside) (g : Node → Node) → ((b : Beside) (x : Node) → NodeIn b.log x → NodeIn (f b).log (g x))
+    → (bs : List Beside) (ns : List Node) → AreLogged bs ns → AreLogged (map f bs) (map g ns)
 all_changed f g one [] [] h = tt
 all_changed f g one [] (x ∷ ns) h = absurd h
 all_changed f g one (b ∷ bs) [] h = absurd h
@@ -82,7 +85,10 @@ pub moved : (log : Log) (r s : Records) → SameLog r s → IsLogIn log r → Is
 moved log r s same h = record {
   kept = record {
     numbering = record { limit = ap limit_in (same 6 (inl refl)) ∙ h.kept.numbering.limit; below = h.kept.numbering.below };
-    marks = record { short = h.kept.marks.short; each = λ place within. rw (same (slot_of marks place) (inr (omega arith, omega arith))) (h.kept.marks.each place within) };
+    marks = record {
+      short = h.kept.marks.short;
+      each = λ place within. rw (same (slot_of marks place) (inr (omega arith, omega arith))) (h.kept.marks.each place within);
+    };
   };
   fits = h.fits;
   sound = h.sound;
@@ -108,11 +114,13 @@ quiet_same x = record { same = λ slot is. refl; down = λ e. e }
 pub quiet_on : (x y z : Node) → Quiet x y → Quiet y z → Quiet x z
 quiet_on x y z q r = record { same = λ slot is. r.same slot is ∙ q.same slot is; down = λ e. r.down (q.down e) }
 
-pub acts_quiet : {A : Type 0} (x : Node) (halted : A) (plan : Memory → Plan Memory A) → ((m : Memory) → x.memory ≡ Some m → LeavesLog (plan m)) → Quiet x (acts x halted plan).node
+pub acts_quiet : {A : Type 0} (x : Node) (halted : A) (plan : Memory → Plan Memory A) → ((m : Memory) → x.memory ≡ Some m → LeavesLog (plan m))
+    → Quiet x (acts x halted plan).node
 unfolding acts
 acts_quiet x halted plan leaves = by_memory x.memory refl
   where
-    by_memory : (o : Option Memory) → x.memory ≡ o → Quiet x (option_map_or (λ m. node_left x (carry_out x.store.records x.store.cut (plan m))) o (stays x halted)).node
+    by_memory : (o : Option Memory) → x.memory ≡ o
+        → Quiet x (option_map_or (λ m. node_left x (carry_out x.store.records x.store.cut (plan m))) o (stays x halted)).node
     by_memory None e = quiet_same x
     by_memory (Some m) e = record { same = carrying_out_leaves_log x.store.records x.store.cut (plan m) (leaves m e); down = λ none. absurd (cc (e, none)) }
 
@@ -149,17 +157,20 @@ further_in {A} x b halted plan leads h = by_memory x.memory refl h
 
     by_memory : (o : Option Memory) → x.memory ≡ o → LogIn b.log x.store.records o → NodeIn (after o (held o).node.memory).log (held o).node
     by_memory None e k = subst (λ (p : Option Memory). LogIn b.log x.store.records p) (sym e) k
-    by_memory (Some m) e k = by_whole (write p.puts x.store.cut x.store.records) (left_by IsLogIn b.log p.memory.beside.log p.puts x.store.cut x.store.records k (leads m e))
+    by_memory (Some m) e k =
+        by_whole (write p.puts x.store.cut x.store.records) (left_by IsLogIn b.log p.memory.beside.log p.puts x.store.cut x.store.records k (leads m e))
       where
         p : Plan (Reaching Memory) A
         p = plan (record { memory = m; beside = b })
 
         by_whole : (o : Written) → Left IsLogIn o.whole p.memory.beside.log o.records
-            → let out : Outcome Memory A = outcome_of o (with_beside b plan m) in LogIn (if is_some out.memory then p.memory.beside else without_log b).log out.records out.memory
+            → let out : Outcome Memory A = outcome_of o (with_beside b plan m) in
+            LogIn (if is_some out.memory then p.memory.beside else without_log b).log out.records out.memory
         by_whole o l = by_done o.whole l
           where
             by_done : (t : Bool) → Left IsLogIn t p.memory.beside.log o.records
-                → let out : Outcome Memory A = (if t then finished o (with_beside b plan m) else cut_off o (with_beside b plan m)) in LogIn (if is_some out.memory then p.memory.beside else without_log b).log out.records out.memory
+                → let out : Outcome Memory A = (if t then finished o (with_beside b plan m) else cut_off o (with_beside b plan m)) in
+                LogIn (if is_some out.memory then p.memory.beside else without_log b).log out.records out.memory
             by_done true l = l
             by_done false l = l
 

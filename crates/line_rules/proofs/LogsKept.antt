@@ -1,5 +1,6 @@
 -- The walk over the kinds of events.
-use Rattle.std.proofs.Common.{◌≡◌, ◌≢◌, ℕ, ◌+◌, ◌≤◌, Bool, true, false, not, List, [], ◌∷◌, ◌++◌, length, Option, Some, None, Result, Ok, Err, refl, sym, ap, ◌∙◌, subst, arith}
+use Rattle.std.proofs.Common.{◌≡◌, ◌≢◌, ℕ, ◌+◌, ◌≤◌, Bool, true, false, not, List, [], ◌∷◌, ◌++◌, length, Option, Some, None, Result, Ok, Err, refl, sym, ap}
+use Rattle.std.proofs.Common.{◌∙◌, subst, arith}
 use Rattle.std.specs.Prelude.{if◌then◌else◌, ◌==◌, ◌||◌, nat_lt, slice_get, slice_set, is_some, map, unwrap_or, All}
 use Rattle.std.specs.List.{list_any}
 use Rattle.std.specs.Option.{option_map, option_map_or}
@@ -55,11 +56,19 @@ use Rattle.node_rules.specs.MemoryDrafts.{in_memory}
 use Rattle.line_rules.specs.Answers.{Reception, only, coordinator_reception, meter_reception}
 use Rattle.line_rules.specs.Forgery.{Comes, OfFlight, OfScript, accepting}
 use Rattle.line_rules.specs.Worlds.{World, Flight, Trace, node_at, flight_at, is_forged_tag}
-use Rattle.line_rules.specs.Steps.{Step, set_up, ran, told, acted, has_begun, takes_setup, once_begun, in_setup, on_node, on_meter, made_node, blank_node, coordinator_node, is_known, coordinator, meter, depot, depot_by, provisioned, psk_of, near, near_by, keeps_rank, ranks_full, offered_near, preset, allow, allowed, rand, join, joins_by, leave, send, sends_by, sent_if, breaks, breaks_by, received, on_flight, lose, tick, ticked, restart, cut, show, rekey, challenge, activate, activate_at, kick, step, hears, heard, identity, note_by, forged_by, restarts, trace_of, happened}
-use Rattle.line_rules.specs.Further.{line_step, checks, bcast, broadcasts_by, path, asks_by, scan, scans_by, choose, chooses_by, discovers_by, commanded, checked, acknowledged_if, acknowledged, acknowledging, heard_by, heard_further, is_dropped, accepted_further, comes, delivers, injects, ticks, after_ok, due, with_check, restarts_by, restarts_further, beside_at, set_beside, reaches}
+use Rattle.line_rules.specs.Steps.{Step, set_up, ran, told, acted, has_begun, takes_setup, once_begun, in_setup, on_node, on_meter, made_node, blank_node}
+use Rattle.line_rules.specs.Steps.{coordinator_node, is_known, coordinator, meter, depot, depot_by, provisioned, psk_of, near, near_by, keeps_rank, ranks_full}
+use Rattle.line_rules.specs.Steps.{offered_near, preset, allow, allowed, rand, join, joins_by, leave, send, sends_by, sent_if, breaks, breaks_by, received}
+use Rattle.line_rules.specs.Steps.{on_flight, lose, tick, ticked, restart, cut, show, rekey, challenge, activate, activate_at, kick, step, hears, heard}
+use Rattle.line_rules.specs.Steps.{identity, note_by, forged_by, restarts, trace_of, happened}
+use Rattle.line_rules.specs.Further.{line_step, checks, bcast, broadcasts_by, path, asks_by, scan, scans_by, choose, chooses_by, discovers_by, commanded}
+use Rattle.line_rules.specs.Further.{checked, acknowledged_if, acknowledged, acknowledging, heard_by, heard_further, is_dropped, accepted_further, comes}
+use Rattle.line_rules.specs.Further.{delivers, injects, ticks, after_ok, due, with_check, restarts_by, restarts_further, beside_at, set_beside, reaches}
 use Rattle.line_rules.specs.Logs.{LogIn, AreLogged, LogsKept, HaveShortTables, CommandsAreOctets, LineStepsKeepLogs, LogsKeptAtFirst}
-use Rattle.line_rules.proofs.LogSteps.{NodeIn, Quiet, all_changed, acts_quiet, further_in, halted_in, logged_at, one_more, quiet_in, quiet_on, quiet_same, restart_in, set_aside, set_both, set_node}
-use Rattle.line_rules.proofs.LogPlans.{accept_short, acts_short, asks_lead, blank_in, broadcast_leads, chooses_lead, command_leads, leave_leaves, random_leaves, tells_leave}
+use Rattle.line_rules.proofs.LogSteps.{NodeIn, Quiet, all_changed, acts_quiet, further_in, halted_in, logged_at, one_more, quiet_in, quiet_on, quiet_same}
+use Rattle.line_rules.proofs.LogSteps.{restart_in, set_aside, set_both, set_node}
+use Rattle.line_rules.proofs.LogPlans.{accept_short, acts_short, asks_lead, blank_in, broadcast_leads, chooses_lead, command_leads, leave_leaves, random_leaves}
+use Rattle.line_rules.proofs.LogPlans.{tells_leave}
 
 abbrev Kept : Step → Type 0
 Kept (Ok r) = LogsKept r.0
@@ -94,13 +103,16 @@ module _ (ciphers : Ciphers) (w : World) (short : HaveShortTables w) (h : LogsKe
   unfolding told
   told_in v number d k l = set_node v.beside v.nodes number d.node k l
 
-  told_both : {A : Type 0} (v : World) (number : ℕ) (d : NodeStep A) (b : Beside) → LogsKept v → NodeIn b.log d.node → LogsKept (set_beside number b (told ciphers v number d))
+  told_both : {A : Type 0} (v : World) (number : ℕ) (d : NodeStep A) (b : Beside) → LogsKept v → NodeIn b.log d.node
+      → LogsKept (set_beside number b (told ciphers v number d))
   unfolding told
   told_both v number d b k l = set_both v.beside v.nodes number b d.node k l
 
   -- one node acts, in this world or after another one has acted in it
-  quiet_told : {A : Type 0} (v : World) → v.beside ≡ w.beside → LogsKept v → (number : ℕ) (x : Node) → node_at w number ≡ Some x → (d : NodeStep A) → Quiet x d.node → LogsKept (told ciphers v number d)
-  quiet_told v same k number x there d q = told_in v number d k (quiet_in _ x d.node q (subst (λ (bs : List Beside). NodeIn (unwrap_or (slice_get bs number) nothing_beside).log x) (sym same) (here number x there)))
+  quiet_told : {A : Type 0} (v : World) → v.beside ≡ w.beside → LogsKept v → (number : ℕ) (x : Node) → node_at w number ≡ Some x → (d : NodeStep A)
+      → Quiet x d.node → LogsKept (told ciphers v number d)
+  quiet_told v same k number x there d q = told_in v number d k
+      (quiet_in _ x d.node q (subst (λ (bs : List Beside). NodeIn (unwrap_or (slice_get bs number) nothing_beside).log x) (sym same) (here number x there)))
 
   acted_in : (number : ℕ) (x : Node) → node_at w number ≡ Some x → (d : NodeStep Answer) → Quiet x d.node → LogsKept (acted ciphers w number d).0
   acted_in number x there d q = quiet_told (ran w) refl h number x there d q
@@ -112,22 +124,28 @@ module _ (ciphers : Ciphers) (w : World) (short : HaveShortTables w) (h : LogsKe
 
   coordinator_in : (eui : Eui) (key : Key) → Kept (coordinator w eui key)
   unfolding coordinator
-  coordinator_in eui key = branch (has_begun w) _ _ tt (one_more w.beside w.nodes nothing_beside _ h (quiet_in _ (blank_node Coordinator eui) _ (acts_quiet (blank_node Coordinator eui) (Ok tt) (λ m. coordinator_rules.begin m (first_grant key))
+  coordinator_in eui key = branch (has_begun w) _ _ tt (one_more w.beside w.nodes nothing_beside _ h
+      (quiet_in _ (blank_node Coordinator eui) _ (acts_quiet (blank_node Coordinator eui) (Ok tt) (λ m. coordinator_rules.begin m (first_grant key))
       (λ m e. begins m e)) (blank_in Coordinator eui)))
     where
       begins : (m : Memory) → (blank_node Coordinator eui).memory ≡ Some m → LeavesLog (coordinator_rules.begin m (first_grant key))
-      begins m e = subst (λ (n : Memory). LeavesLog (coordinator_rules.begin n (first_grant key))) (same_Some _ _ e) ((coordinators_leave_log (record { eui = eui; ciphers = ciphers }) (remembering blank_station []) (record { marks = omega arith; ranks = omega arith })).begins (first_grant key))
+      begins m e = subst (λ (n : Memory). LeavesLog (coordinator_rules.begin n (first_grant key))) (same_Some _ _ e)
+          ((coordinators_leave_log (record { eui = eui; ciphers = ciphers }) (remembering blank_station [])
+          (record { marks = omega arith; ranks = omega arith })).begins (first_grant key))
 
   meter_in : (eui : Eui) (psk : Key) → Kept (meter w eui psk)
   unfolding meter
-  meter_in eui psk = branch (not (takes_setup w) || (nat_lt 999 (length w.nodes) || is_known w eui)) _ _ tt (one_more w.beside w.nodes nothing_beside _ h (blank_in (Meter psk) eui))
+  meter_in eui psk = branch (not (takes_setup w) || (nat_lt 999 (length w.nodes) || is_known w eui)) _ _ tt
+      (one_more w.beside w.nodes nothing_beside _ h (blank_in (Meter psk) eui))
 
-  depot_by_in : (number : ℕ) (x c : Node) → node_at w number ≡ Some x → node_at w 0 ≡ Some c → (d : NodeStep (Result Granted CoordinatorRefusal)) → Quiet c d.node → Kept (depot_by ciphers w number x d)
+  depot_by_in : (number : ℕ) (x c : Node) → node_at w number ≡ Some x → node_at w 0 ≡ Some c → (d : NodeStep (Result Granted CoordinatorRefusal))
+      → Quiet c d.node → Kept (depot_by ciphers w number x d)
   unfolding told
   depot_by_in number x c hx hc d q = by_answer d.answer refl
     where
       provides : (g : Granted) → LogsKept (provisioned ciphers (told ciphers (set_up w) 0 (record d { answer = Ok g })) number x g).0
-      provides g = quiet_told (told ciphers (set_up w) 0 (record d { answer = Ok g })) refl (quiet_told (set_up w) refl h 0 c hc (record d { answer = Ok g }) q) number x hx (acts x (Ok tt) (λ m. meters.provision m g)) (acts_quiet x (Ok tt) (λ m. meters.provision m g)
+      provides g = quiet_told (told ciphers (set_up w) 0 (record d { answer = Ok g })) refl (quiet_told (set_up w) refl h 0 c hc (record d { answer = Ok g }) q)
+          number x hx (acts x (Ok tt) (λ m. meters.provision m g)) (acts_quiet x (Ok tt) (λ m. meters.provision m g)
           (λ m e. (stations_leave_log m.station (shorts number x hx m e)).installs g))
 
       by_answer : (r : Result Granted CoordinatorRefusal) → d.answer ≡ r → Kept (depot_by ciphers w number x d)
@@ -138,10 +156,12 @@ module _ (ciphers : Ciphers) (w : World) (short : HaveShortTables w) (h : LogsKe
   unfolding depot
   depot_in number = setup _ (at_node number _ (λ x hx. at_node 0 _ (λ c hc. branch ((number == 0) || is_some (node_address x)) _ _ tt
       (by_option (λ psk. depot_by ciphers w number x (acts c (Err orders.Halted) (λ m. coordinator_rules.depot m x.eui psk))) (psk_of x) _
-      (λ psk pair. depot_by_in number x c hx hc _ (acts_quiet c (Err orders.Halted) (λ m. coordinator_rules.depot m x.eui psk) (λ m e. (coordinators_leave_log (record { eui = c.eui; ciphers = ciphers }) m (shorts 0 c hc m e)).depots x.eui psk))) tt))))
+      (λ psk pair. depot_by_in number x c hx hc _ (acts_quiet c (Err orders.Halted) (λ m. coordinator_rules.depot m x.eui psk)
+      (λ m e. (coordinators_leave_log (record { eui = c.eui; ciphers = ciphers }) m (shorts 0 c hc m e)).depots x.eui psk))) tt))))
 
   near_quiet : (number : ℕ) (x : Node) → node_at w number ≡ Some x → (to cost now : ℕ) → Quiet x (offered_near x to cost now).node
-  near_quiet number x there to cost now = acts_quiet x (Ok tt) (λ m. of_station m (calls.preset_near m.station to cost now)) (λ m e. (stations_leave_log m.station (shorts number x there m e)).near to cost now)
+  near_quiet number x there to cost now = acts_quiet x (Ok tt) (λ m. of_station m (calls.preset_near m.station to cost now))
+      (λ m e. (stations_leave_log m.station (shorts number x there m e)).near to cost now)
 
   near_by_in : (a b cost : ℕ) (x y : Node) → node_at w a ≡ Some x → node_at w b ≡ Some y → (p q : Option ℕ) → Kept (near_by ciphers w a b cost x y p q)
   unfolding told
@@ -149,18 +169,23 @@ module _ (ciphers : Ciphers) (w : World) (short : HaveShortTables w) (h : LogsKe
   near_by_in a b cost x y hx hy (Some p) None = tt
   near_by_in a b cost x y hx hy (Some p) (Some q) = branch ((a == b) || (keeps_rank x q || (ranks_full x || ranks_full y))) (Err faults.Setup)
       (Ok (told ciphers (told ciphers (set_up w) a (offered_near x q cost w.clock)) b (offered_near y p cost w.clock), trace_of (happened w said.Set))) (tt {0})
-      (quiet_told (told ciphers (set_up w) a (offered_near x q cost w.clock)) refl (quiet_told (set_up w) refl h a x hx (offered_near x q cost w.clock) (near_quiet a x hx q cost w.clock)) b y hy (offered_near y p cost w.clock) (near_quiet b y hy p cost w.clock))
+      (quiet_told (told ciphers (set_up w) a (offered_near x q cost w.clock)) refl
+      (quiet_told (set_up w) refl h a x hx (offered_near x q cost w.clock) (near_quiet a x hx q cost w.clock)) b y hy (offered_near y p cost w.clock)
+      (near_quiet b y hy p cost w.clock))
 
   near_in : (a b cost : ℕ) → Kept (near ciphers w a b cost)
   unfolding near
   near_in a b cost = setup _ (at_node a _ (λ x hx. at_node b _ (λ y hy. near_by_in a b cost x y hx hy (node_address x) (node_address y))))
 
-  preset_in : (number : ℕ) (plan : StationMemory → calls.Presetting) → ((l : StationMemory) → HasShortTables l → LeavesLog (plan l)) → Kept (preset ciphers w number plan)
-  preset_in number plan leaves = setup _ (at_node number _ (λ x hx. quiet_told (set_up w) refl h number x hx _ (acts_quiet x (Ok tt) (λ m. of_station m (plan m.station)) (λ m e. leaves m.station (shorts number x hx m e)))))
+  preset_in : (number : ℕ) (plan : StationMemory → calls.Presetting) → ((l : StationMemory) → HasShortTables l → LeavesLog (plan l))
+      → Kept (preset ciphers w number plan)
+  preset_in number plan leaves = setup _ (at_node number _ (λ x hx. quiet_told (set_up w) refl h number x hx _
+      (acts_quiet x (Ok tt) (λ m. of_station m (plan m.station)) (λ m e. leaves m.station (shorts number x hx m e)))))
 
   -- # The other kinds
 
-  ordered_in : {A : Type 0} (c : Node) → node_at w 0 ≡ Some c → (plan : Memory → Plan Memory (Result A CoordinatorRefusal)) → ((m : Memory) → HasShortTables m.station → LeavesLog (plan m)) → Quiet c (acts c (Err orders.Halted) plan).node
+  ordered_in : {A : Type 0} (c : Node) → node_at w 0 ≡ Some c → (plan : Memory → Plan Memory (Result A CoordinatorRefusal))
+      → ((m : Memory) → HasShortTables m.station → LeavesLog (plan m)) → Quiet c (acts c (Err orders.Halted) plan).node
   ordered_in c hc plan leaves = acts_quiet c (Err orders.Halted) plan (λ m e. leaves m (shorts 0 c hc m e))
 
   abbrev own : Node → coordinator_rules.CoordinatorIdentity
@@ -170,19 +195,23 @@ module _ (ciphers : Ciphers) (w : World) (short : HaveShortTables w) (h : LogsKe
   unfolding allow
   allow_in number = once _ (at_meter number _ (λ x hx. at_node 0 _ (λ c hc.
       by_option (λ psk. Ok (allowed ciphers w number (acts c (Err orders.Halted) (λ m. coordinator_rules.allow m x.eui psk)))) (psk_of x) _
-      (λ psk pair. quiet_told (ran w) refl h 0 c hc (acts c (Err orders.Halted) (λ m. coordinator_rules.allow m x.eui psk)) (ordered_in c hc (λ m. coordinator_rules.allow m x.eui psk) (λ m s. (coordinators_leave_log (own c) m s).allows x.eui psk))) tt)))
+      (λ psk pair. quiet_told (ran w) refl h 0 c hc (acts c (Err orders.Halted) (λ m. coordinator_rules.allow m x.eui psk))
+      (ordered_in c hc (λ m. coordinator_rules.allow m x.eui psk) (λ m s. (coordinators_leave_log (own c) m s).allows x.eui psk))) tt)))
 
   rand_in : (number : ℕ) (value : Rand) → Kept (rand ciphers w number value)
   unfolding rand
   rand_in number value = once _ (at_node number _ (λ x hx. acted_in number x hx _ (acts_quiet x _ _ (λ m e. random_leaves m (shorts number x hx m e) value))))
 
-  meters_quiet : {A : Type 0} (number : ℕ) (x : Node) → node_at w number ≡ Some x → (halted : A) (plan : Memory → Plan Memory A) → ((m : Memory) → HasShortTables m.station → LeavesLog (plan m)) → Quiet x (acts x halted plan).node
+  meters_quiet : {A : Type 0} (number : ℕ) (x : Node) → node_at w number ≡ Some x → (halted : A) (plan : Memory → Plan Memory A)
+      → ((m : Memory) → HasShortTables m.station → LeavesLog (plan m)) → Quiet x (acts x halted plan).node
   meters_quiet number x there halted plan leaves = acts_quiet x halted plan (λ m e. leaves m (shorts number x there m e))
 
   joins_in : (number : ℕ) (x : Node) → node_at w number ≡ Some x → (agent : Option ℕ) (psk : Option Key) → LogsKept (joins_by ciphers w number x agent psk).0
   joins_in number x there None psk = h
   joins_in number x there (Some agent) None = h
-  joins_in number x there (Some agent) (Some psk) = acted_in number x there _ (meters_quiet number x there _ (λ m. meters.join (identity ciphers x psk) m agent w.clock) (λ m s. (meters_leave_log (identity ciphers x psk) m s).joins agent w.clock))
+  joins_in number x there (Some agent) (Some psk) = acted_in number x there _
+      (meters_quiet number x there _ (λ m. meters.join (identity ciphers x psk) m agent w.clock)
+      (λ m s. (meters_leave_log (identity ciphers x psk) m s).joins agent w.clock))
 
   join_in : (number agent : ℕ) → Kept (join ciphers w number agent)
   unfolding join
@@ -196,9 +225,12 @@ module _ (ciphers : Ciphers) (w : World) (short : HaveShortTables w) (h : LogsKe
   sent_in from to datagram tag false r k = k
   sent_in from to datagram tag true r k = k
 
-  sends_in : (from to : ℕ) (datagram : List ℕ) (x : Node) → node_at w from ≡ Some x → (address : Option ℕ) → LogsKept (sends_by ciphers w from to datagram x address).0
+  sends_in : (from to : ℕ) (datagram : List ℕ) (x : Node) → node_at w from ≡ Some x → (address : Option ℕ)
+      → LogsKept (sends_by ciphers w from to datagram x address).0
   sends_in from to datagram x there None = h
-  sends_in from to datagram x there (Some address) = sent_in from to datagram _ _ _ (acted_in from x there _ (acts_quiet x _ (λ m. of_station m (calls.send m.station address datagram (w.sends + 1) w.clock)) (λ m e. (stations_leave_log m.station (shorts from x there m e)).sends address datagram (w.sends + 1) w.clock)))
+  sends_in from to datagram x there (Some address) = sent_in from to datagram _ _ _
+      (acted_in from x there _ (acts_quiet x _ (λ m. of_station m (calls.send m.station address datagram (w.sends + 1) w.clock))
+      (λ m e. (stations_leave_log m.station (shorts from x there m e)).sends address datagram (w.sends + 1) w.clock)))
 
   send_in : (from to : ℕ) (datagram : List ℕ) → Kept (send ciphers w from to datagram)
   unfolding send
@@ -227,7 +259,8 @@ module _ (ciphers : Ciphers) (w : World) (short : HaveShortTables w) (h : LogsKe
   ticked_in : (now : ℕ) (b : Beside) (x : Node) → NodeIn b.log x → NodeIn (tick_beside now b).log (ticked now x)
   ticked_in now b x k = by_role x.role x.memory k
     where
-      by_role : (r : Role) (o : Option Memory) → LogIn b.log x.store.records o → LogIn b.log x.store.records (ticked now (record x { role = r; memory = o })).memory
+      by_role : (r : Role) (o : Option Memory) → LogIn b.log x.store.records o
+          → LogIn b.log x.store.records (ticked now (record x { role = r; memory = o })).memory
       by_role Coordinator None k = k
       by_role (Meter psk) None k = k
       by_role Coordinator (Some m) k = k
@@ -237,7 +270,9 @@ module _ (ciphers : Ciphers) (w : World) (short : HaveShortTables w) (h : LogsKe
   unfolding ticks tick
   ticks_in seconds = by_start (has_begun w)
     where
-      by_start : (b : Bool) → Kept (after_ok (λ r. (record r.0 { beside = map (tick_beside (w.clock + seconds)) w.beside }, r.1)) (if b then Ok (record (ran w) { clock = w.clock + seconds; nodes = map (ticked (w.clock + seconds)) w.nodes }, trace_of (happened w said.Ticked)) else Err faults.Setup))
+      by_start : (b : Bool) → Kept (after_ok (λ r. (record r.0 { beside = map (tick_beside (w.clock + seconds)) w.beside }, r.1))
+          (if b then Ok (record (ran w) { clock = w.clock + seconds; nodes = map (ticked (w.clock + seconds)) w.nodes }, trace_of (happened w said.Ticked))
+          else Err faults.Setup))
       by_start true = all_changed (tick_beside (w.clock + seconds)) (ticked (w.clock + seconds)) (ticked_in (w.clock + seconds)) w.beside w.nodes h
       by_start false = tt
 
@@ -251,19 +286,24 @@ module _ (ciphers : Ciphers) (w : World) (short : HaveShortTables w) (h : LogsKe
 
   rekey_in : (index : ℕ) (key : Key) → Kept (rekey ciphers w index key)
   unfolding rekey
-  rekey_in index key = once _ (at_node 0 _ (λ c hc. acted_in 0 c hc _ (ordered_in c hc (λ m. coordinator_rules.rekey m index key) (λ m s. (coordinators_leave_log (own c) m s).rekeys index key))))
+  rekey_in index key = once _ (at_node 0 _
+      (λ c hc. acted_in 0 c hc _ (ordered_in c hc (λ m. coordinator_rules.rekey m index key) (λ m s. (coordinators_leave_log (own c) m s).rekeys index key))))
 
   challenge_in : (number : ℕ) → Kept (challenge ciphers w number)
   unfolding challenge
-  challenge_in number = once _ (at_meter number _ (λ x hx. at_node 0 _ (λ c hc. acted_in 0 c hc _ (ordered_in c hc (λ m. coordinator_rules.challenge c.eui m x.eui w.clock) (λ m s. (coordinators_leave_log (own c) m s).challenges x.eui w.clock)))))
+  challenge_in number = once _ (at_meter number _ (λ x hx. at_node 0 _
+      (λ c hc. acted_in 0 c hc _ (ordered_in c hc (λ m. coordinator_rules.challenge c.eui m x.eui w.clock)
+      (λ m s. (coordinators_leave_log (own c) m s).challenges x.eui w.clock)))))
 
   either_in : (b : Bool) (p q : World × Trace) → LogsKept p.0 → LogsKept q.0 → LogsKept (if b then p else q).0
   either_in true p q g k = g
   either_in false p q g k = k
 
   activates_in : (number index : ℕ) (x c : Node) → node_at w 0 ≡ Some c → LogsKept (activate_at ciphers w number index x c).0
-  activates_in number index x c hc = either_in (number == 0) _ _ (acted_in 0 c hc _ (ordered_in c hc (λ m. coordinator_rules.activate_self m index) (λ m s. (coordinators_leave_log (own c) m s).seals_with index)))
-      (acted_in 0 c hc _ (ordered_in c hc (λ m. coordinator_rules.activate m x.eui index w.clock) (λ m s. (coordinators_leave_log (own c) m s).activates x.eui index w.clock)))
+  activates_in number index x c hc = either_in (number == 0) _ _
+      (acted_in 0 c hc _ (ordered_in c hc (λ m. coordinator_rules.activate_self m index) (λ m s. (coordinators_leave_log (own c) m s).seals_with index)))
+      (acted_in 0 c hc _ (ordered_in c hc (λ m. coordinator_rules.activate m x.eui index w.clock)
+      (λ m s. (coordinators_leave_log (own c) m s).activates x.eui index w.clock)))
 
   activate_in : (number index : ℕ) → Kept (activate ciphers w number index)
   unfolding activate
@@ -271,7 +311,8 @@ module _ (ciphers : Ciphers) (w : World) (short : HaveShortTables w) (h : LogsKe
 
   kick_in : (number : ℕ) → Kept (kick ciphers w number)
   unfolding kick
-  kick_in number = once _ (at_meter number _ (λ x hx. at_node 0 _ (λ c hc. acted_in 0 c hc _ (ordered_in c hc (λ m. coordinator_rules.kick m x.eui) (λ m s. (coordinators_leave_log (own c) m s).kicks x.eui)))))
+  kick_in number = once _ (at_meter number _ (λ x hx. at_node 0 _
+      (λ c hc. acted_in 0 c hc _ (ordered_in c hc (λ m. coordinator_rules.kick m x.eui) (λ m s. (coordinators_leave_log (own c) m s).kicks x.eui)))))
 
   -- # Further reach
 
@@ -281,13 +322,16 @@ module _ (ciphers : Ciphers) (w : World) (short : HaveShortTables w) (h : LogsKe
 
   bcast_in : (number : ℕ) (datagram : List ℕ) → Kept (bcast ciphers w number datagram)
   unfolding bcast
-  bcast_in number datagram = once _ (at_node number _ (λ x hx. told_both (ran w) number (reaches x (beside_at w number) (Err broadcasts.Halted) (λ y. broadcast in_memory y datagram)) _ h
-      (further_in x (beside_at w number) (Err broadcasts.Halted) (λ y. broadcast in_memory y datagram) (λ m e. (broadcast_leads m (beside_at w number) datagram).leads) (here number x hx))))
+  bcast_in number datagram = once _
+      (at_node number _ (λ x hx. told_both (ran w) number (reaches x (beside_at w number) (Err broadcasts.Halted) (λ y. broadcast in_memory y datagram)) _ h
+      (further_in x (beside_at w number) (Err broadcasts.Halted) (λ y. broadcast in_memory y datagram)
+      (λ m e. (broadcast_leads m (beside_at w number) datagram).leads) (here number x hx))))
 
   asks_in : (number : ℕ) (x : Node) → node_at w number ≡ Some x → (target : Option ℕ) → LogsKept (asks_by ciphers w number x target).0
   asks_in number x hx None = h
   asks_in number x hx (Some target) = told_both (ran w) number (reaches x (beside_at w number) (Err asks.Halted) (λ y. ask_path in_memory y target)) _ h
-      (further_in x (beside_at w number) (Err asks.Halted) (λ y. ask_path in_memory y target) (λ m e. (asks_lead m (beside_at w number) target).leads) (here number x hx))
+      (further_in x (beside_at w number) (Err asks.Halted) (λ y. ask_path in_memory y target) (λ m e. (asks_lead m (beside_at w number) target).leads)
+      (here number x hx))
 
   path_in : (from to : ℕ) → Kept (path ciphers w from to)
   unfolding path
@@ -303,8 +347,10 @@ module _ (ciphers : Ciphers) (w : World) (short : HaveShortTables w) (h : LogsKe
 
   chooses_in : (number : ℕ) (x : Node) → node_at w number ≡ Some x → (k : ℕ) (psk : Option Key) → LogsKept (chooses_by ciphers w number x k psk).0
   chooses_in number x hx k None = h
-  chooses_in number x hx k (Some psk) = told_both (ran w) number (reaches x (beside_at w number) (Err choices.Halted) (λ y. choose_agent (identity ciphers x psk) y k w.clock)) _ h
-      (further_in x (beside_at w number) (Err choices.Halted) (λ y. choose_agent (identity ciphers x psk) y k w.clock) (λ m e. (chooses_lead m (beside_at w number) (identity ciphers x psk) (shorts number x hx m e) k w.clock).leads) (here number x hx))
+  chooses_in number x hx k (Some psk) =
+      told_both (ran w) number (reaches x (beside_at w number) (Err choices.Halted) (λ y. choose_agent (identity ciphers x psk) y k w.clock)) _ h
+      (further_in x (beside_at w number) (Err choices.Halted) (λ y. choose_agent (identity ciphers x psk) y k w.clock)
+      (λ m e. (chooses_lead m (beside_at w number) (identity ciphers x psk) (shorts number x hx m e) k w.clock).leads) (here number x hx))
 
   choose_in : (number k : ℕ) → Kept (choose ciphers w number k)
   unfolding choose
@@ -314,34 +360,45 @@ module _ (ciphers : Ciphers) (w : World) (short : HaveShortTables w) (h : LogsKe
   discovers_in number x octets link None = h
   discovers_in number x octets link (Some m) = set_aside w.beside w.nodes number _ h refl
 
-  hears_quiet : (y : Node) → ((m : Memory) → y.memory ≡ Some m → HasShortTables m.station) → (got : Accepted) (cost note now : ℕ) → Quiet y (hears ciphers y got cost note now).node
+  hears_quiet : (y : Node) → ((m : Memory) → y.memory ≡ Some m → HasShortTables m.station) → (got : Accepted) (cost note now : ℕ)
+      → Quiet y (hears ciphers y got cost note now).node
   hears_quiet y has got cost note now = by_role y.role
     where
       hears_as : Role → NodeStep Reception
-      hears_as Coordinator = answering coordinator_reception (acts y (Err drops.Store) (λ m. coordinator_rules.hear_coordinator (record { eui = y.eui; ciphers = ciphers }) m got cost note now))
+      hears_as Coordinator = answering coordinator_reception
+          (acts y (Err drops.Store) (λ m. coordinator_rules.hear_coordinator (record { eui = y.eui; ciphers = ciphers }) m got cost note now))
       hears_as (Meter psk) = answering meter_reception (acts y (Err drops.Store) (λ m. meters.hear_meter (identity ciphers y psk) m got cost note now))
 
       by_role : (r : Role) → Quiet y (hears_as r).node
-      by_role Coordinator = acts_quiet y (Err drops.Store) (λ m. coordinator_rules.hear_coordinator (record { eui = y.eui; ciphers = ciphers }) m got cost note now) (λ m e. (coordinators_leave_log (record { eui = y.eui; ciphers = ciphers }) m (has m e)).hears got cost note now)
-      by_role (Meter psk) = acts_quiet y (Err drops.Store) (λ m. meters.hear_meter (identity ciphers y psk) m got cost note now) (λ m e. (meters_leave_log (identity ciphers y psk) m (has m e)).hears got cost note now)
+      by_role Coordinator = acts_quiet y (Err drops.Store) (λ m. coordinator_rules.hear_coordinator (record { eui = y.eui; ciphers = ciphers }) m got cost note
+          now) (λ m e. (coordinators_leave_log (record { eui = y.eui; ciphers = ciphers }) m (has m e)).hears got cost note now)
+      by_role (Meter psk) = acts_quiet y (Err drops.Store) (λ m. meters.hear_meter (identity ciphers y psk) m got cost note now)
+          (λ m e. (meters_leave_log (identity ciphers y psk) m (has m e)).hears got cost note now)
 
   -- a node of the line that has accepted octets
-  module _ (number : ℕ) (x y : Node) (there : node_at w number ≡ Some x) (first : Quiet x y) (has : (m : Memory) → y.memory ≡ Some m → HasShortTables m.station) (octets : List ℕ) where
+  module _ (number : ℕ) (x y : Node) (there : node_at w number ≡ Some x) (first : Quiet x y) (has : (m : Memory) → y.memory ≡ Some m → HasShortTables m.station)
+      (octets : List ℕ) where
     received_in : (forged : Bool) (d : NodeStep Reception) → Quiet y d.node → LogsKept (received ciphers w number forged d).0
     received_in forged d q = quiet_told (ran w) refl h number x there d (quiet_on x y d.node first q)
 
     heard_in : (got : Accepted) (cost : ℕ) → LogsKept (heard ciphers w number y octets got cost).0
-    heard_in got cost = received_in (forged_by w octets got.path || list_any (is_forged_tag w.made) (hears ciphers y got cost (note_by w octets got.path) w.clock).opened) (hears ciphers y got cost (note_by w octets got.path) w.clock) (hears_quiet y has got cost (note_by w octets got.path) w.clock)
+    heard_in got cost = received_in (forged_by w octets got.path
+        || list_any (is_forged_tag w.made) (hears ciphers y got cost (note_by w octets got.path) w.clock).opened)
+        (hears ciphers y got cost (note_by w octets got.path) w.clock) (hears_quiet y has got cost (note_by w octets got.path) w.clock)
 
-    commanded_in : (got : Accepted) (cost : ℕ) (c : NeighbourCommand) → AreOctets c.body → LogsKept (commanded ciphers number (hears ciphers y got cost (note_by w octets got.path) w.clock).node c (heard ciphers w number y octets got cost)).0
+    commanded_in : (got : Accepted) (cost : ℕ) (c : NeighbourCommand) → AreOctets c.body
+        → LogsKept (commanded ciphers number (hears ciphers y got cost (note_by w octets got.path) w.clock).node c (heard ciphers w number y octets got cost)).0
     unfolding told
     commanded_in got cost c are =
         let z : Node = (hears ciphers y got cost (note_by w octets got.path) w.clock).node in
         let q : Quiet x z = quiet_on x y z first (hears_quiet y has got cost (note_by w octets got.path) w.clock) in
-        told_both (heard ciphers w number y octets got cost).0 number (reaches z (beside_at w number) (Err (reach_drops.Known drops.Store)) (λ r. hear_command in_memory r c)) _ (heard_in got cost)
-        (further_in z (beside_at w number) (Err (reach_drops.Known drops.Store)) (λ r. hear_command in_memory r c) (λ m e. (command_leads m (beside_at w number) c are).leads) (quiet_in _ x z q (here number x there)))
+        told_both (heard ciphers w number y octets got cost).0 number
+        (reaches z (beside_at w number) (Err (reach_drops.Known drops.Store)) (λ r. hear_command in_memory r c)) _ (heard_in got cost)
+        (further_in z (beside_at w number) (Err (reach_drops.Known drops.Store)) (λ r. hear_command in_memory r c)
+        (λ m e. (command_leads m (beside_at w number) c are).leads) (quiet_in _ x z q (here number x there)))
 
-    checked_in : (got : Accepted) (cost : ℕ) → LogsKept (checked ciphers w number got (hears ciphers y got cost (note_by w octets got.path) w.clock) (heard ciphers w number y octets got cost)).0
+    checked_in : (got : Accepted) (cost : ℕ)
+        → LogsKept (checked ciphers w number got (hears ciphers y got cost (note_by w octets got.path) w.clock) (heard ciphers w number y octets got cost)).0
     unfolding told
     checked_in got cost = by_due (due got.path (message_of got) (hears ciphers y got cost (note_by w octets got.path) w.clock).answer.answer)
       where
@@ -352,7 +409,8 @@ module _ (ciphers : Ciphers) (w : World) (short : HaveShortTables w) (h : LogsKe
         quiet = quiet_on x y z first (hears_quiet y has got cost (note_by w octets got.path) w.clock)
 
         b : Beside
-        b = record (beside_at w number) { checks = checks_after (beside_at w number).checks (reply_among (hears ciphers y got cost (note_by w octets got.path) w.clock).frames) w.clock }
+        b = record (beside_at w number)
+            { checks = checks_after (beside_at w number).checks (reply_among (hears ciphers y got cost (note_by w octets got.path) w.clock).frames) w.clock }
 
         r : World × Trace
         r = with_check w number (reply_among (hears ciphers y got cost (note_by w octets got.path) w.clock).frames) (heard ciphers w number y octets got cost)
@@ -367,28 +425,40 @@ module _ (ciphers : Ciphers) (w : World) (short : HaveShortTables w) (h : LogsKe
         by_due None = set_aside w.beside heard_nodes number b before refl
         by_due (Some reply) =
             let a = acknowledging z reply in
-            let q : Quiet z a.node = acts_quiet z (Err locals.Store) (λ m. acknowledges in_memory reply.to reply.number reply.origin m) (λ m e. tells_leave m reply) in
+            let q : Quiet z a.node = acts_quiet z (Err locals.Store) (λ m. acknowledges in_memory reply.to reply.number reply.origin m)
+            (λ m e. tells_leave m reply) in
             let l : NodeIn (beside_at w number).log a.node = quiet_in _ x a.node (quiet_on x z a.node quiet q) (here number x there) in
-            either_in (is_some a.node.memory) _ _ (set_both w.beside heard_nodes number b a.node before l) (set_node w.beside heard_nodes number a.node before l)
+            either_in (is_some a.node.memory) _ _ (set_both w.beside heard_nodes number b a.node before l)
+            (set_node w.beside heard_nodes number a.node before l)
 
-    heard_by_in : (got : Accepted) (cost : ℕ) (o : Option NeighbourCommand) → ((c : NeighbourCommand) → o ≡ Some c → AreOctets c.body) → LogsKept (heard_by ciphers w number y octets got cost o).0
+    heard_by_in : (got : Accepted) (cost : ℕ) (o : Option NeighbourCommand) → ((c : NeighbourCommand) → o ≡ Some c → AreOctets c.body)
+        → LogsKept (heard_by ciphers w number y octets got cost o).0
     heard_by_in got cost None are = either_in w.checks_on _ _ (checked_in got cost) (heard_in got cost)
     heard_by_in got cost (Some c) are = commanded_in got cost c (are c refl)
 
-    further_heard : (got : Accepted) (cost : ℕ) → ((c : NeighbourCommand) → command_of got ≡ Some c → AreOctets c.body) → LogsKept (heard_further ciphers w number y octets got cost).0
-    further_heard got cost are = either_in (is_dropped w number got) _ _ (received_in (forged_by w octets got.path) (stays y (only said.Blacklisted)) (quiet_same y)) (heard_by_in got cost (command_of got) are)
+    further_heard : (got : Accepted) (cost : ℕ) → ((c : NeighbourCommand) → command_of got ≡ Some c → AreOctets c.body)
+        → LogsKept (heard_further ciphers w number y octets got cost).0
+    further_heard got cost are = either_in (is_dropped w number got) _ _
+        (received_in (forged_by w octets got.path) (stays y (only said.Blacklisted)) (quiet_same y)) (heard_by_in got cost (command_of got) are)
 
-  comes_in : (number : ℕ) (x : Node) (octets : List ℕ) (cost : ℕ) → node_at w number ≡ Some x → ((got : Accepted) (c : NeighbourCommand) → (accepting ciphers x octets).answer ≡ Ok got → command_of got ≡ Some c → AreOctets c.body) → LogsKept (comes ciphers w number x octets cost).0
+  comes_in : (number : ℕ) (x : Node) (octets : List ℕ) (cost : ℕ) → node_at w number ≡ Some x
+      → ((got : Accepted) (c : NeighbourCommand) → (accepting ciphers x octets).answer ≡ Ok got → command_of got ≡ Some c → AreOctets c.body)
+      → LogsKept (comes ciphers w number x octets cost).0
   unfolding comes told
-  comes_in number x octets cost there are = either_in (is_discovery octets) _ _ (discovers_in number x octets cost x.memory) (accepted_in (accepting ciphers x octets) quiet has are)
+  comes_in number x octets cost there are =
+      either_in (is_discovery octets) _ _ (discovers_in number x octets cost x.memory) (accepted_in (accepting ciphers x octets) quiet has are)
     where
       quiet : Quiet x (accepting ciphers x octets).node
-      quiet = acts_quiet x (Err frames.Halted) (λ m. of_station m (accept m.station x.eui (arrived ciphers octets))) (λ m e. (stations_leave_log m.station (shorts number x there m e)).accepts x.eui (arrived ciphers octets))
+      quiet = acts_quiet x (Err frames.Halted) (λ m. of_station m (accept m.station x.eui (arrived ciphers octets)))
+          (λ m e. (stations_leave_log m.station (shorts number x there m e)).accepts x.eui (arrived ciphers octets))
 
       has : (m : Memory) → (accepting ciphers x octets).node.memory ≡ Some m → HasShortTables m.station
-      has = acts_short x (Err frames.Halted) (λ m. of_station m (accept m.station x.eui (arrived ciphers octets))) (λ m e. accept_short m.station (shorts number x there m e) x.eui (arrived ciphers octets))
+      has = acts_short x (Err frames.Halted) (λ m. of_station m (accept m.station x.eui (arrived ciphers octets)))
+          (λ m e. accept_short m.station (shorts number x there m e) x.eui (arrived ciphers octets))
 
-      accepted_in : (d : NodeStep (Result Accepted FrameRefusal)) → Quiet x d.node → ((m : Memory) → d.node.memory ≡ Some m → HasShortTables m.station) → ((got : Accepted) (c : NeighbourCommand) → d.answer ≡ Ok got → command_of got ≡ Some c → AreOctets c.body) → LogsKept (accepted_further ciphers w number octets cost d).0
+      accepted_in : (d : NodeStep (Result Accepted FrameRefusal)) → Quiet x d.node → ((m : Memory) → d.node.memory ≡ Some m → HasShortTables m.station)
+          → ((got : Accepted) (c : NeighbourCommand) → d.answer ≡ Ok got → command_of got ≡ Some c → AreOctets c.body)
+          → LogsKept (accepted_further ciphers w number octets cost d).0
       accepted_in d q s o = by_answer d.answer refl
         where
           by_answer : (r : Result Accepted FrameRefusal) → d.answer ≡ r → LogsKept (accepted_further ciphers w number octets cost d).0
@@ -397,15 +467,21 @@ module _ (ciphers : Ciphers) (w : World) (short : HaveShortTables w) (h : LogsKe
 
   delivers_in : (flight number cost : ℕ) → CommandsAreOctets ciphers w (events.Deliver flight number cost) → Kept (delivers ciphers w flight number cost)
   unfolding delivers
-  delivers_in flight number cost are = once _ (at_node number _ (λ x hx. at_flight flight _ (λ f e. comes_in number x f.octets cost hx (λ got c is has. are number x f.octets got c hx (OfFlight flight number cost f e) is has))))
+  delivers_in flight number cost are = once _ (at_node number _ (λ x hx. at_flight flight _
+      (λ f e. comes_in number x f.octets cost hx (λ got c is has. are number x f.octets got c hx (OfFlight flight number cost f e) is has))))
 
-  injects_in : (number cost : ℕ) (octets : List ℕ) → CommandsAreOctets ciphers w (events.Inject number cost octets) → Kept (injects ciphers w number cost octets)
+  injects_in : (number cost : ℕ) (octets : List ℕ) → CommandsAreOctets ciphers w (events.Inject number cost octets)
+      → Kept (injects ciphers w number cost octets)
   unfolding injects
-  injects_in number cost octets are = once _ (at_node number _ (λ x hx. comes_in number x octets cost hx (λ got c is has. are number x octets got c hx (OfScript number cost octets) is has)))
+  injects_in number cost octets are =
+      once _ (at_node number _ (λ x hx. comes_in number x octets cost hx (λ got c is has. are number x octets got c hx (OfScript number cost octets) is has)))
 
-  restarts_in : (number : ℕ) (x : Node) → node_at w number ≡ Some x → (o : Result Beside BadStore) → restarted x.store.records ≡ o → LogsKept (restarts_by ciphers w number x o).0
-  restarts_in number x there (Ok b) e = told_both (ran w) number (restarts x) b h (restart_in (beside_at w number).log x b (restarts x).node.memory (here number x there) e)
-  restarts_in number x there (Err bad) e = told_both (ran w) number (stays (record x { memory = None }) said.BadStore) nothing_beside h (halted_in (beside_at w number).log x (here number x there))
+  restarts_in : (number : ℕ) (x : Node) → node_at w number ≡ Some x → (o : Result Beside BadStore) → restarted x.store.records ≡ o
+      → LogsKept (restarts_by ciphers w number x o).0
+  restarts_in number x there (Ok b) e =
+      told_both (ran w) number (restarts x) b h (restart_in (beside_at w number).log x b (restarts x).node.memory (here number x there) e)
+  restarts_in number x there (Err bad) e =
+      told_both (ran w) number (stays (record x { memory = None }) said.BadStore) nothing_beside h (halted_in (beside_at w number).log x (here number x there))
 
   restart_kept : (number : ℕ) → Kept (restarts_further ciphers w number)
   unfolding restarts_further

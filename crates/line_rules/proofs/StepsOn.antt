@@ -1,5 +1,6 @@
 -- Each kind of event leads one event on.
-use Rattle.std.proofs.Common.{◌≡◌, ℕ, zero, suc, ◌+◌, ◌-◌, Bool, true, false, not, ◌==◌, List, [], ◌∷◌, ◌++◌, length, Option, Some, None, Result, Ok, Err, refl, sym, ap, ◌∙◌, subst, arith}
+use Rattle.std.proofs.Common.{◌≡◌, ℕ, zero, suc, ◌+◌, ◌-◌, Bool, true, false, not, ◌==◌, List, [], ◌∷◌, ◌++◌, length, Option, Some, None, Result, Ok, Err, refl}
+use Rattle.std.proofs.Common.{sym, ap, ◌∙◌, subst, arith}
 use Rattle.std.specs.Prelude.{if◌then◌else◌, slice_get, slice_set, is_some, map, ◌||◌, nat_lt}
 use Rattle.std.specs.Option.{option_map_or}
 use Rattle.std.proofs.lemmas.List.{append_assoc, append-nil, length-append, length-set, length-map}
@@ -30,8 +31,14 @@ use Rattle.reach_rules.specs.Beacons.{is_discovery}
 use Rattle.reach_rules.specs.Receiving.{NeighbourCommand, command_of}
 use Rattle.line_rules.specs.Answers.{Reception}
 use Rattle.line_rules.specs.Worlds.{World, Flight, Trace, node_at, flight_at}
-use Rattle.line_rules.specs.Steps.{provisioned, ticked, Step, set_up, ran, told, acted, has_begun, takes_setup, once_begun, in_setup, on_node, on_meter, made_node, is_known, coordinator, meter, depot, depot_by, psk_of, near, near_by, preset, allow, allowed, rand, join, joins_by, leave, send, sends_by, sent_if, breaks, breaks_by, deliver, inject, arrives, accepted_by, received, on_flight, lose, tick, restart, cut, show, rekey, challenge, activate, activate_at, kick, step, spoken, hears, heard, forged_by, note_by, restarts}
-use Rattle.line_rules.specs.Further.{line_step, checks, bcast, broadcasts_by, path, asks_by, scan, scans_by, has_discovered, choose, chooses_by, discovers_by, commanded, checked, acknowledged_if, acknowledged, acknowledging, heard_by, heard_further, is_dropped, accepted_further, comes, delivers, injects, ticks, after_ok, restarts_by, restarts_further, beside_at, set_beside}
+use Rattle.line_rules.specs.Steps.{provisioned, ticked, Step, set_up, ran, told, acted, has_begun, takes_setup, once_begun, in_setup, on_node, on_meter}
+use Rattle.line_rules.specs.Steps.{made_node, is_known, coordinator, meter, depot, depot_by, psk_of, near, near_by, preset, allow, allowed, rand, join}
+use Rattle.line_rules.specs.Steps.{joins_by, leave, send, sends_by, sent_if, breaks, breaks_by, deliver, inject, arrives, accepted_by, received, on_flight}
+use Rattle.line_rules.specs.Steps.{lose, tick, restart, cut, show, rekey, challenge, activate, activate_at, kick, step, spoken, hears, heard, forged_by}
+use Rattle.line_rules.specs.Steps.{note_by, restarts}
+use Rattle.line_rules.specs.Further.{line_step, checks, bcast, broadcasts_by, path, asks_by, scan, scans_by, has_discovered, choose, chooses_by, discovers_by}
+use Rattle.line_rules.specs.Further.{commanded, checked, acknowledged_if, acknowledged, acknowledging, heard_by, heard_further, is_dropped, accepted_further}
+use Rattle.line_rules.specs.Further.{comes, delivers, injects, ticks, after_ok, restarts_by, restarts_further, beside_at, set_beside}
 use Rattle.node_rules.specs.NodeSteps.{NodeStep, acts}
 use Rattle.line_rules.specs.Laws.{SameFlight, KeepsFlights, GoesOn, StepsGoOn, LineStepsGoOn}
 
@@ -58,10 +65,24 @@ same_in_place (g ∷ fs) (suc place) f h e same = (same_flight g, same_in_place 
 -- # Worlds
 
 set_up_goes : (w : World) → GoesOn w (set_up w)
-set_up_goes w = record { events = refl; clock = omega arith; running = λ e. e; nodes = omega arith; flights = same_flights w.flights; made = ([], sym (append-nil w.made)) }
+set_up_goes w = record {
+  events = refl;
+  clock = omega arith;
+  running = λ e. e;
+  nodes = omega arith;
+  flights = same_flights w.flights;
+  made = ([], sym (append-nil w.made));
+}
 
 ran_goes : (w : World) → GoesOn w (ran w)
-ran_goes w = record { events = refl; clock = omega arith; running = λ e. refl; nodes = omega arith; flights = same_flights w.flights; made = ([], sym (append-nil w.made)) }
+ran_goes w = record {
+  events = refl;
+  clock = omega arith;
+  running = λ e. refl;
+  nodes = omega arith;
+  flights = same_flights w.flights;
+  made = ([], sym (append-nil w.made));
+}
 
 told_goes : {A : Type 0} (ciphers : Ciphers) (w v : World) (number : ℕ) (d : NodeStep A) → GoesOn w v → GoesOn w (told ciphers v number d)
 unfolding told
@@ -135,18 +156,21 @@ module _ (ciphers : Ciphers) (w : World) where
   depot_by_shape number x d = by_answer d.answer refl
     where
       by_answer : (r : Result Granted CoordinatorRefusal) → d.answer ≡ r → StepShape w (depot_by ciphers w number x d)
-      by_answer (Ok g) e = rw e (Taken (provisioned ciphers (told ciphers (set_up w) 0 (record d { answer = Ok g })) number x g) (told_goes ciphers w _ number _ (told_goes ciphers w _ 0 _ (set_up_goes w))))
+      by_answer (Ok g) e = rw e (Taken (provisioned ciphers (told ciphers (set_up w) 0 (record d { answer = Ok g })) number x g)
+          (told_goes ciphers w _ number _ (told_goes ciphers w _ 0 _ (set_up_goes w))))
       by_answer (Err reason) e = rw e (Fails faults.Setup)
 
   depot_shape : (number : ℕ) → StepShape w (depot ciphers w number)
   unfolding depot
   depot_shape number = setup _ (at_node number _ (λ x. at_node 0 _ (λ c. branch ((number == 0) || is_some (node_address x)) _ _ (Fails faults.Setup)
-      (by_option (λ psk. depot_by ciphers w number x (acts c (Err orders.Halted) (λ m. coordinator_rules.depot m x.eui psk))) (psk_of x) _ (λ psk. depot_by_shape number x _) (Fails faults.Setup)))))
+      (by_option (λ psk. depot_by ciphers w number x (acts c (Err orders.Halted) (λ m. coordinator_rules.depot m x.eui psk))) (psk_of x) _
+      (λ psk. depot_by_shape number x _) (Fails faults.Setup)))))
 
   near_by_shape : (a b cost : ℕ) (x y : Node) (p q : Option ℕ) → StepShape w (near_by ciphers w a b cost x y p q)
   near_by_shape a b cost x y None q = Fails faults.Setup
   near_by_shape a b cost x y (Some p) None = Fails faults.Setup
-  near_by_shape a b cost x y (Some p) (Some q) = branch _ _ _ (Fails faults.Setup) (Taken _ (told_goes ciphers w _ b _ (told_goes ciphers w _ a _ (set_up_goes w))))
+  near_by_shape a b cost x y (Some p) (Some q) =
+      branch _ _ _ (Fails faults.Setup) (Taken _ (told_goes ciphers w _ b _ (told_goes ciphers w _ a _ (set_up_goes w))))
 
   near_shape : (a b cost : ℕ) → StepShape w (near ciphers w a b cost)
   unfolding near
@@ -160,7 +184,8 @@ module _ (ciphers : Ciphers) (w : World) where
   allow_shape : (number : ℕ) → StepShape w (allow ciphers w number)
   unfolding allow
   allow_shape number = once _ (at_meter number _ (λ x. at_node 0 _ (λ c.
-      by_option (λ psk. Ok (allowed ciphers w number (acts c (Err orders.Halted) (λ m. coordinator_rules.allow m x.eui psk)))) (psk_of x) _ (λ psk. Taken _ (told_goes ciphers w _ 0 _ (ran_goes w))) (Fails faults.Node))))
+      by_option (λ psk. Ok (allowed ciphers w number (acts c (Err orders.Halted) (λ m. coordinator_rules.allow m x.eui psk)))) (psk_of x) _
+      (λ psk. Taken _ (told_goes ciphers w _ 0 _ (ran_goes w))) (Fails faults.Node))))
 
   rand_shape : (number : ℕ) (value : Rand) → StepShape w (rand ciphers w number value)
   unfolding rand
@@ -216,7 +241,8 @@ module _ (ciphers : Ciphers) (w : World) where
   at_flight : (number : ℕ) (f : Flight → Step) → ((x : Flight) → flight_at w number ≡ Some x → StepShape w (f x)) → StepShape w (on_flight w number f)
   at_flight number f h = by_flight (flight_at w number) refl
     where
-      by_flight : (o : Option Flight) → flight_at w number ≡ o → StepShape w (option_map_or (λ x. if x.lost then Err faults.Flight else f x) o (Err faults.Flight))
+      by_flight : (o : Option Flight) → flight_at w number ≡ o
+          → StepShape w (option_map_or (λ x. if x.lost then Err faults.Flight else f x) o (Err faults.Flight))
       by_flight None e = Fails faults.Flight
       by_flight (Some x) e = branch x.lost _ _ (Fails faults.Flight) (h x e)
 
@@ -235,20 +261,37 @@ module _ (ciphers : Ciphers) (w : World) where
       by_number true e = absurd (none-some f e)
       by_number false e = e
 
-  loses_go : (number : ℕ) (f h : Flight) → flight_at w number ≡ Some f → SameFlight f h → GoesOn w (record (ran w) { flights = slice_set w.flights (number - 1) h })
+  loses_go : (number : ℕ) (f h : Flight) → flight_at w number ≡ Some f → SameFlight f h
+      → GoesOn w (record (ran w) { flights = slice_set w.flights (number - 1) h })
   loses_go number f h e same =
       let g = ran_goes w in
-      record { events = g.events; clock = g.clock; running = g.running; nodes = g.nodes; flights = same_in_place w.flights (number - 1) f h (flight_place number f e) same; made = g.made }
+      record {
+        events = g.events;
+        clock = g.clock;
+        running = g.running;
+        nodes = g.nodes;
+        flights = same_in_place w.flights (number - 1) f h (flight_place number f e) same;
+        made = g.made;
+      }
 
   lose_shape : (number : ℕ) → StepShape w (lose w number)
   unfolding lose
-  lose_shape number = once _ (at_flight number _ (λ f e. Taken _ (loses_go number f _ e (record { from = refl; octets = refl; key = refl; note = refl; lost = λ _. refl }))))
+  lose_shape number =
+      once _ (at_flight number _ (λ f e. Taken _ (loses_go number f _ e (record { from = refl; octets = refl; key = refl; note = refl; lost = λ _. refl }))))
 
   tick_shape : (seconds : ℕ) → StepShape w (tick w seconds)
   unfolding tick
   tick_shape seconds =
       let g = ran_goes w in
-      once _ (Taken _ (record { events = g.events; clock = omega arith; running = g.running; nodes = let same : length (map (ticked (w.clock + seconds)) w.nodes) ≡ length w.nodes = length-map w.nodes _ in omega arith; flights = g.flights; made = g.made }))
+      once _ (Taken _ (record {
+        events = g.events;
+        clock = omega arith;
+        running = g.running;
+        nodes =
+            let same : length (map (ticked (w.clock + seconds)) w.nodes) ≡ length w.nodes = length-map w.nodes _ in omega arith;
+        flights = g.flights;
+        made = g.made;
+      }))
 
   restart_shape : (number : ℕ) → StepShape w (restart ciphers w number)
   unfolding restart
@@ -336,7 +379,14 @@ module _ (ciphers : Ciphers) (w : World) where
   discovered_go : (number : ℕ) (bs : List Beside) (new : List Flight) → GoesOn w (record (ran w) { flights = w.flights ++ new; beside = bs })
   discovered_go number bs new =
       let g = ran_goes w in
-      record { events = g.events; clock = g.clock; running = g.running; nodes = g.nodes; flights = more_flights w.flights w.flights new (same_flights w.flights); made = g.made }
+      record {
+        events = g.events;
+        clock = g.clock;
+        running = g.running;
+        nodes = g.nodes;
+        flights = more_flights w.flights w.flights new (same_flights w.flights);
+        made = g.made;
+      }
 
   scans_go : (number : ℕ) (o : Option Memory) → GoesOn w (scans_by w number o).0
   scans_go number None = ran_goes w
@@ -362,24 +412,38 @@ module _ (ciphers : Ciphers) (w : World) where
   heard_go number x octets got cost = received_go number _ _
 
   nothing_go : (number : ℕ) (b : List Beside) (v : World) → GoesOn w v → GoesOn w (record v { flights = w.flights; made = w.made; beside = b })
-  nothing_go number b v g = record { events = g.events; clock = g.clock; running = g.running; nodes = g.nodes; flights = same_flights w.flights; made = ([], sym (append-nil w.made)) }
+  nothing_go number b v g = record {
+    events = g.events;
+    clock = g.clock;
+    running = g.running;
+    nodes = g.nodes;
+    flights = same_flights w.flights;
+    made = ([], sym (append-nil w.made));
+  }
 
-  acknowledged_go : (number : ℕ) (a : NodeStep (Result (Unit {0}) LocalRefusal)) (r : World × Trace) → GoesOn w r.0 → GoesOn w (acknowledged ciphers w number a r).0
-  acknowledged_go number a r g = either_goes (is_some a.node.memory) _ _ (told_goes ciphers w r.0 number a g) (nothing_go number _ _ (told_goes ciphers w r.0 number a g))
+  acknowledged_go : (number : ℕ) (a : NodeStep (Result (Unit {0}) LocalRefusal)) (r : World × Trace) → GoesOn w r.0
+      → GoesOn w (acknowledged ciphers w number a r).0
+  acknowledged_go number a r g =
+      either_goes (is_some a.node.memory) _ _ (told_goes ciphers w r.0 number a g) (nothing_go number _ _ (told_goes ciphers w r.0 number a g))
 
-  acknowledged_if_go : (number : ℕ) (x : Node) (reply : Option Reply) (r : World × Trace) → GoesOn w r.0 → GoesOn w (acknowledged_if ciphers w number x reply r).0
+  acknowledged_if_go : (number : ℕ) (x : Node) (reply : Option Reply) (r : World × Trace) → GoesOn w r.0
+      → GoesOn w (acknowledged_if ciphers w number x reply r).0
   acknowledged_if_go number x None r g = g
   acknowledged_if_go number x (Some reply) r g = acknowledged_go number _ r g
 
   checked_go : (number : ℕ) (got : Accepted) (h : NodeStep Reception) (r : World × Trace) → GoesOn w r.0 → GoesOn w (checked ciphers w number got h r).0
   checked_go number got h r g = acknowledged_if_go number h.node _ _ (beside_goes w _ _ g)
 
-  heard_by_go : (number : ℕ) (x : Node) (octets : List ℕ) (got : Accepted) (cost : ℕ) (c : Option NeighbourCommand) → GoesOn w (heard_by ciphers w number x octets got cost c).0
-  heard_by_go number x octets got cost None = either_goes w.checks_on _ _ (checked_go number got (hears ciphers x got cost (note_by w octets got.path) w.clock) (heard ciphers w number x octets got cost) (heard_go number x octets got cost)) (heard_go number x octets got cost)
+  heard_by_go : (number : ℕ) (x : Node) (octets : List ℕ) (got : Accepted) (cost : ℕ) (c : Option NeighbourCommand)
+      → GoesOn w (heard_by ciphers w number x octets got cost c).0
+  heard_by_go number x octets got cost None = either_goes w.checks_on _ _
+      (checked_go number got (hears ciphers x got cost (note_by w octets got.path) w.clock) (heard ciphers w number x octets got cost)
+      (heard_go number x octets got cost)) (heard_go number x octets got cost)
   heard_by_go number x octets got cost (Some c) = beside_goes w _ _ (told_goes ciphers w _ number _ (heard_go number x octets got cost))
 
   further_go : (number : ℕ) (x : Node) (octets : List ℕ) (got : Accepted) (cost : ℕ) → GoesOn w (heard_further ciphers w number x octets got cost).0
-  further_go number x octets got cost = either_goes (is_dropped w number got) _ _ (received_go number _ _) (heard_by_go number x octets got cost (command_of got))
+  further_go number x octets got cost =
+      either_goes (is_dropped w number got) _ _ (received_go number _ _) (heard_by_go number x octets got cost (command_of got))
 
   comes_go : (number : ℕ) (x : Node) (octets : List ℕ) (cost : ℕ) → GoesOn w (comes ciphers w number x octets cost).0
   unfolding comes

@@ -1,6 +1,7 @@
 -- What an event does where nodes have further reach: checks of neighbours, broadcasts, beacons and path requests. It is what a line without
 -- these does (`Steps`), and what a node's further rules add to it (`reach_rules`).
-use Rattle.std.specs.Prelude.{ℕ, ◌+◌, Bool, true, false, ◌==◌, ◌&&◌, ◌||◌, List, [], ◌∷◌, ◌++◌, length, map, is_some, unwrap_or, slice_get, slice_set, Option, Some, None, Result, Ok, Err, if◌then◌else◌}
+use Rattle.std.specs.Prelude.{ℕ, ◌+◌, Bool, true, false, ◌==◌, ◌&&◌, ◌||◌, List, [], ◌∷◌, ◌++◌, length, map, is_some, unwrap_or, slice_get, slice_set, Option}
+use Rattle.std.specs.Prelude.{Some, None, Result, Ok, Err, if◌then◌else◌}
 use Rattle.std.specs.List.{list_any}
 use Rattle.std.specs.Option.{option_map, option_map_or}
 use Rattle.plc_base.specs.declared.key.Key.{Key}
@@ -61,8 +62,10 @@ use Rattle.line_events.specs.declared.happenings.AgentLine.{AgentLine}
 use Rattle.line_events.specs.declared.happenings.BroadcastUp.{BroadcastUp}
 use Rattle.line_events.specs.declared.happenings.PathLine.{PathLine}
 use Rattle.line_rules.specs.Answers.{Reception, only, frame_word, command_word, discovery_word, broadcast_word, ask_word, scan_word}
-use Rattle.line_rules.specs.Steps.{Step, set_up, ran, told, spoken, happened, trace_of, once_begun, in_setup, on_node, on_meter, on_flight, acted, psk_of, identity, hears, heard, received, forged_by, note_by, restarts, restart, tick, step}
-use Rattle.line_rules.specs.Worlds.{World, Flight, Trace, Broadcasting, Stepping, Noticed, Replied, Acknowledged, Scans, Heard, Further, nothing_further, node_at}
+use Rattle.line_rules.specs.Steps.{Step, set_up, ran, told, spoken, happened, trace_of, once_begun, in_setup, on_node, on_meter, on_flight, acted, psk_of}
+use Rattle.line_rules.specs.Steps.{identity, hears, heard, received, forged_by, note_by, restarts, restart, tick, step}
+use Rattle.line_rules.specs.Worlds.{World, Flight, Trace, Broadcasting, Stepping, Noticed, Replied, Acknowledged, Scans, Heard, Further, nothing_further}
+use Rattle.line_rules.specs.Worlds.{node_at}
 
 -- # What stands beside the memory
 

@@ -1,5 +1,6 @@
 -- What an event does to the world, or why it is not taken.
-use Rattle.std.specs.Prelude.{ℕ, ◌+◌, ◌-◌, Bool, true, false, not, ◌==◌, ◌&&◌, ◌||◌, nat_lt, List, [], ◌∷◌, ◌++◌, length, map, is_some, slice_set, position, Option, Some, None, Result, Ok, Err, if◌then◌else◌}
+use Rattle.std.specs.Prelude.{ℕ, ◌+◌, ◌-◌, Bool, true, false, not, ◌==◌, ◌&&◌, ◌||◌, nat_lt, List, [], ◌∷◌, ◌++◌, length, map, is_some, slice_set, position}
+use Rattle.std.specs.Prelude.{Option, Some, None, Result, Ok, Err, if◌then◌else◌}
 use Rattle.std.specs.List.{list_any}
 use Rattle.std.specs.Option.{option_map, option_map_or}
 use Rattle.std.specs.FinMap as maps
@@ -39,7 +40,8 @@ use Rattle.node_rules.specs.MemoryDrafts.{with_station, give_random}
 use Rattle.node_rules.specs.Meters as meters
 use Rattle.node_rules.specs.Coordinators as coordinator_rules
 use Rattle.node_rules.specs.StoreReading.{memory_of, remembering, blank_station, first_grant}
-use Rattle.line_rules.specs.Answers.{Reception, Up, SentGrant, CompletedJoining, frame_word, sent_word, random_word, join_word, leave_word, ordered_word, meter_reception, coordinator_reception}
+use Rattle.line_rules.specs.Answers.{Reception, Up, SentGrant, CompletedJoining, frame_word, sent_word, random_word, join_word, leave_word, ordered_word}
+use Rattle.line_rules.specs.Answers.{meter_reception, coordinator_reception}
 use Rattle.node_rules.specs.Showing.{shown_of}
 use Rattle.line_rules.specs.Worlds.{Flight, World, node_at, flight_at, note_of, is_forged_frame, is_forged_tag, Issued, Pairing, Trace, nothing_further}
 pub use Rattle.line_flights.specs.Flights.{flight_by}

@@ -1,5 +1,6 @@
 -- What is read is an event that a line can say.
-use Rattle.std.proofs.Common.{◌≡◌, ℕ, ◌+◌, ◌*◌, ◌-◌, ◌<◌, ◌≤◌, ◌==◌, Bool, true, false, ◌&&◌, List, [], ◌∷◌, length, Option, Some, None, Result, Ok, Err, refl, arith}
+use Rattle.std.proofs.Common.{◌≡◌, ℕ, ◌+◌, ◌*◌, ◌-◌, ◌<◌, ◌≤◌, ◌==◌, Bool, true, false, ◌&&◌, List, [], ◌∷◌, length, Option, Some, None, Result, Ok, Err, refl}
+use Rattle.std.proofs.Common.{arith}
 use Rattle.std.specs.Prelude.{All, IfSome, nat_lt, nat_le, if◌then◌else◌}
 use Rattle.std.specs.Result.{result_ok}
 use Rattle.std.proofs.lemmas.Option.{IfSome_then}
@@ -17,10 +18,13 @@ use Rattle.std.specs.Str.{bytes_eq}
 use Rattle.line_script.specs.declared.reading.Reading.TheVariants.{Quiet}
 use Rattle.line_script.specs.Kinds.{kind_word, kind_named}
 use Rattle.line_script.specs.Words.{◌>>=◌, Field, field, digit_more, number_from, number, number_within, cost, eui, sixteen_octets, hex_octets, keeps_new}
-use Rattle.line_script.specs.Readings.{coordinator_of, meter_of, depot_of, near_of, counter_of, number_of, allow_of, rand_of, join_of, leave_of, send_of, deliver_of, inject_of, lose_of, break_of, tick_of, restart_of, cut_of, rekey_of, challenge_of, activate_of, kick_of, show_of, bcast_of, scan_of, choose_of, path_of, event_by, event_alone, event_with, event_of, reads, reading}
+use Rattle.line_script.specs.Readings.{coordinator_of, meter_of, depot_of, near_of, counter_of, number_of, allow_of, rand_of, join_of, leave_of, send_of}
+use Rattle.line_script.specs.Readings.{deliver_of, inject_of, lose_of, break_of, tick_of, restart_of, cut_of, rekey_of, challenge_of, activate_of, kick_of}
+use Rattle.line_script.specs.Readings.{show_of, bcast_of, scan_of, choose_of, path_of, event_by, event_alone, event_with, event_of, reads, reading}
 use Rattle.line_script.specs.Lines.{IsInRange}
 
-if_then : {A B : Type 0} (P : A → Type 0) (Q : B → Type 0) (o : Option A) (f : A → Option B) → IfSome o P → ((a : A) → P a → IfSome (f a) Q) → IfSome (o >>= f) Q
+if_then : {A B : Type 0} (P : A → Type 0) (Q : B → Type 0) (o : Option A) (f : A → Option B) → IfSome o P → ((a : A) → P a → IfSome (f a) Q)
+    → IfSome (o >>= f) Q
 if_then P Q (Some a) f is all = all a is
 if_then P Q None f is all = tt
 
@@ -55,7 +59,8 @@ kinded None = tt
 
 -- # Numbers
 
-digit_by : (m : ℕ) (low high large : Bool) → nat_le 4294967296 m ≡ large → IfSome (if low then None else if high then None else if large then None else Some m) IsNumber
+digit_by : (m : ℕ) (low high large : Bool) → nat_le 4294967296 m ≡ large
+    → IfSome (if low then None else if high then None else if large then None else Some m) IsNumber
 digit_by m true high large is = tt
 digit_by m false true large is = tt
 digit_by m false false true is = tt
@@ -77,14 +82,16 @@ number_is (c ∷ cs) = if_not IsNumber (c == 48 && nat_lt 0 (length cs)) (number
 abbrev IsWithin : ℕ → ℕ → ℕ → Type 0
 IsWithin low high n = (low ≤ n) × (n ≤ high)
 
-range_by : (low high n : ℕ) (under over : Bool) → nat_lt n low ≡ under → nat_lt high n ≡ over → IfSome (if under then None else if over then None else Some n) (IsWithin low high)
+range_by : (low high n : ℕ) (under over : Bool) → nat_lt n low ≡ under → nat_lt high n ≡ over
+    → IfSome (if under then None else if over then None else Some n) (IsWithin low high)
 range_by low high n true over above below = tt
 range_by low high n false true above below = tt
 range_by low high n false false above below = (ltb-false n low above, ltb-false high n below)
 
 within_is : (low high : ℕ) (word : List ℕ) → IfSome (number_within low high word) (IsWithin low high)
 unfolding number_within
-within_is low high word = if_then IsNumber (IsWithin low high) (number word) _ (number_is word) (λ n is. range_by low high n (nat_lt n low) (nat_lt high n) refl refl)
+within_is low high word =
+    if_then IsNumber (IsWithin low high) (number word) _ (number_is word) (λ n is. range_by low high n (nat_lt n low) (nat_lt high n) refl refl)
 
 cost_is : (word : List ℕ) → IfSome (cost word) IsCost
 unfolding cost
@@ -128,7 +135,8 @@ line_octets word octets some room read = (omega (arith, some, read.0), omega (ar
 hex_is : (word : List ℕ) → IfSome (hex_octets word) IsLineOctets
 unfolding hex_octets
 hex_is word =
-    if_so IsLineOctets (nat_lt 0 (length word) && nat_le (length word) 4096) (nat_lt 0 (length word) && nat_le (length word) 4096) (result_ok (decode_of word)) refl
+    if_so IsLineOctets (nat_lt 0 (length word) && nat_le (length word) 4096) (nat_lt 0 (length word) && nat_le (length word) 4096) (result_ok (decode_of word))
+    refl
     (λ is. let both = and_parts (nat_lt 0 (length word)) (nat_le (length word) 4096) is in
     IfSome_then (result_ok (decode_of word)) (decoded word)
     (λ octets read. line_octets word octets (ltb-true 0 (length word) both.0) (leb-true (length word) 4096 both.1) read))
@@ -137,11 +145,15 @@ hex_is word =
 
 coordinator_fits : (octets : List ℕ) → IfSome (coordinator_of octets) IsEvent
 unfolding coordinator_of
-coordinator_fits octets = if_then Whatever IsEvent (field octets) _ (whatever (field octets)) (λ first u0. if_then IsEui IsEvent (eui first.word) _ (eui_is first.word) (λ who is_who. if_then (AreOctets 16) IsEvent (sixteen_octets first.rest) _ (sixteen_is first.rest) (λ key is_key. (is_who, is_key))))
+coordinator_fits octets = if_then Whatever IsEvent (field octets) _ (whatever (field octets))
+    (λ first u0. if_then IsEui IsEvent (eui first.word) _ (eui_is first.word)
+    (λ who is_who. if_then (AreOctets 16) IsEvent (sixteen_octets first.rest) _ (sixteen_is first.rest) (λ key is_key. (is_who, is_key))))
 
 meter_fits : (octets : List ℕ) → IfSome (meter_of octets) IsEvent
 unfolding meter_of
-meter_fits octets = if_then Whatever IsEvent (field octets) _ (whatever (field octets)) (λ first u0. if_then IsEui IsEvent (eui first.word) _ (eui_is first.word) (λ who is_who. if_then (AreOctets 16) IsEvent (sixteen_octets first.rest) _ (sixteen_is first.rest) (λ psk is_psk. (is_who, is_psk))))
+meter_fits octets = if_then Whatever IsEvent (field octets) _ (whatever (field octets))
+    (λ first u0. if_then IsEui IsEvent (eui first.word) _ (eui_is first.word)
+    (λ who is_who. if_then (AreOctets 16) IsEvent (sixteen_octets first.rest) _ (sixteen_is first.rest) (λ psk is_psk. (is_who, is_psk))))
 
 depot_fits : (octets : List ℕ) → IfSome (depot_of octets) IsEvent
 unfolding depot_of
@@ -149,15 +161,24 @@ depot_fits octets = if_then IsNumber IsEvent (number octets) _ (number_is octets
 
 near_fits : (octets : List ℕ) → IfSome (near_of octets) IsEvent
 unfolding near_of
-near_fits octets = if_then Whatever IsEvent (field octets) _ (whatever (field octets)) (λ first u0. if_then IsNumber IsEvent (number first.word) _ (number_is first.word) (λ a is_a. if_then Whatever IsEvent (field first.rest) _ (whatever (field first.rest)) (λ second u1. if_then IsNumber IsEvent (number second.word) _ (number_is second.word) (λ b is_b. if_then IsCost IsEvent (cost second.rest) _ (cost_is second.rest) (λ link is_link. (is_a, is_b, is_link))))))
+near_fits octets = if_then Whatever IsEvent (field octets) _ (whatever (field octets))
+    (λ first u0. if_then IsNumber IsEvent (number first.word) _ (number_is first.word)
+    (λ a is_a. if_then Whatever IsEvent (field first.rest) _ (whatever (field first.rest))
+    (λ second u1. if_then IsNumber IsEvent (number second.word) _ (number_is second.word)
+    (λ b is_b. if_then IsCost IsEvent (cost second.rest) _ (cost_is second.rest) (λ link is_link. (is_a, is_b, is_link))))))
 
 counter_fits : (octets : List ℕ) → IfSome (counter_of octets) IsEvent
 unfolding counter_of
-counter_fits octets = if_then Whatever IsEvent (field octets) _ (whatever (field octets)) (λ first u0. if_then IsNumber IsEvent (number first.word) _ (number_is first.word) (λ node is_node. if_then IsNumber IsEvent (number first.rest) _ (number_is first.rest) (λ value is_value. (is_node, is_value))))
+counter_fits octets = if_then Whatever IsEvent (field octets) _ (whatever (field octets))
+    (λ first u0. if_then IsNumber IsEvent (number first.word) _ (number_is first.word)
+    (λ node is_node. if_then IsNumber IsEvent (number first.rest) _ (number_is first.rest) (λ value is_value. (is_node, is_value))))
 
 number_fits : (octets : List ℕ) → IfSome (number_of octets) IsEvent
 unfolding number_of
-number_fits octets = if_then Whatever IsEvent (field octets) _ (whatever (field octets)) (λ first u0. if_then IsNumber IsEvent (number first.word) _ (number_is first.word) (λ node is_node. if_then (IsWithin 1 65535) IsEvent (number_within 1 65535 first.rest) _ (within_is 1 65535 first.rest) (λ value is_value. (is_node, is_value.0, below_65536 value is_value.1))))
+number_fits octets = if_then Whatever IsEvent (field octets) _ (whatever (field octets))
+    (λ first u0. if_then IsNumber IsEvent (number first.word) _ (number_is first.word)
+    (λ node is_node. if_then (IsWithin 1 65535) IsEvent (number_within 1 65535 first.rest) _ (within_is 1 65535 first.rest)
+    (λ value is_value. (is_node, is_value.0, below_65536 value is_value.1))))
 
 allow_fits : (octets : List ℕ) → IfSome (allow_of octets) IsEvent
 unfolding allow_of
@@ -165,11 +186,15 @@ allow_fits octets = if_then IsNumber IsEvent (number octets) _ (number_is octets
 
 rand_fits : (octets : List ℕ) → IfSome (rand_of octets) IsEvent
 unfolding rand_of
-rand_fits octets = if_then Whatever IsEvent (field octets) _ (whatever (field octets)) (λ first u0. if_then IsNumber IsEvent (number first.word) _ (number_is first.word) (λ node is_node. if_then (AreOctets 16) IsEvent (sixteen_octets first.rest) _ (sixteen_is first.rest) (λ value is_value. (is_node, is_value))))
+rand_fits octets = if_then Whatever IsEvent (field octets) _ (whatever (field octets))
+    (λ first u0. if_then IsNumber IsEvent (number first.word) _ (number_is first.word)
+    (λ node is_node. if_then (AreOctets 16) IsEvent (sixteen_octets first.rest) _ (sixteen_is first.rest) (λ value is_value. (is_node, is_value))))
 
 join_fits : (octets : List ℕ) → IfSome (join_of octets) IsEvent
 unfolding join_of
-join_fits octets = if_then Whatever IsEvent (field octets) _ (whatever (field octets)) (λ first u0. if_then IsNumber IsEvent (number first.word) _ (number_is first.word) (λ node is_node. if_then IsNumber IsEvent (number first.rest) _ (number_is first.rest) (λ agent is_agent. (is_node, is_agent))))
+join_fits octets = if_then Whatever IsEvent (field octets) _ (whatever (field octets))
+    (λ first u0. if_then IsNumber IsEvent (number first.word) _ (number_is first.word)
+    (λ node is_node. if_then IsNumber IsEvent (number first.rest) _ (number_is first.rest) (λ agent is_agent. (is_node, is_agent))))
 
 leave_fits : (octets : List ℕ) → IfSome (leave_of octets) IsEvent
 unfolding leave_of
@@ -177,15 +202,27 @@ leave_fits octets = if_then IsNumber IsEvent (number octets) _ (number_is octets
 
 send_fits : (octets : List ℕ) → IfSome (send_of octets) IsEvent
 unfolding send_of
-send_fits octets = if_then Whatever IsEvent (field octets) _ (whatever (field octets)) (λ first u0. if_then IsNumber IsEvent (number first.word) _ (number_is first.word) (λ from is_from. if_then Whatever IsEvent (field first.rest) _ (whatever (field first.rest)) (λ second u1. if_then IsNumber IsEvent (number second.word) _ (number_is second.word) (λ to is_to. if_then IsLineOctets IsEvent (hex_octets second.rest) _ (hex_is second.rest) (λ datagram is_datagram. (is_from, is_to, is_datagram))))))
+send_fits octets = if_then Whatever IsEvent (field octets) _ (whatever (field octets))
+    (λ first u0. if_then IsNumber IsEvent (number first.word) _ (number_is first.word)
+    (λ from is_from. if_then Whatever IsEvent (field first.rest) _ (whatever (field first.rest))
+    (λ second u1. if_then IsNumber IsEvent (number second.word) _ (number_is second.word)
+    (λ to is_to. if_then IsLineOctets IsEvent (hex_octets second.rest) _ (hex_is second.rest) (λ datagram is_datagram. (is_from, is_to, is_datagram))))))
 
 deliver_fits : (octets : List ℕ) → IfSome (deliver_of octets) IsEvent
 unfolding deliver_of
-deliver_fits octets = if_then Whatever IsEvent (field octets) _ (whatever (field octets)) (λ first u0. if_then IsNumber IsEvent (number first.word) _ (number_is first.word) (λ flight is_flight. if_then Whatever IsEvent (field first.rest) _ (whatever (field first.rest)) (λ second u1. if_then IsNumber IsEvent (number second.word) _ (number_is second.word) (λ node is_node. if_then IsCost IsEvent (cost second.rest) _ (cost_is second.rest) (λ link is_link. (is_flight, is_node, is_link))))))
+deliver_fits octets = if_then Whatever IsEvent (field octets) _ (whatever (field octets))
+    (λ first u0. if_then IsNumber IsEvent (number first.word) _ (number_is first.word)
+    (λ flight is_flight. if_then Whatever IsEvent (field first.rest) _ (whatever (field first.rest))
+    (λ second u1. if_then IsNumber IsEvent (number second.word) _ (number_is second.word)
+    (λ node is_node. if_then IsCost IsEvent (cost second.rest) _ (cost_is second.rest) (λ link is_link. (is_flight, is_node, is_link))))))
 
 inject_fits : (octets : List ℕ) → IfSome (inject_of octets) IsEvent
 unfolding inject_of
-inject_fits octets = if_then Whatever IsEvent (field octets) _ (whatever (field octets)) (λ first u0. if_then IsNumber IsEvent (number first.word) _ (number_is first.word) (λ node is_node. if_then Whatever IsEvent (field first.rest) _ (whatever (field first.rest)) (λ second u1. if_then IsCost IsEvent (cost second.word) _ (cost_is second.word) (λ link is_link. if_then IsLineOctets IsEvent (hex_octets second.rest) _ (hex_is second.rest) (λ octets is_octets. (is_node, is_link, is_octets))))))
+inject_fits octets = if_then Whatever IsEvent (field octets) _ (whatever (field octets))
+    (λ first u0. if_then IsNumber IsEvent (number first.word) _ (number_is first.word)
+    (λ node is_node. if_then Whatever IsEvent (field first.rest) _ (whatever (field first.rest))
+    (λ second u1. if_then IsCost IsEvent (cost second.word) _ (cost_is second.word)
+    (λ link is_link. if_then IsLineOctets IsEvent (hex_octets second.rest) _ (hex_is second.rest) (λ octets is_octets. (is_node, is_link, is_octets))))))
 
 lose_fits : (octets : List ℕ) → IfSome (lose_of octets) IsEvent
 unfolding lose_of
@@ -193,11 +230,14 @@ lose_fits octets = if_then IsNumber IsEvent (number octets) _ (number_is octets)
 
 break_fits : (octets : List ℕ) → IfSome (break_of octets) IsEvent
 unfolding break_of
-break_fits octets = if_then Whatever IsEvent (field octets) _ (whatever (field octets)) (λ first u0. if_then IsNumber IsEvent (number first.word) _ (number_is first.word) (λ node is_node. if_then IsNumber IsEvent (number first.rest) _ (number_is first.rest) (λ next is_next. (is_node, is_next))))
+break_fits octets = if_then Whatever IsEvent (field octets) _ (whatever (field octets))
+    (λ first u0. if_then IsNumber IsEvent (number first.word) _ (number_is first.word)
+    (λ node is_node. if_then IsNumber IsEvent (number first.rest) _ (number_is first.rest) (λ next is_next. (is_node, is_next))))
 
 tick_fits : (octets : List ℕ) → IfSome (tick_of octets) IsEvent
 unfolding tick_of
-tick_fits octets = if_then (IsWithin 1 86400) IsEvent (number_within 1 86400 octets) _ (within_is 1 86400 octets) (λ seconds is_seconds. (is_seconds.0, is_seconds.1))
+tick_fits octets =
+    if_then (IsWithin 1 86400) IsEvent (number_within 1 86400 octets) _ (within_is 1 86400 octets) (λ seconds is_seconds. (is_seconds.0, is_seconds.1))
 
 restart_fits : (octets : List ℕ) → IfSome (restart_of octets) IsEvent
 unfolding restart_of
@@ -205,11 +245,17 @@ restart_fits octets = if_then IsNumber IsEvent (number octets) _ (number_is octe
 
 cut_fits : (octets : List ℕ) → IfSome (cut_of octets) IsEvent
 unfolding cut_of
-cut_fits octets = if_then Whatever IsEvent (field octets) _ (whatever (field octets)) (λ first u0. if_then IsNumber IsEvent (number first.word) _ (number_is first.word) (λ node is_node. if_then Whatever IsEvent (field first.rest) _ (whatever (field first.rest)) (λ second u1. if_then (IsWithin 1 1000) IsEvent (number_within 1 1000 second.word) _ (within_is 1 1000 second.word) (λ nth is_nth. if_then Chosen IsEvent (keeps_new second.rest) _ (chosen (keeps_new second.rest)) (λ keeps is_keeps. (is_node, is_nth.0, is_nth.1))))))
+cut_fits octets = if_then Whatever IsEvent (field octets) _ (whatever (field octets))
+    (λ first u0. if_then IsNumber IsEvent (number first.word) _ (number_is first.word)
+    (λ node is_node. if_then Whatever IsEvent (field first.rest) _ (whatever (field first.rest))
+    (λ second u1. if_then (IsWithin 1 1000) IsEvent (number_within 1 1000 second.word) _ (within_is 1 1000 second.word)
+    (λ nth is_nth. if_then Chosen IsEvent (keeps_new second.rest) _ (chosen (keeps_new second.rest)) (λ keeps is_keeps. (is_node, is_nth.0, is_nth.1))))))
 
 rekey_fits : (octets : List ℕ) → IfSome (rekey_of octets) IsEvent
 unfolding rekey_of
-rekey_fits octets = if_then Whatever IsEvent (field octets) _ (whatever (field octets)) (λ first u0. if_then (IsWithin 0 1) IsEvent (number_within 0 1 first.word) _ (within_is 0 1 first.word) (λ index is_index. if_then (AreOctets 16) IsEvent (sixteen_octets first.rest) _ (sixteen_is first.rest) (λ key is_key. (is_index.1, is_key))))
+rekey_fits octets = if_then Whatever IsEvent (field octets) _ (whatever (field octets))
+    (λ first u0. if_then (IsWithin 0 1) IsEvent (number_within 0 1 first.word) _ (within_is 0 1 first.word)
+    (λ index is_index. if_then (AreOctets 16) IsEvent (sixteen_octets first.rest) _ (sixteen_is first.rest) (λ key is_key. (is_index.1, is_key))))
 
 challenge_fits : (octets : List ℕ) → IfSome (challenge_of octets) IsEvent
 unfolding challenge_of
@@ -217,7 +263,9 @@ challenge_fits octets = if_then IsNumber IsEvent (number octets) _ (number_is oc
 
 activate_fits : (octets : List ℕ) → IfSome (activate_of octets) IsEvent
 unfolding activate_of
-activate_fits octets = if_then Whatever IsEvent (field octets) _ (whatever (field octets)) (λ first u0. if_then IsNumber IsEvent (number first.word) _ (number_is first.word) (λ node is_node. if_then (IsWithin 0 1) IsEvent (number_within 0 1 first.rest) _ (within_is 0 1 first.rest) (λ index is_index. (is_node, is_index.1))))
+activate_fits octets = if_then Whatever IsEvent (field octets) _ (whatever (field octets))
+    (λ first u0. if_then IsNumber IsEvent (number first.word) _ (number_is first.word)
+    (λ node is_node. if_then (IsWithin 0 1) IsEvent (number_within 0 1 first.rest) _ (within_is 0 1 first.rest) (λ index is_index. (is_node, is_index.1))))
 
 kick_fits : (octets : List ℕ) → IfSome (kick_of octets) IsEvent
 unfolding kick_of

@@ -7,14 +7,18 @@ use Rattle.plc_base.specs.declared.address.Eui.{Eui}
 use Rattle.plc_base.specs.declared.key.Key.{Key}
 use Rattle.plc_base.specs.declared.key.Rand.{Rand}
 use Rattle.line_events.specs.declared.event.Event.{Event}
-use Rattle.line_events.specs.declared.event.Event.TheVariants.{Coordinator, Meter, Depot, Near, Counter, Number, Allow, Rand as GiveRand, Join, Leave, Send, Deliver, Inject, Lose, Break, Tick, Restart, Cut, Rekey, Challenge, Activate, Kick, Show, Checks, Bcast, Scan, Choose, Path}
+use Rattle.line_events.specs.declared.event.Event.TheVariants.{Coordinator, Meter, Depot, Near, Counter, Number, Allow, Rand as GiveRand, Join, Leave, Send}
+use Rattle.line_events.specs.declared.event.Event.TheVariants.{Deliver, Inject, Lose, Break, Tick, Restart, Cut, Rekey, Challenge, Activate, Kick, Show, Checks}
+use Rattle.line_events.specs.declared.event.Event.TheVariants.{Bcast, Scan, Choose, Path}
 use Rattle.line_events.specs.Events.{IsEvent, AreOctets, IsEui, IsLineOctets}
 use Rattle.line_script.specs.declared.kind.EventKind.{EventKind}
 use Rattle.line_script.specs.declared.kind.EventKind.TheVariants as kinds
 use Rattle.line_script.specs.declared.reading.Reading.TheVariants.{Reads}
 use Rattle.line_script.specs.Kinds.{kind_word, kind_named}
 use Rattle.line_script.specs.Words.{field, number_within, cost, eui, sixteen_octets, hex_octets, keeps_new}
-use Rattle.line_script.specs.Readings.{coordinator_of, meter_of, depot_of, near_of, counter_of, number_of, allow_of, rand_of, join_of, leave_of, send_of, deliver_of, inject_of, lose_of, break_of, tick_of, restart_of, cut_of, rekey_of, challenge_of, activate_of, kick_of, show_of, bcast_of, scan_of, choose_of, path_of, event_by, event_alone, event_of, reads, reading}
+use Rattle.line_script.specs.Readings.{coordinator_of, meter_of, depot_of, near_of, counter_of, number_of, allow_of, rand_of, join_of, leave_of, send_of}
+use Rattle.line_script.specs.Readings.{deliver_of, inject_of, lose_of, break_of, tick_of, restart_of, cut_of, rekey_of, challenge_of, activate_of, kick_of}
+use Rattle.line_script.specs.Readings.{show_of, bcast_of, scan_of, choose_of, path_of, event_by, event_alone, event_of, reads, reading}
 use Rattle.line_script.specs.Lines.{spaced, kept_word}
 use Rattle.line_script.specs.Laws.{LinesAreReadBack}
 use Rattle.line_script.proofs.WordsRead.{IsWord, field_read, number_read, decimal_word, hex_word, octets_read, digits_long}
@@ -45,7 +49,8 @@ hex_read : (octets : List ℕ) → IsLineOctets octets → hex_octets (encode_lo
 unfolding hex_octets
 hex_read octets are =
     let long = digits_long octets in
-    rw (lt-ltb 0 (length (encode_lower octets)) (omega (arith, long, are.0)), le-leb (length (encode_lower octets)) 4096 (omega (arith, long, are.1))) (octets_read octets are.2)
+    rw (lt-ltb 0 (length (encode_lower octets)) (omega (arith, long, are.0)), le-leb (length (encode_lower octets)) 4096 (omega (arith, long, are.1)))
+    (octets_read octets are.2)
 
 kept_read : (keeps : Bool) → keeps_new (kept_word keeps) ≡ Some keeps
 unfolding keeps_new
@@ -155,7 +160,8 @@ kind_read kinds.Path rest = ap reads (event_read kinds.Path rest)
 line_read : (kind : EventKind) (rest : List ℕ) (event : Event) → event_by kind rest ≡ Some event → reading (spaced (kind_word kind) rest) ≡ Reads event
 line_read kind rest event is = kind_read kind rest ∙ ap reads is
 
-coordinator_line_read : (who : Eui) (key : Key) → IsEvent (Coordinator who key) → coordinator_of (spaced (encode_lower who.0) (encode_lower key.0)) ≡ Some (Coordinator who key)
+coordinator_line_read : (who : Eui) (key : Key) → IsEvent (Coordinator who key)
+    → coordinator_of (spaced (encode_lower who.0) (encode_lower key.0)) ≡ Some (Coordinator who key)
 unfolding coordinator_of
 coordinator_line_read who key is =
     rw (field_read (encode_lower who.0) (encode_lower key.0) (hex_word who.0), eui_read who is.0, sixteen_read key.0 is.1) refl
@@ -174,7 +180,13 @@ near_line_read : (a : ℕ) (b : ℕ) (link : ℕ) → IsEvent (Near a b link) �
 unfolding near_of
 near_line_read a b link is =
     let above_link : 1 ≤ link = is.2.0 in let below_link : link ≤ 255 = is.2.1 in
-    rw (field_read (decimal a) (spaced (decimal b) (decimal link)) (decimal_word a is.0), number_read a is.0, field_read (decimal b) (decimal link) (decimal_word b is.1), number_read b is.1, cost_read link above_link below_link) refl
+    rw (
+      field_read (decimal a) (spaced (decimal b) (decimal link)) (decimal_word a is.0),
+      number_read a is.0,
+      field_read (decimal b) (decimal link) (decimal_word b is.1),
+      number_read b is.1,
+      cost_read link above_link below_link,
+    ) refl
 
 counter_line_read : (node : ℕ) (value : ℕ) → IsEvent (Counter node value) → counter_of (spaced (decimal node) (decimal value)) ≡ Some (Counter node value)
 unfolding counter_of
@@ -185,7 +197,11 @@ number_line_read : (node : ℕ) (value : ℕ) → IsEvent (Number node value) �
 unfolding number_of
 number_line_read node value is =
     let above_value : 1 ≤ value = is.1 in let room_value : value < 65536 = is.2 in let below_value : value ≤ 65535 = omega arith in
-    rw (field_read (decimal node) (decimal value) (decimal_word node is.0), number_read node is.0, within_read 1 65535 value (omega arith) above_value below_value) refl
+    rw (
+      field_read (decimal node) (decimal value) (decimal_word node is.0),
+      number_read node is.0,
+      within_read 1 65535 value (omega arith) above_value below_value,
+    ) refl
 
 allow_line_read : (node : ℕ) → IsEvent (Allow node) → allow_of (decimal node) ≡ Some (Allow node)
 unfolding allow_of
@@ -207,22 +223,43 @@ unfolding leave_of
 leave_line_read node is =
     rw (number_read node is) refl
 
-send_line_read : (from : ℕ) (to : ℕ) (datagram : List ℕ) → IsEvent (Send from to datagram) → send_of (spaced (decimal from) (spaced (decimal to) (encode_lower datagram))) ≡ Some (Send from to datagram)
+send_line_read : (from : ℕ) (to : ℕ) (datagram : List ℕ) → IsEvent (Send from to datagram)
+    → send_of (spaced (decimal from) (spaced (decimal to) (encode_lower datagram))) ≡ Some (Send from to datagram)
 unfolding send_of
 send_line_read from to datagram is =
-    rw (field_read (decimal from) (spaced (decimal to) (encode_lower datagram)) (decimal_word from is.0), number_read from is.0, field_read (decimal to) (encode_lower datagram) (decimal_word to is.1), number_read to is.1, hex_read datagram is.2) refl
+    rw (
+      field_read (decimal from) (spaced (decimal to) (encode_lower datagram)) (decimal_word from is.0),
+      number_read from is.0,
+      field_read (decimal to) (encode_lower datagram) (decimal_word to is.1),
+      number_read to is.1,
+      hex_read datagram is.2,
+    ) refl
 
-deliver_line_read : (flight : ℕ) (node : ℕ) (link : ℕ) → IsEvent (Deliver flight node link) → deliver_of (spaced (decimal flight) (spaced (decimal node) (decimal link))) ≡ Some (Deliver flight node link)
+deliver_line_read : (flight : ℕ) (node : ℕ) (link : ℕ) → IsEvent (Deliver flight node link)
+    → deliver_of (spaced (decimal flight) (spaced (decimal node) (decimal link))) ≡ Some (Deliver flight node link)
 unfolding deliver_of
 deliver_line_read flight node link is =
     let above_link : 1 ≤ link = is.2.0 in let below_link : link ≤ 255 = is.2.1 in
-    rw (field_read (decimal flight) (spaced (decimal node) (decimal link)) (decimal_word flight is.0), number_read flight is.0, field_read (decimal node) (decimal link) (decimal_word node is.1), number_read node is.1, cost_read link above_link below_link) refl
+    rw (
+      field_read (decimal flight) (spaced (decimal node) (decimal link)) (decimal_word flight is.0),
+      number_read flight is.0,
+      field_read (decimal node) (decimal link) (decimal_word node is.1),
+      number_read node is.1,
+      cost_read link above_link below_link,
+    ) refl
 
-inject_line_read : (node : ℕ) (link : ℕ) (octets : List ℕ) → IsEvent (Inject node link octets) → inject_of (spaced (decimal node) (spaced (decimal link) (encode_lower octets))) ≡ Some (Inject node link octets)
+inject_line_read : (node : ℕ) (link : ℕ) (octets : List ℕ) → IsEvent (Inject node link octets)
+    → inject_of (spaced (decimal node) (spaced (decimal link) (encode_lower octets))) ≡ Some (Inject node link octets)
 unfolding inject_of
 inject_line_read node link octets is =
     let above_link : 1 ≤ link = is.1.0 in let below_link : link ≤ 255 = is.1.1 in
-    rw (field_read (decimal node) (spaced (decimal link) (encode_lower octets)) (decimal_word node is.0), number_read node is.0, field_read (decimal link) (encode_lower octets) (decimal_word link (omega arith)), cost_read link above_link below_link, hex_read octets is.2) refl
+    rw (
+      field_read (decimal node) (spaced (decimal link) (encode_lower octets)) (decimal_word node is.0),
+      number_read node is.0,
+      field_read (decimal link) (encode_lower octets) (decimal_word link (omega arith)),
+      cost_read link above_link below_link,
+      hex_read octets is.2,
+    ) refl
 
 lose_line_read : (flight : ℕ) → IsEvent (Lose flight) → lose_of (decimal flight) ≡ Some (Lose flight)
 unfolding lose_of
@@ -245,17 +282,28 @@ unfolding restart_of
 restart_line_read node is =
     rw (number_read node is) refl
 
-cut_line_read : (node : ℕ) (nth : ℕ) (keeps : Bool) → IsEvent (Cut node nth keeps) → cut_of (spaced (decimal node) (spaced (decimal nth) (kept_word keeps))) ≡ Some (Cut node nth keeps)
+cut_line_read : (node : ℕ) (nth : ℕ) (keeps : Bool) → IsEvent (Cut node nth keeps)
+    → cut_of (spaced (decimal node) (spaced (decimal nth) (kept_word keeps))) ≡ Some (Cut node nth keeps)
 unfolding cut_of
 cut_line_read node nth keeps is =
     let above_nth : 1 ≤ nth = is.1 in let below_nth : nth ≤ 1000 = is.2 in
-    rw (field_read (decimal node) (spaced (decimal nth) (kept_word keeps)) (decimal_word node is.0), number_read node is.0, field_read (decimal nth) (kept_word keeps) (decimal_word nth (omega arith)), within_read 1 1000 nth (omega arith) above_nth below_nth, kept_read keeps) refl
+    rw (
+      field_read (decimal node) (spaced (decimal nth) (kept_word keeps)) (decimal_word node is.0),
+      number_read node is.0,
+      field_read (decimal nth) (kept_word keeps) (decimal_word nth (omega arith)),
+      within_read 1 1000 nth (omega arith) above_nth below_nth,
+      kept_read keeps,
+    ) refl
 
 rekey_line_read : (index : ℕ) (key : Key) → IsEvent (Rekey index key) → rekey_of (spaced (decimal index) (encode_lower key.0)) ≡ Some (Rekey index key)
 unfolding rekey_of
 rekey_line_read index key is =
     let above_index : 0 ≤ index = omega arith in let below_index : index ≤ 1 = is.0 in
-    rw (field_read (decimal index) (encode_lower key.0) (decimal_word index (omega arith)), within_read 0 1 index (omega arith) above_index below_index, sixteen_read key.0 is.1) refl
+    rw (
+      field_read (decimal index) (encode_lower key.0) (decimal_word index (omega arith)),
+      within_read 0 1 index (omega arith) above_index below_index,
+      sixteen_read key.0 is.1,
+    ) refl
 
 challenge_line_read : (node : ℕ) → IsEvent (Challenge node) → challenge_of (decimal node) ≡ Some (Challenge node)
 unfolding challenge_of
@@ -266,7 +314,8 @@ activate_line_read : (node : ℕ) (index : ℕ) → IsEvent (Activate node index
 unfolding activate_of
 activate_line_read node index is =
     let above_index : 0 ≤ index = omega arith in let below_index : index ≤ 1 = is.1 in
-    rw (field_read (decimal node) (decimal index) (decimal_word node is.0), number_read node is.0, within_read 0 1 index (omega arith) above_index below_index) refl
+    rw (field_read (decimal node) (decimal index) (decimal_word node is.0), number_read node is.0, within_read 0 1 index (omega arith) above_index below_index)
+    refl
 
 kick_line_read : (node : ℕ) → IsEvent (Kick node) → kick_of (decimal node) ≡ Some (Kick node)
 unfolding kick_of
@@ -278,7 +327,8 @@ unfolding show_of
 show_line_read node is =
     rw (number_read node is) refl
 
-bcast_line_read : (node : ℕ) (datagram : List ℕ) → IsEvent (Bcast node datagram) → bcast_of (spaced (decimal node) (encode_lower datagram)) ≡ Some (Bcast node datagram)
+bcast_line_read : (node : ℕ) (datagram : List ℕ) → IsEvent (Bcast node datagram)
+    → bcast_of (spaced (decimal node) (encode_lower datagram)) ≡ Some (Bcast node datagram)
 unfolding bcast_of
 bcast_line_read node datagram is =
     rw (field_read (decimal node) (encode_lower datagram) (decimal_word node is.0), number_read node is.0, hex_read datagram is.1) refl
@@ -299,11 +349,13 @@ unfolding path_of
 path_line_read from to is =
     rw (field_read (decimal from) (decimal to) (decimal_word from is.0), number_read from is.0, number_read to is.1) refl
 
-by_kind_coordinator : (who : Eui) (key : Key) → IsEvent (Coordinator who key) → event_by kinds.Coordinator (spaced (encode_lower who.0) (encode_lower key.0)) ≡ Some (Coordinator who key)
+by_kind_coordinator : (who : Eui) (key : Key) → IsEvent (Coordinator who key)
+    → event_by kinds.Coordinator (spaced (encode_lower who.0) (encode_lower key.0)) ≡ Some (Coordinator who key)
 unfolding event_by
 by_kind_coordinator who key is = coordinator_line_read who key is
 
-by_kind_meter : (who : Eui) (psk : Key) → IsEvent (Meter who psk) → event_by kinds.Meter (spaced (encode_lower who.0) (encode_lower psk.0)) ≡ Some (Meter who psk)
+by_kind_meter : (who : Eui) (psk : Key) → IsEvent (Meter who psk)
+    → event_by kinds.Meter (spaced (encode_lower who.0) (encode_lower psk.0)) ≡ Some (Meter who psk)
 unfolding event_by
 by_kind_meter who psk is = meter_line_read who psk is
 
@@ -311,11 +363,13 @@ by_kind_depot : (node : ℕ) → IsEvent (Depot node) → event_by kinds.Depot (
 unfolding event_by
 by_kind_depot node is = depot_line_read node is
 
-by_kind_near : (a : ℕ) (b : ℕ) (link : ℕ) → IsEvent (Near a b link) → event_by kinds.Near (spaced (decimal a) (spaced (decimal b) (decimal link))) ≡ Some (Near a b link)
+by_kind_near : (a : ℕ) (b : ℕ) (link : ℕ) → IsEvent (Near a b link)
+    → event_by kinds.Near (spaced (decimal a) (spaced (decimal b) (decimal link))) ≡ Some (Near a b link)
 unfolding event_by
 by_kind_near a b link is = near_line_read a b link is
 
-by_kind_counter : (node : ℕ) (value : ℕ) → IsEvent (Counter node value) → event_by kinds.Counter (spaced (decimal node) (decimal value)) ≡ Some (Counter node value)
+by_kind_counter : (node : ℕ) (value : ℕ) → IsEvent (Counter node value)
+    → event_by kinds.Counter (spaced (decimal node) (decimal value)) ≡ Some (Counter node value)
 unfolding event_by
 by_kind_counter node value is = counter_line_read node value is
 
@@ -327,7 +381,8 @@ by_kind_allow : (node : ℕ) → IsEvent (Allow node) → event_by kinds.Allow (
 unfolding event_by
 by_kind_allow node is = allow_line_read node is
 
-by_kind_rand : (node : ℕ) (value : Rand) → IsEvent (GiveRand node value) → event_by kinds.Rand (spaced (decimal node) (encode_lower value.0)) ≡ Some (GiveRand node value)
+by_kind_rand : (node : ℕ) (value : Rand) → IsEvent (GiveRand node value)
+    → event_by kinds.Rand (spaced (decimal node) (encode_lower value.0)) ≡ Some (GiveRand node value)
 unfolding event_by
 by_kind_rand node value is = rand_line_read node value is
 
@@ -339,15 +394,18 @@ by_kind_leave : (node : ℕ) → IsEvent (Leave node) → event_by kinds.Leave (
 unfolding event_by
 by_kind_leave node is = leave_line_read node is
 
-by_kind_send : (from : ℕ) (to : ℕ) (datagram : List ℕ) → IsEvent (Send from to datagram) → event_by kinds.Send (spaced (decimal from) (spaced (decimal to) (encode_lower datagram))) ≡ Some (Send from to datagram)
+by_kind_send : (from : ℕ) (to : ℕ) (datagram : List ℕ) → IsEvent (Send from to datagram)
+    → event_by kinds.Send (spaced (decimal from) (spaced (decimal to) (encode_lower datagram))) ≡ Some (Send from to datagram)
 unfolding event_by
 by_kind_send from to datagram is = send_line_read from to datagram is
 
-by_kind_deliver : (flight : ℕ) (node : ℕ) (link : ℕ) → IsEvent (Deliver flight node link) → event_by kinds.Deliver (spaced (decimal flight) (spaced (decimal node) (decimal link))) ≡ Some (Deliver flight node link)
+by_kind_deliver : (flight : ℕ) (node : ℕ) (link : ℕ) → IsEvent (Deliver flight node link)
+    → event_by kinds.Deliver (spaced (decimal flight) (spaced (decimal node) (decimal link))) ≡ Some (Deliver flight node link)
 unfolding event_by
 by_kind_deliver flight node link is = deliver_line_read flight node link is
 
-by_kind_inject : (node : ℕ) (link : ℕ) (octets : List ℕ) → IsEvent (Inject node link octets) → event_by kinds.Inject (spaced (decimal node) (spaced (decimal link) (encode_lower octets))) ≡ Some (Inject node link octets)
+by_kind_inject : (node : ℕ) (link : ℕ) (octets : List ℕ) → IsEvent (Inject node link octets)
+    → event_by kinds.Inject (spaced (decimal node) (spaced (decimal link) (encode_lower octets))) ≡ Some (Inject node link octets)
 unfolding event_by
 by_kind_inject node link octets is = inject_line_read node link octets is
 
@@ -367,11 +425,13 @@ by_kind_restart : (node : ℕ) → IsEvent (Restart node) → event_by kinds.Res
 unfolding event_by
 by_kind_restart node is = restart_line_read node is
 
-by_kind_cut : (node : ℕ) (nth : ℕ) (keeps : Bool) → IsEvent (Cut node nth keeps) → event_by kinds.Cut (spaced (decimal node) (spaced (decimal nth) (kept_word keeps))) ≡ Some (Cut node nth keeps)
+by_kind_cut : (node : ℕ) (nth : ℕ) (keeps : Bool) → IsEvent (Cut node nth keeps)
+    → event_by kinds.Cut (spaced (decimal node) (spaced (decimal nth) (kept_word keeps))) ≡ Some (Cut node nth keeps)
 unfolding event_by
 by_kind_cut node nth keeps is = cut_line_read node nth keeps is
 
-by_kind_rekey : (index : ℕ) (key : Key) → IsEvent (Rekey index key) → event_by kinds.Rekey (spaced (decimal index) (encode_lower key.0)) ≡ Some (Rekey index key)
+by_kind_rekey : (index : ℕ) (key : Key) → IsEvent (Rekey index key)
+    → event_by kinds.Rekey (spaced (decimal index) (encode_lower key.0)) ≡ Some (Rekey index key)
 unfolding event_by
 by_kind_rekey index key is = rekey_line_read index key is
 
@@ -379,7 +439,8 @@ by_kind_challenge : (node : ℕ) → IsEvent (Challenge node) → event_by kinds
 unfolding event_by
 by_kind_challenge node is = challenge_line_read node is
 
-by_kind_activate : (node : ℕ) (index : ℕ) → IsEvent (Activate node index) → event_by kinds.Activate (spaced (decimal node) (decimal index)) ≡ Some (Activate node index)
+by_kind_activate : (node : ℕ) (index : ℕ) → IsEvent (Activate node index)
+    → event_by kinds.Activate (spaced (decimal node) (decimal index)) ≡ Some (Activate node index)
 unfolding event_by
 by_kind_activate node index is = activate_line_read node index is
 
@@ -391,7 +452,8 @@ by_kind_show : (node : ℕ) → IsEvent (Show node) → event_by kinds.Show (dec
 unfolding event_by
 by_kind_show node is = show_line_read node is
 
-by_kind_bcast : (node : ℕ) (datagram : List ℕ) → IsEvent (Bcast node datagram) → event_by kinds.Bcast (spaced (decimal node) (encode_lower datagram)) ≡ Some (Bcast node datagram)
+by_kind_bcast : (node : ℕ) (datagram : List ℕ) → IsEvent (Bcast node datagram)
+    → event_by kinds.Bcast (spaced (decimal node) (encode_lower datagram)) ≡ Some (Bcast node datagram)
 unfolding event_by
 by_kind_bcast node datagram is = bcast_line_read node datagram is
 

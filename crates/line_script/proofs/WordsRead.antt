@@ -1,5 +1,6 @@
 -- What the words of a line are read as.
-use Rattle.std.proofs.Common.{◌≡◌, ℕ, zero, suc, ◌+◌, ◌*◌, ◌-◌, ◌/◌, ◌%◌, ◌<◌, ◌≤◌, ◌==◌, Bool, true, false, List, [], ◌∷◌, ◌++◌, length, take, drop, get_or, slice_index, Option, Some, None, refl, ap, ◌∙◌, arith}
+use Rattle.std.proofs.Common.{◌≡◌, ℕ, zero, suc, ◌+◌, ◌*◌, ◌-◌, ◌/◌, ◌%◌, ◌<◌, ◌≤◌, ◌==◌, Bool, true, false, List, [], ◌∷◌, ◌++◌, length, take, drop, get_or}
+use Rattle.std.proofs.Common.{slice_index, Option, Some, None, refl, ap, ◌∙◌, arith}
 use Rattle.std.specs.Prelude.{position, All}
 use Rattle.std.specs.List.{position_or_len}
 use Rattle.std.specs.Fmt.{decimal}
@@ -102,7 +103,8 @@ digit_word n digit = (ne_eqb (48 + n) 32 (λ is. omega (arith, is)), tt)
 
 pub decimal_word : (n : ℕ) → n < 4294967296 → IsWord (decimal n)
 decimal_word n room =
-    decimal_by_steps (λ m ds. IsWord ds) digit_word (λ m ds high front. joined_word ds ((48 + m % 10) ∷ []) front (digit_word (m % 10) (omega arith))) n (omega arith)
+    decimal_by_steps (λ m ds. IsWord ds) digit_word (λ m ds high front. joined_word ds ((48 + m % 10) ∷ []) front (digit_word (m % 10) (omega arith))) n
+    (omega arith)
 
 -- # Octets in hexadecimal
 

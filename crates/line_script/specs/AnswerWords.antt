@@ -1,7 +1,15 @@
 -- The words of answers.
 use Rattle.std.specs.Prelude.{ℕ, List, codes}
 use Rattle.line_events.specs.declared.event.Answer.{Answer}
-use Rattle.line_events.specs.declared.event.Answer.TheVariants.{Made, Joined, Set, Allowed, Given, Asked, Left, Sent, Waiting, Lost, Broken, Ticked, Restarted, Drawn, Challenged, Activated, Ordered, Kicked, Shown, Up, Held, Relayed, Answered, Learned, Reported, Carried, Replied, Took, Noted, Declined, Keyed, Done, NoAddress, Halted, NotJoined, BadSize, ToSelf, WaitingFull, MetersFull, RandomsFull, AlreadyJoined, IndexActive, NotIssued, BadStore, Malformed, NotForMe, NoKey, BadTag, Replayed, PeersFull, Store, BadUnit, NoRoute, HopsSpent, NotBetter, CostSpent, RoutesFull, NotAllowed, NoSession, SessionsFull, NoRandom, Form, OtherSession, BadMac, BadChannel, NoSuccess, NotHeld, BufferFull, SeqSpent, CounterSpent, Acked, Bup, Scanning, Beacon, Beaconed, Traced, Path, Blacklisted, NotAwaited, Old, OriginsFull, NumberSpent, NotScanning, NoBeacon, Revisited, PathLong}
+use Rattle.line_events.specs.declared.event.Answer.TheVariants.{Made, Joined, Set, Allowed, Given, Asked, Left, Sent, Waiting, Lost, Broken, Ticked, Restarted}
+use Rattle.line_events.specs.declared.event.Answer.TheVariants.{Drawn, Challenged, Activated, Ordered, Kicked, Shown, Up, Held, Relayed, Answered, Learned}
+use Rattle.line_events.specs.declared.event.Answer.TheVariants.{Reported, Carried, Replied, Took, Noted, Declined, Keyed, Done, NoAddress, Halted, NotJoined}
+use Rattle.line_events.specs.declared.event.Answer.TheVariants.{BadSize, ToSelf, WaitingFull, MetersFull, RandomsFull, AlreadyJoined, IndexActive, NotIssued}
+use Rattle.line_events.specs.declared.event.Answer.TheVariants.{BadStore, Malformed, NotForMe, NoKey, BadTag, Replayed, PeersFull, Store, BadUnit, NoRoute}
+use Rattle.line_events.specs.declared.event.Answer.TheVariants.{HopsSpent, NotBetter, CostSpent, RoutesFull, NotAllowed, NoSession, SessionsFull, NoRandom}
+use Rattle.line_events.specs.declared.event.Answer.TheVariants.{Form, OtherSession, BadMac, BadChannel, NoSuccess, NotHeld, BufferFull, SeqSpent, CounterSpent}
+use Rattle.line_events.specs.declared.event.Answer.TheVariants.{Acked, Bup, Scanning, Beacon, Beaconed, Traced, Path, Blacklisted, NotAwaited, Old, OriginsFull}
+use Rattle.line_events.specs.declared.event.Answer.TheVariants.{NumberSpent, NotScanning, NoBeacon, Revisited, PathLong}
 
 -- the word of an answer
 abbrev pub answer_word : Answer → List ℕ

@@ -2,7 +2,9 @@
 use Rattle.std.specs.Prelude.{ℕ, List, [], ◌∷◌, codes, Option, None, Some, if◌then◌else◌}
 use Rattle.std.specs.Str.{bytes_eq}
 use Rattle.line_script.specs.declared.kind.EventKind.{EventKind}
-use Rattle.line_script.specs.declared.kind.EventKind.TheVariants.{Coordinator, Meter, Depot, Near, Counter, Number, Allow, Rand, Join, Leave, Send, Deliver, Inject, Lose, Break, Tick, Restart, Cut, Rekey, Challenge, Activate, Kick, Show, Checks, Bcast, Scan, Choose, Path}
+use Rattle.line_script.specs.declared.kind.EventKind.TheVariants.{Coordinator, Meter, Depot, Near, Counter, Number, Allow, Rand, Join, Leave, Send, Deliver}
+use Rattle.line_script.specs.declared.kind.EventKind.TheVariants.{Inject, Lose, Break, Tick, Restart, Cut, Rekey, Challenge, Activate, Kick, Show, Checks}
+use Rattle.line_script.specs.declared.kind.EventKind.TheVariants.{Bcast, Scan, Choose, Path}
 use Rattle.line_script.specs.declared.kind.TheConstants.{KINDS}
 
 -- the first word of a kind's lines

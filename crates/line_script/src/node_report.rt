@@ -1,6 +1,7 @@
 //! The lines of a node that is shown.
 ghost use Rattle.std.specs.Prelude.{◌≡◌, ◌++◌, IfOk, OnOk, string_bytes};
-ghost use Rattle.line_script.specs.NodeTexts.{short_word, address_word, index_word, next_word, head_text, key_text, route_text, routes_text, floor_text, floors_text, peer_text, peers_text, running_text, node_text};
+ghost use Rattle.line_script.specs.NodeTexts.{short_word, address_word, index_word, next_word, head_text, key_text, route_text, routes_text, floor_text};
+ghost use Rattle.line_script.specs.NodeTexts.{floors_text, peer_text, peers_text, running_text, node_text};
 
 use node_rules::{Shown, ShownPeer, ShownRoute};
 use plc_base::{Key, KeyIndex, Short};

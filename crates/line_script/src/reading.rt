@@ -1,6 +1,8 @@
 //! What a line of a script says.
 ghost use Rattle.std.specs.Prelude.{◌≡◌, length};
-ghost use Rattle.line_script.specs.Readings.{coordinator_of, meter_of, depot_of, near_of, counter_of, number_of, allow_of, rand_of, join_of, leave_of, send_of, deliver_of, inject_of, lose_of, break_of, tick_of, restart_of, cut_of, rekey_of, challenge_of, activate_of, kick_of, show_of, bcast_of, scan_of, choose_of, path_of, event_by, event_alone, event_of, reading};
+ghost use Rattle.line_script.specs.Readings.{coordinator_of, meter_of, depot_of, near_of, counter_of, number_of, allow_of, rand_of, join_of, leave_of, send_of};
+ghost use Rattle.line_script.specs.Readings.{deliver_of, inject_of, lose_of, break_of, tick_of, restart_of, cut_of, rekey_of, challenge_of, activate_of};
+ghost use Rattle.line_script.specs.Readings.{kick_of, show_of, bcast_of, scan_of, choose_of, path_of, event_by, event_alone, event_of, reading};
 ghost use Rattle.line_script.specs.Lines.{IsInRange};
 
 use crate::kind::{EventKind, is_same};

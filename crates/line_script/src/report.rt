@@ -2,7 +2,8 @@
 ghost use Rattle.std.specs.Prelude.{◌≡◌, ◌++◌, IfOk, OnOk, codes, decimal, string_bytes, Some};
 ghost use Rattle.hex.specs.Hex.{encode_lower};
 ghost use Rattle.line_script.specs.NodeTexts.{short_word};
-ghost use Rattle.line_script.specs.Texts.{reason_word, answer_text, forged_text, up_text, bup_text, agent_text, walk_text, path_text, further_text, grant_text, took_text, done_text, shown_text, details_text, happened_text, fly_text, bad_text, end_text};
+ghost use Rattle.line_script.specs.Texts.{reason_word, answer_text, forged_text, up_text, bup_text, agent_text, walk_text, path_text, further_text, grant_text};
+ghost use Rattle.line_script.specs.Texts.{took_text, done_text, shown_text, details_text, happened_text, fly_text, bad_text, end_text};
 
 use crate::answer::{answer_word, spaced_verdict};
 use crate::node_report::{push_node, short_word};

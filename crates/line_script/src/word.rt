@@ -3,7 +3,8 @@ ghost use Rattle.std.specs.Prelude.{◌≡◌, ◌==◌, ◌<◌, ◌≤◌, ◌
 ghost use Rattle.std.specs.Option.{option_map};
 ghost use Rattle.std.specs.Result.{result_ok};
 ghost use Rattle.hex.specs.Hex.{decode_of, hex_digit_value, pair_value};
-ghost use Rattle.line_script.specs.Words.{Field, field, digit_more, number_from, number, number_within, cost, eui, sixteen_octets, value_below_16, hex_octets, keeps_new};
+ghost use Rattle.line_script.specs.Words.{Field, field, digit_more, number_from, number, number_within, cost, eui, sixteen_octets, value_below_16, hex_octets};
+ghost use Rattle.line_script.specs.Words.{keeps_new};
 
 use plc_base::{Eui, LinkCost, OctetRef};
 

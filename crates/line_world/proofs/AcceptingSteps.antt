@@ -67,7 +67,8 @@ some_is : {M : Type 0} (o : Option M) (m : M) → o ≡ Some m → IsSome o
 some_is {M} o m e = subst (λ (k : Option M). IsSome k) (sym e) (cc)
 
 -- a station that accepted a frame is not halted
-runs_by : (s t : State StationMemory) (l : StationMemory) (own : Eui) (a : Option Arrived) (got : Accepted) (out : Out) → Carries s (accept l own a) (Ok got) out t → IsSome t.memory
+runs_by : (s t : State StationMemory) (l : StationMemory) (own : Eui) (a : Option Arrived) (got : Accepted) (out : Out)
+    → Carries s (accept l own a) (Ok got) out t → IsSome t.memory
 runs_by s t l own a got out c = by_done c.done c.answer_is (ap (λ (x : State StationMemory). x.memory) c.new_is)
   where
     by_done : (done : Bool) → ◌≡◌ {A = Result Accepted FrameRefusal} (Ok got) (if done then (accept l own a).answer else (accept l own a).failed)
@@ -75,11 +76,13 @@ runs_by s t l own a got out c = by_done c.done c.answer_is (ap (λ (x : State St
     by_done true e m = some_is t.memory _ m
     by_done false e m = let never : ◌≡◌ {A = Result Accepted FrameRefusal} (Ok got) (Err Store) = e ∙ fails l own a in absurd (cc)
 
-runs : (s t : State StationMemory) (a : Option Arrived) (got : Accepted) (out : Out) → IfNone s.memory (◌≡◌ {A = Result Accepted FrameRefusal} (Ok got) (Err Halted) × (t ≡ s))
+runs : (s t : State StationMemory) (a : Option Arrived) (got : Accepted) (out : Out)
+    → IfNone s.memory (◌≡◌ {A = Result Accepted FrameRefusal} (Ok got) (Err Halted) × (t ≡ s))
     → IfSome s.memory (λ l. Carries s (accept l s.eui a) (Ok got) out t) → IsSome t.memory
 runs s t a got out = by_memory s.memory
   where
-    by_memory : (o : Option StationMemory) → IfNone o (◌≡◌ {A = Result Accepted FrameRefusal} (Ok got) (Err Halted) × (t ≡ s)) → IfSome o (λ l. Carries s (accept l s.eui a) (Ok got) out t)
+    by_memory : (o : Option StationMemory) → IfNone o (◌≡◌ {A = Result Accepted FrameRefusal} (Ok got) (Err Halted) × (t ≡ s))
+        → IfSome o (λ l. Carries s (accept l s.eui a) (Ok got) out t)
         → IsSome t.memory
     by_memory None h k = let never = h.0 in absurd (cc)
     by_memory (Some l) h k = runs_by s t l s.eui a got out k

@@ -68,7 +68,8 @@ took_plan role x y p answer out told c =
     by_cut role x y p answer out k.0 k.1 is (at x.store.told (λ d. d ≡ is.cut) k.0 k.1 is.told)
 
 -- what the keeper tells afterwards
-pub tells_still : {A : Type 0} (x y : State Memory) (p : Plan Memory A) (answer : A) (out : Out) → IsSome x.store.told → Carries x p answer out y → IsSome y.store.told
+pub tells_still : {A : Type 0} (x y : State Memory) (p : Plan Memory A) (answer : A) (out : Out) → IsSome x.store.told → Carries x p answer out y
+    → IsSome y.store.told
 tells_still {A} x y p answer out told c =
     let k = told_cut x.store.told told in
     let is = carried x p answer out y c in
@@ -120,7 +121,8 @@ told_after {A} role x y halted p answer out sound stayed carries = by x.memory s
     by None s c = subst (λ (z : State Memory). IsSome z.store.told) (sym s.2) sound.told
     by (Some m) s c = tells_still x y (p m) answer out sound.told c
 
-pub tables_after : {A : Type 0} (role : Role) (x y : State Memory) (halted : A) (p : Memory → Plan Memory A) (answer : A) (out : Out) → Places p → IsSound role x
+pub tables_after : {A : Type 0} (role : Role) (x y : State Memory) (halted : A) (p : Memory → Plan Memory A) (answer : A) (out : Out) → Places p
+    → IsSound role x
     → StayedHalted x halted answer out y → IfSome x.memory (λ m. Carries x (p m) answer out y) → HasGaplessTables role y.store.records
 tables_after {A} role x y halted p answer out places sound stayed carries = by x.memory sound.agrees stayed carries
   where
@@ -128,7 +130,8 @@ tables_after {A} role x y halted p answer out places sound stayed carries = by x
         → IfSome o (λ m. Carries x (p m) answer out y) → HasGaplessTables role y.store.records
     by None a s c = subst (λ (z : State Memory). HasGaplessTables role z.store.records) (sym s.2) sound.tables
     by (Some m) a s c =
-        writes_keep_tables role m.station m.book x.store (p m).puts c.done y.store (holds_tables role m x.store.records a) (places m (short_tables role m x.store.records a)) c.wrote
+        writes_keep_tables role m.station m.book x.store (p m).puts c.done y.store (holds_tables role m x.store.records a)
+        (places m (short_tables role m x.store.records a)) c.wrote
 
 -- # A call that a halted node does not get to
 

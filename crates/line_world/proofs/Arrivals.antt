@@ -1,5 +1,6 @@
 -- Flights that come to a node or are lost, and what a node makes of octets that come to it.
-use Rattle.std.proofs.Common.{◌≡◌, ℕ, zero, suc, ◌+◌, ◌<◌, ◌≤◌, Bool, true, false, cond, ◌||◌, List, [], ◌∷◌, length, Option, Some, None, Result, Ok, Err, refl, sym, ap, subst, ◌∙◌, if◌then◌else◌, arith}
+use Rattle.std.proofs.Common.{◌≡◌, ℕ, zero, suc, ◌+◌, ◌<◌, ◌≤◌, Bool, true, false, cond, ◌||◌, List, [], ◌∷◌, length, Option, Some, None, Result, Ok, Err, refl}
+use Rattle.std.proofs.Common.{sym, ap, subst, ◌∙◌, if◌then◌else◌, arith}
 use Rattle.std.specs.Prelude.{◌==◌, IfSome, IfOk, IsOk, MatchOption, is_ok, is_some, nat_lt, slice_get, slice_set}
 use Rattle.std.specs.List.{list_any}
 use Rattle.std.specs.Option.{option_copied, option_map, option_map_or}
@@ -53,20 +54,24 @@ use Rattle.line_events.specs.declared.happenings.Happenings.{Happenings}
 use Rattle.line_events.specs.declared.event.Answer.TheVariants as said
 use Rattle.line_rules.specs.Answers.{CompletedJoining, Reception, Up, coordinator_reception, frame_word, meter_reception, only}
 use Rattle.line_rules.specs.Forgery.{accepting}
-use Rattle.line_rules.specs.Further.{accepted_further, acknowledged_if, checked, comes, commanded, discovers_by, due, heard_by, heard_further, injects, is_dropped, unbelieved, with_check}
+use Rattle.line_rules.specs.Further.{accepted_further, acknowledged_if, checked, comes, commanded, discovers_by, due, heard_by, heard_further, injects}
+use Rattle.line_rules.specs.Further.{is_dropped, unbelieved, with_check}
 use Rattle.line_rules.specs.Further.{delivers as delivers_by}
 use Rattle.line_rules.specs.Logs.{AreLogged, LogsKept}
 use Rattle.line_rules.proofs.LogSteps.{Quiet, acts_quiet, log_at, logged_at, quiet_in, set_node}
 use Rattle.line_rules.specs.Worlds.{Flight, Pairing, Trace, World, flight_at, is_forged_tag, node_at}
-use Rattle.line_rules.specs.Steps.{Step, done_by, forged_by, handed_by, happened, heard, has_begun, hears, identity, note_by, number_if, number_of, on_flight, ran, received, reception_trace, told, trace_of}
-use Rattle.line_world.specs.Arrivals.{checked_so, comes_so, done_in, forged_in, handed_in, heard_further_so, hears_so, in_run, left_of, note_in, received_so, said_of, taker_in, unbelieved_so}
+use Rattle.line_rules.specs.Steps.{Step, done_by, forged_by, handed_by, happened, heard, has_begun, hears, identity, note_by, number_if, number_of, on_flight}
+use Rattle.line_rules.specs.Steps.{ran, received, reception_trace, told, trace_of}
+use Rattle.line_world.specs.Arrivals.{checked_so, comes_so, done_in, forged_in, handed_in, heard_further_so, hears_so, in_run, left_of, note_in, received_so}
+use Rattle.line_world.specs.Arrivals.{said_of, taker_in, unbelieved_so}
 use Rattle.line_world.specs.Arrivals.{heard_so as heard_by_command}
 use Rattle.line_world.specs.Bounds.{IsBounded}
 use Rattle.line_world.specs.Discovering.{discovered_by, discovered_in}
 use Rattle.line_world.specs.Finding.{found}
 use Rattle.line_world.specs.Soundness.{AreShort, IsShort}
 use Rattle.line_world.specs.Steps.{Steps}
-use Rattle.line_world.proofs.Taking.{IsThere, after, at_node, begun, bounded_after, has_coordinator, is_taken_so, is_there, many_given, refused, steps_as, told_as}
+use Rattle.line_world.proofs.Taking.{IsThere, after, at_node, begun, bounded_after, has_coordinator, is_taken_so, is_there, many_given, refused, steps_as}
+use Rattle.line_world.proofs.Taking.{told_as}
 
 -- # Flights
 
@@ -95,7 +100,8 @@ flying w number k f is = by (flight_at w number) is
     by (Some g) is = by_lost g g.lost is
 
 -- a flight that could not be lost does not fly, and the flights are as they were
-pub not_lost_now : (o : Option Flight) (old new : Flown) (lose : Flight → Flown) → MatchOption o ((false ≡ false) × (new ≡ old)) (λ f. (false ≡ true) × (new ≡ lose f))
+pub not_lost_now : (o : Option Flight) (old new : Flown) (lose : Flight → Flown)
+    → MatchOption o ((false ≡ false) × (new ≡ old)) (λ f. (false ≡ true) × (new ≡ lose f))
     → (o ≡ None) × (new ≡ old)
 not_lost_now None old new lose is = (refl, is.1)
 not_lost_now (Some f) old new lose is = let e : false ≡ true = is.0 in absurd (cc)
@@ -106,7 +112,8 @@ pub record Loses (o : Option Flight) (new : Flown) (lose : Flight → Flown) : T
   pub flew : o ≡ Some flight
   pub left : new ≡ lose flight
 
-pub lost_now : (o : Option Flight) (old new : Flown) (lose : Flight → Flown) → MatchOption o ((true ≡ false) × (new ≡ old)) (λ f. (true ≡ true) × (new ≡ lose f)) → Loses o new lose
+pub lost_now : (o : Option Flight) (old new : Flown) (lose : Flight → Flown)
+    → MatchOption o ((true ≡ false) × (new ≡ old)) (λ f. (true ≡ true) × (new ≡ lose f)) → Loses o new lose
 lost_now None old new lose is = let e : true ≡ false = is.0 in absurd (cc)
 lost_now (Some f) old new lose is = record { flight = f; flew = refl; left = is.1 }
 
@@ -182,7 +189,8 @@ pub hears_eui : (x : Node) (got : Accepted) (cost note now : ℕ) → (hears net
 hears_eui x got cost note now = by x.role
   where
     hears_as : Role → NodeStep Reception
-    hears_as Coordinator = answering coordinator_reception (acts x (Err drops.Store) (λ m. coordinator_rules.hear_coordinator (record { eui = x.eui; ciphers = network }) m got cost note now))
+    hears_as Coordinator = answering coordinator_reception
+        (acts x (Err drops.Store) (λ m. coordinator_rules.hear_coordinator (record { eui = x.eui; ciphers = network }) m got cost note now))
     hears_as (Meter psk) = answering meter_reception (acts x (Err drops.Store) (λ m. meters.hear_meter (identity network x psk) m got cost note now))
 
     by : (role : Role) → (hears_as role).node.eui ≡ x.eui
@@ -224,7 +232,8 @@ pairing_as v w None same = refl
 pairing_as v w (Some d) same = λ i. Some (record { node = same d.eui i; agreed = d.agreed })
 
 -- what is left and what is said of a frame that a node heard
-module _ (w : World) (number : ℕ) (x : Node) (d : NodeStep Reception) (r : telling.Reception) (out : Out) (nodes : List Node) (right forged : Bool) (at : slice_get w.nodes number ≡ Some x)
+module _ (w : World) (number : ℕ) (x : Node) (d : NodeStep Reception) (r : telling.Reception) (out : Out) (nodes : List Node) (right forged : Bool)
+    (at : slice_get w.nodes number ≡ Some x)
     (same : d.node.eui ≡ x.eui) (rec : Received d w.nodes number r out nodes) (forgery : forged ≡ right) where
   ups_as : is_some r.up ≡ is_some d.answer.up
   ups_as = ap is_some rec.tells.up ∙ is_some_map _ d.answer.up
@@ -260,8 +269,10 @@ module _ (w : World) (number : ℕ) (x : Node) (d : NodeStep Reception) (r : tel
   received_many = ap (λ (ns : List Node). length ns) rec.did.nodes_are ∙ length-set w.nodes number d.node
 
 -- the bounds after that
-pub left_bounded : (w : World) (number : ℕ) (nodes : List Node) (beside : List Beside) (out : Out) (forged : Bool) (r : telling.Reception) → IsBounded (in_run w) → w.events < MAX_EVENTS
-    → length nodes ≡ length w.nodes → length out.frames ≤ 24 → length out.tags.made ≤ 2 → IsBounded (left_of (record w { nodes = nodes; beside = beside }) number out forged r)
+pub left_bounded : (w : World) (number : ℕ) (nodes : List Node) (beside : List Beside) (out : Out) (forged : Bool) (r : telling.Reception)
+    → IsBounded (in_run w) → w.events < MAX_EVENTS
+    → length nodes ≡ length w.nodes → length out.frames ≤ 24 → length out.tags.made ≤ 2
+    → IsBounded (left_of (record w { nodes = nodes; beside = beside }) number out forged r)
 left_bounded w number nodes beside out forged r b room same frames tags =
     let counted : IsBounded (after (ran w) number nodes out) = bounded_after (in_run w) number nodes out b room same frames tags in
     record {
@@ -279,7 +290,8 @@ left_bounded w number nodes beside out forged r b room same frames tags =
 
 -- what is said and what is left of a frame, whatever its node made of it
 pub was_received : (w new : World) (number : ℕ) (x : Node) (origin : Origin) (d : NodeStep Reception) (r : telling.Reception) (out : Out) (nodes : List Node)
-    (forged : Bool) (h : Happenings) → IsBounded (in_run w) → w.events < MAX_EVENTS → length out.frames ≤ 24 → length out.tags.made ≤ 2 → slice_get w.nodes number ≡ Some x
+    (forged : Bool) (h : Happenings) → IsBounded (in_run w) → w.events < MAX_EVENTS → length out.frames ≤ 24 → length out.tags.made ≤ 2
+    → slice_get w.nodes number ≡ Some x
     → d.node.eui ≡ x.eui → Received d w.nodes number r out nodes → forged ≡ (origin.is_forged || list_any (is_forged_tag w.made) out.tags.opened)
     → h ≡ said_of (record w { nodes = nodes }) number out forged r → new ≡ left_of (record w { nodes = nodes }) number out forged r
     → Steps true w (Ok h) new (Ok (received_so network w number origin d))
@@ -290,17 +302,20 @@ was_received w new number x origin d r out nodes forged h b room frames tags at 
     is_taken_so true w new (Ok (received network w number right d)) (reception_trace w number right d) h
     (λ i. Ok (left i, reception_trace w number right d))
     (said ∙ received_said w number x d r out nodes right forged at same rec forgery)
-    (subst IsBounded (sym is) (left_bounded w number nodes w.beside out forged r b room (received_many w number x d r out nodes right forged at same rec forgery) frames tags))
+    (subst IsBounded (sym is) (left_bounded w number nodes w.beside out forged r b room
+    (received_many w number x d r out nodes right forged at same rec forgery) frames tags))
 
 -- what is said and what is left of a frame that a node heard
 pub heard_so : (w new : World) (number : ℕ) (x : Node) (got : Accepted) (origin : Origin) (cost : ℕ) (r : telling.Reception) (out : Out) (nodes : List Node)
-    (forged : Bool) (h : Happenings) → IsBounded (in_run w) → w.events < MAX_EVENTS → length out.frames ≤ 24 → length out.tags.made ≤ 2 → slice_get w.nodes number ≡ Some x
+    (forged : Bool) (h : Happenings) → IsBounded (in_run w) → w.events < MAX_EVENTS → length out.frames ≤ 24 → length out.tags.made ≤ 2
+    → slice_get w.nodes number ≡ Some x
     → Received (hears network x got cost origin.note w.clock) w.nodes number r out nodes
     → forged ≡ (origin.is_forged || list_any (is_forged_tag w.made) out.tags.opened)
     → h ≡ said_of (record w { nodes = nodes }) number out forged r → new ≡ left_of (record w { nodes = nodes }) number out forged r
     → Steps true w (Ok h) new (Ok (hears_so network w number x got origin cost))
 heard_so w new number x got origin cost r out nodes forged h b room frames tags at rec is_forged said is =
-    was_received w new number x origin (hears network x got cost origin.note w.clock) r out nodes forged h b room frames tags at (hears_eui x got cost origin.note w.clock) rec is_forged said is
+    was_received w new number x origin (hears network x got cost origin.note w.clock) r out nodes forged h b room frames tags at
+    (hears_eui x got cost origin.note w.clock) rec is_forged said is
 
 -- # Octets that come
 
@@ -309,7 +324,8 @@ abbrev pub looks : Node → List ℕ → NodeStep (Result Accepted FrameRefusal)
 looks x octets = acts x (Err frame_refusals.Halted) (λ m. of_station m (accept m.station x.eui (arrived network octets)))
 
 -- two steps of one node leave what the second leaves
-told_twice : {A : Type 0} (w : World) (number : ℕ) (y : Node) (d : NodeStep A) → told network (record w { nodes = slice_set w.nodes number y }) number d ≡ told network w number d
+told_twice : {A : Type 0} (w : World) (number : ℕ) (y : Node) (d : NodeStep A)
+    → told network (record w { nodes = slice_set w.nodes number y }) number d ≡ told network w number d
 unfolding told
 told_twice w number y d = λ i. record (told network w number d) { nodes = set-set w.nodes number y d.node i }
 
@@ -345,7 +361,8 @@ no_tags made true = refl
 no_tags made false = refl
 
 -- A frame is heard, with what further reach adds, after its node was looked at as it is before.
-module _ (w : World) (number : ℕ) (x y : Node) (octets : List ℕ) (got : Accepted) (origin : Origin) (cost : ℕ) (at : slice_get w.nodes number ≡ Some x) (same : y.eui ≡ x.eui)
+module _ (w : World) (number : ℕ) (x y : Node) (octets : List ℕ) (got : Accepted) (origin : Origin) (cost : ℕ) (at : slice_get w.nodes number ≡ Some x)
+    (same : y.eui ≡ x.eui)
     (f : origin.is_forged ≡ forged_by w octets got.path) (n : origin.note ≡ note_by w octets got.path) where
   abbrev seen_world : World
   seen_world = record w { nodes = slice_set w.nodes number y }
@@ -396,12 +413,14 @@ comes_as w number x octets cost accepted origin nodes plain at did forged note =
     by_answer (Ok got) = heard_further network w number (looks x octets).node octets got cost
     by_answer (Err reason) = (told network (ran w) number (looks x octets), trace_of (happened w (frame_word reason)))
 
-    by : (a : Result Accepted FrameRefusal) → IfOk a (λ got. origin.is_forged ≡ forged_in w.flights octets got.path) → IfOk a (λ got. origin.note ≡ note_in w.flights octets got.path)
+    by : (a : Result Accepted FrameRefusal) → IfOk a (λ got. origin.is_forged ≡ forged_in w.flights octets got.path)
+        → IfOk a (λ got. origin.note ≡ note_in w.flights octets got.path)
         → comes_so network (record w { nodes = nodes }) number (looks x octets).node a origin cost ≡ by_answer a
     by (Ok got) forged note =
         let y : Node = (looks x octets).node in
         ap (λ (ns : List Node). heard_further_so network (record w { nodes = ns }) number y got origin cost) did.nodes_are
-        ∙ heard_further_as w number x y octets got origin cost at (acts_eui x (Err frame_refusals.Halted) _) (forged ∙ forged_as w octets got.path) (note ∙ note_as w octets got.path)
+        ∙ heard_further_as w number x y octets got origin cost at (acts_eui x (Err frame_refusals.Halted) _) (forged ∙ forged_as w octets got.path)
+        (note ∙ note_as w octets got.path)
     by (Err reason) forged note =
         let left : told network (ran w) number (looks x octets) ≡ record (ran w) { nodes = nodes } =
         told_as (ran w) number (looks x octets) nodes nothing did.out_is did.nodes_are
@@ -409,23 +428,29 @@ comes_as w number x octets cost accepted origin nodes plain at did forged note =
         λ i. (sym left i, trace_of (happened w (frame_word reason)))
 
 -- what is said and what is left of octets that came to a node
-pub came : (w new : World) (number : ℕ) (x : Node) (octets : List ℕ) (cost : ℕ) (accepted : Result Accepted FrameRefusal) (origin : Origin) (nodes : List Node) (h : Happenings)
-    → is_discovery octets ≡ false → slice_get w.nodes number ≡ Some x → IfSome (slice_get w.nodes number) (λ y. Did (looks y octets) w.nodes number accepted nothing nodes)
+pub came : (w new : World) (number : ℕ) (x : Node) (octets : List ℕ) (cost : ℕ) (accepted : Result Accepted FrameRefusal) (origin : Origin) (nodes : List Node)
+    (h : Happenings)
+    → is_discovery octets ≡ false → slice_get w.nodes number ≡ Some x
+    → IfSome (slice_get w.nodes number) (λ y. Did (looks y octets) w.nodes number accepted nothing nodes)
     → IfOk accepted (λ got. origin.is_forged ≡ forged_in w.flights octets got.path) → IfOk accepted (λ got. origin.note ≡ note_in w.flights octets got.path)
-    → IfSome (slice_get nodes number) (λ y. Steps true (record w { nodes = nodes }) (Ok h) new (Ok (comes_so network (record w { nodes = nodes }) number y accepted origin cost)))
+    → IfSome (slice_get nodes number)
+    (λ y. Steps true (record w { nodes = nodes }) (Ok h) new (Ok (comes_so network (record w { nodes = nodes }) number y accepted origin cost)))
     → Steps true w (Ok h) new (Ok (comes network w number x octets cost))
 came w new number x octets cost accepted origin nodes h plain at looked forged note s =
     let did : Did (looks x octets) w.nodes number accepted nothing nodes =
     subst (λ (o : Option Node). IfSome o (λ y. Did (looks y octets) w.nodes number accepted nothing nodes)) at looked in
     let left : slice_get nodes number ≡ Some (looks x octets).node =
     ap (λ (ns : List Node). slice_get ns number) did.nodes_are ∙ slice_get-set w.nodes number (looks x octets).node (slice_get_within w.nodes number x at) in
-    let steps : Steps true (record w { nodes = nodes }) (Ok h) new (Ok (comes_so network (record w { nodes = nodes }) number (looks x octets).node accepted origin cost)) =
-    subst (λ (o : Option Node). IfSome o (λ y. Steps true (record w { nodes = nodes }) (Ok h) new (Ok (comes_so network (record w { nodes = nodes }) number y accepted origin cost)))) left s in
+    let steps : Steps true (record w { nodes = nodes }) (Ok h) new
+    (Ok (comes_so network (record w { nodes = nodes }) number (looks x octets).node accepted origin cost)) =
+    subst (λ (o : Option Node). IfSome o
+    (λ y. Steps true (record w { nodes = nodes }) (Ok h) new (Ok (comes_so network (record w { nodes = nodes }) number y accepted origin cost)))) left s in
     subst (λ (r : World × Trace). Steps true w (Ok h) new (Ok r)) (comes_as w number x octets cost accepted origin nodes plain at did forged note)
     (record { gives = steps.gives; memory = tt; bounds = steps.bounds })
 
 -- octets of discovery are read, and what is made of them is what the rules say
-discovers_as : (w : World) (number : ℕ) (x : Node) (octets : List ℕ) (cost : ℕ) (frame : Option Discovery) → is_discovery octets ≡ true → discovery_in octets ≡ frame
+discovers_as : (w : World) (number : ℕ) (x : Node) (octets : List ℕ) (cost : ℕ) (frame : Option Discovery) → is_discovery octets ≡ true
+    → discovery_in octets ≡ frame
     → discovered_in w number x frame cost ≡ comes network w number x octets cost
 unfolding comes
 discovers_as w number x octets cost frame is read =
@@ -460,13 +485,15 @@ command_octets got c are = by_path got.path
     by_path (paths.Down from) e = absurd (cc (e))
 
 -- the tables of the node of a number are short
-pub short_at : (nodes : List Node) (number : ℕ) (x : Node) (m : Memory) → AreShort nodes → slice_get nodes number ≡ Some x → x.memory ≡ Some m → HasShortTables m.station
+pub short_at : (nodes : List Node) (number : ℕ) (x : Node) (m : Memory) → AreShort nodes → slice_get nodes number ≡ Some x → x.memory ≡ Some m
+    → HasShortTables m.station
 short_at nodes number x m short at here =
     subst (λ (o : Option Memory). IfSome o (λ k. HasShortTables k.station)) here
     (subst IsShort (get_or_from_slice_get nodes number x x at) (short number x (slice_get_within nodes number x at)))
 
 -- the nodes are as many as before
-pub as_many : {A : Type 0} (d : NodeStep A) (old : List Node) (number : ℕ) (answer : A) (out : Out) (nodes : List Node) → Did d old number answer out nodes → length nodes ≡ length old
+pub as_many : {A : Type 0} (d : NodeStep A) (old : List Node) (number : ℕ) (answer : A) (out : Out) (nodes : List Node) → Did d old number answer out nodes
+    → length nodes ≡ length old
 as_many d old number answer out nodes did = ap (λ (ns : List Node). length ns) did.nodes_are ∙ length-set old number d.node
 
 -- the node that was found, by the number that it was found under
@@ -474,7 +501,8 @@ pub found_at : {w : World} {number found : ℕ} (there : IsThere w number found)
 found_at {w} there = ap (λ n. slice_get w.nodes n) there.same ∙ there.at
 
 -- Octets come to a node that was found, after memory was reserved for what it gives out.
-module _ (v w : World) (node number : ℕ) (octets : List ℕ) (accepted : Result Accepted FrameRefusal) (nodes : List Node) (same : v ≡ w) (is : Ok number ≡ found w node)
+module _ (v w : World) (node number : ℕ) (octets : List ℕ) (accepted : Result Accepted FrameRefusal) (nodes : List Node) (same : v ≡ w)
+    (is : Ok number ≡ found w node)
     (looked : IfSome (slice_get v.nodes number) (λ y. Did (looks y octets) v.nodes number accepted nothing nodes)) where
   again : IsThere v node number
   again = subst (λ (it : World). IsThere it node number) (sym same) (is_there w node number is)
@@ -497,7 +525,8 @@ module _ (v w : World) (node number : ℕ) (octets : List ℕ) (accepted : Resul
   -- what is said and what is left of them
   pub came_to : (new : World) (cost : ℕ) (origin : Origin) (h : Happenings) → is_discovery octets ≡ false
       → IfOk accepted (λ got. origin.is_forged ≡ forged_in v.flights octets got.path) → IfOk accepted (λ got. origin.note ≡ note_in v.flights octets got.path)
-      → IfSome (slice_get nodes number) (λ y. Steps true (record v { nodes = nodes }) (Ok h) new (Ok (comes_so network (record v { nodes = nodes }) number y accepted origin cost)))
+      → IfSome (slice_get nodes number)
+      (λ y. Steps true (record v { nodes = nodes }) (Ok h) new (Ok (comes_so network (record v { nodes = nodes }) number y accepted origin cost)))
       → Steps true w (Ok h) new (injects network w node cost octets)
   unfolding injects
   came_to new cost origin h plain forged note s =
@@ -518,10 +547,12 @@ module _ (v w : World) (node number : ℕ) (octets : List ℕ) (accepted : Resul
       acts_quiet x (Err frame_refusals.Halted) (λ m. of_station m (accept m.station x.eui (arrived network octets)))
       (λ m e. (stations_leave_log m.station (short_at v.nodes number x m short (found_at again) e)).accepts x.eui (arrived network octets)) in
       subst (λ (ns : List Node). AreLogged v.beside ns) (sym did.nodes_are)
-      (set_node v.beside v.nodes number (looks x octets).node logs (quiet_in (log_at v.beside number) x (looks x octets).node quiet (logged_at v.beside v.nodes number x logs (found_at again))))
+      (set_node v.beside v.nodes number (looks x octets).node logs
+      (quiet_in (log_at v.beside number) x (looks x octets).node quiet (logged_at v.beside v.nodes number x logs (found_at again))))
 
   -- a command that it brings is octets, since what was accepted is
-  pub brings_octets : IfOk accepted (λ got. AreOctets got.payload) → (z : Node) → node_at w node ≡ Some z → (got : Accepted) (c : NeighbourCommand) → (accepting network z octets).answer ≡ Ok got
+  pub brings_octets : IfOk accepted (λ got. AreOctets got.payload) → (z : Node) → node_at w node ≡ Some z → (got : Accepted) (c : NeighbourCommand)
+      → (accepting network z octets).answer ≡ Ok got
       → command_of got ≡ Some c → AreOctets c.body
   brings_octets are z there got c is_got has =
       let x = again.node in
@@ -532,7 +563,8 @@ module _ (v w : World) (node number : ℕ) (octets : List ℕ) (accepted : Resul
       command_octets got c (subst (λ (a : Result Accepted FrameRefusal). IfOk a (λ g. AreOctets g.payload)) answered are) has
 
 -- Octets of discovery come to a node that was found, after memory was reserved.
-pub came_discovery : (v w new : World) (node number : ℕ) (octets : List ℕ) (cost : ℕ) (frame : Option Discovery) (h : Happenings) → v ≡ w → Ok number ≡ found w node → is_discovery octets ≡ true
+pub came_discovery : (v w new : World) (node number : ℕ) (octets : List ℕ) (cost : ℕ) (frame : Option Discovery) (h : Happenings) → v ≡ w
+    → Ok number ≡ found w node → is_discovery octets ≡ true
     → discovery_in octets ≡ frame → IfSome (slice_get v.nodes number) (λ x. Steps true v (Ok h) new (Ok (discovered_in v number x frame cost)))
     → Steps true w (Ok h) new (injects network w node cost octets)
 unfolding injects
@@ -541,7 +573,8 @@ came_discovery v w new node number octets cost frame h same is kind read s =
     let has : true ≡ has_begun v = subst (λ (it : World). true ≡ has_begun it) (sym same) (has_coordinator w node number is) in
     subst (λ (it : World). Steps true it (Ok h) new (injects network it node cost octets)) same
     (steps_as _ _ (begun v _ has ∙ at_node v node again.node (λ x. Ok (comes network v node x octets cost)) again.at
-    ∙ ap (λ n. Ok (comes network v n again.node octets cost)) (sym again.same) ∙ ap (λ (r : World × Trace). Ok r) (sym (discovers_as v number again.node octets cost frame kind read)))
+    ∙ ap (λ n. Ok (comes network v n again.node octets cost)) (sym again.same)
+    ∙ ap (λ (r : World × Trace). Ok r) (sym (discovers_as v number again.node octets cost frame kind read)))
     (at_node_told v.nodes number again.node (λ x. Steps true v (Ok h) new (Ok (discovered_in v number x frame cost))) (found_at again) s))
 
 -- the number that was found before memory was reserved, after that
@@ -562,12 +595,15 @@ unfolding delivers_by injects
 delivers w node number flight cost octets is f =
     let there = is_there w node number is in
     let has = has_coordinator w node number is in
-    begun w _ has ∙ at_node w node there.node (λ x. on_flight w flight (λ g. Ok (comes network w node x g.octets cost))) there.at ∙ flying w flight _ f.flight f.at
+    begun w _ has ∙ at_node w node there.node (λ x. on_flight w flight (λ g. Ok (comes network w node x g.octets cost))) there.at
+    ∙ flying w flight _ f.flight f.at
     ∙ ap (λ o. Ok (comes network w node there.node o cost)) (sym f.same)
     ∙ sym (begun w _ has ∙ at_node w node there.node (λ x. Ok (comes network w node x octets cost)) there.at)
 
-pub deliver_taken : (w : World) (node number flight cost : ℕ) (octets : List ℕ) → Ok number ≡ found w node → Flies (not_lost (flight_at w flight)) octets → IsOk (delivers_by network w flight node cost)
-deliver_taken w node number flight cost octets is f = subst IsOk (sym (delivers w node number flight cost octets is f)) (inject_taken w node number cost octets is)
+pub deliver_taken : (w : World) (node number flight cost : ℕ) (octets : List ℕ) → Ok number ≡ found w node → Flies (not_lost (flight_at w flight)) octets
+    → IsOk (delivers_by network w flight node cost)
+deliver_taken w node number flight cost octets is f =
+    subst IsOk (sym (delivers w node number flight cost octets is f)) (inject_taken w node number cost octets is)
 
 -- one that does not fly comes to none
 pub no_flight : (w : World) (node number flight cost : ℕ) → IsBounded w → Ok number ≡ found w node → not_lost (flight_at w flight) ≡ None

@@ -50,7 +50,8 @@ steps_beside takes w v h r bs s = record {
 
 -- # Restarts
 
-module _ {w : World} {number found : ℕ} (there : IsThere w number found) (kept : LogsKept w) (r : Result Log BadStore) (is : IfSome (slice_get w.nodes found) (λ x. r ≡ opened x.store.records)) where
+module _ {w : World} {number found : ℕ} (there : IsThere w number found) (kept : LogsKept w) (r : Result Log BadStore)
+    (is : IfSome (slice_get w.nodes found) (λ x. r ≡ opened x.store.records)) where
   -- the log of a node is opened again
   pub log_opened : (log : Log) × (r ≡ Ok log)
   log_opened =
@@ -65,7 +66,10 @@ module _ {w : World} {number found : ℕ} (there : IsThere w number found) (kept
 
   pub restart_is : (log : Log) → r ≡ Ok log
       → restarts_by network w number there.node (restarted there.node.store.records)
-      ≡ (record (acted network w number (restarts there.node)).0 { beside = slice_set w.beside number (record { checks = nobody; log = log; scan = ended }) }, (acted network w number (restarts there.node)).1)
+      ≡ (
+        record (acted network w number (restarts there.node)).0 { beside = slice_set w.beside number (record { checks = nobody; log = log; scan = ended }) },
+        (acted network w number (restarts there.node)).1,
+      )
   unfolding told
   restart_is log e = ap (restarts_by network w number there.node) (restarted_so log e)
 
@@ -84,13 +88,15 @@ steps_further takes w v h r bs more s = record {
   bounds = bounded_beside v bs s.bounds;
 }
 
-module _ {A : Type 0} {w : World} {number found : ℕ} (there : IsThere w number found) (halted : A) (plan : Reaching Memory → Plan (Reaching Memory) A) (word : A → Answer) (more : Further) where
+module _ {A : Type 0} {w : World} {number found : ℕ} (there : IsThere w number found) (halted : A) (plan : Reaching Memory → Plan (Reaching Memory) A)
+    (word : A → Answer) (more : Further) where
   -- what the node does, by the number that was found
   abbrev reached_by : Node → NodeStep A
   reached_by y = reaches y (beside_at w found) halted plan
 
   -- what is said and what is left of it
-  pub node_reached : (new : World) (answer : A) (out : Out) (nodes : List Node) (c : Beside) (h : Happenings) → IsBounded w → w.events < MAX_EVENTS → length out.frames ≤ 24 → length out.tags.made ≤ 2
+  pub node_reached : (new : World) (answer : A) (out : Out) (nodes : List Node) (c : Beside) (h : Happenings) → IsBounded w → w.events < MAX_EVENTS
+      → length out.frames ≤ 24 → length out.tags.made ≤ 2
       → IfSome (slice_get w.nodes found) (λ y. ReachedFirst y (beside_at w found) halted plan w.nodes found answer out nodes c)
       → h ≡ record (happened w (word answer)) { flights = length out.frames }
       → new ≡ record (after (ran w) found nodes out) { beside = slice_set w.beside found c }

@@ -16,7 +16,8 @@ abbrev pub IsBrokenWord : Result (Unit {0}) Halted → Answer → Type 0
 IsBrokenWord broke word = MatchResult broke (λ _. word ≡ said.Broken) (λ _. word ≡ said.Halted)
 
 -- a change of what is in memory, of which nothing is stored
-changed : {A : Type 0} (s t : State StationMemory) (l : StationMemory) (answer : A) → t ≡ record s { memory = Some l } → Carries s (resting l answer answer) answer nothing t
+changed : {A : Type 0} (s t : State StationMemory) (l : StationMemory) (answer : A) → t ≡ record s { memory = Some l }
+    → Carries s (resting l answer answer) answer nothing t
 unfolding resting
 changed {A} s t l answer e = subst (λ (k : State StationMemory). Carries s (resting l answer answer) answer nothing k) (sym e) (record {
   done = true;
@@ -36,4 +37,5 @@ module _ (s t : State StationMemory) (next : ℕ) (r : Result (Unit {0}) Halted)
   carries_broken None is h = tt
   carries_broken (Some l) is h =
       let w : word ≡ said.Broken = subst (λ (k : Result (Unit {0}) Halted). IsBrokenWord k word) h.0 is in
-      subst (λ (k : Answer). Carries s (resting (calls.broke next l) said.Broken said.Broken) k nothing t) (sym w) (changed s t (calls.broke next l) said.Broken h.1)
+      subst (λ (k : Answer). Carries s (resting (calls.broke next l) said.Broken said.Broken) k nothing t) (sym w)
+      (changed s t (calls.broke next l) said.Broken h.1)

@@ -1,5 +1,6 @@
 -- What a station does by a plan that puts a record of its log first, and then does what another plan does; and which of these are broadcasts.
-use Rattle.std.proofs.Common.{◌≡◌, ◌≢◌, ℕ, ◌+◌, ◌≤◌, ◌<◌, Bool, true, false, List, [], ◌++◌, length, Option, Some, None, Result, Ok, Err, refl, sym, ap, subst, ◌∙◌, arith}
+use Rattle.std.proofs.Common.{◌≡◌, ◌≢◌, ℕ, ◌+◌, ◌≤◌, ◌<◌, Bool, true, false, List, [], ◌++◌, length, Option, Some, None, Result, Ok, Err, refl, sym, ap, subst}
+use Rattle.std.proofs.Common.{◌∙◌, arith}
 use Rattle.std.specs.Prelude.{◌==◌, ◌||◌, IfNone, IfSome, IsSome, is_some, nat_lt, if◌then◌else◌}
 use Rattle.std.specs.Option.{option_map, option_map_or}
 use Rattle.std.proofs.lemmas.Bool.{eq-eqb, ne_eqb}
@@ -39,7 +40,8 @@ use Rattle.reach_rules.specs.declared.heard.CommandHeard.TheVariants as heard
 use Rattle.reach_rules.specs.declared.refusal.BroadcastRefusal.TheVariants as refusals
 use Rattle.reach_rules.specs.declared.refusal.ReachDropped.{ReachDropped}
 use Rattle.reach_rules.specs.declared.refusal.ReachDropped.TheVariants.{Known, Old}
-use Rattle.reach_rules.specs.Broadcasts.{admits_broadcast, broadcast, broadcast_ends, broadcast_fault, broadcast_from, datagram_fault, goes_further, hear_broadcast, hear_broadcast_in, hop_less, mark_fault, own_broadcast, with_broadcast_mark, with_broadcast_number}
+use Rattle.reach_rules.specs.Broadcasts.{admits_broadcast, broadcast, broadcast_ends, broadcast_fault, broadcast_from, datagram_fault, goes_further}
+use Rattle.reach_rules.specs.Broadcasts.{hear_broadcast, hear_broadcast_in, hop_less, mark_fault, own_broadcast, with_broadcast_mark, with_broadcast_number}
 use Rattle.reach_rules.specs.ReachingNodes.{Beside, Reaching, in_reach, reach_ends, tells_neighbours}
 use Rattle.line_events.specs.declared.event.Answer.TheVariants as said
 use Rattle.line_rules.specs.Further.{without_log}
@@ -85,19 +87,22 @@ module _ {A : Type 0} (s : State StationMemory) (b : Beside) (halted : A) (plan 
     stops_beside m p =
         subst (λ (o : Option StationMemory). without_log b ≡ beside_left b plan l o) (sym (ap (λ (k : State StationMemory). k.memory) p.state)) refl
 
-    pub put_failed : (before : Out) (m : State StationMemory) → q.opened ≡ [] → OnlyPut s put false m → Reaches s b halted plan (reads q.failed) before nothing m (without_log b)
+    pub put_failed : (before : Out) (m : State StationMemory) → q.opened ≡ [] → OnlyPut s put false m
+        → Reaches s b halted plan (reads q.failed) before nothing m (without_log b)
     put_failed before m empty p = record {
       stayed = not_halted _;
       carried = holds (λ k. CarriesAfter s (of_held b plan k) (reads q.failed) before nothing m) (record {
         added = nothing;
         carries = stops_so m empty p;
-        out_is = subst (λ (o : Option StationMemory). nothing ≡ (if is_some o then followed before nothing else nothing)) (sym (ap (λ (k : State StationMemory). k.memory) p.state)) refl;
+        out_is = subst (λ (o : Option StationMemory). nothing ≡ (if is_some o then followed before nothing else nothing))
+            (sym (ap (λ (k : State StationMemory). k.memory) p.state)) refl;
       });
       beside = holds (λ k. without_log b ≡ beside_left b plan k m.memory) (stops_beside m p);
     }
 
     -- it was done, and the other plan was carried out
-    goes_on : (m t : State StationMemory) (answer : B) (out : Out) → OnlyPut s put true m → Carries m q answer out t → Carries s (of_held b plan l) (reads answer) out t
+    goes_on : (m t : State StationMemory) (answer : B) (out : Out) → OnlyPut s put true m → Carries m q answer out t
+        → Carries s (of_held b plan l) (reads answer) out t
     goes_on m t answer out p c =
         subst (λ (k : Plan (Reaching StationMemory) A). Carries s (within (λ y. y.memory) (λ a. a) k) (reads answer) out t) (sym is) (record {
           done = c.done;
@@ -125,7 +130,8 @@ module _ {A : Type 0} (s : State StationMemory) (b : Beside) (halted : A) (plan 
 -- # What comes first in a step
 
 -- what a plan gives out that checks no tags is the plan's alone, where nothing was given out before
-pub comes_first : {A : Type 0} (s t : State StationMemory) (b c : Beside) (halted answer : A) (plan : Reaching StationMemory → Plan (Reaching StationMemory) A) (out : Out) (l : StationMemory)
+pub comes_first : {A : Type 0} (s t : State StationMemory) (b c : Beside) (halted answer : A) (plan : Reaching StationMemory → Plan (Reaching StationMemory) A)
+    (out : Out) (l : StationMemory)
     → s.memory ≡ Some l → (plan (beside l b)).opened ≡ [] → Reaches s b halted plan answer nothing out t c → ReachesFirst s b halted plan answer out t c
 comes_first {A} s t b c halted answer plan out l running empty r = record {
   stayed = r.stayed;
@@ -190,27 +196,31 @@ module _ (l : StationMemory) (b : Beside) (own : ℕ) (datagram : List ℕ) wher
   unfolding checked datagram_fault
   refuses_spent right spent = rw (right, spent) refl
 
-  pub refuses_uncounted : ((length datagram == 0) || nat_lt 360 (length datagram)) ≡ false → is_spent b.log.numbering ≡ false → nat_lt (counters_left l) 1 ≡ true
+  pub refuses_uncounted : ((length datagram == 0) || nat_lt 360 (length datagram)) ≡ false → is_spent b.log.numbering ≡ false
+      → nat_lt (counters_left l) 1 ≡ true
       → broadcast_from alone (beside l b) own datagram ≡ refused broadcast_ends (beside l b) refusals.CounterSpent
   unfolding checked datagram_fault sealed tells_neighbours with_broadcast_number empty_draft
   refuses_uncounted right left none = rw (right, left, none) refl
 
   pub own_goes : ((length datagram == 0) || nat_lt 360 (length datagram)) ≡ false → is_spent b.log.numbering ≡ false → nat_lt (counters_left l) 1 ≡ false
       → broadcast_from alone (beside l b) own datagram
-      ≡ logged (number_put b.log.numbering) (record b { log = numbered_log b.log }) (told_as broadcast_ends tt) (send_local l 4 None (spelling (own_broadcast own b.log datagram)))
+      ≡ logged (number_put b.log.numbering) (record b { log = numbered_log b.log }) (told_as broadcast_ends tt)
+      (send_local l 4 None (spelling (own_broadcast own b.log datagram)))
   unfolding checked datagram_fault sealed tells_neighbours goes with_broadcast_number empty_draft resting
   own_goes right left some = rw (right, left, some) refl
 
 -- # A broadcast that is heard
 
 module _ (l : StationMemory) (b : Beside) (y : Broadcast) where
-  pub admits_uncounted : nat_lt y.hops 2 ≡ false → nat_lt (counters_left l) 1 ≡ true → admits_broadcast alone (beside l b) y ≡ refused reach_ends (beside l b) (Known CounterSpent)
+  pub admits_uncounted : nat_lt y.hops 2 ≡ false → nat_lt (counters_left l) 1 ≡ true
+      → admits_broadcast alone (beside l b) y ≡ refused reach_ends (beside l b) (Known CounterSpent)
   unfolding sealed goes_further tells_neighbours with_broadcast_mark empty_draft
   admits_uncounted more none = rw (more, none) refl
 
   pub admits_on : nat_lt y.hops 2 ≡ false → nat_lt (counters_left l) 1 ≡ false
       → admits_broadcast alone (beside l b) y
-      ≡ logged (keep_write b.log.marks y.origin y.number) (record b { log = admitted_log b.log y.origin y.number }) (told_as reach_ends (heard.Broadcast y.origin y.number y.octets))
+      ≡ logged (keep_write b.log.marks y.origin y.number) (record b { log = admitted_log b.log y.origin y.number })
+      (told_as reach_ends (heard.Broadcast y.origin y.number y.octets))
       (send_local l 4 None (spelling (hop_less y)))
   unfolding sealed goes_further tells_neighbours goes with_broadcast_mark empty_draft resting
   admits_on more some = rw (more, some) refl
@@ -227,7 +237,8 @@ module _ (l : StationMemory) (b : Beside) (y : Broadcast) where
 
       by : (t : Bool) → t ≡ false
           → (if t then refused reach_ends (beside l b) (Known CounterSpent)
-          else sealing (in_reach alone) reach_ends (with_broadcast_mark y.origin y.number (empty_draft (beside l b))) (heard.Broadcast y.origin y.number y.octets))
+          else sealing (in_reach alone) reach_ends (with_broadcast_mark y.origin y.number (empty_draft (beside l b)))
+          (heard.Broadcast y.origin y.number y.octets))
           ≡ logged (keep_write b.log.marks y.origin y.number) (record b { log = admitted_log b.log y.origin y.number }) (λ a. a)
           (resting l (Ok (heard.Broadcast y.origin y.number y.octets)) (Err reach_ends.store))
       by true e = absurd (cc)
@@ -241,7 +252,8 @@ module _ (l : StationMemory) (b : Beside) (y : Broadcast) where
         opened = [];
       }
 
-  pub hears_fault : (own : ℕ) (reason : ReachDropped) → broadcast_fault own b.log y ≡ Some reason → hear_broadcast_in alone (beside l b) own (Some y) ≡ refused reach_ends (beside l b) reason
+  pub hears_fault : (own : ℕ) (reason : ReachDropped) → broadcast_fault own b.log y ≡ Some reason
+      → hear_broadcast_in alone (beside l b) own (Some y) ≡ refused reach_ends (beside l b) reason
   unfolding checked
   hears_fault own reason is = rw is refl
 
@@ -265,7 +277,8 @@ heard_told y (Err locals.Store) = refl
 
 -- # Plans that are the same for what a station holds
 
-module _ {A : Type 0} (s t : State StationMemory) (b c : Beside) (halted answer : A) (p q : Reaching StationMemory → Plan (Reaching StationMemory) A) (l : StationMemory)
+module _ {A : Type 0} (s t : State StationMemory) (b c : Beside) (halted answer : A) (p q : Reaching StationMemory → Plan (Reaching StationMemory) A)
+    (l : StationMemory)
     (running : s.memory ≡ Some l) (same : p (beside l b) ≡ q (beside l b)) where
   same_beside : IfSome s.memory (λ k. c ≡ beside_left b p k t.memory) → IfSome s.memory (λ k. c ≡ beside_left b q k t.memory)
   same_beside stands =
@@ -298,15 +311,19 @@ module _ (l : StationMemory) (b : Beside) where
   unjoined datagram is =
       ap (λ (o : Option ℕ). option_map_or (λ own. broadcast_from alone (beside l b) own datagram) o (refused broadcast_ends (beside l b) refusals.NotJoined)) is
 
-  pub joined_so : (own : ℕ) (datagram : List ℕ) → address_of l ≡ Some own → broadcast_from alone (beside l b) own datagram ≡ broadcast alone (beside l b) datagram
+  pub joined_so : (own : ℕ) (datagram : List ℕ) → address_of l ≡ Some own
+      → broadcast_from alone (beside l b) own datagram ≡ broadcast alone (beside l b) datagram
   joined_so own datagram is =
-      ap (λ (o : Option ℕ). option_map_or (λ own. broadcast_from alone (beside l b) own datagram) o (refused broadcast_ends (beside l b) refusals.NotJoined)) (sym is)
+      ap (λ (o : Option ℕ). option_map_or (λ own. broadcast_from alone (beside l b) own datagram) o (refused broadcast_ends (beside l b) refusals.NotJoined))
+      (sym is)
 
-  pub to_one : (own : ℕ) (all : Bool) (body : List ℕ) → all ≡ false → hear_broadcast alone (beside l b) own all body ≡ refused reach_ends (beside l b) (Known BadUnit)
+  pub to_one : (own : ℕ) (all : Bool) (body : List ℕ) → all ≡ false
+      → hear_broadcast alone (beside l b) own all body ≡ refused reach_ends (beside l b) (Known BadUnit)
   unfolding choose
   to_one own all body is = rw is refl
 
-  pub no_broadcast : (own : ℕ) (all : Bool) (body : List ℕ) → all ≡ true → broadcast_in body ≡ None → hear_broadcast alone (beside l b) own all body ≡ refused reach_ends (beside l b) (Known BadUnit)
+  pub no_broadcast : (own : ℕ) (all : Bool) (body : List ℕ) → all ≡ true → broadcast_in body ≡ None
+      → hear_broadcast alone (beside l b) own all body ≡ refused reach_ends (beside l b) (Known BadUnit)
   unfolding choose
   no_broadcast own all body is none = rw (is, none) refl
 
@@ -316,7 +333,8 @@ module _ (l : StationMemory) (b : Beside) where
   is_broadcast own all body y is some = rw (is, some) refl
 
 -- a command that is no broadcast is dropped
-pub dropped_command : (s : State StationMemory) (b : Beside) (plan : Reaching StationMemory → Plan (Reaching StationMemory) (Result CommandHeard ReachDropped)) (number : ℕ) (l : StationMemory) (before : Out)
+pub dropped_command : (s : State StationMemory) (b : Beside) (plan : Reaching StationMemory → Plan (Reaching StationMemory) (Result CommandHeard ReachDropped))
+    (number : ℕ) (l : StationMemory) (before : Out)
     → s.memory ≡ Some l → plan (beside l b) ≡ refused reach_ends (beside l b) (Known BadUnit)
     → ReachesCommand s b plan (record { answer = said.BadUnit; bup = None; path = None }) number before before s b
 dropped_command s b plan number l before running is = record {
@@ -342,7 +360,8 @@ module _ (l : StationMemory) (code : ℕ) (to : Option ℕ) (body : List ℕ) wh
   unfolding sealed goes empty_draft resting
   local_opens = by (nat_lt (counters_left l) 1)
     where
-      by : (t : Bool) → (if t then refused {H = Unit {0}} local_ends l locals.CounterSpent else sealing {H = Unit {0}} alone local_ends (local_draft l code to body) tt).opened ≡ []
+      by : (t : Bool) → (if t then refused {H = Unit {0}} local_ends l locals.CounterSpent
+          else sealing {H = Unit {0}} alone local_ends (local_draft l code to body) tt).opened ≡ []
       by true = refl
       by false = refl
 
@@ -350,34 +369,40 @@ module _ (l : StationMemory) (code : ℕ) (to : Option ℕ) (body : List ℕ) wh
   unfolding sealed goes empty_draft resting
   local_fails = by (nat_lt (counters_left l) 1)
     where
-      by : (t : Bool) → (if t then refused {H = Unit {0}} local_ends l locals.CounterSpent else sealing {H = Unit {0}} alone local_ends (local_draft l code to body) tt).failed ≡ Err locals.Store
+      by : (t : Bool) → (if t then refused {H = Unit {0}} local_ends l locals.CounterSpent
+          else sealing {H = Unit {0}} alone local_ends (local_draft l code to body) tt).failed ≡ Err locals.Store
       by true = refl
       by false = refl
 
-module _ {H E : Type 0} (ends : Ends E) (s : State StationMemory) (b : Beside) (halted : Result H E) (plan : Reaching StationMemory → Plan (Reaching StationMemory) (Result H E))
+module _ {H E : Type 0} (ends : Ends E) (s : State StationMemory) (b : Beside) (halted : Result H E)
+    (plan : Reaching StationMemory → Plan (Reaching StationMemory) (Result H E))
     (l : StationMemory) (running : s.memory ≡ Some l) (put : Option Write) (log : Log) (answer : H) (code : ℕ) (to : Option ℕ) (body : List ℕ)
     (is : plan (beside l b) ≡ logged put (record b { log = log }) (told_as ends answer) (send_local l code to body)) where
   pub unrecorded : (before : Out) (m : State StationMemory) → OnlyPut s put false m → Reaches s b halted plan (Err ends.store) before nothing m (without_log b)
   unrecorded before m p =
       subst (λ (r : Result H E). Reaches s b halted plan r before nothing m (without_log b)) (ap (told_as ends answer) (local_fails l code to body))
-      (put_failed s b halted plan l running put (record b { log = log }) (told_as ends answer) (send_local l code to body) is before m (local_opens l code to body) p)
+      (put_failed s b halted plan l running put (record b { log = log }) (told_as ends answer) (send_local l code to body) is before m
+      (local_opens l code to body) p)
 
   pub recorded : (before out : Out) (m t : State StationMemory) (sent : Result (Unit {0}) LocalRefusal) (c : Beside) → OnlyPut s put true m
       → CarriesAfter m (send_local l code to body) sent before out t → c ≡ (if is_some t.memory then record b { log = log } else without_log b)
       → Reaches s b halted plan (told_as ends answer sent) before out t c
   recorded before out m t sent c p carried stands =
-      put_and_goes s b halted plan l running put (record b { log = log }) (told_as ends answer) (send_local l code to body) is before out m t sent c p carried stands refl
+      put_and_goes s b halted plan l running put (record b { log = log }) (told_as ends answer) (send_local l code to body) is before out m t sent c p carried
+      stands refl
 
   -- the same of what comes first in a step
   opens_none : (plan (beside l b)).opened ≡ []
   opens_none = ap (λ (k : Plan (Reaching StationMemory) (Result H E)). k.opened) is ∙ local_opens l code to body
 
-  pub first_unrecorded : (out : Out) (m : State StationMemory) → out ≡ nothing → OnlyPut s put false m → ReachesFirst s b halted plan (Err ends.store) out m (without_log b)
+  pub first_unrecorded : (out : Out) (m : State StationMemory) → out ≡ nothing → OnlyPut s put false m
+      → ReachesFirst s b halted plan (Err ends.store) out m (without_log b)
   first_unrecorded out m empty p =
       subst (λ (o : Out). ReachesFirst s b halted plan (Err ends.store) o m (without_log b)) (sym empty)
       (comes_first s m b (without_log b) halted (Err ends.store) plan nothing l running opens_none (unrecorded nothing m p))
 
-  pub first_recorded : (before out : Out) (m t : State StationMemory) (sent : Result (Unit {0}) LocalRefusal) (c : Beside) → before ≡ nothing → OnlyPut s put true m
+  pub first_recorded : (before out : Out) (m t : State StationMemory) (sent : Result (Unit {0}) LocalRefusal) (c : Beside) → before ≡ nothing
+      → OnlyPut s put true m
       → CarriesAfter m (send_local l code to body) sent before out t → c ≡ (if is_some t.memory then record b { log = log } else without_log b)
       → ReachesFirst s b halted plan (told_as ends answer sent) out t c
   first_recorded before out m t sent c empty p carried stands =
@@ -386,7 +411,8 @@ module _ {H E : Type 0} (ends : Ends E) (s : State StationMemory) (b : Beside) (
 
 -- # Refusals
 
-module _ {H E : Type 0} (ends : Ends E) (s : State StationMemory) (b : Beside) (halted : Result H E) (plan : Reaching StationMemory → Plan (Reaching StationMemory) (Result H E))
+module _ {H E : Type 0} (ends : Ends E) (s : State StationMemory) (b : Beside) (halted : Result H E)
+    (plan : Reaching StationMemory → Plan (Reaching StationMemory) (Result H E))
     (l : StationMemory) (running : s.memory ≡ Some l) (reason : E) (is : plan (beside l b) ≡ refused ends (beside l b) reason) where
   pub refused_first : (out : Out) → out ≡ nothing → ReachesFirst s b halted plan (Err reason) out s b
   refused_first out empty =
@@ -406,7 +432,8 @@ module _ {A : Type 0} (s : State StationMemory) (b : Beside) (halted : A) (plan 
 
   pub only_recorded : (before : Out) (m : State StationMemory) → OnlyPut s put true m → Reaches s b halted plan answer before before m (record b { log = log })
   only_recorded before m p =
-      put_and_goes s b halted plan l running put (record b { log = log }) (λ a. a) (resting l answer failed) is before before m m answer (record b { log = log }) p
+      put_and_goes s b halted plan l running put (record b { log = log }) (λ a. a) (resting l answer failed) is before before m m answer
+      (record b { log = log }) p
       (record { added = nothing; carries = resting_carried m l answer failed held; out_is = out_so })
       (subst (λ (o : Option StationMemory). record b { log = log } ≡ (if is_some o then record b { log = log } else without_log b)) (sym held) refl) refl
     where
@@ -428,10 +455,12 @@ module _ {A : Type 0} (s : State StationMemory) (b : Beside) (halted : A) (plan 
 pub still_held : (s m : State StationMemory) (put : Option Write) (l : StationMemory) → OnlyPut s put true m → s.memory ≡ Some l → m.memory ≡ Some l
 still_held s m put l p running = ap (λ (k : State StationMemory). k.memory) p.state ∙ running
 
-pub sent_as : (m t : State StationMemory) (l : StationMemory) (code : ℕ) (to : Option ℕ) (xs ys : List ℕ) (sent : Result (Unit {0}) LocalRefusal) (before out : Out) → m.memory ≡ Some l → xs ≡ ys
+pub sent_as : (m t : State StationMemory) (l : StationMemory) (code : ℕ) (to : Option ℕ) (xs ys : List ℕ) (sent : Result (Unit {0}) LocalRefusal)
+    (before out : Out) → m.memory ≡ Some l → xs ≡ ys
     → IfSome m.memory (λ k. CarriesAfter m (send_local k code to xs) sent before out t) → CarriesAfter m (send_local l code to ys) sent before out t
 sent_as m t l code to xs ys sent before out held same c =
-    subst (λ (zs : List ℕ). CarriesAfter m (send_local l code to zs) sent before out t) same (at_some m.memory (λ k. CarriesAfter m (send_local k code to xs) sent before out t) l held c)
+    subst (λ (zs : List ℕ). CarriesAfter m (send_local l code to zs) sent before out t) same
+    (at_some m.memory (λ k. CarriesAfter m (send_local k code to xs) sent before out t) l held c)
 
 -- # What the calls ask
 

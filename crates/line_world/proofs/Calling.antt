@@ -31,13 +31,15 @@ use Rattle.line_world.proofs.Settings.{bounded_beside}
 use Rattle.line_world.proofs.Taking.{IsThere, at_node, begun}
 
 -- what is found at a place is what stands beside the node of that number
-pub beside_found : (bs : List Beside) (number : ℕ) (b : Beside) → number < length bs → b ≡ get_or bs number b → b ≡ unwrap_or (slice_get bs number) nothing_beside
+pub beside_found : (bs : List Beside) (number : ℕ) (b : Beside) → number < length bs → b ≡ get_or bs number b
+    → b ≡ unwrap_or (slice_get bs number) nothing_beside
 beside_found [] number b within e = absurd (omega (arith, within))
 beside_found (c ∷ bs) zero b within e = e
 beside_found (c ∷ bs) (suc number) b within e = let below : number < length bs = omega (arith, within) in beside_found bs number b below e
 
 -- the log beside a node that was found is what its store gives
-pub log_there : {w : World} {number found : ℕ} (there : IsThere w number found) (b : Beside) → LogsKept w → b ≡ beside_at w found → IfSome (slice_get w.nodes found) (λ x. IsLogOf b x)
+pub log_there : {w : World} {number found : ℕ} (there : IsThere w number found) (b : Beside) → LogsKept w → b ≡ beside_at w found
+    → IfSome (slice_get w.nodes found) (λ x. IsLogOf b x)
 log_there {w} {number} {found} there b kept is =
     let at : slice_get w.nodes found ≡ Some there.node = ap (λ n. slice_get w.nodes n) there.same ∙ there.at in
     as_found there (λ x. IsLogOf b x)
@@ -57,7 +59,8 @@ path_at {w} {from} {found} {to} r there toward =
 
 -- A node heard the frame of a command for the neighbours: it can hear the command then.
 module _ (w : World) (number : ℕ) (x : Node) (got : Accepted) (c : NeighbourCommand) (cost note : ℕ) (r : telling.Reception) (out : Out) (nodes : List Node)
-    (at : slice_get w.nodes number ≡ Some x) (command : command_of got ≡ Some c) (rec : Received (hears network x got cost note w.clock) w.nodes number r out nodes) where
+    (at : slice_get w.nodes number ≡ Some x) (command : command_of got ≡ Some c)
+    (rec : Received (hears network x got cost note w.clock) w.nodes number r out nodes) where
   pub command_many : length nodes ≡ length w.nodes
   command_many =
       let d : NodeStep Reception = hears network x got cost note w.clock in

@@ -41,7 +41,8 @@ some_reply None is = absurd (cc)
 some_reply (Some r) is = (r, refl)
 
 -- a node hears a frame
-module _ (w : World) (nodes : List Node) (number : ℕ) (got : Accepted) (origin : Origin) (cost : ℕ) (r : telling.Reception) (before : Out) (message : Option Message) (reply : Option Reply)
+module _ (w : World) (nodes : List Node) (number : ℕ) (got : Accepted) (origin : Origin) (cost : ℕ) (r : telling.Reception) (before : Out)
+    (message : Option Message) (reply : Option Reply)
     (there : number < length w.nodes) (accepted : IfSome (slice_get w.nodes number) (λ y. MayHear y got))
     (heard : IfSome (slice_get w.nodes number) (λ y. Received (hears network y got cost origin.note w.clock) w.nodes number r before nodes))
     (message_is : message ≡ message_of got) (due_is : reply ≡ due got.path message r.answer) where
@@ -73,7 +74,8 @@ module _ (w : World) (nodes : List Node) (number : ℕ) (got : Accepted) (origin
 
   -- a node that has to acknowledge has a ring, and room for one frame more
   pub joined_then : IsSome reply → IfSome (slice_get nodes number) (λ (y : Node). IfSome y.memory (λ (m : Memory). IsSome m.station.ring))
-  joined_then some = subst (λ (o : Option Node). IfSome o (λ (y : Node). IfSome y.memory (λ (m : Memory). IsSome m.station.ring))) (sym heard_at) (by d.node.memory refl)
+  joined_then some =
+      subst (λ (o : Option Node). IfSome o (λ (y : Node). IfSome y.memory (λ (m : Memory). IsSome m.station.ring))) (sym heard_at) (by d.node.memory refl)
     where
       by : (o : Option Memory) → d.node.memory ≡ o → IfSome o (λ (m : Memory). IsSome m.station.ring)
       by None e = tt
@@ -82,18 +84,22 @@ module _ (w : World) (nodes : List Node) (number : ℕ) (got : Accepted) (origin
   pub room_then : IsSome reply → length before.frames < 24
   room_then some =
       let k = dues some in
-      let few : length d.frames ≤ 22 = reply_few x got cost origin.note w.clock k.from false k.key k.number k.link k.origin k.to k.path_is k.message_is may.waits in
+      let few : length d.frames ≤ 22 = reply_few x got cost origin.note w.clock k.from false k.key k.number k.link k.origin k.to k.path_is k.message_is
+      may.waits in
       let same : length before.frames ≡ length d.frames = ap (λ (o : Out). length o.frames) rec.did.out_is ∙ many_given (spelled network) d.frames in
       omega (arith, few, same)
 
   -- the reply that begins a check
   sent_then : (sent : Option Reply) → sent ≡ (if is_some message then r.replied else None)
-      → (IsSome (message_of got) → IfSome (slice_get w.nodes number) (λ y. r.replied ≡ reply_among (hears network y got cost origin.note w.clock).frames)) → sent ≡ reply_among d.frames
+      → (IsSome (message_of got) → IfSome (slice_get w.nodes number) (λ y. r.replied ≡ reply_among (hears network y got cost origin.note w.clock).frames))
+      → sent ≡ reply_among d.frames
   sent_then sent is replied =
       is ∙ ap (λ (m : Option Message). if is_some m then r.replied else None) message_is
-      ∙ by (message_of got) refl (λ some. at_node_told w.nodes number x (λ y. r.replied ≡ reply_among (hears network y got cost origin.note w.clock).frames) at (replied some))
+      ∙ by (message_of got) refl (λ some. at_node_told w.nodes number x (λ y. r.replied ≡ reply_among (hears network y got cost origin.note w.clock).frames) at
+      (replied some))
     where
-      by : (m : Option Message) → message_of got ≡ m → (IsSome m → r.replied ≡ reply_among d.frames) → (if is_some m then r.replied else None) ≡ reply_among d.frames
+      by : (m : Option Message) → message_of got ≡ m → (IsSome m → r.replied ≡ reply_among d.frames)
+          → (if is_some m then r.replied else None) ≡ reply_among d.frames
       by None e f = sym (none_unasked x got cost origin.note w.clock e)
       by (Some m) e f = f refl
 
@@ -102,7 +108,8 @@ module _ (w : World) (nodes : List Node) (number : ℕ) (got : Accepted) (origin
 
   -- # After the acknowledgement
 
-  module _ (v2 : World) (done : Bool) (out : Out) (acknowledges : IfSome (slice_get nodes number) (λ y. Acknowledges (record w { nodes = nodes }) number y reply before done out v2)) where
+  module _ (v2 : World) (done : Bool) (out : Out)
+      (acknowledges : IfSome (slice_get nodes number) (λ y. Acknowledges (record w { nodes = nodes }) number y reply before done out v2)) where
     ack : Acknowledges (record w { nodes = nodes }) number d.node reply before done out v2
     ack = at_node_told nodes number d.node (λ y. Acknowledges (record w { nodes = nodes }) number y reply before done out v2) heard_at acknowledges
 
@@ -116,15 +123,19 @@ module _ (w : World) (nodes : List Node) (number : ℕ) (got : Accepted) (origin
     pub bounds_then : IsBounded (in_run w) → IsBounded (in_run v2)
     bounds_then b =
         let left = slice_set nodes number (acknowledging_if d.node reply).node in
-        subst (λ (u : World). IsBounded (in_run u)) (sym ack.world_is) (in_run_again w left b (length-set nodes number (acknowledging_if d.node reply).node ∙ many))
+        subst (λ (u : World). IsBounded (in_run u)) (sym ack.world_is)
+        (in_run_again w left b (length-set nodes number (acknowledging_if d.node reply).node ∙ many))
 
   at_number : (P : Node → Type 0) → P x → IfSome (slice_get w.nodes number) P
   at_number P p = subst (λ (o : Option Node). IfSome o P) (sym at) p
 
-  module _ (v2 new : World) (out : Out) (forged : Bool) (h : Happenings) (bounded : IsBounded (in_run w)) (room : w.events < MAX_EVENTS) (frames : length out.frames ≤ 24) (tags : length out.tags.made ≤ 2)
+  module _ (v2 new : World) (out : Out) (forged : Bool) (h : Happenings) (bounded : IsBounded (in_run w)) (room : w.events < MAX_EVENTS)
+      (frames : length out.frames ≤ 24) (tags : length out.tags.made ≤ 2)
       (is_forged : forged ≡ (origin.is_forged || list_any (is_forged_tag w.made) before.tags.opened)) where
-    pub checked_then : (v3 : World) (sent : Option Reply) (done : Bool) → done ≡ true → IfSome (slice_get nodes number) (λ y. Acknowledges (record w { nodes = nodes }) number y reply before done out v2)
-        → sent ≡ (if is_some message then r.replied else None) → (IsSome (message_of got) → IfSome (slice_get w.nodes number) (λ y. r.replied ≡ reply_among (hears network y got cost origin.note w.clock).frames))
+    pub checked_then : (v3 : World) (sent : Option Reply) (done : Bool) → done ≡ true
+        → IfSome (slice_get nodes number) (λ y. Acknowledges (record w { nodes = nodes }) number y reply before done out v2)
+        → sent ≡ (if is_some message then r.replied else None)
+        → (IsSome (message_of got) → IfSome (slice_get w.nodes number) (λ y. r.replied ≡ reply_among (hears network y got cost origin.note w.clock).frames))
         → v3 ≡ with_check_of v2 number sent → h ≡ said_of v3 number out forged r → new ≡ left_of v3 number out forged r
         → IfSome (slice_get w.nodes number) (λ y. Steps true w (Ok h) new (Ok (checked_so network w number y got origin cost)))
     checked_then v3 sent done up acknowledges sent_is replied checks said is =
@@ -133,17 +144,20 @@ module _ (w : World) (nodes : List Node) (number : ℕ) (got : Accepted) (origin
         (subst (λ (b : Bool). IfSome (slice_get nodes number) (λ y. Acknowledges (record w { nodes = nodes }) number y reply before b out v2)) up acknowledges)
         (sent_then sent sent_is replied) checks said is)
 
-    pub unacknowledged_then : (done : Bool) → done ≡ false → IfSome (slice_get nodes number) (λ y. Acknowledges (record w { nodes = nodes }) number y reply before done out v2)
+    pub unacknowledged_then : (done : Bool) → done ≡ false
+        → IfSome (slice_get nodes number) (λ y. Acknowledges (record w { nodes = nodes }) number y reply before done out v2)
         → h ≡ said_of v2 number out forged unacknowledged → new ≡ left_of v2 number out forged unacknowledged
         → IfSome (slice_get w.nodes number) (λ y. Steps true w (Ok h) new (Ok (checked_so network w number y got origin cost)))
     unacknowledged_then done down acknowledges said is =
         at_number (λ y. Steps true w (Ok h) new (Ok (checked_so network w number y got origin cost)))
         (was_unacknowledged w v2 new number x got origin cost r before out nodes forged reply h bounded room frames tags at rec is_forged told_due
-        (subst (λ (b : Bool). IfSome (slice_get nodes number) (λ y. Acknowledges (record w { nodes = nodes }) number y reply before b out v2)) down acknowledges) said is)
+        (subst (λ (b : Bool). IfSome (slice_get nodes number) (λ y. Acknowledges (record w { nodes = nodes }) number y reply before b out v2)) down
+        acknowledges) said is)
 
 -- with other checks beside a node it keeps its bounds too
 pub checked_bounds : (v2 v3 : World) (number : ℕ) (sent : Option Reply) → v3 ≡ with_check_of v2 number sent → IsBounded (in_run v2) → IsBounded (in_run v3)
-checked_bounds v2 v3 number sent is b = subst (λ (u : World). IsBounded (in_run u)) (sym is) (bounded_beside (in_run v2) (with_check_of v2 number sent).beside b)
+checked_bounds v2 v3 number sent is b =
+    subst (λ (u : World). IsBounded (in_run u)) (sym is) (bounded_beside (in_run v2) (with_check_of v2 number sent).beside b)
 
 pub checked_events : (v2 v3 : World) (number : ℕ) (sent : Option Reply) → v3 ≡ with_check_of v2 number sent → v2.events < MAX_EVENTS → v3.events < MAX_EVENTS
 checked_events v2 v3 number sent is less = subst (λ (u : World). u.events < MAX_EVENTS) (sym is) less

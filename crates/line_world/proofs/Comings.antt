@@ -1,5 +1,6 @@
 -- What comes in an event is octets, so the logs of nodes stay what their stores give.
-use Rattle.std.proofs.Common.{◌≡◌, ◌⊎◌, ⊎_elim, inl, inr, ℕ, Bool, true, false, not, List, length, Option, Some, None, Result, Ok, Err, refl, sym, ap, subst, ◌∙◌, arith}
+use Rattle.std.proofs.Common.{◌≡◌, ◌⊎◌, ⊎_elim, inl, inr, ℕ, Bool, true, false, not, List, length, Option, Some, None, Result, Ok, Err, refl, sym, ap, subst}
+use Rattle.std.proofs.Common.{◌∙◌, arith}
 use Rattle.std.specs.Prelude.{◌==◌, ◌||◌, IfOk, if◌then◌else◌, is_some, nat_lt, take}
 use Rattle.std.specs.Option.{option_map_or}
 use Rattle.std.proofs.lemmas.Bool.{and_parts, eqb-true}
@@ -88,7 +89,8 @@ none_accepts x octets e got is =
     by_whole true m w h = let bad : Err frames.Malformed ≡ Ok got = h in absurd (cc (bad))
     by_whole false m w h = let bad : Err frames.Store ≡ Ok got = h in absurd (cc (bad))
 
-    by_memory : (o : Option Memory) → (option_map_or (λ m. left_by x (carry_out x.store.records x.store.cut (plan None m))) o (stays x (Err frames.Halted))).answer ≡ Ok got → ⊥
+    by_memory : (o : Option Memory)
+        → (option_map_or (λ m. left_by x (carry_out x.store.records x.store.cut (plan None m))) o (stays x (Err frames.Halted))).answer ≡ Ok got → ⊥
     by_memory None h = let bad : Err frames.Halted ≡ Ok got = h in absurd (cc (bad))
     by_memory (Some m) h =
         let w : Written = write (plan None m).puts x.store.cut x.store.records in
@@ -103,10 +105,12 @@ record IsOfFlight (w : World) (flight node number : ℕ) (octets : List ℕ) : T
   at : flight_at w flight ≡ Some flew
   octets_are : octets ≡ flew.octets
 
-of_flight : (w : World) (flight node cost number : ℕ) (octets : List ℕ) → Comes w (events.Deliver flight node cost) number octets → IsOfFlight w flight node number octets
+of_flight : (w : World) (flight node cost number : ℕ) (octets : List ℕ) → Comes w (events.Deliver flight node cost) number octets
+    → IsOfFlight w flight node number octets
 of_flight w flight node cost number octets (OfFlight a n b f is) = record { same = refl; flew = f; at = is; octets_are = refl }
 
-of_script : (w : World) (node cost : ℕ) (given : List ℕ) (number : ℕ) (octets : List ℕ) → Comes w (events.Inject node cost given) number octets → (number ≡ node) × (octets ≡ given)
+of_script : (w : World) (node cost : ℕ) (given : List ℕ) (number : ℕ) (octets : List ℕ) → Comes w (events.Inject node cost given) number octets
+    → (number ≡ node) × (octets ≡ given)
 of_script w node cost given number octets (OfScript n a own) = (refl, refl)
 
 same_flight : (o : Option Flight) (f g : Flight) → o ≡ Some f → not_lost o ≡ Some g → f ≡ g
@@ -120,7 +124,8 @@ same_flight (Some h) f g is flies = by h.lost flies
 -- whatever the node of a number accepts of these octets carries octets
 abbrev pub GetsOctets : World → ℕ → List ℕ → Type 0
 GetsOctets w node octets =
-    (z : Node) → node_at w node ≡ Some z → (got : Accepted) (c : NeighbourCommand) → (accepting network z octets).answer ≡ Ok got → command_of got ≡ Some c → AreOctets c.body
+    (z : Node) → node_at w node ≡ Some z → (got : Accepted) (c : NeighbourCommand) → (accepting network z octets).answer ≡ Ok got → command_of got ≡ Some c
+    → AreOctets c.body
 
 pub flight_brings : (w : World) (node flight cost : ℕ) (octets : List ℕ) → Flies (not_lost (flight_at w flight)) octets → GetsOctets w node octets
     → CommandsAreOctets network w (events.Deliver flight node cost)
@@ -184,7 +189,8 @@ commands_are_octets w (events.Choose node k) h = brought w (events.Choose node k
 commands_are_octets w (events.Path from to) h = brought w (events.Path from to) refl
 
 -- the logs are what the stores give after an event, taken or not
-pub still_kept : (w v : World) (event : Event) (r : Result Happenings StepFault) → AreShort w.nodes → LogsKept w → IfOk r (λ _. BringsOctets w event) → Gives w r v (line_step network w event)
+pub still_kept : (w v : World) (event : Event) (r : Result Happenings StepFault) → AreShort w.nodes → LogsKept w → IfOk r (λ _. BringsOctets w event)
+    → Gives w r v (line_step network w event)
     → LogsKept v
 still_kept w v event (Ok h) short kept are g =
     logs_kept network w v event g.trace (λ number x m there here. short_at w.nodes number x m short there here) (commands_are_octets w event are) kept g.taken

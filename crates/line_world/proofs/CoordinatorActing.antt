@@ -46,7 +46,8 @@ IsSoundCoordinator x = IsSound Coordinator (node_of x)
 
 -- # Agreement
 
-home_of : (ring : Ring) (records : Records) → ring_at (get records ring_slot) ≡ Some ring → HasHome records → option_map (λ (g : Granted). g.address) ring ≡ Some 0
+home_of : (ring : Ring) (records : Records) → ring_at (get records ring_slot) ≡ Some ring → HasHome records
+    → option_map (λ (g : Granted). g.address) ring ≡ Some 0
 home_of ring records stored home = sym (ap (option_and_then (option_map (λ (g : Granted). g.address))) stored) ∙ home
 
 -- a sound coordinator agrees with its keeper
@@ -64,7 +65,8 @@ agrees_as y h = by (node_of y).memory h
     by None h = tt
     by (Some m) h = record { station = h.station; book = h.book }
 
-pub sound_with : (y : CoordinatorState) → IsSome y.station.store.told → HasGaplessTables Coordinator y.station.store.records → HasHome y.station.store.records → Holds (node_of y)
+pub sound_with : (y : CoordinatorState) → IsSome y.station.store.told → HasGaplessTables Coordinator y.station.store.records → HasHome y.station.store.records
+    → Holds (node_of y)
     → IsSoundCoordinator y
 sound_with y told tables home h = record { told = told; tables = tables; home = home; agrees = agrees_as y h }
 
@@ -72,7 +74,8 @@ sound_with y told tables home h = record { told = told; tables = tables; home = 
 pub station_agrees : (x : CoordinatorState) → IsSoundCoordinator x → Agrees x.station
 station_agrees x sound = by x.station.memory sound.agrees
   where
-    by : (o : Option StationMemory) → IfSome (option_map (memory_in x.randoms x.sessions x.book) o) (λ m. AgreesAs Coordinator m x.station.store.records) → IfSome o (λ l. AgreesWith l x.station.store.records)
+    by : (o : Option StationMemory) → IfSome (option_map (memory_in x.randoms x.sessions x.book) o) (λ m. AgreesAs Coordinator m x.station.store.records)
+        → IfSome o (λ l. AgreesWith l x.station.store.records)
     by None a = tt
     by (Some l) a = a.station
 
@@ -82,22 +85,27 @@ station_agrees x sound = by x.station.memory sound.agrees
 abbrev pub Stayed : {A : Type 0} → CoordinatorState → A → A → Out → CoordinatorState → Type 0
 Stayed x halted answer out y = IfNone (node_of x).memory ((answer ≡ halted) × (out ≡ nothing) × (y ≡ x))
 
-stays : {A : Type 0} (x y : CoordinatorState) (halted answer : A) (out : Out) → Stayed x halted answer out y → StayedHalted (node_of x) halted answer out (node_of y)
+stays : {A : Type 0} (x y : CoordinatorState) (halted answer : A) (out : Out) → Stayed x halted answer out y
+    → StayedHalted (node_of x) halted answer out (node_of y)
 stays {A} x y halted answer out h = by (node_of x).memory h
   where
-    by : (o : Option Memory) → IfNone o ((answer ≡ halted) × (out ≡ nothing) × (y ≡ x)) → IfNone o ((answer ≡ halted) × (out ≡ nothing) × (node_of y ≡ node_of x))
+    by : (o : Option Memory) → IfNone o ((answer ≡ halted) × (out ≡ nothing) × (y ≡ x))
+        → IfNone o ((answer ≡ halted) × (out ≡ nothing) × (node_of y ≡ node_of x))
     by None s = (s.0, s.1, ap node_of s.2)
     by (Some m) s = tt
 
 -- It took the step of its rule.
-pub own_took : {A : Type 0} (x y : CoordinatorState) (halted : A) (p : Memory → Plan Memory A) (answer : A) (out : Out) → IsSoundCoordinator x → Stayed x halted answer out y
+pub own_took : {A : Type 0} (x y : CoordinatorState) (halted : A) (p : Memory → Plan Memory A) (answer : A) (out : Out) → IsSoundCoordinator x
+    → Stayed x halted answer out y
     → IfSome (node_of x).memory (λ m. Carries (node_of x) (p m) answer out (node_of y)) → Took (acts (of_coordinator x) halted p) answer out (of_coordinator y)
 own_took x y halted p answer out sound stayed carries =
     took Coordinator (node_of x) (node_of y) halted p answer out sound.told (stays x y halted answer out stayed) carries
 
 -- It is sound still where its home is as before.
-pub own_sound : {A : Type 0} (x y : CoordinatorState) (halted : A) (p : Memory → Plan Memory A) (answer : A) (out : Out) → Places p → IsSoundCoordinator x → Stayed x halted answer out y
-    → IfSome (node_of x).memory (λ m. Carries (node_of x) (p m) answer out (node_of y)) → HasHome y.station.store.records → Holds (node_of y) → IsSoundCoordinator y
+pub own_sound : {A : Type 0} (x y : CoordinatorState) (halted : A) (p : Memory → Plan Memory A) (answer : A) (out : Out) → Places p → IsSoundCoordinator x
+    → Stayed x halted answer out y
+    → IfSome (node_of x).memory (λ m. Carries (node_of x) (p m) answer out (node_of y)) → HasHome y.station.store.records → Holds (node_of y)
+    → IsSoundCoordinator y
 own_sound x y halted p answer out places sound stayed carries home h =
     let s = stays x y halted answer out stayed in
     sound_with y (told_after Coordinator (node_of x) (node_of y) halted p answer out sound s carries)
@@ -107,18 +115,23 @@ own_sound x y halted p answer out places sound stayed carries home h =
 abbrev pub NoRing : {A : Type 0} → (Memory → Plan Memory A) → Type 0
 NoRing p = (m : Memory) → WritesNoRing (p m)
 
-home_after : {A : Type 0} (x y : CoordinatorState) (halted : A) (p : Memory → Plan Memory A) (answer : A) (out : Out) → NoRing p → IsSoundCoordinator x → Stayed x halted answer out y
+home_after : {A : Type 0} (x y : CoordinatorState) (halted : A) (p : Memory → Plan Memory A) (answer : A) (out : Out) → NoRing p → IsSoundCoordinator x
+    → Stayed x halted answer out y
     → IfSome (node_of x).memory (λ m. Carries (node_of x) (p m) answer out (node_of y)) → HasHome y.station.store.records
 home_after {A} x y halted p answer out rings sound stayed carries = by (node_of x).memory stayed carries
   where
-    by : (o : Option Memory) → IfNone o ((answer ≡ halted) × (out ≡ nothing) × (y ≡ x)) → IfSome o (λ m. Carries (node_of x) (p m) answer out (node_of y)) → HasHome y.station.store.records
+    by : (o : Option Memory) → IfNone o ((answer ≡ halted) × (out ≡ nothing) × (y ≡ x)) → IfSome o (λ m. Carries (node_of x) (p m) answer out (node_of y))
+        → HasHome y.station.store.records
     by None s c = subst (λ (z : CoordinatorState). HasHome z.station.store.records) (sym s.2) sound.home
     by (Some m) s c =
-        same_home x.station.store.records y.station.store.records (writes_keep_ring x.station.store (p m).puts c.done y.station.store (rings m) c.wrote) sound.home
+        same_home x.station.store.records y.station.store.records (writes_keep_ring x.station.store (p m).puts c.done y.station.store (rings m) c.wrote)
+        sound.home
 
 -- It is sound still where it writes no ring.
-pub ringless_sound : {A : Type 0} (x y : CoordinatorState) (halted : A) (p : Memory → Plan Memory A) (answer : A) (out : Out) → Places p → NoRing p → IsSoundCoordinator x
-    → Stayed x halted answer out y → IfSome (node_of x).memory (λ m. Carries (node_of x) (p m) answer out (node_of y)) → Holds (node_of y) → IsSoundCoordinator y
+pub ringless_sound : {A : Type 0} (x y : CoordinatorState) (halted : A) (p : Memory → Plan Memory A) (answer : A) (out : Out) → Places p → NoRing p
+    → IsSoundCoordinator x
+    → Stayed x halted answer out y → IfSome (node_of x).memory (λ m. Carries (node_of x) (p m) answer out (node_of y)) → Holds (node_of y)
+    → IsSoundCoordinator y
 ringless_sound x y halted p answer out places rings sound stayed carries h =
     own_sound x y halted p answer out places sound stayed carries (home_after x y halted p answer out rings sound stayed carries) h
 
@@ -133,21 +146,27 @@ abbrev pub beside : CoordinatorState → Memory
 beside x = memory_in x.randoms x.sessions x.book blank_station
 
 -- The station that was lent took the step of its rule.
-pub station_took : {A : Type 0} (x : CoordinatorState) (s t : State StationMemory) (halted : A) (q : StationPlan A) (answer : A) (out : Out) → s ≡ x.station → IsSoundCoordinator x
-    → StationStayed s halted answer out t → StationCarries s q answer out t → Took (acts (of_coordinator x) halted (lent q x.station.eui)) answer out (of_coordinator (with_its t x))
+pub station_took : {A : Type 0} (x : CoordinatorState) (s t : State StationMemory) (halted : A) (q : StationPlan A) (answer : A) (out : Out) → s ≡ x.station
+    → IsSoundCoordinator x
+    → StationStayed s halted answer out t → StationCarries s q answer out t
+    → Took (acts (of_coordinator x) halted (lent q x.station.eui)) answer out (of_coordinator (with_its t x))
 station_took x s t halted q answer out same sound stayed carries =
-    lent_took Coordinator (beside x) x.station t halted q answer out sound.told (subst (λ (k : State StationMemory). StationStayed k halted answer out t) same stayed)
+    lent_took Coordinator (beside x) x.station t halted q answer out sound.told
+    (subst (λ (k : State StationMemory). StationStayed k halted answer out t) same stayed)
     (subst (λ (k : State StationMemory). StationCarries k q answer out t) same carries)
 
 -- Its coordinator is sound still.
-pub station_sound : {A : Type 0} (x : CoordinatorState) (s t : State StationMemory) (halted : A) (q : StationPlan A) (answer : A) (out : Out) → IsOwnPlan q x.station.eui → s ≡ x.station
+pub station_sound : {A : Type 0} (x : CoordinatorState) (s t : State StationMemory) (halted : A) (q : StationPlan A) (answer : A) (out : Out)
+    → IsOwnPlan q x.station.eui → s ≡ x.station
     → IsSoundCoordinator x → StationStayed s halted answer out t → StationCarries s q answer out t → Agrees t → IsSoundCoordinator (with_its t x)
 station_sound x s t halted q answer out own same sound stayed carries agrees =
-    lent_sound Coordinator (beside x) x.station t halted q answer out own sound (subst (λ (k : State StationMemory). StationStayed k halted answer out t) same stayed)
+    lent_sound Coordinator (beside x) x.station t halted q answer out own sound
+    (subst (λ (k : State StationMemory). StationStayed k halted answer out t) same stayed)
     (subst (λ (k : State StationMemory). StationCarries k q answer out t) same carries) agrees
 
 -- What its station says, it says.
-pub says : {A : Type 0} (x : CoordinatorState) (s : State StationMemory) (f : StationMemory → A) (none r : A) → s ≡ x.station → r ≡ option_map_or f s.memory none
+pub says : {A : Type 0} (x : CoordinatorState) (s : State StationMemory) (f : StationMemory → A) (none r : A) → s ≡ x.station
+    → r ≡ option_map_or f s.memory none
     → r ≡ option_map_or (λ (m : Memory). f m.station) (of_coordinator x).memory none
 says x s f none r same h = node_says (beside x) x.station f none r (h ∙ ap (λ (k : State StationMemory). option_map_or f k.memory none) same)
 
@@ -164,13 +183,15 @@ lent_agrees x s same sound = subst (λ (k : State StationMemory). Agrees k) (sym
 -- # Time
 
 -- what is old at the coordinator ended
-pub ended : (now : ℕ) (x y : CoordinatorState) → node_of y ≡ record (node_of x) { memory = option_map (rules.tick now) (node_of x).memory } → of_coordinator y ≡ ticked now (of_coordinator x)
+pub ended : (now : ℕ) (x y : CoordinatorState) → node_of y ≡ record (node_of x) { memory = option_map (rules.tick now) (node_of x).memory }
+    → of_coordinator y ≡ ticked now (of_coordinator x)
 ended now x y state = ap (λ (z : State Memory). node_in Coordinator z) state
 
 -- a coordinator that keeps its store, and holds what that gives, is sound as before
 pub stored_sound : (x y : CoordinatorState) → IsSoundCoordinator x → y.station.store ≡ x.station.store → Holds (node_of y) → IsSoundCoordinator y
 stored_sound x y sound store h =
-    sound_with y (subst (λ (s : Store). IsSome s.told) (sym store) sound.told) (subst (λ (s : Store). HasGaplessTables Coordinator s.records) (sym store) sound.tables)
+    sound_with y (subst (λ (s : Store). IsSome s.told) (sym store) sound.told)
+    (subst (λ (s : Store). HasGaplessTables Coordinator s.records) (sym store) sound.tables)
     (subst (λ (s : Store). HasHome s.records) (sym store) sound.home) h
 
 -- # Restarts
@@ -185,7 +206,8 @@ word_is (Ok m) word h = h
 word_is (Err bad) word h = h
 
 -- a coordinator that restarted
-pub restarted : (x y : CoordinatorState) (read : Result (Unit {0}) BadStore) (word : Answer) → IsRestartWord read word → read ≡ read_answer (memory_of Coordinator x.station.store.records)
+pub restarted : (x y : CoordinatorState) (read : Result (Unit {0}) BadStore) (word : Answer) → IsRestartWord read word
+    → read ≡ read_answer (memory_of Coordinator x.station.store.records)
     → (node_of y).memory ≡ if_read (memory_of Coordinator x.station.store.records) → y.station.store ≡ x.station.store → y.station.eui ≡ x.station.eui
     → Took (restarts (of_coordinator x)) word nothing (of_coordinator y)
 restarted x y read word is answer memory store eui =

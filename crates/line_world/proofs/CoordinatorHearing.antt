@@ -45,20 +45,24 @@ use Rattle.line_world.proofs.ToldReplies.{messages_unread, parts_of, there_is, t
 abbrev meter_with : State StationMemory → MeterState
 meter_with s = record { station = s; psk = record { 0 = [] }; randoms = []; session = None }
 
-of_station : (x : CoordinatorState) (t : State StationMemory) (o : Option StationMemory) → IsSome (option_map (memory_with (meter_with t)) o) → IsSome (option_map (memory_in x.randoms x.sessions x.book) o)
+of_station : (x : CoordinatorState) (t : State StationMemory) (o : Option StationMemory) → IsSome (option_map (memory_with (meter_with t)) o)
+    → IsSome (option_map (memory_in x.randoms x.sessions x.book) o)
 of_station x t None is = absurd (cc)
 of_station x t (Some l) is = (cc)
 
-any_came : (x : CoordinatorState) (got : Accepted) (o : Option StationMemory) → IfSome (option_map (memory_in x.randoms x.sessions x.book) o) (λ m. CameTo Coordinator got m)
+any_came : (x : CoordinatorState) (got : Accepted) (o : Option StationMemory)
+    → IfSome (option_map (memory_in x.randoms x.sessions x.book) o) (λ m. CameTo Coordinator got m)
 any_came x got None = tt
 any_came x got (Some l) = tt
 
-waiting_too : (x : CoordinatorState) (t : State StationMemory) (o : Option StationMemory) → IfSome (option_map (memory_with (meter_with t)) o) (λ m. WaitingFits m.station)
+waiting_too : (x : CoordinatorState) (t : State StationMemory) (o : Option StationMemory)
+    → IfSome (option_map (memory_with (meter_with t)) o) (λ m. WaitingFits m.station)
     → IfSome (option_map (memory_in x.randoms x.sessions x.book) o) (λ m. WaitingFits m.station)
 waiting_too x t None w = tt
 waiting_too x t (Some l) w = w
 
-runs_too : (x : CoordinatorState) (t : State StationMemory) (got : Accepted) → MayHear (of_meter (meter_with t)) got → MayHear (of_coordinator (with_its t x)) got
+runs_too : (x : CoordinatorState) (t : State StationMemory) (got : Accepted) → MayHear (of_meter (meter_with t)) got
+    → MayHear (of_coordinator (with_its t x)) got
 runs_too x t got h =
     record { running = of_station x t t.memory h.running; fits = h.fits; came = any_came x got t.memory; waits = waiting_too x t t.memory h.waits }
 
@@ -69,12 +73,14 @@ pub may_hear : (x : CoordinatorState) (s t : State StationMemory) (a : Option Ar
 may_hear x s t a (Ok got) out halted carries fits waits = runs_too x t got (meter_may_hear (meter_with s) s t a (Ok got) out halted carries fits waits)
 may_hear x s t a (Err reason) out halted carries fits waits = tt
 
-module _ (x y : CoordinatorState) (got : Accepted) (cost note now : ℕ) (r : Result CoordinatorHeard Dropped) (out : Out) (sound : IsSoundCoordinator x) (may : MayHear (of_coordinator x) got) where
+module _ (x y : CoordinatorState) (got : Accepted) (cost note now : ℕ) (r : Result CoordinatorHeard Dropped) (out : Out) (sound : IsSoundCoordinator x)
+    (may : MayHear (of_coordinator x) got) where
   -- what it does about the frame
   abbrev plan : Memory → Plan Memory (Result CoordinatorHeard Dropped)
   plan m = coordinator_rules.hear_coordinator (identity_of x) m got cost note now
 
-  acted : IfSome (node_of x).memory (λ m. Carries (node_of x) (plan m) r out (node_of y)) → Took (acts (of_coordinator x) (Err drops.Store) plan) r out (of_coordinator y)
+  acted : IfSome (node_of x).memory (λ m. Carries (node_of x) (plan m) r out (node_of y))
+      → Took (acts (of_coordinator x) (Err drops.Store) plan) r out (of_coordinator y)
   acted carries = own_took x y (Err drops.Store) plan r out sound (not_none (node_of x).memory _ may.running) carries
 
   pub heard : IfSome (node_of x).memory (λ m. Carries (node_of x) (plan m) r out (node_of y))
@@ -91,8 +97,10 @@ module _ (x y : CoordinatorState) (got : Accepted) (cost note now : ℕ) (r : Re
       (λ m. (coordinators_write_no_ring (identity_of x) m).hears got cost note now) sound (not_none (node_of x).memory _ may.running) carries h
 
   -- the reply that it tells of a route message is among the frames of its step
-  pub told_replied : IfSome (node_of x).memory (λ m. Carries (node_of x) (plan m) r out (node_of y)) → (last told : Option Reply) → parts_of told ≡ parts_of last
-      → IfSome (node_of x).memory (λ m. unread (hear m.station got cost note now).answer ≡ None → last ≡ reply_sent (plan m) (node_of y).memory) → IsSome (message_of got)
+  pub told_replied : IfSome (node_of x).memory (λ m. Carries (node_of x) (plan m) r out (node_of y)) → (last told : Option Reply)
+      → parts_of told ≡ parts_of last
+      → IfSome (node_of x).memory (λ m. unread (hear m.station got cost note now).answer ≡ None → last ≡ reply_sent (plan m) (node_of y).memory)
+      → IsSome (message_of got)
       → told ≡ reply_among (hears network (of_coordinator x) got cost note now).frames
   told_replied carries last told same replied is =
       let m = there_is (node_of x).memory may.running in

@@ -45,7 +45,8 @@ runs_sound y running h told =
     let both = by (node_of y).memory running h in
     sound_with y told both.0 both.1 h
   where
-    by : (o : Option Memory) → IsSome o → IfSome o (λ m. HoldsWith m y.station.store.records) → HasGaplessTables Coordinator y.station.store.records × HasHome y.station.store.records
+    by : (o : Option Memory) → IsSome o → IfSome o (λ m. HoldsWith m y.station.store.records)
+        → HasGaplessTables Coordinator y.station.store.records × HasHome y.station.store.records
     by None is h = absurd (cc)
     by (Some m) is h = (gapless m y.station.store.records h, home_of m y.station.store.records h)
 
@@ -87,4 +88,8 @@ module _ (store : Store) (eui : Eui) (key : Key) (y : CoordinatorState) (new : s
   pub no_gaps : HasGaplessTables Coordinator store.records
   no_gaps =
       let none : store.records ≡ empty = ap (λ (s : Store). s.records) new in
-      record { marks = empty_gapless marks.peers store.records none; ranks = empty_gapless routing.ranks store.records none; entries = empty_gapless book.entries store.records none }
+      record {
+        marks = empty_gapless marks.peers store.records none;
+        ranks = empty_gapless routing.ranks store.records none;
+        entries = empty_gapless book.entries store.records none;
+      }

@@ -27,19 +27,23 @@ use Rattle.line_world.specs.Nodes.{of_coordinator}
 use Rattle.line_world.specs.Reaching.{IsLogOf, Reaches, ReachesCommand, ReachesFirst, TellsCommand, TookAfter, TookAlone, TookCommand, TookFirst}
 use Rattle.line_world.proofs.CoordinatorActing.{IsSoundCoordinator, beside, with_its}
 use Rattle.line_world.proofs.LentFurther.{command_lent}
-use Rattle.line_world.proofs.LentReaches.{AreLent, Added, adds, after_sound, after_took, alone_took, first_sound, first_took, log_of_station, marks_short, node_halted, station_has}
+use Rattle.line_world.proofs.LentReaches.{AreLent, Added, adds, after_sound, after_took, alone_took, first_sound, first_took, log_of_station, marks_short}
+use Rattle.line_world.proofs.LentReaches.{node_halted, station_has}
 use Rattle.line_world.proofs.LentStations.{StationPlan, IsOwnPlan, lent, lent_sound}
 
 -- the log of the coordinator is that of its station
-pub log_lent : (x : CoordinatorState) (s : State StationMemory) (b : Beside) (old : Node) → of_coordinator x ≡ old → s ≡ x.station → IsLogOf b old → IfSome s.memory (λ l. IsKept b.log s.store.records)
+pub log_lent : (x : CoordinatorState) (s : State StationMemory) (b : Beside) (old : Node) → of_coordinator x ≡ old → s ≡ x.station → IsLogOf b old
+    → IfSome s.memory (λ l. IsKept b.log s.store.records)
 log_lent x s b old view same h =
-    subst (λ (k : State StationMemory). IfSome k.memory (λ l. IsKept b.log k.store.records)) (sym same) (log_of_station (beside x) x.station b (subst (λ (n : Node). IsLogOf b n) (sym view) h))
+    subst (λ (k : State StationMemory). IfSome k.memory (λ l. IsKept b.log k.store.records)) (sym same)
+    (log_of_station (beside x) x.station b (subst (λ (n : Node). IsLogOf b n) (sym view) h))
 
 -- what its station is told to be
 module _ (x : CoordinatorState) (old : Node) (s : State StationMemory) (view : of_coordinator x ≡ old) (same : s ≡ x.station) where
   pub halted_its : (r : Bool) → MatchBool r (s.memory ≡ None) (IsSome s.memory) → r ≡ not (is_some old.memory)
   halted_its r h =
-      node_halted (beside x) x.station r (subst (λ (k : State StationMemory). MatchBool r (k.memory ≡ None) (IsSome k.memory)) same h) ∙ ap (λ (n : Node). not (is_some n.memory)) view
+      node_halted (beside x) x.station r (subst (λ (k : State StationMemory). MatchBool r (k.memory ≡ None) (IsSome k.memory)) same h)
+      ∙ ap (λ (n : Node). not (is_some n.memory)) view
 
   -- its cost to itself
   pub cost_its : (halted : Bool) (r : Option ℕ) → MatchBool halted (s.memory ≡ None) (IsSome s.memory) → r ≡ (if halted then None else Some 0)
@@ -60,51 +64,64 @@ module _ (x : CoordinatorState) (old : Node) (s : State StationMemory) (view : o
       subst (λ (k : State StationMemory). IfSome k.memory (λ l. IsSome l.ring)) (sym same)
       (station_has (beside x) x.station (λ l. IsSome l.ring) (subst (λ (n : Node). IfSome n.memory (λ m. IsSome m.station.ring)) (sym view) h))
 
-module _ {A : Type 0} (x : CoordinatorState) (old : Node) (s t : State StationMemory) (b c : Beside) (halted answer : A) (p : Reaching Memory → Plan (Reaching Memory) A)
-    (q : Reaching StationMemory → Plan (Reaching StationMemory) A) (view : of_coordinator x ≡ old) (same : s ≡ x.station) (sound : IsSoundCoordinator x) (are : IsSome s.memory → AreLent b p q) where
+module _ {A : Type 0} (x : CoordinatorState) (old : Node) (s t : State StationMemory) (b c : Beside) (halted answer : A)
+    (p : Reaching Memory → Plan (Reaching Memory) A)
+    (q : Reaching StationMemory → Plan (Reaching StationMemory) A) (view : of_coordinator x ≡ old) (same : s ≡ x.station) (sound : IsSoundCoordinator x)
+    (are : IsSome s.memory → AreLent b p q) where
   are_its : IsSome x.station.memory → AreLent b p q
   are_its = subst (λ (k : State StationMemory). IsSome k.memory → AreLent b p q) same are
 
   pub coordinator_first : (out : Out) → ReachesFirst s b halted q answer out t c → TookFirst old b halted p answer out (of_coordinator (with_its t x)) c
   coordinator_first out r =
       subst (λ (n : Node). TookFirst n b halted p answer out (of_coordinator (with_its t x)) c) view
-      (first_took Coordinator (beside x) x.station t b c halted answer p q are_its out sound.told (subst (λ (k : State StationMemory). ReachesFirst k b halted q answer out t c) same r))
+      (first_took Coordinator (beside x) x.station t b c halted answer p q are_its out sound.told
+      (subst (λ (k : State StationMemory). ReachesFirst k b halted q answer out t c) same r))
 
   pub coordinator_first_sound : (out : Out) → ReachesFirst s b halted q answer out t c → Agrees t → IsSoundCoordinator (with_its t x)
   coordinator_first_sound out r agrees =
-      first_sound Coordinator (beside x) x.station t b c halted answer p q are_its out (subst (λ (k : State StationMemory). ReachesFirst k b halted q answer out t c) same r) agrees sound
+      first_sound Coordinator (beside x) x.station t b c halted answer p q are_its out
+      (subst (λ (k : State StationMemory). ReachesFirst k b halted q answer out t c) same r) agrees sound
 
-  coordinator_after : (before out : Out) → Reaches s b halted q answer before out t c → TookAfter old b halted p answer before out (of_coordinator (with_its t x)) c
+  coordinator_after : (before out : Out) → Reaches s b halted q answer before out t c
+      → TookAfter old b halted p answer before out (of_coordinator (with_its t x)) c
   coordinator_after before out r =
       subst (λ (n : Node). TookAfter n b halted p answer before out (of_coordinator (with_its t x)) c) view
-      (after_took Coordinator (beside x) x.station t b c halted answer p q are_its before out sound.told (subst (λ (k : State StationMemory). Reaches k b halted q answer before out t c) same r))
+      (after_took Coordinator (beside x) x.station t b c halted answer p q are_its before out sound.told
+      (subst (λ (k : State StationMemory). Reaches k b halted q answer before out t c) same r))
 
   coordinator_after_sound : (before out : Out) → Reaches s b halted q answer before out t c → Agrees t → IsSoundCoordinator (with_its t x)
   coordinator_after_sound before out r agrees =
-      after_sound Coordinator (beside x) x.station t b c halted answer p q are_its before out (subst (λ (k : State StationMemory). Reaches k b halted q answer before out t c) same r) agrees sound
+      after_sound Coordinator (beside x) x.station t b c halted answer p q are_its before out
+      (subst (λ (k : State StationMemory). Reaches k b halted q answer before out t c) same r) agrees sound
 
 -- # A command that is heard
 
-module _ (x : CoordinatorState) (old : Node) (s t : State StationMemory) (b d : Beside) (c : NeighbourCommand) (told : Commanded) (before out : Out) (view : of_coordinator x ≡ old) (same : s ≡ x.station)
-    (sound : IsSoundCoordinator x) (kept : IfSome s.memory (λ l. IsKept b.log s.store.records)) (r : ReachesCommand s b (λ y. hear_command alone y c) told 0 before out t d) where
+module _ (x : CoordinatorState) (old : Node) (s t : State StationMemory) (b d : Beside) (c : NeighbourCommand) (told : Commanded) (before out : Out)
+    (view : of_coordinator x ≡ old) (same : s ≡ x.station)
+    (sound : IsSoundCoordinator x) (kept : IfSome s.memory (λ l. IsKept b.log s.store.records))
+    (r : ReachesCommand s b (λ y. hear_command alone y c) told 0 before out t d) where
   are_lent : IsSome s.memory → AreLent b (λ y. hear_command in_memory y c) (λ y. hear_command alone y c)
   are_lent is m = command_lent b m (marks_short s b kept is) c
 
   pub coordinator_commanded : TookCommand old b c told before out (of_coordinator (with_its t x)) d
   coordinator_commanded =
-      let k = coordinator_after x old s t b d (Err (Known Store)) r.answer (λ y. hear_command in_memory y c) (λ y. hear_command alone y c) view same sound are_lent before out r.reaches in record {
+      let k = coordinator_after x old s t b d (Err (Known Store)) r.answer (λ y. hear_command in_memory y c) (λ y. hear_command alone y c) view same sound
+      are_lent before out r.reaches in record {
         tells = subst (λ (a : Result CommandHeard ReachDropped). TellsCommand told 0 a) k.answer_is r.tells;
         took = record { answer_is = refl; out_is = k.out_is; node_is = k.node_is; beside = k.beside };
       }
 
   pub coordinator_commanded_sound : Agrees t → IsSoundCoordinator (with_its t x)
   coordinator_commanded_sound agrees =
-      coordinator_after_sound x old s t b d (Err (Known Store)) r.answer (λ y. hear_command in_memory y c) (λ y. hear_command alone y c) view same sound are_lent before out r.reaches agrees
+      coordinator_after_sound x old s t b d (Err (Known Store)) r.answer (λ y. hear_command in_memory y c) (λ y. hear_command alone y c) view same sound
+      are_lent before out r.reaches agrees
 
 -- # What stands beside nothing
 
-module _ {A : Type 0} (x : CoordinatorState) (old : Node) (s t : State StationMemory) (halted answer : A) (q : StationPlan A) (before out : Out) (view : of_coordinator x ≡ old) (same : s ≡ x.station)
-    (sound : IsSoundCoordinator x) (stayed : IfNone s.memory ((answer ≡ halted) × ((out ≡ nothing) × (t ≡ s)))) (carried : IfSome s.memory (λ l. CarriesAfter s (q s.eui l) answer before out t)) where
+module _ {A : Type 0} (x : CoordinatorState) (old : Node) (s t : State StationMemory) (halted answer : A) (q : StationPlan A) (before out : Out)
+    (view : of_coordinator x ≡ old) (same : s ≡ x.station)
+    (sound : IsSoundCoordinator x) (stayed : IfNone s.memory ((answer ≡ halted) × ((out ≡ nothing) × (t ≡ s))))
+    (carried : IfSome s.memory (λ l. CarriesAfter s (q s.eui l) answer before out t)) where
   added_its : Added x.station t halted answer q before out
   added_its = subst (λ (k : State StationMemory). Added k t halted answer q before out) same (adds s t halted answer q before out stayed carried)
 
@@ -114,4 +131,5 @@ module _ {A : Type 0} (x : CoordinatorState) (old : Node) (s t : State StationMe
       (alone_took Coordinator (beside x) x.station t halted answer q before out sound.told added_its)
 
   pub coordinator_alone_sound : IsOwnPlan q x.station.eui → Agrees t → IsSoundCoordinator (with_its t x)
-  coordinator_alone_sound own agrees = lent_sound Coordinator (beside x) x.station t halted q answer added_its.added own sound added_its.stayed added_its.carries agrees
+  coordinator_alone_sound own agrees =
+      lent_sound Coordinator (beside x) x.station t halted q answer added_its.added own sound added_its.stayed added_its.carries agrees

@@ -1,5 +1,6 @@
 -- What a station does by a plan of its further rules.
-use Rattle.std.proofs.Common.{◌≡◌, ◌≢◌, ℕ, ◌*◌, ◌≤◌, Bool, true, false, List, [], ◌∷◌, length, Option, Some, None, Result, Ok, Err, refl, sym, ap, subst, ◌∙◌, arith}
+use Rattle.std.proofs.Common.{◌≡◌, ◌≢◌, ℕ, ◌*◌, ◌≤◌, Bool, true, false, List, [], ◌∷◌, length, Option, Some, None, Result, Ok, Err, refl, sym, ap, subst, ◌∙◌}
+use Rattle.std.proofs.Common.{arith}
 use Rattle.std.specs.Prelude.{◌==◌, IfNone, IfSome, IsSome, is_some, nat_lt, if◌then◌else◌}
 use Rattle.std.specs.Option.{option_map, option_map_or}
 use Rattle.plc_base.specs.Grant.{Granted}
@@ -56,7 +57,8 @@ pub fault_own : (own : ℕ) (log : Log) (b : Broadcast) → b.origin ≡ own →
 unfolding broadcast_fault
 fault_own own log b is = let same : (b.origin == own) ≡ true = eq-eqb b.origin own is in rw same refl
 
-pub fault_other : (own : ℕ) (log : Log) (b : Broadcast) (r : Result (Unit {0}) LogFault) → b.origin ≢ own → r ≡ room_for log.marks b.origin b.number → mark_fault r ≡ broadcast_fault own log b
+pub fault_other : (own : ℕ) (log : Log) (b : Broadcast) (r : Result (Unit {0}) LogFault) → b.origin ≢ own → r ≡ room_for log.marks b.origin b.number
+    → mark_fault r ≡ broadcast_fault own log b
 unfolding broadcast_fault
 fault_other own log b r apart is = let other : (b.origin == own) ≡ false = ne_eqb b.origin own apart in rw (other, is) refl
 
@@ -95,8 +97,10 @@ module _ (s : Neighbours) (c : NeighbourCommand) (number origin : ℕ) (one : c.
   pub ends_unawaited : is_awaited s c.from number origin ≡ false → EndsCheck s c (Err NotAwaited) s
   unfolding choose resting
   ends_unawaited none =
-      let answer : (ended_at s c.from number origin (is_awaited s c.from number origin)).answer ≡ Err NotAwaited = λ i. (ended_at s c.from number origin (none i)).answer in
-      let checks : (ended_at s c.from number origin (is_awaited s c.from number origin)).memory.beside.checks ≡ s = λ i. (ended_at s c.from number origin (none i)).memory.beside.checks in
+      let answer : (ended_at s c.from number origin (is_awaited s c.from number origin)).answer
+      ≡ Err NotAwaited = λ i. (ended_at s c.from number origin (none i)).answer in
+      let checks : (ended_at s c.from number origin (is_awaited s c.from number origin)).memory.beside.checks
+      ≡ s = λ i. (ended_at s c.from number origin (none i)).memory.beside.checks in
       record {
         answer = sym (ap (λ (p : Plan (Reaching (Unit {0})) (Result CommandHeard ReachDropped)). p.answer) ended_read ∙ answer);
         checks = sym (ap (λ (p : Plan (Reaching (Unit {0})) (Result CommandHeard ReachDropped)). p.memory.beside.checks) ended_read ∙ checks);
@@ -105,7 +109,8 @@ module _ (s : Neighbours) (c : NeighbourCommand) (number origin : ℕ) (one : c.
   pub ends_awaited : is_awaited s c.from number origin ≡ true → EndsCheck s c (Ok tt) (acked_after s c.from number origin)
   unfolding choose resting
   ends_awaited some =
-      let answer : (ended_at s c.from number origin (is_awaited s c.from number origin)).answer ≡ Ok Acked = λ i. (ended_at s c.from number origin (some i)).answer in
+      let answer : (ended_at s c.from number origin (is_awaited s c.from number origin)).answer
+      ≡ Ok Acked = λ i. (ended_at s c.from number origin (some i)).answer in
       let checks : (ended_at s c.from number origin (is_awaited s c.from number origin)).memory.beside.checks ≡ acked_after s c.from number origin =
       λ i. (ended_at s c.from number origin (some i)).memory.beside.checks in
       record {
@@ -129,14 +134,16 @@ module _ {A : Type 0} (s : State StationMemory) (b : Beside) (halted : A) (plan 
   -- a halted station does nothing
   pub first_stayed : s.memory ≡ None → ReachesFirst s b halted plan halted nothing s b
   first_stayed e = record {
-    stayed = subst (λ (o : Option StationMemory). IfNone o ((halted ≡ halted) × ((nothing ≡ nothing) × ((s ≡ s) × (b ≡ b))))) (sym e) (refl, (refl, (refl, refl)));
+    stayed =
+        subst (λ (o : Option StationMemory). IfNone o ((halted ≡ halted) × ((nothing ≡ nothing) × ((s ≡ s) × (b ≡ b))))) (sym e) (refl, (refl, (refl, refl)));
     carried = subst (λ (o : Option StationMemory). IfSome o (λ l. Carries s (of_held b plan l) halted nothing s)) (sym e) tt;
     beside = subst (λ (o : Option StationMemory). IfSome o (λ l. b ≡ beside_left b plan l s.memory)) (sym e) tt;
   }
 
   pub stayed_after : (before : Out) → s.memory ≡ None → Reaches s b halted plan halted before nothing s b
   stayed_after before e = record {
-    stayed = subst (λ (o : Option StationMemory). IfNone o ((halted ≡ halted) × ((nothing ≡ nothing) × ((s ≡ s) × (b ≡ b))))) (sym e) (refl, (refl, (refl, refl)));
+    stayed =
+        subst (λ (o : Option StationMemory). IfNone o ((halted ≡ halted) × ((nothing ≡ nothing) × ((s ≡ s) × (b ≡ b))))) (sym e) (refl, (refl, (refl, refl)));
     carried = subst (λ (o : Option StationMemory). IfSome o (λ l. CarriesAfter s (of_held b plan l) halted before nothing s)) (sym e) tt;
     beside = subst (λ (o : Option StationMemory). IfSome o (λ l. b ≡ beside_left b plan l s.memory)) (sym e) tt;
   }
@@ -149,17 +156,21 @@ module _ {A : Type 0} (s : State StationMemory) (b : Beside) (halted : A) (plan 
     some_is P p = subst (λ (o : Option StationMemory). IfSome o P) (sym running) p
 
     -- nothing is done
-    rests_so : (answer failed : A) → plan (record { memory = l; beside = b }) ≡ resting (record { memory = l; beside = b }) answer failed → Carries s (of_held b plan l) answer nothing s
+    rests_so : (answer failed : A) → plan (record { memory = l; beside = b }) ≡ resting (record { memory = l; beside = b }) answer failed
+        → Carries s (of_held b plan l) answer nothing s
     unfolding resting
     rests_so answer failed is =
-        subst (λ (p : Plan (Reaching StationMemory) A). Carries s (within (λ y. y.memory) (λ a. a) p) answer nothing s) (sym is) (resting_carried s l answer failed running)
+        subst (λ (p : Plan (Reaching StationMemory) A). Carries s (within (λ y. y.memory) (λ a. a) p) answer nothing s) (sym is)
+        (resting_carried s l answer failed running)
 
-    rests_beside : (answer failed : A) → plan (record { memory = l; beside = b }) ≡ resting (record { memory = l; beside = b }) answer failed → b ≡ beside_left b plan l s.memory
+    rests_beside : (answer failed : A) → plan (record { memory = l; beside = b }) ≡ resting (record { memory = l; beside = b }) answer failed
+        → b ≡ beside_left b plan l s.memory
     unfolding resting
     rests_beside answer failed is =
         subst (λ (o : Option StationMemory). b ≡ beside_left b plan l o) (sym running) (sym (ap (λ (p : Plan (Reaching StationMemory) A). p.memory.beside) is))
 
-    pub first_rests : (answer failed : A) → plan (record { memory = l; beside = b }) ≡ resting (record { memory = l; beside = b }) answer failed → ReachesFirst s b halted plan answer nothing s b
+    pub first_rests : (answer failed : A) → plan (record { memory = l; beside = b }) ≡ resting (record { memory = l; beside = b }) answer failed
+        → ReachesFirst s b halted plan answer nothing s b
     first_rests answer failed is = record {
       stayed = none_stayed _;
       carried = some_is (λ k. Carries s (of_held b plan k) answer nothing s) (rests_so answer failed is);
@@ -173,7 +184,8 @@ module _ {A : Type 0} (s : State StationMemory) (b : Beside) (halted : A) (plan 
       tags = record { made = sym (append-nil before.tags.made) i; opened = sym (append-nil before.tags.opened) i };
     }
 
-    pub rests_after : (before : Out) (answer failed : A) → plan (record { memory = l; beside = b }) ≡ resting (record { memory = l; beside = b }) answer failed → Reaches s b halted plan answer before before s b
+    pub rests_after : (before : Out) (answer failed : A) → plan (record { memory = l; beside = b }) ≡ resting (record { memory = l; beside = b }) answer failed
+        → Reaches s b halted plan answer before before s b
     rests_after before answer failed is = record {
       stayed = none_stayed _;
       carried = some_is (λ k. CarriesAfter s (of_held b plan k) answer before before s) (record {
@@ -185,7 +197,8 @@ module _ {A : Type 0} (s : State StationMemory) (b : Beside) (halted : A) (plan 
     }
 
     -- a command is sent, and nothing else is done; its answer is read as another
-    sent_so : {B : Type 0} (reads : B → A) (q : Plan StationMemory B) (answer : B) (out : Out) (t : State StationMemory) → plan (record { memory = l; beside = b }) ≡ within (λ k. record { memory = k; beside = b }) reads q → Carries s q answer out t
+    sent_so : {B : Type 0} (reads : B → A) (q : Plan StationMemory B) (answer : B) (out : Out) (t : State StationMemory)
+        → plan (record { memory = l; beside = b }) ≡ within (λ k. record { memory = k; beside = b }) reads q → Carries s q answer out t
         → Carries s (of_held b plan l) (reads answer) out t
     sent_so {B} reads q answer out t is c =
         subst (λ (p : Plan (Reaching StationMemory) A). Carries s (within (λ y. y.memory) (λ a. a) p) (reads answer) out t) (sym is)
@@ -225,7 +238,8 @@ told_as ends answer (Err locals.CounterSpent) = Err ends.spent
 told_as ends answer (Err locals.Store) = Err ends.store
 
 module _ {H E : Type 0} (ends : Ends E) (l : StationMemory) (b : Beside) (to code : ℕ) (body : List ℕ) (answer : H) where
-  pub sealed_told : sealed (in_reach alone) ends (record { memory = l; beside = b }) (tells_neighbours to code body (empty_draft (record { memory = l; beside = b }))) answer
+  pub sealed_told : sealed (in_reach alone) ends (record { memory = l; beside = b })
+      (tells_neighbours to code body (empty_draft (record { memory = l; beside = b }))) answer
       ≡ within (λ k. record { memory = k; beside = b }) (told_as ends answer) (send_local l code (Some to) body)
   unfolding sealed tells_neighbours goes empty_draft resting
   sealed_told = by (nat_lt (counters_left l) 1)
@@ -240,13 +254,17 @@ module _ {H E : Type 0} (ends : Ends E) (l : StationMemory) (b : Beside) (to cod
 -- # Asking for a path
 
 module _ (l : StationMemory) (b : Beside) (target : ℕ) where
-  pub asks_unjoined : address_of l ≡ None → ask_path alone (record { memory = l; beside = b }) target ≡ refused ask_ends (record { memory = l; beside = b }) asks.NotJoined
+  pub asks_unjoined : address_of l ≡ None
+      → ask_path alone (record { memory = l; beside = b }) target ≡ refused ask_ends (record { memory = l; beside = b }) asks.NotJoined
   asks_unjoined is =
-      ap (λ (o : Option ℕ). option_map_or (λ own. asks_from alone (record { memory = l; beside = b }) own target) o (refused ask_ends (record { memory = l; beside = b }) asks.NotJoined)) is
+      ap (λ (o : Option ℕ). option_map_or (λ own. asks_from alone (record { memory = l; beside = b }) own target) o
+      (refused ask_ends (record { memory = l; beside = b }) asks.NotJoined)) is
 
-  joined : (own : ℕ) → address_of l ≡ Some own → ask_path alone (record { memory = l; beside = b }) target ≡ asks_from alone (record { memory = l; beside = b }) own target
+  joined : (own : ℕ) → address_of l ≡ Some own
+      → ask_path alone (record { memory = l; beside = b }) target ≡ asks_from alone (record { memory = l; beside = b }) own target
   joined own is =
-      ap (λ (o : Option ℕ). option_map_or (λ own. asks_from alone (record { memory = l; beside = b }) own target) o (refused ask_ends (record { memory = l; beside = b }) asks.NotJoined)) is
+      ap (λ (o : Option ℕ). option_map_or (λ own. asks_from alone (record { memory = l; beside = b }) own target) o
+      (refused ask_ends (record { memory = l; beside = b }) asks.NotJoined)) is
 
   pub asks_itself : (own : ℕ) → address_of l ≡ Some own → target ≡ own
       → ask_path alone (record { memory = l; beside = b }) target ≡ refused ask_ends (record { memory = l; beside = b }) asks.ToSelf

@@ -18,18 +18,22 @@ use Rattle.line_world.proofs.Hearings.{command_heard}
 module _ (w : World) (number : ℕ) (x : Node) (got : Accepted) (origin : Origin) (cost : ℕ) where
   by_dropped : (b : Bool) → is_dropped w number got ≡ b → heard_further_so network w number x got origin cost
       ≡ (if b then unbelieved_so network w number x origin else heard_by_command network w number x got origin cost (command_of got))
-  by_dropped b e = ap (λ (t : Bool). if t then unbelieved_so network w number x origin else heard_by_command network w number x got origin cost (command_of got)) e
+  by_dropped b e =
+      ap (λ (t : Bool). if t then unbelieved_so network w number x origin else heard_by_command network w number x got origin cost (command_of got)) e
 
   -- a command for the neighbours
-  pub further_command : (c : NeighbourCommand) → command_of got ≡ Some c → heard_by_command network w number x got origin cost (Some c) ≡ heard_further_so network w number x got origin cost
+  pub further_command : (c : NeighbourCommand) → command_of got ≡ Some c
+      → heard_by_command network w number x got origin cost (Some c) ≡ heard_further_so network w number x got origin cost
   further_command c e =
       sym (by_dropped false (command_heard w number got c e) ∙ ap (λ (o : Option NeighbourCommand). heard_by_command network w number x got origin cost o) e)
 
-  dropped_by : (on unbelieved : Bool) → w.checks_on ≡ on → is_unbelieved (beside_at w number).checks got.path (message_of got) ≡ unbelieved → is_dropped w number got ≡ (on && unbelieved)
+  dropped_by : (on unbelieved : Bool) → w.checks_on ≡ on → is_unbelieved (beside_at w number).checks got.path (message_of got) ≡ unbelieved
+      → is_dropped w number got ≡ (on && unbelieved)
   dropped_by on unbelieved e f = λ i. e i && f i
 
   -- where nothing is checked
-  pub further_plain : w.checks_on ≡ false → command_of got ≡ None → hears_so network w number x got origin cost ≡ heard_further_so network w number x got origin cost
+  pub further_plain : w.checks_on ≡ false → command_of got ≡ None
+      → hears_so network w number x got origin cost ≡ heard_further_so network w number x got origin cost
   further_plain off none =
       sym (by_dropped false (ap (λ (b : Bool). b && is_unbelieved (beside_at w number).checks got.path (message_of got)) off)
       ∙ ap (λ (o : Option NeighbourCommand). heard_by_command network w number x got origin cost o) none

@@ -46,12 +46,14 @@ came_up x got h = by x.station.memory h.came
     by None h = tt
     by (Some l) h = h
 
-module _ (x y : MeterState) (got : Accepted) (cost note now : ℕ) (r : Result MeterHeard Dropped) (out : Out) (sound : IsSoundMeter x) (may : MayHear (of_meter x) got) where
+module _ (x y : MeterState) (got : Accepted) (cost note now : ℕ) (r : Result MeterHeard Dropped) (out : Out) (sound : IsSoundMeter x)
+    (may : MayHear (of_meter x) got) where
   -- what it does about the frame
   abbrev plan : Memory → meters.Hearing
   plan m = meters.hear_meter (identity_of x) m got cost note now
 
-  acted : y.psk ≡ x.psk → IfSome (node_of x).memory (λ m. Carries (node_of x) (plan m) r out (node_of y)) → Took (acts (of_meter x) (Err drops.Store) plan) r out (of_meter y)
+  acted : y.psk ≡ x.psk → IfSome (node_of x).memory (λ m. Carries (node_of x) (plan m) r out (node_of y))
+      → Took (acts (of_meter x) (Err drops.Store) plan) r out (of_meter y)
   acted psk carries = meter_took x y (Err drops.Store) plan r out sound psk (not_none (node_of x).memory _ may.running) carries
 
   pub heard : y.psk ≡ x.psk → IfSome (node_of x).memory (λ m. Carries (node_of x) (plan m) r out (node_of y))
@@ -68,8 +70,10 @@ module _ (x y : MeterState) (got : Accepted) (cost note now : ℕ) (r : Result M
       (not_none (node_of x).memory _ may.running) carries agrees
 
   -- the reply that it tells of a route message is among the frames of its step
-  pub told_replied : y.psk ≡ x.psk → IfSome (node_of x).memory (λ m. Carries (node_of x) (plan m) r out (node_of y)) → (last told : Option Reply) → parts_of told ≡ parts_of last
-      → IfSome (node_of x).memory (λ m. unread (hear m.station got cost note now).answer ≡ None → last ≡ reply_sent (plan m) (node_of y).memory) → IsSome (message_of got)
+  pub told_replied : y.psk ≡ x.psk → IfSome (node_of x).memory (λ m. Carries (node_of x) (plan m) r out (node_of y)) → (last told : Option Reply)
+      → parts_of told ≡ parts_of last
+      → IfSome (node_of x).memory (λ m. unread (hear m.station got cost note now).answer ≡ None → last ≡ reply_sent (plan m) (node_of y).memory)
+      → IsSome (message_of got)
       → told ≡ reply_among (hears network (of_meter x) got cost note now).frames
   told_replied psk carries last told same replied is =
       let m = there_is (node_of x).memory may.running in

@@ -1,5 +1,6 @@
 -- What further reach adds to a frame that a node heard: commands for the neighbours, checks, and requests that are not believed.
-use Rattle.std.proofs.Common.{◌≡◌, ◌≢◌, ℕ, zero, suc, ◌+◌, ◌<◌, ◌≤◌, Bool, true, false, ◌||◌, ◌&&◌, List, [], ◌∷◌, ◌++◌, length, map, Option, Some, None, Result, Ok, Err, refl, sym, ap, subst, ◌∙◌, if◌then◌else◌, append_assoc, arith}
+use Rattle.std.proofs.Common.{◌≡◌, ◌≢◌, ℕ, zero, suc, ◌+◌, ◌<◌, ◌≤◌, Bool, true, false, ◌||◌, ◌&&◌, List, [], ◌∷◌, ◌++◌, length, map, Option, Some, None}
+use Rattle.std.proofs.Common.{Result, Ok, Err, refl, sym, ap, subst, ◌∙◌, if◌then◌else◌, append_assoc, arith}
 use mathlib.Core.List.{map-append}
 use Rattle.std.specs.Prelude.{◌==◌, All, IfSome, IsSome, is_some, nat_lt, slice_get, slice_set, unwrap_or}
 use Rattle.std.specs.List.{list_any}
@@ -39,9 +40,11 @@ use Rattle.node_rules.specs.declared.refusal.LocalRefusal.TheVariants as locals
 use Rattle.node_rules.specs.Carrying.{nothing}
 use Rattle.node_rules.specs.Ciphers.{network}
 use Rattle.node_rules.specs.Coordinators as coordinator_rules
-use Rattle.node_rules.specs.Drafts.{Draft, alone, choose as choose_plan, checked as checked_plan, counters_left, empty_draft, goes, leave, refused, sealed, sealing, with_rank}
+use Rattle.node_rules.specs.Drafts.{Draft, alone, choose as choose_plan, checked as checked_plan, counters_left, empty_draft, goes, leave, refused, sealed}
+use Rattle.node_rules.specs.Drafts.{sealing, with_rank}
 use Rattle.node_rules.specs.Frames.{spelled}
-use Rattle.node_rules.specs.Hearing.{Hearing, dropped, drop_it, hear, hear_message_in, hear_reply, hear_reply_for, hear_sealed, hear_unit, hear_unit_in, rank_over}
+use Rattle.node_rules.specs.Hearing.{Hearing, dropped, drop_it, hear, hear_message_in, hear_reply, hear_reply_for, hear_sealed, hear_unit, hear_unit_in}
+use Rattle.node_rules.specs.Hearing.{rank_over}
 use Rattle.node_rules.specs.Laws.{WaitingFits}
 use Rattle.node_rules.specs.LogSlots.{IsBesideLog, LeavesLog}
 use Rattle.node_rules.specs.Memory.{Memory, Node, Role, Coordinator, Meter, StationMemory, address_of, next_hop}
@@ -64,7 +67,8 @@ use Rattle.line_events.specs.declared.event.Answer.TheVariants as answers
 use Rattle.line_events.specs.declared.event.TheConstants.{MAX_EVENTS}
 use Rattle.line_events.specs.declared.happenings.Happenings.{Happenings}
 use Rattle.line_rules.specs.Answers.{CompletedJoining, Reception, command_word, coordinator_reception, meter_reception, only, station_reception}
-use Rattle.line_rules.specs.Further.{acknowledged, acknowledged_if, acknowledging, adds_frames, beside_after, beside_at, broadcast_up, command_trace, due, due_of, has_reached, is_dropped, is_reply_taken, path_line, reaches, sends_nothing, set_beside, with_check}
+use Rattle.line_rules.specs.Further.{acknowledged, acknowledged_if, acknowledging, adds_frames, beside_after, beside_at, broadcast_up, command_trace, due}
+use Rattle.line_rules.specs.Further.{due_of, has_reached, is_dropped, is_reply_taken, path_line, reaches, sends_nothing, set_beside, with_check}
 use Rattle.line_rules.specs.Logs.{LogIn}
 use Rattle.line_rules.specs.Steps.{done_by, flight_by, handed_by, happened, hears, identity, number_if, number_of, received, told}
 use Rattle.line_rules.specs.Worlds.{Pairing, Trace, World, is_forged_tag}
@@ -101,9 +105,12 @@ beside_same (b ∷ bs) (suc number) = ap (λ (cs : List Beside). b ∷ cs) (besi
 abbrev pub blacklisted : telling.Reception
 blacklisted = record { answer = answers.Blacklisted; up = None; took = false; done = None; replied = None }
 
-pub was_unbelieved : (w new : World) (number : ℕ) (x : Node) (origin : Origin) (out : Out) (forged : Bool) (h : Happenings) → IsBounded (in_run w) → w.events < MAX_EVENTS
-    → length out.frames ≤ 24 → length out.tags.made ≤ 2 → slice_get w.nodes number ≡ Some x → out ≡ nothing → forged ≡ (origin.is_forged || list_any (is_forged_tag w.made) out.tags.opened)
-    → h ≡ said_of w number out forged blacklisted → new ≡ left_of w number out forged blacklisted → Steps true w (Ok h) new (Ok (unbelieved_so network w number x origin))
+pub was_unbelieved : (w new : World) (number : ℕ) (x : Node) (origin : Origin) (out : Out) (forged : Bool) (h : Happenings) → IsBounded (in_run w)
+    → w.events < MAX_EVENTS
+    → length out.frames ≤ 24 → length out.tags.made ≤ 2 → slice_get w.nodes number ≡ Some x → out ≡ nothing
+    → forged ≡ (origin.is_forged || list_any (is_forged_tag w.made) out.tags.opened)
+    → h ≡ said_of w number out forged blacklisted → new ≡ left_of w number out forged blacklisted
+    → Steps true w (Ok h) new (Ok (unbelieved_so network w number x origin))
 was_unbelieved w new number x origin out forged h b room frames tags at none is_forged said is =
     was_received w new number x origin (stays x (only answers.Blacklisted)) blacklisted out w.nodes forged h b room frames tags at refl
     (record {
@@ -147,11 +154,13 @@ station_silent l got cost note now c e = by_path got.path (unit_in got.payload) 
     by_path (paths.Down from) (Some unit) is = absurd (cc (is))
 
 -- what a node carries out that stores, sends and makes nothing
-acts_silent : {A : Type 0} (x : Node) (halted : A) (plan : Memory → Plan Memory A) → ((m : Memory) → Silent (plan m)) → ((acts x halted plan).frames ≡ []) × ((acts x halted plan).made ≡ [])
+acts_silent : {A : Type 0} (x : Node) (halted : A) (plan : Memory → Plan Memory A) → ((m : Memory) → Silent (plan m))
+    → ((acts x halted plan).frames ≡ []) × ((acts x halted plan).made ≡ [])
 unfolding acts carry_out
 acts_silent {A} x halted plan silent = by_memory x.memory
   where
-    by_whole : (b : Bool) (m : Memory) (w : Written) → ((if b then finished w (plan m) else cut_off w (plan m)).frames ≡ []) × ((if b then finished w (plan m) else cut_off w (plan m)).made ≡ [])
+    by_whole : (b : Bool) (m : Memory) (w : Written)
+        → ((if b then finished w (plan m) else cut_off w (plan m)).frames ≡ []) × ((if b then finished w (plan m) else cut_off w (plan m)).made ≡ [])
     by_whole true m w = ((silent m).1, (silent m).2)
     by_whole false m w = (refl, refl)
 
@@ -171,8 +180,10 @@ pub record HearsNothing (x : Node) (d : NodeStep Reception) : Type 0 where
 -- what a node hears, by its role
 abbrev hears_as : Node → Accepted → (cost note now : ℕ) → Role → NodeStep Reception
 hears_as x got cost note now Coordinator =
-    answering coordinator_reception (acts x (Err drops.Store) (λ m. coordinator_rules.hear_coordinator (record { eui = x.eui; ciphers = network }) m got cost note now))
-hears_as x got cost note now (Meter psk) = answering meter_reception (acts x (Err drops.Store) (λ m. meters.hear_meter (identity network x psk) m got cost note now))
+    answering coordinator_reception
+    (acts x (Err drops.Store) (λ m. coordinator_rules.hear_coordinator (record { eui = x.eui; ciphers = network }) m got cost note now))
+hears_as x got cost note now (Meter psk) =
+    answering meter_reception (acts x (Err drops.Store) (λ m. meters.hear_meter (identity network x psk) m got cost note now))
 
 module _ (x : Node) (got : Accepted) (cost note now : ℕ) (c : NeighbourCommand) (e : command_of got ≡ Some c) where
   abbrev own : coordinator_rules.CoordinatorIdentity
@@ -249,12 +260,14 @@ halted_silent {A} x halted plan = by_memory x.memory
         by_whole w.whole m w e
 
 -- what it gives out after nothing
-given_frames : {A : Type 0} (before : Out) (d : NodeStep A) → before.frames ≡ [] → before.tags.made ≡ [] → (is_some d.node.memory ≡ false → (d.frames ≡ []) × (d.made ≡ []))
+given_frames : {A : Type 0} (before : Out) (d : NodeStep A) → before.frames ≡ [] → before.tags.made ≡ []
+    → (is_some d.node.memory ≡ false → (d.frames ≡ []) × (d.made ≡ []))
     → ((given_after before d).frames ≡ (given_by d).frames) × ((given_after before d).tags.made ≡ (given_by d).tags.made)
 given_frames before d frames made down = by (is_some d.node.memory) down
   where
     by : (b : Bool) → (b ≡ false → (d.frames ≡ []) × (d.made ≡ []))
-        → ((if b then followed before (given_by d) else nothing).frames ≡ (given_by d).frames) × ((if b then followed before (given_by d) else nothing).tags.made ≡ (given_by d).tags.made)
+        → ((if b then followed before (given_by d) else nothing).frames ≡ (given_by d).frames)
+        × ((if b then followed before (given_by d) else nothing).tags.made ≡ (given_by d).tags.made)
     by true h = (ap (λ fs. fs ++ (given_by d).frames) frames, ap (λ ts. ts ++ (given_by d).tags.made) made)
     by false h = (sym (ap (map (spelled network)) (h refl).0), sym (h refl).1)
 
@@ -263,17 +276,20 @@ done_pointwise v u same None = refl
 done_pointwise v u same (Some eui) = ap Some (same eui)
 
 -- what is said and what is left of a frame with a command for the neighbours
-pub was_commanded : (w new : World) (number : ℕ) (x : Node) (got : Accepted) (c : NeighbourCommand) (origin : Origin) (cost : ℕ) (r : telling.Reception) (before out : Out)
+pub was_commanded : (w new : World) (number : ℕ) (x : Node) (got : Accepted) (c : NeighbourCommand) (origin : Origin) (cost : ℕ) (r : telling.Reception)
+    (before out : Out)
     (nodes left : List Node) (forged : Bool) (commanded : Commanded) (b after_b : Beside) (h : Happenings) → IsBounded (in_run w) → w.events < MAX_EVENTS
     → length out.frames ≤ 24 → length out.tags.made ≤ 2 → slice_get w.nodes number ≡ Some x → command_of got ≡ Some c
     → Received (hears network x got cost origin.note w.clock) w.nodes number r before nodes → b ≡ beside_at w number
     → IfSome (slice_get nodes number) (λ y. ReachedCommand y b c nodes number commanded before out left after_b)
     → forged ≡ (origin.is_forged || list_any (is_forged_tag w.made) before.tags.opened)
-    → h ≡ record (said_of (record w { nodes = left; beside = slice_set w.beside number after_b }) number out forged r) { answer = commanded.answer; bup = commanded.bup; path = commanded.path }
+    → h ≡ record (said_of (record w { nodes = left; beside = slice_set w.beside number after_b }) number out forged r)
+    { answer = commanded.answer; bup = commanded.bup; path = commanded.path }
     → new ≡ left_of (record w { nodes = left; beside = slice_set w.beside number after_b }) number out forged r
     → Steps true w (Ok h) new (Ok (heard_by_command network w number x got origin cost (Some c)))
 unfolding told
-was_commanded w new number x got c origin cost r before out nodes left forged commanded b after_b h bounded room frames tags at command rec held reached is_forged said is =
+was_commanded w new number x got c origin cost r before out nodes left forged commanded b after_b h bounded room frames tags at command rec held reached
+    is_forged said is =
     let d : NodeStep Reception = hears network x got cost origin.note w.clock in
     let z : Node = d.node in
     let silent = command_silent x got cost origin.note w.clock c command in
@@ -296,7 +312,8 @@ was_commanded w new number x got c origin cost r before out nodes left forged co
     let heard : World × Trace = received network w number right d in
     let bs : List Beside = slice_set w.beside number after_b in
     let second : has_reached network v number z heard_halted (hears_command c) a ≡ set_beside number after_b (after v number left (given_by a)) =
-    ap (λ (u : World). set_beside number (beside_after z (beside_at w number) (hears_command c) a.node) u) (told_as v number a left (given_by a) refl did.nodes_are)
+    ap (λ (u : World). set_beside number (beside_after z (beside_at w number) (hears_command c) a.node) u)
+    (told_as v number a left (given_by a) refl did.nodes_are)
     ∙ ap (λ (k : Beside). set_beside number k (after v number left (given_by a))) (sym rc.reached.beside) in
     let third : set_beside number after_b (after v number left (given_by a)) ≡ left_of (record w { nodes = left; beside = bs }) number out forged r =
     λ i. record v {
@@ -308,11 +325,14 @@ was_commanded w new number x got c origin cost r before out nodes left forged co
           ∙ ap (λ ts. w.made ++ ts) (sym out_made)) i;
       beside = bs;
     } in
-    let world : has_reached network heard.0 number z heard_halted (hears_command c) (reaches z (beside_at heard.0 number) heard_halted (hears_command c)) ≡ new =
-    ap (λ (u : World). has_reached network u number z heard_halted (hears_command c) (reaches z (beside_at u number) heard_halted (hears_command c))) first ∙ second ∙ third ∙ sym is in
+    let world : has_reached network heard.0 number z heard_halted (hears_command c) (reaches z (beside_at heard.0 number) heard_halted (hears_command c))
+    ≡ new =
+    ap (λ (u : World). has_reached network u number z heard_halted (hears_command c) (reaches z (beside_at u number) heard_halted (hears_command c))) first
+    ∙ second ∙ third ∙ sym is in
     let trace : Trace = command_trace number z c heard.1 a in
     let numbers : (eui : Eui) → number_of (record w { nodes = left; beside = bs }) eui ≡ number_of (record w { nodes = nodes }) eui =
-    λ eui. ap (λ (ns : List Node). number_of (record w { nodes = ns }) eui) did.nodes_are ∙ same_number (record w { nodes = nodes }) number z a.node eui at_z (acts_eui z heard_halted _) in
+    λ eui. ap (λ (ns : List Node). number_of (record w { nodes = ns }) eui) did.nodes_are
+    ∙ same_number (record w { nodes = nodes }) number z a.node eui at_z (acts_eui z heard_halted _) in
     let many : length out.frames ≡ length before.frames + length a.frames =
     (let o : length out.frames ≡ length a.frames = ap (λ fs. length fs) out_frames ∙ many_given (spelled network) a.frames in
     let n : length before.frames ≡ 0 = ap (λ fs. length fs) none in omega (arith, o, n)) in
@@ -333,8 +353,13 @@ was_commanded w new number x got c origin cost r before out nodes left forged co
       flights = k.flights + length a.frames;
     }) (received_said w number x d r before nodes right forged at (hears_eui x got cost origin.note w.clock) rec forgery) in
     let same : length left ≡ length w.nodes =
-    ap (λ (ns : List Node). length ns) did.nodes_are ∙ length-set nodes number a.node ∙ received_many w number x d r before nodes right forged at (hears_eui x got cost origin.note w.clock) rec forgery in
-    is_taken_so true w new (Ok (has_reached network heard.0 number z heard_halted (hears_command c) (reaches z (beside_at heard.0 number) heard_halted (hears_command c)), trace)) trace h
+    ap (λ (ns : List Node). length ns) did.nodes_are ∙ length-set nodes number a.node
+    ∙ received_many w number x d r before nodes right forged at (hears_eui x got cost origin.note w.clock) rec forgery in
+    is_taken_so true w new (Ok (
+      has_reached network heard.0 number z heard_halted (hears_command c)
+          (reaches z (beside_at heard.0 number) heard_halted (hears_command c)),
+      trace,
+    )) trace h
     (λ i. Ok (world i, trace)) told_is
     (subst IsBounded (sym is) (left_bounded w number left bs out forged r bounded room same frames tags))
 
@@ -362,7 +387,8 @@ is_due (paths.Sealed from false key) message answer reply e = by_taken (is_reply
     by_message taken (Some (Rerr lost to)) h = absurd (cc (h))
     by_message taken None h = absurd (cc (h))
 
-    by_taken : (b : Bool) → is_reply_taken answer ≡ b → (m : Option Message) → (if b then due_of from m else None) ≡ Some reply → IsDue (paths.Sealed from false key) m answer
+    by_taken : (b : Bool) → is_reply_taken answer ≡ b → (m : Option Message) → (if b then due_of from m else None) ≡ Some reply
+        → IsDue (paths.Sealed from false key) m answer
     by_taken true taken m h = by_message taken m h
     by_taken false taken m h = absurd (cc (h))
 is_due (paths.Sealed from true key) message answer reply e = absurd (cc (e))
@@ -375,24 +401,28 @@ acts_few : {A : Type 0} (x : Node) (halted : A) (plan : Memory → Plan Memory A
 unfolding acts carry_out
 acts_few {A} x halted plan most few = by_memory x.memory refl
   where
-    by_whole : (b : Bool) (m : Memory) (w : Written) → length (plan m).frames ≤ most → length (if b then finished w (plan m) else cut_off w (plan m)).frames ≤ most
+    by_whole : (b : Bool) (m : Memory) (w : Written) → length (plan m).frames ≤ most
+        → length (if b then finished w (plan m) else cut_off w (plan m)).frames ≤ most
     by_whole true m w f = f
     by_whole false m w f = omega arith
 
-    by_memory : (o : Option Memory) → x.memory ≡ o → length (option_map_or (λ m. left_by x (carry_out x.store.records x.store.cut (plan m))) o (stays x halted)).frames ≤ most
+    by_memory : (o : Option Memory) → x.memory ≡ o
+        → length (option_map_or (λ m. left_by x (carry_out x.store.records x.store.cut (plan m))) o (stays x halted)).frames ≤ most
     by_memory None e = omega arith
     by_memory (Some m) e =
         let w : Written = write (plan m).puts x.store.cut x.store.records in
         by_whole w.whole m w (few m e)
 
-module _ (x : Node) (got : Accepted) (cost note now : ℕ) (from : ℕ) (all : Bool) (key : Key) (number link origin to : ℕ) (way : got.path ≡ paths.Sealed from all key)
+module _ (x : Node) (got : Accepted) (cost note now : ℕ) (from : ℕ) (all : Bool) (key : Key) (number link origin to : ℕ)
+    (way : got.path ≡ paths.Sealed from all key)
     (message : message_of got ≡ Some (Rrep number link origin to)) (waits : IfSome x.memory (λ m. WaitingFits m.station)) where
   waits_at : (m : Memory) → x.memory ≡ Some m → WaitingFits m.station
   waits_at m e = subst (λ (o : Option Memory). IfSome o (λ k. WaitingFits k.station)) e waits
 
   few_by : (role : Role) → length (hears_as x got cost note now role).frames ≤ 22
   few_by Coordinator = acts_few x (Err drops.Store) (λ m. coordinator_rules.hear_coordinator (record { eui = x.eui; ciphers = network }) m got cost note now) 22
-      (λ m e. coordinators_replies_few (record { eui = x.eui; ciphers = network }) m got cost note now from all key number link origin to (waits_at m e) way message)
+      (λ m e. coordinators_replies_few (record { eui = x.eui; ciphers = network }) m got cost note now from all key number link origin to (waits_at m e) way
+      message)
   few_by (Meter psk) = acts_few x (Err drops.Store) (λ m. meters.hear_meter (identity network x psk) m got cost note now) 22
       (λ m e. meters_replies_few (identity network x psk) m got cost note now from all key number link origin to (waits_at m e) way message)
 
@@ -439,14 +469,17 @@ module _ (l : StationMemory) where
       choose_keeps (to == own) _ _ (checked_keeps _ _ (sealed_keeps _ heard_words.Learned refl)) (by_hop own by origin to rank now (next_hop l to))
 
   module _ (number link origin to : ℕ) where
-    code_keeps : (own by : ℕ) (cost now : ℕ) (first : Bool) (m : Option Message) (other : Hearing) → (if first then m else None) ≡ Some (Rrep number link origin to)
+    code_keeps : (own by : ℕ) (cost now : ℕ) (first : Bool) (m : Option Message) (other : Hearing)
+        → (if first then m else None) ≡ Some (Rrep number link origin to)
         → KeepsRing (choose_plan first (hear_message_in l own by false cost now m) other)
     unfolding choose_plan
     code_keeps own by cost now true m other e =
-        subst (λ (o : Option Message). KeepsRing (hear_message_in l own by false cost now o)) (sym e) (reply_keeps own by origin to (rank_over number link cost) now)
+        subst (λ (o : Option Message). KeepsRing (hear_message_in l own by false cost now o)) (sym e)
+        (reply_keeps own by origin to (rank_over number link cost) now)
     code_keeps own by cost now false m other e = absurd (cc (e))
 
-    unit_keeps : (own by : ℕ) (unit : MeshUnit) (cost note now : ℕ) → route_message unit ≡ Some (Rrep number link origin to) → KeepsRing (hear_sealed l own by false unit cost note now)
+    unit_keeps : (own by : ℕ) (unit : MeshUnit) (cost note now : ℕ) → route_message unit ≡ Some (Rrep number link origin to)
+        → KeepsRing (hear_sealed l own by false unit cost note now)
     unit_keeps own by (units.Local code body) cost note now e = code_keeps own by cost now (code == 1) (message_in body) _ e
     unit_keeps own by (units.Whole mesh octets) cost note now e = absurd (cc (e))
     unit_keeps own by (units.Part mesh piece) cost note now e = absurd (cc (e))
@@ -471,7 +504,8 @@ module _ (l : StationMemory) where
   nowhere path None from key cost note now p e = refl
   nowhere path (Some unit) from key cost note now p e =
       subst (λ (k : Path). (hear_unit l k unit cost note now).answer ≡ Err drops.BadUnit) (sym p)
-      (subst (λ (r : Option Granted). (option_map_or (λ own. hear_sealed l own from false unit cost note now) (option_map (λ g. g.address) r) (drop_it l drops.BadUnit)).answer ≡ Err drops.BadUnit) (sym e) refl)
+      (subst (λ (r : Option Granted). (option_map_or (λ own. hear_sealed l own from false unit cost note now) (option_map (λ g. g.address) r)
+      (drop_it l drops.BadUnit)).answer ≡ Err drops.BadUnit) (sym e) refl)
 
 -- A node that is not halted after a step carried a plan out.
 record Left {A : Type 0} (x : Node) (plan : Memory → Plan Memory A) (answer : A) (n : Memory) : Type 0 where
@@ -480,7 +514,8 @@ record Left {A : Type 0} (x : Node) (plan : Memory → Plan Memory A) (answer : 
   left : (plan memory).memory ≡ n
   answered : answer ≡ (plan memory).answer
 
-acts_left : {A : Type 0} (x : Node) (halted : A) (plan : Memory → Plan Memory A) (n : Memory) → (acts x halted plan).node.memory ≡ Some n → Left x plan (acts x halted plan).answer n
+acts_left : {A : Type 0} (x : Node) (halted : A) (plan : Memory → Plan Memory A) (n : Memory) → (acts x halted plan).node.memory ≡ Some n
+    → Left x plan (acts x halted plan).answer n
 unfolding acts carry_out
 acts_left {A} x halted plan n = by_memory x.memory refl
   where
@@ -532,7 +567,8 @@ meter_only (Ok meter_words.Left) e = (refl, refl, refl)
 meter_only (Ok meter_words.Activated) e = (refl, refl, refl)
 meter_only (Err reason) e = (refl, refl, refl)
 
-pub hears_only : (x : Node) (got : Accepted) (cost note now : ℕ) → is_reply_taken (hears network x got cost note now).answer.answer ≡ true → IsOnly (hears network x got cost note now).answer
+pub hears_only : (x : Node) (got : Accepted) (cost note now : ℕ) → is_reply_taken (hears network x got cost note now).answer.answer ≡ true
+    → IsOnly (hears network x got cost note now).answer
 hears_only x got cost note now = by x.role
   where
     by : (role : Role) → is_reply_taken (hears_as x got cost note now role).answer.answer ≡ true → IsOnly (hears_as x got cost note now role).answer
@@ -543,7 +579,8 @@ hears_only x got cost note now = by x.role
 module _ (x : Node) (got : Accepted) (cost note now : ℕ) (n : Memory) where
   keeps_ring : (l : StationMemory) (answer : Answer) → IsDue got.path (message_of got) answer → l.ring ≢ None → (hear l got cost note now).memory.ring ≢ None
   keeps_ring l answer due some none =
-      some (sym (frame_keeps l due.number due.link due.origin due.to got.path (unit_in got.payload) due.from due.key cost note now due.path_is due.message_is) ∙ none)
+      some (sym (frame_keeps l due.number due.link due.origin due.to got.path (unit_in got.payload) due.from due.key cost note now due.path_is due.message_is)
+      ∙ none)
 
   ring_some : (r : Option Granted) → r ≢ None → IsSome r
   ring_some None h = absurd (h refl)
@@ -557,17 +594,20 @@ module _ (x : Node) (got : Accepted) (cost note now : ℕ) (n : Memory) where
       let unread_none = messages_unread m.station cost note now got (subst (λ (o : Option Message). IsSome o) (sym due.message_is) refl) in
       let plain : coordinator_rules.hear_coordinator own m got cost note now ≡ coordinator_rules.heard_by own m now (hear m.station got cost note now) None =
       ap (λ o. coordinator_rules.heard_by own m now (hear m.station got cost note now) o) unread_none in
-      let taken = subst (λ (p : Plan Memory (Result CoordinatorHeard Dropped)). is_reply_taken (coordinator_reception p.answer).answer ≡ true) plain due.taken in
+      let taken = subst (λ (p : Plan Memory (Result CoordinatorHeard Dropped)). is_reply_taken (coordinator_reception p.answer).answer ≡ true) plain
+      due.taken in
       let some : m.station.ring ≢ None =
       λ none. let bad = subst (λ (r : Result Heard Dropped). is_reply_taken (coordinator_reception (coordinator_rules.heard_by_station r)).answer ≡ true)
       (nowhere m.station got.path (unit_in got.payload) due.from due.key cost note now due.path_is none) taken in absurd (cc (bad)) in
       subst (λ (p : Plan Memory (Result CoordinatorHeard Dropped)). IsSome p.memory.station.ring) (sym plain) (ring_some _ (keeps_ring m.station _ due some))
 
-  meter_joined : (psk : Key) (m : Memory) → IsDue got.path (message_of got) (meter_reception (meters.hear_meter (identity network x psk) m got cost note now).answer).answer
+  meter_joined : (psk : Key) (m : Memory)
+      → IsDue got.path (message_of got) (meter_reception (meters.hear_meter (identity network x psk) m got cost note now).answer).answer
       → IsSome (meters.hear_meter (identity network x psk) m got cost note now).memory.station.ring
   meter_joined psk m due =
       let unread_none = messages_unread m.station cost note now got (subst (λ (o : Option Message). IsSome o) (sym due.message_is) refl) in
-      let plain : meters.hear_meter (identity network x psk) m got cost note now ≡ meters.heard_by (identity network x psk) m now (hear m.station got cost note now) None =
+      let plain : meters.hear_meter (identity network x psk) m got cost note now
+      ≡ meters.heard_by (identity network x psk) m now (hear m.station got cost note now) None =
       ap (λ o. meters.heard_by (identity network x psk) m now (hear m.station got cost note now) o) unread_none in
       let taken = subst (λ (p : Plan Memory (Result MeterHeard Dropped)). is_reply_taken (meter_reception p.answer).answer ≡ true) plain due.taken in
       let some : m.station.ring ≢ None =
@@ -575,18 +615,21 @@ module _ (x : Node) (got : Accepted) (cost note now : ℕ) (n : Memory) where
       (nowhere m.station got.path (unit_in got.payload) due.from due.key cost note now due.path_is none) taken in absurd (cc (bad)) in
       subst (λ (p : Plan Memory (Result MeterHeard Dropped)). IsSome p.memory.station.ring) (sym plain) (ring_some _ (keeps_ring m.station _ due some))
 
-  joined_by : (role : Role) → IsDue got.path (message_of got) (hears_as x got cost note now role).answer.answer → (hears_as x got cost note now role).node.memory ≡ Some n → IsSome n.station.ring
+  joined_by : (role : Role) → IsDue got.path (message_of got) (hears_as x got cost note now role).answer.answer
+      → (hears_as x got cost note now role).node.memory ≡ Some n → IsSome n.station.ring
   joined_by Coordinator due here =
       let own : coordinator_rules.CoordinatorIdentity = record { eui = x.eui; ciphers = network } in
       let k = acts_left x (Err drops.Store) (λ m. coordinator_rules.hear_coordinator own m got cost note now) n here in
       subst (λ (q : Memory). IsSome q.station.ring) k.left
-      (coordinator_joined k.memory (subst (λ (r : Result CoordinatorHeard Dropped). IsDue got.path (message_of got) (coordinator_reception r).answer) k.answered due))
+      (coordinator_joined k.memory (subst (λ (r : Result CoordinatorHeard Dropped). IsDue got.path (message_of got) (coordinator_reception r).answer) k.answered
+      due))
   joined_by (Meter psk) due here =
       let k = acts_left x (Err drops.Store) (λ m. meters.hear_meter (identity network x psk) m got cost note now) n here in
       subst (λ (q : Memory). IsSome q.station.ring) k.left
       (meter_joined psk k.memory (subst (λ (r : Result MeterHeard Dropped). IsDue got.path (message_of got) (meter_reception r).answer) k.answered due))
 
-  pub joined : IsDue got.path (message_of got) (hears network x got cost note now).answer.answer → (hears network x got cost note now).node.memory ≡ Some n → IsSome n.station.ring
+  pub joined : IsDue got.path (message_of got) (hears network x got cost note now).answer.answer → (hears network x got cost note now).node.memory ≡ Some n
+      → IsSome n.station.ring
   joined due here = joined_by x.role due here
 
 -- # A frame that was heard where neighbours are checked
@@ -595,8 +638,10 @@ module _ (x : Node) (got : Accepted) (cost note now : ℕ) (n : Memory) where
 abbrev pub unacknowledged : telling.Reception
 unacknowledged = record { answer = answers.Store; up = None; took = false; done = None; replied = None }
 
-module _ (w v2 new : World) (number : ℕ) (x : Node) (got : Accepted) (origin : Origin) (cost : ℕ) (r : telling.Reception) (before out : Out) (nodes : List Node) (forged : Bool)
-    (due_now : Option Reply) (h : Happenings) (bounded : IsBounded (in_run w)) (room : w.events < MAX_EVENTS) (frames : length out.frames ≤ 24) (tags : length out.tags.made ≤ 2)
+module _ (w v2 new : World) (number : ℕ) (x : Node) (got : Accepted) (origin : Origin) (cost : ℕ) (r : telling.Reception) (before out : Out) (nodes : List Node)
+    (forged : Bool)
+    (due_now : Option Reply) (h : Happenings) (bounded : IsBounded (in_run w)) (room : w.events < MAX_EVENTS) (frames : length out.frames ≤ 24)
+    (tags : length out.tags.made ≤ 2)
     (at : slice_get w.nodes number ≡ Some x) (rec : Received (hears network x got cost origin.note w.clock) w.nodes number r before nodes)
     (is_forged : forged ≡ (origin.is_forged || list_any (is_forged_tag w.made) before.tags.opened))
     (due_is : due got.path (message_of got) (hears network x got cost origin.note w.clock).answer.answer ≡ due_now) where
@@ -657,7 +702,8 @@ module _ (w v2 new : World) (number : ℕ) (x : Node) (got : Accepted) (origin :
   given_more a up is = is ∙ ap (λ (b : Bool). if b then followed before (given_by a) else nothing) up
 
   acknowledged_so : (o : Option Reply) → Acknowledges (record w { nodes = nodes }) number z o before true out v2
-      → h ≡ said_of (record w { nodes = left o; beside = bs }) number out forged r → new ≡ left_of (record w { nodes = left o; beside = bs }) number out forged r
+      → h ≡ said_of (record w { nodes = left o; beside = bs }) number out forged r
+      → new ≡ left_of (record w { nodes = left o; beside = bs }) number out forged r
       → Steps true w (Ok h) new (Ok (acknowledged_if network w number z o noted))
   unfolding told
   acknowledged_so None ack said is =
@@ -688,7 +734,8 @@ module _ (w v2 new : World) (number : ℕ) (x : Node) (got : Accepted) (origin :
       })
       ∙ sym is in
       let count : length out.frames ≡ length before.frames + length a.frames =
-      ap (λ (o : Out). length o.frames) all ∙ length-append before.frames (given_by a).frames ∙ ap (λ n. length before.frames + n) (many_given (spelled network) a.frames) in
+      ap (λ (o : Out). length o.frames) all ∙ length-append before.frames (given_by a).frames
+      ∙ ap (λ n. length before.frames + n) (many_given (spelled network) a.frames) in
       let told_is : h ≡ step.1.happened =
       said
       ∙ (λ i. record s {
@@ -701,16 +748,19 @@ module _ (w v2 new : World) (number : ℕ) (x : Node) (got : Accepted) (origin :
       (subst IsBounded (sym is) (left_bounded w number ns bs out forged r bounded room (left_many (Some reply)) frames tags)))
 
   -- what is said and what is left of a frame, the acknowledgement that was due sent
-  pub was_checked : (v3 : World) (sent : Option Reply) → IfSome (slice_get nodes number) (λ y. Acknowledges (record w { nodes = nodes }) number y due_now before true out v2)
+  pub was_checked : (v3 : World) (sent : Option Reply)
+      → IfSome (slice_get nodes number) (λ y. Acknowledges (record w { nodes = nodes }) number y due_now before true out v2)
       → sent ≡ reply_among d.frames → v3 ≡ with_check_of v2 number sent → h ≡ said_of v3 number out forged r → new ≡ left_of v3 number out forged r
       → Steps true w (Ok h) new (Ok (checked_so network w number x got origin cost))
   was_checked v3 sent acknowledges sent_is checks said is =
       let ack : Acknowledges (record w { nodes = nodes }) number z due_now before true out v2 =
       at_node_told nodes number z (λ y. Acknowledges (record w { nodes = nodes }) number y due_now before true out v2) at_heard acknowledges in
       let v3_is : v3 ≡ record w { nodes = left due_now; beside = bs } =
-      checks ∙ ap (λ (u : World). with_check_of u number sent) ack.world_is ∙ ap (λ (o : Option Reply). with_check_of (record w { nodes = left due_now }) number o) sent_is in
+      checks ∙ ap (λ (u : World). with_check_of u number sent) ack.world_is
+      ∙ ap (λ (o : Option Reply). with_check_of (record w { nodes = left due_now }) number o) sent_is in
       steps_as _ _ (ap (λ (o : Option Reply). Ok (acknowledged_if network w number z o noted)) due_is)
-      (acknowledged_so due_now ack (said ∙ ap (λ (u : World). said_of u number out forged r) v3_is) (is ∙ ap (λ (u : World). left_of u number out forged r) v3_is))
+      (acknowledged_so due_now ack (said ∙ ap (λ (u : World). said_of u number out forged r) v3_is)
+      (is ∙ ap (λ (u : World). left_of u number out forged r) v3_is))
 
   plain_up : IsOnly d.answer → r.up ≡ None
   plain_up only_it = rec.tells.up ∙ ap (λ o. option_map handed_up o) only_it.0
@@ -737,7 +787,8 @@ module _ (w v2 new : World) (number : ℕ) (x : Node) (got : Accepted) (origin :
       let rest : World = left_of (record w { nodes = ns }) number nothing forged unacknowledged in
       let world : step.0 ≡ new =
       ap (λ (u : World). record (told network (set_beside number bb u) number a) { flights = w.flights; made = w.made; beside = w.beside }) first
-      ∙ ap (λ (u : World). record u { flights = w.flights; made = w.made; beside = w.beside }) (told_as (set_beside number bb v) number a ns (given_by a) refl refl)
+      ∙ ap (λ (u : World). record u { flights = w.flights; made = w.made; beside = w.beside })
+      (told_as (set_beside number bb v) number a ns (given_by a) refl refl)
       ∙ (λ i. record v {
         nodes = ns;
         flights = sym (append-nil w.flights) i;
@@ -748,7 +799,8 @@ module _ (w v2 new : World) (number : ℕ) (x : Node) (got : Accepted) (origin :
       ∙ ap (λ (o : Out). left_of (record w { nodes = ns }) number o forged unacknowledged) (sym none)
       ∙ ap (λ (u : World). left_of u number out forged unacknowledged) (sym ack.world_is) ∙ sym is in
       let told_is : h ≡ step.1.happened =
-      said ∙ ap (λ (u : World). said_of u number out forged unacknowledged) ack.world_is ∙ ap (λ (o : Out). said_of (record w { nodes = ns }) number o forged unacknowledged) none
+      said ∙ ap (λ (u : World). said_of u number out forged unacknowledged) ack.world_is
+      ∙ ap (λ (o : Out). said_of (record w { nodes = ns }) number o forged unacknowledged) none
       ∙ (λ i. record (happened w answers.Store) {
         forged = forgery i;
         up = handed_by number (sym only_it.0 i);
@@ -775,16 +827,19 @@ module _ (w v2 new : World) (number : ℕ) (x : Node) (got : Accepted) (origin :
 pub command_heard : (w : World) (number : ℕ) (got : Accepted) (c : NeighbourCommand) → command_of got ≡ Some c → is_dropped w number got ≡ false
 command_heard w number got c e = by_on w.checks_on (not_unbelieved got.path (unit_in got.payload) e)
   where
-    by_on : (b : Bool) → is_unbelieved (beside_at w number).checks got.path (message_of got) ≡ false → (b && is_unbelieved (beside_at w number).checks got.path (message_of got)) ≡ false
+    by_on : (b : Bool) → is_unbelieved (beside_at w number).checks got.path (message_of got) ≡ false
+        → (b && is_unbelieved (beside_at w number).checks got.path (message_of got)) ≡ false
     by_on true h = h
     by_on false h = refl
 
-    by_code : (from : ℕ) (all : Bool) (code : ℕ) (body : List ℕ) (s t : Bool) → (if s then None else (if t then None else Some (record { from = from; to_all = all; code = code; body = body }))) ≡ Some c
+    by_code : (from : ℕ) (all : Bool) (code : ℕ) (body : List ℕ) (s t : Bool)
+        → (if s then None else (if t then None else Some (record { from = from; to_all = all; code = code; body = body }))) ≡ Some c
         → asks_unbelieved (beside_at w number).checks from (if s then message_in body else None) ≡ false
     by_code from all code body true t is = absurd (cc (is))
     by_code from all code body false t is = refl
 
-    not_unbelieved : (p : Path) (o : Option MeshUnit) → command_on p o ≡ Some c → is_unbelieved (beside_at w number).checks p (option_and_then route_message o) ≡ false
+    not_unbelieved : (p : Path) (o : Option MeshUnit) → command_on p o ≡ Some c
+        → is_unbelieved (beside_at w number).checks p (option_and_then route_message o) ≡ false
     not_unbelieved (paths.Sealed from false key) o is = refl
     not_unbelieved (paths.Sealed from true key) None is = absurd (cc (is))
     not_unbelieved (paths.Sealed from true key) (Some (units.Local code body)) is = by_code from true code body (code == 1) (code == 2) is

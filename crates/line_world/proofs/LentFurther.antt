@@ -47,7 +47,8 @@ use Rattle.reach_rules.specs.declared.refusal.BroadcastRefusal.{BroadcastRefusal
 use Rattle.reach_rules.specs.declared.refusal.BroadcastRefusal.TheVariants as broadcasts
 use Rattle.reach_rules.specs.declared.refusal.ReachDropped.{ReachDropped}
 use Rattle.reach_rules.specs.declared.refusal.ReachDropped.TheVariants.{Known, NotAwaited}
-use Rattle.reach_rules.specs.Broadcasts.{admits_broadcast, broadcast, broadcast_ends, broadcast_fault, broadcast_from, datagram_fault, goes_further, hear_broadcast_in, hop_less, mark_fault, own_broadcast, with_broadcast_mark, with_broadcast_number}
+use Rattle.reach_rules.specs.Broadcasts.{admits_broadcast, broadcast, broadcast_ends, broadcast_fault, broadcast_from, datagram_fault, goes_further}
+use Rattle.reach_rules.specs.Broadcasts.{hear_broadcast_in, hop_less, mark_fault, own_broadcast, with_broadcast_mark, with_broadcast_number}
 use Rattle.reach_rules.specs.CheckedReplies.{hear_acknowledgement_in}
 use Rattle.reach_rules.specs.PathAsking.{ask_ends, ask_path, asks_by, asks_from, follows_path, hear_path_in, next_toward, path_word}
 use Rattle.reach_rules.specs.ReachingNodes.{Beside, Reaching, drop_it, in_reach, reach_ends, remembers, tells_neighbours}
@@ -105,7 +106,8 @@ number_apart n = by_due (passes n 1)
     by_due false = none_apart
 
 -- the mark of an origin that is admitted
-mark_apart : (marks : Marks) (origin number : ℕ) → length marks ≤ 32 → room_for marks origin number ≡ Ok (tt {0}) → AreApart (puts_of (keep_write marks origin number))
+mark_apart : (marks : Marks) (origin number : ℕ) → length marks ≤ 32 → room_for marks origin number ≡ Ok (tt {0})
+    → AreApart (puts_of (keep_write marks origin number))
 mark_apart marks origin number short room = by_place (place_of marks origin) refl
   where
     by_stored : (place : ℕ) (t : Bool) → place < 32 → AreApart (puts_of (if t then None else Some (entry_write origins.marks place (mark_ahead origin number))))
@@ -113,7 +115,8 @@ mark_apart marks origin number short room = by_place (place_of marks origin) ref
     by_stored place false low = one_apart _ (inr (omega (arith, low), omega (arith, low)))
 
     by_place : (o : Option ℕ) → place_of marks origin ≡ o
-        → AreApart (puts_of (option_map_or (λ place. if nat_le number (mark_at marks place).stored then None else Some (entry_write origins.marks place (mark_ahead origin number))) o
+        → AreApart (puts_of (option_map_or
+        (λ place. if nat_le number (mark_at marks place).stored then None else Some (entry_write origins.marks place (mark_ahead origin number))) o
         (Some (entry_write origins.marks (length marks) (mark_ahead origin number)))))
     by_place (Some place) e =
         let there = (found origins.marks marks origin place (record { address = 0; mark = 0; stored = 0 }) e).0 in
@@ -145,7 +148,8 @@ module _ (b : Beside) (m : Memory) where
   unfolding resting
   refused_lent ends reason = record { same = refl; apart = none_apart }
 
-  either_lent : {A : Type 0} (t : Bool) (p p' : Plan (Reaching Memory) A) (q q' : Plan (Reaching StationMemory) A) → Lent p q → Lent p' q' → Lent (choose t p p') (choose t q q')
+  either_lent : {A : Type 0} (t : Bool) (p p' : Plan (Reaching Memory) A) (q q' : Plan (Reaching StationMemory) A) → Lent p q → Lent p' q'
+      → Lent (choose t p p') (choose t q q')
   unfolding choose
   either_lent true p p' q q' a z = a
   either_lent false p p' q q' a z = z
@@ -155,7 +159,8 @@ module _ (b : Beside) (m : Memory) where
   drafted c ps us x = record { puts = ps; memory = record { memory = x; beside = c }; units = us; plain = []; made = []; opened = [] }
 
   sealed_lent : {H E : Type 0} (ends : Ends E) (c : Beside) (ps : List Write) (us : List Outgoing) (answer : H) → AreApart ps
-      → Lent (sealed (in_reach in_memory) ends node_side (drafted c ps us m) answer) (sealed (in_reach alone) ends station_side (drafted c ps us m.station) answer)
+      → Lent (sealed (in_reach in_memory) ends node_side (drafted c ps us m) answer)
+      (sealed (in_reach alone) ends station_side (drafted c ps us m.station) answer)
   unfolding sealed
   sealed_lent ends c ps us answer are = by_left (nat_lt (counters_left m.station) (length us))
     where
@@ -173,7 +178,8 @@ module _ (b : Beside) (m : Memory) where
   drops : {H : Type 0} (reason : ReachDropped) → Lent (drop_it {H = H} node_side reason) (drop_it station_side reason)
   drops reason = refused_lent reach_ends reason
 
-  remembers_lent : (c : Beside) (heard : CommandHeard) → Lent (remembers (record node_side { beside = c }) heard) (remembers (record station_side { beside = c }) heard)
+  remembers_lent : (c : Beside) (heard : CommandHeard)
+      → Lent (remembers (record node_side { beside = c }) heard) (remembers (record station_side { beside = c }) heard)
   unfolding resting
   remembers_lent c heard = record { same = refl; apart = none_apart }
 
@@ -198,15 +204,19 @@ module _ (b : Beside) (m : Memory) where
   broadcast_from_lent own datagram = by_fault (datagram_fault b.log datagram)
     where
       by_fault : (o : Option BroadcastRefusal)
-          → Lent (checked broadcast_ends node_side o (sealed (in_reach in_memory) broadcast_ends node_side (tells_neighbours to_all 4 (spelling (own_broadcast own b.log datagram)) (with_broadcast_number (empty_draft node_side))) (tt {0})))
-          (checked broadcast_ends station_side o (sealed (in_reach alone) broadcast_ends station_side (tells_neighbours to_all 4 (spelling (own_broadcast own b.log datagram)) (with_broadcast_number (empty_draft station_side))) (tt {0})))
+          → Lent (checked broadcast_ends node_side o (sealed (in_reach in_memory) broadcast_ends node_side
+          (tells_neighbours to_all 4 (spelling (own_broadcast own b.log datagram)) (with_broadcast_number (empty_draft node_side))) (tt {0})))
+          (checked broadcast_ends station_side o (sealed (in_reach alone) broadcast_ends station_side
+          (tells_neighbours to_all 4 (spelling (own_broadcast own b.log datagram)) (with_broadcast_number (empty_draft station_side))) (tt {0})))
       by_fault (Some reason) = refused_lent broadcast_ends reason
-      by_fault None = sealed_lent broadcast_ends (record b { log = numbered_log b.log }) (puts_of (numbers.number_put b.log.numbering)) _ (tt {0}) (number_apart b.log.numbering)
+      by_fault None = sealed_lent broadcast_ends (record b { log = numbered_log b.log }) (puts_of (numbers.number_put b.log.numbering)) _ (tt {0})
+          (number_apart b.log.numbering)
 
   pub broadcast_lent : (datagram : List ℕ) → Lent (broadcast in_memory node_side datagram) (broadcast alone station_side datagram)
   broadcast_lent datagram = by_address (address_of m.station)
     where
-      by_address : (o : Option ℕ) → Lent (option_map_or (λ own. broadcast_from in_memory node_side own datagram) o (refused broadcast_ends node_side broadcasts.NotJoined))
+      by_address : (o : Option ℕ) → Lent
+          (option_map_or (λ own. broadcast_from in_memory node_side own datagram) o (refused broadcast_ends node_side broadcasts.NotJoined))
           (option_map_or (λ own. broadcast_from alone station_side own datagram) o (refused broadcast_ends station_side broadcasts.NotJoined))
       by_address None = refused_lent broadcast_ends broadcasts.NotJoined
       by_address (Some own) = broadcast_from_lent own datagram
@@ -216,7 +226,8 @@ module _ (b : Beside) (m : Memory) where
   ack_in_lent : (from : ℕ) (o : Option (ℕ × ℕ)) → Lent (hear_acknowledgement_in node_side from o) (hear_acknowledgement_in station_side from o)
   ack_in_lent from None = drops (Known BadUnit)
   ack_in_lent from (Some (number, origin)) =
-      either_lent (is_awaited b.checks from number origin) _ _ _ _ (remembers_lent (record b { checks = acked_after b.checks from number origin }) heard_of.Acked) (drops NotAwaited)
+      either_lent (is_awaited b.checks from number origin) _ _ _ _
+      (remembers_lent (record b { checks = acked_after b.checks from number origin }) heard_of.Acked) (drops NotAwaited)
 
   follows_lent : (o : Result PathStep PathRefusal) → Lent (follows_path in_memory node_side o) (follows_path alone station_side o)
   follows_lent (Err reason) = drops (path_word reason)
@@ -252,8 +263,10 @@ module _ (b : Beside) (m : Memory) where
       left : Beside
       left = record b { log = admitted_log b.log d.origin d.number }
 
-      by_hops : (t : Bool) → Lent (sealed (in_reach in_memory) reach_ends node_side (if t then marked node_side else tells_neighbours to_all 4 (spelling (hop_less d)) (marked node_side)) answer)
-          (sealed (in_reach alone) reach_ends station_side (if t then marked station_side else tells_neighbours to_all 4 (spelling (hop_less d)) (marked station_side)) answer)
+      by_hops : (t : Bool) → Lent (sealed (in_reach in_memory) reach_ends node_side
+          (if t then marked node_side else tells_neighbours to_all 4 (spelling (hop_less d)) (marked node_side)) answer)
+          (sealed (in_reach alone) reach_ends station_side
+          (if t then marked station_side else tells_neighbours to_all 4 (spelling (hop_less d)) (marked station_side)) answer)
       by_hops true = sealed_lent reach_ends left (puts_of (keep_write b.log.marks d.origin d.number)) [] answer are
       by_hops false = sealed_lent reach_ends left (puts_of (keep_write b.log.marks d.origin d.number)) _ answer are
 
@@ -264,7 +277,8 @@ module _ (b : Beside) (m : Memory) where
     heard_in_lent own (Some d) = by_fault (broadcast_fault own b.log d) refl
       where
         by_fault : (o : Option ReachDropped) → broadcast_fault own b.log d ≡ o
-            → Lent (checked reach_ends node_side o (admits_broadcast in_memory node_side d)) (checked reach_ends station_side o (admits_broadcast alone station_side d))
+            → Lent (checked reach_ends node_side o (admits_broadcast in_memory node_side d))
+            (checked reach_ends station_side o (admits_broadcast alone station_side d))
         by_fault (Some reason) e = drops reason
         by_fault None e = goes_lent d (heard_of.Broadcast d.origin d.number d.octets) (mark_apart b.log.marks d.origin d.number short (has_room own d e))
 
@@ -272,7 +286,8 @@ module _ (b : Beside) (m : Memory) where
     at_lent own c =
         either_lent (c.code == 3) _ _ _ _ (either_lent c.to_all _ _ _ _ (drops (Known BadUnit)) (ack_in_lent c.from (ack_in c.body)))
         (either_lent (c.code == 4) _ _ _ _ (either_lent c.to_all _ _ _ _ (heard_in_lent own (broadcast_in c.body)) (drops (Known BadUnit)))
-        (either_lent (c.code == 5) _ _ _ _ (either_lent c.to_all _ _ _ _ (drops (Known BadUnit)) (path_in_lent own c.from (path_in c.body))) (drops (Known BadUnit))))
+        (either_lent (c.code == 5) _ _ _ _ (either_lent c.to_all _ _ _ _ (drops (Known BadUnit)) (path_in_lent own c.from (path_in c.body)))
+        (drops (Known BadUnit))))
 
     pub command_lent : (c : NeighbourCommand) → Lent (hear_command in_memory node_side c) (hear_command alone station_side c)
     command_lent c = by_address (address_of m.station)

@@ -44,22 +44,30 @@ pub adds : {A : Type 0} (s t : State StationMemory) (halted answer : A) (q : Sta
     → IfNone s.memory ((answer ≡ halted) × ((out ≡ nothing) × (t ≡ s))) → IfSome s.memory (λ l. CarriesAfter s (q s.eui l) answer before out t)
     → Added s t halted answer q before out
 adds {A} s t halted answer q before out stayed carried =
-    record { added = by_added s.memory carried; stayed = by_stayed s.memory carried stayed; carries = by_carries s.memory carried; out_is = by_out s.memory refl carried stayed }
+    record {
+      added = by_added s.memory carried;
+      stayed = by_stayed s.memory carried stayed;
+      carries = by_carries s.memory carried;
+      out_is = by_out s.memory refl carried stayed;
+    }
   where
     by_added : (o : Option StationMemory) → IfSome o (λ l. CarriesAfter s (q s.eui l) answer before out t) → Out
     by_added None k = nothing
     by_added (Some l) k = k.added
 
-    by_stayed : (o : Option StationMemory) (k : IfSome o (λ l. CarriesAfter s (q s.eui l) answer before out t)) → IfNone o ((answer ≡ halted) × ((out ≡ nothing) × (t ≡ s)))
+    by_stayed : (o : Option StationMemory) (k : IfSome o (λ l. CarriesAfter s (q s.eui l) answer before out t))
+        → IfNone o ((answer ≡ halted) × ((out ≡ nothing) × (t ≡ s)))
         → IfNone o ((answer ≡ halted) × (by_added o k ≡ nothing) × (t ≡ s))
     by_stayed None k h = (h.0, refl, h.1.1)
     by_stayed (Some l) k h = tt
 
-    by_carries : (o : Option StationMemory) (k : IfSome o (λ l. CarriesAfter s (q s.eui l) answer before out t)) → IfSome o (λ l. Carries s (q s.eui l) answer (by_added o k) t)
+    by_carries : (o : Option StationMemory) (k : IfSome o (λ l. CarriesAfter s (q s.eui l) answer before out t))
+        → IfSome o (λ l. Carries s (q s.eui l) answer (by_added o k) t)
     by_carries None k = tt
     by_carries (Some l) k = k.carries
 
-    by_out : (o : Option StationMemory) → s.memory ≡ o → (k : IfSome o (λ l. CarriesAfter s (q s.eui l) answer before out t)) → IfNone o ((answer ≡ halted) × ((out ≡ nothing) × (t ≡ s)))
+    by_out : (o : Option StationMemory) → s.memory ≡ o → (k : IfSome o (λ l. CarriesAfter s (q s.eui l) answer before out t))
+        → IfNone o ((answer ≡ halted) × ((out ≡ nothing) × (t ≡ s)))
         → out ≡ (if is_some t.memory then followed before (by_added o k) else nothing)
     by_out None e k h =
         let none : t.memory ≡ None = ap (λ (z : State StationMemory). z.memory) h.1.1 ∙ e in
@@ -71,7 +79,8 @@ held_so m None = refl
 held_so m (Some l) = refl
 
 -- The node took the step of its rule after what was given out before.
-pub alone_took : {A : Type 0} (role : Role) (m : Memory) (s t : State StationMemory) (halted answer : A) (q : StationPlan A) (before out : Out) → IsSome s.store.told → Added s t halted answer q before out
+pub alone_took : {A : Type 0} (role : Role) (m : Memory) (s t : State StationMemory) (halted answer : A) (q : StationPlan A) (before out : Out)
+    → IsSome s.store.told → Added s t halted answer q before out
     → TookAlone (acts (node_in role (holder m s)) halted (lent q s.eui)) answer before out (node_in role (holder m t))
 alone_took role m s t halted answer q before out told a =
     let k = lent_took role m s t halted q answer a.added told a.stayed a.carries in
@@ -96,7 +105,8 @@ held_plan b q e l = of_held b q l
 abbrev around : StationMemory → Memory
 around l = record { station = l; randoms = []; session = None; sessions = []; book = [] }
 
-module _ {A : Type 0} (b : Beside) (p : Reaching Memory → Plan (Reaching Memory) A) (q : Reaching StationMemory → Plan (Reaching StationMemory) A) (are : AreLent b p q) where
+module _ {A : Type 0} (b : Beside) (p : Reaching Memory → Plan (Reaching Memory) A) (q : Reaching StationMemory → Plan (Reaching StationMemory) A)
+    (are : AreLent b p q) where
   pub own_held : (e : Eui) → IsOwnPlan (held_plan b q) e
   own_held e = record {
     places = λ n short. places_apart n.station n.book (q (station_side b n)).puts (are n).apart;
@@ -117,11 +127,13 @@ module _ {A : Type 0} (role : Role) (m : Memory) (s t : State StationMemory) (b 
   stays_so : (out : Out) → IfNone s.memory ((answer ≡ halted) × ((out ≡ nothing) × ((t ≡ s) × (c ≡ b)))) → StationStayed s halted answer out t
   stays_so out h = by s.memory h
     where
-      by : (o : Option StationMemory) → IfNone o ((answer ≡ halted) × ((out ≡ nothing) × ((t ≡ s) × (c ≡ b)))) → IfNone o ((answer ≡ halted) × (out ≡ nothing) × (t ≡ s))
+      by : (o : Option StationMemory) → IfNone o ((answer ≡ halted) × ((out ≡ nothing) × ((t ≡ s) × (c ≡ b))))
+          → IfNone o ((answer ≡ halted) × (out ≡ nothing) × (t ≡ s))
       by None h = (h.0, h.1.0, h.1.1.0)
       by (Some l) h = tt
 
-  carries_so : (out : Out) → IfSome s.memory (λ l. Carries s (of_held b q l) answer out t) → IfSome (holder m s).memory (λ n. Carries (holder m s) (with_beside b p n) answer out (holder m t))
+  carries_so : (out : Out) → IfSome s.memory (λ l. Carries s (of_held b q l) answer out t)
+      → IfSome (holder m s).memory (λ n. Carries (holder m s) (with_beside b p n) answer out (holder m t))
   carries_so out h = by s.memory refl h
     where
       by : (o : Option StationMemory) → s.memory ≡ o → IfSome o (λ l. Carries s (of_held b q l) answer out t)
@@ -132,13 +144,16 @@ module _ {A : Type 0} (role : Role) (m : Memory) (s t : State StationMemory) (b 
           (carries_within (λ k. with_station k m) (λ (a : A). a) (holder m s) s t (of_held b q l) answer out refl refl k)
 
   -- what stands beside the node
-  leaves_so : (out : Out) → IfNone s.memory ((answer ≡ halted) × ((out ≡ nothing) × ((t ≡ s) × (c ≡ b)))) → IfSome s.memory (λ l. c ≡ beside_left b q l t.memory)
+  leaves_so : (out : Out) → IfNone s.memory ((answer ≡ halted) × ((out ≡ nothing) × ((t ≡ s) × (c ≡ b))))
+      → IfSome s.memory (λ l. c ≡ beside_left b q l t.memory)
       → c ≡ beside_after (node_in role (holder m s)) b p (node_in role (holder m t))
   unfolding beside_after
   leaves_so out h left = by s.memory refl h left
     where
-      by : (o : Option StationMemory) → s.memory ≡ o → IfNone o ((answer ≡ halted) × ((out ≡ nothing) × ((t ≡ s) × (c ≡ b)))) → IfSome o (λ l. c ≡ beside_left b q l t.memory)
-          → c ≡ option_map_or (λ n. if is_some (holder m t).memory then (p (record { memory = n; beside = b })).memory.beside else without_log b) (option_map (λ l. with_station l m) o) b
+      by : (o : Option StationMemory) → s.memory ≡ o → IfNone o ((answer ≡ halted) × ((out ≡ nothing) × ((t ≡ s) × (c ≡ b))))
+          → IfSome o (λ l. c ≡ beside_left b q l t.memory)
+          → c ≡ option_map_or (λ n. if is_some (holder m t).memory then (p (record { memory = n; beside = b })).memory.beside else without_log b)
+          (option_map (λ l. with_station l m) o) b
       by None e h k = h.1.1.1
       by (Some l) e h k = k ∙ (λ i. if sym (held_so m t.memory) i then sym (beside_is b p q (there l e) (with_station l m)) i else without_log b)
 
@@ -146,14 +161,17 @@ module _ {A : Type 0} (role : Role) (m : Memory) (s t : State StationMemory) (b 
   pub first_took : (out : Out) → IsSome s.store.told → ReachesFirst s b halted q answer out t c
       → TookFirst (node_in role (holder m s)) b halted p answer out (node_in role (holder m t)) c
   first_took out told r =
-      let k = took role (holder m s) (holder m t) halted (with_beside b p) answer out told (stays_lent m s t halted answer out (stays_so out r.stayed)) (carries_so out r.carried) in
+      let k = took role (holder m s) (holder m t) halted (with_beside b p) answer out told (stays_lent m s t halted answer out (stays_so out r.stayed))
+      (carries_so out r.carried) in
       record { took = k; beside = leaves_so out r.stayed r.beside ∙ ap (λ (n : Node). beside_after (node_in role (holder m s)) b p n) k.node_is }
 
   -- what comes later, as what would come first
-  stays_after : (out : Out) → IfNone s.memory ((answer ≡ halted) × ((out ≡ nothing) × ((t ≡ s) × (c ≡ b)))) → IfNone s.memory ((answer ≡ halted) × ((out ≡ nothing) × (t ≡ s)))
+  stays_after : (out : Out) → IfNone s.memory ((answer ≡ halted) × ((out ≡ nothing) × ((t ≡ s) × (c ≡ b))))
+      → IfNone s.memory ((answer ≡ halted) × ((out ≡ nothing) × (t ≡ s)))
   stays_after out h = by s.memory h
     where
-      by : (o : Option StationMemory) → IfNone o ((answer ≡ halted) × ((out ≡ nothing) × ((t ≡ s) × (c ≡ b)))) → IfNone o ((answer ≡ halted) × ((out ≡ nothing) × (t ≡ s)))
+      by : (o : Option StationMemory) → IfNone o ((answer ≡ halted) × ((out ≡ nothing) × ((t ≡ s) × (c ≡ b))))
+          → IfNone o ((answer ≡ halted) × ((out ≡ nothing) × (t ≡ s)))
       by None h = (h.0, (h.1.0, h.1.1.0))
       by (Some l) h = tt
 
@@ -165,7 +183,8 @@ module _ {A : Type 0} (role : Role) (m : Memory) (s t : State StationMemory) (b 
       → TookAfter (node_in role (holder m s)) b halted p answer before out (node_in role (holder m t)) c
   after_took before out told r =
       let a = added_by before out r in
-      let k = took role (holder m s) (holder m t) halted (with_beside b p) answer a.added told (stays_lent m s t halted answer a.added a.stayed) (carries_so a.added a.carries) in
+      let k = took role (holder m s) (holder m t) halted (with_beside b p) answer a.added told (stays_lent m s t halted answer a.added a.stayed)
+      (carries_so a.added a.carries) in
       let same = sym (held_so m t.memory) ∙ ap (λ (n : Node). is_some n.memory) k.node_is in
       record {
         answer_is = k.answer_is;
@@ -174,7 +193,8 @@ module _ {A : Type 0} (role : Role) (m : Memory) (s t : State StationMemory) (b 
         beside = leaves_so out r.stayed r.beside ∙ ap (λ (n : Node). beside_after (node_in role (holder m s)) b p n) k.node_is;
       }
 
-  sound_so : (out : Out) → StationStayed s halted answer out t → StationCarries s (held_plan b q) answer out t → Agrees t → IsSound role (holder m s) → IsSound role (holder m t)
+  sound_so : (out : Out) → StationStayed s halted answer out t → StationCarries s (held_plan b q) answer out t → Agrees t → IsSound role (holder m s)
+      → IsSound role (holder m t)
   sound_so out stayed carries agrees sound = by s.memory refl stayed
     where
       by : (o : Option StationMemory) → s.memory ≡ o → IfNone o ((answer ≡ halted) × (out ≡ nothing) × (t ≡ s)) → IsSound role (holder m t)
@@ -191,10 +211,12 @@ module _ {A : Type 0} (role : Role) (m : Memory) (s t : State StationMemory) (b 
 -- # The log beside
 
 -- the log of a node is that of its station
-pub log_of_station : (m : Memory) (s : State StationMemory) (b : Beside) → IfSome (holder m s).memory (λ n. IsKept b.log s.store.records) → IfSome s.memory (λ l. IsKept b.log s.store.records)
+pub log_of_station : (m : Memory) (s : State StationMemory) (b : Beside) → IfSome (holder m s).memory (λ n. IsKept b.log s.store.records)
+    → IfSome s.memory (λ l. IsKept b.log s.store.records)
 log_of_station m s b h = by s.memory h
   where
-    by : (o : Option StationMemory) → IfSome (option_map (λ l. with_station l m) o) (λ n. IsKept b.log s.store.records) → IfSome o (λ l. IsKept b.log s.store.records)
+    by : (o : Option StationMemory) → IfSome (option_map (λ l. with_station l m) o) (λ n. IsKept b.log s.store.records)
+        → IfSome o (λ l. IsKept b.log s.store.records)
     by None k = tt
     by (Some l) k = k
 

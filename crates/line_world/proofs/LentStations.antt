@@ -60,7 +60,8 @@ StationCarries s q answer out t = IfSome s.memory (λ l. Carries s (q s.eui l) a
 
 -- # The step
 
-pub stays_lent : {A : Type 0} (m : Memory) (s t : State StationMemory) (halted answer : A) (out : Out) → StationStayed s halted answer out t → StayedHalted (holder m s) halted answer out (holder m t)
+pub stays_lent : {A : Type 0} (m : Memory) (s t : State StationMemory) (halted answer : A) (out : Out) → StationStayed s halted answer out t
+    → StayedHalted (holder m s) halted answer out (holder m t)
 stays_lent {A} m s t halted answer out h = by s.memory h
   where
     by : (o : Option StationMemory) → IfNone o ((answer ≡ halted) × (out ≡ nothing) × (t ≡ s))
@@ -78,10 +79,13 @@ carries_lent {A} m s t q answer out h = by s.memory h
     by (Some l) c = carries_within (λ k. with_station k m) (λ (a : A). a) (holder m s) s t (q s.eui l) answer out refl refl c
 
 -- The node took the step of its rule.
-pub lent_took : {A : Type 0} (role : Role) (m : Memory) (s t : State StationMemory) (halted : A) (q : StationPlan A) (answer : A) (out : Out) → IsSome s.store.told
-    → StationStayed s halted answer out t → StationCarries s q answer out t → Took (acts (node_in role (holder m s)) halted (lent q s.eui)) answer out (node_in role (holder m t))
+pub lent_took : {A : Type 0} (role : Role) (m : Memory) (s t : State StationMemory) (halted : A) (q : StationPlan A) (answer : A) (out : Out)
+    → IsSome s.store.told
+    → StationStayed s halted answer out t → StationCarries s q answer out t
+    → Took (acts (node_in role (holder m s)) halted (lent q s.eui)) answer out (node_in role (holder m t))
 lent_took role m s t halted q answer out told stayed carries =
-    took role (holder m s) (holder m t) halted (lent q s.eui) answer out told (stays_lent m s t halted answer out stayed) (carries_lent m s t q answer out carries)
+    took role (holder m s) (holder m t) halted (lent q s.eui) answer out told (stays_lent m s t halted answer out stayed)
+    (carries_lent m s t q answer out carries)
 
 -- # What is left
 
@@ -92,16 +96,21 @@ pub record IsOwnPlan {A : Type 0} (q : StationPlan A) (e : Eui) : Type 0 where
 
 pub sends_own : (e : Eui) (to : ℕ) (octets : List ℕ) (note now : ℕ) → IsOwnPlan (λ _ l. calls.send l to octets note now) e
 sends_own e to octets note now =
-    record { places = λ m short. (stations m.station m.book short).sends to octets note now; owns = λ l short. (stations_write_their_own l short).sends to octets note now }
+    record {
+      places = λ m short. (stations m.station m.book short).sends to octets note now;
+      owns = λ l short. (stations_write_their_own l short).sends to octets note now;
+    }
 
 pub accepts_own : (e : Eui) (a : Option Arrived) → IsOwnPlan (λ own l. accepting.accept l own a) e
 accepts_own e a = record { places = λ m short. (stations m.station m.book short).accepts e a; owns = λ l short. (stations_write_their_own l short).accepts e a }
 
 pub counter_own : (e : Eui) (value : ℕ) → IsOwnPlan (λ _ l. calls.preset_counter l value) e
-counter_own e value = record { places = λ m short. (stations m.station m.book short).counter value; owns = λ l short. (stations_write_their_own l short).counter value }
+counter_own e value =
+    record { places = λ m short. (stations m.station m.book short).counter value; owns = λ l short. (stations_write_their_own l short).counter value }
 
 pub number_own : (e : Eui) (value : ℕ) → IsOwnPlan (λ _ l. calls.preset_number l value) e
-number_own e value = record { places = λ m short. (stations m.station m.book short).number value; owns = λ l short. (stations_write_their_own l short).number value }
+number_own e value =
+    record { places = λ m short. (stations m.station m.book short).number value; owns = λ l short. (stations_write_their_own l short).number value }
 
 pub near_own : (e : Eui) (to cost now : ℕ) → IsOwnPlan (λ _ l. calls.preset_near l to cost now) e
 near_own e to cost now =
@@ -116,13 +125,16 @@ unfolding resting
 breaks_own e next = record { places = λ m short. All-nil (IsInPlace m.station m.book); owns = λ l short. All-nil IsOfStation }
 
 -- the ring and the book are as they were
-membership : {A : Type 0} (role : Role) (m : Memory) (s t : State StationMemory) (halted : A) (q : StationPlan A) (answer : A) (out : Out) → IsOwnPlan q s.eui → IsSound role (holder m s)
+membership : {A : Type 0} (role : Role) (m : Memory) (s t : State StationMemory) (halted : A) (q : StationPlan A) (answer : A) (out : Out) → IsOwnPlan q s.eui
+    → IsSound role (holder m s)
     → StationStayed s halted answer out t → StationCarries s q answer out t → SameMembership s.store.records t.store.records
 membership {A} role m s t halted q answer out own sound stayed carries = by s.memory sound.agrees stayed carries
   where
-    by : (o : Option StationMemory) → IfSome (option_map (λ l. with_station l m) o) (λ n. AgreesAs role n s.store.records) → IfNone o ((answer ≡ halted) × (out ≡ nothing) × (t ≡ s))
+    by : (o : Option StationMemory) → IfSome (option_map (λ l. with_station l m) o) (λ n. AgreesAs role n s.store.records)
+        → IfNone o ((answer ≡ halted) × (out ≡ nothing) × (t ≡ s))
         → IfSome o (λ l. Carries s (q s.eui l) answer out t) → SameMembership s.store.records t.store.records
-    by None a h c = subst (λ (k : State StationMemory). SameMembership s.store.records k.store.records) (sym h.2) (record { ring = refl; entries = λ slot high. refl })
+    by None a h c =
+        subst (λ (k : State StationMemory). SameMembership s.store.records k.store.records) (sym h.2) (record { ring = refl; entries = λ slot high. refl })
     by (Some l) a h c =
         writes_keep_membership s.store (q s.eui l).puts c.done t.store (own.owns l (short_tables role (with_station l m) s.store.records a)) c.wrote
 
@@ -139,14 +151,16 @@ home_stays Coordinator old new same home = same_home old new same.ring home
 home_stays (Meter psk) old new same home = tt
 
 -- the book is kept where its records are as before
-book_stays : (role : Role) (b : book.Book) (old new : Records) → SameMembership old new → OfCoordinator role (book.IsKept b old) → OfCoordinator role (book.IsKept b new)
+book_stays : (role : Role) (b : book.Book) (old new : Records) → SameMembership old new → OfCoordinator role (book.IsKept b old)
+    → OfCoordinator role (book.IsKept b new)
 book_stays Coordinator b old new same kept = record {
   short = kept.short;
   each = λ q inside. ap (option_map (book.entries.read q)) (same.entries (slot_of book.entries q) (omega arith)) ∙ kept.each q inside;
 }
 book_stays (Meter psk) b old new same kept = tt
 
-agrees_left : {A : Type 0} (role : Role) (m : Memory) (s t : State StationMemory) (halted answer : A) (out : Out) → SameMembership s.store.records t.store.records → IsSound role (holder m s)
+agrees_left : {A : Type 0} (role : Role) (m : Memory) (s t : State StationMemory) (halted answer : A) (out : Out)
+    → SameMembership s.store.records t.store.records → IsSound role (holder m s)
     → StationStayed s halted answer out t → Agrees t → IfSome (holder m t).memory (λ n. AgreesAs role n t.store.records)
 agrees_left {A} role m s t halted answer out same sound stayed agrees = by s.memory refl sound.agrees stayed
   where
@@ -163,7 +177,8 @@ agrees_left {A} role m s t halted answer out same sound stayed agrees = by s.mem
     by (Some l) e a h = both (book_stays role m.book s.store.records t.store.records same a.book) t.memory agrees
 
 -- The node is sound still.
-pub lent_sound : {A : Type 0} (role : Role) (m : Memory) (s t : State StationMemory) (halted : A) (q : StationPlan A) (answer : A) (out : Out) → IsOwnPlan q s.eui → IsSound role (holder m s)
+pub lent_sound : {A : Type 0} (role : Role) (m : Memory) (s t : State StationMemory) (halted : A) (q : StationPlan A) (answer : A) (out : Out)
+    → IsOwnPlan q s.eui → IsSound role (holder m s)
     → StationStayed s halted answer out t → StationCarries s q answer out t → Agrees t → IsSound role (holder m t)
 lent_sound role m s t halted q answer out own sound stayed carries agrees =
     let stays = stays_lent m s t halted answer out stayed in
@@ -190,7 +205,8 @@ module _ (role : Role) (m : Memory) (u s : State StationMemory) (k new : Store) 
   cut_is : over new s ≡ over (cut_in u.store cut) u
   cut_is = ap (λ (n : Store). over n s) (is ∙ ap (λ (n : Store). cut_in n cut) kept) ∙ ap (λ (z : State StationMemory). over (cut_in z.store cut) z) same
 
-  pub cut_took : Took (stays (record (node_in role (holder m u)) { store = record (stored_in u.store) { cut = Some cut } }) said.Set) said.Set nothing (node_in role (holder m (over new s)))
+  pub cut_took : Took (stays (record (node_in role (holder m u)) { store = record (stored_in u.store) { cut = Some cut } }) said.Set) said.Set nothing
+      (node_in role (holder m (over new s)))
   cut_took = record { answer_is = refl; out_is = refl; node_is = ap (λ (z : State StationMemory). node_in role (holder m z)) cut_is }
 
   pub cut_sound : IsSound role (holder m u) → IsSound role (holder m (over new s))
@@ -214,12 +230,14 @@ pub halted_says : {A : Type 0} (o : Option StationMemory) (f : StationMemory →
 halted_says o f none e = ap (λ (k : Option StationMemory). option_map_or f k none) (sym e)
 
 -- one that runs says it of its routing
-pub running_says : {A : Type 0} (o : Option StationMemory) (f : routing.Routing → A) (t : routing.Routing) (none r : A) → IsSome o → IfSome o (λ l. t ≡ l.routing) → r ≡ f t
+pub running_says : {A : Type 0} (o : Option StationMemory) (f : routing.Routing → A) (t : routing.Routing) (none r : A) → IsSome o
+    → IfSome o (λ l. t ≡ l.routing) → r ≡ f t
     → r ≡ option_map_or (λ l. f l.routing) o none
 running_says None f t none r is h e = absurd (cc)
 running_says (Some l) f t none r is h e = e ∙ ap f h
 
 -- what is shown of a station
-pub shows : (o : Option StationMemory) (out : Shown) → (o ≡ None → out ≡ nothing_shown) → IfSome o (λ l. out ≡ shown_station l) → out ≡ option_map_or shown_station o nothing_shown
+pub shows : (o : Option StationMemory) (out : Shown) → (o ≡ None → out ≡ nothing_shown) → IfSome o (λ l. out ≡ shown_station l)
+    → out ≡ option_map_or shown_station o nothing_shown
 shows None out none some = none refl
 shows (Some l) out none some = some

@@ -47,7 +47,11 @@ module _ (keeper : Store) (own : Eui) (key : Key) (y : MeterState) (o : Opened k
   sound_made =
       let none = ap (λ (s : Store). s.records) store_is in
       sound_meter y (subst (λ (s : Store). IsSome s.told) (sym store_is) (cc))
-      (record { marks = empty_gapless marks.peers y.station.store.records none; ranks = empty_gapless routing.ranks y.station.store.records none; entries = tt })
+      (record {
+        marks = empty_gapless marks.peers y.station.store.records none;
+        ranks = empty_gapless routing.ranks y.station.store.records none;
+        entries = tt;
+      })
       (o.agrees (empty_gapless marks.peers keeper.records records_empty) (empty_gapless routing.ranks keeper.records records_empty))
 
   memory_blank : (node_of y).memory ≡ Some (remembering blank_station [])
@@ -58,9 +62,11 @@ module _ (keeper : Store) (own : Eui) (key : Key) (y : MeterState) (o : Opened k
   node_made = λ i. record { role = Meter (o.psk i); eui = o.eui i; store = stored_in (store_is i); memory = memory_blank i }
 
 -- the list of the meters has one more
-pub one_more : (ms xs : List MeterState) (old : List Node) (y : MeterState) (n : Node) → map of_meter ms ≡ old → xs ≡ ms ++ y ∷ [] → of_meter y ≡ n → map of_meter xs ≡ old ++ n ∷ []
+pub one_more : (ms xs : List MeterState) (old : List Node) (y : MeterState) (n : Node) → map of_meter ms ≡ old → xs ≡ ms ++ y ∷ [] → of_meter y ≡ n
+    → map of_meter xs ≡ old ++ n ∷ []
 one_more ms xs old y n view is node =
-    ap (λ (k : List MeterState). map of_meter k) is ∙ map_push of_meter ms y ∙ ap (λ (k : List Node). k ++ of_meter y ∷ []) view ∙ ap (λ (k : Node). old ++ k ∷ []) node
+    ap (λ (k : List MeterState). map of_meter k) is ∙ map_push of_meter ms y ∙ ap (λ (k : List Node). k ++ of_meter y ∷ []) view
+    ∙ ap (λ (k : Node). old ++ k ∷ []) node
 
 pub all_sound : (ms xs : List MeterState) (y : MeterState) → All IsSoundMeter ms → xs ≡ ms ++ y ∷ [] → IsSoundMeter y → All IsSoundMeter xs
 all_sound ms xs y h is sound = subst (λ (k : List MeterState). All IsSoundMeter k) (sym is) (All-push IsSoundMeter ms y h sound)

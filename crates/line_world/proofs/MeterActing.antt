@@ -33,7 +33,8 @@ gapless_of_meter a b records h = record { marks = h.marks; ranks = h.ranks; entr
 agrees_of_meter : (psk : Key) (y : MeterState) → Agrees y.station → IfSome (node_of y).memory (λ m. AgreesAs (Meter psk) m y.station.store.records)
 agrees_of_meter psk y a = by y.station.memory a
   where
-    by : (o : Option StationMemory) → IfSome o (λ l. AgreesWith l y.station.store.records) → IfSome (option_map (memory_with y) o) (λ m. AgreesAs (Meter psk) m y.station.store.records)
+    by : (o : Option StationMemory) → IfSome o (λ l. AgreesWith l y.station.store.records)
+        → IfSome (option_map (memory_with y) o) (λ m. AgreesAs (Meter psk) m y.station.store.records)
     by None a = tt
     by (Some l) a = record { station = a; book = tt }
 
@@ -52,7 +53,8 @@ pub meter_sound : {A : Type 0} (x y : MeterState) (halted : A) (p : Memory → P
     → Agrees y.station → IsSoundMeter y
 meter_sound {A} x y halted p answer out places sound stayed carries agrees =
     sound_meter y (told_after (Meter x.psk) (node_of x) (node_of y) halted p answer out sound stayed carries)
-    (gapless_of_meter x.psk y.psk y.station.store.records (tables_after (Meter x.psk) (node_of x) (node_of y) halted p answer out places sound stayed carries)) agrees
+    (gapless_of_meter x.psk y.psk y.station.store.records (tables_after (Meter x.psk) (node_of x) (node_of y) halted p answer out places sound stayed carries))
+    agrees
 
 -- # Its station, lent
 
@@ -68,22 +70,28 @@ beside x = memory_with x blank_station
 pub meter_agrees : (x : MeterState) → IsSoundMeter x → Agrees x.station
 meter_agrees x sound = by x.station.memory sound.agrees
   where
-    by : (o : Option StationMemory) → IfSome (option_map (memory_with x) o) (λ m. AgreesAs (Meter x.psk) m x.station.store.records) → IfSome o (λ l. AgreesWith l x.station.store.records)
+    by : (o : Option StationMemory) → IfSome (option_map (memory_with x) o) (λ m. AgreesAs (Meter x.psk) m x.station.store.records)
+        → IfSome o (λ l. AgreesWith l x.station.store.records)
     by None a = tt
     by (Some l) a = a.station
 
 -- The station that was lent took the step of its rule.
-pub station_took : {A : Type 0} (x : MeterState) (s t : State StationMemory) (halted : A) (q : StationPlan A) (answer : A) (out : Out) → s ≡ x.station → IsSoundMeter x
-    → StationStayed s halted answer out t → StationCarries s q answer out t → Took (acts (of_meter x) halted (lent q x.station.eui)) answer out (of_meter (with_its t x))
+pub station_took : {A : Type 0} (x : MeterState) (s t : State StationMemory) (halted : A) (q : StationPlan A) (answer : A) (out : Out) → s ≡ x.station
+    → IsSoundMeter x
+    → StationStayed s halted answer out t → StationCarries s q answer out t
+    → Took (acts (of_meter x) halted (lent q x.station.eui)) answer out (of_meter (with_its t x))
 station_took x s t halted q answer out same sound stayed carries =
-    lent_took (Meter x.psk) (beside x) x.station t halted q answer out sound.told (subst (λ (k : State StationMemory). StationStayed k halted answer out t) same stayed)
+    lent_took (Meter x.psk) (beside x) x.station t halted q answer out sound.told
+    (subst (λ (k : State StationMemory). StationStayed k halted answer out t) same stayed)
     (subst (λ (k : State StationMemory). StationCarries k q answer out t) same carries)
 
 -- Its meter is sound still.
-pub station_sound : {A : Type 0} (x : MeterState) (s t : State StationMemory) (halted : A) (q : StationPlan A) (answer : A) (out : Out) → IsOwnPlan q x.station.eui → s ≡ x.station
+pub station_sound : {A : Type 0} (x : MeterState) (s t : State StationMemory) (halted : A) (q : StationPlan A) (answer : A) (out : Out)
+    → IsOwnPlan q x.station.eui → s ≡ x.station
     → IsSoundMeter x → StationStayed s halted answer out t → StationCarries s q answer out t → Agrees t → IsSoundMeter (with_its t x)
 station_sound x s t halted q answer out own same sound stayed carries agrees =
-    lent_sound (Meter x.psk) (beside x) x.station t halted q answer out own sound (subst (λ (k : State StationMemory). StationStayed k halted answer out t) same stayed)
+    lent_sound (Meter x.psk) (beside x) x.station t halted q answer out own sound
+    (subst (λ (k : State StationMemory). StationStayed k halted answer out t) same stayed)
     (subst (λ (k : State StationMemory). StationCarries k q answer out t) same carries) agrees
 
 -- What its station says, it says.
@@ -115,8 +123,10 @@ word_is (Ok m) word h = h
 word_is (Err bad) word h = h
 
 -- a meter that restarted
-pub restarted : (x y : MeterState) (read : Result (Unit {0}) BadStore) (word : Answer) → IsRestartWord read word → read ≡ read_answer (memory_of (Meter x.psk) x.station.store.records)
-    → (node_of y).memory ≡ result_ok (memory_of (Meter x.psk) x.station.store.records) → y.station.store ≡ x.station.store → y.station.eui ≡ x.station.eui → y.psk ≡ x.psk
+pub restarted : (x y : MeterState) (read : Result (Unit {0}) BadStore) (word : Answer) → IsRestartWord read word
+    → read ≡ read_answer (memory_of (Meter x.psk) x.station.store.records)
+    → (node_of y).memory ≡ result_ok (memory_of (Meter x.psk) x.station.store.records) → y.station.store ≡ x.station.store → y.station.eui ≡ x.station.eui
+    → y.psk ≡ x.psk
     → Took (restarts (of_meter x)) word nothing (of_meter y)
 restarted x y read word is answer memory store eui psk =
     let r : Result Memory BadStore = memory_of (Meter x.psk) x.station.store.records in
@@ -134,7 +144,8 @@ stored_sound x y sound store agrees =
     (gapless_of_meter x.psk y.psk y.station.store.records (subst (λ (s : Store). HasGaplessTables (Meter x.psk) s.records) (sym store) sound.tables)) agrees
 
 -- a meter at which what is old ended
-pub ended : (now : ℕ) (x y : MeterState) → node_of y ≡ record (node_of x) { memory = option_map (meters.tick now) (node_of x).memory } → y.psk ≡ x.psk → of_meter y ≡ ticked now (of_meter x)
+pub ended : (now : ℕ) (x y : MeterState) → node_of y ≡ record (node_of x) { memory = option_map (meters.tick now) (node_of x).memory } → y.psk ≡ x.psk
+    → of_meter y ≡ ticked now (of_meter x)
 ended now x y state psk = λ i. node_in (Meter (psk i)) (state i)
 
 -- # A station that is asked first whether it is halted
@@ -167,17 +178,22 @@ runs_still x s P same is = by x.station.memory (subst (λ (k : State StationMemo
     by (Some l) is = tt
 
 of_same : {A : Type 0} (x y : MeterState) (s : State StationMemory) (p : Memory → Plan Memory A) (answer : A) (out : Out) → s ≡ x.station
-    → IfSome (node_of (with_its s x)).memory (λ m. Carries (node_of (with_its s x)) (p m) answer out (node_of y)) → IfSome (node_of x).memory (λ m. Carries (node_of x) (p m) answer out (node_of y))
-of_same x y s p answer out same carries = subst (λ (z : MeterState). IfSome (node_of z).memory (λ m. Carries (node_of z) (p m) answer out (node_of y))) (unchanged x s same) carries
+    → IfSome (node_of (with_its s x)).memory (λ m. Carries (node_of (with_its s x)) (p m) answer out (node_of y))
+    → IfSome (node_of x).memory (λ m. Carries (node_of x) (p m) answer out (node_of y))
+of_same x y s p answer out same carries =
+    subst (λ (z : MeterState). IfSome (node_of z).memory (λ m. Carries (node_of z) (p m) answer out (node_of y))) (unchanged x s same) carries
 
 -- a call of a meter that runs
-pub running_took : {A : Type 0} (x y : MeterState) (s : State StationMemory) (halted : A) (p : Memory → Plan Memory A) (answer : A) (out : Out) → s ≡ x.station → IsSoundMeter x → y.psk ≡ x.psk
+pub running_took : {A : Type 0} (x y : MeterState) (s : State StationMemory) (halted : A) (p : Memory → Plan Memory A) (answer : A) (out : Out) → s ≡ x.station
+    → IsSoundMeter x → y.psk ≡ x.psk
     → IsSome s.memory → IfSome (node_of (with_its s x)).memory (λ m. Carries (node_of (with_its s x)) (p m) answer out (node_of y))
     → Took (acts (of_meter x) halted p) answer out (of_meter y)
 running_took x y s halted p answer out same sound psk is carries =
     meter_took x y halted p answer out sound psk (runs_still x s _ same is) (of_same x y s p answer out same carries)
 
-pub running_sound : {A : Type 0} (x y : MeterState) (s : State StationMemory) (halted : A) (p : Memory → Plan Memory A) (answer : A) (out : Out) → Places p → s ≡ x.station → IsSoundMeter x
-    → IsSome s.memory → IfSome (node_of (with_its s x)).memory (λ m. Carries (node_of (with_its s x)) (p m) answer out (node_of y)) → Agrees y.station → IsSoundMeter y
+pub running_sound : {A : Type 0} (x y : MeterState) (s : State StationMemory) (halted : A) (p : Memory → Plan Memory A) (answer : A) (out : Out) → Places p
+    → s ≡ x.station → IsSoundMeter x
+    → IsSome s.memory → IfSome (node_of (with_its s x)).memory (λ m. Carries (node_of (with_its s x)) (p m) answer out (node_of y)) → Agrees y.station
+    → IsSoundMeter y
 running_sound x y s halted p answer out places same sound is carries agrees =
     meter_sound x y halted p answer out places sound (runs_still x s _ same is) (of_same x y s p answer out same carries) agrees

@@ -30,20 +30,23 @@ use Rattle.line_world.specs.Nodes.{of_meter}
 use Rattle.line_world.specs.Reaching.{DidAfter, IsLogOf, Reached, Reaches, ReachesCommand, ReachesFirst, ReachedFirst, TellsCommand, TookAfter, TookAlone}
 use Rattle.line_world.specs.Soundness.{IsSoundMeter}
 use Rattle.line_world.proofs.LentFurther.{command_lent}
-use Rattle.line_world.proofs.LentReaches.{AreLent, Added, adds, after_sound, after_took, alone_took, first_sound, first_took, log_of_station, marks_short, node_halted, station_has}
+use Rattle.line_world.proofs.LentReaches.{AreLent, Added, adds, after_sound, after_took, alone_took, first_sound, first_took, log_of_station, marks_short}
+use Rattle.line_world.proofs.LentReaches.{node_halted, station_has}
 use Rattle.line_world.proofs.LentStations.{StationPlan, IsOwnPlan, lent, lent_sound}
 use Rattle.line_world.proofs.MeterActing.{beside, with_its}
 use Rattle.line_world.proofs.Places.{at_place, did, found_at, sound_at}
 
 -- the log of a meter is that of its station
-pub log_lent_at : (ms : List MeterState) (old : List Node) (place : ℕ) (x : MeterState) (s : State StationMemory) (b : Beside) → map of_meter ms ≡ old → place < length old → x ≡ get_or ms place x → s ≡ x.station
+pub log_lent_at : (ms : List MeterState) (old : List Node) (place : ℕ) (x : MeterState) (s : State StationMemory) (b : Beside) → map of_meter ms ≡ old
+    → place < length old → x ≡ get_or ms place x → s ≡ x.station
     → IfSome (slice_get old place) (λ n. IsLogOf b n) → IfSome s.memory (λ l. IsKept b.log s.store.records)
 log_lent_at ms old place x s b view there here same h =
     subst (λ (k : State StationMemory). IfSome k.memory (λ l. IsKept b.log k.store.records)) (sym same)
     (log_of_station (beside x) x.station b (at_place ms old place x (λ n. IsLogOf b n) view there here h))
 
 -- a node that stands at a place as a meter does
-after_at : {A : Type 0} (step : NodeStep A) (ms : List MeterState) (old : List Node) (place : ℕ) (y : MeterState) (answer : A) (before out : Out) → map of_meter ms ≡ old → TookAlone step answer before out (of_meter y)
+after_at : {A : Type 0} (step : NodeStep A) (ms : List MeterState) (old : List Node) (place : ℕ) (y : MeterState) (answer : A) (before out : Out)
+    → map of_meter ms ≡ old → TookAlone step answer before out (of_meter y)
     → DidAfter step old place answer before out (map of_meter (slice_set ms place y))
 after_at step ms old place y answer before out view t = record {
   answer_is = t.answer_is;
@@ -51,7 +54,8 @@ after_at step ms old place y answer before out view t = record {
   nodes_are = map-set of_meter ms place y ∙ ap (λ (xs : List Node). slice_set xs place (of_meter y)) view ∙ ap (λ (n : Node). slice_set old place n) t.node_is;
 }
 
-module _ (ms : List MeterState) (old : List Node) (place : ℕ) (x : MeterState) (s t : State StationMemory) (view : map of_meter ms ≡ old) (there : place < length old) (here : x ≡ get_or ms place x)
+module _ (ms : List MeterState) (old : List Node) (place : ℕ) (x : MeterState) (s t : State StationMemory) (view : map of_meter ms ≡ old)
+    (there : place < length old) (here : x ≡ get_or ms place x)
     (sound : All IsSoundMeter ms) (same : s ≡ x.station) where
   sound_here : IsSoundMeter x
   sound_here = sound_at ms old place x view there here sound
@@ -68,11 +72,13 @@ module _ (ms : List MeterState) (old : List Node) (place : ℕ) (x : MeterState)
       (station_has (beside x) x.station (λ l. IsSome l.ring) (at_place ms old place x (λ n. IfSome n.memory (λ m. IsSome m.station.ring)) view there here h))
 
   -- the cost of its valid route to the coordinator
-  pub cost_there : (r : Option (ℕ × ℕ)) (cost : Option ℕ) (dest : ℕ) → dest ≡ 0 → (s.memory ≡ None → r ≡ None) → IfSome s.memory (λ l. r ≡ valid_route l dest) → cost ≡ option_map (λ (k : ℕ × ℕ). k.1) r
+  pub cost_there : (r : Option (ℕ × ℕ)) (cost : Option ℕ) (dest : ℕ) → dest ≡ 0 → (s.memory ≡ None → r ≡ None) → IfSome s.memory (λ l. r ≡ valid_route l dest)
+      → cost ≡ option_map (λ (k : ℕ × ℕ). k.1) r
       → IfSome (slice_get old place) (λ n. cost ≡ option_and_then (λ m. cost_home n.role m.station) n.memory)
   cost_there r cost dest home none some is =
       found_at ms old place x (λ n. cost ≡ option_and_then (λ m. cost_home n.role m.station) n.memory) view there here
-      (is ∙ by x.station.memory (λ e. none (ap (λ (k : State StationMemory). k.memory) same ∙ e)) (subst (λ (k : State StationMemory). IfSome k.memory (λ l. r ≡ valid_route l dest)) same some))
+      (is ∙ by x.station.memory (λ e. none (ap (λ (k : State StationMemory). k.memory) same ∙ e))
+      (subst (λ (k : State StationMemory). IfSome k.memory (λ l. r ≡ valid_route l dest)) same some))
     where
       by : (o : Option StationMemory) → (o ≡ None → r ≡ None) → IfSome o (λ l. r ≡ valid_route l dest)
           → option_map (λ (k : ℕ × ℕ). k.1) r ≡ option_and_then (λ m. cost_home (Meter x.psk) m.station) (option_map (memory_with x) o)
@@ -83,29 +89,36 @@ module _ (ms : List MeterState) (old : List Node) (place : ℕ) (x : MeterState)
   abbrev pub meters_left : List Node
   meters_left = map of_meter (slice_set ms place (with_its t x))
 
-  module _ {A : Type 0} (b c : Beside) (halted answer : A) (p : Reaching Memory → Plan (Reaching Memory) A) (q : Reaching StationMemory → Plan (Reaching StationMemory) A) (are : IsSome s.memory → AreLent b p q) where
+  module _ {A : Type 0} (b c : Beside) (halted answer : A) (p : Reaching Memory → Plan (Reaching Memory) A)
+      (q : Reaching StationMemory → Plan (Reaching StationMemory) A) (are : IsSome s.memory → AreLent b p q) where
     are_its : IsSome x.station.memory → AreLent b p q
     are_its = subst (λ (k : State StationMemory). IsSome k.memory → AreLent b p q) same are
 
-    pub meter_first : (out : Out) → ReachesFirst s b halted q answer out t c → IfSome (slice_get old place) (λ n. ReachedFirst n b halted p old place answer out meters_left c)
+    pub meter_first : (out : Out) → ReachesFirst s b halted q answer out t c
+        → IfSome (slice_get old place) (λ n. ReachedFirst n b halted p old place answer out meters_left c)
     meter_first out r =
-        let k = first_took (Meter x.psk) (beside x) x.station t b c halted answer p q are_its out sound_here.told (subst (λ (k : State StationMemory). ReachesFirst k b halted q answer out t c) same r) in
+        let k = first_took (Meter x.psk) (beside x) x.station t b c halted answer p q are_its out sound_here.told
+        (subst (λ (k : State StationMemory). ReachesFirst k b halted q answer out t c) same r) in
         found_at ms old place x (λ n. ReachedFirst n b halted p old place answer out meters_left c) view there here
         (record { did = did (reaches (of_meter x) b halted p) ms old place (with_its t x) answer out view k.took; beside = k.beside })
 
     pub meter_first_sound : (out : Out) → ReachesFirst s b halted q answer out t c → Agrees t → All IsSoundMeter (slice_set ms place (with_its t x))
     meter_first_sound out r agrees =
         All-set IsSoundMeter ms place (with_its t x)
-        (first_sound (Meter x.psk) (beside x) x.station t b c halted answer p q are_its out (subst (λ (k : State StationMemory). ReachesFirst k b halted q answer out t c) same r) agrees sound_here) sound
+        (first_sound (Meter x.psk) (beside x) x.station t b c halted answer p q are_its out
+        (subst (λ (k : State StationMemory). ReachesFirst k b halted q answer out t c) same r) agrees sound_here) sound
 
-    meter_after : (before out : Out) → Reaches s b halted q answer before out t c → TookAfter (of_meter x) b halted p answer before out (of_meter (with_its t x)) c
+    meter_after : (before out : Out) → Reaches s b halted q answer before out t c
+        → TookAfter (of_meter x) b halted p answer before out (of_meter (with_its t x)) c
     meter_after before out r =
-        after_took (Meter x.psk) (beside x) x.station t b c halted answer p q are_its before out sound_here.told (subst (λ (k : State StationMemory). Reaches k b halted q answer before out t c) same r)
+        after_took (Meter x.psk) (beside x) x.station t b c halted answer p q are_its before out sound_here.told
+        (subst (λ (k : State StationMemory). Reaches k b halted q answer before out t c) same r)
 
     meter_after_sound : (before out : Out) → Reaches s b halted q answer before out t c → Agrees t → All IsSoundMeter (slice_set ms place (with_its t x))
     meter_after_sound before out r agrees =
         All-set IsSoundMeter ms place (with_its t x)
-        (after_sound (Meter x.psk) (beside x) x.station t b c halted answer p q are_its before out (subst (λ (k : State StationMemory). Reaches k b halted q answer before out t c) same r) agrees sound_here) sound
+        (after_sound (Meter x.psk) (beside x) x.station t b c halted answer p q are_its before out
+        (subst (λ (k : State StationMemory). Reaches k b halted q answer before out t c) same r) agrees sound_here) sound
 
   -- # A command that is heard
 
@@ -117,7 +130,8 @@ module _ (ms : List MeterState) (old : List Node) (place : ℕ) (x : MeterState)
     after : TookAfter (of_meter x) b (Err (Known Store)) (λ y. hear_command in_memory y c) r.answer before out (of_meter (with_its t x)) d
     after = meter_after b d (Err (Known Store)) r.answer (λ y. hear_command in_memory y c) (λ y. hear_command alone y c) are_lent before out r.reaches
 
-    pub meter_tells : IfSome (slice_get old place) (λ n. TellsCommand told (place + 1) (reaches n b (Err (Known Store)) (λ y. hear_command in_memory y c)).answer)
+    pub meter_tells : IfSome (slice_get old place)
+        (λ n. TellsCommand told (place + 1) (reaches n b (Err (Known Store)) (λ y. hear_command in_memory y c)).answer)
     meter_tells =
         found_at ms old place x (λ n. TellsCommand told (place + 1) (reaches n b (Err (Known Store)) (λ y. hear_command in_memory y c)).answer) view there here
         (subst (λ (a : Result CommandHeard ReachDropped). TellsCommand told (place + 1) a) after.answer_is r.tells)
@@ -133,7 +147,8 @@ module _ (ms : List MeterState) (old : List Node) (place : ℕ) (x : MeterState)
         })
 
     pub meter_commanded_sound : Agrees t → All IsSoundMeter (slice_set ms place (with_its t x))
-    meter_commanded_sound agrees = meter_after_sound b d (Err (Known Store)) r.answer (λ y. hear_command in_memory y c) (λ y. hear_command alone y c) are_lent before out r.reaches agrees
+    meter_commanded_sound agrees =
+        meter_after_sound b d (Err (Known Store)) r.answer (λ y. hear_command in_memory y c) (λ y. hear_command alone y c) are_lent before out r.reaches agrees
 
   -- # What stands beside nothing
 

@@ -27,7 +27,8 @@ module _ (ms left : List Node) (b d : Beside) (c : NeighbourCommand) (told : Com
   after_it n place tells done = by (slice_get ms place) tells done
     where
       by : (o : Option Node) → IfSome o (λ x. TellsCommand told (suc place) (reaches x b (Err (Known Store)) (λ y. hear_command in_memory y c)).answer)
-          → IfSome o (λ x. Reached x b (Err (Known Store)) (λ y. hear_command in_memory y c) ms place (reaches x b (Err (Known Store)) (λ y. hear_command in_memory y c)).answer before out left d)
+          → IfSome o (λ x. Reached x b (Err (Known Store)) (λ y. hear_command in_memory y c) ms place
+          (reaches x b (Err (Known Store)) (λ y. hear_command in_memory y c)).answer before out left d)
           → IfSome o (λ x. ReachedCommand x b c (n ∷ ms) (suc place) told before out (n ∷ left) d)
       by None t r = tt
       by (Some x) t r = record {
@@ -47,12 +48,14 @@ module _ (ms left : List Node) (b d : Beside) (c : NeighbourCommand) (told : Com
       (subst (λ (p : ℕ). Done p) same done)
 
   -- a command that a meter heard
-  pub commanded_on : (o : Option Node) (old : List Node) (place number : ℕ) → nodes_in o ms ≡ old → number < length old → place + 1 ≡ number → Told place (place + 1) → Done place
+  pub commanded_on : (o : Option Node) (old : List Node) (place number : ℕ) → nodes_in o ms ≡ old → number < length old → place + 1 ≡ number
+      → Told place (place + 1) → Done place
       → IfSome (slice_get old number) (λ x. ReachedCommand x b c old number told before out (nodes_in o left) d)
   commanded_on o old place number view there e tells done =
       subst (λ (nodes : List Node). IfSome (slice_get nodes number) (λ x. ReachedCommand x b c nodes number told before out (nodes_in o left) d)) view
       (by o (subst (λ (nodes : List Node). number < length nodes) (sym view) there))
     where
-      by : (o : Option Node) → number < length (nodes_in o ms) → IfSome (slice_get (nodes_in o ms) number) (λ x. ReachedCommand x b c (nodes_in o ms) number told before out (nodes_in o left) d)
+      by : (o : Option Node) → number < length (nodes_in o ms)
+          → IfSome (slice_get (nodes_in o ms) number) (λ x. ReachedCommand x b c (nodes_in o ms) number told before out (nodes_in o left) d)
       by None less = absurd (omega (arith, less))
       by (Some n) less = by_number n place number e tells done

@@ -1,5 +1,6 @@
 -- The meters and the coordinator that an event is about, and what an event leaves for which memory was reserved.
-use Rattle.std.proofs.Common.{◌≡◌, ℕ, zero, suc, ◌<◌, ◌≤◌, Bool, true, false, List, [], ◌∷◌, length, Option, Some, Result, Ok, Err, refl, sym, ap, subst, ◌∙◌, arith}
+use Rattle.std.proofs.Common.{◌≡◌, ℕ, zero, suc, ◌<◌, ◌≤◌, Bool, true, false, List, [], ◌∷◌, length, Option, Some, Result, Ok, Err, refl, sym, ap, subst, ◌∙◌}
+use Rattle.std.proofs.Common.{arith}
 use Rattle.std.specs.Prelude.{◌==◌, if◌then◌else◌, is_ok, nat_lt, IfSome, IsOk, slice_get}
 use Rattle.std.proofs.Math.Dec.{eqb-suc-zero}
 use Rattle.std.proofs.lemmas.List.{append-nil, length-set}
@@ -20,7 +21,8 @@ use Rattle.line_events.specs.declared.event.TheConstants.{MAX_EVENTS}
 use Rattle.line_events.specs.declared.happenings.Happenings.{Happenings}
 use Rattle.line_rules.specs.Answers.{ordered_word}
 use Rattle.line_rules.specs.Worlds.{World, Trace}
-use Rattle.line_rules.specs.Steps.{Step, admission_by, allowed, allowed_word, at_coordinator, by_coordinator, happened, has_begun, on_meter, on_node, once_begun, ran, told, trace_of}
+use Rattle.line_rules.specs.Steps.{Step, admission_by, allowed, allowed_word, at_coordinator, by_coordinator, happened, has_begun, on_meter, on_node}
+use Rattle.line_rules.specs.Steps.{once_begun, ran, told, trace_of}
 use Rattle.line_world.specs.Bounds.{IsBounded}
 use Rattle.line_world.specs.Finding.{found, found_meter}
 use Rattle.line_world.specs.Steps.{HasMemory, Steps, is_memory}
@@ -34,7 +36,12 @@ first_there w is = by w.nodes refl is
   where
     by : (nodes : List Node) → w.nodes ≡ nodes → true ≡ nat_lt 0 (length nodes) → IsThere w 0 0
     by [] same is = absurd (cc)
-    by (x ∷ xs) same is = record { node = x; at = ap (λ (l : List Node). slice_get l 0) same; same = refl; within = subst (λ (l : List Node). 0 < length l) (sym same) (omega arith) }
+    by (x ∷ xs) same is = record {
+      node = x;
+      at = ap (λ (l : List Node). slice_get l 0) same;
+      same = refl;
+      within = subst (λ (l : List Node). 0 < length l) (sym same) (omega arith);
+    }
 
 -- # Meters
 
@@ -66,7 +73,8 @@ is_meter w number at is = by (number == 0) refl (once (has_begun w) is)
 pub meter_begun : (w : World) (number at : ℕ) → Ok at ≡ found_meter w number → true ≡ has_begun w
 meter_begun w number at is = by (has_begun w) is
   where
-    by : (b : Bool) → ◌≡◌ {A = Result ℕ StepFault} (Ok at) (if b then (if number == 0 then Err faults.Node else found w number) else Err faults.Setup) → true ≡ b
+    by : (b : Bool) → ◌≡◌ {A = Result ℕ StepFault} (Ok at) (if b then (if number == 0 then Err faults.Node else found w number) else Err faults.Setup)
+        → true ≡ b
     by true h = refl
     by false h = absurd (cc)
 
@@ -77,12 +85,15 @@ meter_not_found takes w number k fault bounds is = by (has_begun w) refl is
   where
     by_number : true ≡ has_begun w → (b : Bool) → ◌≡◌ {A = Result ℕ StepFault} (Err fault) (if b then Err faults.Node else found w number)
         → Steps takes w (Err fault) w (if b then Err faults.Node else on_node w number k)
-    by_number has true h = let same : fault ≡ faults.Node = cc in refused fault (ap is_memory same) takes w (Err faults.Node) bounds (ap (λ (f : StepFault). Err f) (sym same))
+    by_number has true h =
+        let same : fault ≡ faults.Node = cc in refused fault (ap is_memory same) takes w (Err faults.Node) bounds (ap (λ (f : StepFault). Err f) (sym same))
     by_number has false h = steps_as _ _ (sym (begun w (on_node w number k) has)) (not_found takes w number k fault bounds h)
 
-    by : (b : Bool) → has_begun w ≡ b → ◌≡◌ {A = Result ℕ StepFault} (Err fault) (if b then (if number == 0 then Err faults.Node else found w number) else Err faults.Setup)
+    by : (b : Bool) → has_begun w ≡ b
+        → ◌≡◌ {A = Result ℕ StepFault} (Err fault) (if b then (if number == 0 then Err faults.Node else found w number) else Err faults.Setup)
         → Steps takes w (Err fault) w (if b then on_meter w number k else Err faults.Setup)
-    by false e h = let same : fault ≡ faults.Setup = cc in refused fault (ap is_memory same) takes w (Err faults.Setup) bounds (ap (λ (f : StepFault). Err f) (sym same))
+    by false e h =
+        let same : fault ≡ faults.Setup = cc in refused fault (ap is_memory same) takes w (Err faults.Setup) bounds (ap (λ (f : StepFault). Err f) (sym same))
     by true e h = by_number (sym e) (number == 0) h
 
 pub at_meter : {w : World} {number found : ℕ} (m : IsMeter w number found) (k : Node → Step) → on_meter w number k ≡ k m.there.node
@@ -90,7 +101,8 @@ at_meter {w} {number} m k =
     ap (λ (b : Bool). if b then Err faults.Node else on_node w number k) m.some ∙ at_node w number m.there.node k m.there.at
 
 -- nor one of an agent that was not found
-pub agent_not_found : (takes : Bool) (w : World) (number at agent : ℕ) (k : Node → Node → Step) (fault : StepFault) → IsBounded w → Ok at ≡ found_meter w number → Err fault ≡ found w agent
+pub agent_not_found : (takes : Bool) (w : World) (number at agent : ℕ) (k : Node → Node → Step) (fault : StepFault) → IsBounded w → Ok at ≡ found_meter w number
+    → Err fault ≡ found w agent
     → Steps takes w (Err fault) w (once_begun w (on_meter w number (λ x. on_node w agent (k x))))
 agent_not_found takes w number at agent k fault bounds first is =
     let m = is_meter w number at first in
@@ -124,7 +136,8 @@ within_line {w} {number} {found} b there = let n = b.nodes in let t = there.with
 -- # Memory that was reserved
 
 -- an event is one of the world that it met, since reserving changed nothing of it
-pub reserved : {new : World} {r : Result Happenings StepFault} (kept w : World) (event : World → Step) → kept ≡ w → Steps true kept r new (event kept) → Steps true w r new (event w)
+pub reserved : {new : World} {r : Result Happenings StepFault} (kept w : World) (event : World → Step) → kept ≡ w → Steps true kept r new (event kept)
+    → Steps true w r new (event w)
 reserved {new} {r} kept w event same s = subst (λ (it : World). Steps true it r new (event it)) same s
 
 -- What an event begins with that is taken: the line has begun, its counts are within their bounds, and it takes one more event.
@@ -173,12 +186,14 @@ module _ (w kept new : World) (number at : ℕ) (same : kept ≡ w) (bounds : Is
   pub about : IsMeter kept number at
   about = subst (λ (it : World). IsMeter it number at) (sym same) (is_meter w number at is)
 
-  pub has_ordered : (rule : World → Step) (word : Answer) (order : Node → Eui → Memory → Plan Memory (Result (Unit {0}) CoordinatorRefusal)) (eui : Eui) (done : Result (Unit {0}) CoordinatorRefusal) (out : Out)
+  pub has_ordered : (rule : World → Step) (word : Answer) (order : Node → Eui → Memory → Plan Memory (Result (Unit {0}) CoordinatorRefusal)) (eui : Eui)
+      (done : Result (Unit {0}) CoordinatorRefusal) (out : Out)
       (nodes : List Node) (told_word : Answer) (h : Happenings)
       → rule kept ≡ once_begun kept (on_meter kept number (λ x. at_coordinator kept (λ c. Ok (by_coordinator network kept c word (order c x.eui)))))
       → IfSome (slice_get kept.nodes at) (λ x. eui ≡ x.eui)
       → IfSome (slice_get kept.nodes 0) (λ c. Did (acts c (Err orders.Halted) (order c eui)) kept.nodes 0 done out nodes)
-      → length out.frames ≤ 24 → length out.tags.made ≤ 2 → told_word ≡ ordered_word word done → h ≡ record (happened kept told_word) { flights = length out.frames }
+      → length out.frames ≤ 24 → length out.tags.made ≤ 2 → told_word ≡ ordered_word word done
+      → h ≡ record (happened kept told_word) { flights = length out.frames }
       → new ≡ after (ran kept) 0 nodes out → Steps true w (Ok h) new (rule w)
   has_ordered rule word order eui done out nodes told_word h named eui_is did frames tags word_is said is_new =
       let first = first_there kept runs.begun in
@@ -190,13 +205,15 @@ module _ (w kept new : World) (number at : ℕ) (same : kept ≡ w) (bounds : Is
       runs.bounds runs.room frames tags did (told_with kept _ _ _ _ said word_is) is_new))
 
 -- what is left of an event, where the coordinator allowed a meter or refused that
-pub has_allowed : (w new : World) (number : ℕ) (there : IsThere w 0 0) (k : Node → NodeStep (Result ℕ CoordinatorRefusal)) (answer : Result ℕ CoordinatorRefusal) (nodes : List Node)
+pub has_allowed : (w new : World) (number : ℕ) (there : IsThere w 0 0) (k : Node → NodeStep (Result ℕ CoordinatorRefusal))
+    (answer : Result ℕ CoordinatorRefusal) (nodes : List Node)
     (h : Happenings) → IsBounded w → w.events < MAX_EVENTS → IfSome (slice_get w.nodes 0) (λ y. Did (k y) w.nodes 0 answer nothing nodes)
     → h ≡ record (happened w (allowed_word answer)) { grant = admission_by number answer } → new ≡ record (ran w) { nodes = nodes }
     → Steps false w (Ok h) new (Ok (allowed network w number (k there.node)))
 has_allowed w new number there k answer nodes h b room did said is =
     let d : Did (k there.node) w.nodes 0 answer nothing nodes = of_found there (λ y. Did (k y) w.nodes 0 answer nothing nodes) did in
-    let all : new ≡ after (ran w) 0 nodes nothing = is ∙ (λ i. record (ran w) { nodes = nodes; flights = sym (append-nil w.flights) i; made = sym (append-nil w.made) i }) in
+    let all : new ≡ after (ran w) 0 nodes nothing = is
+    ∙ (λ i. record (ran w) { nodes = nodes; flights = sym (append-nil w.flights) i; made = sym (append-nil w.made) i }) in
     let left : told network (ran w) 0 (k there.node) ≡ new = told_as (ran w) 0 (k there.node) nodes nothing d.out_is d.nodes_are ∙ sym all in
     let same : length nodes ≡ length w.nodes = ap (λ (l : List Node). length l) d.nodes_are ∙ length-set w.nodes 0 (k there.node).node in
     let trace : Result ℕ CoordinatorRefusal → Trace = λ a. trace_of (record (happened w (allowed_word a)) { grant = admission_by number a }) in

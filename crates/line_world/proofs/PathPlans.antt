@@ -39,13 +39,16 @@ use Rattle.line_rules.specs.Answers.{reach_drop_word}
 use Rattle.line_rules.specs.Further.{without_log}
 use Rattle.line_world.specs.declared.nodes.command.Commanded.{Commanded}
 use Rattle.line_world.specs.declared.nodes.station_further.PathHeard.{PathHeard}
-use Rattle.line_world.specs.Reaching.{EndsCheck, Reaches, ReachesCommand, ReachesFirst, TellsCommand, answer_as, beside_left, check_ended, of_held, path_heard, told_after}
-use Rattle.line_world.proofs.FurtherPlans.{asks_hop, before_stays, checks_alone, ends_awaited, ends_unawaited, none_stayed, own_of, sealed_told, sent_after, sent_first, some_is, told_as}
+use Rattle.line_world.specs.Reaching.{EndsCheck, Reaches, ReachesCommand, ReachesFirst, TellsCommand, answer_as, beside_left, check_ended, of_held, path_heard}
+use Rattle.line_world.specs.Reaching.{told_after}
+use Rattle.line_world.proofs.FurtherPlans.{asks_hop, before_stays, checks_alone, ends_awaited, ends_unawaited, none_stayed, own_of, sealed_told, sent_after}
+use Rattle.line_world.proofs.FurtherPlans.{sent_first, some_is, told_as}
 
 -- # What then stands beside a station
 
 -- a halted one knows nothing of its log
-pub log_left : (running : Bool) (b : Beside) (log : Log) → log ≡ (if running then b.log else empty_log) → record b { log = log } ≡ (if running then b else without_log b)
+pub log_left : (running : Bool) (b : Beside) (log : Log) → log ≡ (if running then b.log else empty_log)
+    → record b { log = log } ≡ (if running then b else without_log b)
 log_left running b log is = ap (λ (l : Log). record b { log = l }) is ∙ by running
   where
     by : (r : Bool) → record b { log = if r then b.log else empty_log } ≡ (if r then b else without_log b)
@@ -56,11 +59,13 @@ log_left running b log is = ap (λ (l : Log). record b { log = l }) is ∙ by ru
 
 -- a command that was sent, in the words of a command that was heard
 pub sent_told : (heard : PathHeard) (sent : Result (Unit {0}) LocalRefusal) (dropped : Result (Unit {0}) ReachDropped) (result : Result PathHeard ReachDropped)
-    → dropped ≡ told_after (Known CounterSpent) (Known Store) sent → result ≡ answer_as (λ _. heard) dropped → told_as reach_ends (path_heard heard) sent ≡ answer_as path_heard result
+    → dropped ≡ told_after (Known CounterSpent) (Known Store) sent → result ≡ answer_as (λ _. heard) dropped
+    → told_as reach_ends (path_heard heard) sent ≡ answer_as path_heard result
 sent_told heard sent dropped result is answers =
     by sent ∙ sym (ap (λ (r : Result (Unit {0}) ReachDropped). answer_as path_heard (answer_as (λ _. heard) r)) is) ∙ sym (ap (answer_as path_heard) answers)
   where
-    by : (r : Result (Unit {0}) LocalRefusal) → told_as reach_ends (path_heard heard) r ≡ answer_as path_heard (answer_as (λ _. heard) (told_after (Known CounterSpent) (Known Store) r))
+    by : (r : Result (Unit {0}) LocalRefusal)
+        → told_as reach_ends (path_heard heard) r ≡ answer_as path_heard (answer_as (λ _. heard) (told_after (Known CounterSpent) (Known Store) r))
     by (Ok u) = refl
     by (Err locals.CounterSpent) = refl
     by (Err locals.Store) = refl
@@ -71,27 +76,33 @@ ask_told (Err locals.CounterSpent) = refl
 ask_told (Err locals.Store) = refl
 
 -- nothing but a word is told of a command that is dropped
-pub only_dropped : (told : Commanded) (number : ℕ) (reason : ReachDropped) → told ≡ record { answer = reach_drop_word reason; bup = None; path = None } → TellsCommand told number (Err reason)
+pub only_dropped : (told : Commanded) (number : ℕ) (reason : ReachDropped) → told ≡ record { answer = reach_drop_word reason; bup = None; path = None }
+    → TellsCommand told number (Err reason)
 only_dropped told number reason is =
     record { answer = ap (λ (t : Commanded). t.answer) is; bup = ap (λ (t : Commanded). t.bup) is; path = ap (λ (t : Commanded). t.path) is }
 
 -- # Plans of a station
 
-carried_as : {A : Type 0} (s t : State StationMemory) (b : Beside) (answer : A) (before out : Out) (p q : Reaching StationMemory → Plan (Reaching StationMemory) A)
-    → ((l : StationMemory) → s.memory ≡ Some l → p (record { memory = l; beside = b }) ≡ q (record { memory = l; beside = b })) → (o : Option StationMemory) → s.memory ≡ o
+carried_as : {A : Type 0} (s t : State StationMemory) (b : Beside) (answer : A) (before out : Out)
+    (p q : Reaching StationMemory → Plan (Reaching StationMemory) A)
+    → ((l : StationMemory) → s.memory ≡ Some l → p (record { memory = l; beside = b }) ≡ q (record { memory = l; beside = b })) → (o : Option StationMemory)
+    → s.memory ≡ o
     → IfSome o (λ l. CarriesAfter s (of_held b p l) answer before out t) → IfSome o (λ l. CarriesAfter s (of_held b q l) answer before out t)
 carried_as {A} s t b answer before out p q same None e h = tt
 carried_as {A} s t b answer before out p q same (Some l) e h =
     subst (λ (k : Plan (Reaching StationMemory) A). CarriesAfter s (within (λ y. y.memory) (λ a. a) k) answer before out t) (same l e) h
 
 beside_as : {A : Type 0} (s t : State StationMemory) (b c : Beside) (p q : Reaching StationMemory → Plan (Reaching StationMemory) A)
-    → ((l : StationMemory) → s.memory ≡ Some l → p (record { memory = l; beside = b }) ≡ q (record { memory = l; beside = b })) → (o : Option StationMemory) → s.memory ≡ o
+    → ((l : StationMemory) → s.memory ≡ Some l → p (record { memory = l; beside = b }) ≡ q (record { memory = l; beside = b })) → (o : Option StationMemory)
+    → s.memory ≡ o
     → IfSome o (λ l. c ≡ beside_left b p l t.memory) → IfSome o (λ l. c ≡ beside_left b q l t.memory)
 beside_as {A} s t b c p q same None e h = tt
-beside_as {A} s t b c p q same (Some l) e h = subst (λ (k : Plan (Reaching StationMemory) A). c ≡ (if is_some t.memory then k.memory.beside else without_log b)) (same l e) h
+beside_as {A} s t b c p q same (Some l) e h =
+    subst (λ (k : Plan (Reaching StationMemory) A). c ≡ (if is_some t.memory then k.memory.beside else without_log b)) (same l e) h
 
 -- one plan is another where the station runs
-pub reaches_as : {A : Type 0} {s t : State StationMemory} {b c : Beside} {halted answer : A} {before out : Out} (p q : Reaching StationMemory → Plan (Reaching StationMemory) A)
+pub reaches_as : {A : Type 0} {s t : State StationMemory} {b c : Beside} {halted answer : A} {before out : Out}
+    (p q : Reaching StationMemory → Plan (Reaching StationMemory) A)
     → ((l : StationMemory) → s.memory ≡ Some l → p (record { memory = l; beside = b }) ≡ q (record { memory = l; beside = b }))
     → Reaches s b halted p answer before out t c → Reaches s b halted q answer before out t c
 reaches_as {A} {s} {t} {b} {c} {halted} {answer} {before} {out} p q same r = record {
@@ -100,29 +111,36 @@ reaches_as {A} {s} {t} {b} {c} {halted} {answer} {before} {out} p q same r = rec
   beside = beside_as s t b c p q same s.memory refl r.beside;
 }
 
-pub command_as : {s t : State StationMemory} {b c : Beside} {told : Commanded} {number : ℕ} {before out : Out} (p q : Reaching StationMemory → Plan (Reaching StationMemory) (Result CommandHeard ReachDropped))
+pub command_as : {s t : State StationMemory} {b c : Beside} {told : Commanded} {number : ℕ} {before out : Out}
+    (p q : Reaching StationMemory → Plan (Reaching StationMemory) (Result CommandHeard ReachDropped))
     → ((l : StationMemory) → s.memory ≡ Some l → p (record { memory = l; beside = b }) ≡ q (record { memory = l; beside = b }))
     → ReachesCommand s b p told number before out t c → ReachesCommand s b q told number before out t c
 command_as p q same r = record { answer = r.answer; tells = r.tells; reaches = reaches_as p q same r.reaches }
 
 -- nothing is stored or sent, and this then stands beside the station
-pub remembers_after : {A : Type 0} (s : State StationMemory) (b c : Beside) (halted : A) (plan : Reaching StationMemory → Plan (Reaching StationMemory) A) (l : StationMemory) (answer failed : A) (before : Out)
-    → s.memory ≡ Some l → plan (record { memory = l; beside = b }) ≡ resting (record { memory = l; beside = c }) answer failed → Reaches s b halted plan answer before before s c
+pub remembers_after : {A : Type 0} (s : State StationMemory) (b c : Beside) (halted : A) (plan : Reaching StationMemory → Plan (Reaching StationMemory) A)
+    (l : StationMemory) (answer failed : A) (before : Out)
+    → s.memory ≡ Some l → plan (record { memory = l; beside = b }) ≡ resting (record { memory = l; beside = c }) answer failed
+    → Reaches s b halted plan answer before before s c
 unfolding resting
 remembers_after {A} s b c halted plan l answer failed before running is = record {
   stayed = none_stayed s b halted plan l running _;
   carried = some_is s b halted plan l running (λ k. CarriesAfter s (of_held b plan k) answer before before s) (record {
     added = nothing;
-    carries = subst (λ (p : Plan (Reaching StationMemory) A). Carries s (within (λ y. y.memory) (λ a. a) p) answer nothing s) (sym is) (resting_carried s l answer failed running);
-    out_is = subst (λ (o : Option StationMemory). before ≡ (if is_some o then followed before nothing else nothing)) (sym running) (before_stays s b halted plan l running before);
+    carries = subst (λ (p : Plan (Reaching StationMemory) A). Carries s (within (λ y. y.memory) (λ a. a) p) answer nothing s) (sym is)
+        (resting_carried s l answer failed running);
+    out_is = subst (λ (o : Option StationMemory). before ≡ (if is_some o then followed before nothing else nothing)) (sym running)
+        (before_stays s b halted plan l running before);
   });
   beside = some_is s b halted plan l running (λ k. c ≡ beside_left b plan k s.memory)
       (subst (λ (o : Option StationMemory). c ≡ beside_left b plan l o) (sym running) (sym (ap (λ (p : Plan (Reaching StationMemory) A). p.memory.beside) is)));
 }
 
 -- a command is dropped, and this is told of it
-pub dropped_after : (s : State StationMemory) (b : Beside) (plan : Reaching StationMemory → Plan (Reaching StationMemory) (Result CommandHeard ReachDropped)) (l : StationMemory) (reason : ReachDropped)
-    (told : Commanded) (number : ℕ) (before : Out) → s.memory ≡ Some l → plan (record { memory = l; beside = b }) ≡ drop_it (record { memory = l; beside = b }) reason
+pub dropped_after : (s : State StationMemory) (b : Beside) (plan : Reaching StationMemory → Plan (Reaching StationMemory) (Result CommandHeard ReachDropped))
+    (l : StationMemory) (reason : ReachDropped)
+    (told : Commanded) (number : ℕ) (before : Out) → s.memory ≡ Some l
+    → plan (record { memory = l; beside = b }) ≡ drop_it (record { memory = l; beside = b }) reason
     → told ≡ record { answer = reach_drop_word reason; bup = None; path = None } → ReachesCommand s b plan told number before before s b
 dropped_after s b plan l reason told number before running is only = record {
   answer = Err reason;
@@ -142,7 +160,8 @@ nothing_opened l code to body = by (nat_lt (counters_left l) 1)
     by false = refl
 
 -- what comes after nothing comes first
-pub carries_first : {A : Type 0} (s t : State StationMemory) (p : Plan StationMemory A) (answer : A) (before out : Out) → before ≡ nothing → p.opened ≡ [] → CarriesAfter s p answer before out t → Carries s p answer out t
+pub carries_first : {A : Type 0} (s t : State StationMemory) (p : Plan StationMemory A) (answer : A) (before out : Out) → before ≡ nothing → p.opened ≡ []
+    → CarriesAfter s p answer before out t → Carries s p answer out t
 carries_first {A} s t p answer before out empty none c = record {
   done = c.carries.done;
   wrote = c.carries.wrote;
@@ -165,22 +184,28 @@ carries_first {A} s t p answer before out empty none c = record {
 -- # Addresses
 
 -- a station's address is the one that its ring says
-pub owned : (s : State StationMemory) (r : Ring) (own : Option ℕ) (l : StationMemory) → s.memory ≡ Some l → IfSome s.memory (λ k. r ≡ k.ring) → own ≡ option_map (λ (g : Granted). g.address) r → address_of l ≡ own
+pub owned : (s : State StationMemory) (r : Ring) (own : Option ℕ) (l : StationMemory) → s.memory ≡ Some l → IfSome s.memory (λ k. r ≡ k.ring)
+    → own ≡ option_map (λ (g : Granted). g.address) r → address_of l ≡ own
 owned s r own l running is says = own_of l r own (at_some s.memory (λ k. r ≡ k.ring) l running is) says
 
 -- # Asking for a path
 
 -- an ask went to the next hop, and nothing else was done
-pub asked : (s t : State StationMemory) (b : Beside) (target own hop : ℕ) (l : StationMemory) (message : PathMessage) (sent : Result (Unit {0}) LocalRefusal) (result : Result (Unit {0}) AskRefusal) (before out : Out) (log : Log)
+pub asked : (s t : State StationMemory) (b : Beside) (target own hop : ℕ) (l : StationMemory) (message : PathMessage) (sent : Result (Unit {0}) LocalRefusal)
+    (result : Result (Unit {0}) AskRefusal) (before out : Out) (log : Log)
     → s.memory ≡ Some l → address_of l ≡ Some own → target ≢ own → station_route l target ≡ Some hop → before ≡ nothing → message ≡ Ask target (own ∷ [])
-    → IfSome s.memory (λ k. CarriesAfter s (send_local k 5 (Some hop) (path_spelling message)) sent before out t) → log ≡ (if is_some t.memory then b.log else empty_log)
-    → result ≡ told_after asks.CounterSpent asks.Store sent → ReachesFirst s b (Err asks.Halted) (λ y. ask_path alone y target) result out t (record b { log = log })
+    → IfSome s.memory (λ k. CarriesAfter s (send_local k 5 (Some hop) (path_spelling message)) sent before out t)
+    → log ≡ (if is_some t.memory then b.log else empty_log)
+    → result ≡ told_after asks.CounterSpent asks.Store sent
+    → ReachesFirst s b (Err asks.Halted) (λ y. ask_path alone y target) result out t (record b { log = log })
 asked s t b target own hop l message sent result before out log running is apart some empty begins carried left told =
     let goes : Carries s (send_local l 5 (Some hop) (path_spelling message)) sent out t =
     carries_first s t (send_local l 5 (Some hop) (path_spelling message)) sent before out empty (nothing_opened l 5 (Some hop) (path_spelling message))
     (at_some s.memory (λ k. CarriesAfter s (send_local k 5 (Some hop) (path_spelling message)) sent before out t) l running carried) in
-    subst (λ (a : Result (Unit {0}) AskRefusal). ReachesFirst s b (Err asks.Halted) (λ y. ask_path alone y target) a out t (record b { log = log })) (ask_told sent ∙ sym told)
-    (sent_first s b (Err asks.Halted) (λ y. ask_path alone y target) l running (told_as ask_ends tt) (send_local l 5 (Some hop) (path_spelling (Ask target (own ∷ [])))) sent out t (record b { log = log })
+    subst (λ (a : Result (Unit {0}) AskRefusal). ReachesFirst s b (Err asks.Halted) (λ y. ask_path alone y target) a out t (record b { log = log }))
+    (ask_told sent ∙ sym told)
+    (sent_first s b (Err asks.Halted) (λ y. ask_path alone y target) l running (told_as ask_ends tt)
+    (send_local l 5 (Some hop) (path_spelling (Ask target (own ∷ [])))) sent out t (record b { log = log })
     (asks_hop l b target own hop is apart some)
     (subst (λ (m : PathMessage). Carries s (send_local l 5 (Some hop) (path_spelling m)) sent out t) begins goes)
     (log_left (is_some t.memory) b log left))
@@ -188,14 +213,17 @@ asked s t b target own hop l message sent result before out log running is apart
 -- # Path messages
 
 -- a path message went to a neighbour, and nothing else was done
-pub path_went : (s t : State StationMemory) (b : Beside) (plan : Reaching StationMemory → Plan (Reaching StationMemory) (Result CommandHeard ReachDropped)) (l : StationMemory) (to : ℕ) (message : PathMessage)
+pub path_went : (s t : State StationMemory) (b : Beside) (plan : Reaching StationMemory → Plan (Reaching StationMemory) (Result CommandHeard ReachDropped))
+    (l : StationMemory) (to : ℕ) (message : PathMessage)
     (answer : CommandHeard) (sent : Result (Unit {0}) LocalRefusal) (r : Result CommandHeard ReachDropped) (before out : Out) (log : Log) → s.memory ≡ Some l
     → plan (record { memory = l; beside = b }) ≡ tells_path alone (record { memory = l; beside = b }) to message answer
-    → IfSome s.memory (λ k. CarriesAfter s (send_local k 5 (Some to) (path_spelling message)) sent before out t) → log ≡ (if is_some t.memory then b.log else empty_log)
+    → IfSome s.memory (λ k. CarriesAfter s (send_local k 5 (Some to) (path_spelling message)) sent before out t)
+    → log ≡ (if is_some t.memory then b.log else empty_log)
     → told_as reach_ends answer sent ≡ r → Reaches s b (Err (Known Store)) plan r before out t (record b { log = log })
 path_went s t b plan l to message answer sent r before out log running is carried left told =
     subst (λ (a : Result CommandHeard ReachDropped). Reaches s b (Err (Known Store)) plan a before out t (record b { log = log })) told
-    (sent_after s b (Err (Known Store)) plan l running (told_as reach_ends answer) (send_local l 5 (Some to) (path_spelling message)) sent before out t (record b { log = log })
+    (sent_after s b (Err (Known Store)) plan l running (told_as reach_ends answer) (send_local l 5 (Some to) (path_spelling message)) sent before out t
+    (record b { log = log })
     (is ∙ sealed_told reach_ends l b to 5 (path_spelling message) answer)
     (at_some s.memory (λ k. CarriesAfter s (send_local k 5 (Some to) (path_spelling message)) sent before out t) l running carried)
     (log_left (is_some t.memory) b log left))
@@ -228,8 +256,10 @@ module _ (l : StationMemory) (b : Beside) (c : NeighbourCommand) where
   abbrev at_station : Reaching StationMemory
   at_station = record { memory = l; beside = b }
 
-  check_ends : (number origin : ℕ) (awaited : Bool) → (if awaited then remembers (with_checks (acked_after b.checks c.from number origin) at_station) commands.Acked else drop_it at_station NotAwaited)
-      ≡ with_check_of (if awaited then remembers (with_checks (acked_after b.checks c.from number origin) (checks_alone b.checks)) commands.Acked else drop_it (checks_alone b.checks) NotAwaited)
+  check_ends : (number origin : ℕ) (awaited : Bool)
+      → (if awaited then remembers (with_checks (acked_after b.checks c.from number origin) at_station) commands.Acked else drop_it at_station NotAwaited)
+      ≡ with_check_of (if awaited then remembers (with_checks (acked_after b.checks c.from number origin) (checks_alone b.checks)) commands.Acked
+      else drop_it (checks_alone b.checks) NotAwaited)
   unfolding resting
   check_ends number origin true = refl
   check_ends number origin false = refl
@@ -247,16 +277,22 @@ module _ (l : StationMemory) (b : Beside) (c : NeighbourCommand) where
   check_plan = check_by c.to_all (ack_in c.body)
 
 -- an acknowledgement that was awaited
-pub awaited_ends : {T E : Type 0} (s t : Neighbours) (c : NeighbourCommand) (number origin : ℕ) (r : Result T E) → c.to_all ≡ false → ack_in c.body ≡ Some (number, origin) → is_err r ≡ false
-    → MatchResult r (λ _. is_awaited s c.from number origin ≡ true) (λ _. is_awaited s c.from number origin ≡ false) → t ≡ acked_after s c.from number origin → EndsCheck s c (Ok tt) t
-awaited_ends s t c number origin (Ok u) one is ok answer value = subst (λ (n : Neighbours). EndsCheck s c (Ok tt) n) (sym value) (ends_awaited s c number origin one is answer)
+pub awaited_ends : {T E : Type 0} (s t : Neighbours) (c : NeighbourCommand) (number origin : ℕ) (r : Result T E) → c.to_all ≡ false
+    → ack_in c.body ≡ Some (number, origin) → is_err r ≡ false
+    → MatchResult r (λ _. is_awaited s c.from number origin ≡ true) (λ _. is_awaited s c.from number origin ≡ false) → t ≡ acked_after s c.from number origin
+    → EndsCheck s c (Ok tt) t
+awaited_ends s t c number origin (Ok u) one is ok answer value =
+    subst (λ (n : Neighbours). EndsCheck s c (Ok tt) n) (sym value) (ends_awaited s c number origin one is answer)
 awaited_ends s t c number origin (Err e) one is ok answer value = absurd (cc)
 
 -- one that was not
-pub unawaited_ends : {T E : Type 0} (s t : Neighbours) (c : NeighbourCommand) (number origin : ℕ) (r : Result T E) → c.to_all ≡ false → ack_in c.body ≡ Some (number, origin) → is_err r ≡ true
-    → MatchResult r (λ _. is_awaited s c.from number origin ≡ true) (λ _. is_awaited s c.from number origin ≡ false) → OnErr r (t ≡ s) → EndsCheck s c (Err NotAwaited) t
+pub unawaited_ends : {T E : Type 0} (s t : Neighbours) (c : NeighbourCommand) (number origin : ℕ) (r : Result T E) → c.to_all ≡ false
+    → ack_in c.body ≡ Some (number, origin) → is_err r ≡ true
+    → MatchResult r (λ _. is_awaited s c.from number origin ≡ true) (λ _. is_awaited s c.from number origin ≡ false) → OnErr r (t ≡ s)
+    → EndsCheck s c (Err NotAwaited) t
 unawaited_ends s t c number origin (Ok u) one is err answer same = absurd (cc)
-unawaited_ends s t c number origin (Err e) one is err answer same = subst (λ (n : Neighbours). EndsCheck s c (Err NotAwaited) n) (sym same) (ends_unawaited s c number origin one is answer)
+unawaited_ends s t c number origin (Err e) one is err answer same =
+    subst (λ (n : Neighbours). EndsCheck s c (Err NotAwaited) n) (sym same) (ends_unawaited s c number origin one is answer)
 
 -- # Commands by their codes
 
@@ -297,31 +333,37 @@ module _ (x : Reaching StationMemory) (own : ℕ) (c : NeighbourCommand) where
       λ i. by_code (e i) (f i) (g i)
 
 module _ (l : StationMemory) (b : Beside) (c : NeighbourCommand) where
-  pub heard_unjoined : address_of l ≡ None → hear_command alone (record { memory = l; beside = b }) c ≡ drop_it (record { memory = l; beside = b }) (Known BadUnit)
+  pub heard_unjoined : address_of l ≡ None
+      → hear_command alone (record { memory = l; beside = b }) c ≡ drop_it (record { memory = l; beside = b }) (Known BadUnit)
   heard_unjoined is =
-      ap (λ (o : Option ℕ). option_map_or (λ own. hear_command_at alone (record { memory = l; beside = b }) own c) o (drop_it (record { memory = l; beside = b }) (Known BadUnit))) is
+      ap (λ (o : Option ℕ). option_map_or (λ own. hear_command_at alone (record { memory = l; beside = b }) own c) o
+      (drop_it (record { memory = l; beside = b }) (Known BadUnit))) is
 
 -- an acknowledgement that was heard changes the checks alone
-pub ended_command : (s : State StationMemory) (b : Beside) (c : NeighbourCommand) (own number : ℕ) (l : StationMemory) (told : Commanded) (r : Result (Unit {0}) ReachDropped) (checks : Neighbours) (before : Out)
+pub ended_command : (s : State StationMemory) (b : Beside) (c : NeighbourCommand) (own number : ℕ) (l : StationMemory) (told : Commanded)
+    (r : Result (Unit {0}) ReachDropped) (checks : Neighbours) (before : Out)
     → s.memory ≡ Some l → c.code ≡ 3 → EndsCheck b.checks c r checks → TellsCommand told number (answer_as (λ _. commands.Acked) r)
     → ReachesCommand s b (λ y. hear_command_at alone y own c) told number before before s (record b { checks = checks })
 ended_command s b c own number l told r checks before running is ends tells = record {
   answer = answer_as (λ _. commands.Acked) r;
   tells = tells;
   reaches =
-      remembers_after s b (record b { checks = checks }) (Err (Known Store)) (λ y. hear_command_at alone y own c) l (answer_as (λ _. commands.Acked) r) (Err (Known Store)) before running
+      remembers_after s b (record b { checks = checks }) (Err (Known Store)) (λ y. hear_command_at alone y own c) l (answer_as (λ _. commands.Acked) r)
+      (Err (Known Store)) before running
       (by_3 (record { memory = l; beside = b }) own c is ∙ check_plan l b c
       ∙ (λ i. resting (record { memory = l; beside = record b { checks = sym ends.checks i } }) (sym ends.answer i) (Err (Known Store))));
 }
 
 -- a path message that was heard
-pub path_command : (s t : State StationMemory) (b d : Beside) (c : NeighbourCommand) (own number : ℕ) (told : Commanded) (r : Result CommandHeard ReachDropped) (before out : Out)
+pub path_command : (s t : State StationMemory) (b d : Beside) (c : NeighbourCommand) (own number : ℕ) (told : Commanded) (r : Result CommandHeard ReachDropped)
+    (before out : Out)
     → c.code ≡ 5 → Reaches s b (Err (Known Store)) (λ y. hear_path alone y own c.from c.to_all c.body) r before out t d → TellsCommand told number r
     → ReachesCommand s b (λ y. hear_command_at alone y own c) told number before out t d
 path_command s t b d c own number told r before out is reached tells = record {
   answer = r;
   tells = tells;
-  reaches = reaches_as (λ y. hear_path alone y own c.from c.to_all c.body) (λ y. hear_command_at alone y own c) (λ l _. sym (by_5 (record { memory = l; beside = b }) own c is)) reached;
+  reaches = reaches_as (λ y. hear_path alone y own c.from c.to_all c.body) (λ y. hear_command_at alone y own c)
+      (λ l _. sym (by_5 (record { memory = l; beside = b }) own c is)) reached;
 }
 
 -- a broadcast that was heard
@@ -329,4 +371,5 @@ pub broadcast_command : (s t : State StationMemory) (b d : Beside) (c : Neighbou
     → c.code ≡ 4 → ReachesCommand s b (λ y. hear_broadcast alone y own c.to_all c.body) told number before out t d
     → ReachesCommand s b (λ y. hear_command_at alone y own c) told number before out t d
 broadcast_command s t b d c own number told before out is reached =
-    command_as (λ y. hear_broadcast alone y own c.to_all c.body) (λ y. hear_command_at alone y own c) (λ l _. sym (by_4 (record { memory = l; beside = b }) own c is)) reached
+    command_as (λ y. hear_broadcast alone y own c.to_all c.body) (λ y. hear_command_at alone y own c)
+    (λ l _. sym (by_4 (record { memory = l; beside = b }) own c is)) reached

@@ -1,5 +1,6 @@
 -- The nodes of a list, each at its place.
-use Rattle.std.proofs.Common.{◌≡◌, ℕ, zero, suc, ◌+◌, ◌<◌, ◌≤◌, Bool, true, false, not, cond, List, [], ◌∷◌, ◌++◌, length, map, take, drop, get_or, arith, Option, Some, None, Result, Ok, Err, refl, sym, ap, subst, ◌∙◌}
+use Rattle.std.proofs.Common.{◌≡◌, ℕ, zero, suc, ◌+◌, ◌<◌, ◌≤◌, Bool, true, false, not, cond, List, [], ◌∷◌, ◌++◌, length, map, take, drop, get_or, arith}
+use Rattle.std.proofs.Common.{Option, Some, None, Result, Ok, Err, refl, sym, ap, subst, ◌∙◌}
 use Rattle.std.specs.Prelude.{All, IfSome, IfOk, ◌||◌, is_some, nat_lt, position, slice_get, slice_set}
 use Rattle.std.specs.Option.{option_map, option_and_then}
 use Rattle.std.specs.List.{list_any, position_or_len}
@@ -36,7 +37,8 @@ found ms old place x view there here =
     sym (ap (λ (xs : List Node). slice_get xs place) view) ∙ slice_get-map of_meter ms place ∙ ap (λ (o : Option MeterState). option_map of_meter o) read
 
 -- what holds of it holds of what is found
-pub found_at : (ms : List MeterState) (old : List Node) (place : ℕ) (x : MeterState) (P : Node → Type 0) → map of_meter ms ≡ old → place < length old → x ≡ get_or ms place x
+pub found_at : (ms : List MeterState) (old : List Node) (place : ℕ) (x : MeterState) (P : Node → Type 0) → map of_meter ms ≡ old → place < length old
+    → x ≡ get_or ms place x
     → P (of_meter x) → IfSome (slice_get old place) P
 found_at ms old place x P view there here h = subst (λ (o : Option Node). IfSome o P) (sym (found ms old place x view there here)) h
 
@@ -54,14 +56,16 @@ pub did_at : {A : Type 0} (step : Node → NodeStep A) (ms : List MeterState) (o
     → map of_meter ms ≡ old → place < length old → x ≡ get_or ms place x → Took (step (of_meter x)) answer out (of_meter y)
     → IfSome (slice_get old place) (λ n. Did (step n) old place answer out (map of_meter (slice_set ms place y)))
 did_at step ms old place x y answer out view there here t =
-    found_at ms old place x (λ n. Did (step n) old place answer out (map of_meter (slice_set ms place y))) view there here (did (step (of_meter x)) ms old place y answer out view t)
+    found_at ms old place x (λ n. Did (step n) old place answer out (map of_meter (slice_set ms place y))) view there here
+    (did (step (of_meter x)) ms old place y answer out view t)
 
 -- what holds of a meter that was put at a place holds of what is found there
 pub put_at : (ms : List MeterState) (old : List Node) (place : ℕ) (y : MeterState) (P : Node → Type 0) → map of_meter ms ≡ old → place < length old
     → P (of_meter y) → IfSome (slice_get (map of_meter (slice_set ms place y)) place) P
 put_at ms old place y P view there h =
     let here : slice_get (slice_set ms place y) place ≡ Some y = slice_get-set ms place y (within_map ms old place view there) in
-    subst (λ (o : Option Node). IfSome o P) (sym (slice_get-map of_meter (slice_set ms place y) place ∙ ap (λ (o : Option MeterState). option_map of_meter o) here)) h
+    subst (λ (o : Option Node). IfSome o P)
+    (sym (slice_get-map of_meter (slice_set ms place y) place ∙ ap (λ (o : Option MeterState). option_map of_meter o) here)) h
 
 -- what was accepted may be heard by the meter that was put there
 pub hears_in : (ms : List MeterState) (old : List Node) (place : ℕ) (y : MeterState) → map of_meter ms ≡ old → place < length old
@@ -71,7 +75,8 @@ hears_in ms old place y view there (Ok got) h = put_at ms old place y (λ x. May
 hears_in ms old place y view there (Err reason) h = tt
 
 -- a meter that stays as it is leaves the list as it is
-pub same_at : (ms : List MeterState) (old : List Node) (place : ℕ) (x y : MeterState) → map of_meter ms ≡ old → x ≡ get_or ms place x → y ≡ x → map of_meter (slice_set ms place y) ≡ old
+pub same_at : (ms : List MeterState) (old : List Node) (place : ℕ) (x y : MeterState) → map of_meter ms ≡ old → x ≡ get_or ms place x → y ≡ x
+    → map of_meter (slice_set ms place y) ≡ old
 same_at ms old place x y view here same = map-set_same of_meter ms place y x (ap of_meter (same ∙ here)) ∙ view
 
 -- the address of a meter is that of its station
@@ -83,35 +88,45 @@ address_is x r e = e ∙ by x.station.memory
     by (Some l) = refl
 
 -- what holds of what is found at a place holds of the meter there
-pub at_place : (ms : List MeterState) (old : List Node) (place : ℕ) (x : MeterState) (P : Node → Type 0) → map of_meter ms ≡ old → place < length old → x ≡ get_or ms place x
+pub at_place : (ms : List MeterState) (old : List Node) (place : ℕ) (x : MeterState) (P : Node → Type 0) → map of_meter ms ≡ old → place < length old
+    → x ≡ get_or ms place x
     → IfSome (slice_get old place) P → P (of_meter x)
 at_place ms old place x P view there here h = subst (λ (o : Option Node). IfSome o P) (found ms old place x view there here) h
 
 -- a meter that changed at a place changed there as a node
-pub set_at : (ms : List MeterState) (old : List Node) (place : ℕ) (y : MeterState) (n : Node) → map of_meter ms ≡ old → of_meter y ≡ n → map of_meter (slice_set ms place y) ≡ slice_set old place n
-set_at ms old place y n view node = map-set of_meter ms place y ∙ ap (λ (xs : List Node). slice_set xs place (of_meter y)) view ∙ ap (λ (k : Node). slice_set old place k) node
+pub set_at : (ms : List MeterState) (old : List Node) (place : ℕ) (y : MeterState) (n : Node) → map of_meter ms ≡ old → of_meter y ≡ n
+    → map of_meter (slice_set ms place y) ≡ slice_set old place n
+set_at ms old place y n view node =
+    map-set of_meter ms place y ∙ ap (λ (xs : List Node). slice_set xs place (of_meter y)) view ∙ ap (λ (k : Node). slice_set old place k) node
 
 -- # The station of the meter at a place
 
 -- each meter of a list that is sound is sound
-pub sound_at : (ms : List MeterState) (old : List Node) (place : ℕ) (x : MeterState) → map of_meter ms ≡ old → place < length old → x ≡ get_or ms place x → All IsSoundMeter ms
+pub sound_at : (ms : List MeterState) (old : List Node) (place : ℕ) (x : MeterState) → map of_meter ms ≡ old → place < length old → x ≡ get_or ms place x
+    → All IsSoundMeter ms
     → IsSoundMeter x
 sound_at ms old place x view there here sound = subst (λ (y : MeterState). IsSoundMeter y) (sym here) (sound place x (within_map ms old place view there))
 
 -- its station agrees with its keeper
-pub agrees_at : (ms : List MeterState) (old : List Node) (place : ℕ) (x : MeterState) → map of_meter ms ≡ old → place < length old → x ≡ get_or ms place x → All IsSoundMeter ms
+pub agrees_at : (ms : List MeterState) (old : List Node) (place : ℕ) (x : MeterState) → map of_meter ms ≡ old → place < length old → x ≡ get_or ms place x
+    → All IsSoundMeter ms
     → Agrees x.station
 agrees_at ms old place x view there here sound = meter_agrees x (sound_at ms old place x view there here sound)
 
-pub station_agrees_at : (ms : List MeterState) (old : List Node) (place : ℕ) (x : MeterState) (s : State StationMemory) → map of_meter ms ≡ old → place < length old
+pub station_agrees_at : (ms : List MeterState) (old : List Node) (place : ℕ) (x : MeterState) (s : State StationMemory) → map of_meter ms ≡ old
+    → place < length old
     → x ≡ get_or ms place x → All IsSoundMeter ms → s ≡ x.station → Agrees s
-station_agrees_at ms old place x s view there here sound same = subst (λ (k : State StationMemory). Agrees k) (sym same) (agrees_at ms old place x view there here sound)
+station_agrees_at ms old place x s view there here sound same =
+    subst (λ (k : State StationMemory). Agrees k) (sym same) (agrees_at ms old place x view there here sound)
 
-module _ {A : Type 0} (halted : A) (q : StationPlan A) (ms : List MeterState) (old : List Node) (place : ℕ) (x : MeterState) (s t : State StationMemory) (answer : A) (out : Out)
-    (view : map of_meter ms ≡ old) (there : place < length old) (here : x ≡ get_or ms place x) (sound : All IsSoundMeter ms) (same : s ≡ x.station) (stayed : StationStayed s halted answer out t)
+module _ {A : Type 0} (halted : A) (q : StationPlan A) (ms : List MeterState) (old : List Node) (place : ℕ) (x : MeterState) (s t : State StationMemory)
+    (answer : A) (out : Out)
+    (view : map of_meter ms ≡ old) (there : place < length old) (here : x ≡ get_or ms place x) (sound : All IsSoundMeter ms) (same : s ≡ x.station)
+    (stayed : StationStayed s halted answer out t)
     (carries : StationCarries s q answer out t) where
   -- The meter at a place took the step of its station's rule.
-  pub station_did : IfSome (slice_get old place) (λ n. Did (acts n halted (lent q n.eui)) old place answer out (map of_meter (slice_set ms place (with_its t x))))
+  pub station_did : IfSome (slice_get old place)
+      (λ n. Did (acts n halted (lent q n.eui)) old place answer out (map of_meter (slice_set ms place (with_its t x))))
   station_did =
       did_at (λ n. acts n halted (lent q n.eui)) ms old place x (with_its t x) answer out view there here
       (station_took x s t halted q answer out same (sound_at ms old place x view there here sound) stayed carries)
@@ -133,7 +148,8 @@ there_is (x ∷ xs) (suc p) h = let less : p < length xs = omega (arith, h) in t
 abbrev pub UpTo : {A : Type 0} → (A → A) → List A → ℕ → List A → Type 0
 UpTo f xs p ys = ys ≡ map f (take p xs) ++ drop p xs
 
-pub up_to_next : {A : Type 0} (f : A → A) (xs ys zs : List A) (p : ℕ) → UpTo f xs p ys → p < length ys → IfSome (slice_get ys p) (λ x. zs ≡ slice_set ys p (f x)) → UpTo f xs (p + 1) zs
+pub up_to_next : {A : Type 0} (f : A → A) (xs ys zs : List A) (p : ℕ) → UpTo f xs p ys → p < length ys
+    → IfSome (slice_get ys p) (λ x. zs ≡ slice_set ys p (f x)) → UpTo f xs (p + 1) zs
 up_to_next {A} f xs ys zs p so_far within h =
     let x = there_is ys p within in
     let got : slice_get (map f (take p xs) ++ drop p xs) p ≡ Some x.0 = sym (ap (λ (k : List A). slice_get k p) so_far) ∙ x.1 in

@@ -38,7 +38,8 @@ inside a (Ok b) = b
 inside a (Err e) = a
 
 -- what is left of an event, with its send counted where it was taken
-counted_if : (w before : World) (from to : ℕ) (datagram : List ℕ) (tag : ℕ) (r : World × Trace) (h : Happenings) (counted : ℕ) (taken : Bool) → before.sends < before.events
+counted_if : (w before : World) (from to : ℕ) (datagram : List ℕ) (tag : ℕ) (r : World × Trace) (h : Happenings) (counted : ℕ) (taken : Bool)
+    → before.sends < before.events
     → counted ≡ bool_byte taken → Steps true w (Ok h) before (Ok r)
     → Steps true w (Ok h) (record before { sends = before.sends + counted }) (Ok (sent_if w from to datagram tag taken r))
 counted_if w before from to datagram tag r h counted false less count s =
@@ -76,8 +77,10 @@ counted_if w before from to datagram tag r h counted true less count s =
     }
 
 -- what is said and what is left of a send, where the node that was found did this
-pub node_sent : (w new : World) {number found : ℕ} (there : IsThere w number found) (to : ℕ) (datagram : List ℕ) (tag : ℕ) (k : Node → NodeStep (Result SentHow SendRefusal))
-    (sent : Result SentHow SendRefusal) (out : Out) (nodes : List Node) (counted : ℕ) (h : Happenings) → IsBounded w → w.events < MAX_EVENTS → length out.frames ≤ 24
+pub node_sent : (w new : World) {number found : ℕ} (there : IsThere w number found) (to : ℕ) (datagram : List ℕ) (tag : ℕ)
+    (k : Node → NodeStep (Result SentHow SendRefusal))
+    (sent : Result SentHow SendRefusal) (out : Out) (nodes : List Node) (counted : ℕ) (h : Happenings) → IsBounded w → w.events < MAX_EVENTS
+    → length out.frames ≤ 24
     → length out.tags.made ≤ 2 → IfSome (slice_get w.nodes found) (λ y. Did (k y) w.nodes found sent out nodes) → counted ≡ bool_byte (is_ok sent)
     → h ≡ record (happened w (sent_word sent)) { flights = length out.frames } → new ≡ record (after (ran w) found nodes out) { sends = w.sends + counted }
     → Steps true w (Ok h) new (Ok (sending network w number to datagram tag (answering sent_word (k there.node))))

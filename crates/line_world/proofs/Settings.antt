@@ -1,5 +1,6 @@
 -- Setup: a node that no loss of power was told of stays so, and what was set is there.
-use Rattle.std.proofs.Common.{◌≡◌, ◌≢◌, ℕ, zero, suc, ◌+◌, ◌<◌, ◌≤◌, Bool, true, false, not, ◌&&◌, ◌||◌, List, [], ◌∷◌, ◌++◌, length, Option, Some, None, Result, Ok, Err, refl, sym, ap, subst, ◌∙◌, if◌then◌else◌, arith}
+use Rattle.std.proofs.Common.{◌≡◌, ◌≢◌, ℕ, zero, suc, ◌+◌, ◌<◌, ◌≤◌, Bool, true, false, not, ◌&&◌, ◌||◌, List, [], ◌∷◌, ◌++◌, length, Option, Some, None}
+use Rattle.std.proofs.Common.{Result, Ok, Err, refl, sym, ap, subst, ◌∙◌, if◌then◌else◌, arith}
 use Rattle.std.specs.Prelude.{All, IfSome, IsSome, slice_get, slice_set, is_some, nat_lt, ◌==◌}
 use Rattle.std.specs.Option.{option_map_or}
 use Rattle.std.specs.Result.{OnOk, OnErr, is_err}
@@ -38,7 +39,9 @@ use Rattle.line_events.specs.declared.event.StepFault.TheVariants as faults
 use Rattle.line_events.specs.declared.event.TheConstants.{MAX_EVENTS}
 use Rattle.line_events.specs.declared.happenings.Happenings.{Happenings}
 use Rattle.line_rules.specs.Worlds.{World, Trace, node_at}
-use Rattle.line_rules.specs.Steps.{Step, at_coordinator, blank_node, coordinator, coordinator_node, depot, depot_at, depot_by, happened, has_begun, in_setup, is_known, issued_by, keeps_rank, made_node, meter, near, near_by, offered_near, on_node, provisioned, psk_of, ranks_full, set_up, takes_setup, told, trace_of}
+use Rattle.line_rules.specs.Steps.{Step, at_coordinator, blank_node, coordinator, coordinator_node, depot, depot_at, depot_by, happened, has_begun, in_setup}
+use Rattle.line_rules.specs.Steps.{is_known, issued_by, keeps_rank, made_node, meter, near, near_by, offered_near, on_node, provisioned, psk_of, ranks_full}
+use Rattle.line_rules.specs.Steps.{set_up, takes_setup, told, trace_of}
 use Rattle.line_world.specs.Bounds.{IsBounded, IsUncut}
 use Rattle.line_world.specs.Finding.{found}
 use Rattle.line_world.specs.Steps.{HasMemory, Steps}
@@ -84,7 +87,13 @@ stays_uncut x halting plan u =
 same_node : {A H : Type 0} (x : Node) (m : Memory) (p : Plan Memory (Result A H)) → x.memory ≡ Some m → x.store.cut ≡ None → ChangesNothing m p
     → (left_by x (finished (write p.puts None x.store.records) p)).node ≡ x
 same_node x m p held uncut same =
-    (λ i. record x { store = record x.store { records = (write (same.puts i) None x.store.records).records; cut = (write (same.puts i) None x.store.records).cut }; memory = Some (same.memory i) })
+    (λ i. record x {
+      store = record x.store {
+        records = (write (same.puts i) None x.store.records).records;
+        cut = (write (same.puts i) None x.store.records).cut;
+      };
+      memory = Some (same.memory i);
+    })
     ∙ (λ i. record x { store = record x.store { cut = sym uncut i }; memory = sym held i })
 
 -- a depot that the coordinator refuses leaves it as it is
@@ -108,7 +117,8 @@ coordinator_uncut eui key = stays_uncut (blank_node Coordinator eui) (Ok tt) _ (
 -- # What was set
 
 -- the same of an answer that is read as another
-pub quietly : {A B : Type 0} (f : A → B) (d : NodeStep A) (old : List Node) (number : ℕ) (answer : A) (out : Out) (new : List Node) → Did d old number answer out new
+pub quietly : {A B : Type 0} (f : A → B) (d : NodeStep A) (old : List Node) (number : ℕ) (answer : A) (out : Out) (new : List Node)
+    → Did d old number answer out new
     → Did (answering f d) old number (f answer) out new
 quietly f d old number answer out new did = record { answer_is = ap f did.answer_is; out_is = did.out_is; nodes_are = did.nodes_are }
 
@@ -135,7 +145,8 @@ bounded_setup w nodes b room few uncut = record {
 }
 
 -- an event of setup that left these nodes
-pub was_set : (takes : Bool) (w new : World) (step : Step) (trace : Trace) (h : Happenings) (nodes : List Node) → IsBounded w → w.events < MAX_EVENTS → length nodes ≤ 1000
+pub was_set : (takes : Bool) (w new : World) (step : Step) (trace : Trace) (h : Happenings) (nodes : List Node) → IsBounded w → w.events < MAX_EVENTS
+    → length nodes ≤ 1000
     → (w.running ≡ false → All IsUncut nodes) → step ≡ Ok (record (set_up w) { nodes = nodes }, trace) → h ≡ trace.happened
     → new ≡ record (set_up w) { nodes = nodes } → Steps takes w (Ok h) new step
 was_set takes w new step trace h nodes b room few uncut taken told is = record {
@@ -164,10 +175,12 @@ and_first false b is = is
 pub no_such_node : (w : World) (number : ℕ) (k : Node → Step) (fault : StepFault) → IsBounded w → true ≡ takes_setup w → Err fault ≡ found w number
     → Steps false w (Err fault) w (in_setup w (on_node w number k))
 no_such_node w number k fault bounds takes is =
-    steps_as _ _ (in_setup_is w _ takes ∙ sym (begun w (on_node w number k) (and_first (has_begun w) (not w.running) takes))) (not_found false w number k fault bounds is)
+    steps_as _ _ (in_setup_is w _ takes ∙ sym (begun w (on_node w number k) (and_first (has_begun w) (not w.running) takes)))
+    (not_found false w number k fault bounds is)
 
 -- nor one of a second node that was not found
-pub no_such_second : (w : World) (number at other : ℕ) (k : Node → Node → Step) (fault : StepFault) → IsBounded w → true ≡ takes_setup w → Ok at ≡ found w number → Err fault ≡ found w other
+pub no_such_second : (w : World) (number at other : ℕ) (k : Node → Node → Step) (fault : StepFault) → IsBounded w → true ≡ takes_setup w
+    → Ok at ≡ found w number → Err fault ≡ found w other
     → Steps false w (Err fault) w (in_setup w (on_node w number (λ x. on_node w other (k x))))
 no_such_second w number at other k fault bounds takes first is =
     steps_as _ _ (in_setup_is w _ takes ∙ sym (begun w (on_node w number (λ x. on_node w other (k x))) (and_first (has_begun w) (not w.running) takes)))
@@ -199,19 +212,24 @@ uncut_at xs n x all at = subst IsUncut (get_or_from_slice_get xs n x x at) (all 
 -- # counter, number
 
 -- a value was set at a node
-pub value_set : {A : Type 0} (w new : World) {number found : ℕ} (there : IsThere w number found) (d : Node → NodeStep A) (answer : A) (nodes : List Node) (h : Happenings) → IsBounded w
-    → w.events < MAX_EVENTS → true ≡ takes_setup w → ((x : Node) → IsUncut x → IsUncut (d x).node) → IfSome (slice_get w.nodes found) (λ x. Did (d x) w.nodes found answer nothing nodes)
+pub value_set : {A : Type 0} (w new : World) {number found : ℕ} (there : IsThere w number found) (d : Node → NodeStep A) (answer : A) (nodes : List Node)
+    (h : Happenings) → IsBounded w
+    → w.events < MAX_EVENTS → true ≡ takes_setup w → ((x : Node) → IsUncut x → IsUncut (d x).node)
+    → IfSome (slice_get w.nodes found) (λ x. Did (d x) w.nodes found answer nothing nodes)
     → h ≡ happened w said.Set → new ≡ record (set_up w) { nodes = nodes }
     → Steps false w (Ok h) new (in_setup w (on_node w number (λ x. Ok (told network (set_up w) number (d x), trace_of (happened w said.Set)))))
 value_set w new {number} {found} there d answer nodes h b room takes keeps did spoken is =
     let x = there.node in
     let own : Did (d x) w.nodes number answer nothing nodes =
-    subst (λ n. Did (d x) w.nodes n answer nothing nodes) there.same (subst (λ o. IfSome o (λ y. Did (d y) w.nodes found answer nothing nodes)) (ap (λ n. slice_get w.nodes n) there.same ∙ there.at) did) in
+    subst (λ n. Did (d x) w.nodes n answer nothing nodes) there.same
+    (subst (λ o. IfSome o (λ y. Did (d y) w.nodes found answer nothing nodes)) (ap (λ n. slice_get w.nodes n) there.same ∙ there.at) did) in
     let uncut = still_uncut w b takes in
-    let left : All IsUncut nodes = subst (All IsUncut) (sym own.nodes_are) (All-set IsUncut w.nodes number (d x).node (keeps x (uncut_at w.nodes number x uncut there.at)) uncut) in
+    let left : All IsUncut nodes = subst (All IsUncut) (sym own.nodes_are)
+    (All-set IsUncut w.nodes number (d x).node (keeps x (uncut_at w.nodes number x uncut there.at)) uncut) in
     let same : length nodes ≡ length w.nodes = ap (λ (ns : List Node). length ns) own.nodes_are ∙ length-set w.nodes number (d x).node in
     was_set false w new _ (trace_of (happened w said.Set)) h nodes b room (let few = b.nodes in omega (arith, few, same)) (λ running. left)
-    (in_setup_is w _ takes ∙ at_node w number x _ there.at ∙ ap (λ (v : World). Ok (v, trace_of (happened w said.Set))) (told_quiet (set_up w) number (d x) answer nodes own)) spoken is
+    (in_setup_is w _ takes ∙ at_node w number x _ there.at
+    ∙ ap (λ (v : World). Ok (v, trace_of (happened w said.Set))) (told_quiet (set_up w) number (d x) answer nodes own)) spoken is
 
 -- # depot
 
@@ -247,16 +265,19 @@ module _ (w : World) (number : ℕ) (x c : Node) (psk : Key) (may : MayDepot w n
   depots =
       found_both
       ∙ (λ i. if not_first number may.above i || is_some (may.unjoined i) then Err faults.Setup
-      else option_map_or (λ p. depot_by network w number x (acts c (Err orders.Halted) (λ m. coordinator_rules.depot m x.eui p))) (may.pair i) (Err faults.Setup))
+      else option_map_or (λ p. depot_by network w number x (acts c (Err orders.Halted) (λ m. coordinator_rules.depot m x.eui p))) (may.pair i)
+      (Err faults.Setup))
 
   uncut_first : IsBounded w → IsUncut c
   uncut_first b = uncut_at w.nodes 0 c (still_uncut w b may.takes) may.first
 
   -- the coordinator refused it, and the world is as it was
-  pub was_refused : (new : World) (reason : CoordinatorRefusal) (nodes : List Node) → IsBounded w → Did granting w.nodes 0 (Err reason) nothing nodes → new ≡ record w { nodes = nodes }
+  pub was_refused : (new : World) (reason : CoordinatorRefusal) (nodes : List Node) → IsBounded w → Did granting w.nodes 0 (Err reason) nothing nodes
+      → new ≡ record w { nodes = nodes }
       → Steps false w (Err faults.Setup) new (depot network w number)
   was_refused new reason nodes b did is =
-      let same : nodes ≡ w.nodes = did.nodes_are ∙ ap (λ k. slice_set w.nodes 0 k) (depot_refused c x.eui psk reason (uncut_first b) did.answer_is) ∙ same_set w.nodes 0 c may.first in
+      let same : nodes ≡ w.nodes = did.nodes_are ∙ ap (λ k. slice_set w.nodes 0 k) (depot_refused c x.eui psk reason (uncut_first b) did.answer_is)
+      ∙ same_set w.nodes 0 c may.first in
       let left : new ≡ w = is ∙ (λ i. record w { nodes = same i }) in
       record {
         gives = (depots ∙ (λ i. depot_by network w number x (record granting { answer = sym did.answer_is i })), left);
@@ -265,20 +286,27 @@ module _ (w : World) (number : ℕ) (x c : Node) (psk : Key) (may : MayDepot w n
       }
 
   -- the coordinator granted it, and the meter has it
-  pub was_joined : (new : World) (g : Granted) (answer : Result (Unit {0}) RingFault) (between nodes : List Node) (h : Happenings) → IsBounded w → w.events < MAX_EVENTS
-      → Did granting w.nodes 0 (Ok g) nothing between → IfSome (slice_get between number) (λ y. Did (acts y (Ok tt) (λ m. meters.provision m g)) between number answer nothing nodes)
+  pub was_joined : (new : World) (g : Granted) (answer : Result (Unit {0}) RingFault) (between nodes : List Node) (h : Happenings) → IsBounded w
+      → w.events < MAX_EVENTS
+      → Did granting w.nodes 0 (Ok g) nothing between
+      → IfSome (slice_get between number) (λ y. Did (acts y (Ok tt) (λ m. meters.provision m g)) between number answer nothing nodes)
       → h ≡ happened w said.Joined → new ≡ record (set_up w) { nodes = nodes } → Steps false w (Ok h) new (depot network w number)
   unfolding acts told
   was_joined new g answer between nodes h b room first second spoken is =
       let other : number ≢ 0 = λ e. absurd (omega (arith, may.above, e)) in
-      let at : slice_get between number ≡ Some x = ap (λ ns. slice_get ns number) first.nodes_are ∙ slice_get-set_other w.nodes 0 number granting.node other ∙ may.meter in
+      let at : slice_get between number
+      ≡ Some x = ap (λ ns. slice_get ns number) first.nodes_are ∙ slice_get-set_other w.nodes 0 number granting.node other ∙ may.meter in
       let d = acts x (Ok tt) (λ m. meters.provision m g) in
-      let did : Did d between number answer nothing nodes = subst (λ o. IfSome o (λ y. Did (acts y (Ok tt) (λ m. meters.provision m g)) between number answer nothing nodes)) at second in
+      let did : Did d between number answer nothing nodes = subst
+      (λ o. IfSome o (λ y. Did (acts y (Ok tt) (λ m. meters.provision m g)) between number answer nothing nodes)) at second in
       let uncut = still_uncut w b may.takes in
-      let one : All IsUncut between = subst (All IsUncut) (sym first.nodes_are) (All-set IsUncut w.nodes 0 granting.node (stays_uncut c _ _ (uncut_first b)) uncut) in
-      let two : All IsUncut nodes = subst (All IsUncut) (sym did.nodes_are) (All-set IsUncut between number d.node (stays_uncut x _ _ (uncut_at w.nodes number x uncut may.meter)) one) in
+      let one : All IsUncut between = subst (All IsUncut) (sym first.nodes_are)
+      (All-set IsUncut w.nodes 0 granting.node (stays_uncut c _ _ (uncut_first b)) uncut) in
+      let two : All IsUncut nodes = subst (All IsUncut) (sym did.nodes_are)
+      (All-set IsUncut between number d.node (stays_uncut x _ _ (uncut_at w.nodes number x uncut may.meter)) one) in
       let same : length nodes ≡ length w.nodes =
-      ap (λ (ns : List Node). length ns) did.nodes_are ∙ length-set between number d.node ∙ ap (λ (ns : List Node). length ns) first.nodes_are ∙ length-set w.nodes 0 granting.node in
+      ap (λ (ns : List Node). length ns) did.nodes_are ∙ length-set between number d.node ∙ ap (λ (ns : List Node). length ns) first.nodes_are
+      ∙ length-set w.nodes 0 granting.node in
       let trace = record (trace_of (happened w said.Joined)) { issued = issued_by x.eui g } in
       was_set false w new _ trace h nodes b room (let few = b.nodes in omega (arith, few, same)) (λ running. two)
       (depots ∙ (λ i. depot_by network w number x (record granting { answer = sym first.answer_is i }))
@@ -327,17 +355,22 @@ module _ (w : World) (a b cost : ℕ) (x y : Node) (p q : ℕ) (may : MayMeet w 
       let at : slice_get between b ≡ Some y = ap (λ ns. slice_get ns b) did1.nodes_are ∙ slice_get-set_other w.nodes a b d1.node may.other ∙ may.second in
       let did2 : Did d2 between b two nothing nodes = subst (λ o. IfSome o (λ n. Did (offers n p) between b two nothing nodes)) at at_b in
       let uncut = still_uncut w b_holds may.takes in
-      let left1 : All IsUncut between = subst (All IsUncut) (sym did1.nodes_are) (All-set IsUncut w.nodes a d1.node (stays_uncut x _ _ (uncut_at w.nodes a x uncut may.first)) uncut) in
-      let left2 : All IsUncut nodes = subst (All IsUncut) (sym did2.nodes_are) (All-set IsUncut between b d2.node (stays_uncut y _ _ (uncut_at w.nodes b y uncut may.second)) left1) in
+      let left1 : All IsUncut between = subst (All IsUncut) (sym did1.nodes_are)
+      (All-set IsUncut w.nodes a d1.node (stays_uncut x _ _ (uncut_at w.nodes a x uncut may.first)) uncut) in
+      let left2 : All IsUncut nodes = subst (All IsUncut) (sym did2.nodes_are)
+      (All-set IsUncut between b d2.node (stays_uncut y _ _ (uncut_at w.nodes b y uncut may.second)) left1) in
       let same : length nodes ≡ length w.nodes =
-      ap (λ (ns : List Node). length ns) did2.nodes_are ∙ length-set between b d2.node ∙ ap (λ (ns : List Node). length ns) did1.nodes_are ∙ length-set w.nodes a d1.node in
+      ap (λ (ns : List Node). length ns) did2.nodes_are ∙ length-set between b d2.node ∙ ap (λ (ns : List Node). length ns) did1.nodes_are
+      ∙ length-set w.nodes a d1.node in
       let trace = trace_of (happened w said.Set) in
       was_set false w new _ trace h nodes b_holds room (let few = b_holds.nodes in omega (arith, few, same)) (λ running. left2)
       (met w a b cost x y may.takes may.first may.second ∙ (λ i. near_by network w a b cost x y (may.first_address i) (may.second_address i))
       ∙ (λ i. if apart i || may.room i then Err faults.Setup
       else Ok (told network (told network (set_up w) a (offered_near x q cost w.clock)) b (offered_near y p cost w.clock), trace))
-      ∙ ap (λ (v : World). Ok (told network v b (offered_near y p cost w.clock), trace)) (told_quiet (set_up w) a (offered_near x q cost w.clock) tt between (quietly (λ _. tt) d1 w.nodes a one nothing between did1))
-      ∙ ap (λ (v : World). Ok (v, trace)) (told_quiet (record (set_up w) { nodes = between }) b (offered_near y p cost w.clock) tt nodes (quietly (λ _. tt) d2 between b two nothing nodes did2))) spoken is
+      ∙ ap (λ (v : World). Ok (told network v b (offered_near y p cost w.clock), trace))
+      (told_quiet (set_up w) a (offered_near x q cost w.clock) tt between (quietly (λ _. tt) d1 w.nodes a one nothing between did1))
+      ∙ ap (λ (v : World). Ok (v, trace)) (told_quiet (record (set_up w) { nodes = between }) b (offered_near y p cost w.clock) tt nodes
+      (quietly (λ _. tt) d2 between b two nothing nodes did2))) spoken is
 
 -- # coordinator, meter
 
@@ -361,7 +394,8 @@ abbrev pub one_node_more : World → List Node → World
 one_node_more w nodes = record (set_up w) { nodes = nodes; beside = w.beside ++ nothing_beside ∷ [] }
 
 -- a node was made
-pub was_made : (w new : World) (step : Step) (x : Node) (nodes : List Node) (h : Happenings) → IsBounded w → w.events < MAX_EVENTS → length w.nodes ≤ 999 → IsUncut x
+pub was_made : (w new : World) (step : Step) (x : Node) (nodes : List Node) (h : Happenings) → IsBounded w → w.events < MAX_EVENTS → length w.nodes ≤ 999
+    → IsUncut x
     → nodes ≡ w.nodes ++ x ∷ [] → step ≡ Ok (made_node w x) → h ≡ happened w said.Made → new ≡ one_node_more w nodes → Steps true w (Ok h) new step
 was_made w new step x nodes h b room few uncut are made spoken is =
     let long : length nodes ≡ length w.nodes + 1 = ap (λ (ns : List Node). length ns) are ∙ length-append w.nodes (x ∷ []) in
@@ -372,7 +406,8 @@ was_made w new step x nodes h b room few uncut are made spoken is =
         told = spoken;
       };
       memory = tt;
-      bounds = subst IsBounded (sym is) (bounded_setup (record w { beside = w.beside ++ nothing_beside ∷ [] }) nodes (bounded_beside w _ b) room (omega (arith, few, long))
+      bounds = subst IsBounded (sym is)
+          (bounded_setup (record w { beside = w.beside ++ nothing_beside ∷ [] }) nodes (bounded_beside w _ b) room (omega (arith, few, long))
           (λ running. subst (All IsUncut) (sym are) (All-push IsUncut w.nodes x (b.uncut running) uncut)));
     }
 
@@ -417,14 +452,17 @@ room_at n room = grind (arith, nat_tests)
 pub meter_full : (w : World) (eui : Eui) (psk : Key) → true ≡ takes_setup w → 1000 ≤ length w.nodes → meter w eui psk ≡ Err faults.Setup
 meter_full w eui psk takes full = meter_by w eui psk true true (is_known w eui) (sym takes) (full_at (length w.nodes) full) refl
 
-pub meter_known : (w : World) (eui : Eui) (psk : Key) → true ≡ takes_setup w → length w.nodes < 1000 → true ≡ is_known w eui → meter w eui psk ≡ Err faults.Setup
+pub meter_known : (w : World) (eui : Eui) (psk : Key) → true ≡ takes_setup w → length w.nodes < 1000 → true ≡ is_known w eui
+    → meter w eui psk ≡ Err faults.Setup
 meter_known w eui psk takes room known = meter_by w eui psk true false true (sym takes) (room_at (length w.nodes) room) (sym known)
 
-pub makes_meter : (w : World) (eui : Eui) (psk : Key) → true ≡ takes_setup w → length w.nodes < 1000 → false ≡ is_known w eui → meter w eui psk ≡ Ok (made_node w (blank_node (Meter psk) eui))
+pub makes_meter : (w : World) (eui : Eui) (psk : Key) → true ≡ takes_setup w → length w.nodes < 1000 → false ≡ is_known w eui
+    → meter w eui psk ≡ Ok (made_node w (blank_node (Meter psk) eui))
 makes_meter w eui psk takes room unknown = meter_by w eui psk true false false (sym takes) (room_at (length w.nodes) room) (sym unknown)
 
 -- a meter was made
-pub meter_made : (w new : World) (eui : Eui) (psk : Key) (nodes : List Node) (h : Happenings) → IsBounded w → w.events < MAX_EVENTS → true ≡ takes_setup w → length w.nodes < 1000
+pub meter_made : (w new : World) (eui : Eui) (psk : Key) (nodes : List Node) (h : Happenings) → IsBounded w → w.events < MAX_EVENTS → true ≡ takes_setup w
+    → length w.nodes < 1000
     → false ≡ is_known w eui → nodes ≡ w.nodes ++ blank_node (Meter psk) eui ∷ [] → h ≡ happened w said.Made → new ≡ one_node_more w nodes
     → Steps true w (Ok h) new (meter w eui psk)
 meter_made w new eui psk nodes h b room takes few unknown are spoken is =
@@ -455,10 +493,12 @@ err_of (Err e) not_ok = (e, refl)
 
 -- # A depot as the code has it
 
-depot_found : (w : World) (number : ℕ) (x c : Node) → true ≡ takes_setup w → node_at w number ≡ Some x → node_at w 0 ≡ Some c → depot network w number ≡ depot_at network w number x c
+depot_found : (w : World) (number : ℕ) (x c : Node) → true ≡ takes_setup w → node_at w number ≡ Some x → node_at w 0 ≡ Some c
+    → depot network w number ≡ depot_at network w number x c
 unfolding depot
 depot_found w number x c takes meter first =
-    in_setup_is w _ takes ∙ at_node w number x (λ y. at_coordinator w (λ k. depot_at network w number y k)) meter ∙ at_node w 0 c (λ k. depot_at network w number x k) first
+    in_setup_is w _ takes ∙ at_node w number x (λ y. at_coordinator w (λ k. depot_at network w number y k)) meter
+    ∙ at_node w 0 c (λ k. depot_at network w number x k) first
 
 depot_when : (w : World) (number : ℕ) (x c : Node) (first joined : Bool) → (number == 0) ≡ first → is_some (node_address x) ≡ joined
     → depot_at network w number x c ≡ (if first || joined then Err faults.Setup
@@ -474,14 +514,16 @@ is_zero n is = grind (arith, nat_tests)
 pub depot_first : {w : World} {number found : ℕ} → IsThere w number found → true ≡ takes_setup w → found ≡ 0 → depot network w number ≡ Err faults.Setup
 depot_first {w} {number} there takes is =
     let c = first_there w takes in
-    depot_found w number there.node c.0 takes there.at c.1 ∙ depot_when w number there.node c.0 true (is_some (node_address there.node)) (is_zero number (sym there.same ∙ is)) refl
+    depot_found w number there.node c.0 takes there.at c.1
+    ∙ depot_when w number there.node c.0 true (is_some (node_address there.node)) (is_zero number (sym there.same ∙ is)) refl
 
 -- the meter has an address
 pub depot_joined : {w : World} {number found : ℕ} (there : IsThere w number found) (address : Option ℕ) → true ≡ takes_setup w → 1 ≤ found
     → IfSome (slice_get w.nodes found) (λ x. address ≡ node_address x) → true ≡ is_some address → depot network w number ≡ Err faults.Setup
 depot_joined {w} {number} there address takes above at is =
     let c = first_there w takes in
-    let joined : is_some (node_address there.node) ≡ true = ap (λ (o : Option ℕ). is_some o) (sym (at_there there (λ x. address ≡ node_address x) at)) ∙ sym is in
+    let joined : is_some (node_address there.node)
+    ≡ true = ap (λ (o : Option ℕ). is_some o) (sym (at_there there (λ x. address ≡ node_address x) at)) ∙ sym is in
     depot_found w number there.node c.0 takes there.at c.1
     ∙ depot_when w number there.node c.0 false true (not_first number (let same = there.same in omega (arith, above, same))) joined
 
@@ -502,24 +544,31 @@ abbrev pub AtFirst : World → Eui → Key → Result Granted CoordinatorRefusal
 AtFirst w eui psk r nodes =
     IfSome (slice_get w.nodes 0) (λ c. Did (acts c (Err orders.Halted) (λ m. coordinator_rules.depot m eui psk)) w.nodes 0 r nothing nodes)
 
-by_first : {w : World} {number found : ℕ} (there : IsThere w number found) (eui : Eui) (psk : Key) (r : Result Granted CoordinatorRefusal) (nodes : List Node) (takes : true ≡ takes_setup w)
+by_first : {w : World} {number found : ℕ} (there : IsThere w number found) (eui : Eui) (psk : Key) (r : Result Granted CoordinatorRefusal) (nodes : List Node)
+    (takes : true ≡ takes_setup w)
     → IfSome (slice_get w.nodes found) (λ x. eui ≡ x.eui) → AtFirst w eui psk r nodes
     → Did (acts (first_there w takes).0 (Err orders.Halted) (λ m. coordinator_rules.depot m there.node.eui psk)) w.nodes 0 r nothing nodes
 by_first {w} there eui psk r nodes takes own did =
-    subst (λ (e : Eui). Did (acts (first_there w takes).0 (Err orders.Halted) (λ m. coordinator_rules.depot m e psk)) w.nodes 0 r nothing nodes) (at_there there (λ x. eui ≡ x.eui) own)
-    (subst (λ o. IfSome o (λ c. Did (acts c (Err orders.Halted) (λ m. coordinator_rules.depot m eui psk)) w.nodes 0 r nothing nodes)) (first_there w takes).1 did)
+    subst (λ (e : Eui). Did (acts (first_there w takes).0 (Err orders.Halted) (λ m. coordinator_rules.depot m e psk)) w.nodes 0 r nothing nodes)
+    (at_there there (λ x. eui ≡ x.eui) own)
+    (subst (λ o. IfSome o (λ c. Did (acts c (Err orders.Halted) (λ m. coordinator_rules.depot m eui psk)) w.nodes 0 r nothing nodes)) (first_there w takes).1
+    did)
 
-pub depot_not_granted : {w : World} (new : World) {number found : ℕ} (there : IsThere w number found) (address : Option ℕ) (eui : Eui) (psk : Key) (r : Result Granted CoordinatorRefusal)
-    (nodes : List Node) → IsBounded w → true ≡ takes_setup w → 1 ≤ found → IfSome (slice_get w.nodes found) (λ x. address ≡ node_address x) → false ≡ is_some address
+pub depot_not_granted : {w : World} (new : World) {number found : ℕ} (there : IsThere w number found) (address : Option ℕ) (eui : Eui) (psk : Key)
+    (r : Result Granted CoordinatorRefusal)
+    (nodes : List Node) → IsBounded w → true ≡ takes_setup w → 1 ≤ found → IfSome (slice_get w.nodes found) (λ x. address ≡ node_address x)
+    → false ≡ is_some address
     → IfSome (slice_get w.nodes found) (λ x. eui ≡ x.eui) → IfSome (slice_get w.nodes found) (λ x. psk_of x ≡ Some psk) → AtFirst w eui psk r nodes
     → ((g : Granted) → r ≡ Ok g → ⊥) → new ≡ record w { nodes = nodes } → Steps false w (Err faults.Setup) new (depot network w number)
 depot_not_granted {w} new {number} there address eui psk r nodes b takes above at none own pair did not_ok is =
     let e = err_of r not_ok in
     was_refused w number there.node (first_there w takes).0 psk (may_depot there address psk takes above at none pair) new e.0 nodes b
-    (subst (λ (s : Result Granted CoordinatorRefusal). Did (acts (first_there w takes).0 (Err orders.Halted) (λ m. coordinator_rules.depot m there.node.eui psk)) w.nodes 0 s nothing nodes) e.1
+    (subst (λ (s : Result Granted CoordinatorRefusal). Did
+    (acts (first_there w takes).0 (Err orders.Halted) (λ m. coordinator_rules.depot m there.node.eui psk)) w.nodes 0 s nothing nodes) e.1
     (by_first there eui psk r nodes takes own did)) is
 
-pub depot_granted : {w : World} (new : World) {number found : ℕ} (there : IsThere w number found) (address : Option ℕ) (eui : Eui) (psk : Key) (r : Result Granted CoordinatorRefusal) (g : Granted)
+pub depot_granted : {w : World} (new : World) {number found : ℕ} (there : IsThere w number found) (address : Option ℕ) (eui : Eui) (psk : Key)
+    (r : Result Granted CoordinatorRefusal) (g : Granted)
     (answer : Result (Unit {0}) RingFault) (between nodes : List Node) (h : Happenings) → IsBounded w → w.events < MAX_EVENTS → true ≡ takes_setup w → 1 ≤ found
     → IfSome (slice_get w.nodes found) (λ x. address ≡ node_address x) → false ≡ is_some address
     → IfSome (slice_get w.nodes found) (λ x. eui ≡ x.eui) → IfSome (slice_get w.nodes found) (λ x. psk_of x ≡ Some psk) → AtFirst w eui psk r between → r ≡ Ok g
@@ -527,12 +576,15 @@ pub depot_granted : {w : World} (new : World) {number found : ℕ} (there : IsTh
     → h ≡ happened w said.Joined → new ≡ record (set_up w) { nodes = nodes } → Steps false w (Ok h) new (depot network w number)
 depot_granted {w} new {number} there address eui psk r g answer between nodes h b room takes above at none own pair did ok second spoken is =
     was_joined w number there.node (first_there w takes).0 psk (may_depot there address psk takes above at none pair) new g answer between nodes h b room
-    (subst (λ (s : Result Granted CoordinatorRefusal). Did (acts (first_there w takes).0 (Err orders.Halted) (λ m. coordinator_rules.depot m there.node.eui psk)) w.nodes 0 s nothing between) ok
+    (subst (λ (s : Result Granted CoordinatorRefusal). Did
+    (acts (first_there w takes).0 (Err orders.Halted) (λ m. coordinator_rules.depot m there.node.eui psk)) w.nodes 0 s nothing between) ok
     (by_first there eui psk r between takes own did))
-    (subst (λ n. IfSome (slice_get between n) (λ y. Did (acts y (Ok tt) (λ m. meters.provision m g)) between n answer nothing nodes)) there.same second) spoken is
+    (subst (λ n. IfSome (slice_get between n) (λ y. Did (acts y (Ok tt) (λ m. meters.provision m g)) between n answer nothing nodes)) there.same second) spoken
+    is
 
 -- the list of nodes is as long as before
-pub as_long : (w : World) (eui : Eui) (psk : Key) (r : Result Granted CoordinatorRefusal) (between : List Node) → true ≡ takes_setup w → AtFirst w eui psk r between → length between ≡ length w.nodes
+pub as_long : (w : World) (eui : Eui) (psk : Key) (r : Result Granted CoordinatorRefusal) (between : List Node) → true ≡ takes_setup w
+    → AtFirst w eui psk r between → length between ≡ length w.nodes
 as_long w eui psk r between takes did =
     let c = first_there w takes in
     let d : Did (acts c.0 (Err orders.Halted) (λ m. coordinator_rules.depot m eui psk)) w.nodes 0 r nothing between =
@@ -567,21 +619,29 @@ pub record HaveAddresses {w : World} {a b x y : ℕ} (there : IsThere w a x) (he
   pub second : node_address here.node ≡ Some q
 
 pub have_addresses : {w : World} {a b x y : ℕ} (there : IsThere w a x) (here : IsThere w b y) (p q : ℕ) (first second : Option ℕ)
-    → IfSome (slice_get w.nodes x) (λ n. first ≡ node_address n) → first ≡ Some p → IfSome (slice_get w.nodes y) (λ n. second ≡ node_address n) → second ≡ Some q
+    → IfSome (slice_get w.nodes x) (λ n. first ≡ node_address n) → first ≡ Some p → IfSome (slice_get w.nodes y) (λ n. second ≡ node_address n)
+    → second ≡ Some q
     → HaveAddresses there here p q
 have_addresses there here p q first second at_first is_first at_second is_second = record {
   first = sym (at_there there (λ n. first ≡ node_address n) at_first) ∙ is_first;
   second = sym (at_there here (λ n. second ≡ node_address n) at_second) ∙ is_second;
 }
 
-near_when : {w : World} {a b x y : ℕ} (there : IsThere w a x) (here : IsThere w b y) (cost p q : ℕ) (same full : Bool) → true ≡ takes_setup w → HaveAddresses there here p q
+near_when : {w : World} {a b x y : ℕ} (there : IsThere w a x) (here : IsThere w b y) (cost p q : ℕ) (same full : Bool) → true ≡ takes_setup w
+    → HaveAddresses there here p q
     → (a == b) ≡ same → (keeps_rank there.node q || (ranks_full there.node || ranks_full here.node)) ≡ full
     → near network w a b cost ≡ (if same || full then Err faults.Setup
-    else Ok (told network (told network (set_up w) a (offered_near there.node q cost w.clock)) b (offered_near here.node p cost w.clock), trace_of (happened w said.Set)))
+    else Ok (
+      told network (told network (set_up w) a (offered_near there.node q cost w.clock)) b (offered_near here.node p cost w.clock),
+      trace_of (happened w said.Set),
+    ))
 near_when {w} {a} {b} there here cost p q same full takes have s f =
     near_met there here cost takes ∙ (λ i. near_by network w a b cost there.node here.node (have.first i) (have.second i))
     ∙ (λ i. if s i || f i then Err faults.Setup
-    else Ok (told network (told network (set_up w) a (offered_near there.node q cost w.clock)) b (offered_near here.node p cost w.clock), trace_of (happened w said.Set)))
+    else Ok (
+      told network (told network (set_up w) a (offered_near there.node q cost w.clock)) b (offered_near here.node p cost w.clock),
+      trace_of (happened w said.Set),
+    ))
 
 is_same : (a b : ℕ) → a ≡ b → (a == b) ≡ true
 is_same a b is = grind (arith, nat_tests)
@@ -590,7 +650,8 @@ or_full : (b : Bool) → (b || true) ≡ true
 or_full true = refl
 or_full false = refl
 
-pub near_itself : {w : World} {a b x y : ℕ} (there : IsThere w a x) (here : IsThere w b y) (cost p q : ℕ) → true ≡ takes_setup w → HaveAddresses there here p q → a ≡ b
+pub near_itself : {w : World} {a b x y : ℕ} (there : IsThere w a x) (here : IsThere w b y) (cost p q : ℕ) → true ≡ takes_setup w → HaveAddresses there here p q
+    → a ≡ b
     → near network w a b cost ≡ Err faults.Setup
 near_itself {w} {a} {b} there here cost p q takes have same = near_when there here cost p q true _ takes have (is_same a b same) refl
 
@@ -607,17 +668,24 @@ full_is : {w : World} {a b x y : ℕ} (there : IsThere w a x) (here : IsThere w 
 full_is {w} {a} {b} {x} {y} there here to r can =
     let at : IfSome (slice_get w.nodes y) (λ n. r ≡ not (keeps_rank there.node to || (ranks_full there.node || ranks_full n))) =
     at_there there (λ m. IfSome (slice_get w.nodes y) (λ n. r ≡ not (keeps_rank m to || (ranks_full m || ranks_full n)))) can in
-    let is : r ≡ not (keeps_rank there.node to || (ranks_full there.node || ranks_full here.node)) = at_there here (λ n. r ≡ not (keeps_rank there.node to || (ranks_full there.node || ranks_full n))) at in
+    let is : r ≡ not (keeps_rank there.node to || (ranks_full there.node || ranks_full here.node)) = at_there here
+    (λ n. r ≡ not (keeps_rank there.node to || (ranks_full there.node || ranks_full n))) at in
     sym (not_not _) ∙ ap (λ (t : Bool). not t) (sym is)
 
-pub near_full : {w : World} {a b x y : ℕ} (there : IsThere w a x) (here : IsThere w b y) (cost p q : ℕ) (r : Bool) → true ≡ takes_setup w → HaveAddresses there here p q
+pub near_full : {w : World} {a b x y : ℕ} (there : IsThere w a x) (here : IsThere w b y) (cost p q : ℕ) (r : Bool) → true ≡ takes_setup w
+    → HaveAddresses there here p q
     → CanMeet w x y q r → r ≡ false → near network w a b cost ≡ Err faults.Setup
 near_full {w} {a} {b} there here cost p q r takes have can is =
     near_when there here cost p q _ true takes have refl (full_is there here q r can ∙ ap (λ (t : Bool). not t) is)
-    ∙ ap (λ (t : Bool). if t then Err faults.Setup else Ok (told network (told network (set_up w) a (offered_near there.node q cost w.clock)) b (offered_near here.node p cost w.clock), trace_of (happened w said.Set)))
+    ∙ ap (λ (t : Bool). if t then Err faults.Setup
+    else Ok (
+      told network (told network (set_up w) a (offered_near there.node q cost w.clock)) b (offered_near here.node p cost w.clock),
+      trace_of (happened w said.Set),
+    ))
     (or_full (a == b))
 
-pub near_done : {w : World} (new : World) {a b x y : ℕ} (there : IsThere w a x) (here : IsThere w b y) (cost p q : ℕ) (r : Bool) (one two : Result (Unit {0}) PresetFault) (between nodes : List Node)
+pub near_done : {w : World} (new : World) {a b x y : ℕ} (there : IsThere w a x) (here : IsThere w b y) (cost p q : ℕ) (r : Bool)
+    (one two : Result (Unit {0}) PresetFault) (between nodes : List Node)
     (h : Happenings) → IsBounded w → w.events < MAX_EVENTS → true ≡ takes_setup w → HaveAddresses there here p q → a ≢ b → CanMeet w x y q r → r ≡ true
     → IfSome (slice_get w.nodes x) (λ n. Did (acts n (Ok tt) (λ m. of_station m (calls.preset_near m.station q cost w.clock))) w.nodes x one nothing between)
     → IfSome (slice_get between y) (λ n. Did (acts n (Ok tt) (λ m. of_station m (calls.preset_near m.station p cost w.clock))) between y two nothing nodes)
@@ -634,8 +702,10 @@ near_done {w} new {a} {b} {x} {y} there here cost p q r one two between nodes h 
       room = full_is there here q r can ∙ ap (λ (t : Bool). not t) is_true;
     })
     new one two between nodes h bounds room
-    (subst (λ n. IfSome (slice_get w.nodes n) (λ k. Did (acts k (Ok tt) (λ m. of_station m (calls.preset_near m.station q cost w.clock))) w.nodes n one nothing between)) there.same first)
-    (subst (λ n. IfSome (slice_get between n) (λ k. Did (acts k (Ok tt) (λ m. of_station m (calls.preset_near m.station p cost w.clock))) between n two nothing nodes)) here.same second)
+    (subst (λ n. IfSome (slice_get w.nodes n)
+    (λ k. Did (acts k (Ok tt) (λ m. of_station m (calls.preset_near m.station q cost w.clock))) w.nodes n one nothing between)) there.same first)
+    (subst (λ n. IfSome (slice_get between n)
+    (λ k. Did (acts k (Ok tt) (λ m. of_station m (calls.preset_near m.station p cost w.clock))) between n two nothing nodes)) here.same second)
     spoken is
 
 pub near_long : {w : World} {a x : ℕ} (there : IsThere w a x) (cost to : ℕ) (one : Result (Unit {0}) PresetFault) (between : List Node)

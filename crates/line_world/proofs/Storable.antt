@@ -25,7 +25,8 @@ is_below role s sound = by s.memory sound.agrees
     by (Some m) a = a.station.counter.below
 
 -- of each meter
-pub meters_are : (P : Node → Type 0) → ((m : MeterState) → IsSoundMeter m → P (of_meter m)) → (ms : List MeterState) → All IsSoundMeter ms → All P (map of_meter ms)
+pub meters_are : (P : Node → Type 0) → ((m : MeterState) → IsSoundMeter m → P (of_meter m)) → (ms : List MeterState) → All IsSoundMeter ms
+    → All P (map of_meter ms)
 meters_are P one ms sound = All-map P of_meter ms (λ i d within. one _ (sound i d within))
 
 -- of each node

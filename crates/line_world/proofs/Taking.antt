@@ -1,5 +1,6 @@
 -- How an event is taken: why it is not, and what a node's step makes of the world.
-use Rattle.std.proofs.Common.{◌≡◌, ℕ, suc, ◌+◌, ◌<◌, ◌≤◌, Bool, true, false, List, [], ◌∷◌, ◌++◌, length, map, Option, Some, None, Result, Ok, Err, refl, sym, ap, subst, ◌∙◌, if◌then◌else◌, arith}
+use Rattle.std.proofs.Common.{◌≡◌, ℕ, suc, ◌+◌, ◌<◌, ◌≤◌, Bool, true, false, List, [], ◌∷◌, ◌++◌, length, map, Option, Some, None, Result, Ok, Err, refl, sym}
+use Rattle.std.proofs.Common.{ap, subst, ◌∙◌, if◌then◌else◌, arith}
 use Rattle.std.specs.Prelude.{IfSome, IsOk, is_some, slice_get, slice_set}
 use Rattle.std.specs.Option.{option_map_or}
 use Rattle.std.proofs.lemmas.List.{append-nil, length-append, length-set}
@@ -24,7 +25,8 @@ use Rattle.line_world.specs.Steps.{Gives, HasMemory, Steps, has_address, is_memo
 
 -- # Events that are not taken
 
-pub refused : (fault : StepFault) → is_memory fault ≡ false → (takes : Bool) (w : World) (step : Step) → IsBounded w → step ≡ Err fault → Steps takes w (Err fault) w step
+pub refused : (fault : StepFault) → is_memory fault ≡ false → (takes : Bool) (w : World) (step : Step) → IsBounded w → step ≡ Err fault
+    → Steps takes w (Err fault) w step
 refused fault plain takes w step bounds is = record { gives = by fault plain is; memory = by_kind takes; bounds = bounds }
   where
     by : (f : StepFault) → is_memory f ≡ false → step ≡ Err f → Gives w (Err f) w step
@@ -42,7 +44,8 @@ pub out_of_memory : (w new : World) (step : Step) → IsBounded w → new ≡ w 
 out_of_memory w new step bounds same taken = record { gives = (taken, same); memory = tt; bounds = subst IsBounded (sym same) bounds }
 
 -- so it did where none could be reserved
-pub unreserved : (w new : World) (step : Step) (fault : StepFault) → IsBounded w → new ≡ w → IsOk step → ◌≡◌ {A = Result (Unit {0}) StepFault} (Err fault) (Err faults.Memory)
+pub unreserved : (w new : World) (step : Step) (fault : StepFault) → IsBounded w → new ≡ w → IsOk step
+    → ◌≡◌ {A = Result (Unit {0}) StepFault} (Err fault) (Err faults.Memory)
     → Steps true w (Err fault) new step
 unreserved w new step fault bounds same taken is =
     let memory : faults.Memory ≡ fault = cc in
@@ -53,7 +56,8 @@ pub taking : {takes : Bool} {w new : World} {r : Result Happenings StepFault} {s
 taking {takes} {w} {new} {r} {step} is s = subst (λ (b : Bool). Steps b w r new step) (sym is) s
 
 -- the same of a step by another name
-pub steps_as : {takes : Bool} {w new : World} {r : Result Happenings StepFault} (named step : Step) → named ≡ step → Steps takes w r new step → Steps takes w r new named
+pub steps_as : {takes : Bool} {w new : World} {r : Result Happenings StepFault} (named step : Step) → named ≡ step → Steps takes w r new step
+    → Steps takes w r new named
 steps_as {takes} {w} {new} {r} named step is s = subst (λ (it : Step). Steps takes w r new it) (sym is) s
 
 -- # The tests before a step
@@ -77,20 +81,24 @@ pub record IsThere (w : World) (number found : ℕ) : Type 0 where
 pub is_there : (w : World) (number at : ℕ) → Ok at ≡ found w number → IsThere w number at
 is_there w number at is = by (node_at w number) refl (once (has_begun w) is)
   where
-    once : (b : Bool) → ◌≡◌ {A = Result ℕ StepFault} (Ok at) (if b then option_map_or (λ (x : Node). Ok number) (node_at w number) (Err faults.Node) else Err faults.Setup)
+    once : (b : Bool) → ◌≡◌ {A = Result ℕ StepFault} (Ok at)
+        (if b then option_map_or (λ (x : Node). Ok number) (node_at w number) (Err faults.Node) else Err faults.Setup)
         → ◌≡◌ {A = Result ℕ StepFault} (Ok at) (option_map_or (λ (x : Node). Ok number) (node_at w number) (Err faults.Node))
     once true h = h
     once false h = absurd (cc)
 
-    by : (o : Option Node) → node_at w number ≡ o → ◌≡◌ {A = Result ℕ StepFault} (Ok at) (option_map_or (λ (x : Node). Ok number) o (Err faults.Node)) → IsThere w number at
+    by : (o : Option Node) → node_at w number ≡ o → ◌≡◌ {A = Result ℕ StepFault} (Ok at) (option_map_or (λ (x : Node). Ok number) o (Err faults.Node))
+        → IsThere w number at
     by None e h = absurd (cc)
-    by (Some x) e h = let same : at ≡ number = cc in record { node = x; at = e; same = same; within = subst (λ n. n < length w.nodes) (sym same) (slice_get_within w.nodes number x e) }
+    by (Some x) e h = let same : at ≡ number = cc in
+        record { node = x; at = e; same = same; within = subst (λ n. n < length w.nodes) (sym same) (slice_get_within w.nodes number x e) }
 
 -- and there is a coordinator then
 pub has_coordinator : (w : World) (number at : ℕ) → Ok at ≡ found w number → true ≡ has_begun w
 has_coordinator w number at is = by (has_begun w) is
   where
-    by : (b : Bool) → ◌≡◌ {A = Result ℕ StepFault} (Ok at) (if b then option_map_or (λ (x : Node). Ok number) (node_at w number) (Err faults.Node) else Err faults.Setup) → true ≡ b
+    by : (b : Bool) → ◌≡◌ {A = Result ℕ StepFault} (Ok at)
+        (if b then option_map_or (λ (x : Node). Ok number) (node_at w number) (Err faults.Node) else Err faults.Setup) → true ≡ b
     by true h = refl
     by false h = absurd (cc)
 
@@ -99,14 +107,18 @@ pub not_found : (takes : Bool) (w : World) (number : ℕ) (k : Node → Step) (f
     → Steps takes w (Err fault) w (once_begun w (on_node w number k))
 not_found takes w number k fault bounds is = by (has_begun w) (node_at w number) is
   where
-    by : (b : Bool) (o : Option Node) → ◌≡◌ {A = Result ℕ StepFault} (Err fault) (if b then option_map_or (λ (x : Node). Ok number) o (Err faults.Node) else Err faults.Setup)
+    by : (b : Bool) (o : Option Node)
+        → ◌≡◌ {A = Result ℕ StepFault} (Err fault) (if b then option_map_or (λ (x : Node). Ok number) o (Err faults.Node) else Err faults.Setup)
         → Steps takes w (Err fault) w (if b then option_map_or k o (Err faults.Node) else Err faults.Setup)
-    by false o h = let same : fault ≡ faults.Setup = cc in refused fault (ap is_memory same) takes w (Err faults.Setup) bounds (ap (λ (f : StepFault). Err f) (sym same))
-    by true None h = let same : fault ≡ faults.Node = cc in refused fault (ap is_memory same) takes w (Err faults.Node) bounds (ap (λ (f : StepFault). Err f) (sym same))
+    by false o h =
+        let same : fault ≡ faults.Setup = cc in refused fault (ap is_memory same) takes w (Err faults.Setup) bounds (ap (λ (f : StepFault). Err f) (sym same))
+    by true None h =
+        let same : fault ≡ faults.Node = cc in refused fault (ap is_memory same) takes w (Err faults.Node) bounds (ap (λ (f : StepFault). Err f) (sym same))
     by true (Some x) h = absurd (cc)
 
 -- nor one of a second node that was not found
-pub second_not_found : (takes : Bool) (w : World) (number at other : ℕ) (k : Node → Node → Step) (fault : StepFault) → IsBounded w → Ok at ≡ found w number → Err fault ≡ found w other
+pub second_not_found : (takes : Bool) (w : World) (number at other : ℕ) (k : Node → Node → Step) (fault : StepFault) → IsBounded w → Ok at ≡ found w number
+    → Err fault ≡ found w other
     → Steps takes w (Err fault) w (once_begun w (on_node w number (λ x. on_node w other (k x))))
 second_not_found takes w number at other k fault bounds first is =
     let there = is_there w number at first in
@@ -119,7 +131,8 @@ pub told_of : {w : World} {number found : ℕ} (there : IsThere w number found) 
 told_of {w} {number} {found} there P is = subst (λ (o : Option Node). IfSome o P) (ap (λ n. slice_get w.nodes n) there.same ∙ there.at) is
 
 -- a node that was found and has an address
-pub addressed : {w : World} {number found : ℕ} (there : IsThere w number found) (address : ℕ) → IfSome (slice_get w.nodes found) (λ x. ◌≡◌ {A = Option ℕ} (Some address) (node_address x))
+pub addressed : {w : World} {number found : ℕ} (there : IsThere w number found) (address : ℕ)
+    → IfSome (slice_get w.nodes found) (λ x. ◌≡◌ {A = Option ℕ} (Some address) (node_address x))
     → has_address w number ≡ true
 addressed {w} {number} {found} there address at =
     ap (λ (o : Option Node). option_map_or (λ (x : Node). is_some (node_address x)) o false) there.at
@@ -127,7 +140,8 @@ addressed {w} {number} {found} there address at =
 
 -- # What a node's step makes of the world
 
-flown : (number : ℕ) (frames : List Sent) → map (λ frame. flight_by number (spelled network frame)) frames ≡ map (flight_by number) (map (spelled network) frames)
+flown : (number : ℕ) (frames : List Sent)
+    → map (λ frame. flight_by number (spelled network frame)) frames ≡ map (flight_by number) (map (spelled network) frames)
 flown number [] = refl
 flown number (x ∷ xs) = ap (λ (l : List Flight). flight_by number (spelled network x) ∷ l) (flown number xs)
 
@@ -136,11 +150,13 @@ abbrev pub after : World → ℕ → List Node → Out → World
 after w number nodes out =
     record w { nodes = nodes; flights = w.flights ++ map (flight_by number) out.frames; made = w.made ++ out.tags.made }
 
-pub told_as : {A : Type 0} (w : World) (number : ℕ) (d : NodeStep A) (nodes : List Node) (out : Out) → out ≡ given_by d → nodes ≡ slice_set w.nodes number d.node
+pub told_as : {A : Type 0} (w : World) (number : ℕ) (d : NodeStep A) (nodes : List Node) (out : Out) → out ≡ given_by d
+    → nodes ≡ slice_set w.nodes number d.node
     → told network w number d ≡ after w number nodes out
 unfolding told
 told_as w number d nodes out o n =
-    let frames : flights_of network number d ≡ map (flight_by number) out.frames = flown number d.frames ∙ ap (λ (x : Out). map (flight_by number) x.frames) (sym o) in
+    let frames : flights_of network number d
+    ≡ map (flight_by number) out.frames = flown number d.frames ∙ ap (λ (x : Out). map (flight_by number) x.frames) (sym o) in
     let tags : d.made ≡ out.tags.made = ap (λ (x : Out). x.tags.made) (sym o) in
     λ i. record w { nodes = sym n i; flights = w.flights ++ frames i; made = w.made ++ tags i }
 
@@ -155,7 +171,8 @@ bounded_after w number nodes out b room same frames tags = record {
   events = let e = room in omega (arith, e);
   clock = let e = b.clock in omega (arith, e);
   nodes = let e = b.nodes in omega (arith, e, same);
-  flights = let e = b.flights in omega (arith, e, frames, length-append w.flights (map (flight_by number) out.frames), many_given (flight_by number) out.frames);
+  flights =
+      let e = b.flights in omega (arith, e, frames, length-append w.flights (map (flight_by number) out.frames), many_given (flight_by number) out.frames);
   made = let e = b.made in omega (arith, e, tags, length-append w.made out.tags.made);
   sends = let e = b.sends in omega (arith, e);
   ups = let e = b.ups in omega (arith, e);
@@ -167,7 +184,8 @@ bounded_after w number nodes out b room same frames tags = record {
 -- # An event at which one node acted
 
 -- what is said and what is left of an event, where a node that was found did this
-pub node_acted : {A : Type 0} (takes : Bool) (w new : World) {number found : ℕ} (there : IsThere w number found) (k : Node → NodeStep A) (word : A → Answer) (answer : A) (out : Out)
+pub node_acted : {A : Type 0} (takes : Bool) (w new : World) {number found : ℕ} (there : IsThere w number found) (k : Node → NodeStep A) (word : A → Answer)
+    (answer : A) (out : Out)
     (nodes : List Node) (h : Happenings) → IsBounded w → w.events < MAX_EVENTS → length out.frames ≤ 24 → length out.tags.made ≤ 2
     → IfSome (slice_get w.nodes found) (λ y. Did (k y) w.nodes found answer out nodes) → h ≡ record (happened w (word answer)) { flights = length out.frames }
     → new ≡ after (ran w) found nodes out → Steps takes w (Ok h) new (Ok (acted network w number (answering word (k there.node))))
@@ -176,7 +194,8 @@ node_acted takes w new {number} {found} there k word answer out nodes h b room f
     let at : slice_get w.nodes found ≡ Some x = ap (λ n. slice_get w.nodes n) there.same ∙ there.at in
     let d : Did (k x) w.nodes found answer out nodes = subst (λ o. IfSome o (λ y. Did (k y) w.nodes found answer out nodes)) at did in
     let left : told network (ran w) number (answering word (k x)) ≡ new =
-    ap (λ n. told network (ran w) n (answering word (k x))) (sym there.same) ∙ told_as (ran w) found (answering word (k x)) nodes out d.out_is d.nodes_are ∙ sym is in
+    ap (λ n. told network (ran w) n (answering word (k x))) (sym there.same) ∙ told_as (ran w) found (answering word (k x)) nodes out d.out_is d.nodes_are
+    ∙ sym is in
     let count : length out.frames ≡ length (k x).frames = ap (λ (o : Out). length o.frames) d.out_is ∙ many_given (spelled network) (k x).frames in
     let same : length nodes ≡ length w.nodes = ap (λ (ns : List Node). length ns) d.nodes_are ∙ length-set w.nodes found (k x).node in
     record {
@@ -194,15 +213,19 @@ node_acted takes w new {number} {found} there k word answer out nodes h b room f
     by false = tt
 
 -- the same where nothing was given out
-pub node_answered : {A : Type 0} (takes : Bool) (w new : World) {number found : ℕ} (there : IsThere w number found) (k : Node → NodeStep A) (word : A → Answer) (answer : A)
-    (nodes : List Node) (h : Happenings) → IsBounded w → w.events < MAX_EVENTS → IfSome (slice_get w.nodes found) (λ y. Did (k y) w.nodes found answer nothing nodes)
-    → h ≡ happened w (word answer) → new ≡ record (ran w) { nodes = nodes } → Steps takes w (Ok h) new (Ok (acted network w number (answering word (k there.node))))
+pub node_answered : {A : Type 0} (takes : Bool) (w new : World) {number found : ℕ} (there : IsThere w number found) (k : Node → NodeStep A) (word : A → Answer)
+    (answer : A)
+    (nodes : List Node) (h : Happenings) → IsBounded w → w.events < MAX_EVENTS
+    → IfSome (slice_get w.nodes found) (λ y. Did (k y) w.nodes found answer nothing nodes)
+    → h ≡ happened w (word answer) → new ≡ record (ran w) { nodes = nodes }
+    → Steps takes w (Ok h) new (Ok (acted network w number (answering word (k there.node))))
 node_answered takes w new there k word answer nodes h b room did said is =
     node_acted takes w new there k word answer nothing nodes h b room (omega arith) (omega arith) did said
     (is ∙ (λ i. record (ran w) { nodes = nodes; flights = sym (append-nil w.flights) i; made = sym (append-nil w.made) i }))
 
 -- the same where the node answers a word of the report itself
-pub node_said : (takes : Bool) (w new : World) {number found : ℕ} (there : IsThere w number found) (k : Node → NodeStep Answer) (answer : Answer) (nodes : List Node) (h : Happenings)
+pub node_said : (takes : Bool) (w new : World) {number found : ℕ} (there : IsThere w number found) (k : Node → NodeStep Answer) (answer : Answer)
+    (nodes : List Node) (h : Happenings)
     → IsBounded w → w.events < MAX_EVENTS → IfSome (slice_get w.nodes found) (λ y. Did (k y) w.nodes found answer nothing nodes) → h ≡ happened w answer
     → new ≡ record (ran w) { nodes = nodes } → Steps takes w (Ok h) new (Ok (acted network w number (k there.node)))
 node_said takes w new there k answer nodes h b room did said is =
@@ -211,7 +234,8 @@ node_said takes w new there k answer nodes h b room did said is =
 -- # An event at which no node acted
 
 -- the bounds after an event of no setup kind, by what it changed of the world beside counting itself
-pub bounded_by : (w : World) (clock : ℕ) (nodes : List Node) (flights : List Flight) → IsBounded w → w.events < MAX_EVENTS → clock < w.clock + 4294967296 → length nodes ≡ length w.nodes
+pub bounded_by : (w : World) (clock : ℕ) (nodes : List Node) (flights : List Flight) → IsBounded w → w.events < MAX_EVENTS → clock < w.clock + 4294967296
+    → length nodes ≡ length w.nodes
     → length flights ≡ length w.flights → IsBounded (record (ran w) { clock = clock; nodes = nodes; flights = flights })
 bounded_by w clock nodes flights b room time same flown = record {
   events = let e = room in omega (arith, e);
@@ -227,15 +251,18 @@ bounded_by w clock nodes flights b room time same flown = record {
 }
 
 -- an event that was taken, by the world that it left and what is said of it
-pub is_taken_so : (takes : Bool) (w new : World) (step : Step) (trace : Trace) (h : Happenings) → step ≡ Ok (new, trace) → h ≡ trace.happened → IsBounded new → Steps takes w (Ok h) new step
-is_taken_so takes w new step trace h taken said bounds = record { gives = record { trace = trace; taken = taken; told = said }; memory = by takes; bounds = bounds }
+pub is_taken_so : (takes : Bool) (w new : World) (step : Step) (trace : Trace) (h : Happenings) → step ≡ Ok (new, trace) → h ≡ trace.happened → IsBounded new
+    → Steps takes w (Ok h) new step
+is_taken_so takes w new step trace h taken said bounds =
+    record { gives = record { trace = trace; taken = taken; told = said }; memory = by takes; bounds = bounds }
   where
     by : (t : Bool) → HasMemory t (Ok h)
     by true = tt
     by false = tt
 
 -- an event that changes nothing but what it counts
-pub only_ran : (takes : Bool) (w new : World) (trace : Trace) (h : Happenings) → IsBounded w → w.events < MAX_EVENTS → h ≡ trace.happened → new ≡ ran w → Steps takes w (Ok h) new (Ok (ran w, trace))
+pub only_ran : (takes : Bool) (w new : World) (trace : Trace) (h : Happenings) → IsBounded w → w.events < MAX_EVENTS → h ≡ trace.happened → new ≡ ran w
+    → Steps takes w (Ok h) new (Ok (ran w, trace))
 only_ran takes w new trace h b room said is =
     is_taken_so takes w new (Ok (ran w, trace)) trace h (λ i. Ok (sym is i, trace)) said
     (subst IsBounded (sym is) (bounded_by w w.clock w.nodes w.flights b room (omega arith) refl refl))

@@ -52,7 +52,8 @@ module _ (l : StationMemory) (cost note now : ℕ) where
   drop_unread = refl
 
   by_code : (own from : ℕ) (all : Bool) (code : ℕ) (body : List ℕ) (t : Bool) → IsSome (if t then message_in body else None)
-      → unread (choose t (hear_message_in l own from all cost now (message_in body)) (choose (code == 2) (drop_it l BadUnit) (resting l (Ok (heard.Local from all code body)) (Err Store)))).answer ≡ None
+      → unread (choose t (hear_message_in l own from all cost now (message_in body))
+      (choose (code == 2) (drop_it l BadUnit) (resting l (Ok (heard.Local from all code body)) (Err Store)))).answer ≡ None
   unfolding choose
   by_code own from all code body true is = own_unread _ (message_in_own l own from all cost now (message_in body))
   by_code own from all code body false is = absurd (cc)
@@ -70,7 +71,8 @@ module _ (l : StationMemory) (cost note now : ℕ) where
       by_one true e some = let one = eqb-true code 1 e in ne_eqb code 2 (λ two. omega (arith, one, two))
       by_one false e some = absurd (cc)
 
-  plain_unread : (answer : List ℕ → Heard) (code : ℕ) (body : List ℕ) (t : Bool) → t ≡ false → unread (hear_plain l answer (if t then Some body else None)).answer ≡ None
+  plain_unread : (answer : List ℕ → Heard) (code : ℕ) (body : List ℕ) (t : Bool) → t ≡ false
+      → unread (hear_plain l answer (if t then Some body else None)).answer ≡ None
   plain_unread answer code body true e = absurd (cc)
   plain_unread answer code body false e = drop_unread
 
@@ -89,14 +91,16 @@ module _ (l : StationMemory) (cost note now : ℕ) where
 -- # The reply of a step
 
 -- the reply that a plan sent is among the frames of its step
-acts_reply : {A : Type 0} (x : Node) (halted : A) (p : Memory → Plan Memory A) (m : Memory) → x.memory ≡ Some m → reply_sent (p m) (acts x halted p).node.memory ≡ reply_among (acts x halted p).frames
+acts_reply : {A : Type 0} (x : Node) (halted : A) (p : Memory → Plan Memory A) (m : Memory) → x.memory ≡ Some m
+    → reply_sent (p m) (acts x halted p).node.memory ≡ reply_among (acts x halted p).frames
 unfolding acts carry_out
 acts_reply {A} x halted p m e =
     subst (λ (o : Option Memory). reply_sent (p m) (option_map_or (λ n. left_by x (carry_out x.store.records x.store.cut (p n))) o (stays x halted)).node.memory
     ≡ reply_among (option_map_or (λ n. left_by x (carry_out x.store.records x.store.cut (p n))) o (stays x halted)).frames) (sym e)
     (by (write (p m).puts x.store.cut x.store.records) (write (p m).puts x.store.cut x.store.records).whole)
   where
-    by : (w : Written) (whole : Bool) → reply_sent (p m) (if whole then finished w (p m) else cut_off w (p m)).memory ≡ reply_among (if whole then finished w (p m) else cut_off w (p m)).frames
+    by : (w : Written) (whole : Bool) → reply_sent (p m) (if whole then finished w (p m) else cut_off w (p m)).memory
+        ≡ reply_among (if whole then finished w (p m) else cut_off w (p m)).frames
     by w true = refl
     by w false = refl
 
@@ -116,9 +120,11 @@ same_reply (Some a) None e = absurd (cc)
 same_reply (Some a) (Some z) e = ap (λ (o : Option (ℕ × ℕ × ℕ)). option_map (λ (t : ℕ × ℕ × ℕ). record { to = t.0; number = t.1; origin = t.2 }) o) e
 
 -- what a node tells of the reply that its station sent
-pub told_reply : {A : Type 0} (x : Node) (halted : A) (p : Memory → Plan Memory A) (m : Memory) (left : Option Memory) (last told : Option Reply) → x.memory ≡ Some m → left ≡ (acts x halted p).node.memory
+pub told_reply : {A : Type 0} (x : Node) (halted : A) (p : Memory → Plan Memory A) (m : Memory) (left : Option Memory) (last told : Option Reply)
+    → x.memory ≡ Some m → left ≡ (acts x halted p).node.memory
     → last ≡ reply_sent (p m) left → parts_of told ≡ parts_of last → told ≡ reply_among (acts x halted p).frames
-told_reply x halted p m left last told there after is same = same_reply told last same ∙ is ∙ ap (λ (o : Option Memory). reply_sent (p m) o) after ∙ acts_reply x halted p m there
+told_reply x halted p m left last told there after is same =
+    same_reply told last same ∙ is ∙ ap (λ (o : Option Memory). reply_sent (p m) o) after ∙ acts_reply x halted p m there
 
 -- what is told beside the reply
 pub tells_with : (word told : Reception) (replied : Option Reply) (r : rules.Reception) → told ≡ record word { replied = replied } → Tells word r → Tells told r

@@ -41,13 +41,16 @@ use Rattle.node_rules.specs.declared.refusal.Dropped.TheVariants as drops
 use Rattle.node_rules.specs.Calls.{idled}
 use Rattle.node_rules.specs.Ciphers.{network}
 use Rattle.node_rules.specs.Coordinators as coordinators
-use Rattle.node_rules.specs.Drafts.{Draft, StationPlace, Ends, body_goes, checked, choose, empty_draft, goes, is_awaited, letters, seeks, seeks_once, sealed_by, sealing_key, sets_out, waits, with_own_number, with_ring}
+use Rattle.node_rules.specs.Drafts.{Draft, StationPlace, Ends, body_goes, checked, choose, empty_draft, goes, is_awaited, letters, seeks, seeks_once, sealed_by}
+use Rattle.node_rules.specs.Drafts.{sealing_key, sets_out, waits, with_own_number, with_ring}
 use Rattle.node_rules.specs.Frames.{Sent, Up, Down, to_all}
 use Rattle.node_rules.specs.Hearing as stations
 use Rattle.node_rules.specs.Hearing.{dropped}
 use Rattle.node_rules.specs.Joining.{command_of, message, server_for}
-use Rattle.node_rules.specs.Memory.{ByAgent, ByCommand, Coordinator, CoordinatorSession, Course, Memory, Meter, MeterSession, Node, Role, StationMemory, address_of, next_hop}
-use Rattle.node_rules.specs.MemoryDrafts.{Unread, goes_down, goes_up, in_memory, is_commanded, oldest, on_station, packet_fault, station_part, unread, with_memory_by, with_pair_tags}
+use Rattle.node_rules.specs.Memory.{ByAgent, ByCommand, Coordinator, CoordinatorSession, Course, Memory, Meter, MeterSession, Node, Role, StationMemory}
+use Rattle.node_rules.specs.Memory.{address_of, next_hop}
+use Rattle.node_rules.specs.MemoryDrafts.{Unread, goes_down, goes_up, in_memory, is_commanded, oldest, on_station, packet_fault, station_part, unread}
+use Rattle.node_rules.specs.MemoryDrafts.{with_memory_by, with_pair_tags}
 use Rattle.node_rules.specs.Meters as meters
 use Rattle.node_rules.specs.NodeSteps.{NodeStep, acts, answering, left_by, stays}
 use Rattle.node_rules.specs.Plans.{Plan, carry_out, finished, halted as cut_off, resting}
@@ -186,7 +189,22 @@ down_quiet : (own : ℕ) (m : JoinMessage) (d : Draft Memory) → Quiet d → Qu
 unfolding goes_down reply_of
 down_quiet own m d q = record { units = q.units; plain = frames_after d.plain (Down own m ∷ []) q.plain refl }
 
-ruleset words = (rests_shape, checked_shape, choose_shape, sealed_shape, sealing_shape, empty_quiet, commands_quiet, rings_quiet, idles_quiet, remembers_quiet, tags_quiet, enters_quiet, up_quiet, down_quiet)
+ruleset words = (
+  rests_shape,
+  checked_shape,
+  choose_shape,
+  sealed_shape,
+  sealing_shape,
+  empty_quiet,
+  commands_quiet,
+  rings_quiet,
+  idles_quiet,
+  remembers_quiet,
+  tags_quiet,
+  enters_quiet,
+  up_quiet,
+  down_quiet,
+)
 
 -- # What both do
 
@@ -200,7 +218,8 @@ module _ {H : Type 0} (m : Memory) where
   passed : (fault : Option Dropped) (p : Plan Memory (Result H Dropped)) → IsRule p → IsRule (checked dropped m fault p)
   passed fault p s = checked_shape in_memory dropped m Quiet fault p s
 
-  by_option : {X : Type 0} (f : X → Plan Memory (Result H Dropped)) (o : Option X) (p : Plan Memory (Result H Dropped)) → ((y : X) → IsRule (f y)) → IsRule p → IsRule (option_map_or f o p)
+  by_option : {X : Type 0} (f : X → Plan Memory (Result H Dropped)) (o : Option X) (p : Plan Memory (Result H Dropped)) → ((y : X) → IsRule (f y)) → IsRule p
+      → IsRule (option_map_or f o p)
   by_option f o p s t = option_shape in_memory dropped m Quiet f o p s t
 
 -- # Meters
@@ -216,7 +235,8 @@ module _ (x : meters.Identity) (m : Memory) where
   carries_down_quiet : (join : JoinMessage) → OfMeter (meters.carries_down m join)
   carries_down_quiet join =
       by_option m (λ own. meters.ends m (goes_down own join (empty_draft m)) meter_words.Carried) (address_of m.station) (meters.drop_it m drops.BadUnit)
-      (λ own. sealed_shape in_memory dropped m Quiet (goes_down own join (empty_draft m)) meter_words.Carried (down_quiet own join (empty_draft m) (empty_quiet m))) (Rests _)
+      (λ own. sealed_shape in_memory dropped m Quiet (goes_down own join (empty_draft m)) meter_words.Carried
+      (down_quiet own join (empty_draft m) (empty_quiet m))) (Rests _)
 
   carry_down_quiet : (join : JoinMessage) (b : JoinBody) → OfMeter (meters.carry_down m join b)
   carry_down_quiet join (body.Challenge eap) = carries_down_quiet join
@@ -230,14 +250,18 @@ module _ (x : meters.Identity) (m : Memory) where
 
   reply_quiet : (course : Course) (packet : List ℕ) (now : ℕ) → OfMeter (meters.reply x m course packet now)
   reply_quiet course packet now = passed m _ _
-      (by_option m (λ value. checked dropped m (option_map packet_fault (first_fault packet)) (meters.reply_with x m course packet now value)) (oldest m) (meters.drop_it m drops.NoRandom)
-      (λ value. passed m _ _ (replies_quiet course (peer_for x.eui value packet) (message x.eui (body.Join (x.ciphers.second x.psk (identifier_of packet) (peer_for x.eui value packet)))) now)) (Rests _))
+      (by_option m (λ value. checked dropped m (option_map packet_fault (first_fault packet)) (meters.reply_with x m course packet now value)) (oldest m)
+      (meters.drop_it m drops.NoRandom)
+      (λ value. passed m _ _ (replies_quiet course (peer_for x.eui value packet)
+      (message x.eui (body.Join (x.ciphers.second x.psk (identifier_of packet) (peer_for x.eui value packet)))) now)) (Rests _))
 
-  takes_quiet : (course : Course) (peer : Peer) (identifier : ℕ) (granted : Granted) (join : JoinMessage) (now : ℕ) → OfMeter (meters.takes m course peer identifier granted join now)
+  takes_quiet : (course : Course) (peer : Peer) (identifier : ℕ) (granted : Granted) (join : JoinMessage) (now : ℕ)
+      → OfMeter (meters.takes m course peer identifier granted join now)
   takes_quiet (ByAgent agent) peer identifier granted join now = search words depth 16
   takes_quiet ByCommand peer identifier granted join now = search words depth 16
 
-  take_with_quiet : (course : Course) (packet : List ℕ) (now : ℕ) (peer : Peer) (granted : Option Granted) → OfMeter (meters.take_with x m course packet now peer granted)
+  take_with_quiet : (course : Course) (packet : List ℕ) (now : ℕ) (peer : Peer) (granted : Option Granted)
+      → OfMeter (meters.take_with x m course packet now peer granted)
   take_with_quiet course packet now peer None = Rests _
   take_with_quiet course packet now peer (Some granted) = takes_quiet course peer _ granted _ now
 
@@ -247,7 +271,8 @@ module _ (x : meters.Identity) (m : Memory) where
 
   take_quiet : (course : Course) (packet : List ℕ) (now : ℕ) → OfMeter (meters.take x m course packet now)
   take_quiet course packet now = passed m _ _
-      (by_option m (λ (s : MeterSession). meters.take_by x m course packet now s.peer) m.session (meters.drop_it m drops.NoSession) (λ s. take_by_quiet course packet now s.peer) (Rests _))
+      (by_option m (λ (s : MeterSession). meters.take_by x m course packet now s.peer) m.session (meters.drop_it m drops.NoSession)
+      (λ s. take_by_quiet course packet now s.peer) (Rests _))
 
   challenged_quiet : (course : Course) (packet : List ℕ) (now : ℕ) → OfMeter (meters.challenged x m course packet now)
   challenged_quiet course packet now = chosen m _ _ _ (reply_quiet course packet now) (take_quiet course packet now)
@@ -314,7 +339,8 @@ module _ (own : coordinators.CoordinatorIdentity) (m : Memory) where
   asked_quiet : (way : Way) (eui : Eui) (now : ℕ) → OfCoordinator (coordinators.asked own m way eui now)
   asked_quiet way eui now = chosen m _ _ _ (open_quiet way eui now) (declines_quiet way _ now)
 
-  keys_quiet : (s : CoordinatorSession) (e : BookEntry) (rand_p : Rand) (granted : Granted) (now : ℕ) → OfCoordinator (coordinators.keys_for own m s e rand_p granted now)
+  keys_quiet : (s : CoordinatorSession) (e : BookEntry) (rand_p : Rand) (granted : Granted) (now : ℕ)
+      → OfCoordinator (coordinators.keys_for own m s e rand_p granted now)
   keys_quiet s e rand_p granted now = by_way s.way refl
     where
       by_way : (way : Way) → s.way ≡ way → OfCoordinator (coordinators.keys_for own m s e rand_p granted now)
@@ -324,10 +350,12 @@ module _ (own : coordinators.CoordinatorIdentity) (m : Memory) where
 
   second_quiet : (s : CoordinatorSession) (e : BookEntry) (packet : List ℕ) (now : ℕ) → OfCoordinator (coordinators.take_second own m s e packet now)
   second_quiet s e packet now = passed m _ _
-      (by_option m (λ granted. coordinators.keys_for own m s e (rand_p_in packet) granted now) (coordinators.grant_for m s.server.eui) (coordinators.drop_it m drops.NotAllowed)
+      (by_option m (λ granted. coordinators.keys_for own m s e (rand_p_in packet) granted now) (coordinators.grant_for m s.server.eui)
+      (coordinators.drop_it m drops.NotAllowed)
       (λ granted. keys_quiet s e _ granted now) (Rests _))
 
-  fourth_quiet : (s : CoordinatorSession) (e : BookEntry) (packet : List ℕ) (rand_p : Rand) (now : ℕ) → OfCoordinator (coordinators.take_fourth own m s e packet rand_p now)
+  fourth_quiet : (s : CoordinatorSession) (e : BookEntry) (packet : List ℕ) (rand_p : Rand) (now : ℕ)
+      → OfCoordinator (coordinators.take_fourth own m s e packet rand_p now)
   fourth_quiet s e packet rand_p now = passed m _ _ (by_way s.way refl)
     where
       by_way : (way : Way) → s.way ≡ way → OfCoordinator (coordinators.accepts m s rand_p now)
@@ -344,7 +372,8 @@ module _ (own : coordinators.CoordinatorIdentity) (m : Memory) where
   answered_quiet eui packet now =
       by_option m (λ e. option_map_or (coordinators.take_packet own m e packet now) (coordinators.session_of m eui) (coordinators.drop_it m drops.NoSession))
       (coordinators.allowed_entry m eui) (coordinators.drop_it m drops.NotAllowed)
-      (λ e. by_option m (coordinators.take_packet own m e packet now) (coordinators.session_of m eui) (coordinators.drop_it m drops.NoSession) (λ s. packet_quiet e packet now s) (Rests _)) (Rests _)
+      (λ e. by_option m (coordinators.take_packet own m e packet now) (coordinators.session_of m eui) (coordinators.drop_it m drops.NoSession)
+      (λ s. packet_quiet e packet now s) (Rests _)) (Rests _)
 
   asks_quiet : (way : Way) (eui : Eui) (b : JoinBody) (now : ℕ) → OfCoordinator (coordinators.hear_join own m way eui b now)
   asks_quiet way eui (body.Join []) now = asked_quiet way eui now
@@ -355,7 +384,8 @@ module _ (own : coordinators.CoordinatorIdentity) (m : Memory) where
   asks_in_quiet way None now = Rests _
   asks_in_quiet way (Some join) now = chosen m _ _ _ (asks_quiet way join.eui join.body now) (Rests _)
 
-  coordinator_heard : (now : ℕ) (p : stations.Hearing) (u : Option Unread) → reply_among p.frames ≡ None → reply_among (coordinators.heard_by own m now p u).frames ≡ None
+  coordinator_heard : (now : ℕ) (p : stations.Hearing) (u : Option Unread) → reply_among p.frames ≡ None
+      → reply_among (coordinators.heard_by own m now p u).frames ≡ None
   coordinator_heard now p None none = none
   coordinator_heard now p (Some u) none = sends_none in_memory dropped m _ (asks_in_quiet u.way (join_in u.body) now)
 
@@ -375,18 +405,24 @@ module _ (l : StationMemory) (cost note now : ℕ) where
   choose_none true p q a b = a
   choose_none false p q a b = b
 
-  by_code : (own from : ℕ) (all : Bool) (first : Bool) (m : Option Message) (other : stations.Hearing) → (if first then m else None) ≡ None → reply_among other.frames ≡ None
+  by_code : (own from : ℕ) (all : Bool) (first : Bool) (m : Option Message) (other : stations.Hearing) → (if first then m else None) ≡ None
+      → reply_among other.frames ≡ None
       → reply_among (choose first (stations.hear_message_in l own from all cost now m) other).frames ≡ None
   unfolding choose
-  by_code own from all true m other e none = subst (λ (o : Option Message). reply_among (stations.hear_message_in l own from all cost now o).frames ≡ None) (sym e) (dropped_none drops.BadUnit)
+  by_code own from all true m other e none =
+      subst (λ (o : Option Message). reply_among (stations.hear_message_in l own from all cost now o).frames ≡ None) (sym e) (dropped_none drops.BadUnit)
   by_code own from all false m other e none = none
 
-  sealed_heard : (own from : ℕ) (all : Bool) (u : MeshUnit) → route_message u ≡ None → reply_among (stations.hear_sealed l own from all u cost note now).frames ≡ None
+  sealed_heard : (own from : ℕ) (all : Bool) (u : MeshUnit) → route_message u ≡ None
+      → reply_among (stations.hear_sealed l own from all u cost note now).frames ≡ None
   sealed_heard own from all (units.Local code octets) e =
       by_code own from all (code == 1) (message_in octets) _ e (choose_none (code == 2) _ _ (dropped_none drops.BadUnit) (rests_none _ _))
-  sealed_heard own from all (units.Whole mesh octets) e = choose_none all _ _ (dropped_none drops.BadUnit) (over_mesh_quiet l own (units.Whole mesh octets) note now)
-  sealed_heard own from all (units.Part mesh piece) e = choose_none all _ _ (dropped_none drops.BadUnit) (over_mesh_quiet l own (units.Part mesh piece) note now)
-  sealed_heard own from all (units.Carried mesh octets) e = choose_none all _ _ (dropped_none drops.BadUnit) (over_mesh_quiet l own (units.Carried mesh octets) note now)
+  sealed_heard own from all (units.Whole mesh octets) e =
+      choose_none all _ _ (dropped_none drops.BadUnit) (over_mesh_quiet l own (units.Whole mesh octets) note now)
+  sealed_heard own from all (units.Part mesh piece) e =
+      choose_none all _ _ (dropped_none drops.BadUnit) (over_mesh_quiet l own (units.Part mesh piece) note now)
+  sealed_heard own from all (units.Carried mesh octets) e =
+      choose_none all _ _ (dropped_none drops.BadUnit) (over_mesh_quiet l own (units.Carried mesh octets) note now)
 
   addressed_heard : (own : Option ℕ) (from : ℕ) (all : Bool) (u : MeshUnit) → route_message u ≡ None
       → reply_among (option_map_or (λ a. stations.hear_sealed l a from all u cost note now) own (stations.drop_it l drops.BadUnit)).frames ≡ None
@@ -397,7 +433,8 @@ module _ (l : StationMemory) (cost note now : ℕ) where
   plain_heard answer None = dropped_none drops.BadUnit
   plain_heard answer (Some octets) = rests_none _ _
 
-  unit_heard : (path : Path) (u : Option MeshUnit) → option_and_then route_message u ≡ None → reply_among (stations.hear_unit_in l path u cost note now).frames ≡ None
+  unit_heard : (path : Path) (u : Option MeshUnit) → option_and_then route_message u ≡ None
+      → reply_among (stations.hear_unit_in l path u cost note now).frames ≡ None
   unit_heard path None e = dropped_none drops.BadUnit
   unit_heard (paths.Sealed from all key) (Some u) e = addressed_heard (address_of l) from all u e
   unit_heard (paths.Up from) (Some u) e = plain_heard _ (stations.is_joining u)
@@ -405,7 +442,8 @@ module _ (l : StationMemory) (cost note now : ℕ) where
 
 -- # Nodes
 
-acts_none : {A : Type 0} (x : Node) (halted : A) (plan : Memory → Plan Memory A) → ((m : Memory) → reply_among (plan m).frames ≡ None) → reply_among (acts x halted plan).frames ≡ None
+acts_none : {A : Type 0} (x : Node) (halted : A) (plan : Memory → Plan Memory A) → ((m : Memory) → reply_among (plan m).frames ≡ None)
+    → reply_among (acts x halted plan).frames ≡ None
 unfolding acts carry_out
 acts_none {A} x halted plan none = by_memory x.memory
   where
@@ -413,7 +451,8 @@ acts_none {A} x halted plan none = by_memory x.memory
     by_whole true m w = none m
     by_whole false m w = refl
 
-    by_memory : (o : Option Memory) → reply_among (option_map_or (λ m. left_by x (carry_out x.store.records x.store.cut (plan m))) o (stays x halted)).frames ≡ None
+    by_memory : (o : Option Memory)
+        → reply_among (option_map_or (λ m. left_by x (carry_out x.store.records x.store.cut (plan m))) o (stays x halted)).frames ≡ None
     by_memory None = refl
     by_memory (Some m) =
         let w : Written = write (plan m).puts x.store.cut x.store.records in
@@ -426,14 +465,17 @@ module _ (x : Node) (got : Accepted) (cost note now : ℕ) (none : message_of go
 
   abbrev hears_as : Role → NodeStep Reception
   hears_as Coordinator =
-      answering coordinator_reception (acts x (Err drops.Store) (λ m. coordinators.hear_coordinator (record { eui = x.eui; ciphers = network }) m got cost note now))
+      answering coordinator_reception
+      (acts x (Err drops.Store) (λ m. coordinators.hear_coordinator (record { eui = x.eui; ciphers = network }) m got cost note now))
   hears_as (Meter psk) = answering meter_reception (acts x (Err drops.Store) (λ m. meters.hear_meter (identity network x psk) m got cost note now))
 
   by_role : (role : Role) → reply_among (hears_as role).frames ≡ None
   by_role Coordinator = acts_none x (Err drops.Store) (λ m. coordinators.hear_coordinator (record { eui = x.eui; ciphers = network }) m got cost note now)
-      (λ m. coordinator_heard (record { eui = x.eui; ciphers = network }) m now (stations.hear m.station got cost note now) (unread (stations.hear m.station got cost note now).answer) (at_station m.station))
+      (λ m. coordinator_heard (record { eui = x.eui; ciphers = network }) m now (stations.hear m.station got cost note now)
+      (unread (stations.hear m.station got cost note now).answer) (at_station m.station))
   by_role (Meter psk) = acts_none x (Err drops.Store) (λ m. meters.hear_meter (identity network x psk) m got cost note now)
-      (λ m. meter_heard (identity network x psk) m now (stations.hear m.station got cost note now) (unread (stations.hear m.station got cost note now).answer) (at_station m.station))
+      (λ m. meter_heard (identity network x psk) m now (stations.hear m.station got cost note now) (unread (stations.hear m.station got cost note now).answer)
+      (at_station m.station))
 
   pub none_unasked : reply_among (hears network x got cost note now).frames ≡ None
   none_unasked = by_role x.role

@@ -1,5 +1,6 @@
 -- What becomes of octets that came to a node.
-use Rattle.std.specs.Prelude.{◌≡◌, ⊤, ℕ, Bool, slice_set, IfNone, IfSome, false, true, ◌||◌, List, ◌++◌, length, map, Option, Some, None, is_some, Result, Ok, Err, if◌then◌else◌}
+use Rattle.std.specs.Prelude.{◌≡◌, ⊤, ℕ, Bool, slice_set, IfNone, IfSome, false, true, ◌||◌, List, ◌++◌, length, map, Option, Some, None, is_some, Result, Ok}
+use Rattle.std.specs.Prelude.{Err, if◌then◌else◌}
 use Rattle.std.specs.List.{list_any}
 use Rattle.std.specs.Option.{option_map, option_map_or}
 use Rattle.plc_base.specs.declared.address.Eui.{Eui}

@@ -48,7 +48,8 @@ module _ (l : StationMemory) (to from counter : ℕ) where
   unfolding marking
   marked key payload got e = handed _ _ tt got e
 
-  admitted_came : (key : Key) (payload : List ℕ) (r : Result (Unit {0}) PeerFault) → CameIn (admitted l from counter (record { path = paths.Sealed from (to == 0xFFFF) key; payload = payload }) r)
+  admitted_came : (key : Key) (payload : List ℕ) (r : Result (Unit {0}) PeerFault)
+      → CameIn (admitted l from counter (record { path = paths.Sealed from (to == 0xFFFF) key; payload = payload }) r)
   admitted_came key payload (Ok u) = marked key payload
   admitted_came key payload (Err fault) = refused l _
 
@@ -75,18 +76,22 @@ came l own (Some a) = by_test (is_for_me l own a.head) refl
     by_test false other = refused l NotForMe
 
 -- so it is where accepting is carried out
-pub carried_came : (s t : State StationMemory) (l : StationMemory) (own : Eui) (a : Option Arrived) (got : Accepted) (out : Out) → Carries s (accept l own a) (Ok got) out t → IfSome t.memory (CameUp got.path)
+pub carried_came : (s t : State StationMemory) (l : StationMemory) (own : Eui) (a : Option Arrived) (got : Accepted) (out : Out)
+    → Carries s (accept l own a) (Ok got) out t → IfSome t.memory (CameUp got.path)
 carried_came s t l own a got out c = by_done c.done c.answer_is (ap (λ (x : State StationMemory). x.memory) c.new_is)
   where
-    by_done : (done : Bool) → ◌≡◌ {A = Result Accepted FrameRefusal} (Ok got) (if done then (accept l own a).answer else (accept l own a).failed) → t.memory ≡ (if done then Some (accept l own a).memory else None) → IfSome t.memory (CameUp got.path)
+    by_done : (done : Bool) → ◌≡◌ {A = Result Accepted FrameRefusal} (Ok got) (if done then (accept l own a).answer else (accept l own a).failed)
+        → t.memory ≡ (if done then Some (accept l own a).memory else None) → IfSome t.memory (CameUp got.path)
     by_done true e m = subst (λ (o : Option StationMemory). IfSome o (CameUp got.path)) (sym m) (came l own a got (sym e))
     by_done false e m = subst (λ (o : Option StationMemory). IfSome o (CameUp got.path)) (sym m) tt
 
 -- and so where a station says that it accepted
-pub accepted_came : (s t : State StationMemory) (a : Option Arrived) (got : Accepted) (out : Out) → IfNone s.memory (◌≡◌ {A = Result Accepted FrameRefusal} (Ok got) (Err Halted) × (t ≡ s))
+pub accepted_came : (s t : State StationMemory) (a : Option Arrived) (got : Accepted) (out : Out)
+    → IfNone s.memory (◌≡◌ {A = Result Accepted FrameRefusal} (Ok got) (Err Halted) × (t ≡ s))
     → IfSome s.memory (λ l. Carries s (accept l s.eui a) (Ok got) out t) → IfSome t.memory (CameUp got.path)
 accepted_came s t a got out = by_memory s.memory
   where
-    by_memory : (o : Option StationMemory) → IfNone o (◌≡◌ {A = Result Accepted FrameRefusal} (Ok got) (Err Halted) × (t ≡ s)) → IfSome o (λ l. Carries s (accept l s.eui a) (Ok got) out t) → IfSome t.memory (CameUp got.path)
+    by_memory : (o : Option StationMemory) → IfNone o (◌≡◌ {A = Result Accepted FrameRefusal} (Ok got) (Err Halted) × (t ≡ s))
+        → IfSome o (λ l. Carries s (accept l s.eui a) (Ok got) out t) → IfSome t.memory (CameUp got.path)
     by_memory None h k = let never = h.0 in absurd (cc)
     by_memory (Some l) h k = carried_came s t l s.eui a got out k

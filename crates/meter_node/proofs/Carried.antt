@@ -39,7 +39,8 @@ on_node x P h = if_mapped (memory_with x) x.station.memory P h
 
 -- nothing changes, for this reason
 pub refuses : {H E : Type 0} (ends : Ends E) (x y : MeterState) (l : StationMemory) (reason : E) (p : Plan Memory (Result H E)) (out : Out)
-    → x.station.memory ≡ Some l → node_of y ≡ node_of x → refused {H = H} ends (memory_with x l) reason ≡ p → out ≡ nothing → Carries (node_of x) p (Err reason) out (node_of y)
+    → x.station.memory ≡ Some l → node_of y ≡ node_of x → refused {H = H} ends (memory_with x l) reason ≡ p → out ≡ nothing
+    → Carries (node_of x) p (Err reason) out (node_of y)
 unfolding resting
 refuses {H} {E} ends x y l reason p out running stays plan empty =
     subst (λ (q : Plan Memory (Result H E)). Carries (node_of x) q (Err reason) out (node_of y)) plan (record {
@@ -77,7 +78,8 @@ pub given : (x : MeterState) (l : StationMemory) (value : Rand) (r : List Rand) 
 unfolding choose with_memory_by empty_draft
 given x l value r few is = rw (few, is) refl
 
-pub full : (x : MeterState) (l : StationMemory) (value : Rand) → nat_lt 7 (length x.randoms) ≡ true → refused given_ends (memory_with x l) RandomsFull ≡ give_random (memory_with x l) value
+pub full : (x : MeterState) (l : StationMemory) (value : Rand) → nat_lt 7 (length x.randoms) ≡ true
+    → refused given_ends (memory_with x l) RandomsFull ≡ give_random (memory_with x l) value
 unfolding choose
 full x l value many = rw many refl
 
@@ -111,6 +113,7 @@ pub leaves : (x : MeterState) (l : StationMemory) → is_some l.ring ≡ true
 unfolding choose with_memory_by on_station empty_draft with_ring
 leaves x l ring = rw ring refl
 
-pub not_joined : (x : MeterState) (l : StationMemory) → is_some l.ring ≡ false → refused meters.leaving_ends (memory_with x l) leaving.NotJoined ≡ meters.leave (memory_with x l)
+pub not_joined : (x : MeterState) (l : StationMemory) → is_some l.ring ≡ false
+    → refused meters.leaving_ends (memory_with x l) leaving.NotJoined ≡ meters.leave (memory_with x l)
 unfolding choose
 not_joined x l free = rw free refl

@@ -27,7 +27,8 @@ use Rattle.node_rules.specs.Memory.{StationMemory, Memory, Load, Command, addres
 use Rattle.node_rules.specs.Plans.{Plan, within}
 use Rattle.node_rules.specs.Joining.{command_of}
 use Rattle.node_rules.specs.Meters as meters
-use Rattle.node_rules.specs.Drafts.{Draft, checked, refused, choose, empty_draft, sealing, sets_out, body_goes, waits, seeks_once, goes, with_own_number, is_awaited}
+use Rattle.node_rules.specs.Drafts.{Draft, checked, refused, choose, empty_draft, sealing, sets_out, body_goes, waits, seeks_once, goes, with_own_number}
+use Rattle.node_rules.specs.Drafts.{is_awaited}
 use Rattle.node_rules.specs.Hearing.{dropped, dropped_for}
 use Rattle.node_rules.specs.Calls as calls
 use Rattle.node_rules.specs.MemoryDrafts.{in_memory, on_station, is_commanded, command_lack}
@@ -35,7 +36,8 @@ use Rattle.node_rules.specs.States.{State}
 use Rattle.node_rules.specs.Carrying.{Carries}
 use Rattle.node_rules.specs.Calls.{command_fault}
 use Rattle.node_rules.specs.Composing.{behind, adding, out_with, seen, begun, told, command_alone, HasRoom}
-use Rattle.node_rules.proofs.Composing.{carries_stopped, carries_within, carries_behind, carries_adding, command_plan, command_sent, carried_whole, carried_cut, Whole, CutOff, room_seals, room_refuses, command_units}
+use Rattle.node_rules.proofs.Composing.{carries_stopped, carries_within, carries_behind, carries_adding, command_plan, command_sent, carried_whole, carried_cut}
+use Rattle.node_rules.proofs.Composing.{Whole, CutOff, room_seals, room_refuses, command_units}
 use Rattle.meter_node.specs.MeterStates.{MeterState, memory_with, node_of}
 
 -- # The command
@@ -60,7 +62,8 @@ module _ (l : StationMemory) (own to : ℕ) (load : Load) (now : ℕ) where
   pub opened_none : (command_alone l own to load now).opened ≡ []
   opened_none = opened_by (next_hop l to) (is_awaited l to) refl refl
 
-module _ (x y : MeterState) (t : State StationMemory) (l : StationMemory) (puts : List Write) (made opened : List PairTag) (own to : ℕ) (octets : List ℕ) (now : ℕ) (answer : MeterHeard) (out more : Out) where
+module _ (x y : MeterState) (t : State StationMemory) (l : StationMemory) (puts : List Write) (made opened : List PairTag) (own to : ℕ) (octets : List ℕ)
+    (now : ℕ) (answer : MeterHeard) (out more : Out) where
   -- the station's plan
   abbrev Sending : Plan StationMemory (Result SentHow SendRefusal)
   Sending = command_alone l own to (Command octets) now
@@ -76,13 +79,17 @@ module _ (x y : MeterState) (t : State StationMemory) (l : StationMemory) (puts 
   of_station : (r : Result SentHow SendRefusal) → Wrote x.station.store puts true t.store → x.station.eui ≡ t.eui → Carries t Sending r out y.station
       → more ≡ out_with [] made opened (is_some (node_of y).memory) out → Carries (node_of x) Commands (told dropped answer r) more (node_of y)
   of_station r wrote eui c is =
-      subst (λ (p : Plan Memory (Result MeterHeard Dropped)). Carries (node_of x) p (told dropped answer r) more (node_of y)) (command_plan dropped puts (memory_with y l) [] made opened own to (Command octets) now answer)
+      subst (λ (p : Plan Memory (Result MeterHeard Dropped)). Carries (node_of x) p (told dropped answer r) more (node_of y))
+      (command_plan dropped puts (memory_with y l) [] made opened own to (Command octets) now answer)
       (carries_adding [] made opened (node_of x) (node_of y) Told (told dropped answer r) out more
-      (carries_behind (node_of x) (seen (memory_with y) t) (node_of y) puts (within (memory_with y) (told dropped answer) Sending) (told dropped answer r) out wrote eui
+      (carries_behind (node_of x) (seen (memory_with y) t) (node_of y) puts (within (memory_with y) (told dropped answer) Sending) (told dropped answer r) out
+      wrote eui
       (carries_within (memory_with y) (told dropped answer) (seen (memory_with y) t) t y.station Sending r out refl refl c)) is)
 
-  sending : (r : Result SentHow SendRefusal) → address_of l ≡ Some own → HasRoom l to (length octets) → Carries t (calls.send_command l to octets now) r out y.station → Carries t Sending r out y.station
-  sending r address room c = subst (λ (p : Plan StationMemory (Result SentHow SendRefusal)). Carries t p r out y.station) (sym (command_sent own to octets now l address room)) c
+  sending : (r : Result SentHow SendRefusal) → address_of l ≡ Some own → HasRoom l to (length octets)
+      → Carries t (calls.send_command l to octets now) r out y.station → Carries t Sending r out y.station
+  sending r address room c =
+      subst (λ (p : Plan StationMemory (Result SentHow SendRefusal)). Carries t p r out y.station) (sym (command_sent own to octets now l address room)) c
 
   -- it went out or waits
   pub commanded : (h : SentHow) → Wrote x.station.store puts true t.store → x.station.eui ≡ t.eui → address_of l ≡ Some own → HasRoom l to (length octets)
@@ -94,11 +101,17 @@ module _ (x y : MeterState) (t : State StationMemory) (l : StationMemory) (puts 
       let none_made : out.tags.made ≡ [] = ap (λ (o : Out). o.tags.made) w.out_is ∙ made_none l own to (Command octets) now in
       let none_opened : out.tags.opened ≡ [] = ap (λ (o : Out). o.tags.opened) w.out_is ∙ opened_none l own to (Command octets) now in
       of_station (Ok h) wrote eui s
-      (is ∙ (λ i. record out { tags = record { made = (sym (append-nil made) ∙ ap (λ k. made ++ k) (sym none_made)) i; opened = (sym (append-nil opened) ∙ ap (λ k. opened ++ k) (sym none_opened)) i } })
+      (is ∙ (λ i. record out {
+        tags = record {
+          made = (sym (append-nil made) ∙ ap (λ k. made ++ k) (sym none_made)) i;
+          opened = (sym (append-nil opened) ∙ ap (λ k. opened ++ k) (sym none_opened)) i;
+        };
+      })
       ∙ ap (λ (b : Bool). out_with [] made opened b out) (sym (ap (λ (m : Option StationMemory). is_some (option_map (memory_with y) m)) w.memory)))
 
   -- one of its puts failed
-  pub not_commanded : (e : SendRefusal) → Wrote x.station.store puts true t.store → x.station.eui ≡ t.eui → address_of l ≡ Some own → HasRoom l to (length octets)
+  pub not_commanded : (e : SendRefusal) → Wrote x.station.store puts true t.store → x.station.eui ≡ t.eui → address_of l ≡ Some own
+      → HasRoom l to (length octets)
       → Carries t (calls.send_command l to octets now) (Err e) out y.station → more ≡ record out { tags = record { made = []; opened = opened } }
       → Carries (node_of x) Commands (Err dropped.store) more (node_of y)
   not_commanded e wrote eui address room c is =
@@ -114,13 +127,18 @@ module _ (x y : MeterState) (t : State StationMemory) (l : StationMemory) (puts 
   pub stopped_before : Wrote x.station.store puts false y.station.store → y.station.eui ≡ x.station.eui → y.station.memory ≡ None
       → more ≡ record { frames = []; tags = record { made = []; opened = opened } } → Carries (node_of x) Commands (Err dropped.store) more (node_of y)
   stopped_before wrote eui memory is =
-      subst (λ (p : Plan Memory (Result MeterHeard Dropped)). Carries (node_of x) p (Err dropped.store) more (node_of y)) (command_plan dropped puts (memory_with y l) [] made opened own to (Command octets) now answer)
+      subst (λ (p : Plan Memory (Result MeterHeard Dropped)). Carries (node_of x) p (Err dropped.store) more (node_of y))
+      (command_plan dropped puts (memory_with y l) [] made opened own to (Command octets) now answer)
       (carries_stopped (node_of x) (node_of y) puts Sending.puts (adding [] made opened Told) more wrote refl
-      (is ∙ (λ i. record { frames = []; tags = record { made = []; opened = (sym (append-nil opened) ∙ ap (λ k. opened ++ k) (sym (opened_none l own to (Command octets) now))) i } }))
+      (is ∙ (λ i. record {
+        frames = [];
+        tags = record { made = []; opened = (sym (append-nil opened) ∙ ap (λ k. opened ++ k) (sym (opened_none l own to (Command octets) now))) i };
+      }))
       eui (ap (option_map (memory_with y)) memory))
 
   -- where a put failed no tag was made or checked
-  pub untagged_cut : (e : SendRefusal) → address_of l ≡ Some own → HasRoom l to (length octets) → Carries t (calls.send_command l to octets now) (Err e) out y.station
+  pub untagged_cut : (e : SendRefusal) → address_of l ≡ Some own → HasRoom l to (length octets)
+      → Carries t (calls.send_command l to octets now) (Err e) out y.station
       → out ≡ record out { tags = record { made = []; opened = [] } }
   untagged_cut e address room c =
       let w : CutOff t Sending out y.station = carried_cut t y.station Sending (calls.how l to) e out refl (sending (Err e) address room c) in
@@ -156,16 +174,21 @@ module _ (m mem : Memory) (join : JoinMessage) (now own : ℕ) (answer : MeterHe
   by_address : address_of mem.station ≡ Some own → checked dropped m (command_lack m 0 join) (meters.ends m Drafted answer) ≡ InCommand
   unfolding is_commanded
   by_address address =
-      ap (λ (a : Option ℕ). checked dropped m (command_lack m 0 join) (meters.ends m (option_map_or (λ o. on_station (sets_out o 0 0 (Command (command_of join)) now) (begun puts mem [] made opened)) a (begun puts mem [] made opened)) answer)) (sym address)
+      ap (λ (a : Option ℕ). checked dropped m (command_lack m 0 join)
+      (meters.ends m (option_map_or (λ o. on_station (sets_out o 0 0 (Command (command_of join)) now) (begun puts mem [] made opened)) a
+      (begun puts mem [] made opened)) answer)) (sym address)
 
-  pub goes_in_command : address_of mem.station ≡ Some own → calls.command_frames mem.station 0 ≡ calls.command_frames m.station 0 → HasRoom m.station 0 (length (command_of join)) → sealing in_memory dropped Drafted answer ≡ InCommand
+  pub goes_in_command : address_of mem.station ≡ Some own → calls.command_frames mem.station 0 ≡ calls.command_frames m.station 0
+      → HasRoom m.station 0 (length (command_of join)) → sealing in_memory dropped Drafted answer ≡ InCommand
   goes_in_command address same room =
-      room_seals 0 (length (command_of join)) dropped dropped_for m Drafted answer room (command_units own 0 (command_of join) now puts mem [] made opened ∙ same) ∙ by_address address
+      room_seals 0 (length (command_of join)) dropped dropped_for m Drafted answer room
+      (command_units own 0 (command_of join) now puts mem [] made opened ∙ same) ∙ by_address address
 
   pub lacks_in_command : (reason : Dropped) → address_of mem.station ≡ Some own → calls.command_frames mem.station 0 ≡ calls.command_frames m.station 0
       → command_fault dropped dropped_for m.station 0 (length (command_of join)) ≡ Some reason → refused dropped m reason ≡ InCommand
   lacks_in_command reason address same fault =
-      room_refuses 0 (length (command_of join)) dropped dropped_for m Drafted answer reason fault (command_units own 0 (command_of join) now puts mem [] made opened ∙ same) ∙ by_address address
+      room_refuses 0 (length (command_of join)) dropped dropped_for m Drafted answer reason fault
+      (command_units own 0 (command_of join) now puts mem [] made opened ∙ same) ∙ by_address address
 
 -- a ring more or less changes no route
 pub same_frames : (l : StationMemory) (r : Ring) (to : ℕ) → calls.command_frames (record l { ring = r }) to ≡ calls.command_frames l to
@@ -183,7 +206,8 @@ same_number p q m n a b h = grind (arith, nat_tests)
 -- # Carrying up
 
 module _ (m : Memory) (join : JoinMessage) (from : Eui) (now own : ℕ) where
-  pub carries_up : (b : JoinBody) → relaying.goes_up b ≡ true → same_eui join.eui from ≡ true → InCommand m m join now own heard.Carried [] [] [] ≡ meters.carry_up m from join b now
+  pub carries_up : (b : JoinBody) → relaying.goes_up b ≡ true → same_eui join.eui from ≡ true
+      → InCommand m m join now own heard.Carried [] [] [] ≡ meters.carry_up m from join b now
   unfolding choose empty_draft
   carries_up (body.Join eap) goes same = λ i. choose (sym same i) (meters.carries_up m join now) (meters.drop_it m BadUnit)
   carries_up (body.Challenge eap) goes same = absurd (cc)
@@ -220,42 +244,54 @@ pub address_at : (l : StationMemory) → IsSome l.ring → (own : ℕ) × (addre
 address_at l joined = address_by l.ring joined
 
 -- the call, with what its arguments are
-pub sent_as : (s u : State StationMemory) (l : StationMemory) (to : ℕ) (octets : List ℕ) (join : JoinMessage) (now : ℕ) (r : Result SentHow SendRefusal) (out : Out) → to ≡ 0 → octets ≡ command_of join
+pub sent_as : (s u : State StationMemory) (l : StationMemory) (to : ℕ) (octets : List ℕ) (join : JoinMessage) (now : ℕ) (r : Result SentHow SendRefusal)
+    (out : Out) → to ≡ 0 → octets ≡ command_of join
     → Carries s (calls.send_command l to octets now) r out u → Carries s (calls.send_command l 0 (command_of join) now) r out u
 sent_as s u l to octets join now r out zero is c =
-    subst (λ (k : List ℕ). Carries s (calls.send_command l 0 k now) r out u) is (subst (λ (k : ℕ). Carries s (calls.send_command l k octets now) r out u) zero c)
+    subst (λ (k : List ℕ). Carries s (calls.send_command l 0 k now) r out u) is
+    (subst (λ (k : ℕ). Carries s (calls.send_command l k octets now) r out u) zero c)
 
 -- the same where its memory is not named
-pub sent_some : (s u : State StationMemory) (to : ℕ) (octets : List ℕ) (join : JoinMessage) (now : ℕ) (r : Result SentHow SendRefusal) (out : Out) → to ≡ 0 → octets ≡ command_of join
-    → IfSome s.memory (λ k. Carries s (calls.send_command k to octets now) r out u) → IfSome s.memory (λ k. Carries s (calls.send_command k 0 (command_of join) now) r out u)
+pub sent_some : (s u : State StationMemory) (to : ℕ) (octets : List ℕ) (join : JoinMessage) (now : ℕ) (r : Result SentHow SendRefusal) (out : Out) → to ≡ 0
+    → octets ≡ command_of join
+    → IfSome s.memory (λ k. Carries s (calls.send_command k to octets now) r out u)
+    → IfSome s.memory (λ k. Carries s (calls.send_command k 0 (command_of join) now) r out u)
 sent_some s u to octets join now r out zero is c =
     subst (λ (o : List ℕ). IfSome s.memory (λ k. Carries s (calls.send_command k 0 o now) r out u)) is
     (subst (λ (n : ℕ). IfSome s.memory (λ k. Carries s (calls.send_command k n octets now) r out u)) zero c)
 
-module _ (x : MeterState) (u : State StationMemory) (l : StationMemory) (from : Eui) (join : JoinMessage) (now : ℕ) (out : Out) (joined : IsSome l.ring) (room : HasRoom l 0 (length (command_of join)))
+module _ (x : MeterState) (u : State StationMemory) (l : StationMemory) (from : Eui) (join : JoinMessage) (now : ℕ) (out : Out) (joined : IsSome l.ring)
+    (room : HasRoom l 0 (length (command_of join)))
     (goes : relaying.goes_up join.body ≡ true) (same : same_eui join.eui from ≡ true) where
   own_at : (own : ℕ) × (address_of l ≡ Some own)
   own_at = address_at l joined
 
-  plan_up : Commands x (record x { station = u }) x.station l [] [] [] own_at.0 0 (command_of join) now heard.Carried out out ≡ meters.carry_up (memory_with x l) from join join.body now
-  plan_up = goes_in_command (memory_with x l) (memory_with x l) join now own_at.0 heard.Carried [] [] [] own_at.1 refl room ∙ carries_up (memory_with x l) join from now own_at.0 join.body goes same
+  plan_up : Commands x (record x { station = u }) x.station l [] [] [] own_at.0 0 (command_of join) now heard.Carried out out
+      ≡ meters.carry_up (memory_with x l) from join join.body now
+  plan_up = goes_in_command (memory_with x l) (memory_with x l) join now own_at.0 heard.Carried [] [] [] own_at.1 refl room
+      ∙ carries_up (memory_with x l) join from now own_at.0 join.body goes same
 
   pub up_sent : (h : SentHow) → Carries x.station (calls.send_command l 0 (command_of join) now) (Ok h) out u
       → Carries (node_of x) (meters.carry_up (memory_with x l) from join join.body now) (Ok heard.Carried) out (node_of (record x { station = u }))
   up_sent h c =
       subst (λ (p : Plan Memory (Result MeterHeard Dropped)). Carries (node_of x) p (Ok heard.Carried) out (node_of (record x { station = u }))) plan_up
-      (commanded x (record x { station = u }) x.station l [] [] [] own_at.0 0 (command_of join) now heard.Carried out out h (wrote_none x.station.store) refl own_at.1 room c
+      (commanded x (record x { station = u }) x.station l [] [] [] own_at.0 0 (command_of join) now heard.Carried out out h (wrote_none x.station.store) refl
+      own_at.1 room c
       (untagged x (record x { station = u }) x.station l [] [] [] own_at.0 0 (command_of join) now heard.Carried out out h own_at.1 room c))
 
   pub up_failed : (e : SendRefusal) → Carries x.station (calls.send_command l 0 (command_of join) now) (Err e) out u
       → Carries (node_of x) (meters.carry_up (memory_with x l) from join join.body now) (Err dropped.store) out (node_of (record x { station = u }))
   up_failed e c =
       subst (λ (p : Plan Memory (Result MeterHeard Dropped)). Carries (node_of x) p (Err dropped.store) out (node_of (record x { station = u }))) plan_up
-      (not_commanded x (record x { station = u }) x.station l [] [] [] own_at.0 0 (command_of join) now heard.Carried out out e (wrote_none x.station.store) refl own_at.1 room c
+      (not_commanded x (record x { station = u }) x.station l [] [] [] own_at.0 0 (command_of join) now heard.Carried out out e (wrote_none x.station.store)
+      refl own_at.1 room c
       (untagged_cut x (record x { station = u }) x.station l [] [] [] own_at.0 0 (command_of join) now heard.Carried out out e own_at.1 room c))
 
-pub up_lacks : (x : MeterState) (l : StationMemory) (from : Eui) (join : JoinMessage) (now : ℕ) (reason : Dropped) → IsSome l.ring → relaying.goes_up join.body ≡ true → same_eui join.eui from ≡ true
-    → command_fault dropped dropped_for l 0 (length (command_of join)) ≡ Some reason → refused {H = MeterHeard} dropped (memory_with x l) reason ≡ meters.carry_up (memory_with x l) from join join.body now
+pub up_lacks : (x : MeterState) (l : StationMemory) (from : Eui) (join : JoinMessage) (now : ℕ) (reason : Dropped) → IsSome l.ring
+    → relaying.goes_up join.body ≡ true → same_eui join.eui from ≡ true
+    → command_fault dropped dropped_for l 0 (length (command_of join)) ≡ Some reason
+    → refused {H = MeterHeard} dropped (memory_with x l) reason ≡ meters.carry_up (memory_with x l) from join join.body now
 up_lacks x l from join now reason joined goes same fault =
     let own = address_at l joined in
-    lacks_in_command (memory_with x l) (memory_with x l) join now own.0 heard.Carried [] [] [] reason own.1 refl fault ∙ carries_up (memory_with x l) join from now own.0 join.body goes same
+    lacks_in_command (memory_with x l) (memory_with x l) join now own.0 heard.Carried [] [] [] reason own.1 refl fault
+    ∙ carries_up (memory_with x l) join from now own.0 join.body goes same

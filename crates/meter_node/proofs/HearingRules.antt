@@ -39,8 +39,10 @@ use Rattle.meter_node.proofs.Carried.{as_station}
 
 -- # A plan by another name
 
-pub same_plan : (x y : MeterState) (p q : Memory → meters.Hearing) (r : Result MeterHeard Dropped) (out : Out) → ((l : StationMemory) → p (memory_with x l) ≡ q (memory_with x l))
-    → IfSome (node_of x).memory (λ m. Carries (node_of x) (p m) r out (node_of y)) → IfSome (node_of x).memory (λ m. Carries (node_of x) (q m) r out (node_of y))
+pub same_plan : (x y : MeterState) (p q : Memory → meters.Hearing) (r : Result MeterHeard Dropped) (out : Out)
+    → ((l : StationMemory) → p (memory_with x l) ≡ q (memory_with x l))
+    → IfSome (node_of x).memory (λ m. Carries (node_of x) (p m) r out (node_of y))
+    → IfSome (node_of x).memory (λ m. Carries (node_of x) (q m) r out (node_of y))
 same_plan x y p q r out e h = by x.station.memory h
   where
     by : (o : Option StationMemory) → IfSome (option_map (memory_with x) o) (λ m. Carries (node_of x) (p m) r out (node_of y))
@@ -65,7 +67,8 @@ pub record Rested {A : Type 0} (s : State StationMemory) (l : StationMemory) (a 
 true_false : (d : Bool) → d ≡ true → d ≡ false → ⊥
 true_false d a b = cc
 
-rested : {A : Type 0} (s t : State StationMemory) (l : StationMemory) (a f answer : A) (out : Out) → Carries s (resting l a f) answer out t → Rested s l a answer out t
+rested : {A : Type 0} (s t : State StationMemory) (l : StationMemory) (a f answer : A) (out : Out) → Carries s (resting l a f) answer out t
+    → Rested s l a answer out t
 unfolding resting
 rested {A} s t l a f answer out c = by c.done refl
   where
@@ -86,7 +89,8 @@ none_some u h = cc
 
 unread_is : (h : Result Heard Dropped) (way : Way) (body : List ℕ) → unread h ≡ Some (record { way = way; body = body }) → h ≡ Ok (Joining way body)
 unread_is (Err reason) way body e = absurd (none_some _ e)
-unread_is (Ok (Joining w b)) way body e = ap (λ (u : Unread). Ok (Joining u.way u.body)) (same_unread (record { way = w; body = b }) (record { way = way; body = body }) e)
+unread_is (Ok (Joining w b)) way body e =
+    ap (λ (u : Unread). Ok (Joining u.way u.body)) (same_unread (record { way = w; body = b }) (record { way = way; body = body }) e)
   where
     same_unread : (u v : Unread) → ◌≡◌ {A = Option Unread} (Some u) (Some v) → u ≡ v
     same_unread u v k = cc
@@ -113,7 +117,8 @@ module _ (l : StationMemory) (got : Accepted) (cost note now : ℕ) where
       refused_never : (way : Way) (body : List ℕ) → ◌≡◌ {A = Result Heard Dropped} (Err drops.BadUnit) (Ok (Joining way body)) → ⊥
       refused_never way body h = cc
 
-      by_ring : (r : Option Granted) (way : Way) (from : ℕ) (all : Bool) (key : Key) (unit : MeshUnit) → l.ring ≡ r → (hear_unit_in l (paths.Sealed from all key) (Some unit) cost note now).answer ≡ Ok (Joining way body) → CameBy way l
+      by_ring : (r : Option Granted) (way : Way) (from : ℕ) (all : Bool) (key : Key) (unit : MeshUnit) → l.ring ≡ r
+          → (hear_unit_in l (paths.Sealed from all key) (Some unit) cost note now).answer ≡ Ok (Joining way body) → CameBy way l
       by_ring (Some g) way from all key unit r h = joined way (subst (λ o. IsSome o) (sym r) refl)
       by_ring None way from all key unit r h = absurd (refused_never way body (rw r at h))
 
@@ -145,9 +150,11 @@ module _ (l : StationMemory) (got : Accepted) (cost note now : ℕ) where
           failed_never k = cc
 
           by : (d : Bool) → c.done ≡ d → (hear l got cost note now).answer ≡ Ok (Joining way body)
-          by true e = sym (c.answer_is ∙ ap (λ (d : Bool). if d then (hear l got cost note now).answer else (hear l got cost note now).failed) e) ∙ unread_is h way body is
+          by true e = sym (c.answer_is ∙ ap (λ (d : Bool). if d then (hear l got cost note now).answer else (hear l got cost note now).failed) e)
+              ∙ unread_is h way body is
           by false e = absurd (failed_never
-              (sym (c.answer_is ∙ ap (λ (d : Bool). if d then (hear l got cost note now).answer else (hear l got cost note now).failed) e ∙ (drops_cleanly l got cost note now).0)
+              (sym (c.answer_is ∙ ap (λ (d : Bool). if d then (hear l got cost note now).answer else (hear l got cost note now).failed) e
+              ∙ (drops_cleanly l got cost note now).0)
               ∙ unread_is h way body is))
 
       pub at_rest : Rested s l (Ok (Joining way body)) h out t
@@ -173,29 +180,35 @@ module _ (l : StationMemory) (got : Accepted) (cost note now : ℕ) where
 
             calm : Rested s l (Ok (Joining u.way u.body)) h out t
             calm = rested s t l (Ok (Joining u.way u.body)) (Err drops.Store) h out
-                (subst (λ (p : Plan StationMemory (Result Heard Dropped)). Carries s p h out t) ((hear_hands_on l got cost note now).rests u.way u.body answer).1 c)
+                (subst (λ (p : Plan StationMemory (Result Heard Dropped)). Carries s p h out t)
+                ((hear_hands_on l got cost note now).rests u.way u.body answer).1 c)
 
             again : h ≡ (hear l got cost note now).answer
             again = calm.answer_is ∙ sym answer
 
 -- # What a meter hears
 
-module _ (x : MeterState) (t : State StationMemory) (l : StationMemory) (got : Accepted) (cost note now : ℕ) (h : Result Heard Dropped) (between : Out) (running : x.station.memory ≡ Some l)
+module _ (x : MeterState) (t : State StationMemory) (l : StationMemory) (got : Accepted) (cost note now : ℕ) (h : Result Heard Dropped) (between : Out)
+    (running : x.station.memory ≡ Some l)
     (c : Carries x.station (hear l got cost note now) h between t) where
   abbrev pub After : MeterState
   After = record x { station = t }
 
-  pub heard_joining : (y : MeterState) (way : Way) (body : List ℕ) (r : Result MeterHeard Dropped) (out : Out) → unread h ≡ Some (record { way = way; body = body })
+  pub heard_joining : (y : MeterState) (way : Way) (body : List ℕ) (r : Result MeterHeard Dropped) (out : Out)
+      → unread h ≡ Some (record { way = way; body = body })
       → IfSome (node_of After).memory (λ m. Carries (node_of After) (meters.hear_join_in (identity_of After) m way (join_in body) now) r out (node_of y))
       → Carries (node_of x) (meters.hear_meter (identity_of x) (memory_with x l) got cost note now) r out (node_of y)
   heard_joining y way body r out is k =
       let calm : Rested x.station l (Ok (Joining way body)) h between t = at_rest l got cost note now x.station t h between c way body is in
-      let answer : unread (hear l got cost note now).answer ≡ Some (record { way = way; body = body }) = ap unread (handed_on l got cost note now x.station t h between c way body is) in
+      let answer : unread (hear l got cost note now).answer
+      ≡ Some (record { way = way; body = body }) = ap unread (handed_on l got cost note now x.station t h between c way body is) in
       let there : Carries (node_of After) (meters.hear_join_in (identity_of After) (memory_with x l) way (join_in body) now) r out (node_of y) =
-      at_some (node_of After).memory (λ m. Carries (node_of After) (meters.hear_join_in (identity_of After) m way (join_in body) now) r out (node_of y)) (memory_with x l)
+      at_some (node_of After).memory (λ m. Carries (node_of After) (meters.hear_join_in (identity_of After) m way (join_in body) now) r out (node_of y))
+      (memory_with x l)
       (ap (option_map (memory_with x)) calm.memory) k in
       let named : Carries (node_of After) (meters.hear_join_in (identity_of x) (memory_with x l) way (join_in body) now) r out (node_of y) =
-      subst (λ e. Carries (node_of After) (meters.hear_join_in (record (identity_of x) { eui = e }) (memory_with x l) way (join_in body) now) r out (node_of y)) calm.eui there in
+      subst (λ e. Carries (node_of After) (meters.hear_join_in (record (identity_of x) { eui = e }) (memory_with x l) way (join_in body) now) r out (node_of y))
+      calm.eui there in
       subst (λ (p : meters.Hearing). Carries (node_of x) p r out (node_of y))
       (ap (λ o. meters.heard_by (identity_of x) (memory_with x l) now (hear l got cost note now) o) (sym answer))
       (carries_behind (node_of x) (node_of After) (node_of y) [] (meters.hear_join_in (identity_of x) (memory_with x l) way (join_in body) now) r out
@@ -205,11 +218,13 @@ module _ (x : MeterState) (t : State StationMemory) (l : StationMemory) (got : A
       → Carries (node_of x) (meters.hear_meter (identity_of x) (memory_with x l) got cost note now) (meters.heard_by_station h) between (node_of After)
   heard_other none =
       as_station meters.heard_by_station x After (hear l got cost note now) (meters.hear_meter (identity_of x) (memory_with x l) got cost note now) h between
-      (ap (λ o. meters.heard_by (identity_of x) (memory_with x l) now (hear l got cost note now) o) (sym (kept l got cost note now x.station t h between c none))) c
+      (ap (λ o. meters.heard_by (identity_of x) (memory_with x l) now (hear l got cost note now) o)
+      (sym (kept l got cost note now x.station t h between c none))) c
 
   -- a joining command is handed on
   pub never_itself : (way : Way) (body : List ℕ) → unread h ≡ Some (record { way = way; body = body }) → unread (hear l got cost note now).answer ≡ None → ⊥
-  never_itself way body is none = none_some (record { way = way; body = body }) (sym none ∙ ap unread (handed_on l got cost note now x.station t h between c way body is))
+  never_itself way body is none =
+      none_some (record { way = way; body = body }) (sym none ∙ ap unread (handed_on l got cost note now x.station t h between c way body is))
 
   is_left : (o : Option StationMemory) → is_some o ≡ is_some (option_map (memory_with x) o)
   is_left None = refl
@@ -220,4 +235,5 @@ module _ (x : MeterState) (t : State StationMemory) (l : StationMemory) (got : A
       → t.replied ≡ reply_sent (meters.hear_meter (identity_of x) (memory_with x l) got cost note now) (node_of After).memory
   replied_other none is =
       is ∙ ap (λ (b : Bool). if b then reply_among (hear l got cost note now).frames else None) (is_left t.memory)
-      ∙ ap (λ o. reply_sent (meters.heard_by (identity_of x) (memory_with x l) now (hear l got cost note now) o) (node_of After).memory) (sym (kept l got cost note now x.station t h between c none))
+      ∙ ap (λ o. reply_sent (meters.heard_by (identity_of x) (memory_with x l) now (hear l got cost note now) o) (node_of After).memory)
+      (sym (kept l got cost note now x.station t h between c none))

@@ -27,13 +27,15 @@ module _ (x : MeterState) (l : StationMemory) where
   pub declines : (agent : ℕ) → is_some l.ring ≡ false → meters.has_session (memory_with x l) (ByAgent agent) ≡ true
       → sealing in_memory dropped (begun [] (memory_with (record x { session = None }) l) [] [] []) heard.Declined ≡ meters.declined (memory_with x l) agent
   unfolding choose with_memory_by empty_draft
-  declines agent free has = rw (free, has) (sealed_quiet dropped (memory_with x l) (begun [] (memory_with (record x { session = None }) l) [] [] []) heard.Declined refl)
+  declines agent free has =
+      rw (free, has) (sealed_quiet dropped (memory_with x l) (begun [] (memory_with (record x { session = None }) l) [] [] []) heard.Declined refl)
 
   pub declined_joined : (agent : ℕ) → is_some l.ring ≡ true → refused dropped (memory_with x l) BadUnit ≡ meters.declined (memory_with x l) agent
   unfolding choose
   declined_joined agent ring = rw ring refl
 
-  pub declined_unasked : (agent : ℕ) → is_some l.ring ≡ false → meters.has_session (memory_with x l) (ByAgent agent) ≡ false → refused dropped (memory_with x l) NoSession ≡ meters.declined (memory_with x l) agent
+  pub declined_unasked : (agent : ℕ) → is_some l.ring ≡ false → meters.has_session (memory_with x l) (ByAgent agent) ≡ false
+      → refused dropped (memory_with x l) NoSession ≡ meters.declined (memory_with x l) agent
   unfolding choose
   declined_unasked agent free has = rw (free, has) refl
 
@@ -60,18 +62,22 @@ module _ (x : MeterState) (l : StationMemory) where
           → sealing in_memory dropped (begun [] (memory_with x l) (Down own join ∷ []) [] []) heard.Carried ≡ meters.carries_down (memory_with x l) join
       by_address join own address =
           sealed_quiet dropped (memory_with x l) (begun [] (memory_with x l) (Down own join ∷ []) [] []) heard.Carried refl
-          ∙ ap (λ (a : Option ℕ). option_map_or (λ o. meters.ends (memory_with x l) (goes_down o join (empty_draft (memory_with x l))) heard.Carried) a (meters.drop_it (memory_with x l) BadUnit)) address
+          ∙ ap (λ (a : Option ℕ). option_map_or (λ o. meters.ends (memory_with x l) (goes_down o join (empty_draft (memory_with x l))) heard.Carried) a
+          (meters.drop_it (memory_with x l) BadUnit)) address
   carries_down join own (body.Accept identifier) address goes =
       sealed_quiet dropped (memory_with x l) (begun [] (memory_with x l) (Down own join ∷ []) [] []) heard.Carried refl
-      ∙ ap (λ (a : Option ℕ). option_map_or (λ o. meters.ends (memory_with x l) (goes_down o join (empty_draft (memory_with x l))) heard.Carried) a (meters.drop_it (memory_with x l) BadUnit)) address
+      ∙ ap (λ (a : Option ℕ). option_map_or (λ o. meters.ends (memory_with x l) (goes_down o join (empty_draft (memory_with x l))) heard.Carried) a
+      (meters.drop_it (memory_with x l) BadUnit)) address
   carries_down join own body.Decline address goes =
       sealed_quiet dropped (memory_with x l) (begun [] (memory_with x l) (Down own join ∷ []) [] []) heard.Carried refl
-      ∙ ap (λ (a : Option ℕ). option_map_or (λ o. meters.ends (memory_with x l) (goes_down o join (empty_draft (memory_with x l))) heard.Carried) a (meters.drop_it (memory_with x l) BadUnit)) address
+      ∙ ap (λ (a : Option ℕ). option_map_or (λ o. meters.ends (memory_with x l) (goes_down o join (empty_draft (memory_with x l))) heard.Carried) a
+      (meters.drop_it (memory_with x l) BadUnit)) address
   carries_down join own (body.Join eap) address goes = absurd (cc)
   carries_down join own body.Kick address goes = absurd (cc)
   carries_down join own (body.Activate index) address goes = absurd (cc)
 
-  pub not_carried : (join : JoinMessage) (b : JoinBody) → relaying.goes_down b ≡ false → refused dropped (memory_with x l) BadUnit ≡ meters.carry_down (memory_with x l) join b
+  pub not_carried : (join : JoinMessage) (b : JoinBody) → relaying.goes_down b ≡ false
+      → refused dropped (memory_with x l) BadUnit ≡ meters.carry_down (memory_with x l) join b
   not_carried join (body.Challenge eap) goes = absurd (cc)
   not_carried join (body.Accept identifier) goes = absurd (cc)
   not_carried join body.Decline goes = absurd (cc)
@@ -79,10 +85,14 @@ module _ (x : MeterState) (l : StationMemory) where
   not_carried join body.Kick goes = refl
   not_carried join (body.Activate index) goes = refl
 
-  pub carried_without : (join : JoinMessage) (b : JoinBody) → None ≡ address_of l → refused dropped (memory_with x l) BadUnit ≡ meters.carry_down (memory_with x l) join b
-  carried_without join (body.Challenge eap) none = ap (λ (a : Option ℕ). option_map_or (λ o. meters.ends (memory_with x l) (goes_down o join (empty_draft (memory_with x l))) heard.Carried) a (meters.drop_it (memory_with x l) BadUnit)) none
-  carried_without join (body.Accept identifier) none = ap (λ (a : Option ℕ). option_map_or (λ o. meters.ends (memory_with x l) (goes_down o join (empty_draft (memory_with x l))) heard.Carried) a (meters.drop_it (memory_with x l) BadUnit)) none
-  carried_without join body.Decline none = ap (λ (a : Option ℕ). option_map_or (λ o. meters.ends (memory_with x l) (goes_down o join (empty_draft (memory_with x l))) heard.Carried) a (meters.drop_it (memory_with x l) BadUnit)) none
+  pub carried_without : (join : JoinMessage) (b : JoinBody) → None ≡ address_of l
+      → refused dropped (memory_with x l) BadUnit ≡ meters.carry_down (memory_with x l) join b
+  carried_without join (body.Challenge eap) none = ap (λ (a : Option ℕ). option_map_or
+      (λ o. meters.ends (memory_with x l) (goes_down o join (empty_draft (memory_with x l))) heard.Carried) a (meters.drop_it (memory_with x l) BadUnit)) none
+  carried_without join (body.Accept identifier) none = ap (λ (a : Option ℕ). option_map_or
+      (λ o. meters.ends (memory_with x l) (goes_down o join (empty_draft (memory_with x l))) heard.Carried) a (meters.drop_it (memory_with x l) BadUnit)) none
+  carried_without join body.Decline none = ap (λ (a : Option ℕ). option_map_or
+      (λ o. meters.ends (memory_with x l) (goes_down o join (empty_draft (memory_with x l))) heard.Carried) a (meters.drop_it (memory_with x l) BadUnit)) none
   carried_without join (body.Join eap) none = refl
   carried_without join body.Kick none = refl
   carried_without join (body.Activate index) none = refl

@@ -22,7 +22,8 @@ use Rattle.node_rules.specs.Agreement.{Agrees, AgreesWith}
 use Rattle.node_rules.specs.States.{State}
 use Rattle.plc_station.specs.declared.parts.Parts.{Parts}
 
-pub agrees_counted : (l : StationMemory) (x : counter.Counting) (old new : Records) → AgreesWith l old → counter.IsKept x new → SameOutside 2 2 old new → AgreesWith (record l { counter = x }) new
+pub agrees_counted : (l : StationMemory) (x : counter.Counting) (old new : Records) → AgreesWith l old → counter.IsKept x new → SameOutside 2 2 old new
+    → AgreesWith (record l { counter = x }) new
 agrees_counted l x old new a kept same = record {
   ring = record { stored = ap ring_at (same 1 (inl (omega arith))) ∙ a.ring.stored };
   counter = kept;
@@ -32,7 +33,8 @@ agrees_counted l x old new a kept same = record {
   tag = ap tag_in (same 4 (inr (omega arith))) ∙ a.tag;
 }
 
-pub agrees_numbered : (l : StationMemory) (x : own_number.Numbering) (old new : Records) → AgreesWith l old → own_number.IsKept x new → SameOutside 3 3 old new → AgreesWith (record l { own_number = x }) new
+pub agrees_numbered : (l : StationMemory) (x : own_number.Numbering) (old new : Records) → AgreesWith l old → own_number.IsKept x new → SameOutside 3 3 old new
+    → AgreesWith (record l { own_number = x }) new
 agrees_numbered l x old new a kept same = record {
   ring = record { stored = ap ring_at (same 1 (inl (omega arith))) ∙ a.ring.stored };
   counter = record { limit = ap counter.limit_in (same 2 (inl (omega arith))) ∙ a.counter.limit; below = a.counter.below };
@@ -42,7 +44,8 @@ agrees_numbered l x old new a kept same = record {
   tag = ap tag_in (same 4 (inr (omega arith))) ∙ a.tag;
 }
 
-pub agrees_ranked : (l : StationMemory) (x : routing.Routing) (old new : Records) → AgreesWith l old → routing.IsKept x new → routing.SameElsewhere old new → AgreesWith (record l { routing = x }) new
+pub agrees_ranked : (l : StationMemory) (x : routing.Routing) (old new : Records) → AgreesWith l old → routing.IsKept x new → routing.SameElsewhere old new
+    → AgreesWith (record l { routing = x }) new
 agrees_ranked l x old new a kept same = record {
   ring = record { stored = ap ring_at (same 1 (omega arith) (inl (omega arith))) ∙ a.ring.stored };
   counter = record { limit = ap counter.limit_in (same 2 (omega arith) (inl (omega arith))) ∙ a.counter.limit; below = a.counter.below };
@@ -57,10 +60,13 @@ pub agrees_holding : (p : Parts) (h k : Held) (records : Records) → AgreesWith
 agrees_holding p h k records a = record { ring = a.ring; counter = a.counter; marks = a.marks; routing = a.routing; own_number = a.own_number; tag = a.tag }
 
 -- routes that end are not stored
-pub agrees_routed : (l : StationMemory) (r : routing.Routing) (records : Records) → AgreesWith l records → ((k : Records) → routing.IsKept l.routing k → routing.IsKept r k) → AgreesWith (record l { routing = r }) records
-agrees_routed l r records a keeps = record { ring = a.ring; counter = a.counter; marks = a.marks; routing = keeps records a.routing; own_number = a.own_number; tag = a.tag }
+pub agrees_routed : (l : StationMemory) (r : routing.Routing) (records : Records) → AgreesWith l records
+    → ((k : Records) → routing.IsKept l.routing k → routing.IsKept r k) → AgreesWith (record l { routing = r }) records
+agrees_routed l r records a keeps =
+    record { ring = a.ring; counter = a.counter; marks = a.marks; routing = keeps records a.routing; own_number = a.own_number; tag = a.tag }
 
-pub agrees_ringed : (l : StationMemory) (x : Ring) (old new : Records) → AgreesWith l old → ring.IsKept x new → SameOutside 1 1 old new → AgreesWith (record l { ring = x }) new
+pub agrees_ringed : (l : StationMemory) (x : Ring) (old new : Records) → AgreesWith l old → ring.IsKept x new → SameOutside 1 1 old new
+    → AgreesWith (record l { ring = x }) new
 agrees_ringed l x old new a kept same = record {
   ring = kept;
   counter = record { limit = ap counter.limit_in (same 2 (inr (omega arith))) ∙ a.counter.limit; below = a.counter.below };
@@ -74,6 +80,7 @@ agrees_ringed l x old new a kept same = record {
 pub gapless_kept : (s : State StationMemory) → IsSome s.memory → Agrees s → IsGapless peers s.store.records × IsGapless ranks s.store.records
 gapless_kept s running agrees = by_memory s.memory running agrees
   where
-    by_memory : (m : Option StationMemory) → IsSome m → IfSome m (λ l. AgreesWith l s.store.records) → IsGapless peers s.store.records × IsGapless ranks s.store.records
+    by_memory : (m : Option StationMemory) → IsSome m → IfSome m (λ l. AgreesWith l s.store.records)
+        → IsGapless peers s.store.records × IsGapless ranks s.store.records
     by_memory None r a = absurd (cc)
     by_memory (Some l) r a = (stored_gapless peers l.marks s.store.records a.marks, kept_gapless l.routing s.store.records a.routing)

@@ -35,9 +35,11 @@ resting_carried {M} s m answer failed e = record {
 }
 
 -- lines with the same parts are the same
-pub lines_are : {replied : Option Reply} (store : Store) (eui : Eui) (l m : StationMemory) → l.ring ≡ m.ring → l.counter ≡ m.counter → l.marks ≡ m.marks → l.routing ≡ m.routing → l.own_number ≡ m.own_number
+pub lines_are : {replied : Option Reply} (store : Store) (eui : Eui) (l m : StationMemory) → l.ring ≡ m.ring → l.counter ≡ m.counter → l.marks ≡ m.marks
+    → l.routing ≡ m.routing → l.own_number ≡ m.own_number
     → l.next_tag ≡ m.next_tag → l.reassemblies ≡ m.reassemblies → l.waiting ≡ m.waiting
-    → ◌≡◌ {A = State StationMemory} (record { store = store; eui = eui; memory = Some l; replied = replied }) (record { store = store; eui = eui; memory = Some m; replied = replied })
+    → ◌≡◌ {A = State StationMemory} (record { store = store; eui = eui; memory = Some l; replied = replied })
+    (record { store = store; eui = eui; memory = Some m; replied = replied })
 lines_are {replied} store eui l m a b c d e f g h = λ i. record {
   store = store;
   eui = eui;
@@ -47,7 +49,8 @@ lines_are {replied} store eui l m a b c d e f g h = λ i. record {
 
 pub station_is : (l m : StationMemory) → l.ring ≡ m.ring → l.counter ≡ m.counter → l.marks ≡ m.marks → l.routing ≡ m.routing → l.own_number ≡ m.own_number
     → l.next_tag ≡ m.next_tag → l.reassemblies ≡ m.reassemblies → l.waiting ≡ m.waiting → l ≡ m
-station_is l m a b c d e f g h = λ i. record { ring = a i; counter = b i; marks = c i; routing = d i; own_number = e i; next_tag = f i; reassemblies = g i; waiting = h i }
+station_is l m a b c d e f g h =
+    λ i. record { ring = a i; counter = b i; marks = c i; routing = d i; own_number = e i; next_tag = f i; reassemblies = g i; waiting = h i }
 
 -- of a node that is known to run
 pub of_some : {M : Type 0} (halted : Bool) (m : M) (P : M → Type 0) → IsSome (unless_halted halted m) → IfSome (unless_halted halted m) P → P m

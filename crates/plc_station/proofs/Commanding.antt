@@ -6,7 +6,8 @@ use Rattle.node_rules.specs.declared.heard.SentHow.TheVariants.{Sent, Waiting}
 use Rattle.node_rules.specs.declared.refusal.SendRefusal.TheVariants.{NotJoined, WaitingFull, SeqSpent, CounterSpent}
 use Rattle.node_rules.specs.declared.refusal.SendRefusal.{SendRefusal}
 use Rattle.node_rules.specs.Memory.{StationMemory, Command, next_hop}
-use Rattle.node_rules.specs.Drafts.{Draft, Ends, alone, empty_draft, body_goes, waits, seeks, seeks_once, lack, no_room, numbers_spent, is_awaited, counters_left, refused, sealing, checked, goes, with_own_number}
+use Rattle.node_rules.specs.Drafts.{Draft, Ends, alone, empty_draft, body_goes, waits, seeks, seeks_once, lack, no_room, numbers_spent, is_awaited}
+use Rattle.node_rules.specs.Drafts.{counters_left, refused, sealing, checked, goes, with_own_number}
 use Rattle.node_rules.specs.Calls.{sending_ends, command_from, send_command, room_fault, room}
 use Rattle.plc_station.specs.Rooms.{room_answer}
 use Rattle.node_rules.specs.States.{State}
@@ -14,23 +15,30 @@ use Rattle.node_rules.specs.Carrying.{Carries}
 use Rattle.plc_station.proofs.Ways.{sealed_spent, sealed_fits, never_less}
 
 -- a step in the words of another call
-pub told_done : {H E F : Type 0} (ends : Ends E) (others : Ends F) (s t : State StationMemory) (d : Draft StationMemory) (u : Unit {0}) (answer : H) (out : Out) → Carries s (sealing {H = Unit {0}} alone ends d tt) (Ok u) out t
+pub told_done : {H E F : Type 0} (ends : Ends E) (others : Ends F) (s t : State StationMemory) (d : Draft StationMemory) (u : Unit {0}) (answer : H) (out : Out)
+    → Carries s (sealing {H = Unit {0}} alone ends d tt) (Ok u) out t
     → Carries s (sealing alone others d answer) (Ok answer) out t
-told_done {H} {E} {F} ends others s t d u answer out c = record { done = c.done; wrote = c.wrote; answer_is = so c.done c.answer_is; out_is = c.out_is; new_is = c.new_is }
+told_done {H} {E} {F} ends others s t d u answer out c =
+    record { done = c.done; wrote = c.wrote; answer_is = so c.done c.answer_is; out_is = c.out_is; new_is = c.new_is }
   where
-    so : (done : Bool) → ◌≡◌ {A = Result (Unit {0}) E} (Ok u) (if done then Ok tt else Err ends.store) → ◌≡◌ {A = Result H F} (Ok answer) (if done then Ok answer else Err others.store)
+    so : (done : Bool) → ◌≡◌ {A = Result (Unit {0}) E} (Ok u) (if done then Ok tt else Err ends.store)
+        → ◌≡◌ {A = Result H F} (Ok answer) (if done then Ok answer else Err others.store)
     so true e = refl
     so false e = cc
 
-pub told_failed : {H E F : Type 0} (ends : Ends E) (others : Ends F) (s t : State StationMemory) (d : Draft StationMemory) (reason : E) (answer : H) (out : Out) → Carries s (sealing {H = Unit {0}} alone ends d tt) (Err reason) out t
+pub told_failed : {H E F : Type 0} (ends : Ends E) (others : Ends F) (s t : State StationMemory) (d : Draft StationMemory) (reason : E) (answer : H) (out : Out)
+    → Carries s (sealing {H = Unit {0}} alone ends d tt) (Err reason) out t
     → Carries s (sealing alone others d answer) (Err others.store) out t
-told_failed {H} {E} {F} ends others s t d reason answer out c = record { done = c.done; wrote = c.wrote; answer_is = so c.done c.answer_is; out_is = c.out_is; new_is = c.new_is }
+told_failed {H} {E} {F} ends others s t d reason answer out c =
+    record { done = c.done; wrote = c.wrote; answer_is = so c.done c.answer_is; out_is = c.out_is; new_is = c.new_is }
   where
-    so : (done : Bool) → ◌≡◌ {A = Result (Unit {0}) E} (Err reason) (if done then Ok tt else Err ends.store) → ◌≡◌ {A = Result H F} (Err others.store) (if done then Ok answer else Err others.store)
+    so : (done : Bool) → ◌≡◌ {A = Result (Unit {0}) E} (Err reason) (if done then Ok tt else Err ends.store)
+        → ◌≡◌ {A = Result H F} (Err others.store) (if done then Ok answer else Err others.store)
     so true e = cc
     so false e = refl
 
-pub goes_spent : (l : StationMemory) (own to : ℕ) (octets : List ℕ) (now hop : ℕ) → Some hop ≡ next_hop l to → true ≡ nat_lt (counters_left l) 1 → refused sending_ends l CounterSpent ≡ command_from l own to octets now
+pub goes_spent : (l : StationMemory) (own to : ℕ) (octets : List ℕ) (now hop : ℕ) → Some hop ≡ next_hop l to → true ≡ nat_lt (counters_left l) 1
+    → refused sending_ends l CounterSpent ≡ command_from l own to octets now
 unfolding checked lack empty_draft body_goes
 goes_spent l own to octets now hop by few = rw (← by) (sealed_spent sending_ends l (body_goes own hop to 0 (Command octets) (empty_draft l)) Sent 1 refl few)
 
@@ -39,27 +47,32 @@ pub goes_by : (l : StationMemory) (own to : ℕ) (octets : List ℕ) (now hop : 
 unfolding checked lack empty_draft body_goes
 goes_by l own to octets now hop by few = rw (← by) (sealed_fits sending_ends l (body_goes own hop to 0 (Command octets) (empty_draft l)) Sent 1 refl few)
 
-pub full : (l : StationMemory) (own to : ℕ) (octets : List ℕ) (now : ℕ) → None ≡ next_hop l to → true ≡ no_room l (length octets) → refused sending_ends l WaitingFull ≡ command_from l own to octets now
+pub full : (l : StationMemory) (own to : ℕ) (octets : List ℕ) (now : ℕ) → None ≡ next_hop l to → true ≡ no_room l (length octets)
+    → refused sending_ends l WaitingFull ≡ command_from l own to octets now
 unfolding checked lack
 full l own to octets now by room = rw (← by, ← room) refl
 
 pub quiet : (l : StationMemory) (own to : ℕ) (octets : List ℕ) (now : ℕ) → None ≡ next_hop l to → false ≡ no_room l (length octets) → true ≡ is_awaited l to
     → sealing alone sending_ends (waits to 0 (Command octets) now (empty_draft l)) Waiting ≡ command_from l own to octets now
 unfolding checked lack seeks_once empty_draft waits
-quiet l own to octets now by room awaited = rw (← by, ← room, ← awaited) (sealed_fits sending_ends l (waits to 0 (Command octets) now (empty_draft l)) Waiting 0 refl (never_less (counters_left l)))
+quiet l own to octets now by room awaited =
+    rw (← by, ← room, ← awaited) (sealed_fits sending_ends l (waits to 0 (Command octets) now (empty_draft l)) Waiting 0 refl (never_less (counters_left l)))
 
-pub seq_spent : (l : StationMemory) (own to : ℕ) (octets : List ℕ) (now : ℕ) → None ≡ next_hop l to → false ≡ no_room l (length octets) → false ≡ is_awaited l to → true ≡ numbers_spent l
+pub seq_spent : (l : StationMemory) (own to : ℕ) (octets : List ℕ) (now : ℕ) → None ≡ next_hop l to → false ≡ no_room l (length octets)
+    → false ≡ is_awaited l to → true ≡ numbers_spent l
     → refused sending_ends l SeqSpent ≡ command_from l own to octets now
 unfolding checked lack
 seq_spent l own to octets now by room awaited spent = rw (← by, ← room, ← awaited, ← spent) refl
 
-pub seeks_spent : (l : StationMemory) (own to : ℕ) (octets : List ℕ) (now : ℕ) → None ≡ next_hop l to → false ≡ no_room l (length octets) → false ≡ is_awaited l to → false ≡ numbers_spent l → true ≡ nat_lt (counters_left l) 1
+pub seeks_spent : (l : StationMemory) (own to : ℕ) (octets : List ℕ) (now : ℕ) → None ≡ next_hop l to → false ≡ no_room l (length octets)
+    → false ≡ is_awaited l to → false ≡ numbers_spent l → true ≡ nat_lt (counters_left l) 1
     → refused sending_ends l CounterSpent ≡ command_from l own to octets now
 unfolding checked lack seeks_once empty_draft waits goes with_own_number
 seeks_spent l own to octets now by room awaited spent few =
     rw (← by, ← room, ← awaited, ← spent) (sealed_spent sending_ends l (waits to 0 (Command octets) now (seeks own to (empty_draft l))) Waiting 1 refl few)
 
-pub seeking : (l : StationMemory) (own to : ℕ) (octets : List ℕ) (now : ℕ) → None ≡ next_hop l to → false ≡ no_room l (length octets) → false ≡ is_awaited l to → false ≡ numbers_spent l → false ≡ nat_lt (counters_left l) 1
+pub seeking : (l : StationMemory) (own to : ℕ) (octets : List ℕ) (now : ℕ) → None ≡ next_hop l to → false ≡ no_room l (length octets) → false ≡ is_awaited l to
+    → false ≡ numbers_spent l → false ≡ nat_lt (counters_left l) 1
     → sealing alone sending_ends (waits to 0 (Command octets) now (seeks own to (empty_draft l))) Waiting ≡ command_from l own to octets now
 unfolding checked lack seeks_once empty_draft waits goes with_own_number
 seeking l own to octets now by room awaited spent few =
@@ -70,30 +83,37 @@ not_joined l to octets now e = rw (← e) refl
 
 -- # Room
 
-pub room_goes_spent : (l : StationMemory) (to octets hop : ℕ) → Some hop ≡ next_hop l to → true ≡ nat_lt (counters_left l) 1 → ◌≡◌ {A = Result (Unit {0}) SendRefusal} (Err CounterSpent) (room_answer (room_fault l to octets))
+pub room_goes_spent : (l : StationMemory) (to octets hop : ℕ) → Some hop ≡ next_hop l to → true ≡ nat_lt (counters_left l) 1
+    → ◌≡◌ {A = Result (Unit {0}) SendRefusal} (Err CounterSpent) (room_answer (room_fault l to octets))
 unfolding lack
 room_goes_spent l to octets hop by few = rw (← by, ← few) refl
 
-pub room_goes : (l : StationMemory) (to octets hop : ℕ) → Some hop ≡ next_hop l to → false ≡ nat_lt (counters_left l) 1 → ◌≡◌ {A = Result (Unit {0}) SendRefusal} (Ok tt) (room_answer (room_fault l to octets))
+pub room_goes : (l : StationMemory) (to octets hop : ℕ) → Some hop ≡ next_hop l to → false ≡ nat_lt (counters_left l) 1
+    → ◌≡◌ {A = Result (Unit {0}) SendRefusal} (Ok tt) (room_answer (room_fault l to octets))
 unfolding lack
 room_goes l to octets hop by few = rw (← by, ← few) refl
 
-pub room_full : (l : StationMemory) (to octets : ℕ) → None ≡ next_hop l to → true ≡ no_room l octets → ◌≡◌ {A = Result (Unit {0}) SendRefusal} (Err WaitingFull) (room_answer (room_fault l to octets))
+pub room_full : (l : StationMemory) (to octets : ℕ) → None ≡ next_hop l to → true ≡ no_room l octets
+    → ◌≡◌ {A = Result (Unit {0}) SendRefusal} (Err WaitingFull) (room_answer (room_fault l to octets))
 unfolding lack
 room_full l to octets by room = rw (← by, ← room) refl
 
-pub room_quiet : (l : StationMemory) (to octets : ℕ) → None ≡ next_hop l to → false ≡ no_room l octets → true ≡ is_awaited l to → ◌≡◌ {A = Result (Unit {0}) SendRefusal} (Ok tt) (room_answer (room_fault l to octets))
+pub room_quiet : (l : StationMemory) (to octets : ℕ) → None ≡ next_hop l to → false ≡ no_room l octets → true ≡ is_awaited l to
+    → ◌≡◌ {A = Result (Unit {0}) SendRefusal} (Ok tt) (room_answer (room_fault l to octets))
 unfolding lack
 room_quiet l to octets by room awaited = rw (← by, ← room, ← awaited, ← never_less (counters_left l)) refl
 
-pub room_seq : (l : StationMemory) (to octets : ℕ) → None ≡ next_hop l to → false ≡ no_room l octets → false ≡ is_awaited l to → true ≡ numbers_spent l → ◌≡◌ {A = Result (Unit {0}) SendRefusal} (Err SeqSpent) (room_answer (room_fault l to octets))
+pub room_seq : (l : StationMemory) (to octets : ℕ) → None ≡ next_hop l to → false ≡ no_room l octets → false ≡ is_awaited l to → true ≡ numbers_spent l
+    → ◌≡◌ {A = Result (Unit {0}) SendRefusal} (Err SeqSpent) (room_answer (room_fault l to octets))
 unfolding lack
 room_seq l to octets by room awaited spent = rw (← by, ← room, ← awaited, ← spent) refl
 
-pub room_spent : (l : StationMemory) (to octets : ℕ) → None ≡ next_hop l to → false ≡ no_room l octets → false ≡ is_awaited l to → false ≡ numbers_spent l → true ≡ nat_lt (counters_left l) 1 → ◌≡◌ {A = Result (Unit {0}) SendRefusal} (Err CounterSpent) (room_answer (room_fault l to octets))
+pub room_spent : (l : StationMemory) (to octets : ℕ) → None ≡ next_hop l to → false ≡ no_room l octets → false ≡ is_awaited l to → false ≡ numbers_spent l
+    → true ≡ nat_lt (counters_left l) 1 → ◌≡◌ {A = Result (Unit {0}) SendRefusal} (Err CounterSpent) (room_answer (room_fault l to octets))
 unfolding lack
 room_spent l to octets by room awaited spent few = rw (← by, ← room, ← awaited, ← spent, ← few) refl
 
-pub room_seeks : (l : StationMemory) (to octets : ℕ) → None ≡ next_hop l to → false ≡ no_room l octets → false ≡ is_awaited l to → false ≡ numbers_spent l → false ≡ nat_lt (counters_left l) 1 → ◌≡◌ {A = Result (Unit {0}) SendRefusal} (Ok tt) (room_answer (room_fault l to octets))
+pub room_seeks : (l : StationMemory) (to octets : ℕ) → None ≡ next_hop l to → false ≡ no_room l octets → false ≡ is_awaited l to → false ≡ numbers_spent l
+    → false ≡ nat_lt (counters_left l) 1 → ◌≡◌ {A = Result (Unit {0}) SendRefusal} (Ok tt) (room_answer (room_fault l to octets))
 unfolding lack
 room_seeks l to octets by room awaited spent few = rw (← by, ← room, ← awaited, ← spent, ← few) refl

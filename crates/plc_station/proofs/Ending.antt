@@ -20,46 +20,62 @@ use Rattle.plc_station.proofs.Carrying.{resting_carried}
 
 -- what is sent, and what is left where a put failed
 abbrev pub sent : Draft StationMemory → Out
-sent d = record { frames = map (spelled network) (d.plain ++ sealed_by d.memory.ring d.memory.counter.next d.units); tags = record { made = d.made; opened = d.opened } }
+sent d = record {
+  frames = map (spelled network) (d.plain ++ sealed_by d.memory.ring d.memory.counter.next d.units);
+  tags = record { made = d.made; opened = d.opened };
+}
 
 abbrev pub unsent : Draft StationMemory → Out
 unsent d = record { frames = []; tags = record { made = []; opened = d.opened } }
 
 -- all puts were done
-pub ended : {H E : Type 0} (ends : Ends E) (s t : State StationMemory) (d e : Draft StationMemory) (answer : H) (m : Store) (out : Out) (count : ℕ) → d ≡ e → Wrote s.store d.puts true m
+pub ended : {H E : Type 0} (ends : Ends E) (s t : State StationMemory) (d e : Draft StationMemory) (answer : H) (m : Store) (out : Out) (count : ℕ) → d ≡ e
+    → Wrote s.store d.puts true m
     → count ≡ length d.units → Stores m (reserve_write d.memory.counter count) true t.store → out ≡ sent d
     → t ≡ record { store = t.store; eui = s.eui; memory = Some (record d.memory { counter = reserved d.memory.counter count }); replied = t.replied }
     → Carries s (sealing alone ends e answer) (Ok answer) out t
-ended {H} {E} ends s t d e answer m out count same wrote few stores is new = subst (λ (x : Draft StationMemory). Carries s (sealing alone ends x answer) (Ok answer) out t) same (record {
-  done = true;
-  wrote = wrote_append s.store m t.store d.puts _ true wrote (wrote_one m t.store _ true (subst (λ n. Stores m (reserve_write d.memory.counter n) true t.store) few stores));
-  answer_is = refl;
-  out_is = is;
-  new_is = new ∙ ap (λ n. record { store = t.store; eui = s.eui; memory = Some (record d.memory { counter = reserved d.memory.counter n }); replied = t.replied }) few;
-})
+ended {H} {E} ends s t d e answer m out count same wrote few stores is new =
+    subst (λ (x : Draft StationMemory). Carries s (sealing alone ends x answer) (Ok answer) out t) same (record {
+      done = true;
+      wrote = wrote_append s.store m t.store d.puts _ true wrote
+          (wrote_one m t.store _ true (subst (λ n. Stores m (reserve_write d.memory.counter n) true t.store) few stores));
+      answer_is = refl;
+      out_is = is;
+      new_is = new ∙ ap (λ n. record {
+        store = t.store;
+        eui = s.eui;
+        memory = Some (record d.memory { counter = reserved d.memory.counter n });
+        replied = t.replied;
+      }) few;
+    })
 
 -- one of the first puts failed
-pub stopped : {H E : Type 0} (ends : Ends E) (s t : State StationMemory) (d e : Draft StationMemory) (answer : H) (out : Out) → d ≡ e → Wrote s.store d.puts false t.store → out ≡ unsent d
+pub stopped : {H E : Type 0} (ends : Ends E) (s t : State StationMemory) (d e : Draft StationMemory) (answer : H) (out : Out) → d ≡ e
+    → Wrote s.store d.puts false t.store → out ≡ unsent d
     → t ≡ record { store = t.store; eui = s.eui; memory = None; replied = t.replied } → Carries s (sealing alone ends e answer) (Err ends.store) out t
-stopped {H} {E} ends s t d e answer out same wrote is new = subst (λ (x : Draft StationMemory). Carries s (sealing alone ends x answer) (Err ends.store) out t) same (record {
-  done = false;
-  wrote = wrote_append_stop s.store t.store d.puts _ wrote;
-  answer_is = refl;
-  out_is = is;
-  new_is = new;
-})
+stopped {H} {E} ends s t d e answer out same wrote is new =
+    subst (λ (x : Draft StationMemory). Carries s (sealing alone ends x answer) (Err ends.store) out t) same (record {
+      done = false;
+      wrote = wrote_append_stop s.store t.store d.puts _ wrote;
+      answer_is = refl;
+      out_is = is;
+      new_is = new;
+    })
 
 -- the put of the counter failed
-pub uncounted : {H E : Type 0} (ends : Ends E) (s t : State StationMemory) (d e : Draft StationMemory) (answer : H) (m : Store) (out : Out) (count : ℕ) → d ≡ e → Wrote s.store d.puts true m
+pub uncounted : {H E : Type 0} (ends : Ends E) (s t : State StationMemory) (d e : Draft StationMemory) (answer : H) (m : Store) (out : Out) (count : ℕ) → d ≡ e
+    → Wrote s.store d.puts true m
     → count ≡ length d.units → Stores m (reserve_write d.memory.counter count) false t.store → out ≡ unsent d
     → t ≡ record { store = t.store; eui = s.eui; memory = None; replied = t.replied } → Carries s (sealing alone ends e answer) (Err ends.store) out t
-uncounted {H} {E} ends s t d e answer m out count same wrote few stores is new = subst (λ (x : Draft StationMemory). Carries s (sealing alone ends x answer) (Err ends.store) out t) same (record {
-  done = false;
-  wrote = wrote_append s.store m t.store d.puts _ false wrote (wrote_one m t.store _ false (subst (λ n. Stores m (reserve_write d.memory.counter n) false t.store) few stores));
-  answer_is = refl;
-  out_is = is;
-  new_is = new;
-})
+uncounted {H} {E} ends s t d e answer m out count same wrote few stores is new =
+    subst (λ (x : Draft StationMemory). Carries s (sealing alone ends x answer) (Err ends.store) out t) same (record {
+      done = false;
+      wrote = wrote_append s.store m t.store d.puts _ false wrote
+          (wrote_one m t.store _ false (subst (λ n. Stores m (reserve_write d.memory.counter n) false t.store) few stores));
+      answer_is = refl;
+      out_is = is;
+      new_is = new;
+    })
 
 -- no unit, no frame
 pub sealed_none : (r : Ring) (first : ℕ) → sealed_by r first [] ≡ []
@@ -72,29 +88,36 @@ sealed_none (Some g) first = by_key (sealing_key g)
 
 -- # Refusals and answers
 
-pub refusal : {H E : Type 0} (ends : Ends E) (s : State StationMemory) (l : StationMemory) (reason : E) (p : Plan StationMemory (Result H E)) (out : Out) → s.memory ≡ Some l → refused {H = H} ends l reason ≡ p → out ≡ nothing
+pub refusal : {H E : Type 0} (ends : Ends E) (s : State StationMemory) (l : StationMemory) (reason : E) (p : Plan StationMemory (Result H E)) (out : Out)
+    → s.memory ≡ Some l → refused {H = H} ends l reason ≡ p → out ≡ nothing
     → Carries s p (Err reason) out s
 refusal {H} {E} ends s l reason p out m e o =
     subst (λ (q : Plan StationMemory (Result H E)). Carries s q (Err reason) out s) e
     (subst (λ (q : Out). Carries s (refused {H = H} ends l reason) (Err reason) q s) (sym o) (resting_carried s l (Err reason) (Err ends.store) m))
 
-pub carried_by : {A : Type 0} (s t : State StationMemory) (p q : Plan StationMemory A) (answer : A) (out : Out) → p ≡ q → Carries s p answer out t → Carries s q answer out t
+pub carried_by : {A : Type 0} (s t : State StationMemory) (p q : Plan StationMemory A) (answer : A) (out : Out) → p ≡ q → Carries s p answer out t
+    → Carries s q answer out t
 carried_by {A} s t p q answer out e h = subst (λ (k : Plan StationMemory A). Carries s k answer out t) e h
 
 -- a step that was done, with an answer of its own
-pub answered : {H E : Type 0} (ends : Ends E) (s t : State StationMemory) (d : Draft StationMemory) (u : Unit {0}) (answer : H) (out : Out) → Carries s (sealing {H = Unit {0}} alone ends d tt) (Ok u) out t
+pub answered : {H E : Type 0} (ends : Ends E) (s t : State StationMemory) (d : Draft StationMemory) (u : Unit {0}) (answer : H) (out : Out)
+    → Carries s (sealing {H = Unit {0}} alone ends d tt) (Ok u) out t
     → Carries s (sealing alone ends d answer) (Ok answer) out t
 answered {H} {E} ends s t d u answer out c = record { done = c.done; wrote = c.wrote; answer_is = so c.done c.answer_is; out_is = c.out_is; new_is = c.new_is }
   where
-    so : (done : Bool) → ◌≡◌ {A = Result (Unit {0}) E} (Ok u) (if done then Ok tt else Err ends.store) → ◌≡◌ {A = Result H E} (Ok answer) (if done then Ok answer else Err ends.store)
+    so : (done : Bool) → ◌≡◌ {A = Result (Unit {0}) E} (Ok u) (if done then Ok tt else Err ends.store)
+        → ◌≡◌ {A = Result H E} (Ok answer) (if done then Ok answer else Err ends.store)
     so true e = refl
     so false e = cc
 
-pub failed : {H E : Type 0} (ends : Ends E) (s t : State StationMemory) (d : Draft StationMemory) (reason : E) (answer : H) (out : Out) → Carries s (sealing {H = Unit {0}} alone ends d tt) (Err reason) out t
+pub failed : {H E : Type 0} (ends : Ends E) (s t : State StationMemory) (d : Draft StationMemory) (reason : E) (answer : H) (out : Out)
+    → Carries s (sealing {H = Unit {0}} alone ends d tt) (Err reason) out t
     → Carries s (sealing alone ends d answer) (Err reason) out t
-failed {H} {E} ends s t d reason answer out c = record { done = c.done; wrote = c.wrote; answer_is = so c.done c.answer_is; out_is = c.out_is; new_is = c.new_is }
+failed {H} {E} ends s t d reason answer out c =
+    record { done = c.done; wrote = c.wrote; answer_is = so c.done c.answer_is; out_is = c.out_is; new_is = c.new_is }
   where
-    so : (done : Bool) → ◌≡◌ {A = Result (Unit {0}) E} (Err reason) (if done then Ok tt else Err ends.store) → ◌≡◌ {A = Result H E} (Err reason) (if done then Ok answer else Err ends.store)
+    so : (done : Bool) → ◌≡◌ {A = Result (Unit {0}) E} (Err reason) (if done then Ok tt else Err ends.store)
+        → ◌≡◌ {A = Result H E} (Err reason) (if done then Ok answer else Err ends.store)
     so true e = cc
     so false e = ap Err (same e)
       where
@@ -102,6 +125,8 @@ failed {H} {E} ends s t d reason answer out c = record { done = c.done; wrote = 
         same h = cc
 
 -- a plan that changes nothing
-pub rested : {A : Type 0} (s : State StationMemory) (l : StationMemory) (answer fault : A) (p : Plan StationMemory A) (out : Out) → s.memory ≡ Some l → resting l answer fault ≡ p → out ≡ nothing → Carries s p answer out s
+pub rested : {A : Type 0} (s : State StationMemory) (l : StationMemory) (answer fault : A) (p : Plan StationMemory A) (out : Out) → s.memory ≡ Some l
+    → resting l answer fault ≡ p → out ≡ nothing → Carries s p answer out s
 rested {A} s l answer fault p out m e o =
-    subst (λ (q : Plan StationMemory A). Carries s q answer out s) e (subst (λ (q : Out). Carries s (resting l answer fault) answer q s) (sym o) (resting_carried s l answer fault m))
+    subst (λ (q : Plan StationMemory A). Carries s q answer out s) e
+    (subst (λ (q : Out). Carries s (resting l answer fault) answer q s) (sym o) (resting_carried s l answer fault m))

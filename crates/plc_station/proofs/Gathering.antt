@@ -12,17 +12,20 @@ use Rattle.plc_station.specs.Pieces.{came}
 use Rattle.node_rules.specs.States.{State, unless_halted}
 use Rattle.node_rules.specs.Carrying.{Carries, nothing}
 
-pub gathered_is : (l : StationMemory) (from : ℕ) (t : taking.Taking) → gathered l from t ≡ resting (record l { reassemblies = t.held }) (came from (answer_of t.outcome) (octets_of t.outcome)) (Err Store)
+pub gathered_is : (l : StationMemory) (from : ℕ) (t : taking.Taking)
+    → gathered l from t ≡ resting (record l { reassemblies = t.held }) (came from (answer_of t.outcome) (octets_of t.outcome)) (Err Store)
 unfolding gathered resting
 gathered_is l from t = by_outcome t.held t.outcome
   where
-    by_outcome : (held : List Reassembly) (o : taking.Outcome) → gathered l from (record { held = held; outcome = o }) ≡ resting (record l { reassemblies = held }) (came from (answer_of o) (octets_of o)) (Err Store)
+    by_outcome : (held : List Reassembly) (o : taking.Outcome)
+        → gathered l from (record { held = held; outcome = o }) ≡ resting (record l { reassemblies = held }) (came from (answer_of o) (octets_of o)) (Err Store)
     by_outcome held taking.Full = refl
     by_outcome held taking.Held = refl
     by_outcome held (taking.Whole note octets) = refl
 
 -- nothing is stored or sent, and the memory is another one
-pub changed : {M A : Type 0} (s t : State M) (m : M) (answer failed : A) → t.store ≡ s.store → t.eui ≡ s.eui → t.memory ≡ Some m → Carries s (resting m answer failed) answer nothing t
+pub changed : {M A : Type 0} (s t : State M) (m : M) (answer failed : A) → t.store ≡ s.store → t.eui ≡ s.eui → t.memory ≡ Some m
+    → Carries s (resting m answer failed) answer nothing t
 unfolding resting
 changed {M} s t m answer failed store eui memory = record {
   done = true;

@@ -23,54 +23,79 @@ use Rattle.plc_station.proofs.Ways.{sealed_spent, sealed_fits}
 abbrev pub taking : StationMemory → ℕ → ℕ → Rank → ℕ → Plan StationMemory (Result Heard Dropped) → Plan StationMemory (Result Heard Dropped)
 taking l own origin rank now plan = checked dropped l (rank_fault l own origin rank now) plan
 
-pub not_better : (l : StationMemory) (own origin : ℕ) (rank : Rank) (now : ℕ) (p : Plan StationMemory (Result Heard Dropped)) → true ≡ ((origin == own) || not (routing.is_better l.routing origin rank)) → refused {H = Heard} dropped l NotBetter ≡ taking l own origin rank now p
+pub not_better : (l : StationMemory) (own origin : ℕ) (rank : Rank) (now : ℕ) (p : Plan StationMemory (Result Heard Dropped))
+    → true ≡ ((origin == own) || not (routing.is_better l.routing origin rank)) → refused {H = Heard} dropped l NotBetter ≡ taking l own origin rank now p
 unfolding checked rank_fault
 not_better l own origin rank now p e = rw (← e) refl
 
-pub cost_spent : (l : StationMemory) (own origin : ℕ) (rank : Rank) (now : ℕ) (p : Plan StationMemory (Result Heard Dropped)) → false ≡ ((origin == own) || not (routing.is_better l.routing origin rank)) → true ≡ nat_lt 65535 rank.cost → refused {H = Heard} dropped l CostSpent ≡ taking l own origin rank now p
+pub cost_spent : (l : StationMemory) (own origin : ℕ) (rank : Rank) (now : ℕ) (p : Plan StationMemory (Result Heard Dropped))
+    → false ≡ ((origin == own) || not (routing.is_better l.routing origin rank)) → true ≡ nat_lt 65535 rank.cost
+    → refused {H = Heard} dropped l CostSpent ≡ taking l own origin rank now p
 unfolding checked rank_fault
 cost_spent l own origin rank now p b e = rw (← b, ← e) refl
 
-pub routes_full : (l : StationMemory) (own origin : ℕ) (rank : Rank) (now : ℕ) (p : Plan StationMemory (Result Heard Dropped)) → false ≡ ((origin == own) || not (routing.is_better l.routing origin rank)) → false ≡ nat_lt 65535 rank.cost → true ≡ routing.is_full l.routing origin now → refused {H = Heard} dropped l RoutesFull ≡ taking l own origin rank now p
+pub routes_full : (l : StationMemory) (own origin : ℕ) (rank : Rank) (now : ℕ) (p : Plan StationMemory (Result Heard Dropped))
+    → false ≡ ((origin == own) || not (routing.is_better l.routing origin rank)) → false ≡ nat_lt 65535 rank.cost → true ≡ routing.is_full l.routing origin now
+    → refused {H = Heard} dropped l RoutesFull ≡ taking l own origin rank now p
 unfolding checked rank_fault
 routes_full l own origin rank now p b k e = rw (← b, ← k, ← e) refl
 
-pub taken : (l : StationMemory) (own origin : ℕ) (rank : Rank) (now : ℕ) (p : Plan StationMemory (Result Heard Dropped)) → IsTaken l own origin rank now → p ≡ taking l own origin rank now p
+pub taken : (l : StationMemory) (own origin : ℕ) (rank : Rank) (now : ℕ) (p : Plan StationMemory (Result Heard Dropped)) → IsTaken l own origin rank now
+    → p ≡ taking l own origin rank now p
 unfolding checked rank_fault
 taken l own origin rank now p t = rw (← t.better, ← t.cost, ← t.room) refl
 
-learn_long : (l : StationMemory) (own by origin : ℕ) (rank : Rank) (now : ℕ) → length (leaving own origin by l.waiting) ≡ length (offers own origin rank by now l).units
+learn_long : (l : StationMemory) (own by origin : ℕ) (rank : Rank) (now : ℕ)
+    → length (leaving own origin by l.waiting) ≡ length (offers own origin rank by now l).units
 unfolding leave with_rank empty_draft leaving
 learn_long l own by origin rank now = refl
 
-pass_long : (l : StationMemory) (own by origin to hop : ℕ) (rank : Rank) (now : ℕ) → length (leaving own origin by l.waiting) + 1 ≡ length (tells hop (Rrep rank.number rank.cost origin to) (offers own origin rank by now l)).units
+pass_long : (l : StationMemory) (own by origin to hop : ℕ) (rank : Rank) (now : ℕ)
+    → length (leaving own origin by l.waiting) + 1 ≡ length (tells hop (Rrep rank.number rank.cost origin to) (offers own origin rank by now l)).units
 unfolding goes leave with_rank empty_draft leaving
-pass_long l own by origin to hop rank now = sym (length-append (leaving own origin by l.waiting) (record { to = hop; unit = Local 1 (messages.spelling (Rrep rank.number rank.cost origin to)); note = 0 } ∷ []))
+pass_long l own by origin to hop rank now = sym (length-append (leaving own origin by l.waiting)
+    (record { to = hop; unit = Local 1 (messages.spelling (Rrep rank.number rank.cost origin to)); note = 0 } ∷ []))
 
-pub learn_spent : (l : StationMemory) (own by origin : ℕ) (rank : Rank) (now : ℕ) → IsTaken l own origin rank now → true ≡ nat_lt (counters_left l) (length (leaving own origin by l.waiting)) → refused {H = Heard} dropped l CounterSpent ≡ taking l own origin rank now (learns l own by origin rank now)
-learn_spent l own by origin rank now t few = sealed_spent dropped l (offers own origin rank by now l) Learned (length (leaving own origin by l.waiting)) (learn_long l own by origin rank now) few ∙ taken l own origin rank now _ t
+pub learn_spent : (l : StationMemory) (own by origin : ℕ) (rank : Rank) (now : ℕ) → IsTaken l own origin rank now
+    → true ≡ nat_lt (counters_left l) (length (leaving own origin by l.waiting))
+    → refused {H = Heard} dropped l CounterSpent ≡ taking l own origin rank now (learns l own by origin rank now)
+learn_spent l own by origin rank now t few = sealed_spent dropped l (offers own origin rank by now l) Learned (length (leaving own origin by l.waiting))
+    (learn_long l own by origin rank now) few ∙ taken l own origin rank now _ t
 
-pub learning : (l : StationMemory) (own by origin : ℕ) (rank : Rank) (now : ℕ) → IsTaken l own origin rank now → false ≡ nat_lt (counters_left l) (length (leaving own origin by l.waiting)) → sealing alone dropped (offers own origin rank by now l) Learned ≡ taking l own origin rank now (learns l own by origin rank now)
-learning l own by origin rank now t few = sealed_fits dropped l (offers own origin rank by now l) Learned (length (leaving own origin by l.waiting)) (learn_long l own by origin rank now) few ∙ taken l own origin rank now _ t
+pub learning : (l : StationMemory) (own by origin : ℕ) (rank : Rank) (now : ℕ) → IsTaken l own origin rank now
+    → false ≡ nat_lt (counters_left l) (length (leaving own origin by l.waiting))
+    → sealing alone dropped (offers own origin rank by now l) Learned ≡ taking l own origin rank now (learns l own by origin rank now)
+learning l own by origin rank now t few = sealed_fits dropped l (offers own origin rank by now l) Learned (length (leaving own origin by l.waiting))
+    (learn_long l own by origin rank now) few ∙ taken l own origin rank now _ t
 
-pub pass_spent : (l : StationMemory) (own by origin to hop : ℕ) (rank : Rank) (now : ℕ) → IsTaken l own origin rank now → true ≡ nat_lt (counters_left l) (length (leaving own origin by l.waiting) + 1) → refused {H = Heard} dropped l CounterSpent ≡ hear_reply_for l own by origin to rank now (Some hop)
+pub pass_spent : (l : StationMemory) (own by origin to hop : ℕ) (rank : Rank) (now : ℕ) → IsTaken l own origin rank now
+    → true ≡ nat_lt (counters_left l) (length (leaving own origin by l.waiting) + 1)
+    → refused {H = Heard} dropped l CounterSpent ≡ hear_reply_for l own by origin to rank now (Some hop)
 pass_spent l own by origin to hop rank now t few =
-    sealed_spent dropped l (tells hop (Rrep rank.number rank.cost origin to) (offers own origin rank by now l)) Relayed (length (leaving own origin by l.waiting) + 1) (pass_long l own by origin to hop rank now) few ∙ taken l own origin rank now _ t
+    sealed_spent dropped l (tells hop (Rrep rank.number rank.cost origin to) (offers own origin rank by now l)) Relayed
+    (length (leaving own origin by l.waiting) + 1) (pass_long l own by origin to hop rank now) few ∙ taken l own origin rank now _ t
 
-pub passing : (l : StationMemory) (own by origin to hop : ℕ) (rank : Rank) (now : ℕ) → IsTaken l own origin rank now → false ≡ nat_lt (counters_left l) (length (leaving own origin by l.waiting) + 1) → sealing alone dropped (tells hop (Rrep rank.number rank.cost origin to) (offers own origin rank by now l)) Relayed ≡ hear_reply_for l own by origin to rank now (Some hop)
+pub passing : (l : StationMemory) (own by origin to hop : ℕ) (rank : Rank) (now : ℕ) → IsTaken l own origin rank now
+    → false ≡ nat_lt (counters_left l) (length (leaving own origin by l.waiting) + 1)
+    → sealing alone dropped (tells hop (Rrep rank.number rank.cost origin to) (offers own origin rank by now l)) Relayed
+    ≡ hear_reply_for l own by origin to rank now (Some hop)
 passing l own by origin to hop rank now t few =
-    sealed_fits dropped l (tells hop (Rrep rank.number rank.cost origin to) (offers own origin rank by now l)) Relayed (length (leaving own origin by l.waiting) + 1) (pass_long l own by origin to hop rank now) few ∙ taken l own origin rank now _ t
+    sealed_fits dropped l (tells hop (Rrep rank.number rank.cost origin to) (offers own origin rank by now l)) Relayed
+    (length (leaving own origin by l.waiting) + 1) (pass_long l own by origin to hop rank now) few ∙ taken l own origin rank now _ t
 
 -- # By its target
 
-pub reply_here : (l : StationMemory) (own by origin to : ℕ) (rank : Rank) (now : ℕ) → true ≡ (to == own) → taking l own origin rank now (learns l own by origin rank now) ≡ hear_reply l own by origin to rank now
+pub reply_here : (l : StationMemory) (own by origin to : ℕ) (rank : Rank) (now : ℕ) → true ≡ (to == own)
+    → taking l own origin rank now (learns l own by origin rank now) ≡ hear_reply l own by origin to rank now
 unfolding choose
 reply_here l own by origin to rank now e = rw (← e) refl
 
-pub reply_lost : (l : StationMemory) (own by origin to : ℕ) (rank : Rank) (now : ℕ) → false ≡ (to == own) → None ≡ next_hop l to → refused {H = Heard} dropped l NoRoute ≡ hear_reply l own by origin to rank now
+pub reply_lost : (l : StationMemory) (own by origin to : ℕ) (rank : Rank) (now : ℕ) → false ≡ (to == own) → None ≡ next_hop l to
+    → refused {H = Heard} dropped l NoRoute ≡ hear_reply l own by origin to rank now
 unfolding choose
 reply_lost l own by origin to rank now e by_none = rw (← e, ← by_none) refl
 
-pub reply_on : (l : StationMemory) (own by origin to hop : ℕ) (rank : Rank) (now : ℕ) → false ≡ (to == own) → Some hop ≡ next_hop l to → hear_reply_for l own by origin to rank now (Some hop) ≡ hear_reply l own by origin to rank now
+pub reply_on : (l : StationMemory) (own by origin to hop : ℕ) (rank : Rank) (now : ℕ) → false ≡ (to == own) → Some hop ≡ next_hop l to
+    → hear_reply_for l own by origin to rank now (Some hop) ≡ hear_reply l own by origin to rank now
 unfolding choose
 reply_on l own by origin to hop rank now e by_hop = rw (← e, ← by_hop) refl

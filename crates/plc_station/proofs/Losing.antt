@@ -25,15 +25,18 @@ pub error_here : (l : StationMemory) (own by lost to : ℕ) → true ≡ (to == 
 unfolding with_routing_by empty_draft
 error_here l own by lost to e = rw (← e) (sealed_fits dropped l (loses lost by l) Broken 0 refl (never_less (counters_left l)))
 
-pub error_ends : (l : StationMemory) (own by lost to : ℕ) → false ≡ (to == own) → None ≡ next_hop (loses lost by l).memory to → sealing alone dropped (loses lost by l) Broken ≡ hear_error l own by lost to
+pub error_ends : (l : StationMemory) (own by lost to : ℕ) → false ≡ (to == own) → None ≡ next_hop (loses lost by l).memory to
+    → sealing alone dropped (loses lost by l) Broken ≡ hear_error l own by lost to
 unfolding with_routing_by empty_draft
 error_ends l own by lost to e none = rw (← e, ← none) (sealed_fits dropped l (loses lost by l) Broken 0 refl (never_less (counters_left l)))
 
-pub error_spent : (l : StationMemory) (own by lost to hop : ℕ) → false ≡ (to == own) → Some hop ≡ next_hop (loses lost by l).memory to → true ≡ nat_lt (counters_left l) 1 → refused {H = Heard} dropped l CounterSpent ≡ hear_error l own by lost to
+pub error_spent : (l : StationMemory) (own by lost to hop : ℕ) → false ≡ (to == own) → Some hop ≡ next_hop (loses lost by l).memory to
+    → true ≡ nat_lt (counters_left l) 1 → refused {H = Heard} dropped l CounterSpent ≡ hear_error l own by lost to
 unfolding with_routing_by empty_draft goes
 error_spent l own by lost to hop e some few = rw (← e, ← some) (sealed_spent dropped l (tells hop (Rerr lost to) (loses lost by l)) Broken 1 refl few)
 
-pub error_on : (l : StationMemory) (own by lost to hop : ℕ) → false ≡ (to == own) → Some hop ≡ next_hop (loses lost by l).memory to → false ≡ nat_lt (counters_left l) 1
+pub error_on : (l : StationMemory) (own by lost to hop : ℕ) → false ≡ (to == own) → Some hop ≡ next_hop (loses lost by l).memory to
+    → false ≡ nat_lt (counters_left l) 1
     → sealing alone dropped (tells hop (Rerr lost to) (loses lost by l)) Broken ≡ hear_error l own by lost to
 unfolding with_routing_by empty_draft goes
 error_on l own by lost to hop e some few = rw (← e, ← some) (sealed_fits dropped l (tells hop (Rerr lost to) (loses lost by l)) Broken 1 refl few)

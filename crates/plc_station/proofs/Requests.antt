@@ -15,7 +15,8 @@ use Rattle.node_rules.specs.declared.heard.Heard.TheVariants.{Answered, Relayed}
 use Rattle.node_rules.specs.declared.refusal.Dropped.TheVariants.{NotBetter, CostSpent, RoutesFull, SeqSpent, CounterSpent}
 use Rattle.node_rules.specs.Frames.{to_all}
 use Rattle.node_rules.specs.Memory.{StationMemory}
-use Rattle.node_rules.specs.Drafts.{Outgoing, alone, empty_draft, choose, checked, goes, tells, leave, with_own_number, with_rank, numbers_spent, counters_left, refused, sealing}
+use Rattle.node_rules.specs.Drafts.{Outgoing, alone, empty_draft, choose, checked, goes, tells, leave, with_own_number, with_rank, numbers_spent, counters_left}
+use Rattle.node_rules.specs.Drafts.{refused, sealing}
 use Rattle.node_rules.specs.Hearing.{dropped, rank_fault, hear_request, offers, offers_numbered}
 use Rattle.fragment_buffers.specs.Waiting.{leaving}
 use Rattle.plc_station.proofs.Ways.{sealed_spent, sealed_fits}
@@ -29,45 +30,73 @@ pub record IsTaken (l : StationMemory) (own origin : ℕ) (rank : Rank) (now : �
 abbrev one : ℕ → Message → List Outgoing
 one to message = record { to = to; unit = Local 1 (messages.spelling message); note = 0 } ∷ []
 
-answer_long : (l : StationMemory) (own by origin dest : ℕ) (rank : Rank) (now : ℕ) → length (leaving own origin by l.waiting) + 1 ≡ length (tells by (Rrep (l.own_number.last + 1) 0 own origin) (offers_numbered own origin rank by now l)).units
+answer_long : (l : StationMemory) (own by origin dest : ℕ) (rank : Rank) (now : ℕ)
+    → length (leaving own origin by l.waiting) + 1
+    ≡ length (tells by (Rrep (l.own_number.last + 1) 0 own origin) (offers_numbered own origin rank by now l)).units
 unfolding goes leave with_own_number with_rank empty_draft leaving
 answer_long l own by origin dest rank now = sym (length-append (leaving own origin by l.waiting) (one by (Rrep (l.own_number.last + 1) 0 own origin)))
 
-relay_long : (l : StationMemory) (own by origin dest : ℕ) (rank : Rank) (now : ℕ) → length (leaving own origin by l.waiting) + 1 ≡ length (tells to_all (Rreq rank.number rank.cost origin dest) (offers own origin rank by now l)).units
+relay_long : (l : StationMemory) (own by origin dest : ℕ) (rank : Rank) (now : ℕ)
+    → length (leaving own origin by l.waiting) + 1 ≡ length (tells to_all (Rreq rank.number rank.cost origin dest) (offers own origin rank by now l)).units
 unfolding goes leave with_rank empty_draft leaving
 relay_long l own by origin dest rank now = sym (length-append (leaving own origin by l.waiting) (one to_all (Rreq rank.number rank.cost origin dest)))
 
-pub not_better : (l : StationMemory) (own by origin dest : ℕ) (rank : Rank) (now : ℕ) → true ≡ ((origin == own) || not (routing.is_better l.routing origin rank)) → refused {H = Heard} dropped l NotBetter ≡ hear_request l own by origin dest rank now
+pub not_better : (l : StationMemory) (own by origin dest : ℕ) (rank : Rank) (now : ℕ)
+    → true ≡ ((origin == own) || not (routing.is_better l.routing origin rank))
+    → refused {H = Heard} dropped l NotBetter ≡ hear_request l own by origin dest rank now
 unfolding checked rank_fault choose
 not_better l own by origin dest rank now e = rw (← e) refl
 
-pub cost_spent : (l : StationMemory) (own by origin dest : ℕ) (rank : Rank) (now : ℕ) → false ≡ ((origin == own) || not (routing.is_better l.routing origin rank)) → true ≡ nat_lt 65535 rank.cost → refused {H = Heard} dropped l CostSpent ≡ hear_request l own by origin dest rank now
+pub cost_spent : (l : StationMemory) (own by origin dest : ℕ) (rank : Rank) (now : ℕ)
+    → false ≡ ((origin == own) || not (routing.is_better l.routing origin rank)) → true ≡ nat_lt 65535 rank.cost
+    → refused {H = Heard} dropped l CostSpent ≡ hear_request l own by origin dest rank now
 unfolding checked rank_fault choose
 cost_spent l own by origin dest rank now b e = rw (← b, ← e) refl
 
-pub routes_full : (l : StationMemory) (own by origin dest : ℕ) (rank : Rank) (now : ℕ) → false ≡ ((origin == own) || not (routing.is_better l.routing origin rank)) → false ≡ nat_lt 65535 rank.cost → true ≡ routing.is_full l.routing origin now → refused {H = Heard} dropped l RoutesFull ≡ hear_request l own by origin dest rank now
+pub routes_full : (l : StationMemory) (own by origin dest : ℕ) (rank : Rank) (now : ℕ)
+    → false ≡ ((origin == own) || not (routing.is_better l.routing origin rank)) → false ≡ nat_lt 65535 rank.cost → true ≡ routing.is_full l.routing origin now
+    → refused {H = Heard} dropped l RoutesFull ≡ hear_request l own by origin dest rank now
 unfolding checked rank_fault choose
 routes_full l own by origin dest rank now b k e = rw (← b, ← k, ← e) refl
 
-pub seq_spent : (l : StationMemory) (own by origin dest : ℕ) (rank : Rank) (now : ℕ) → IsTaken l own origin rank now → true ≡ (dest == own) → true ≡ numbers_spent l → refused {H = Heard} dropped l SeqSpent ≡ hear_request l own by origin dest rank now
+pub seq_spent : (l : StationMemory) (own by origin dest : ℕ) (rank : Rank) (now : ℕ) → IsTaken l own origin rank now → true ≡ (dest == own)
+    → true ≡ numbers_spent l → refused {H = Heard} dropped l SeqSpent ≡ hear_request l own by origin dest rank now
 unfolding checked rank_fault choose
 seq_spent l own by origin dest rank now t h e = rw (← t.better, ← t.cost, ← t.room, ← h, ← e) refl
 
-pub answer_spent : (l : StationMemory) (own by origin dest : ℕ) (rank : Rank) (now : ℕ) → IsTaken l own origin rank now → true ≡ (dest == own) → false ≡ numbers_spent l → true ≡ nat_lt (counters_left l) (length (leaving own origin by l.waiting) + 1) → refused {H = Heard} dropped l CounterSpent ≡ hear_request l own by origin dest rank now
+pub answer_spent : (l : StationMemory) (own by origin dest : ℕ) (rank : Rank) (now : ℕ) → IsTaken l own origin rank now → true ≡ (dest == own)
+    → false ≡ numbers_spent l → true ≡ nat_lt (counters_left l) (length (leaving own origin by l.waiting) + 1)
+    → refused {H = Heard} dropped l CounterSpent ≡ hear_request l own by origin dest rank now
 unfolding checked rank_fault choose
-answer_spent l own by origin dest rank now t h e few = rw (← t.better, ← t.cost, ← t.room, ← h, ← e) (sealed_spent dropped l (tells by (Rrep (l.own_number.last + 1) 0 own origin) (offers_numbered own origin rank by now l)) Answered (length (leaving own origin by l.waiting) + 1) (answer_long l own by origin dest rank now) few)
+answer_spent l own by origin dest rank now t h e few = rw (← t.better, ← t.cost, ← t.room, ← h, ← e)
+    (sealed_spent dropped l (tells by (Rrep (l.own_number.last + 1) 0 own origin) (offers_numbered own origin rank by now l)) Answered
+    (length (leaving own origin by l.waiting) + 1) (answer_long l own by origin dest rank now) few)
 
-pub answering : (l : StationMemory) (own by origin dest : ℕ) (rank : Rank) (now : ℕ) → IsTaken l own origin rank now → true ≡ (dest == own) → false ≡ numbers_spent l → false ≡ nat_lt (counters_left l) (length (leaving own origin by l.waiting) + 1) → sealing alone dropped (tells by (Rrep (l.own_number.last + 1) 0 own origin) (offers_numbered own origin rank by now l)) Answered ≡ hear_request l own by origin dest rank now
+pub answering : (l : StationMemory) (own by origin dest : ℕ) (rank : Rank) (now : ℕ) → IsTaken l own origin rank now → true ≡ (dest == own)
+    → false ≡ numbers_spent l → false ≡ nat_lt (counters_left l) (length (leaving own origin by l.waiting) + 1)
+    → sealing alone dropped (tells by (Rrep (l.own_number.last + 1) 0 own origin) (offers_numbered own origin rank by now l)) Answered
+    ≡ hear_request l own by origin dest rank now
 unfolding checked rank_fault choose
-answering l own by origin dest rank now t h e few = rw (← t.better, ← t.cost, ← t.room, ← h, ← e) (sealed_fits dropped l (tells by (Rrep (l.own_number.last + 1) 0 own origin) (offers_numbered own origin rank by now l)) Answered (length (leaving own origin by l.waiting) + 1) (answer_long l own by origin dest rank now) few)
+answering l own by origin dest rank now t h e few = rw (← t.better, ← t.cost, ← t.room, ← h, ← e)
+    (sealed_fits dropped l (tells by (Rrep (l.own_number.last + 1) 0 own origin) (offers_numbered own origin rank by now l)) Answered
+    (length (leaving own origin by l.waiting) + 1) (answer_long l own by origin dest rank now) few)
 
-pub relay_spent : (l : StationMemory) (own by origin dest : ℕ) (rank : Rank) (now : ℕ) → IsTaken l own origin rank now → false ≡ (dest == own) → true ≡ nat_lt (counters_left l) (length (leaving own origin by l.waiting) + 1) → refused {H = Heard} dropped l CounterSpent ≡ hear_request l own by origin dest rank now
+pub relay_spent : (l : StationMemory) (own by origin dest : ℕ) (rank : Rank) (now : ℕ) → IsTaken l own origin rank now → false ≡ (dest == own)
+    → true ≡ nat_lt (counters_left l) (length (leaving own origin by l.waiting) + 1)
+    → refused {H = Heard} dropped l CounterSpent ≡ hear_request l own by origin dest rank now
 unfolding checked rank_fault choose
-relay_spent l own by origin dest rank now t h few = rw (← t.better, ← t.cost, ← t.room, ← h) (sealed_spent dropped l (tells to_all (Rreq rank.number rank.cost origin dest) (offers own origin rank by now l)) Relayed (length (leaving own origin by l.waiting) + 1) (relay_long l own by origin dest rank now) few)
+relay_spent l own by origin dest rank now t h few = rw (← t.better, ← t.cost, ← t.room, ← h)
+    (sealed_spent dropped l (tells to_all (Rreq rank.number rank.cost origin dest) (offers own origin rank by now l)) Relayed
+    (length (leaving own origin by l.waiting) + 1) (relay_long l own by origin dest rank now) few)
 
-pub relaying : (l : StationMemory) (own by origin dest : ℕ) (rank : Rank) (now : ℕ) → IsTaken l own origin rank now → false ≡ (dest == own) → false ≡ nat_lt (counters_left l) (length (leaving own origin by l.waiting) + 1) → sealing alone dropped (tells to_all (Rreq rank.number rank.cost origin dest) (offers own origin rank by now l)) Relayed ≡ hear_request l own by origin dest rank now
+pub relaying : (l : StationMemory) (own by origin dest : ℕ) (rank : Rank) (now : ℕ) → IsTaken l own origin rank now → false ≡ (dest == own)
+    → false ≡ nat_lt (counters_left l) (length (leaving own origin by l.waiting) + 1)
+    → sealing alone dropped (tells to_all (Rreq rank.number rank.cost origin dest) (offers own origin rank by now l)) Relayed
+    ≡ hear_request l own by origin dest rank now
 unfolding checked rank_fault choose
-relaying l own by origin dest rank now t h few = rw (← t.better, ← t.cost, ← t.room, ← h) (sealed_fits dropped l (tells to_all (Rreq rank.number rank.cost origin dest) (offers own origin rank by now l)) Relayed (length (leaving own origin by l.waiting) + 1) (relay_long l own by origin dest rank now) few)
+relaying l own by origin dest rank now t h few = rw (← t.better, ← t.cost, ← t.room, ← h)
+    (sealed_fits dropped l (tells to_all (Rreq rank.number rank.cost origin dest) (offers own origin rank by now l)) Relayed
+    (length (leaving own origin by l.waiting) + 1) (relay_long l own by origin dest rank now) few)
 
 pub big : (n : ℕ) → (n < 65536 → ⊥) → true ≡ nat_lt 65535 n
 big n h = elim (cases_lt n 65536) [ inl less ↦ absurd (h less) | inr more ↦ grind (arith, nat_tests) ]

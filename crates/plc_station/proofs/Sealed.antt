@@ -24,17 +24,21 @@ frames_are g key first [] = refl
 frames_are g key first (u ∷ us) = λ i. frame_is g key first u i ∷ frames_are g key (first + 1) us i
 
 -- units alone, under the key that seals
-pub sealed_alone : (g : Granted) (key : Key) (first : ℕ) (xs : List Outgoing) → sealing_key g ≡ Some key → frames_of g key first xs ≡ map (spelled network) (sealed_by (Some g) first xs)
-sealed_alone g key first xs e = frames_are g key first xs ∙ ap (λ (k : Option Key). map (spelled network) (option_map_or (λ q. letters g q first xs) k [])) (sym e)
+pub sealed_alone : (g : Granted) (key : Key) (first : ℕ) (xs : List Outgoing) → sealing_key g ≡ Some key
+    → frames_of g key first xs ≡ map (spelled network) (sealed_by (Some g) first xs)
+sealed_alone g key first xs e =
+    frames_are g key first xs ∙ ap (λ (k : Option Key). map (spelled network) (option_map_or (λ q. letters g q first xs) k [])) (sym e)
 
 -- and others after them
 pub sealed_then : (g : Granted) (key : Key) (first : ℕ) (xs ys : List Outgoing) → sealing_key g ≡ Some key
-    → frames_of g key first xs ++ map (spelled network) (sealed_by (Some g) (first + length xs) ys) ≡ map (spelled network) (sealed_by (Some g) first (xs ++ ys))
+    → frames_of g key first xs ++ map (spelled network) (sealed_by (Some g) (first + length xs) ys)
+    ≡ map (spelled network) (sealed_by (Some g) first (xs ++ ys))
 sealed_then g key first xs ys e =
     ap (λ (fs : List OutFrame). frames_of g key first xs ++ fs) (sym (sealed_alone g key (first + length xs) ys e))
     ∙ sym (frames-append g key first xs ys)
     ∙ sealed_alone g key first (xs ++ ys) e
 
 -- one unit
-pub one_sent : (g : Granted) (key : Key) (first : ℕ) (o : Outgoing) → sealing_key g ≡ Some key → unit_frame g key first o ∷ [] ≡ map (spelled network) (sealed_by (Some g) first (o ∷ []))
+pub one_sent : (g : Granted) (key : Key) (first : ℕ) (o : Outgoing) → sealing_key g ≡ Some key
+    → unit_frame g key first o ∷ [] ≡ map (spelled network) (sealed_by (Some g) first (o ∷ []))
 one_sent g key first o e = sealed_alone g key first (o ∷ []) e

@@ -15,19 +15,23 @@ pub not_held : (l : StationMemory) (index : ℕ) → None ≡ key_in_ring l.ring
 unfolding choose
 not_held l index e = rw (← e) refl
 
-pub held : (l : StationMemory) (index : ℕ) (key : Key) → Some key ≡ key_in_ring l.ring index → ring_ends (with_ring (with_active l.ring index) (empty_draft l)) ≡ activate l index
+pub held : (l : StationMemory) (index : ℕ) (key : Key) → Some key ≡ key_in_ring l.ring index
+    → ring_ends (with_ring (with_active l.ring index) (empty_draft l)) ≡ activate l index
 unfolding choose
 held l index key e = rw (← e) refl
 
-pub near_worse : (l : StationMemory) (to cost k now : ℕ) → k ≡ cost → false ≡ routing.is_better l.routing to (near_rank k) → refused {H = Unit {0}} presetting_ends l presets.NotBetter ≡ preset_near l to cost now
+pub near_worse : (l : StationMemory) (to cost k now : ℕ) → k ≡ cost → false ≡ routing.is_better l.routing to (near_rank k)
+    → refused {H = Unit {0}} presetting_ends l presets.NotBetter ≡ preset_near l to cost now
 unfolding checked
 near_worse l to cost k now same e = rw (← same, ← e) refl
 
-pub near_full : (l : StationMemory) (to cost k now : ℕ) → k ≡ cost → true ≡ routing.is_better l.routing to (near_rank k) → true ≡ routing.is_full l.routing to now → refused {H = Unit {0}} presetting_ends l presets.RoutesFull ≡ preset_near l to cost now
+pub near_full : (l : StationMemory) (to cost k now : ℕ) → k ≡ cost → true ≡ routing.is_better l.routing to (near_rank k)
+    → true ≡ routing.is_full l.routing to now → refused {H = Unit {0}} presetting_ends l presets.RoutesFull ≡ preset_near l to cost now
 unfolding checked
 near_full l to cost k now same e full = rw (← same, ← e, ← full) refl
 
-pub near_kept : (l : StationMemory) (to cost k now : ℕ) → k ≡ cost → true ≡ routing.is_better l.routing to (near_rank k) → false ≡ routing.is_full l.routing to now
+pub near_kept : (l : StationMemory) (to cost k now : ℕ) → k ≡ cost → true ≡ routing.is_better l.routing to (near_rank k)
+    → false ≡ routing.is_full l.routing to now
     → sealing alone presetting_ends (with_rank to (near_rank k) to now (empty_draft l)) tt ≡ preset_near l to cost now
 unfolding checked
 near_kept l to cost k now same e full = rw (← same, ← e, ← full) refl

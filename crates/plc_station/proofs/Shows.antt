@@ -25,14 +25,16 @@ use Rattle.node_rules.specs.Showing.{shown_route, shown_peer}
 
 module _ {A B : Type 0} (layout : Layout A) (f : A → B) where
   -- the entry of each sorted key is the next one in order
-  in_order : (table : List A) (sorted : List ℕ) (i key : ℕ) → IsTable layout table → IsPermutation (map layout.key table) sorted → IsSorted nat_cmp sorted → slice_get sorted i ≡ Some key
+  in_order : (table : List A) (sorted : List ℕ) (i key : ℕ) → IsTable layout table → IsPermutation (map layout.key table) sorted → IsSorted nat_cmp sorted
+      → slice_get sorted i ≡ Some key
       → slice_get (map Some (ordered_by layout.key table)) i ≡ Some (entry_of layout table key)
   in_order table sorted i key t same up at =
       ap (λ (os : List (Option A)). slice_get os i) (sym (sorted_find layout table sorted t same up))
       ∙ slice_get-map (entry_of layout table) sorted i
       ∙ ap (option_map (entry_of layout table)) at
 
-  pub is_there : (table : List A) (sorted : List ℕ) (i key : ℕ) → IsTable layout table → IsPermutation (map layout.key table) sorted → IsSorted nat_cmp sorted → slice_get sorted i ≡ Some key
+  pub is_there : (table : List A) (sorted : List ℕ) (i key : ℕ) → IsTable layout table → IsPermutation (map layout.key table) sorted → IsSorted nat_cmp sorted
+      → slice_get sorted i ≡ Some key
       → IsSome (entry_of layout table key)
   is_there table sorted i key t same up at = there (ordered_by layout.key table) i (entry_of layout table key) (in_order table sorted i key t same up at)
     where
@@ -43,19 +45,25 @@ module _ {A B : Type 0} (layout : Layout A) (f : A → B) where
       there (x ∷ xs) (suc k) o h = there xs k o h
 
   -- one more is shown
-  pub shown_suc : (table : List A) (sorted : List ℕ) (i key : ℕ) (shown : B) → IsTable layout table → IsPermutation (map layout.key table) sorted → IsSorted nat_cmp sorted
+  pub shown_suc : (table : List A) (sorted : List ℕ) (i key : ℕ) (shown : B) → IsTable layout table → IsPermutation (map layout.key table) sorted
+      → IsSorted nat_cmp sorted
       → slice_get sorted i ≡ Some key → Some shown ≡ option_map f (entry_of layout table key)
       → map f (take (suc i) (ordered_by layout.key table)) ≡ map f (take i (ordered_by layout.key table)) ++ shown ∷ []
-  shown_suc table sorted i key shown t same up at is = step (ordered_by layout.key table) i (entry_of layout table key) (in_order table sorted i key t same up at) is
+  shown_suc table sorted i key shown t same up at is =
+      step (ordered_by layout.key table) i (entry_of layout table key) (in_order table sorted i key t same up at) is
     where
-      step : (xs : List A) (k : ℕ) (o : Option A) → slice_get (map Some xs) k ≡ Some o → Some shown ≡ option_map f o → map f (take (suc k) xs) ≡ map f (take k xs) ++ shown ∷ []
+      step : (xs : List A) (k : ℕ) (o : Option A) → slice_get (map Some xs) k ≡ Some o → Some shown ≡ option_map f o
+          → map f (take (suc k) xs) ≡ map f (take k xs) ++ shown ∷ []
       step [] k o h e = absurd (cc)
-      step (x ∷ []) zero o h e = ap (λ (p : Option B). unwrap_or p shown ∷ []) (sym (e ∙ ap (option_map f) (sym (ap (λ (p : Option (Option A)). unwrap_or p None) h))))
-      step (x ∷ (y ∷ ys)) zero o h e = ap (λ (p : Option B). unwrap_or p shown ∷ []) (sym (e ∙ ap (option_map f) (sym (ap (λ (p : Option (Option A)). unwrap_or p None) h))))
+      step (x ∷ []) zero o h e =
+          ap (λ (p : Option B). unwrap_or p shown ∷ []) (sym (e ∙ ap (option_map f) (sym (ap (λ (p : Option (Option A)). unwrap_or p None) h))))
+      step (x ∷ (y ∷ ys)) zero o h e =
+          ap (λ (p : Option B). unwrap_or p shown ∷ []) (sym (e ∙ ap (option_map f) (sym (ap (λ (p : Option (Option A)). unwrap_or p None) h))))
       step (x ∷ xs) (suc k) o h e = ap (λ (ys : List B). f x ∷ ys) (step xs k o h e)
 
   -- as many are shown as there are keys
-  pub as_many : (table : List A) (sorted : List ℕ) → IsTable layout table → IsPermutation (map layout.key table) sorted → IsSorted nat_cmp sorted → length (ordered_by layout.key table) ≡ length sorted
+  pub as_many : (table : List A) (sorted : List ℕ) → IsTable layout table → IsPermutation (map layout.key table) sorted → IsSorted nat_cmp sorted
+      → length (ordered_by layout.key table) ≡ length sorted
   as_many table sorted t same up =
       sym (length-map (ordered_by layout.key table) Some)
       ∙ ap (λ (os : List (Option A)). length os) (sym (sorted_find layout table sorted t same up))
@@ -81,7 +89,8 @@ never_none r dest there none = by_entry (entry_of ranks r.entries dest) there no
 
 -- what is looked up of a rank and of a route is what is shown of the entry
 pub route_is : (r : Routing) (dest : ℕ) (rank : Rank) (next : Option ℕ) → Some rank ≡ rank_of r dest → next ≡ next_of r dest
-    → ◌≡◌ {A = Option ShownRoute} (Some (record { dest = dest; number = rank.number; cost = rank.cost; next = next })) (option_map shown_route (entry_of ranks r.entries dest))
+    → ◌≡◌ {A = Option ShownRoute} (Some (record { dest = dest; number = rank.number; cost = rank.cost; next = next }))
+    (option_map shown_route (entry_of ranks r.entries dest))
 unfolding rank_of route_of
 route_is r dest rank next is by = by_entry (entry_of ranks r.entries dest) refl is by
   where
@@ -94,7 +103,8 @@ route_is r dest rank next is by = by_entry (entry_of ranks r.entries dest) refl 
         let here : dest ≡ e.address = sym (key_found ranks r.entries dest e at) in
         λ i. Some (record { dest = here i; number = (same i).number; cost = (same i).cost; next = n i })
 
-pub peer_is : (table : Table) (from mark : ℕ) → Some mark ≡ mark_of table from → ◌≡◌ {A = Option ShownPeer} (Some (record { from = from; mark = mark })) (option_map shown_peer (entry_of peers table from))
+pub peer_is : (table : Table) (from mark : ℕ) → Some mark ≡ mark_of table from
+    → ◌≡◌ {A = Option ShownPeer} (Some (record { from = from; mark = mark })) (option_map shown_peer (entry_of peers table from))
 peer_is table from mark is = by_place (place_of peers table from) refl is
   where
     by_place : (o : Option ℕ) → place_of peers table from ≡ o → Some mark ≡ option_map (λ place. (peer_at table place).mark) o
@@ -113,7 +123,8 @@ unfolding next_hop
 no_route l g dest ring none =
     ap (option_map (λ (hop : ℕ). (hop, (held l.routing dest).cost))) (none ∙ ap (λ (r : Option Granted). option_and_then (λ _. next_hop l dest) r) ring)
 
-pub has_route : (l : StationMemory) (g : Granted) (dest hop cost : ℕ) → Some g ≡ l.ring → Some hop ≡ next_of l.routing dest → cost ≡ (held l.routing dest).cost → Some (hop, cost) ≡ valid_route l dest
+pub has_route : (l : StationMemory) (g : Granted) (dest hop cost : ℕ) → Some g ≡ l.ring → Some hop ≡ next_of l.routing dest → cost ≡ (held l.routing dest).cost
+    → Some (hop, cost) ≡ valid_route l dest
 unfolding next_hop
 has_route l g dest hop cost ring some is =
     ap (λ (k : ℕ). Some (hop, k)) is

@@ -7,7 +7,8 @@ use Rattle.std.specs.List.{remove, filter}
 abbrev pub kept_so_far : {X : Type 0} → (X → Bool) → List X → ℕ → List X
 kept_so_far p xs i = take i xs ++ filter p (drop i xs)
 
-pub gone_at : {X : Type 0} (p : X → Bool) (xs : List X) (i : ℕ) (d : X) → i < length xs → false ≡ p (get_or xs i d) → kept_so_far p xs i ≡ kept_so_far p (remove xs i) i
+pub gone_at : {X : Type 0} (p : X → Bool) (xs : List X) (i : ℕ) (d : X) → i < length xs → false ≡ p (get_or xs i d)
+    → kept_so_far p xs i ≡ kept_so_far p (remove xs i) i
 gone_at {X} p [] i d lt e = absurd (omega arith)
 gone_at {X} p (x ∷ xs) zero d lt e = ap (λ (b : Bool). if b then x ∷ filter p xs else filter p xs) (sym e)
 gone_at {X} p (x ∷ xs) (suc i) d lt e = ap (λ ys. x ∷ ys) (gone_at p xs i d (omega arith) e)
@@ -17,7 +18,8 @@ stays_suc {X} p [] i d lt e = absurd (omega arith)
 stays_suc {X} p (x ∷ xs) zero d lt e = ap (λ (b : Bool). if b then x ∷ filter p xs else filter p xs) (sym e)
 stays_suc {X} p (x ∷ xs) (suc i) d lt e = ap (λ ys. x ∷ ys) (stays_suc p xs i d (omega arith) e)
 
-pub stays_at : {X : Type 0} (p : X → Bool) (xs : List X) (i : ℕ) (d : X) → i < length xs → true ≡ p (get_or xs i d) → kept_so_far p xs i ≡ kept_so_far p xs (i + 1)
+pub stays_at : {X : Type 0} (p : X → Bool) (xs : List X) (i : ℕ) (d : X) → i < length xs → true ≡ p (get_or xs i d)
+    → kept_so_far p xs i ≡ kept_so_far p xs (i + 1)
 stays_at {X} p xs i d lt e = stays_suc p xs i d lt e ∙ ap (kept_so_far p xs) (one-more i)
   where
     one-more : (n : ℕ) → suc n ≡ n + 1

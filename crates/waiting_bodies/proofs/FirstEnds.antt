@@ -20,7 +20,8 @@ use Rattle.waiting_bodies.specs.BodiesInPool.{body_in, bodies_in}
 use Rattle.waiting_bodies.specs.FirstEnd.{end_by, first_end, IsStill}
 
 slots_last : (ws : List Slot) (time : ℕ) → (fold end_by time ws ≤ time) × All (λ w. fold end_by time ws ≤ w.since + 30) ws
-slots_last ws time = all_last end_by (λ (time : ℕ) (w : Slot). time ≤ w.since + 30) (λ time w. earlier time (w.since + 30)) (λ sooner later w le lasts. omega (arith, le, lasts)) ws time
+slots_last ws time = all_last end_by (λ (time : ℕ) (w : Slot). time ≤ w.since + 30) (λ time w. earlier time (w.since + 30))
+    (λ sooner later w le lasts. omega (arith, le, lasts)) ws time
 
 -- what is computed is such a time
 pub still : (pool : PoolState) (es : List Entry) (ws : List Slot) (time : ℕ) → pieces.IsStill time (told pool es)
@@ -31,10 +32,12 @@ still pool es ws time before = record {
 }
 
 -- what is computed is the first end
-pub is_first : (pool : PoolState) (es : List Entry) (ws : List Slot) → fold end_by (pieces.first_end es) ws ≡ first_end (record { reassemblies = told pool es; waiting = bodies_in pool ws })
+pub is_first : (pool : PoolState) (es : List Entry) (ws : List Slot)
+    → fold end_by (pieces.first_end es) ws ≡ first_end (record { reassemblies = told pool es; waiting = bodies_in pool ws })
 unfolding first_end pieces.first_end
 is_first pool es ws =
-    ap (λ (time : ℕ). fold end_by time ws) (sym (fold-map (λ (time : ℕ) (r : Reassembly). earlier_end 60 time r.since) (reassembly_in pool) 18446744073709551615 es))
+    ap (λ (time : ℕ). fold end_by time ws)
+    (sym (fold-map (λ (time : ℕ) (r : Reassembly). earlier_end 60 time r.since) (reassembly_in pool) 18446744073709551615 es))
     ∙ sym (fold-map (λ (time : ℕ) (b : Body). earlier_end 30 time b.since) (body_in pool) _ ws)
 
 wait_sooner : (a b : ℕ) (bs : List Body) → a ≤ b → All (λ x. b ≤ x.since + 30) bs → All (λ x. a ≤ x.since + 30) bs
@@ -52,7 +55,8 @@ still_taken_in h origin piece note now time first is s =
       waiting = wait_sooner first time h.waiting before s.waiting;
     }
 
-pub still_pushed : (h : Held) (b : Body) (time first : ℕ) → first ≡ earlier_end 30 time b.since → IsStill time h → IsStill first (record h { waiting = h.waiting ++ b ∷ [] })
+pub still_pushed : (h : Held) (b : Body) (time first : ℕ) → first ≡ earlier_end 30 time b.since → IsStill time h
+    → IsStill first (record h { waiting = h.waiting ++ b ∷ [] })
 still_pushed h b time first is s =
     let one = earlier time (b.since + 30) in
     let before : first ≤ time = omega (arith, is, one.0) in
@@ -68,7 +72,8 @@ still_removed h index time s =
     let P : Body → Type 0 = λ b. time ≤ b.since + 30 in
     record {
       gathered = s.gathered;
-      waiting = All-append P (take index h.waiting) (drop (suc index) h.waiting) (All-take P index h.waiting s.waiting) (All-drop P (suc index) h.waiting s.waiting);
+      waiting =
+          All-append P (take index h.waiting) (drop (suc index) h.waiting) (All-take P index h.waiting s.waiting) (All-drop P (suc index) h.waiting s.waiting);
     }
 
 pub still_cleared : (h : Held) (time : ℕ) → IsStill time h → IsStill time (record h { reassemblies = [] })

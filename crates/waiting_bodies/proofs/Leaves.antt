@@ -1,5 +1,6 @@
 -- The units of the bodies that leave, one body after another.
-use Rattle.std.proofs.Common.{◌≡◌, ℕ, suc, ◌+◌, ◌<◌, ◌≤◌, Bool, true, false, List, [], ◌∷◌, ◌++◌, Option, Some, None, length, take, drop, refl, sym, ap, ◌∙◌, arith}
+use Rattle.std.proofs.Common.{◌≡◌, ℕ, suc, ◌+◌, ◌<◌, ◌≤◌, Bool, true, false, List, [], ◌∷◌, ◌++◌, Option, Some, None, length, take, drop, refl, sym, ap, ◌∙◌}
+use Rattle.std.proofs.Common.{arith}
 use Rattle.std.specs.Prelude.{if◌then◌else◌}
 use Rattle.std.specs.List.{All, filter, flat_map}
 use Rattle.std.proofs.Math.Seq.{take-suc}
@@ -18,10 +19,13 @@ use Rattle.waiting_bodies.proofs.Sound.{blocks_same}
 
 pub leaving-append : (own dest hop : ℕ) (xs ys : List Body) → leaving own dest hop (xs ++ ys) ≡ leaving own dest hop xs ++ leaving own dest hop ys
 unfolding leaving
-leaving-append own dest hop xs ys = ap (flat_map (units_by own hop)) (filter-append (waits_for dest) xs ys) ∙ flat_map-append (units_by own hop) (filter (waits_for dest) xs) (filter (waits_for dest) ys)
+leaving-append own dest hop xs ys = ap (flat_map (units_by own hop)) (filter-append (waits_for dest) xs ys)
+    ∙ flat_map-append (units_by own hop) (filter (waits_for dest) xs) (filter (waits_for dest) ys)
 
-pub leaving-suc : (own dest hop : ℕ) (ws : List Body) (k : ℕ) → k < length ws → leaving own dest hop (take (k + 1) ws) ≡ leaving own dest hop (take k ws) ++ leaving own dest hop (body_at ws k ∷ [])
-leaving-suc own dest hop ws k lt = ap (λ n. leaving own dest hop (take n ws)) (one-more k) ∙ ap (leaving own dest hop) (take-suc ws k _ lt) ∙ leaving-append own dest hop (take k ws) (body_at ws k ∷ [])
+pub leaving-suc : (own dest hop : ℕ) (ws : List Body) (k : ℕ) → k < length ws
+    → leaving own dest hop (take (k + 1) ws) ≡ leaving own dest hop (take k ws) ++ leaving own dest hop (body_at ws k ∷ [])
+leaving-suc own dest hop ws k lt = ap (λ n. leaving own dest hop (take n ws)) (one-more k) ∙ ap (leaving own dest hop) (take-suc ws k _ lt)
+    ∙ leaving-append own dest hop (take k ws) (body_at ws k ∷ [])
   where
     one-more : (n : ℕ) → n + 1 ≡ suc n
     one-more n = omega arith
@@ -29,7 +33,8 @@ leaving-suc own dest hop ws k lt = ap (λ n. leaving own dest hop (take n ws)) (
 -- so many are not more than all
 pub leaving-few : (own dest hop : ℕ) (ws : List Body) (k : ℕ) → length (leaving own dest hop (take k ws)) ≤ length (leaving own dest hop ws)
 leaving-few own dest hop ws k =
-    let all : leaving own dest hop ws ≡ leaving own dest hop (take k ws) ++ leaving own dest hop (drop k ws) = ap (leaving own dest hop) (sym (take-append-drop k ws)) ∙ leaving-append own dest hop (take k ws) (drop k ws) in
+    let all : leaving own dest hop ws ≡ leaving own dest hop (take k ws)
+    ++ leaving own dest hop (drop k ws) = ap (leaving own dest hop) (sym (take-append-drop k ws)) ∙ leaving-append own dest hop (take k ws) (drop k ws) in
     omega (arith, ap length all, length-append (leaving own dest hop (take k ws)) (leaving own dest hop (drop k ws)))
 
 pub one-leaves : (own dest hop : ℕ) (b : Body) → true ≡ waits_for dest b → units_by own hop b ≡ leaving own dest hop (b ∷ [])
@@ -53,7 +58,8 @@ leaving-all own dest hop ws k le = ap (leaving own dest hop) (take_all k ws le)
 -- there are never more than 21
 short_loads : (p : PoolState) (es : List Entry) (ws : List Slot) → All (IsHeld p es) ws → All (λ (b : Body). IsShort b.load) (bodies_in p ws)
 short_loads p es [] h = All-nil (λ (b : Body). IsShort b.load)
-short_loads p es (w ∷ ws) h = All-cons (λ (b : Body). IsShort b.load) (body_in p w) (bodies_in p ws) (short (All-head (IsHeld p es) w ws h)) (short_loads p es ws (All-tail (IsHeld p es) w ws h))
+short_loads p es (w ∷ ws) h = All-cons (λ (b : Body). IsShort b.load) (body_in p w) (bodies_in p ws) (short (All-head (IsHeld p es) w ws h))
+    (short_loads p es ws (All-tail (IsHeld p es) w ws h))
   where
     by_tag : (tag : Option ℕ) → length (chain_octets p w.chain) ≤ 1280 → IsShort (load_of tag (chain_octets p w.chain))
     by_tag None le = tt
@@ -62,10 +68,12 @@ short_loads p es (w ∷ ws) h = All-cons (λ (b : Body). IsShort b.load) (body_i
     short : IsHeld p es w → IsShort (body_in p w).load
     short held = by_tag w.tag (omega (arith, held.long, held.fits))
 
-pub few-units : (own dest hop : ℕ) (p : PoolState) (es : List Entry) (ws : List Slot) (h : Held) → record { reassemblies = told p es; waiting = bodies_in p ws } ≡ h → IsSound p es ws → length ws ≤ 8
+pub few-units : (own dest hop : ℕ) (p : PoolState) (es : List Entry) (ws : List Slot) (h : Held)
+    → record { reassemblies = told p es; waiting = bodies_in p ws } ≡ h → IsSound p es ws → length ws ≤ 8
     → length (leaving own dest hop h.waiting) ≤ 21
 unfolding leaving
 few-units own dest hop p es ws h view s count =
     let bodies : List Body = bodies_in p ws in
-    let few : pending_in bodies ≤ 21 = few_pending bodies (omega (arith, count, length-map ws (body_in p))) (omega (arith, blocks_same p es ws s.waits, s.few)) (short_loads p es ws s.waits) in
+    let few : pending_in bodies ≤ 21 = few_pending bodies (omega (arith, count, length-map ws (body_in p))) (omega (arith, blocks_same p es ws s.waits, s.few))
+    (short_loads p es ws s.waits) in
     omega (arith, ap (λ (k : Held). length (leaving own dest hop k.waiting)) view, leaving_units own dest hop bodies, few)

@@ -1,5 +1,6 @@
 -- How units are sealed one after another.
-use Rattle.std.proofs.Common.{◌≡◌, ℕ, zero, suc, ◌+◌, ◌<◌, ◌≤◌, ◌*◌, ◌%◌, not, List, [], ◌∷◌, ◌++◌, length, map, take, drop, get_or, Some, refl, sym, ap, subst, ◌∙◌, arith}
+use Rattle.std.proofs.Common.{◌≡◌, ℕ, zero, suc, ◌+◌, ◌<◌, ◌≤◌, ◌*◌, ◌%◌, not, List, [], ◌∷◌, ◌++◌, length, map, take, drop, get_or, Some, refl, sym, ap, subst}
+use Rattle.std.proofs.Common.{◌∙◌, arith}
 use Rattle.std.specs.Prelude.{◌==◌, nat_le}
 use Rattle.std.specs.List.{slice_get, range_with_len}
 use Rattle.std.specs.Int.{div_ceil}
@@ -39,7 +40,8 @@ sealed_is g key counter to note unit head aes payload octets h a p o =
 
 -- # Units one after another
 
-pub frames-append : (g : Granted) (key : Key) (first : ℕ) (xs ys : List Outgoing) → frames_of g key first (xs ++ ys) ≡ frames_of g key first xs ++ frames_of g key (first + length xs) ys
+pub frames-append : (g : Granted) (key : Key) (first : ℕ) (xs ys : List Outgoing)
+    → frames_of g key first (xs ++ ys) ≡ frames_of g key first xs ++ frames_of g key (first + length xs) ys
 frames-append g key first [] ys = ap (λ n. frames_of g key n ys) (sym (zero-right first))
   where
     zero-right : (n : ℕ) → n + 0 ≡ n
@@ -78,29 +80,36 @@ length-cut datagram tag long =
     ap length (cond-false (nat_le (length datagram) 375) [] all (lt-leb (length datagram) 375 (omega arith)))
     ∙ length-map-range_with_len (piece_of datagram tag) 0 (pieces_of (length datagram))
 
-length-units : (mesh : Mesh) (hop note : ℕ) (datagram : List ℕ) (tag : ℕ) → 376 ≤ length datagram → length (units mesh hop note datagram tag) ≡ pieces_of (length datagram)
+length-units : (mesh : Mesh) (hop note : ℕ) (datagram : List ℕ) (tag : ℕ) → 376 ≤ length datagram
+    → length (units mesh hop note datagram tag) ≡ pieces_of (length datagram)
 unfolding units
 length-units mesh hop note datagram tag long = length-map _ _ ∙ length-map _ _ ∙ length-cut datagram tag long
 
-pub pieces-suc : (g : Granted) (key : Key) (first to hop note : ℕ) (datagram : List ℕ) (tag k : ℕ) (piece : Placed) → 376 ≤ length datagram → k < pieces_of (length datagram)
+pub pieces-suc : (g : Granted) (key : Key) (first to hop note : ℕ) (datagram : List ℕ) (tag k : ℕ) (piece : Placed) → 376 ≤ length datagram
+    → k < pieces_of (length datagram)
     → slice_get (cut datagram tag) k ≡ Some piece
     → pieces_sent g key first to hop note datagram tag (k + 1) ≡ pieces_sent g key first to hop note datagram tag k
     ++ unit_frame g key (first + k) (record { to = hop; unit = Part (own_mesh g.address to) piece; note = note }) ∷ []
 unfolding units
 pieces-suc g key first to hop note datagram tag k piece long lt is =
     ap (pieces_sent g key first to hop note datagram tag) (one-more k)
-    ∙ frames-suc g key first k (units (own_mesh g.address to) hop note datagram tag) _ (omega (arith, length-units (own_mesh g.address to) hop note datagram tag long)) (λ d.
-    get_or-two (cut datagram tag) k d (omega (arith, length-cut datagram tag long)) ∙ ap (λ (p : Placed). record { to = hop; unit = Part (own_mesh g.address to) p; note = note }) (get_or_from_slice_get (cut datagram tag) k piece piece is))
+    ∙ frames-suc g key first k (units (own_mesh g.address to) hop note datagram tag) _
+    (omega (arith, length-units (own_mesh g.address to) hop note datagram tag long)) (λ d.
+    get_or-two (cut datagram tag) k d (omega (arith, length-cut datagram tag long))
+    ∙ ap (λ (p : Placed). record { to = hop; unit = Part (own_mesh g.address to) p; note = note }) (get_or_from_slice_get (cut datagram tag) k piece piece is))
   where
     one-more : (n : ℕ) → n + 1 ≡ suc n
     one-more n = omega arith
 
-    get_or-two : (xs : List Placed) (n : ℕ) (d : Outgoing) → n < length xs → get_or (all_go hop note (map (λ p. Part (own_mesh g.address to) p) xs)) n d ≡ record { to = hop; unit = Part (own_mesh g.address to) (get_or xs n piece); note = note }
+    get_or-two : (xs : List Placed) (n : ℕ) (d : Outgoing) → n < length xs
+        → get_or (all_go hop note (map (λ p. Part (own_mesh g.address to) p) xs)) n d
+        ≡ record { to = hop; unit = Part (own_mesh g.address to) (get_or xs n piece); note = note }
     get_or-two [] n d h = absurd (omega arith)
     get_or-two (x ∷ xs) zero d h = refl
     get_or-two (x ∷ xs) (suc n) d h = get_or-two xs n d (omega arith)
 
-pub pieces-length : (g : Granted) (key : Key) (first to hop note : ℕ) (datagram : List ℕ) (tag k : ℕ) → length (pieces_sent g key first to hop note datagram tag k) ≤ k
+pub pieces-length : (g : Granted) (key : Key) (first to hop note : ℕ) (datagram : List ℕ) (tag k : ℕ)
+    → length (pieces_sent g key first to hop note datagram tag k) ≤ k
 pieces-length g key first to hop note datagram tag k =
     let us : List Outgoing = all_go hop note (map (λ p. Part (own_mesh g.address to) p) (cut datagram tag)) in
     omega (arith, length-frames g key first (take k us), length-take k us)
@@ -112,10 +121,12 @@ pieces-length g key first to hop note datagram tag k =
 
 -- all of them
 pub pieces-whole : (g : Granted) (key : Key) (first to hop note : ℕ) (datagram : List ℕ) (tag k : ℕ) → 376 ≤ length datagram → pieces_of (length datagram) ≤ k
-    → pieces_sent g key first to hop note datagram tag k ≡ frames_of g key first (all_go hop note (map (λ piece. Part (own_mesh g.address to) piece) (cut datagram tag)))
+    → pieces_sent g key first to hop note datagram tag k
+    ≡ frames_of g key first (all_go hop note (map (λ piece. Part (own_mesh g.address to) piece) (cut datagram tag)))
 unfolding units
 pieces-whole g key first to hop note datagram tag k long all =
-    ap (frames_of g key first) (take_all k (units (own_mesh g.address to) hop note datagram tag) (omega (arith, length-units (own_mesh g.address to) hop note datagram tag long)))
+    ap (frames_of g key first) (take_all k (units (own_mesh g.address to) hop note datagram tag)
+    (omega (arith, length-units (own_mesh g.address to) hop note datagram tag long)))
 
 -- a piece in its unit is short
 pub piece-short : (datagram : List ℕ) (tag k : ℕ) → length (piece_of datagram tag k).octets ≤ 368

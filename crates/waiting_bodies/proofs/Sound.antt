@@ -1,5 +1,6 @@
 -- What the bodies owe to their pool, over the calls that change both.
-use Rattle.std.proofs.Common.{◌≡◌, ◌≢◌, ℕ, zero, suc, ◌+◌, ◌<◌, ◌≤◌, inl, inr, Bool, true, false, nat_lt, List, [], ◌∷◌, ◌++◌, length, map, get_or, Option, Some, None, take, drop, refl, sym, ap, subst, ◌∙◌, arith}
+use Rattle.std.proofs.Common.{◌≡◌, ◌≢◌, ℕ, zero, suc, ◌+◌, ◌<◌, ◌≤◌, inl, inr, Bool, true, false, nat_lt, List, [], ◌∷◌, ◌++◌, length, map, get_or, Option}
+use Rattle.std.proofs.Common.{Some, None, take, drop, refl, sym, ap, subst, ◌∙◌, arith}
 use Rattle.std.proofs.lemmas.Bool.{cases_lt, ltb-false}
 use Rattle.std.proofs.lemmas.List.{map-append}
 use Rattle.std.proofs.lemmas.List.Sums.{sum_by_push, sum_by-remove, sum_by-cons}
@@ -72,7 +73,8 @@ others_reserved p q es w os r = λ c o. let stays = r.others c o.0 in ((stays.0,
 blocks_push : (ws : List Slot) (w : Slot) → blocks_of (ws ++ w ∷ []) ≡ blocks_of ws + blocks w.size
 blocks_push ws w = sum_by_push (λ (v : Slot). blocks v.size) ws w
 
-pub sound_push : (p q : PoolState) (es : List Entry) (ws : List Slot) (w : Slot) (os : List ℕ) → IsSound p es ws → Reserves p q w os → HasRoom ws w os → IsSound q es (ws ++ w ∷ [])
+pub sound_push : (p q : PoolState) (es : List Entry) (ws : List Slot) (w : Slot) (os : List ℕ) → IsSound p es ws → Reserves p q w os → HasRoom ws w os
+    → IsSound q es (ws ++ w ∷ [])
 sound_push p q es ws w os s r room = record {
   keeps = record {
     lengths = λ i lt. ap length (r.others _ (kept_chain p es i s.keeps s.bounded.some lt)).1 ∙ s.keeps.lengths i lt;
@@ -99,7 +101,8 @@ pub bodies_push : (p q : PoolState) (es : List Entry) (ws : List Slot) (w : Slot
     → bodies_in q (ws ++ w ∷ []) ≡ bodies_in p ws ++ record { to = w.to; note = w.note; since = w.since; load = load_of w.tag os } ∷ []
 bodies_push p q es ws w os s r =
     map-append (body_in q) ws (w ∷ [])
-    ∙ (λ i. bodies_same p q es es ws (others_reserved p q es w os r) s.waits i ++ record { to = w.to; note = w.note; since = w.since; load = load_of w.tag (r.octets i) } ∷ [])
+    ∙ (λ i. bodies_same p q es es ws (others_reserved p q es w os r) s.waits i
+    ++ record { to = w.to; note = w.note; since = w.since; load = load_of w.tag (r.octets i) } ∷ [])
 
 -- # A body less waits
 
@@ -162,7 +165,8 @@ sound_remove p q es ws i w s r =
 pub told_remove : (p q : PoolState) (es : List Entry) (ws : List Slot) (i : ℕ) (w : Slot) → IsSound p es ws → Returns p q ws i w → told q es ≡ told p es
 told_remove p q es ws i w s r = told_same p q es (λ k lt. (r.others _ (entry_apart p q es ws i w s r k lt) (kept_chain p es k s.keeps s.bounded.some lt)).1)
 
-bodies_left : (p q : PoolState) (es : List Entry) (ws : List Slot) (i : ℕ) (w : Slot) → IsSound p es ws → Returns p q ws i w → bodies_in q (remove ws i) ≡ bodies_in p (remove ws i)
+bodies_left : (p q : PoolState) (es : List Entry) (ws : List Slot) (i : ℕ) (w : Slot) → IsSound p es ws → Returns p q ws i w
+    → bodies_in q (remove ws i) ≡ bodies_in p (remove ws i)
 bodies_left p q es ws i w s r =
     map_same (body_in q) (body_in p) (remove ws i) (λ j d lt.
     let left = left_at p q es ws i w s r j d lt in
@@ -173,7 +177,8 @@ pub bodies_remove : (p q : PoolState) (es : List Entry) (ws : List Slot) (i : �
 bodies_remove p q es ws i w s r = bodies_left p q es ws i w s r ∙ map_remove (body_in p) ws i
   where
     map_remove : (f : Slot → Body) (xs : List Slot) (k : ℕ) → map f (remove xs k) ≡ remove (map f xs) k
-    map_remove f xs k = map-append f (take k xs) (drop (suc k) xs) ∙ ap (λ ys. ys ++ map f (drop (suc k) xs)) (sym (take-map f k xs)) ∙ ap (λ ys. take k (map f xs) ++ ys) (sym (drop-map f (suc k) xs))
+    map_remove f xs k = map-append f (take k xs) (drop (suc k) xs) ∙ ap (λ ys. ys ++ map f (drop (suc k) xs)) (sym (take-map f k xs))
+        ∙ ap (λ ys. take k (map f xs) ++ ys) (sym (drop-map f (suc k) xs))
 
 -- # Blocks
 
@@ -194,7 +199,8 @@ blocks_same p es (w ∷ ws) h =
     ∙ sym (sum_by-cons (λ (v : Slot). blocks v.size) w ws)
 
 -- where there is room for so many octets, there is
-pub room_is : (p : PoolState) (es : List Entry) (ws : List Slot) (h : Held) (octets : ℕ) → record { reassemblies = told p es; waiting = bodies_in p ws } ≡ h → All (IsHeld p es) ws
+pub room_is : (p : PoolState) (es : List Entry) (ws : List Slot) (h : Held) (octets : ℕ) → record { reassemblies = told p es; waiting = bodies_in p ws } ≡ h
+    → All (IsHeld p es) ws
     → no_room_in h.waiting octets ≡ false → blocks_of ws + blocks octets ≤ 80
 room_is p es ws h octets view waits free =
     let same : waiting_blocks h.waiting ≡ blocks_of ws = ap (λ (k : Held). waiting_blocks k.waiting) (sym view) ∙ blocks_same p es ws waits in
@@ -205,15 +211,19 @@ room_is p es ws h octets view waits free =
     by_count false e = cc
 
 -- what a contract sees after the reassemblies have changed
-pub seen_moved : (p q : PoolState) (es fs : List Entry) (ws : List Slot) (h : Held) (rs : List Reassembly) → record { reassemblies = told p es; waiting = bodies_in p ws } ≡ h
-    → IsSound p es ws → Moves p q es fs → told q fs ≡ rs → ◌≡◌ {A = Held} (record { reassemblies = told q fs; waiting = bodies_in q ws }) (record { reassemblies = rs; waiting = h.waiting })
+pub seen_moved : (p q : PoolState) (es fs : List Entry) (ws : List Slot) (h : Held) (rs : List Reassembly)
+    → record { reassemblies = told p es; waiting = bodies_in p ws } ≡ h
+    → IsSound p es ws → Moves p q es fs → told q fs ≡ rs
+    → ◌≡◌ {A = Held} (record { reassemblies = told q fs; waiting = bodies_in q ws }) (record { reassemblies = rs; waiting = h.waiting })
 seen_moved p q es fs ws h rs view s moves t =
     let same : bodies_in q ws ≡ h.waiting = bodies_same p q es fs ws moves.others s.waits ∙ ap (λ (k : Held). k.waiting) view in
     λ i. record { reassemblies = t i; waiting = same i }
 
 -- and after the waiting bodies have
-pub seen_waiting : (p q : PoolState) (es : List Entry) (ws vs : List Slot) (h : Held) (bs : List Body) → record { reassemblies = told p es; waiting = bodies_in p ws } ≡ h
-    → told q es ≡ told p es → bodies_in q vs ≡ bs → ◌≡◌ {A = Held} (record { reassemblies = told q es; waiting = bodies_in q vs }) (record { reassemblies = h.reassemblies; waiting = bs })
+pub seen_waiting : (p q : PoolState) (es : List Entry) (ws vs : List Slot) (h : Held) (bs : List Body)
+    → record { reassemblies = told p es; waiting = bodies_in p ws } ≡ h
+    → told q es ≡ told p es → bodies_in q vs ≡ bs
+    → ◌≡◌ {A = Held} (record { reassemblies = told q es; waiting = bodies_in q vs }) (record { reassemblies = h.reassemblies; waiting = bs })
 seen_waiting p q es ws vs h bs view t b =
     let same : told q es ≡ h.reassemblies = t ∙ ap (λ (k : Held). k.reassemblies) view in
     λ i. record { reassemblies = same i; waiting = b i }
@@ -239,6 +249,8 @@ read_slot ws i w is lt d = any_or ws i d w lt ∙ sym is
 pub blocks_more : (ws vs : List Slot) (w : Slot) → vs ≡ ws ++ w ∷ [] → blocks_of vs ≡ blocks_of ws + blocks w.size
 blocks_more ws vs w e = ap blocks_of e ∙ blocks_push ws w
 
-pub blocks_less : (ws vs : List Slot) (i : ℕ) (w : Slot) → vs ≡ remove ws i → i < length ws → ((d : Slot) → get_or ws i d ≡ w) → blocks_of vs + blocks w.size ≡ blocks_of ws
+pub blocks_less : (ws vs : List Slot) (i : ℕ) (w : Slot) → vs ≡ remove ws i → i < length ws → ((d : Slot) → get_or ws i d ≡ w)
+    → blocks_of vs + blocks w.size ≡ blocks_of ws
 blocks_less ws vs i w e lt is =
-    ap (λ us. blocks_of us + blocks w.size) e ∙ ap (λ (v : Slot). blocks_of (remove ws i) + blocks v.size) (sym (is w)) ∙ sum_by-remove (λ (v : Slot). blocks v.size) ws i w lt
+    ap (λ us. blocks_of us + blocks w.size) e ∙ ap (λ (v : Slot). blocks_of (remove ws i) + blocks v.size) (sym (is w))
+    ∙ sum_by-remove (λ (v : Slot). blocks v.size) ws i w lt

@@ -1,7 +1,8 @@
 -- What refuses the calls of the line, and which lines of a script are bad: the runs are computed.
 use Rattle.std.proofs.Common.{refl}
 use Rattle.worked_scripts.proofs.Computing.{computed}
-use Rattle.worked_scripts.specs.CallScripts.{HaltedNodesDoNothing, CallsNeedAddresses, EightRandomValuesAreHeld, TheBookHasRoom, BadLinesHaveTheirReasons, SixtyFourAreNear}
+use Rattle.worked_scripts.specs.CallScripts.{HaltedNodesDoNothing, CallsNeedAddresses, EightRandomValuesAreHeld, TheBookHasRoom, BadLinesHaveTheirReasons}
+use Rattle.worked_scripts.specs.CallScripts.{SixtyFourAreNear}
 
 pub halted_nodes_do_nothing : HaltedNodesDoNothing
 unfolding computed HaltedNodesDoNothing
@@ -21,7 +22,8 @@ the_book_has_room = (refl, refl, refl)
 
 pub bad_lines_have_their_reasons : BadLinesHaveTheirReasons
 unfolding computed BadLinesHaveTheirReasons
-bad_lines_have_their_reasons = (refl, refl, refl, refl, refl, refl, refl, refl, refl, refl, refl, refl, refl, refl, refl, refl, refl, refl, refl, refl, refl, refl, refl)
+bad_lines_have_their_reasons =
+    (refl, refl, refl, refl, refl, refl, refl, refl, refl, refl, refl, refl, refl, refl, refl, refl, refl, refl, refl, refl, refl, refl, refl)
 
 pub sixty_four_are_near : SixtyFourAreNear
 unfolding computed SixtyFourAreNear

@@ -1,7 +1,8 @@
 -- What becomes of frames that no node sent, and how frames are spelled: the runs are computed.
 use Rattle.std.proofs.Common.{refl}
 use Rattle.worked_scripts.proofs.Computing.{computed}
-use Rattle.worked_scripts.specs.FrameScripts.{AForgedFrameIsNamed, ALostFrameIsNotForged, MaliciousFramesAreRefused, FramesHaveTheirNodes, UnitsHaveTheirPaths, FramesAreSpelled}
+use Rattle.worked_scripts.specs.FrameScripts.{AForgedFrameIsNamed, ALostFrameIsNotForged, MaliciousFramesAreRefused, FramesHaveTheirNodes, UnitsHaveTheirPaths}
+use Rattle.worked_scripts.specs.FrameScripts.{FramesAreSpelled}
 
 pub a_forged_frame_is_named : AForgedFrameIsNamed
 unfolding computed AForgedFrameIsNamed

@@ -1,7 +1,8 @@
 -- What becomes of the pieces of datagrams at the node that gathers them: the runs are computed.
 use Rattle.std.proofs.Common.{refl}
 use Rattle.worked_scripts.proofs.Computing.{computed}
-use Rattle.worked_scripts.specs.PieceScripts.{ThePiecesMakeTheDatagram, PiecesComeInAnyOrder, ARepeatedPieceIsIgnored, AnOverlapBeginsAnew, PiecesAreNamed, EightAreGathered, EightyBlocksAreGathered, GatheringEndsAfterAMinute}
+use Rattle.worked_scripts.specs.PieceScripts.{ThePiecesMakeTheDatagram, PiecesComeInAnyOrder, ARepeatedPieceIsIgnored, AnOverlapBeginsAnew, PiecesAreNamed}
+use Rattle.worked_scripts.specs.PieceScripts.{EightAreGathered, EightyBlocksAreGathered, GatheringEndsAfterAMinute}
 
 pub the_pieces_make_the_datagram : ThePiecesMakeTheDatagram
 unfolding computed ThePiecesMakeTheDatagram

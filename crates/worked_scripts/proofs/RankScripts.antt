@@ -1,7 +1,9 @@
 -- What becomes of ranks that messages offer: which are refused, which are kept, and which are forgotten: the runs are computed.
 use Rattle.std.proofs.Common.{refl}
 use Rattle.worked_scripts.proofs.Computing.{computed}
-use Rattle.worked_scripts.specs.RankScripts.{CostsAreSpent, RequestsOfferRanks, RepliesOfferRanks, AReplyGoesByTheHopFromBefore, AnAnswerTakesANumber, ARouteEndsAfterSixHours, AFullTableRefuses, AFullTableForgetsTheEarliest, AFullTableForgetsTheBroken, FloorsAreStoredFirst, ANodeHearsSixtyFourSenders}
+use Rattle.worked_scripts.specs.RankScripts.{CostsAreSpent, RequestsOfferRanks, RepliesOfferRanks, AReplyGoesByTheHopFromBefore, AnAnswerTakesANumber}
+use Rattle.worked_scripts.specs.RankScripts.{ARouteEndsAfterSixHours, AFullTableRefuses, AFullTableForgetsTheEarliest, AFullTableForgetsTheBroken}
+use Rattle.worked_scripts.specs.RankScripts.{FloorsAreStoredFirst, ANodeHearsSixtyFourSenders}
 
 pub costs_are_spent : CostsAreSpent
 unfolding computed CostsAreSpent

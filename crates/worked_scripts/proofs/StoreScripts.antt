@@ -1,7 +1,9 @@
 -- What a step stores, in which order, and what is left where a write fails: the runs are computed.
 use Rattle.std.proofs.Common.{refl}
 use Rattle.worked_scripts.proofs.Computing.{computed}
-use Rattle.worked_scripts.specs.StoreScripts.{AFailedWriteHalts, EachWriteMayFail, ASendStoresItsTagFirst, TagsBeginAgain, TheWorkshopStores, OrdersAreStored, WhatDoesNotChangeIsNotStored, EachCallMayFail, AJoiningStoresItsKeys, AKickIsStoredFirst, LimitsStopAtTheEnd, AStepPassesTheLimitOnce, MarksAreStoredAhead, NumbersAreStoredAhead}
+use Rattle.worked_scripts.specs.StoreScripts.{AFailedWriteHalts, EachWriteMayFail, ASendStoresItsTagFirst, TagsBeginAgain, TheWorkshopStores, OrdersAreStored}
+use Rattle.worked_scripts.specs.StoreScripts.{WhatDoesNotChangeIsNotStored, EachCallMayFail, AJoiningStoresItsKeys, AKickIsStoredFirst, LimitsStopAtTheEnd}
+use Rattle.worked_scripts.specs.StoreScripts.{AStepPassesTheLimitOnce, MarksAreStoredAhead, NumbersAreStoredAhead}
 
 pub a_failed_write_halts : AFailedWriteHalts
 unfolding computed AFailedWriteHalts

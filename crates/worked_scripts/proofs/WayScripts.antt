@@ -1,7 +1,8 @@
 -- Which joining messages are taken by which way, and what each other one is told: the runs are computed.
 use Rattle.std.proofs.Common.{refl}
 use Rattle.worked_scripts.proofs.Computing.{computed}
-use Rattle.worked_scripts.specs.WayScripts.{OnlyAJoinGoesUp, PlainFramesComeDown, CommandsComeFromTheCoordinator, OnlyAJoinReachesTheCoordinator, AnAnswerByCommandMayLackRoom}
+use Rattle.worked_scripts.specs.WayScripts.{OnlyAJoinGoesUp, PlainFramesComeDown, CommandsComeFromTheCoordinator, OnlyAJoinReachesTheCoordinator}
+use Rattle.worked_scripts.specs.WayScripts.{AnAnswerByCommandMayLackRoom}
 
 pub only_a_join_goes_up : OnlyAJoinGoesUp
 unfolding computed OnlyAJoinGoesUp

@@ -8,11 +8,13 @@ use Rattle.node_rules.specs.declared.refusal.CoordinatorRefusal.{CoordinatorRefu
 use Rattle.node_rules.specs.declared.refusal.CoordinatorRefusal.TheVariants as refusals
 use Rattle.line_events.specs.declared.event.Answer.TheVariants as said
 use Rattle.line_events.specs.declared.event.Event.{Event}
-use Rattle.line_events.specs.declared.event.Event.TheVariants.{Coordinator, Meter, Depot, Near, Counter, Allow, Rand, Join, Leave, Send, Deliver, Inject, Lose, Break, Tick, Cut, Rekey, Activate, Challenge, Kick, Show}
+use Rattle.line_events.specs.declared.event.Event.TheVariants.{Coordinator, Meter, Depot, Near, Counter, Allow, Rand, Join, Leave, Send, Deliver, Inject, Lose}
+use Rattle.line_events.specs.declared.event.Event.TheVariants.{Break, Tick, Cut, Rekey, Activate, Challenge, Kick, Show}
 use Rattle.line_events.specs.declared.event.StepFault.TheVariants as faults
 use Rattle.line_rules.specs.Worlds.{start}
 use Rattle.line_rules.specs.Runs.{run}
-use Rattle.worked_scripts.specs.Scripts.{plain, eui, group_key, pair_key, second_key, rand_k, alone, one_meter, two_meters, answers_after, answers_to, counts_of, fault_after, shown_at_last, memory_at}
+use Rattle.worked_scripts.specs.Scripts.{plain, eui, group_key, pair_key, second_key, rand_k, alone, one_meter, two_meters, answers_after, answers_to}
+use Rattle.worked_scripts.specs.Scripts.{counts_of, fault_after, shown_at_last, memory_at}
 
 -- # Halted nodes
 

@@ -8,7 +8,9 @@ use Rattle.line_events.specs.declared.event.Event.{Event}
 use Rattle.line_events.specs.declared.event.Event.TheVariants.{Coordinator, Meter, Depot, Near, Allow, Rand, Join, Send, Deliver, Inject, Lose}
 use Rattle.line_rules.specs.Worlds.{start}
 use Rattle.line_rules.specs.Runs.{run}
-use Rattle.worked_scripts.specs.Scripts.{plain, eui, group_key, pair_key, rand_k, rand_r, two_meters, sealed, sealed_under, everyone, routing_unit, whole, part_of, command, joining_octets, up_frame, down_frame, said_of, answers_after, answers_to, counts_of, handed_at_last, forged_at_last, octets_of}
+use Rattle.worked_scripts.specs.Scripts.{plain, eui, group_key, pair_key, rand_k, rand_r, two_meters, sealed, sealed_under, everyone, routing_unit, whole}
+use Rattle.worked_scripts.specs.Scripts.{part_of, command, joining_octets, up_frame, down_frame, said_of, answers_after, answers_to, counts_of, handed_at_last}
+use Rattle.worked_scripts.specs.Scripts.{forged_at_last, octets_of}
 use Rattle.worked_scripts.specs.HopScripts.{one_hop, discovery}
 
 -- # Frames that no node sent

@@ -9,7 +9,8 @@ use Rattle.line_events.specs.declared.event.Event.TheVariants.{Near, Counter, Se
 use Rattle.line_events.specs.declared.event.StepFault.TheVariants as faults
 use Rattle.line_rules.specs.Worlds.{start}
 use Rattle.line_rules.specs.Runs.{run}
-use Rattle.worked_scripts.specs.Scripts.{plain, group_key, two_meters, three_meters, four_meters, sealed, routing_unit, whole, part_of, command, answers_after, answers_to, counts_of, fault_after, handed_at_last, shown_at_last, octets_of, route_at, rank_at}
+use Rattle.worked_scripts.specs.Scripts.{plain, group_key, two_meters, three_meters, four_meters, sealed, routing_unit, whole, part_of, command, answers_after}
+use Rattle.worked_scripts.specs.Scripts.{answers_to, counts_of, fault_after, handed_at_last, shown_at_last, octets_of, route_at, rank_at}
 
 -- # One hop
 

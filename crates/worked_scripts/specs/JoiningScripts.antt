@@ -9,10 +9,12 @@ use Rattle.eap_psk.specs.declared.server.Server.{Server}
 use Rattle.eap_psk.specs.declared.peer.Peer.{Peer}
 use Rattle.line_events.specs.declared.event.Answer.TheVariants as said
 use Rattle.line_events.specs.declared.event.Event.{Event}
-use Rattle.line_events.specs.declared.event.Event.TheVariants.{Coordinator, Meter, Depot, Near, Counter, Number, Allow, Rand, Join, Deliver, Inject, Tick, Cut, Activate, Challenge, Kick}
+use Rattle.line_events.specs.declared.event.Event.TheVariants.{Coordinator, Meter, Depot, Near, Counter, Number, Allow, Rand, Join, Deliver, Inject, Tick, Cut}
+use Rattle.line_events.specs.declared.event.Event.TheVariants.{Activate, Challenge, Kick}
 use Rattle.line_rules.specs.Worlds.{start}
 use Rattle.line_rules.specs.Runs.{run}
-use Rattle.worked_scripts.specs.Scripts.{plain, plain_second, plain_third, plain_fourth, eui, group_key, pair_key, second_key, rand_k, rand_r, rand_p, rand_q, alone, up_frame, down_frame, said_of, answers_after, answers_to, counts_of, forged_at_last, takers, doers, admissions}
+use Rattle.worked_scripts.specs.Scripts.{plain, plain_second, plain_third, plain_fourth, eui, group_key, pair_key, second_key, rand_k, rand_r, rand_p, rand_q}
+use Rattle.worked_scripts.specs.Scripts.{alone, up_frame, down_frame, said_of, answers_after, answers_to, counts_of, forged_at_last, takers, doers, admissions}
 
 -- # Over the air
 

@@ -9,10 +9,13 @@ use Rattle.node_rules.specs.Memory.{Memory}
 use Rattle.node_rules.specs.declared.shown.Shown.{Shown}
 use Rattle.line_events.specs.declared.event.Answer.TheVariants as said
 use Rattle.line_events.specs.declared.event.Event.{Event}
-use Rattle.line_events.specs.declared.event.Event.TheVariants.{Near, Counter, Number, Allow, Rand, Leave, Send, Deliver, Inject, Rekey, Activate, Challenge, Kick, Show}
+use Rattle.line_events.specs.declared.event.Event.TheVariants.{Near, Counter, Number, Allow, Rand, Leave, Send, Deliver, Inject, Rekey, Activate, Challenge}
+use Rattle.line_events.specs.declared.event.Event.TheVariants.{Kick, Show}
 use Rattle.line_rules.specs.Worlds.{start}
 use Rattle.line_rules.specs.Runs.{run}
-use Rattle.worked_scripts.specs.Scripts.{plain, plain_second, plain_fourth, eui, pair_key, second_key, rand_k, rand_r, rand_p, rand_q, two_meters, three_meters, sealed, sealed_under, part_of, command, joining_octets, answers_after, answers_to, counts_of, shown_at_last, takers, doers, admissions, octets_of, route_at, rank_at, memory_at}
+use Rattle.worked_scripts.specs.Scripts.{plain, plain_second, plain_fourth, eui, pair_key, second_key, rand_k, rand_r, rand_p, rand_q, two_meters, three_meters}
+use Rattle.worked_scripts.specs.Scripts.{sealed, sealed_under, part_of, command, joining_octets, answers_after, answers_to, counts_of, shown_at_last, takers}
+use Rattle.worked_scripts.specs.Scripts.{doers, admissions, octets_of, route_at, rank_at, memory_at}
 
 -- # Rotation and kick
 

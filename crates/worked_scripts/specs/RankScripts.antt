@@ -6,7 +6,8 @@ use Rattle.loadng_messages.specs.declared.message.Message.TheVariants.{Rreq, Rre
 use Rattle.line_events.specs.declared.event.Answer.TheVariants as said
 use Rattle.line_events.specs.declared.event.Event.{Event}
 use Rattle.line_events.specs.declared.event.Event.TheVariants.{Near, Counter, Number, Send, Inject, Tick}
-use Rattle.worked_scripts.specs.Scripts.{two_meters, three_meters, four_meters, sealed, everyone, routing_unit, answers_after, answers_to, counts_of, octets_of, route_at, rank_at, hearing_writes}
+use Rattle.worked_scripts.specs.Scripts.{two_meters, three_meters, four_meters, sealed, everyone, routing_unit, answers_after, answers_to, counts_of, octets_of}
+use Rattle.worked_scripts.specs.Scripts.{route_at, rank_at, hearing_writes}
 
 -- # Costs that pass 65,535
 

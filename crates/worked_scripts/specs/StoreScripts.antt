@@ -12,8 +12,10 @@ use Rattle.node_rules.specs.Calls as calls
 use Rattle.node_rules.specs.Drafts.{tag_after}
 use Rattle.line_events.specs.declared.event.Answer.TheVariants as said
 use Rattle.line_events.specs.declared.event.Event.{Event}
-use Rattle.line_events.specs.declared.event.Event.TheVariants.{Coordinator, Meter, Near, Counter, Number, Allow, Rand, Join, Leave, Send, Deliver, Inject, Tick, Cut, Rekey, Activate, Challenge, Kick}
-use Rattle.worked_scripts.specs.Scripts.{eui, group_key, pair_key, second_key, rand_k, rand_r, alone, one_meter, two_meters, sealed, everyone, routing_unit, command, joining_octets, answers_after, answers_to, counts_of, octets_of, memory_at, records_at, with_writes}
+use Rattle.line_events.specs.declared.event.Event.TheVariants.{Coordinator, Meter, Near, Counter, Number, Allow, Rand, Join, Leave, Send, Deliver, Inject, Tick}
+use Rattle.line_events.specs.declared.event.Event.TheVariants.{Cut, Rekey, Activate, Challenge, Kick}
+use Rattle.worked_scripts.specs.Scripts.{eui, group_key, pair_key, second_key, rand_k, rand_r, alone, one_meter, two_meters, sealed, everyone, routing_unit}
+use Rattle.worked_scripts.specs.Scripts.{command, joining_octets, answers_after, answers_to, counts_of, octets_of, memory_at, records_at, with_writes}
 
 -- # A store write that fails
 

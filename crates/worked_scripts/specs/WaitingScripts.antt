@@ -6,7 +6,8 @@ use Rattle.line_events.specs.declared.event.Event.{Event}
 use Rattle.line_events.specs.declared.event.Event.TheVariants.{Near, Counter, Number, Send, Deliver, Inject, Tick}
 use Rattle.line_rules.specs.Worlds.{start}
 use Rattle.line_rules.specs.Runs.{run}
-use Rattle.worked_scripts.specs.Scripts.{plain, one_meter, two_meters, sealed, everyone, routing_unit, whole, part_of, answers_after, answers_to, counts_of, handed_at_last, octets_of, route_at, rank_at}
+use Rattle.worked_scripts.specs.Scripts.{plain, one_meter, two_meters, sealed, everyone, routing_unit, whole, part_of, answers_after, answers_to, counts_of}
+use Rattle.worked_scripts.specs.Scripts.{handed_at_last, octets_of, route_at, rank_at}
 
 -- # Bodies that leave
 

@@ -5,7 +5,8 @@ use Rattle.eap_psk.specs.Messages as packets
 use Rattle.line_events.specs.declared.event.Answer.TheVariants as said
 use Rattle.line_events.specs.declared.event.Event.{Event}
 use Rattle.line_events.specs.declared.event.Event.TheVariants.{Coordinator, Meter, Near, Counter, Number, Rand, Join, Send, Inject}
-use Rattle.worked_scripts.specs.Scripts.{eui, group_key, pair_key, rand_k, rand_r, two_meters, sealed, command, joining_octets, up_frame, down_frame, said_of, answers_to, octets_of}
+use Rattle.worked_scripts.specs.Scripts.{eui, group_key, pair_key, rand_k, rand_r, two_meters, sealed, command, joining_octets, up_frame, down_frame, said_of}
+use Rattle.worked_scripts.specs.Scripts.{answers_to, octets_of}
 
 -- an EAP success, as an ACCEPT carries it
 abbrev pub success : List ℕ

@@ -1,5 +1,6 @@
 //! What refuses the calls of the line, and which lines of a script are bad.
-ghost use Rattle.worked_scripts.specs.CallScripts.{HaltedNodesDoNothing, CallsNeedAddresses, EightRandomValuesAreHeld, TheBookHasRoom, BadLinesHaveTheirReasons, SixtyFourAreNear};
+ghost use Rattle.worked_scripts.specs.CallScripts.{HaltedNodesDoNothing, CallsNeedAddresses, EightRandomValuesAreHeld, TheBookHasRoom};
+ghost use Rattle.worked_scripts.specs.CallScripts.{BadLinesHaveTheirReasons, SixtyFourAreNear};
 
 /// A halted node answers so before all else, and has no address for others.
 #[tactic(auto, using(crate::proofs::CallScripts::halted_nodes_do_nothing))]

@@ -1,5 +1,6 @@
 //! What becomes of frames that no node sent, and how frames are spelled.
-ghost use Rattle.worked_scripts.specs.FrameScripts.{AForgedFrameIsNamed, ALostFrameIsNotForged, MaliciousFramesAreRefused, FramesHaveTheirNodes, UnitsHaveTheirPaths, FramesAreSpelled};
+ghost use Rattle.worked_scripts.specs.FrameScripts.{AForgedFrameIsNamed, ALostFrameIsNotForged, MaliciousFramesAreRefused, FramesHaveTheirNodes};
+ghost use Rattle.worked_scripts.specs.FrameScripts.{UnitsHaveTheirPaths, FramesAreSpelled};
 
 /// A frame with the right key that nobody sent is handed up under the note 0, and named as forged.
 #[tactic(auto, using(crate::proofs::FrameScripts::a_forged_frame_is_named))]

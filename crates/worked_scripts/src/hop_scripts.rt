@@ -1,5 +1,8 @@
 //! What becomes of datagrams and units over one hop and over several.
-ghost use Rattle.worked_scripts.specs.HopScripts.{ARepeatIsRefused, DatagramsOfEverySize, DiscoveryOverTwoRelays, ABrokenRouteStaysBroken, ALostFlightComesNoMore, AUnitGoesOnWhileHopsAreLeft, EveryUnitGoesOn, AUnitWithoutARouteIsReported, GoingOnTakesACounter, AnErrorGoesOnToItsTarget, AnErrorThatGoesOnTakesACounter, AnErrorForItsTargetGoesOn, WhatIsShownIsInOrder};
+ghost use Rattle.worked_scripts.specs.HopScripts.{ARepeatIsRefused, DatagramsOfEverySize, DiscoveryOverTwoRelays, ABrokenRouteStaysBroken};
+ghost use Rattle.worked_scripts.specs.HopScripts.{ALostFlightComesNoMore, AUnitGoesOnWhileHopsAreLeft, EveryUnitGoesOn, AUnitWithoutARouteIsReported};
+ghost use Rattle.worked_scripts.specs.HopScripts.{GoingOnTakesACounter, AnErrorGoesOnToItsTarget, AnErrorThatGoesOnTakesACounter, AnErrorForItsTargetGoesOn};
+ghost use Rattle.worked_scripts.specs.HopScripts.{WhatIsShownIsInOrder};
 
 /// A datagram over one hop is handed up, and its repeat is refused.
 #[tactic(auto, using(crate::proofs::HopScripts::a_repeat_is_refused))]

@@ -1,5 +1,7 @@
 //! What becomes of joinings: over the air and through an agent, in time and late, with packets that are refused.
-ghost use Rattle.worked_scripts.specs.JoiningScripts.{AMeterJoinsOverTheAir, AnOldThirdPacketIsRefused, PlainFramesTakeNoCounter, AMeterJoinsThroughAnAgent, ASessionEndsAfterTwoMinutes, ChallengesAreJudgedInOrder, AForgedGrantIsNamed, AForgedAnswerIsNamed, PacketsAreChecked, EightSessionsAreOpen, AKickedMeterMayNotKnow};
+ghost use Rattle.worked_scripts.specs.JoiningScripts.{AMeterJoinsOverTheAir, AnOldThirdPacketIsRefused, PlainFramesTakeNoCounter, AMeterJoinsThroughAnAgent};
+ghost use Rattle.worked_scripts.specs.JoiningScripts.{ASessionEndsAfterTwoMinutes, ChallengesAreJudgedInOrder, AForgedGrantIsNamed, AForgedAnswerIsNamed};
+ghost use Rattle.worked_scripts.specs.JoiningScripts.{PacketsAreChecked, EightSessionsAreOpen, AKickedMeterMayNotKnow};
 
 /// A meter joins over the air: both ends come to an end, and the meter has its address; its session is over, and the keys of its grant are
 /// known as issued.

@@ -1,5 +1,6 @@
 //! What becomes of keys: rotation, activation, kicks, and leaving.
-ghost use Rattle.worked_scripts.specs.KeyScripts.{RotationAndKick, AMeterAnswersUnderItsNewRing, OrdersAreRefused, AnotherKeyIsNotIssued, AnOrderMayLackRoom, KickGoesWhereItCan, LeavingKeepsRanksAndMarks};
+ghost use Rattle.worked_scripts.specs.KeyScripts.{RotationAndKick, AMeterAnswersUnderItsNewRing, OrdersAreRefused, AnotherKeyIsNotIssued, AnOrderMayLackRoom};
+ghost use Rattle.worked_scripts.specs.KeyScripts.{KickGoesWhereItCan, LeavingKeepsRanksAndMarks};
 
 /// A meter is given the second key, a kicked one leaves and hears nothing under it, and what is sealed under the old one opens no more.
 #[tactic(auto, using(crate::proofs::KeyScripts::rotation_and_kick))]

@@ -1,5 +1,6 @@
 //! What becomes of the pieces of datagrams at the node that gathers them.
-ghost use Rattle.worked_scripts.specs.PieceScripts.{ThePiecesMakeTheDatagram, PiecesComeInAnyOrder, ARepeatedPieceIsIgnored, AnOverlapBeginsAnew, PiecesAreNamed, EightAreGathered, EightyBlocksAreGathered, GatheringEndsAfterAMinute};
+ghost use Rattle.worked_scripts.specs.PieceScripts.{ThePiecesMakeTheDatagram, PiecesComeInAnyOrder, ARepeatedPieceIsIgnored, AnOverlapBeginsAnew};
+ghost use Rattle.worked_scripts.specs.PieceScripts.{PiecesAreNamed, EightAreGathered, EightyBlocksAreGathered, GatheringEndsAfterAMinute};
 
 /// The last piece makes a datagram whole: it is handed up, once, with the number of its send.
 #[tactic(auto, using(crate::proofs::PieceScripts::the_pieces_make_the_datagram))]

@@ -1,5 +1,7 @@
 //! What becomes of ranks that messages offer: which are refused, which are kept, and which are forgotten.
-ghost use Rattle.worked_scripts.specs.RankScripts.{CostsAreSpent, RequestsOfferRanks, RepliesOfferRanks, AReplyGoesByTheHopFromBefore, AnAnswerTakesANumber, ARouteEndsAfterSixHours, AFullTableRefuses, AFullTableForgetsTheEarliest, AFullTableForgetsTheBroken, FloorsAreStoredFirst, ANodeHearsSixtyFourSenders};
+ghost use Rattle.worked_scripts.specs.RankScripts.{CostsAreSpent, RequestsOfferRanks, RepliesOfferRanks, AReplyGoesByTheHopFromBefore, AnAnswerTakesANumber};
+ghost use Rattle.worked_scripts.specs.RankScripts.{ARouteEndsAfterSixHours, AFullTableRefuses, AFullTableForgetsTheEarliest, AFullTableForgetsTheBroken};
+ghost use Rattle.worked_scripts.specs.RankScripts.{FloorsAreStoredFirst, ANodeHearsSixtyFourSenders};
 
 /// A request goes on as long as its cost has a number of 16 bits.
 #[tactic(auto, using(crate::proofs::RankScripts::costs_are_spent))]

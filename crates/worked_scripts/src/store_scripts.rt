@@ -1,5 +1,7 @@
 //! What a step stores, in which order, and what is left where a write fails.
-ghost use Rattle.worked_scripts.specs.StoreScripts.{AFailedWriteHalts, EachWriteMayFail, ASendStoresItsTagFirst, TagsBeginAgain, TheWorkshopStores, OrdersAreStored, WhatDoesNotChangeIsNotStored, EachCallMayFail, AJoiningStoresItsKeys, AKickIsStoredFirst, LimitsStopAtTheEnd, AStepPassesTheLimitOnce, MarksAreStoredAhead, NumbersAreStoredAhead};
+ghost use Rattle.worked_scripts.specs.StoreScripts.{AFailedWriteHalts, EachWriteMayFail, ASendStoresItsTagFirst, TagsBeginAgain, TheWorkshopStores};
+ghost use Rattle.worked_scripts.specs.StoreScripts.{OrdersAreStored, WhatDoesNotChangeIsNotStored, EachCallMayFail, AJoiningStoresItsKeys, AKickIsStoredFirst};
+ghost use Rattle.worked_scripts.specs.StoreScripts.{LimitsStopAtTheEnd, AStepPassesTheLimitOnce, MarksAreStoredAhead, NumbersAreStoredAhead};
 
 /// A node whose store write failed halts and sends nothing.
 #[tactic(auto, using(crate::proofs::StoreScripts::a_failed_write_halts))]

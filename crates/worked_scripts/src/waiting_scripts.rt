@@ -1,5 +1,7 @@
 //! What becomes of bodies that wait for a route, and of what a node sends with few counters left.
-ghost use Rattle.worked_scripts.specs.WaitingScripts.{WhatWaitsLeavesInOrder, WhatWaitsLeavesBeforeTheAnswer, EightBodiesWait, EightyBlocksWait, WaitingEndsAfterHalfAMinute, SeekingTakesANumber, SeekingTakesACounter, WaitingPiecesTakeCounters, NothingIsSentWhenSpent};
+ghost use Rattle.worked_scripts.specs.WaitingScripts.{WhatWaitsLeavesInOrder, WhatWaitsLeavesBeforeTheAnswer, EightBodiesWait, EightyBlocksWait};
+ghost use Rattle.worked_scripts.specs.WaitingScripts.{WaitingEndsAfterHalfAMinute, SeekingTakesANumber, SeekingTakesACounter, WaitingPiecesTakeCounters};
+ghost use Rattle.worked_scripts.specs.WaitingScripts.{NothingIsSentWhenSpent};
 
 /// One request seeks a route for all that waits; then what waits for it leaves, in the order of its arrival, and the rest waits.
 #[tactic(auto, using(crate::proofs::WaitingScripts::what_waits_leaves_in_order))]

@@ -1,5 +1,6 @@
 //! Which joining messages are taken by which way, and what each other one is told.
-ghost use Rattle.worked_scripts.specs.WayScripts.{OnlyAJoinGoesUp, PlainFramesComeDown, CommandsComeFromTheCoordinator, OnlyAJoinReachesTheCoordinator, AnAnswerByCommandMayLackRoom};
+ghost use Rattle.worked_scripts.specs.WayScripts.{OnlyAJoinGoesUp, PlainFramesComeDown, CommandsComeFromTheCoordinator, OnlyAJoinReachesTheCoordinator};
+ghost use Rattle.worked_scripts.specs.WayScripts.{AnAnswerByCommandMayLackRoom};
 
 /// A joined meter carries up a JOIN of the node that sent it, and nothing else.
 #[tactic(auto, using(crate::proofs::WayScripts::only_a_join_goes_up))]

@@ -4,7 +4,8 @@ use Rattle.line_replay.proofs.Flies.{flies_none, flies_more}
 use Rattle.line_replay.proofs.report.push_flies.Goals as goal
 
 pub loop-number-init : goal.loop-number-init
-loop-number-init c = rw c.from-number.ensures (record { text = flies_none c.args.world.now c.args.first (string_bytes c.args.text.now); from = omega arith; until = omega arith })
+loop-number-init c = rw c.from-number.ensures
+    (record { text = flies_none c.args.world.now c.args.first (string_bytes c.args.text.now); from = omega arith; until = omega arith })
 
 pub loop-number-preserved : goal.loop-number-preserved
 loop-number-preserved c =

@@ -6,7 +6,8 @@ use Rattle.line_replay.proofs.tool.replay.Goals as goal
 
 pub returns-clause-replays : goal.returns-clause-replays
 returns-clause-replays g c =
-    let ran = ran_of is_forged (outcome c.args.quiet) c.run-exit.result c.run-exit.new.machine c.is_forged.result c.status_of.result c.status_of.ensures (sym c.is_forged.ensures) (rw c.new-replay.ensures at c.run-exit.ensures.drives) in
+    let ran = ran_of is_forged (outcome c.args.quiet) c.run-exit.result c.run-exit.new.machine c.is_forged.result c.status_of.result c.status_of.ensures
+    (sym c.is_forged.ensures) (rw c.new-replay.ensures at c.run-exit.ensures.drives) in
     record {
       ran = ran;
       by_entries = report_by_entries c.args.quiet ran.drives.b;
@@ -21,12 +22,14 @@ returns-clause-whole g c = λ whole. c.run-exit.ensures.whole (whole_exit c.run-
 
 pub returns-clause-read : goal.returns-clause-read
 returns-clause-read g c =
-    let ran = ran_of is_forged (outcome c.args.quiet) c.run-exit.result c.run-exit.new.machine c.is_forged.result c.status_of.result c.status_of.ensures (sym c.is_forged.ensures) (rw c.new-replay.ensures at c.run-exit.ensures.drives) in
+    let ran = ran_of is_forged (outcome c.args.quiet) c.run-exit.result c.run-exit.new.machine c.is_forged.result c.status_of.result c.status_of.ensures
+    (sym c.is_forged.ensures) (rw c.new-replay.ensures at c.run-exit.ensures.drives) in
     λ is. read_cause ran is
 
 pub returns-clause-write : goal.returns-clause-write
 returns-clause-write g c =
-    let ran = ran_of is_forged (outcome c.args.quiet) c.run-exit.result c.run-exit.new.machine c.is_forged.result c.status_of.result c.status_of.ensures (sym c.is_forged.ensures) (rw c.new-replay.ensures at c.run-exit.ensures.drives) in
+    let ran = ran_of is_forged (outcome c.args.quiet) c.run-exit.result c.run-exit.new.machine c.is_forged.result c.status_of.result c.status_of.ensures
+    (sym c.is_forged.ensures) (rw c.new-replay.ensures at c.run-exit.ensures.drives) in
     λ is. write_cause ran is
 
 pub returns-clause-source : goal.returns-clause-source

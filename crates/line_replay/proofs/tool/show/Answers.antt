@@ -5,19 +5,22 @@ use Rattle.line_replay.specs.Tool.{none_forged}
 use Rattle.line_replay.proofs.tool.show.Goals as goal
 
 pub returns-clause-shows : goal.returns-clause-shows
-returns-clause-shows g c = ran_of none_forged show_outcome c.run-exit.result c.run-exit.new.machine false c.status_of.result c.status_of.ensures refl (rw c.new-show.ensures at c.run-exit.ensures.drives)
+returns-clause-shows g c = ran_of none_forged show_outcome c.run-exit.result c.run-exit.new.machine false c.status_of.result c.status_of.ensures refl
+    (rw c.new-show.ensures at c.run-exit.ensures.drives)
 
 pub returns-clause-whole : goal.returns-clause-whole
 returns-clause-whole g c = λ whole. c.run-exit.ensures.whole (whole_exit c.run-exit.result false c.status_of.result c.status_of.ensures whole)
 
 pub returns-clause-read : goal.returns-clause-read
 returns-clause-read g c =
-    let ran = ran_of none_forged show_outcome c.run-exit.result c.run-exit.new.machine false c.status_of.result c.status_of.ensures refl (rw c.new-show.ensures at c.run-exit.ensures.drives) in
+    let ran = ran_of none_forged show_outcome c.run-exit.result c.run-exit.new.machine false c.status_of.result c.status_of.ensures refl
+    (rw c.new-show.ensures at c.run-exit.ensures.drives) in
     λ is. read_cause ran is
 
 pub returns-clause-write : goal.returns-clause-write
 returns-clause-write g c =
-    let ran = ran_of none_forged show_outcome c.run-exit.result c.run-exit.new.machine false c.status_of.result c.status_of.ensures refl (rw c.new-show.ensures at c.run-exit.ensures.drives) in
+    let ran = ran_of none_forged show_outcome c.run-exit.result c.run-exit.new.machine false c.status_of.result c.status_of.ensures refl
+    (rw c.new-show.ensures at c.run-exit.ensures.drives) in
     λ is. write_cause ran is
 
 pub returns-clause-source : goal.returns-clause-source

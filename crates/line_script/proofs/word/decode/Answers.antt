@@ -9,7 +9,8 @@ use Rattle.line_script.proofs.word.decode.Goals as goal
 pub returns-in_err-octets : goal.returns-in_err-octets
 returns-in_err-octets c =
     let none = c.octet_of.ensures (2 * c.loop-place.place) ∙ c.in_err-octets.was in
-    let fails = decode_fails c.args.digits.now c.loop-place.octets c.loop-place.place (omega (arith, c.requires, c.loop-place-test.true, c.loop-place.auto.place-end)) none c.loop-place.invariant in
+    let fails = decode_fails c.args.digits.now c.loop-place.octets c.loop-place.place
+    (omega (arith, c.requires, c.loop-place-test.true, c.loop-place.auto.place-end)) none c.loop-place.invariant in
     c.from_residual.ensures ∙ sym (ap result_ok (decode_of-even c.args.digits.now c.if-digits-ne0.false) ∙ fails)
 
 pub loop-place-preserved : goal.loop-place-preserved

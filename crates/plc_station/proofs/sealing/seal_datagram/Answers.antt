@@ -8,5 +8,11 @@ use Rattle.plc_station.proofs.sealing.seal_datagram.Goals as goal
 pub returns : goal.returns
 returns c =
     c.seal_load.ensures
-    ∙ (λ i. record { frames = (c.requires.empty i).frames ++ frames_of c.args.grant.now c.sealing_key-key.result c.args.first (all_go c.args.hop c.args.note (units_of c.args.grant.now.address c.args.to (Datagram c.args.datagram.now c.args.tag))); tags = (c.requires.empty i).tags })
-    ∙ ap only_frames (sealed_alone c.args.grant.now c.sealing_key-key.result c.args.first (all_go c.args.hop c.args.note (units_of c.args.grant.now.address c.args.to (Datagram c.args.datagram.now c.args.tag))) c.sealing_key-key.ensures)
+    ∙ (λ i. record {
+      frames = (c.requires.empty i).frames
+          ++ frames_of c.args.grant.now c.sealing_key-key.result c.args.first
+          (all_go c.args.hop c.args.note (units_of c.args.grant.now.address c.args.to (Datagram c.args.datagram.now c.args.tag)));
+      tags = (c.requires.empty i).tags;
+    })
+    ∙ ap only_frames (sealed_alone c.args.grant.now c.sealing_key-key.result c.args.first
+    (all_go c.args.hop c.args.note (units_of c.args.grant.now.address c.args.to (Datagram c.args.datagram.now c.args.tag))) c.sealing_key-key.ensures)

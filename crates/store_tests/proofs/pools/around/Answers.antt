@@ -9,7 +9,8 @@ read_at-requires-clause-ours c = IsChain-insert c.args.pool.now c.write_at.new.s
 
 pub read_at-requires-clause-room : goal.read_at-requires-clause-room
 read_at-requires-clause-room c =
-    let long = ap length (chain_octets-insert c.args.pool.now c.write_at.new.self _ _ c.write_at.ensures.chains) ∙ length-overwrite (chain_octets c.args.pool.now c.args.chain.now) c.args.at (1 ∷ 2 ∷ 3 ∷ 4 ∷ []) (omega (arith, c.requires.long)) in
+    let long = ap length (chain_octets-insert c.args.pool.now c.write_at.new.self _ _ c.write_at.ensures.chains)
+    ∙ length-overwrite (chain_octets c.args.pool.now c.args.chain.now) c.args.at (1 ∷ 2 ∷ 3 ∷ 4 ∷ []) (omega (arith, c.requires.long)) in
     omega (arith, long)
 
 pub returns-clause-others : goal.returns-clause-others
@@ -17,5 +18,6 @@ returns-clause-others c = λ d ne. chain_octets-insert_other c.args.pool.now c.w
 
 pub returns-clause-long : goal.returns-clause-long
 returns-clause-long c =
-    let long = ap length (chain_octets-insert c.args.pool.now c.write_at.new.self _ _ c.write_at.ensures.chains) ∙ length-overwrite (chain_octets c.args.pool.now c.args.chain.now) c.args.at (1 ∷ 2 ∷ 3 ∷ 4 ∷ []) (omega (arith, c.requires.long)) in
+    let long = ap length (chain_octets-insert c.args.pool.now c.write_at.new.self _ _ c.write_at.ensures.chains)
+    ∙ length-overwrite (chain_octets c.args.pool.now c.args.chain.now) c.args.at (1 ∷ 2 ∷ 3 ∷ 4 ∷ []) (omega (arith, c.requires.long)) in
     long ∙ c.requires.long

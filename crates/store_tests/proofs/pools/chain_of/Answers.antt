@@ -5,7 +5,8 @@ use Rattle.block_pool.proofs.Callers.{chain_octets-insert, chain_octets-insert_o
 use Rattle.store_tests.proofs.pools.chain_of.Goals as goal
 
 pub returns-in-Ok-clause-long : goal.returns-in-Ok-clause-long
-returns-in-Ok-clause-long c = ap length (chain_octets-insert c.args.pool.now c.reserve.new.self _ (replicate c.args.octets 0) c.in-Ok.ensures.chains) ∙ length-replicate c.args.octets 0
+returns-in-Ok-clause-long c =
+    ap length (chain_octets-insert c.args.pool.now c.reserve.new.self _ (replicate c.args.octets 0) c.in-Ok.ensures.chains) ∙ length-replicate c.args.octets 0
 
 pub returns-in-Ok-clause-others : goal.returns-in-Ok-clause-others
 returns-in-Ok-clause-others c = λ d is.

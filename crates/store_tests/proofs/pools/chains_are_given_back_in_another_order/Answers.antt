@@ -18,5 +18,6 @@ give_back-requires-3 g c =
     let stays = chain_octets-remove_other c.around.new.pool c.give_back.new.self _ c.in_ok-second.second c.give_back.ensures.chains (λ e. apart (sym e)) in
     let kept : length (chain_octets c.give_back.new.self c.in_ok-second.second) ≡ 192 = ap length stays ∙ c.around.ensures.long in
     let others = c.in_ok-third.ensures.others c.in_ok-second.second (is_chain_if_long c.give_back.new.self _ (omega (arith, kept))) in
-    let third = chain_octets-remove_other c.around-2.new.pool c.give_back-2.new.self _ c.in_ok-third.third c.give_back-2.ensures.chains (λ e. others.0 (sym e)) in
+    let third = chain_octets-remove_other c.around-2.new.pool c.give_back-2.new.self _ c.in_ok-third.third c.give_back-2.ensures.chains
+    (λ e. others.0 (sym e)) in
     is_chain_if_long c.give_back-2.new.self _ (omega (arith, ap length third, c.around-2.ensures.long))

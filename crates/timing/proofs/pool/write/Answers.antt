@@ -7,4 +7,5 @@ pub returns-clause-ours : goal.returns-clause-ours
 returns-clause-ours c = c.write_at.ensures.there.there
 
 pub returns-clause-long : goal.returns-clause-long
-returns-clause-long c = ap length c.write_at.ensures.there.holds ∙ length-overwrite (chain_octets c.args.pool.now c.args.chain.now) 0 c.args.octets.now (omega (arith, c.requires.long)) ∙ c.requires.long.0
+returns-clause-long c = ap length c.write_at.ensures.there.holds
+    ∙ length-overwrite (chain_octets c.args.pool.now c.args.chain.now) 0 c.args.octets.now (omega (arith, c.requires.long)) ∙ c.requires.long.0

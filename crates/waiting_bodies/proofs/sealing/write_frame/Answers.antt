@@ -16,6 +16,7 @@ behind front rest octets parts len =
 pub returns : goal.returns
 returns c =
     sealed_is c.args.grant.now c.args.key.now c.args.counter c.args.to c.args.note c.args.unit.now _ c.args.aes.now _ _
-    (ap (λ (all : Bool). heads.Sealed (not all) (c.args.counter % 256) PAN c.args.to c.grant.inside.address c.args.counter c.grant.inside.active) c.is_all.ensures
+    (ap (λ (all : Bool). heads.Sealed (not all) (c.args.counter % 256) PAN c.args.to c.grant.inside.address c.args.counter c.grant.inside.active)
+    c.is_all.ensures
     ∙ ap (λ (g : Granted). heads.Sealed (not (c.args.to == to_all)) (c.args.counter % 256) PAN c.args.to g.address c.args.counter g.active) c.grant.view_is)
     c.requires.aes (behind c.write_header.new.out _ _ c.append_unit.ensures.spelled c.write_header.ensures.longer) c.seal_written.ensures.frame.spelled

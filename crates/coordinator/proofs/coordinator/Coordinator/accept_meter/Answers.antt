@@ -10,24 +10,40 @@ use Rattle.coordinator.proofs.coordinator.Coordinator.accept_meter.Goals as goal
 pub returns-in-Err-clause-carries : goal.returns-in-Err-clause-carries
 returns-in-Err-clause-carries g c =
     let s : CoordinatorSession = record { server = c.session.inside.server; way = c.session.inside.way; since = c.session.inside.since } in
-    rw (← c.session.view_is) (if_some (node_of c.args.self.now).memory _ (λ m running. refusal dropped (node_of c.args.self.now) m _ _ _ running (accept_lacks m s c.args.agreed c.args.tags c.args.now (node_of c.args.self.now) (at_some (node_of c.args.self.now).memory _ m running c.requires.holds) _ _ c.acceptance-message.ensures.value (at_some (node_of c.args.self.now).memory _ m running c.in-Err.ensures.refused)) c.requires.empty))
+    rw (← c.session.view_is) (if_some (node_of c.args.self.now).memory _
+    (λ m running. refusal dropped (node_of c.args.self.now) m _ _ _ running
+    (accept_lacks m s c.args.agreed c.args.tags c.args.now (node_of c.args.self.now) (at_some (node_of c.args.self.now).memory _ m running c.requires.holds) _ _
+    c.acceptance-message.ensures.value (at_some (node_of c.args.self.now).memory _ m running c.in-Err.ensures.refused)) c.requires.empty))
 
 pub say-requires-clause-running : goal.say-requires-clause-running
 say-requires-clause-running g c =
     let s : CoordinatorSession = record { server = c.session.inside.server; way = c.session.inside.way; since = c.session.inside.since } in
-    by_some (node_of c.args.self.now).memory _ c.requires.running (λ m running. ended_runs m s c.args.agreed c.args.tags c.args.now (node_of c.args.self.now) (at_some (node_of c.args.self.now).memory _ m running c.requires.holds) _ (at_some (node_of c.args.self.now).memory _ m running c.end_session.ensures.state))
+    by_some (node_of c.args.self.now).memory _ c.requires.running (λ m running. ended_runs m s c.args.agreed c.args.tags c.args.now (node_of c.args.self.now)
+    (at_some (node_of c.args.self.now).memory _ m running c.requires.holds) _
+    (at_some (node_of c.args.self.now).memory _ m running c.end_session.ensures.state))
 
 pub say-requires-clause-room : goal.say-requires-clause-room
 say-requires-clause-room g c =
     let s : CoordinatorSession = record { server = c.session.inside.server; way = c.session.inside.way; since = c.session.inside.since } in
-    by_some (node_of c.args.self.now).memory _ c.requires.running (λ m running. ended_room m s c.args.agreed c.args.tags c.args.now (node_of c.args.self.now) (at_some (node_of c.args.self.now).memory _ m running c.requires.holds) _ _ (at_some (node_of c.args.self.now).memory _ m running c.end_session.ensures.state) (at_some (node_of c.args.self.now).memory _ m running c.in-Ok.ensures.room))
+    by_some (node_of c.args.self.now).memory _ c.requires.running (λ m running. ended_room m s c.args.agreed c.args.tags c.args.now (node_of c.args.self.now)
+    (at_some (node_of c.args.self.now).memory _ m running c.requires.holds) _ _
+    (at_some (node_of c.args.self.now).memory _ m running c.end_session.ensures.state)
+    (at_some (node_of c.args.self.now).memory _ m running c.in-Ok.ensures.room))
 
 pub returns-in_default-clause-carries : goal.returns-in_default-clause-carries
 returns-in_default-clause-carries g c =
     let s : CoordinatorSession = record { server = c.session.inside.server; way = c.session.inside.way; since = c.session.inside.since } in
-    rw (← c.session.view_is) (if_some (node_of c.args.self.now).memory _ (λ m running. accepted m s c.args.agreed c.args.tags c.args.now (node_of c.args.self.now) (at_some (node_of c.args.self.now).memory _ m running c.requires.holds) _ _ _ (Err _) _ c.acceptance-message.ensures.value (at_some (node_of c.args.self.now).memory _ m running c.in-Ok.ensures.room) (at_some (node_of c.args.self.now).memory _ m running c.end_session.ensures.state) c.in_default.ensures.carries))
+    rw (← c.session.view_is) (if_some (node_of c.args.self.now).memory _
+    (λ m running. accepted m s c.args.agreed c.args.tags c.args.now (node_of c.args.self.now)
+    (at_some (node_of c.args.self.now).memory _ m running c.requires.holds) _ _ _ (Err _) _ c.acceptance-message.ensures.value
+    (at_some (node_of c.args.self.now).memory _ m running c.in-Ok.ensures.room)
+    (at_some (node_of c.args.self.now).memory _ m running c.end_session.ensures.state) c.in_default.ensures.carries))
 
 pub returns-clause-carries : goal.returns-clause-carries
 returns-clause-carries g c =
     let s : CoordinatorSession = record { server = c.session.inside.server; way = c.session.inside.way; since = c.session.inside.since } in
-    rw (← c.session.view_is) (if_some (node_of c.args.self.now).memory _ (λ m running. accepted m s c.args.agreed c.args.tags c.args.now (node_of c.args.self.now) (at_some (node_of c.args.self.now).memory _ m running c.requires.holds) _ _ _ (Ok _) _ c.acceptance-message.ensures.value (at_some (node_of c.args.self.now).memory _ m running c.in-Ok.ensures.room) (at_some (node_of c.args.self.now).memory _ m running c.end_session.ensures.state) c.in-Ok-say.ensures.carries))
+    rw (← c.session.view_is) (if_some (node_of c.args.self.now).memory _
+    (λ m running. accepted m s c.args.agreed c.args.tags c.args.now (node_of c.args.self.now)
+    (at_some (node_of c.args.self.now).memory _ m running c.requires.holds) _ _ _ (Ok _) _ c.acceptance-message.ensures.value
+    (at_some (node_of c.args.self.now).memory _ m running c.in-Ok.ensures.room)
+    (at_some (node_of c.args.self.now).memory _ m running c.end_session.ensures.state) c.in-Ok-say.ensures.carries))

@@ -8,21 +8,26 @@ use Rattle.coordinator.proofs.coordinator.Coordinator.activate.Goals as goal
 
 pub returns-in_default-clause-carries : goal.returns-in_default-clause-carries
 returns-in_default-clause-carries g c =
-    if_some (node_of c.args.self.now).memory _ (λ m running. refusal orders (node_of c.args.self.now) m NotAllowed _ _ running (not_allowed m c.args.eui c.args.index c.args.now (at_some (node_of c.args.self.now).memory _ m running c.in_default.ensures.entry)) c.clear.ensures)
+    if_some (node_of c.args.self.now).memory _ (λ m running. refusal orders (node_of c.args.self.now) m NotAllowed _ _ running
+    (not_allowed m c.args.eui c.args.index c.args.now (at_some (node_of c.args.self.now).memory _ m running c.in_default.ensures.entry)) c.clear.ensures)
 
 pub returns-in_default-known_address-clause-carries : goal.returns-in_default-known_address-clause-carries
 returns-in_default-known_address-clause-carries g c =
     if_some (node_of c.args.self.now).memory _ (λ m running. refusal orders (node_of c.args.self.now) m NotAllowed _ _ running
-    (not_known m c.args.eui c.args.index c.args.now _ (at_some (node_of c.args.self.now).memory _ m running c.in-Some.ensures.entry) (at_some (node_of c.args.self.now).memory _ m running c.in_default-known_address.ensures)) c.clear.ensures)
+    (not_known m c.args.eui c.args.index c.args.now _ (at_some (node_of c.args.self.now).memory _ m running c.in-Some.ensures.entry)
+    (at_some (node_of c.args.self.now).memory _ m running c.in_default-known_address.ensures)) c.clear.ensures)
 
 pub returns-then-not-was_issued-clause-carries : goal.returns-then-not-was_issued-clause-carries
 returns-then-not-was_issued-clause-carries g c =
     if_some (node_of c.args.self.now).memory _ (λ m running. refusal orders (node_of c.args.self.now) m NotIssued _ _ running
-    (not_issued m c.args.eui c.args.index c.args.now _ _ (at_some (node_of c.args.self.now).memory _ m running c.in-Some.ensures.entry) (at_some (node_of c.args.self.now).memory _ m running c.in-Some-known_address.ensures)
+    (not_issued m c.args.eui c.args.index c.args.now _ _ (at_some (node_of c.args.self.now).memory _ m running c.in-Some.ensures.entry)
+    (at_some (node_of c.args.self.now).memory _ m running c.in-Some-known_address.ensures)
     (at_some (node_of c.args.self.now).memory _ m running c.if-not-was_issued.ensures)) c.clear.ensures)
 
 pub returns-clause-carries : goal.returns-clause-carries
 returns-clause-carries g c =
     if_some (node_of c.args.self.now).memory _ (λ m running. carried_by _ _ _ _ _ _
-    (ordered m c.args.eui c.args.index c.args.now _ _ (at_some (node_of c.args.self.now).memory _ m running c.in-Some.ensures.entry) (at_some (node_of c.args.self.now).memory _ m running c.in-Some-known_address.ensures)
-    (at_some (node_of c.args.self.now).memory _ m running c.if-not-was_issued.ensures)) (at_some (node_of c.args.self.now).memory _ m running c.order.ensures.carries))
+    (ordered m c.args.eui c.args.index c.args.now _ _ (at_some (node_of c.args.self.now).memory _ m running c.in-Some.ensures.entry)
+    (at_some (node_of c.args.self.now).memory _ m running c.in-Some-known_address.ensures)
+    (at_some (node_of c.args.self.now).memory _ m running c.if-not-was_issued.ensures))
+    (at_some (node_of c.args.self.now).memory _ m running c.order.ensures.carries))

@@ -8,16 +8,27 @@ use Rattle.coordinator.proofs.coordinator.Coordinator.answered.Goals as goal
 
 pub returns-in_default-clause-carries : goal.returns-in_default-clause-carries
 returns-in_default-clause-carries g c =
-    if_some (node_of c.args.self.now).memory _ (λ m running. refusal dropped (node_of c.args.self.now) m NotAllowed _ _ running (not_allowed (identity_of c.args.self.now) m c.args.eui c.args.packet.now c.args.now (at_some (node_of c.args.self.now).memory _ m running c.in_default.ensures.entry)) c.requires.empty)
+    if_some (node_of c.args.self.now).memory _ (λ m running. refusal dropped (node_of c.args.self.now) m NotAllowed _ _ running
+    (not_allowed (identity_of c.args.self.now) m c.args.eui c.args.packet.now c.args.now
+    (at_some (node_of c.args.self.now).memory _ m running c.in_default.ensures.entry)) c.requires.empty)
 
 pub returns-in_default-session_of-clause-carries : goal.returns-in_default-session_of-clause-carries
 returns-in_default-session_of-clause-carries g c =
-    if_some (node_of c.args.self.now).memory _ (λ m running. refusal dropped (node_of c.args.self.now) m NoSession _ _ running (no_session (identity_of c.args.self.now) m c.args.eui c.args.packet.now c.args.now _ (at_some (node_of c.args.self.now).memory _ m running c.in-Some.ensures.entry) (at_some (node_of c.args.self.now).memory _ m running c.in_default-session_of.ensures)) c.requires.empty)
+    if_some (node_of c.args.self.now).memory _ (λ m running. refusal dropped (node_of c.args.self.now) m NoSession _ _ running
+    (no_session (identity_of c.args.self.now) m c.args.eui c.args.packet.now c.args.now _
+    (at_some (node_of c.args.self.now).memory _ m running c.in-Some.ensures.entry)
+    (at_some (node_of c.args.self.now).memory _ m running c.in_default-session_of.ensures)) c.requires.empty)
 
 pub take_packet-requires-clause-served : goal.take_packet-requires-clause-served
 take_packet-requires-clause-served g c =
-    if_some (node_of c.args.self.now).memory _ (λ m running. served m c.args.eui _ _ (at_some (node_of c.args.self.now).memory _ m running c.requires.holds).home (at_some (node_of c.args.self.now).memory _ m running c.in-Some.ensures.entry) (at_some (node_of c.args.self.now).memory _ m running c.in-Some-session_of.ensures))
+    if_some (node_of c.args.self.now).memory _ (λ m running. served m c.args.eui _ _
+    (at_some (node_of c.args.self.now).memory _ m running c.requires.holds).home (at_some (node_of c.args.self.now).memory _ m running c.in-Some.ensures.entry)
+    (at_some (node_of c.args.self.now).memory _ m running c.in-Some-session_of.ensures))
 
 pub returns-clause-carries : goal.returns-clause-carries
 returns-clause-carries g c =
-    if_some (node_of c.args.self.now).memory _ (λ m running. carried_by _ _ _ _ _ _ (answers (identity_of c.args.self.now) m c.args.eui c.args.packet.now c.args.now _ _ (at_some (node_of c.args.self.now).memory _ m running c.in-Some.ensures.entry) (at_some (node_of c.args.self.now).memory _ m running c.in-Some-session_of.ensures)) (at_some (node_of c.args.self.now).memory _ m running c.take_packet.ensures.carries))
+    if_some (node_of c.args.self.now).memory _ (λ m running. carried_by _ _ _ _ _ _
+    (answers (identity_of c.args.self.now) m c.args.eui c.args.packet.now c.args.now _ _
+    (at_some (node_of c.args.self.now).memory _ m running c.in-Some.ensures.entry)
+    (at_some (node_of c.args.self.now).memory _ m running c.in-Some-session_of.ensures))
+    (at_some (node_of c.args.self.now).memory _ m running c.take_packet.ensures.carries))

@@ -13,32 +13,48 @@ use Rattle.coordinator.proofs.coordinator.Coordinator.hear.Goals as goal
 pub hear_joining-requires-clause-running : goal.hear_joining-requires-clause-running
 hear_joining-requires-clause-running g c =
     by_some c.args.self.now.station.memory _ (part_runs c.args.self.now.station.memory _ c.requires.running) (λ l running.
-    runs_on c.args.self.now c.hear_frame-heard.new.self c.args.got.now c.args.cost c.args.note c.args.now c.hear_frame-heard.result c.hear_frame-heard.new.out c.hear_frame-heard.ensures.beside l running (at_some c.args.self.now.station.memory _ l running c.hear_frame-heard.ensures.carries) c.in-Some.command.way c.in-Some.command.body c.in-Some.ensures)
+    runs_on c.args.self.now c.hear_frame-heard.new.self c.args.got.now c.args.cost c.args.note c.args.now c.hear_frame-heard.result c.hear_frame-heard.new.out
+    c.hear_frame-heard.ensures.beside l running (at_some c.args.self.now.station.memory _ l running c.hear_frame-heard.ensures.carries) c.in-Some.command.way
+    c.in-Some.command.body c.in-Some.ensures)
 
 pub hear_joining-requires-clause-empty : goal.hear_joining-requires-clause-empty
 hear_joining-requires-clause-empty g c =
     by_some c.args.self.now.station.memory _ (part_runs c.args.self.now.station.memory _ c.requires.running) (λ l running.
-    nothing_out c.args.self.now c.hear_frame-heard.new.self c.args.got.now c.args.cost c.args.note c.args.now c.hear_frame-heard.result c.hear_frame-heard.new.out c.hear_frame-heard.ensures.beside l running (at_some c.args.self.now.station.memory _ l running c.hear_frame-heard.ensures.carries) c.in-Some.command.way c.in-Some.command.body c.in-Some.ensures)
+    nothing_out c.args.self.now c.hear_frame-heard.new.self c.args.got.now c.args.cost c.args.note c.args.now c.hear_frame-heard.result
+    c.hear_frame-heard.new.out c.hear_frame-heard.ensures.beside l running
+    (at_some c.args.self.now.station.memory _ l running c.hear_frame-heard.ensures.carries) c.in-Some.command.way c.in-Some.command.body c.in-Some.ensures)
 
 pub returns-in-Some-clause-carries : goal.returns-in-Some-clause-carries
 returns-in-Some-clause-carries g c =
     on_parts c.args.self.now.station.memory _ _ (λ l running.
-    heard_joining c.args.self.now c.hear_frame-heard.new.self c.args.got.now c.args.cost c.args.note c.args.now c.hear_frame-heard.result c.hear_frame-heard.new.out c.hear_frame-heard.ensures.beside l running (at_some c.args.self.now.station.memory _ l running c.hear_frame-heard.ensures.carries) c.in-Some.command.way c.in-Some.command.body c.in-Some.ensures _ _ _ (rw c.octets.ensures at c.hear_joining.ensures.carries))
+    heard_joining c.args.self.now c.hear_frame-heard.new.self c.args.got.now c.args.cost c.args.note c.args.now c.hear_frame-heard.result
+    c.hear_frame-heard.new.out c.hear_frame-heard.ensures.beside l running
+    (at_some c.args.self.now.station.memory _ l running c.hear_frame-heard.ensures.carries) c.in-Some.command.way c.in-Some.command.body c.in-Some.ensures _ _ _
+    (rw c.octets.ensures at c.hear_joining.ensures.carries))
 
 pub returns-in-None-clause-carries : goal.returns-in-None-clause-carries
 returns-in-None-clause-carries g c =
     on_parts c.args.self.now.station.memory _ _ (λ l running.
-    subst (λ (r : Result CoordinatorHeard Dropped). Carries (node_of c.args.self.now) (rules.hear_coordinator (identity_of c.args.self.now) (memory_in c.args.self.now.randoms c.args.self.now.sessions c.args.self.now.book l) c.args.got.now c.args.cost c.args.note c.args.now) r c.hear_frame-heard.new.out (node_of c.hear_frame-heard.new.self))
+    subst (λ (r : Result CoordinatorHeard Dropped). Carries (node_of c.args.self.now)
+    (rules.hear_coordinator (identity_of c.args.self.now) (memory_in c.args.self.now.randoms c.args.self.now.sessions c.args.self.now.book l) c.args.got.now
+    c.args.cost c.args.note c.args.now) r c.hear_frame-heard.new.out (node_of c.hear_frame-heard.new.self))
     (sym c.heard_by_station.ensures)
-    (heard_other c.args.self.now c.hear_frame-heard.new.self c.args.got.now c.args.cost c.args.note c.args.now c.hear_frame-heard.result c.hear_frame-heard.new.out c.hear_frame-heard.ensures.beside l running (at_some c.args.self.now.station.memory _ l running c.hear_frame-heard.ensures.carries) c.in-None.ensures))
+    (heard_other c.args.self.now c.hear_frame-heard.new.self c.args.got.now c.args.cost c.args.note c.args.now c.hear_frame-heard.result
+    c.hear_frame-heard.new.out c.hear_frame-heard.ensures.beside l running
+    (at_some c.args.self.now.station.memory _ l running c.hear_frame-heard.ensures.carries) c.in-None.ensures))
 
 pub returns-in-Some-clause-replied : goal.returns-in-Some-clause-replied
 returns-in-Some-clause-replied g c =
     on_parts c.args.self.now.station.memory _ _ (λ l running none. absurd (
-    never_itself c.args.self.now c.hear_frame-heard.new.self c.args.got.now c.args.cost c.args.note c.args.now c.hear_frame-heard.result c.hear_frame-heard.new.out c.hear_frame-heard.ensures.beside l running (at_some c.args.self.now.station.memory _ l running c.hear_frame-heard.ensures.carries) c.in-Some.command.way c.in-Some.command.body c.in-Some.ensures none))
+    never_itself c.args.self.now c.hear_frame-heard.new.self c.args.got.now c.args.cost c.args.note c.args.now c.hear_frame-heard.result
+    c.hear_frame-heard.new.out c.hear_frame-heard.ensures.beside l running
+    (at_some c.args.self.now.station.memory _ l running c.hear_frame-heard.ensures.carries) c.in-Some.command.way c.in-Some.command.body c.in-Some.ensures
+    none))
 
 pub returns-in-None-clause-replied : goal.returns-in-None-clause-replied
 returns-in-None-clause-replied g c =
     on_parts c.args.self.now.station.memory _ _ (λ l running none.
-    replied_other c.args.self.now c.hear_frame-heard.new.self c.args.got.now c.args.cost c.args.note c.args.now c.hear_frame-heard.result c.hear_frame-heard.new.out c.hear_frame-heard.ensures.beside l running (at_some c.args.self.now.station.memory _ l running c.hear_frame-heard.ensures.carries) c.in-None.ensures
+    replied_other c.args.self.now c.hear_frame-heard.new.self c.args.got.now c.args.cost c.args.note c.args.now c.hear_frame-heard.result
+    c.hear_frame-heard.new.out c.hear_frame-heard.ensures.beside l running
+    (at_some c.args.self.now.station.memory _ l running c.hear_frame-heard.ensures.carries) c.in-None.ensures
     (at_some c.args.self.now.station.memory _ l running c.hear_frame-heard.ensures.replied))

@@ -18,7 +18,11 @@ hear-requires-clause-agrees g c =
 pub returns-clause-holds : goal.returns-clause-holds
 returns-clause-holds g c =
     by_some c.self.inside.station.memory _ (part_runs c.self.inside.station.memory _ (rw (← c.self.view_is) at c.requires.running)) (λ l running.
-    home_holds c.self.inside.station _ _ (memory_in c.self.inside.randoms c.self.inside.sessions c.self.inside.book) _ _ c.self.inside.book (λ n. refl) (λ n. refl) (at_some c.self.inside.station.memory _ l running c.hear.ensures.carries)
-    (hear_keeps l (part_home c.self.inside.randoms c.self.inside.sessions c.self.inside.book _ c.self.inside.station.memory l running (rw (← c.self.view_is) at c.requires.holds))
-    (at_some c.self.inside.station.memory _ l running (part_agrees c.self.inside.randoms c.self.inside.sessions c.self.inside.book _ c.self.inside.station.memory (rw (← c.self.view_is) at c.requires.holds))).routing.ranks.short _ _ _ _)
-    (part_book c.self.inside.randoms c.self.inside.sessions c.self.inside.book _ c.self.inside.station.memory (rw (← c.self.view_is) at c.requires.running) (rw (← c.self.view_is) at c.requires.holds)) c.hear.ensures.agrees)
+    home_holds c.self.inside.station _ _ (memory_in c.self.inside.randoms c.self.inside.sessions c.self.inside.book) _ _ c.self.inside.book (λ n. refl)
+    (λ n. refl) (at_some c.self.inside.station.memory _ l running c.hear.ensures.carries)
+    (hear_keeps l (part_home c.self.inside.randoms c.self.inside.sessions c.self.inside.book _ c.self.inside.station.memory l running
+    (rw (← c.self.view_is) at c.requires.holds))
+    (at_some c.self.inside.station.memory _ l running (part_agrees c.self.inside.randoms c.self.inside.sessions c.self.inside.book _
+    c.self.inside.station.memory (rw (← c.self.view_is) at c.requires.holds))).routing.ranks.short _ _ _ _)
+    (part_book c.self.inside.randoms c.self.inside.sessions c.self.inside.book _ c.self.inside.station.memory (rw (← c.self.view_is) at c.requires.running)
+    (rw (← c.self.view_is) at c.requires.holds)) c.hear.ensures.agrees)

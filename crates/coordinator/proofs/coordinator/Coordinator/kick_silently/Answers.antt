@@ -5,8 +5,10 @@ use Rattle.coordinator.proofs.coordinator.Coordinator.kick_silently.Goals as goa
 
 pub returns-in_default-clause-carries : goal.returns-in_default-clause-carries
 returns-in_default-clause-carries g c =
-    if_some (node_of c.args.self.now).memory _ (λ m running. silent_stopped (node_of c.args.self.now) m c.args.entry.now _ (at_some (node_of c.args.self.now).memory _ m running c.in_default.ensures.does))
+    if_some (node_of c.args.self.now).memory _ (λ m running. silent_stopped (node_of c.args.self.now) m c.args.entry.now _
+    (at_some (node_of c.args.self.now).memory _ m running c.in_default.ensures.does))
 
 pub returns-clause-carries : goal.returns-clause-carries
 returns-clause-carries g c =
-    if_some (node_of c.args.self.now).memory _ (λ m running. silent_done (node_of c.args.self.now) m c.args.entry.now _ (at_some (node_of c.args.self.now).memory _ m running c.requires.holds) (at_some (node_of c.args.self.now).memory _ m running c.in-Ok.ensures.does))
+    if_some (node_of c.args.self.now).memory _ (λ m running. silent_done (node_of c.args.self.now) m c.args.entry.now _
+    (at_some (node_of c.args.self.now).memory _ m running c.requires.holds) (at_some (node_of c.args.self.now).memory _ m running c.in-Ok.ensures.does))

@@ -8,16 +8,22 @@ use Rattle.coordinator.proofs.coordinator.Coordinator.kick_told.Goals as goal
 
 pub returns-in_default-clause-carries : goal.returns-in_default-clause-carries
 returns-in_default-clause-carries g c =
-    if_some (node_of c.args.self.now).memory _ (λ m running. told_stopped (node_of c.args.self.now) m c.args.entry _ c.args.to _ (at_some (node_of c.args.self.now).memory _ m running c.requires.holds) (at_some (node_of c.args.self.now).memory _ m running c.requires.reached) c.requires.empty (at_some (node_of c.args.self.now).memory _ m running c.in_default.ensures.does))
+    if_some (node_of c.args.self.now).memory _ (λ m running. told_stopped (node_of c.args.self.now) m c.args.entry _ c.args.to _
+    (at_some (node_of c.args.self.now).memory _ m running c.requires.holds) (at_some (node_of c.args.self.now).memory _ m running c.requires.reached)
+    c.requires.empty (at_some (node_of c.args.self.now).memory _ m running c.in_default.ensures.does))
 
 pub tell-requires-clause-running : goal.tell-requires-clause-running
 tell-requires-clause-running g c =
-    by_some (node_of c.args.self.now).memory _ c.requires.running (λ m running. runs (node_of c.args.self.now) _ (shut_out m c.args.entry) (at_some (node_of c.args.self.now).memory _ m running c.in-Ok.ensures.does))
+    by_some (node_of c.args.self.now).memory _ c.requires.running
+    (λ m running. runs (node_of c.args.self.now) _ (shut_out m c.args.entry) (at_some (node_of c.args.self.now).memory _ m running c.in-Ok.ensures.does))
 
 pub tell-requires-clause-room : goal.tell-requires-clause-room
 tell-requires-clause-room g c =
-    by_some (node_of c.args.self.now).memory _ c.requires.running (λ m running. room_left (node_of c.args.self.now) m c.args.entry _ c.args.to (at_some (node_of c.args.self.now).memory _ m running c.requires.reached) (at_some (node_of c.args.self.now).memory _ m running c.in-Ok.ensures.does))
+    by_some (node_of c.args.self.now).memory _ c.requires.running (λ m running. room_left (node_of c.args.self.now) m c.args.entry _ c.args.to
+    (at_some (node_of c.args.self.now).memory _ m running c.requires.reached) (at_some (node_of c.args.self.now).memory _ m running c.in-Ok.ensures.does))
 
 pub returns-clause-carries : goal.returns-clause-carries
 returns-clause-carries g c =
-    if_some (node_of c.args.self.now).memory _ (λ m running. told_done (node_of c.args.self.now) m c.args.entry _ _ c.args.to _ _ (at_some (node_of c.args.self.now).memory _ m running c.requires.holds) (at_some (node_of c.args.self.now).memory _ m running c.requires.reached) (at_some (node_of c.args.self.now).memory _ m running c.in-Ok.ensures.does) c.tell.ensures.carries)
+    if_some (node_of c.args.self.now).memory _ (λ m running. told_done (node_of c.args.self.now) m c.args.entry _ _ c.args.to _ _
+    (at_some (node_of c.args.self.now).memory _ m running c.requires.holds) (at_some (node_of c.args.self.now).memory _ m running c.requires.reached)
+    (at_some (node_of c.args.self.now).memory _ m running c.in-Ok.ensures.does) c.tell.ensures.carries)

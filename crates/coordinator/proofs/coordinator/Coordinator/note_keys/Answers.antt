@@ -8,16 +8,20 @@ use Rattle.coordinator.proofs.coordinator.Coordinator.note_keys.Goals as goal
 
 pub keep_entry-requires-clause-running : goal.keep_entry-requires-clause-running
 keep_entry-requires-clause-running g c =
-    by_some (node_of c.args.self.now).memory _ c.requires.running (λ m running. session_runs (node_of c.args.self.now) _ _ (at_some (node_of c.args.self.now).memory _ m running c.put_session.ensures.state))
+    by_some (node_of c.args.self.now).memory _ c.requires.running
+    (λ m running. session_runs (node_of c.args.self.now) _ _ (at_some (node_of c.args.self.now).memory _ m running c.put_session.ensures.state))
 
 pub keep_entry-requires-clause-room : goal.keep_entry-requires-clause-room
 keep_entry-requires-clause-room g c =
-    by_some (node_of c.args.self.now).memory _ c.requires.running (λ m running. entry_room (node_of c.args.self.now) m c.args.session c.args.entry _ (at_some (node_of c.args.self.now).memory _ m running c.put_session.ensures.state) (at_some (node_of c.args.self.now).memory _ m running c.requires.entry))
+    by_some (node_of c.args.self.now).memory _ c.requires.running (λ m running. entry_room (node_of c.args.self.now) m c.args.session c.args.entry _
+    (at_some (node_of c.args.self.now).memory _ m running c.put_session.ensures.state) (at_some (node_of c.args.self.now).memory _ m running c.requires.entry))
 
 pub returns-in_default-clause-does : goal.returns-in_default-clause-does
 returns-in_default-clause-does g c =
-    if_some (node_of c.args.self.now).memory _ (λ m running. noted_by (node_of c.args.self.now) m c.args.session c.args.entry _ _ false (at_some (node_of c.args.self.now).memory _ m running c.put_session.ensures.state) c.in_default.ensures.does)
+    if_some (node_of c.args.self.now).memory _ (λ m running. noted_by (node_of c.args.self.now) m c.args.session c.args.entry _ _ false
+    (at_some (node_of c.args.self.now).memory _ m running c.put_session.ensures.state) c.in_default.ensures.does)
 
 pub returns-clause-does : goal.returns-clause-does
 returns-clause-does g c =
-    if_some (node_of c.args.self.now).memory _ (λ m running. noted_by (node_of c.args.self.now) m c.args.session c.args.entry _ _ true (at_some (node_of c.args.self.now).memory _ m running c.put_session.ensures.state) c.in-Ok.ensures.does)
+    if_some (node_of c.args.self.now).memory _ (λ m running. noted_by (node_of c.args.self.now) m c.args.session c.args.entry _ _ true
+    (at_some (node_of c.args.self.now).memory _ m running c.put_session.ensures.state) c.in-Ok.ensures.does)

@@ -10,15 +10,18 @@ pub returns-in_default-clause-refused : goal.returns-in_default-clause-refused
 returns-in_default-clause-refused g c =
     subst (λ (k : Store). Begins (g.K.Keeper.store c.args.keeper) c.args.eui c.args.key.now (Err rings.Store) (halted_state k c.args.eui))
     (sym (c.into_keeper.ensures.store ∙ ap (λ (x : CoordinatorState). x.station.store) c.coordinator.view_is))
-    (refuses (g.K.Keeper.store c.args.keeper) c.args.eui c.args.key.now c.in-Ok-over.coordinator c.in-Ok.station c.in-Ok.ensures.opened c.in-Ok.ensures.running c.in-Ok-over.ensures.station c.in-Ok-over.ensures.empty c.in-Ok-over.ensures.read
+    (refuses (g.K.Keeper.store c.args.keeper) c.args.eui c.args.key.now c.in-Ok-over.coordinator c.in-Ok.station c.in-Ok.ensures.opened c.in-Ok.ensures.running
+    c.in-Ok-over.ensures.station c.in-Ok-over.ensures.empty c.in-Ok-over.ensures.read
     c.in_default.field-0 (node_of c.begin.new.self) c.in_default.ensures.carries)
 
 pub returns-clause-opened : goal.returns-clause-opened
 returns-clause-opened g c =
-    begins (g.K.Keeper.store c.args.keeper) c.args.eui c.args.key.now c.in-Ok-over.coordinator c.in-Ok.station c.in-Ok.ensures.opened c.in-Ok.ensures.running c.in-Ok-over.ensures.station c.in-Ok-over.ensures.empty c.in-Ok-over.ensures.read
+    begins (g.K.Keeper.store c.args.keeper) c.args.eui c.args.key.now c.in-Ok-over.coordinator c.in-Ok.station c.in-Ok.ensures.opened c.in-Ok.ensures.running
+    c.in-Ok-over.ensures.station c.in-Ok-over.ensures.empty c.in-Ok-over.ensures.read
     (Ok tt) _ c.in-Ok-begin.ensures.carries
 
 pub returns-clause-running : goal.returns-clause-running
 returns-clause-running g c =
-    begun (g.K.Keeper.store c.args.keeper) c.args.eui c.args.key.now c.in-Ok-over.coordinator c.in-Ok.station c.in-Ok.ensures.opened c.in-Ok.ensures.running c.in-Ok-over.ensures.station c.in-Ok-over.ensures.empty c.in-Ok-over.ensures.read
+    begun (g.K.Keeper.store c.args.keeper) c.args.eui c.args.key.now c.in-Ok-over.coordinator c.in-Ok.station c.in-Ok.ensures.opened c.in-Ok.ensures.running
+    c.in-Ok-over.ensures.station c.in-Ok-over.ensures.empty c.in-Ok-over.ensures.read
     _ c.in-Ok-begin.ensures.carries

@@ -12,18 +12,25 @@ pub returns-in_err-message_room-clause-carries : goal.returns-in_err-message_roo
 returns-in_err-message_room-clause-carries g c =
     let p = err_from_is_err_and c.from_residual.result c.from_residual.ensures.1 in
     rw p.1 (if_some (node_of c.args.self.now).memory _ (λ m running. refusal orders (node_of c.args.self.now) m p.0 _ _ running
-    (lacking_plan c.args.self.now.station.eui m c.args.to c.args.now c.args.server c.args.message.now p.0 c.requires.packet (at_some (node_of c.args.self.now).memory _ m running c.requires.holds).home
+    (lacking_plan c.args.self.now.station.eui m c.args.to c.args.now c.args.server c.args.message.now p.0 c.requires.packet
+    (at_some (node_of c.args.self.now).memory _ m running c.requires.holds).home
     (at_some (node_of c.args.self.now).memory _ m running c.in_err-message_room.ensures.refused ∙ ap Some (sym p.2))) c.requires.empty))
 
 pub tell-requires-clause-running : goal.tell-requires-clause-running
 tell-requires-clause-running g c =
-    by_some (node_of c.args.self.now).memory _ c.requires.running (λ m running. session_runs (node_of c.args.self.now) _ _ (at_some (node_of c.args.self.now).memory _ m running c.begin_session.ensures.state))
+    by_some (node_of c.args.self.now).memory _ c.requires.running
+    (λ m running. session_runs (node_of c.args.self.now) _ _ (at_some (node_of c.args.self.now).memory _ m running c.begin_session.ensures.state))
 
 pub tell-requires-clause-room : goal.tell-requires-clause-room
 tell-requires-clause-room g c =
-    by_some (node_of c.args.self.now).memory _ c.requires.running (λ m running. session_room (node_of c.args.self.now) _ m (record { server = c.args.server; way = Mesh c.args.to; since = c.args.now }) c.args.to c.args.message.now (at_some (node_of c.args.self.now).memory _ m running c.in_ok-message_room.ensures.room) (at_some (node_of c.args.self.now).memory _ m running c.begin_session.ensures.state))
+    by_some (node_of c.args.self.now).memory _ c.requires.running (λ m running. session_room (node_of c.args.self.now) _ m
+    (record { server = c.args.server; way = Mesh c.args.to; since = c.args.now }) c.args.to c.args.message.now
+    (at_some (node_of c.args.self.now).memory _ m running c.in_ok-message_room.ensures.room)
+    (at_some (node_of c.args.self.now).memory _ m running c.begin_session.ensures.state))
 
 pub returns-clause-carries : goal.returns-clause-carries
 returns-clause-carries g c =
-    if_some (node_of c.args.self.now).memory _ (λ m running. told_done c.args.self.now.station.eui m c.args.to c.args.now c.args.server c.args.message.now (node_of c.args.self.now) _ _ _ _ c.requires.packet (at_some (node_of c.args.self.now).memory _ m running c.requires.holds)
-    (at_some (node_of c.args.self.now).memory _ m running c.in_ok-message_room.ensures.room) (at_some (node_of c.args.self.now).memory _ m running c.begin_session.ensures.state) c.tell.ensures.carries)
+    if_some (node_of c.args.self.now).memory _ (λ m running. told_done c.args.self.now.station.eui m c.args.to c.args.now c.args.server c.args.message.now
+    (node_of c.args.self.now) _ _ _ _ c.requires.packet (at_some (node_of c.args.self.now).memory _ m running c.requires.holds)
+    (at_some (node_of c.args.self.now).memory _ m running c.in_ok-message_room.ensures.room)
+    (at_some (node_of c.args.self.now).memory _ m running c.begin_session.ensures.state) c.tell.ensures.carries)

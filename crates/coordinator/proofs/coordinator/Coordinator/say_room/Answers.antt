@@ -15,8 +15,10 @@ returns-in-Near-clause-room g c =
 
 pub returns-in-Mesh-clause-room : goal.returns-in-Mesh-clause-room
 returns-in-Mesh-clause-room g c =
-    subst (λ w. IfOk c.mesh_room.result (λ _. IfSome (node_of c.args.self.now).memory (λ m. RoomToSay m w c.args.message.now))) (sym c.in-Mesh.is) c.mesh_room.ensures.room
+    subst (λ w. IfOk c.mesh_room.result (λ _. IfSome (node_of c.args.self.now).memory (λ m. RoomToSay m w c.args.message.now))) (sym c.in-Mesh.is)
+    c.mesh_room.ensures.room
 
 pub returns-in-Mesh-clause-refused : goal.returns-in-Mesh-clause-refused
 returns-in-Mesh-clause-refused g c =
-    subst (λ w. IfErr c.mesh_room.result (λ reason. IfSome (node_of c.args.self.now).memory (λ m. say_fault m w c.args.message.now ≡ Some reason))) (sym c.in-Mesh.is) c.mesh_room.ensures.refused
+    subst (λ w. IfErr c.mesh_room.result (λ reason. IfSome (node_of c.args.self.now).memory (λ m. say_fault m w c.args.message.now ≡ Some reason)))
+    (sym c.in-Mesh.is) c.mesh_room.ensures.refused

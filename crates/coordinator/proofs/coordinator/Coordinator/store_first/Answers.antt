@@ -7,30 +7,38 @@ use Rattle.coordinator.proofs.coordinator.Coordinator.store_first.Goals as goal
 pub unreachable-requires : goal.unreachable-requires
 unreachable-requires g c =
     by_some c.self.inside.station.memory ⊥ (rw (← c.self.view_is) at c.requires.running) (λ l running.
-    ring_reads c.self.inside.station l running (rw (← c.self.view_is) at c.requires.read) _ c.keeper_mut.ensures.value c.open.result _ c.open.ensures.ring c.in_default.is)
+    ring_reads c.self.inside.station l running (rw (← c.self.view_is) at c.requires.read) _ c.keeper_mut.ensures.value c.open.result _ c.open.ensures.ring
+    c.in_default.is)
 
 pub returns-in_default-keep-clause-carries : goal.returns-in_default-keep-clause-carries
 returns-in_default-keep-clause-carries g c =
     rw (← c.self.view_is) (on_parts c.self.inside.station.memory _ _ (λ l running.
-    first_unstored c.self.inside.station l running (rw (← c.self.view_is) at c.requires.read) c.args.key.now _ _ (c.keeper_mut-2.ensures.value ∙ c.keeper_mut.ensures.value) c.first_grant.result c.first_grant.ensures
-    c.self.inside.randoms c.self.inside.sessions c.self.inside.book c.halt.new.self _ (at_some c.self.inside.station.memory _ l running (rw (← c.self.view_is) at c.requires.empty)) c.in_default-keep.ensures.store c.halt.ensures))
+    first_unstored c.self.inside.station l running (rw (← c.self.view_is) at c.requires.read) c.args.key.now _ _
+    (c.keeper_mut-2.ensures.value ∙ c.keeper_mut.ensures.value) c.first_grant.result c.first_grant.ensures
+    c.self.inside.randoms c.self.inside.sessions c.self.inside.book c.halt.new.self _
+    (at_some c.self.inside.station.memory _ l running (rw (← c.self.view_is) at c.requires.empty)) c.in_default-keep.ensures.store c.halt.ensures))
 
 pub unreachable-requires-in_default-restart : goal.unreachable-requires-in_default-restart
 unreachable-requires-in_default-restart g c =
     by_some c.self.inside.station.memory ⊥ (rw (← c.self.view_is) at c.requires.running) (λ l running.
-    store_reads c.self.inside.station l running (rw (← c.self.view_is) at c.requires.read) c.args.key.now _ (g.K.Keeper.store c.keep.new.keeper) (c.keeper_mut-2.ensures.value ∙ c.keeper_mut.ensures.value) c.first_grant.result c.first_grant.ensures
-    c.keep.new.self c.in-Ok-keep.ensures.ring c.in-Ok-keep.ensures.kept c.in-Ok-keep.ensures.elsewhere c.restart.result _ c.restart.ensures.answer c.in_default-restart.is)
+    store_reads c.self.inside.station l running (rw (← c.self.view_is) at c.requires.read) c.args.key.now _ (g.K.Keeper.store c.keep.new.keeper)
+    (c.keeper_mut-2.ensures.value ∙ c.keeper_mut.ensures.value) c.first_grant.result c.first_grant.ensures
+    c.keep.new.self c.in-Ok-keep.ensures.ring c.in-Ok-keep.ensures.kept c.in-Ok-keep.ensures.elsewhere c.restart.result _ c.restart.ensures.answer
+    c.in_default-restart.is)
 
 pub returns-clause-carries : goal.returns-clause-carries
 returns-clause-carries g c =
     rw (← c.self.view_is) (on_parts c.self.inside.station.memory _ _ (λ l running.
-    first_stored c.self.inside.station l running (rw (← c.self.view_is) at c.requires.read) c.args.key.now _ _ (c.keeper_mut-2.ensures.value ∙ c.keeper_mut.ensures.value) c.first_grant.result c.first_grant.ensures
-    c.self.inside.randoms c.self.inside.sessions c.self.inside.book c.restart.new.self _ (at_some c.self.inside.station.memory _ l running (rw (← c.self.view_is) at c.requires.empty)) c.in-Ok-keep.ensures.store
+    first_stored c.self.inside.station l running (rw (← c.self.view_is) at c.requires.read) c.args.key.now _ _
+    (c.keeper_mut-2.ensures.value ∙ c.keeper_mut.ensures.value) c.first_grant.result c.first_grant.ensures
+    c.self.inside.randoms c.self.inside.sessions c.self.inside.book c.restart.new.self _
+    (at_some c.self.inside.station.memory _ l running (rw (← c.self.view_is) at c.requires.empty)) c.in-Ok-keep.ensures.store
     c.keep.new.self c.in-Ok-keep.ensures.ring c.in-Ok-keep.ensures.kept c.in-Ok-keep.ensures.elsewhere c.restart.ensures.state))
 
 pub returns-clause-holds : goal.returns-clause-holds
 returns-clause-holds g c =
     rw (← c.self.view_is) (λ agrees stays. by_some c.self.inside.station.memory _ (rw (← c.self.view_is) at c.requires.running) (λ l running.
-    first_holds c.self.inside.station l running (rw (← c.self.view_is) at c.requires.read) c.args.key.now _ _ (c.keeper_mut-2.ensures.value ∙ c.keeper_mut.ensures.value) c.first_grant.result c.first_grant.ensures
+    first_holds c.self.inside.station l running (rw (← c.self.view_is) at c.requires.read) c.args.key.now _ _
+    (c.keeper_mut-2.ensures.value ∙ c.keeper_mut.ensures.value) c.first_grant.result c.first_grant.ensures
     c.self.inside.randoms c.self.inside.sessions c.self.inside.book c.restart.new.self _ (at_some c.self.inside.station.memory _ l running agrees) stays
     c.keep.new.self c.in-Ok-keep.ensures.ring c.in-Ok-keep.ensures.kept c.in-Ok-keep.ensures.elsewhere c.restart.ensures.state))

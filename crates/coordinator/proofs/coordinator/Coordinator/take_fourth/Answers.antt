@@ -14,13 +14,18 @@ pub returns-in-Err-clause-carries : goal.returns-in-Err-clause-carries
 returns-in-Err-clause-carries g c =
     let s : CoordinatorSession = record { server = c.session.inside.server; way = c.session.inside.way; since = c.session.inside.since } in
     rw (← c.session.view_is) (if_some (node_of c.args.self.now).memory _ (λ m running. refusal dropped (node_of c.args.self.now) m _ _ _ running
-    (ap (λ r. refused {H = CoordinatorHeard} dropped m r) c.dropped_packet.ensures ∙ fourth_refused c.args.self.now.station.eui m s c.args.entry.now c.args.packet.now c.args.rand_p c.args.now _ (ap (λ k. fourth_fault k s.server c.args.rand_p.0 c.args.packet.now) (sym c.of-keys.ensures) ∙ at_some _ _ c.args.rand_p (rw (← c.session.view_is) at c.requires.awaits) c.in-Err.ensures.exact)) c.requires.empty))
+    (ap (λ r. refused {H = CoordinatorHeard} dropped m r) c.dropped_packet.ensures
+    ∙ fourth_refused c.args.self.now.station.eui m s c.args.entry.now c.args.packet.now c.args.rand_p c.args.now _
+    (ap (λ k. fourth_fault k s.server c.args.rand_p.0 c.args.packet.now) (sym c.of-keys.ensures)
+    ∙ at_some _ _ c.args.rand_p (rw (← c.session.view_is) at c.requires.awaits) c.in-Err.ensures.exact)) c.requires.empty))
 
 pub returns-in-Ok-clause-carries : goal.returns-in-Ok-clause-carries
 returns-in-Ok-clause-carries g c =
     let s : CoordinatorSession = record { server = c.session.inside.server; way = c.session.inside.way; since = c.session.inside.since } in
     rw (← c.session.view_is) (if_some (node_of c.args.self.now).memory _ (λ m running. carried_by _ _ _ _ _ _
-    (fourth_taken c.args.self.now.station.eui m s c.args.entry.now c.args.packet.now c.args.rand_p c.args.now _ _ (ap (λ k. fourth_fault k s.server c.args.rand_p.0 c.args.packet.now) (sym c.of-keys.ensures) ∙ at_some _ _ c.args.rand_p (rw (← c.session.view_is) at c.requires.awaits) c.in-Ok.ensures.exact)
+    (fourth_taken c.args.self.now.station.eui m s c.args.entry.now c.args.packet.now c.args.rand_p c.args.now _ _
+    (ap (λ k. fourth_fault k s.server c.args.rand_p.0 c.args.packet.now) (sym c.of-keys.ensures)
+    ∙ at_some _ _ c.args.rand_p (rw (← c.session.view_is) at c.requires.awaits) c.in-Ok.ensures.exact)
     (agreed_is c.in-Ok.agreed s.server c.args.rand_p c.in-Ok.ensures.agreed.0 c.in-Ok.ensures.agreed.1 (rw (← c.session.view_is) at c.requires.awaits))
     (agreed_tags c.in-Ok.agreed s.server c.args.rand_p _ c.in-Ok.ensures.agreed.1 (rw (← c.session.view_is) at c.requires.awaits) c.in-Ok.ensures.tags))
     (at_some (node_of c.args.self.now).memory _ m running (rw (← c.session.view_is) at c.accept_meter.ensures.carries))))

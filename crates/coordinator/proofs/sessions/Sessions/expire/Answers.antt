@@ -4,4 +4,5 @@ use Rattle.arrayvec.proofs.ArrayVecLemmas.{filter-from_retain}
 use Rattle.coordinator.proofs.sessions.Sessions.expire.Goals as goal
 
 pub returns : goal.returns
-returns c = rw (← c.self.view_is) (filter-from_retain _ (λ s. is_within 120 c.args.now s.since) _ (λ x b f' y called. search rules) _ _ c.retain.ensures.filtered)
+returns c =
+    rw (← c.self.view_is) (filter-from_retain _ (λ s. is_within 120 c.args.now s.since) _ (λ x b f' y called. search rules) _ _ c.retain.ensures.filtered)

@@ -27,6 +27,7 @@ returns c =
     let kept = c.index-kept.result.now in
     let item = item_at items (c.args.number - 1) kept (omega (arith, inside, c.self.invariant.each)) c.index-kept.ensures in
     let there : slice_get c.args.self.now.flights (c.args.number - 1) ≡ Some (flight_of c.in-Some.octets.now kept) =
-    ap (λ (f : Flown). slice_get f.flights (c.args.number - 1)) (sym c.self.view_is) ∙ flight_at strings items (c.args.number - 1) c.in-Some.octets.now kept (sym c.in-Some.ensures) item in
+    ap (λ (f : Flown). slice_get f.flights (c.args.number - 1)) (sym c.self.view_is)
+    ∙ flight_at strings items (c.args.number - 1) c.in-Some.octets.now kept (sym c.in-Some.ensures) item in
     let octets = c.new.ensures in
     (λ i. Some (flight_of (octets i) kept)) ∙ sym (in_flights c.args.self.now.flights c.args.number some ∙ there)

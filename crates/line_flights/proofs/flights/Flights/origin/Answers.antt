@@ -12,14 +12,21 @@ pub loop-number-init : goal.loop-number-init
 loop-number-init c = record {
   told =
       sym (ap (λ (f : Flown). origin_of (drop c.last-number.result f.flights) c.args.octets.now c.args.key.now) (sym c.self.view_is)
-      ∙ from_last c.args.octets.now c.args.key.now c.self.inside.log.strings c.self.inside.items.items c.last-number.result c.self.invariant.each c.last-number.ensures);
+      ∙ from_last c.args.octets.now c.args.key.now c.self.inside.log.strings c.self.inside.items.items c.last-number.result c.self.invariant.each
+      c.last-number.ensures);
   within = c.last-number.ensures.within;
   here = c.last-number.ensures.here;
 }
 
 pub earlier-origin-requires-clause-within : goal.earlier-origin-requires-clause-within
 earlier-origin-requires-clause-within c =
-    omega (arith, c.loop-number.invariant.within, c.self.invariant.each, count_of c.self.inside.log.strings c.self.inside.items.items c.self.invariant.each, ap (λ (f : Flown). length f.flights) c.self.view_is)
+    omega (
+      arith,
+      c.loop-number.invariant.within,
+      c.self.invariant.each,
+      count_of c.self.inside.log.strings c.self.inside.items.items c.self.invariant.each,
+      ap (λ (f : Flown). length f.flights) c.self.view_is,
+    )
 
 pub loop-number-preserved : goal.loop-number-preserved
 loop-number-preserved c =

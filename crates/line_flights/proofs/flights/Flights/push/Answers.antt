@@ -10,7 +10,13 @@ use Rattle.line_flights.proofs.flights.Flights.push.Goals as goal
 
 pub push-requires-clause-numbers : goal.push-requires-clause-numbers
 push-requires-clause-numbers c =
-    omega (arith, c.requires.numbers, c.self.invariant.each, count_of c.self.inside.log.strings c.self.inside.items.items c.self.invariant.each, ap (λ (f : Flown). length f.flights) c.self.view_is)
+    omega (
+      arith,
+      c.requires.numbers,
+      c.self.invariant.each,
+      count_of c.self.inside.log.strings c.self.inside.items.items c.self.invariant.each,
+      ap (λ (f : Flown). length f.flights) c.self.view_is,
+    )
 
 pub returns : goal.returns
 returns c =
@@ -20,7 +26,9 @@ returns c =
     let places : c.self.inside.log.places ≡ c.args.self.now.places = ap (λ (f : Flown). f.places) c.self.view_is in
     let octets : c.octets.result.now ≡ c.args.frame.now.octets = c.octets.ensures.value in
     let pushed : c.push-2.new.self.items ≡ items ++ kept ∷ [] =
-    if_ok c.push-2.result (items ++ kept ∷ []) items c.push-2.new.self.items (c.push-2.ensures.succeeds (omega (arith, c.self.invariant.fit, c.requires.places, places))) c.push-2.ensures.items in
-    let flights : flights_of (strings ++ c.octets.result.now ∷ []) (items ++ kept ∷ []) ≡ c.args.self.now.flights ++ flight_by c.args.from c.args.frame.now ∷ [] =
+    if_ok c.push-2.result (items ++ kept ∷ []) items c.push-2.new.self.items
+    (c.push-2.ensures.succeeds (omega (arith, c.self.invariant.fit, c.requires.places, places))) c.push-2.ensures.items in
+    let flights : flights_of (strings ++ c.octets.result.now ∷ []) (items ++ kept ∷ [])
+    ≡ c.args.self.now.flights ++ flight_by c.args.from c.args.frame.now ∷ [] =
     flights_push strings items c.octets.result.now kept c.self.invariant.each ∙ (λ i. (c.self.view_is i).flights ++ flight_of (octets i) kept ∷ []) in
     rw (c.push.ensures, pushed) (λ i. record { flights = flights i; places = places i - 1; room = (c.self.view_is i).room - length (octets i) })

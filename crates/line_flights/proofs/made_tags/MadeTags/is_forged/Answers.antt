@@ -12,6 +12,7 @@ pub returns : goal.returns
 returns c =
     let e : c.octets-octets.result.now ≡ tag_octets c.args.tag.now = c.octets-octets.ensures.value ∙ c.spelling-spelling.ensures.octets in
     let small : (k : ℕ) → slice_index c.octets-octets.result.now k < 256 = search rules in
-    forged_by_last c.args.tag.now c.spelling-spelling.ensures.sound (subst (λ (l : List ℕ). (k : ℕ) → slice_index l k < 256) e small) c.self.inside.log.strings c.last.result c.self.invariant.each
+    forged_by_last c.args.tag.now c.spelling-spelling.ensures.sound (subst (λ (l : List ℕ). (k : ℕ) → slice_index l k < 256) e small) c.self.inside.log.strings
+    c.last.result c.self.invariant.each
     (subst (λ (l : List ℕ). IsLast c.self.inside.log.strings l c.last.result) e c.last.ensures)
     ∙ ap (λ (m : Made). is_forged_tag m.tags c.args.tag.now) c.self.view_is

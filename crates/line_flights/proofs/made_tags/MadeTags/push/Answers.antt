@@ -14,7 +14,9 @@ invariant_of-self c =
     let small : (k : ℕ) → slice_index c.octets-octets.result.now k < 256 = search rules in
     let places : c.self.inside.log.places ≡ c.args.self.now.places = ap (λ (m : Made). m.places) c.self.view_is in
     subst AreSpelled (sym c.push.ensures)
-    (spelled_push c.self.inside.log c.octets-octets.result.now c.self.invariant (spelling_of c.args.tag.now c.octets-octets.result.now e c.spelling-spelling.ensures.sound small) (omega (arith, c.requires.places, places)) c.octets-octets.ensures.fits)
+    (spelled_push c.self.inside.log c.octets-octets.result.now c.self.invariant
+    (spelling_of c.args.tag.now c.octets-octets.result.now e c.spelling-spelling.ensures.sound small) (omega (arith, c.requires.places, places))
+    c.octets-octets.ensures.fits)
 
 pub returns : goal.returns
 returns c =

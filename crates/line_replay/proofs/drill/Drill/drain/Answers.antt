@@ -9,7 +9,8 @@ unfolding drain
 returns-then-self-counts c =
     let d : Drilling = record { world = c.self.inside.world; drained = c.self.inside.drained } in
     let so = rw (← c.self.view_is) at c.loop-turn.invariant in
-    rw (← c.self.view_is) (sym (all_drained (MAX_EVENTS - c.loop-turn.turn) c.args.meters d (omega (arith, c.counts.ensures.flights, c.if-self-counts.true))) ∙ so)
+    rw (← c.self.view_is) (sym (all_drained (MAX_EVENTS - c.loop-turn.turn) c.args.meters d (omega (arith, c.counts.ensures.flights, c.if-self-counts.true)))
+    ∙ so)
 
 pub returns-in_default : goal.returns-in_default
 unfolding drain
@@ -25,7 +26,8 @@ loop-turn-preserved c =
     let so = rw (← c.self.view_is) at c.loop-turn.invariant in
     let brought = rw (← c.self.view_is) at c.in_ok-bring_round.ensures in
     let here = rw (← c.self-in-loop-turn.view_is) at brought in
-    sym (one_more MAX_EVENTS c.loop-turn.turn c.args.meters d new c.in-Some.from c.loop-turn-test.true c.in-Some.ensures (ap (λ (x : Drilling). record x { drained = c.self.inside.drained + 1 }) here)) ∙ so
+    sym (one_more MAX_EVENTS c.loop-turn.turn c.args.meters d new c.in-Some.from c.loop-turn-test.true c.in-Some.ensures
+    (ap (λ (x : Drilling). record x { drained = c.self.inside.drained + 1 }) here)) ∙ so
 
 pub returns : goal.returns
 unfolding drain

@@ -14,4 +14,5 @@ unfolding make
 returns c =
     let until = c.loop-node.auto.node-end (omega arith) in
     let at : c.loop-node.node ≡ c.args.meters + 1 = omega (arith, until, c.loop-node-test.false, c.from-node-end.ensures) in
-    each_all (make_meter) c.loop-node.node (c.args.meters) _ _ at c.loop-node.invariant ∙ ap (λ d. each make_meter c.args.meters d) c.in_ok-make_coordinator.ensures
+    each_all (make_meter) c.loop-node.node (c.args.meters) _ _ at c.loop-node.invariant
+    ∙ ap (λ d. each make_meter c.args.meters d) c.in_ok-make_coordinator.ensures

@@ -18,5 +18,6 @@ returns g c =
     c.counts-taken.ensures.events
     (omega arith)
     c.in-Ok.ensures.step
-    (c.tell_made.ensures.told (happened_text (c.counts-taken.result.events + 1) c.args.event.now c.in-Ok.happened ++ sent_text c.self.inside.quiet c.step.new.self c.in-Ok.happened.first_flight)
+    (c.tell_made.ensures.told (happened_text (c.counts-taken.result.events + 1) c.args.event.now c.in-Ok.happened
+    ++ sent_text c.self.inside.quiet c.step.new.self c.in-Ok.happened.first_flight)
     (made_so c.push_entry-made.result _ c.as_str.ensures.value c.clear.ensures.bytes c.push_entry-made.ensures)))

@@ -9,5 +9,6 @@ returns-in_default-clause-acknowledges c = none_due_at (world_of c.args.self.now
 
 pub returns-clause-acknowledges : goal.returns-clause-acknowledges
 returns-clause-acknowledges c =
-    one_due_at (world_of c.args.self.now) _ c.args.node c.args.due c.in-Some.reply c.acknowledge-sent.result c.args.self.now.out c.acknowledge-sent.new.out c.acknowledge-sent.new.self _
+    one_due_at (world_of c.args.self.now) _ c.args.node c.args.due c.in-Some.reply c.acknowledge-sent.result c.args.self.now.out c.acknowledge-sent.new.out
+    c.acknowledge-sent.new.self _
     c.in-Some.is c.is_stored.ensures c.acknowledge-sent.ensures refl

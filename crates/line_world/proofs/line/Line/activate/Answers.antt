@@ -21,7 +21,8 @@ pub returns-in_err-number : goal.returns-in_err-number
 unfolding activate
 returns-in_err-number c =
     let p = err_from_is_err_and c.from_residual.result c.from_residual.ensures.1 in
-    rw p.1 (not_found (not (c.args.node == 0)) (world_of c.args.self.now) c.args.node _ p.0 c.requires.bounds (ap (λ (f : StepFault). Err f) p.2 ∙ c.in_err-number.ensures))
+    rw p.1 (not_found (not (c.args.node == 0)) (world_of c.args.self.now) c.args.node _ p.0 c.requires.bounds
+    (ap (λ (f : StepFault). Err f) p.2 ∙ c.in_err-number.ensures))
 
 -- at the coordinator itself
 activates_self : {w : World} {number found : ℕ} (r : Runs w) (there : IsThere w number found) (index : ℕ) → found ≡ 0
@@ -35,7 +36,8 @@ activates_self {w} {number} r there index zero =
 
 -- at a meter, by an order
 activates_meter : {w : World} {number found : ℕ} (r : Runs w) (there : IsThere w number found) (index : ℕ) → 1 ≤ found
-    → activate network w number index ≡ Ok (by_coordinator network w (first_there w r.begun).node said.Ordered (λ k. coordinators.activate k there.node.eui index w.clock))
+    → activate network w number index
+    ≡ Ok (by_coordinator network w (first_there w r.begun).node said.Ordered (λ k. coordinators.activate k there.node.eui index w.clock))
 unfolding activate
 activates_meter {w} {number} r there index some =
     let c = (first_there w r.begun).node in
@@ -45,20 +47,31 @@ activates_meter {w} {number} r there index some =
 pub returns-then-number-eq0 : goal.returns-then-number-eq0
 returns-then-number-eq0 c =
     let w = world_of c.args.self.now in
-    let r : Runs w = record { begun = (has_coordinator (world_of c.args.self.now) c.args.node c.in_ok-number.number c.in_ok-number.ensures); bounds = c.requires.bounds; room = c.requires.events } in
+    let r : Runs w = record {
+      begun = (has_coordinator (world_of c.args.self.now) c.args.node c.in_ok-number.number c.in_ok-number.ensures);
+      bounds = c.requires.bounds;
+      room = c.requires.events;
+    } in
     let there = is_there w c.args.node c.in_ok-number.number c.in_ok-number.ensures in
     steps_as _ _ (activates_self r there c.args.index c.if-number-eq0.true)
-    (node_answered (not (c.args.node == 0)) w _ (first_there w r.begun) (λ x. acts x (Err orders.Halted) (λ k. coordinators.activate_self k c.args.index)) (ordered_word said.Activated) _ _ _
-    r.bounds r.room c.activate_self-done.ensures (c.answered.ensures.told ∙ ap (λ a. happened w a) c.ordered_word.ensures) (ap world_of c.answered.ensures.line))
+    (node_answered (not (c.args.node == 0)) w _ (first_there w r.begun) (λ x. acts x (Err orders.Halted) (λ k. coordinators.activate_self k c.args.index))
+    (ordered_word said.Activated) _ _ _
+    r.bounds r.room c.activate_self-done.ensures (c.answered.ensures.told ∙ ap (λ a. happened w a) c.ordered_word.ensures)
+    (ap world_of c.answered.ensures.line))
 
 pub returns-in_err-reserve : goal.returns-in_err-reserve
 returns-in_err-reserve c =
     let w = world_of c.args.self.now in
     let p = err_from_is_err_and c.from_residual-in_err-reserve.result c.from_residual-in_err-reserve.ensures.1 in
-    let r : Runs w = record { begun = has_coordinator w c.args.node c.in_ok-number.number c.in_ok-number.ensures; bounds = c.requires.bounds; room = c.requires.events } in
+    let r : Runs w = record {
+      begun = has_coordinator w c.args.node c.in_ok-number.number c.in_ok-number.ensures;
+      bounds = c.requires.bounds;
+      room = c.requires.events;
+    } in
     let there = is_there w c.args.node c.in_ok-number.number c.in_ok-number.ensures in
     let some : 1 ≤ c.in_ok-number.number = omega (arith, c.if-number-eq0.false) in
-    rw p.1 (taking (ap (λ (b : Bool). not b) (is_some_meter there some)) (unreserved w (world_of c.reserve.new.self) _ p.0 c.requires.bounds c.reserve.ensures.world (ap is_ok (activates_meter r there c.args.index some))
+    rw p.1 (taking (ap (λ (b : Bool). not b) (is_some_meter there some))
+    (unreserved w (world_of c.reserve.new.self) _ p.0 c.requires.bounds c.reserve.ensures.world (ap is_ok (activates_meter r there c.args.index some))
     (ap (λ (f : StepFault). Err f) p.2 ∙ c.in_err-reserve.ensures.err)))
 
 pub eui-eui-requires-clause-there : goal.eui-eui-requires-clause-there
@@ -71,7 +84,11 @@ returns c =
     let w = world_of c.args.self.now in
     let kept = world_of c.reserve.new.self in
     let same : kept ≡ w = c.reserve.ensures.world in
-    let r : Runs kept = still_runs same (record { begun = (has_coordinator (world_of c.args.self.now) c.args.node c.in_ok-number.number c.in_ok-number.ensures); bounds = c.requires.bounds; room = c.requires.events }) in
+    let r : Runs kept = still_runs same (record {
+      begun = (has_coordinator (world_of c.args.self.now) c.args.node c.in_ok-number.number c.in_ok-number.ensures);
+      bounds = c.requires.bounds;
+      room = c.requires.events;
+    }) in
     let there : IsThere kept c.args.node c.in_ok-number.number =
     subst (λ (it : World). IsThere it c.args.node c.in_ok-number.number) (sym same) (is_there w c.args.node c.in_ok-number.number c.in_ok-number.ensures) in
     let some : 1 ≤ c.in_ok-number.number = omega (arith, c.if-number-eq0.false) in
@@ -80,5 +97,7 @@ returns c =
     taking (ap (λ (b : Bool). not b) (is_some_meter there some)) (reserved kept w (λ it. activate network it c.args.node c.args.index) same
     (steps_as _ _ (activates_meter r there c.args.index some
     ∙ ap (λ e. Ok (by_coordinator network kept first.node said.Ordered (λ k. coordinators.activate k e c.args.index kept.clock))) (sym eui))
-    (node_acted true kept _ first (λ x. acts x (Err orders.Halted) (λ k. coordinators.activate k c.eui-eui.result c.args.index kept.clock)) (ordered_word said.Ordered) _ _ _ _
-    r.bounds r.room c.acted.ensures.frames c.acted.ensures.tags c.activate-done.ensures (told_with kept _ _ _ _ c.acted.ensures.told c.ordered_word-2.ensures) c.acted.ensures.world)))
+    (node_acted true kept _ first (λ x. acts x (Err orders.Halted) (λ k. coordinators.activate k c.eui-eui.result c.args.index kept.clock))
+    (ordered_word said.Ordered) _ _ _ _
+    r.bounds r.room c.acted.ensures.frames c.acted.ensures.tags c.activate-done.ensures (told_with kept _ _ _ _ c.acted.ensures.told c.ordered_word-2.ensures)
+    c.acted.ensures.world)))

@@ -42,18 +42,24 @@ allows : Eui → Key → Node → NodeStep (Result ℕ CoordinatorRefusal)
 allows eui psk x = acts x (Err orders.Halted) (λ m. coordinators.allow m eui psk)
 
 -- the rule, for a meter with this EUI and this pair key
-allow_is : {w : World} {number found : ℕ} (r : Runs w) (m : IsMeter w number found) (eui : Eui) (psk : Key) → eui ≡ m.there.node.eui → psk_of m.there.node ≡ Some psk
+allow_is : {w : World} {number found : ℕ} (r : Runs w) (m : IsMeter w number found) (eui : Eui) (psk : Key) → eui ≡ m.there.node.eui
+    → psk_of m.there.node ≡ Some psk
     → allow network w number ≡ Ok (allowed network w number (allows eui psk (first_there w r.begun).node))
 unfolding allow allows
 allow_is {w} {number} r m eui psk eui_is psk_is =
     let c = (first_there w r.begun).node in
-    about_meter r m _ ∙ (λ i. option_map_or (λ key. Ok (allowed network w number (acts c (Err orders.Halted) (λ k. coordinators.allow k (sym eui_is i) key)))) (psk_is i) (Err faults.Node))
+    about_meter r m _ ∙ (λ i. option_map_or (λ key. Ok (allowed network w number (acts c (Err orders.Halted) (λ k. coordinators.allow k (sym eui_is i) key))))
+    (psk_is i) (Err faults.Node))
 
 pub returns-in-Ok : goal.returns-in-Ok
 unfolding allows
 returns-in-Ok c =
     let w = world_of c.args.self.now in
-    let r : Runs w = record { begun = (meter_begun (world_of c.args.self.now) c.args.node c.in_ok-number.number c.in_ok-number.ensures); bounds = c.requires.bounds; room = c.requires.events } in
+    let r : Runs w = record {
+      begun = (meter_begun (world_of c.args.self.now) c.args.node c.in_ok-number.number c.in_ok-number.ensures);
+      bounds = c.requires.bounds;
+      room = c.requires.events;
+    } in
     let m = is_meter w c.args.node c.in_ok-number.number c.in_ok-number.ensures in
     let eui = c.eui-eui.result in
     let psk = c.psk-psk.result in
@@ -62,13 +68,18 @@ returns-in-Ok c =
     let same = m.there.same in
     steps_as _ _ (allow_is r m eui psk eui_is psk_is)
     (has_allowed w _ c.args.node (first_there w r.begun) (allows eui psk) (Ok c.in-Ok.address) _ _ r.bounds r.room c.in-Ok.ensures
-    (λ i. record (c.answered-happened.ensures.told i) { grant = Some (record { node = same i; address = c.in-Ok.address }) }) (ap world_of c.answered-happened.ensures.line))
+    (λ i. record (c.answered-happened.ensures.told i) { grant = Some (record { node = same i; address = c.in-Ok.address }) })
+    (ap world_of c.answered-happened.ensures.line))
 
 pub returns-in-Err : goal.returns-in-Err
 unfolding allows
 returns-in-Err c =
     let w = world_of c.args.self.now in
-    let r : Runs w = record { begun = (meter_begun (world_of c.args.self.now) c.args.node c.in_ok-number.number c.in_ok-number.ensures); bounds = c.requires.bounds; room = c.requires.events } in
+    let r : Runs w = record {
+      begun = (meter_begun (world_of c.args.self.now) c.args.node c.in_ok-number.number c.in_ok-number.ensures);
+      bounds = c.requires.bounds;
+      room = c.requires.events;
+    } in
     let m = is_meter w c.args.node c.in_ok-number.number c.in_ok-number.ensures in
     let eui = c.eui-eui.result in
     let psk = c.psk-psk.result in

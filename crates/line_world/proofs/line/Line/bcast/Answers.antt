@@ -31,13 +31,19 @@ pub returns-in_err-reserve : goal.returns-in_err-reserve
 returns-in_err-reserve c =
     let w = world_of c.args.self.now in
     let p = err_from_is_err_and c.from_residual-in_err-reserve.result c.from_residual-in_err-reserve.ensures.1 in
-    let r : Runs w = record { begun = has_coordinator w c.args.node c.in_ok-number.number c.in_ok-number.ensures; bounds = c.requires.bounds; room = c.requires.events } in
+    let r : Runs w = record {
+      begun = has_coordinator w c.args.node c.in_ok-number.number c.in_ok-number.ensures;
+      bounds = c.requires.bounds;
+      room = c.requires.events;
+    } in
     rw p.1 (unreserved w (world_of c.reserve.new.self) _ p.0 c.requires.bounds c.reserve.ensures.world
-    (ap is_ok (bcast_at r (is_there w c.args.node c.in_ok-number.number c.in_ok-number.ensures) c.args.datagram.now)) (ap (λ (f : StepFault). Err f) p.2 ∙ c.in_err-reserve.ensures.err))
+    (ap is_ok (bcast_at r (is_there w c.args.node c.in_ok-number.number c.in_ok-number.ensures) c.args.datagram.now))
+    (ap (λ (f : StepFault). Err f) p.2 ∙ c.in_err-reserve.ensures.err))
 
 pub broadcast-sent-requires-clause-there : goal.broadcast-sent-requires-clause-there
 broadcast-sent-requires-clause-there c =
-    subst (λ (it : World). c.in_ok-number.number < length it.nodes) (sym c.reserve.ensures.world) (is_there (world_of c.args.self.now) c.args.node c.in_ok-number.number c.in_ok-number.ensures).within
+    subst (λ (it : World). c.in_ok-number.number < length it.nodes) (sym c.reserve.ensures.world)
+    (is_there (world_of c.args.self.now) c.args.node c.in_ok-number.number c.in_ok-number.ensures).within
 
 pub broadcast-sent-requires-clause-log : goal.broadcast-sent-requires-clause-log
 broadcast-sent-requires-clause-log c =
@@ -45,10 +51,13 @@ broadcast-sent-requires-clause-log c =
     let kept = world_of c.reserve.new.self in
     let same : kept ≡ w = c.reserve.ensures.world in
     let number = c.in_ok-number.number in
-    let there : IsThere kept c.args.node number = subst (λ (it : World). IsThere it c.args.node number) (sym same) (is_there w c.args.node number c.in_ok-number.ensures) in
+    let there : IsThere kept c.args.node number = subst (λ (it : World). IsThere it c.args.node number) (sym same)
+    (is_there w c.args.node number c.in_ok-number.ensures) in
     let within : number < length kept.beside =
-    subst (λ (it : World). number < length it.beside) (sym same) (subst (λ (n : ℕ). number < n) (sym c.requires.beside) (is_there w c.args.node number c.in_ok-number.ensures).within) in
-    log_there there c.index_mut.result.now (subst LogsKept (sym same) c.requires.logs) (beside_found kept.beside number c.index_mut.result.now within c.index_mut.ensures.value)
+    subst (λ (it : World). number < length it.beside) (sym same)
+    (subst (λ (n : ℕ). number < n) (sym c.requires.beside) (is_there w c.args.node number c.in_ok-number.ensures).within) in
+    log_there there c.index_mut.result.now (subst LogsKept (sym same) c.requires.logs)
+    (beside_found kept.beside number c.index_mut.result.now within c.index_mut.ensures.value)
 
 pub acted-requires-clause-node : goal.acted-requires-clause-node
 acted-requires-clause-node c = within_line c.requires.bounds (is_there (world_of c.args.self.now) c.args.node c.in_ok-number.number c.in_ok-number.ensures)
@@ -59,17 +68,25 @@ returns c =
     let kept = world_of c.reserve.new.self in
     let same : kept ≡ w = c.reserve.ensures.world in
     let number = c.in_ok-number.number in
-    let there : IsThere kept c.args.node number = subst (λ (it : World). IsThere it c.args.node number) (sym same) (is_there w c.args.node number c.in_ok-number.ensures) in
-    let r : Runs kept = still_runs same (record { begun = has_coordinator w c.args.node number c.in_ok-number.ensures; bounds = c.requires.bounds; room = c.requires.events }) in
+    let there : IsThere kept c.args.node number = subst (λ (it : World). IsThere it c.args.node number) (sym same)
+    (is_there w c.args.node number c.in_ok-number.ensures) in
+    let r : Runs kept = still_runs same
+    (record { begun = has_coordinator w c.args.node number c.in_ok-number.ensures; bounds = c.requires.bounds; room = c.requires.events }) in
     let within : number < length kept.beside =
-    subst (λ (it : World). number < length it.beside) (sym same) (subst (λ (n : ℕ). number < n) (sym c.requires.beside) (is_there w c.args.node number c.in_ok-number.ensures).within) in
+    subst (λ (it : World). number < length it.beside) (sym same)
+    (subst (λ (n : ℕ). number < n) (sym c.requires.beside) (is_there w c.args.node number c.in_ok-number.ensures).within) in
     let held : c.index_mut.result.now ≡ beside_at kept number = beside_found kept.beside number c.index_mut.result.now within c.index_mut.ensures.value in
     let plan = λ (y : Reaching Memory). broadcast in_memory y c.args.datagram.now in
-    let did = subst (λ (b : Beside). IfSome (slice_get kept.nodes number) (λ (y : Node). ReachedFirst y b (Err broadcasts.Halted) plan kept.nodes number c.broadcast-sent.result c.broadcast-sent.new.out
+    let did = subst (λ (b : Beside). IfSome (slice_get kept.nodes number)
+    (λ (y : Node). ReachedFirst y b (Err broadcasts.Halted) plan kept.nodes number c.broadcast-sent.result c.broadcast-sent.new.out
     c.broadcast-sent.new.self c.broadcast-sent.new.beside)) held c.broadcast-sent.ensures in
     reserved kept w (λ it. bcast network it c.args.node c.args.datagram.now) same
     (steps_as _ _ (bcast_at r there c.args.datagram.now)
     (node_reached there (Err broadcasts.Halted) plan broadcast_word
-    (record nothing_further { broadcast = broadcast_sent c.args.node there.node (beside_at kept c.args.node) c.args.datagram.now (reaches there.node (beside_at kept c.args.node) (Err broadcasts.Halted) plan).answer })
+    (record nothing_further {
+      broadcast = broadcast_sent c.args.node there.node (beside_at kept c.args.node) c.args.datagram.now
+          (reaches there.node (beside_at kept c.args.node) (Err broadcasts.Halted) plan).answer;
+    })
     (world_of c.acted.new.self) c.broadcast-sent.result c.broadcast-sent.new.out c.broadcast-sent.new.self c.broadcast-sent.new.beside c.acted.result
-    r.bounds r.room c.acted.ensures.frames c.acted.ensures.tags did (told_with kept _ _ _ _ c.acted.ensures.told c.broadcast_word.ensures) c.acted.ensures.world))
+    r.bounds r.room c.acted.ensures.frames c.acted.ensures.tags did (told_with kept _ _ _ _ c.acted.ensures.told c.broadcast_word.ensures)
+    c.acted.ensures.world))

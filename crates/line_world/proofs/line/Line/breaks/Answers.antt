@@ -23,7 +23,8 @@ pub returns-in_err-next : goal.returns-in_err-next
 unfolding breaks
 returns-in_err-next c =
     let p = err_from_is_err_and c.from_residual-in_err-next.result c.from_residual-in_err-next.ensures.1 in
-    rw p.1 (second_not_found false (world_of c.args.self.now) c.args.node c.in_ok-number.number c.args.next _ p.0 c.requires.bounds c.in_ok-number.ensures (ap (λ (f : StepFault). Err f) p.2 ∙ c.in_err-next.ensures))
+    rw p.1 (second_not_found false (world_of c.args.self.now) c.args.node c.in_ok-number.number c.args.next _ p.0 c.requires.bounds c.in_ok-number.ensures
+    (ap (λ (f : StepFault). Err f) p.2 ∙ c.in_err-next.ensures))
 
 pub address-requires : goal.address-requires
 address-requires c = record { there = (is_there (world_of c.args.self.now) c.args.next c.in_ok-next.next c.in_ok-next.ensures).within }
@@ -34,9 +35,11 @@ returns-in_default c =
     let w = world_of c.args.self.now in
     let there = is_there w c.args.node c.in_ok-number.number c.in_ok-number.ensures in
     let next = is_there w c.args.next c.in_ok-next.next c.in_ok-next.ensures in
-    steps_as _ _ (begun w _ (has_coordinator (world_of c.args.self.now) c.args.node c.in_ok-number.number c.in_ok-number.ensures) ∙ at_node w c.args.node there.node _ there.at ∙ at_node w c.args.next next.node _ next.at
+    steps_as _ _ (begun w _ (has_coordinator (world_of c.args.self.now) c.args.node c.in_ok-number.number c.in_ok-number.ensures)
+    ∙ at_node w c.args.node there.node _ there.at ∙ at_node w c.args.next next.node _ next.at
     ∙ ap (λ a. Ok (breaks_by network w c.args.node there.node a)) (sym (told_of next (λ y. None ≡ node_address y) c.in_default.ensures)))
-    (only_ran false w _ (trace_of (happened w said.NoAddress)) _ c.requires.bounds c.requires.events c.answered.ensures.told (ap world_of c.answered.ensures.line))
+    (only_ran false w _ (trace_of (happened w said.NoAddress)) _ c.requires.bounds c.requires.events c.answered.ensures.told
+    (ap world_of c.answered.ensures.line))
 
 pub broke-answer-requires : goal.broke-answer-requires
 broke-answer-requires c = record { there = (is_there (world_of c.args.self.now) c.args.node c.in_ok-number.number c.in_ok-number.ensures).within }
@@ -47,7 +50,8 @@ returns c =
     let w = world_of c.args.self.now in
     let there = is_there w c.args.node c.in_ok-number.number c.in_ok-number.ensures in
     let next = is_there w c.args.next c.in_ok-next.next c.in_ok-next.ensures in
-    steps_as _ _ (begun w _ (has_coordinator (world_of c.args.self.now) c.args.node c.in_ok-number.number c.in_ok-number.ensures) ∙ at_node w c.args.node there.node _ there.at ∙ at_node w c.args.next next.node _ next.at
+    steps_as _ _ (begun w _ (has_coordinator (world_of c.args.self.now) c.args.node c.in_ok-number.number c.in_ok-number.ensures)
+    ∙ at_node w c.args.node there.node _ there.at ∙ at_node w c.args.next next.node _ next.at
     ∙ ap (λ a. Ok (breaks_by network w c.args.node there.node a)) (sym (told_of next (λ y. Some c.in-Some.address ≡ node_address y) c.in-Some.ensures)))
     (node_said false w _ there (λ (x : Node). acts x said.Halted (λ m. changing said.Broken (with_station (calls.broke c.in-Some.address m.station) m))) _ _ _
     c.requires.bounds c.requires.events c.broke-answer.ensures c.answered-2.ensures.told (ap world_of c.answered-2.ensures.line))

@@ -18,14 +18,16 @@ unfolding checks
 returns-then-not-takes_setup c =
     let w = world_of c.args.self.now in
     refused faults.Setup refl _ _ _ c.requires.bounds
-    (ap (λ (b : Bool). if b then (if w.checks_on then Err faults.Setup else Ok (record (set_up w) { checks_on = true }, trace_of (happened w said.Set))) else Err faults.Setup) (sym c.if-not-takes_setup.ensures))
+    (ap (λ (b : Bool). if b then (if w.checks_on then Err faults.Setup else Ok (record (set_up w) { checks_on = true }, trace_of (happened w said.Set)))
+    else Err faults.Setup) (sym c.if-not-takes_setup.ensures))
 
 pub returns-then-self : goal.returns-then-self
 unfolding checks
 returns-then-self c =
     let w = world_of c.args.self.now in
     refused faults.Setup refl _ _ _ c.requires.bounds
-    (in_setup_is w _ c.if-not-takes_setup.ensures ∙ ap (λ (b : Bool). if b then Err faults.Setup else Ok (record (set_up w) { checks_on = true }, trace_of (happened w said.Set))) c.if-self.true)
+    (in_setup_is w _ c.if-not-takes_setup.ensures
+    ∙ ap (λ (b : Bool). if b then Err faults.Setup else Ok (record (set_up w) { checks_on = true }, trace_of (happened w said.Set))) c.if-self.true)
 
 pub returns : goal.returns
 unfolding checks
@@ -35,7 +37,8 @@ returns c =
     let is : world_of (record c.set_up.new.self { checks_on = true }) ≡ new = ap (λ (l : Line). world_of (record l { checks_on = true })) c.set_up.ensures in
     let b = bounded_setup w w.nodes c.requires.bounds c.requires.events c.requires.bounds.nodes c.requires.bounds.uncut in
     is_taken_so false w _ _ (trace_of (happened w said.Set)) _
-    (in_setup_is w _ c.if-not-takes_setup.ensures ∙ ap (λ (b : Bool). if b then Err faults.Setup else Ok (record (set_up w) { checks_on = true }, trace_of (happened w said.Set))) c.if-self.false
+    (in_setup_is w _ c.if-not-takes_setup.ensures
+    ∙ ap (λ (b : Bool). if b then Err faults.Setup else Ok (record (set_up w) { checks_on = true }, trace_of (happened w said.Set))) c.if-self.false
     ∙ ap (λ (v : World). Ok (v, trace_of (happened w said.Set))) (sym is))
     (c.happened.ensures ∙ ap (λ (l : Line). happened (world_of (record l { checks_on = true })) said.Set) c.set_up.ensures)
     (subst IsBounded (sym is) (record {

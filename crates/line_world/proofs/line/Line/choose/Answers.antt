@@ -16,7 +16,8 @@ use Rattle.line_world.specs.Discovering.{joins_in}
 use Rattle.line_world.specs.Lines.{world_of}
 use Rattle.line_world.specs.Steps.{Steps}
 use Rattle.line_world.proofs.Calling.{beside_found}
-use Rattle.line_world.proofs.Discoveries.{address_in, below_in, choice_halted, choice_joined, choice_joins, choice_nobody, choice_refused, choose_at, joined_in, memory_in, none_in}
+use Rattle.line_world.proofs.Discoveries.{address_in, below_in, choice_halted, choice_joined, choice_joins, choice_nobody, choice_refused, choose_at, joined_in}
+use Rattle.line_world.proofs.Discoveries.{memory_in, none_in}
 use Rattle.line_world.proofs.Orders.{IsMeter, Runs, is_meter, meter_begun, meter_not_found, of_found, reserved, still_runs}
 use Rattle.line_world.proofs.Taking.{steps_as, unreserved}
 use Rattle.line_world.proofs.line.Line.choose.Goals as goal
@@ -33,16 +34,21 @@ returns-in_err-reserve c =
     let p = err_from_is_err_and c.from_residual-in_err-reserve.result c.from_residual-in_err-reserve.ensures.1 in
     let number = c.in_ok-number.number in
     let r : Runs w = record { begun = meter_begun w c.args.node number c.in_ok-number.ensures; bounds = c.requires.bounds; room = c.requires.events } in
-    rw p.1 (unreserved w (world_of c.reserve.new.self) _ p.0 c.requires.bounds c.reserve.ensures.world (ap is_ok (choose_at r (is_meter w c.args.node number c.in_ok-number.ensures) c.args.k))
+    rw p.1 (unreserved w (world_of c.reserve.new.self) _ p.0 c.requires.bounds c.reserve.ensures.world
+    (ap is_ok (choose_at r (is_meter w c.args.node number c.in_ok-number.ensures) c.args.k))
     (ap (λ (f : StepFault). Err f) p.2 ∙ c.in_err-reserve.ensures.err))
 
 pub psk-psk-requires-clause-there : goal.psk-psk-requires-clause-there
 psk-psk-requires-clause-there c =
-    subst (λ (it : World). c.in_ok-number.number < length it.nodes) (sym c.reserve.ensures.world) (is_meter (world_of c.args.self.now) c.args.node c.in_ok-number.number c.in_ok-number.ensures).there.within
+    subst (λ (it : World). c.in_ok-number.number < length it.nodes) (sym c.reserve.ensures.world)
+    (is_meter (world_of c.args.self.now) c.args.node c.in_ok-number.number c.in_ok-number.ensures).there.within
 
 pub halted-requires : goal.halted-requires
 halted-requires c =
-    record { there = subst (λ (it : World). c.in_ok-number.number < length it.nodes) (sym c.reserve.ensures.world) (is_meter (world_of c.args.self.now) c.args.node c.in_ok-number.number c.in_ok-number.ensures).there.within }
+    record {
+      there = subst (λ (it : World). c.in_ok-number.number < length it.nodes) (sym c.reserve.ensures.world)
+          (is_meter (world_of c.args.self.now) c.args.node c.in_ok-number.number c.in_ok-number.ensures).there.within;
+    }
 
 -- the meter that was found, in the world after memory was reserved
 record Found (w : World) (node number : ℕ) (psk : Key) : Type 0 where
@@ -51,13 +57,15 @@ record Found (w : World) (node number : ℕ) (psk : Key) : Type 0 where
   key : psk_of meter.there.node ≡ Some psk
   at : slice_get w.nodes node ≡ Some meter.there.node
 
-found_so : (w kept : World) (node number : ℕ) (psk : Key) → kept ≡ w → IsMeter w node number → Runs w → IfSome (slice_get kept.nodes number) (λ x. psk_of x ≡ Some psk) → Found kept node number psk
+found_so : (w kept : World) (node number : ℕ) (psk : Key) → kept ≡ w → IsMeter w node number → Runs w
+    → IfSome (slice_get kept.nodes number) (λ x. psk_of x ≡ Some psk) → Found kept node number psk
 found_so w kept node number psk same m runs key =
     let meter : IsMeter kept node number = subst (λ (it : World). IsMeter it node number) (sym same) m in
     record { meter = meter; runs = still_runs same runs; key = of_found meter.there (λ (x : Node). psk_of x ≡ Some psk) key; at = meter.there.at }
 
 -- the rule of it
-chooses_so : {w : World} {node number : ℕ} {psk : Key} (f : Found w node number psk) (k : ℕ) → choose network w node k ≡ Ok (chooses_by network w node f.meter.there.node k (Some psk))
+chooses_so : {w : World} {node number : ℕ} {psk : Key} (f : Found w node number psk) (k : ℕ)
+    → choose network w node k ≡ Ok (chooses_by network w node f.meter.there.node k (Some psk))
 chooses_so {w} {node} {number} f k =
     let key = f.key in
     choose_at f.runs f.meter k ∙ (λ i. Ok (chooses_by network w node f.meter.there.node k (key i)))
@@ -70,7 +78,8 @@ returns-then-halted c =
     let node = c.args.node in
     let number = c.in_ok-number.number in
     let r : Runs w = record { begun = meter_begun w node number c.in_ok-number.ensures; bounds = c.requires.bounds; room = c.requires.events } in
-    let f : Found kept node number c.psk-psk.result = found_so w kept node number c.psk-psk.result same (is_meter w node number c.in_ok-number.ensures) r c.psk-psk.ensures in
+    let f : Found kept node number c.psk-psk.result = found_so w kept node number c.psk-psk.result same (is_meter w node number c.in_ok-number.ensures) r
+    c.psk-psk.ensures in
     let x = f.meter.there.node in
     let none = none_in x.memory (of_found f.meter.there (λ (y : Node). true ≡ not (is_some y.memory)) c.if-halted.ensures.value) in
     reserved kept w (λ it. choose network it node c.args.k) same
@@ -82,7 +91,8 @@ pub address-requires : goal.address-requires
 address-requires c =
     record {
       there = subst (λ (ns : List Node). c.in_ok-number.number < length ns) (sym c.if-halted.ensures.same)
-          (subst (λ (it : World). c.in_ok-number.number < length it.nodes) (sym c.reserve.ensures.world) (is_meter (world_of c.args.self.now) c.args.node c.in_ok-number.number c.in_ok-number.ensures).there.within);
+          (subst (λ (it : World). c.in_ok-number.number < length it.nodes) (sym c.reserve.ensures.world)
+          (is_meter (world_of c.args.self.now) c.args.node c.in_ok-number.number c.in_ok-number.ensures).there.within);
     }
 
 pub returns-then-is_some : goal.returns-then-is_some
@@ -93,11 +103,13 @@ returns-then-is_some c =
     let node = c.args.node in
     let number = c.in_ok-number.number in
     let r : Runs w = record { begun = meter_begun w node number c.in_ok-number.ensures; bounds = c.requires.bounds; room = c.requires.events } in
-    let f : Found kept node number c.psk-psk.result = found_so w kept node number c.psk-psk.result same (is_meter w node number c.in_ok-number.ensures) r c.psk-psk.ensures in
+    let f : Found kept node number c.psk-psk.result = found_so w kept node number c.psk-psk.result same (is_meter w node number c.in_ok-number.ensures) r
+    c.psk-psk.ensures in
     let x = f.meter.there.node in
     let m = memory_in x.memory (of_found f.meter.there (λ (y : Node). false ≡ not (is_some y.memory)) c.if-halted.ensures.value) in
     let at = address_in x m.0 c.address.result m.1
-    (of_found f.meter.there (λ (y : Node). c.address.result ≡ node_address y) (subst (λ (ns : List Node). IfSome (slice_get ns number) (λ y. c.address.result ≡ node_address y)) c.if-halted.ensures.same c.address.ensures)) in
+    (of_found f.meter.there (λ (y : Node). c.address.result ≡ node_address y)
+    (subst (λ (ns : List Node). IfSome (slice_get ns number) (λ y. c.address.result ≡ node_address y)) c.if-halted.ensures.same c.address.ensures)) in
     let joined = joined_in m.0 c.address.result at ∙ sym c.if-is_some.ensures in
     reserved kept w (λ it. choose network it node c.args.k) same
     (steps_as _ _ (chooses_so f c.args.k)
@@ -110,7 +122,8 @@ index-requires c =
     let w = world_of c.args.self.now in
     let number = c.in_ok-number.number in
     let below : number < length c.reserve.new.self.beside.items =
-    subst (λ (it : World). number < length it.beside) (sym c.reserve.ensures.world) (subst (λ (n : ℕ). number < n) (sym c.requires.beside) (is_meter w c.args.node number c.in_ok-number.ensures).there.within) in
+    subst (λ (it : World). number < length it.beside) (sym c.reserve.ensures.world)
+    (subst (λ (n : ℕ). number < n) (sym c.requires.beside) (is_meter w c.args.node number c.in_ok-number.ensures).there.within) in
     search rules
 
 pub returns-in_default : goal.returns-in_default
@@ -121,14 +134,17 @@ returns-in_default c =
     let node = c.args.node in
     let number = c.in_ok-number.number in
     let r : Runs w = record { begun = meter_begun w node number c.in_ok-number.ensures; bounds = c.requires.bounds; room = c.requires.events } in
-    let f : Found kept node number c.psk-psk.result = found_so w kept node number c.psk-psk.result same (is_meter w node number c.in_ok-number.ensures) r c.psk-psk.ensures in
+    let f : Found kept node number c.psk-psk.result = found_so w kept node number c.psk-psk.result same (is_meter w node number c.in_ok-number.ensures) r
+    c.psk-psk.ensures in
     let x = f.meter.there.node in
     let m = memory_in x.memory (of_found f.meter.there (λ (y : Node). false ≡ not (is_some y.memory)) c.if-halted.ensures.value) in
     let at = address_in x m.0 c.address.result m.1
-    (of_found f.meter.there (λ (y : Node). c.address.result ≡ node_address y) (subst (λ (ns : List Node). IfSome (slice_get ns number) (λ y. c.address.result ≡ node_address y)) c.if-halted.ensures.same c.address.ensures)) in
+    (of_found f.meter.there (λ (y : Node). c.address.result ≡ node_address y)
+    (subst (λ (ns : List Node). IfSome (slice_get ns number) (λ y. c.address.result ≡ node_address y)) c.if-halted.ensures.same c.address.ensures)) in
     let apart = joined_in m.0 c.address.result at ∙ sym c.if-is_some.ensures in
     let within : number < length kept.beside =
-    subst (λ (it : World). number < length it.beside) (sym same) (subst (λ (n : ℕ). number < n) (sym c.requires.beside) (is_meter w node number c.in_ok-number.ensures).there.within) in
+    subst (λ (it : World). number < length it.beside) (sym same)
+    (subst (λ (n : ℕ). number < n) (sym c.requires.beside) (is_meter w node number c.in_ok-number.ensures).there.within) in
     let b = c.behind-self.inside in
     let held : record { checks = b.checks; log = b.log; scan = b.scan } ≡ beside_at kept node =
     c.behind-self.view_is ∙ beside_found kept.beside number c.index.result.now within c.index.ensures ∙ ap (beside_at kept) f.meter.there.same in
@@ -143,7 +159,8 @@ returns-in_default c =
 pub join_by-requires-clause-there : goal.join_by-requires-clause-there
 join_by-requires-clause-there c =
     subst (λ (ns : List Node). c.in_ok-number.number < length ns) (sym c.if-halted.ensures.same)
-    (subst (λ (it : World). c.in_ok-number.number < length it.nodes) (sym c.reserve.ensures.world) (is_meter (world_of c.args.self.now) c.args.node c.in_ok-number.number c.in_ok-number.ensures).there.within)
+    (subst (λ (it : World). c.in_ok-number.number < length it.nodes) (sym c.reserve.ensures.world)
+    (is_meter (world_of c.args.self.now) c.args.node c.in_ok-number.number c.in_ok-number.ensures).there.within)
 
 pub returns : goal.returns
 returns c =
@@ -158,10 +175,12 @@ returns c =
     let x = f.meter.there.node in
     let m = memory_in x.memory (of_found f.meter.there (λ (y : Node). false ≡ not (is_some y.memory)) c.if-halted.ensures.value) in
     let at = address_in x m.0 c.address.result m.1
-    (of_found f.meter.there (λ (y : Node). c.address.result ≡ node_address y) (subst (λ (ns : List Node). IfSome (slice_get ns number) (λ y. c.address.result ≡ node_address y)) c.if-halted.ensures.same c.address.ensures)) in
+    (of_found f.meter.there (λ (y : Node). c.address.result ≡ node_address y)
+    (subst (λ (ns : List Node). IfSome (slice_get ns number) (λ y. c.address.result ≡ node_address y)) c.if-halted.ensures.same c.address.ensures)) in
     let apart = joined_in m.0 c.address.result at ∙ sym c.if-is_some.ensures in
     let within : number < length kept.beside =
-    subst (λ (it : World). number < length it.beside) (sym same) (subst (λ (n : ℕ). number < n) (sym c.requires.beside) (is_meter w node number c.in_ok-number.ensures).there.within) in
+    subst (λ (it : World). number < length it.beside) (sym same)
+    (subst (λ (n : ℕ). number < n) (sym c.requires.beside) (is_meter w node number c.in_ok-number.ensures).there.within) in
     let b = c.behind-self.inside in
     let held : record { checks = b.checks; log = b.log; scan = b.scan } ≡ beside_at kept node =
     c.behind-self.view_is ∙ beside_found kept.beside number c.index.result.now within c.index.ensures ∙ ap (beside_at kept) f.meter.there.same in
@@ -169,11 +188,13 @@ returns c =
     let some = c.in-Some.ensures.value ∙ ap (λ (y : Beside). kth_of y.scan.agents c.args.k) held in
     let new = world_of c.join_by.new.self in
     let result = c.join_by.result in
-    let joined = subst (λ (it : World). IfSome (slice_get it.nodes number) (λ y. IfSome (psk_of y) (λ key. Steps true it (Ok result) new (Ok (joins_in it number y key agent.0 agent.1)))))
+    let joined = subst (λ (it : World). IfSome (slice_get it.nodes number)
+    (λ y. IfSome (psk_of y) (λ key. Steps true it (Ok result) new (Ok (joins_in it number y key agent.0 agent.1)))))
     (λ i. record kept { nodes = c.if-halted.ensures.same i }) c.join_by.ensures in
     let by_key : Steps true kept (Ok result) new (Ok (joins_in kept number x psk agent.0 agent.1)) =
     subst (λ (o : Option Key). IfSome o (λ key. Steps true kept (Ok result) new (Ok (joins_in kept number x key agent.0 agent.1)))) f.key
-    (of_found f.meter.there (λ (y : Node). IfSome (psk_of y) (λ key. Steps true kept (Ok result) new (Ok (joins_in kept number y key agent.0 agent.1)))) joined) in
+    (of_found f.meter.there (λ (y : Node). IfSome (psk_of y) (λ key. Steps true kept (Ok result) new (Ok (joins_in kept number y key agent.0 agent.1))))
+    joined) in
     let below = below_in kept.nodes node x m.0 c.short_tables.ensures.counters f.at m.1 in
     reserved kept w (λ it. choose network it node c.args.k) same
     (steps_as _ _ (chooses_so f c.args.k ∙ sym (ap Ok (choice_joins kept node x c.args.k psk m.0 f.at m.1 agent.0 agent.1 apart some below))

@@ -32,6 +32,7 @@ pub returns : goal.returns
 returns c =
     let w = world_of c.args.self.now in
     first_made w _ c.args.eui c.args.key.now _ _ c.requires.bounds c.requires.events c.if-has_begun.ensures
-    (went_well _ c.make_coordinator.ensures.ok c.if-is_err-2.ensures.value) (c.happened.ensures ∙ ap (λ (l : Line). happened (world_of l) said.Made) c.set_up.ensures ∙ ap (λ (v : World). happened v said.Made) c.hold_beside.ensures)
+    (went_well _ c.make_coordinator.ensures.ok c.if-is_err-2.ensures.value)
+    (c.happened.ensures ∙ ap (λ (l : Line). happened (world_of l) said.Made) c.set_up.ensures ∙ ap (λ (v : World). happened v said.Made) c.hold_beside.ensures)
     (ap world_of c.set_up.ensures ∙ ap (λ (v : World). set_up v) c.hold_beside.ensures
     ∙ (λ i. record (set_up w) { nodes = c.make_coordinator.new.self; beside = c.reserve.ensures.items i ++ nothing_beside ∷ [] }))

@@ -24,6 +24,8 @@ unfolding cut
 returns c =
     let w = world_of c.args.self.now in
     let there = is_there w c.args.node c.in_ok-number.number c.in_ok-number.ensures in
-    steps_as _ _ (begun w _ (has_coordinator (world_of c.args.self.now) c.args.node c.in_ok-number.number c.in_ok-number.ensures) ∙ at_node w c.args.node there.node _ there.at)
-    (node_said false w _ there (λ (x : Node). stays (record x { store = record x.store { cut = Some (record { nth = c.args.nth; keeps_new = c.args.keeps_new }) } }) said.Set) said.Set _ _
+    steps_as _ _ (begun w _ (has_coordinator (world_of c.args.self.now) c.args.node c.in_ok-number.number c.in_ok-number.ensures)
+    ∙ at_node w c.args.node there.node _ there.at)
+    (node_said false w _ there (λ (x : Node). stays
+    (record x { store = record x.store { cut = Some (record { nth = c.args.nth; keeps_new = c.args.keeps_new }) } }) said.Set) said.Set _ _
     c.requires.bounds c.requires.events c.cut.ensures c.answered.ensures.told (ap world_of c.answered.ensures.line))

@@ -19,7 +19,8 @@ pub returns-in_err-number : goal.returns-in_err-number
 unfolding depot
 returns-in_err-number c =
     let p = err_from_is_err_and c.from_residual.result c.from_residual.ensures.1 in
-    rw p.1 (no_such_node (world_of c.args.self.now) c.args.node _ p.0 c.requires.bounds c.if-not-takes_setup.ensures (ap (λ (f : StepFault). Err f) p.2 ∙ c.in_err-number.ensures))
+    rw p.1 (no_such_node (world_of c.args.self.now) c.args.node _ p.0 c.requires.bounds c.if-not-takes_setup.ensures
+    (ap (λ (f : StepFault). Err f) p.2 ∙ c.in_err-number.ensures))
 
 pub returns-then-number-eq0 : goal.returns-then-number-eq0
 returns-then-number-eq0 c =
@@ -35,7 +36,8 @@ returns-then-is_some c =
     let w = world_of c.args.self.now in
     let there = is_there w c.args.node c.in_ok-number.number c.in_ok-number.ensures in
     let above : 1 ≤ c.in_ok-number.number = omega (arith, c.if-number-eq0.false) in
-    refused faults.Setup refl _ _ _ c.requires.bounds (depot_joined there c.address.result c.if-not-takes_setup.ensures above c.address.ensures c.if-is_some.ensures)
+    refused faults.Setup refl _ _ _ c.requires.bounds
+    (depot_joined there c.address.result c.if-not-takes_setup.ensures above c.address.ensures c.if-is_some.ensures)
 
 pub eui-eui-requires-clause-there : goal.eui-eui-requires-clause-there
 eui-eui-requires-clause-there c = (is_there (world_of c.args.self.now) c.args.node c.in_ok-number.number c.in_ok-number.ensures).within
@@ -48,14 +50,16 @@ returns-in_default c =
     let w = world_of c.args.self.now in
     let there = is_there w c.args.node c.in_ok-number.number c.in_ok-number.ensures in
     let above : 1 ≤ c.in_ok-number.number = omega (arith, c.if-number-eq0.false) in
-    depot_not_granted _ there c.address.result c.eui-eui.result c.psk-psk.result c.depot.result c.depot.new.self c.requires.bounds c.if-not-takes_setup.ensures above c.address.ensures
+    depot_not_granted _ there c.address.result c.eui-eui.result c.psk-psk.result c.depot.result c.depot.new.self c.requires.bounds c.if-not-takes_setup.ensures
+    above c.address.ensures
     c.if-is_some.ensures c.eui-eui.ensures c.psk-psk.ensures c.depot.ensures c.in_default.not-Ok refl
 
 pub provision-requires-clause-there : goal.provision-requires-clause-there
 provision-requires-clause-there c =
     let w = world_of c.args.self.now in
     let there = is_there w c.args.node c.in_ok-number.number c.in_ok-number.ensures in
-    let long : length c.depot.new.self ≡ length w.nodes = as_long w c.eui-eui.result c.psk-psk.result c.depot.result c.depot.new.self c.if-not-takes_setup.ensures c.depot.ensures in
+    let long : length c.depot.new.self
+    ≡ length w.nodes = as_long w c.eui-eui.result c.psk-psk.result c.depot.result c.depot.new.self c.if-not-takes_setup.ensures c.depot.ensures in
     subst (λ n. c.in_ok-number.number < n) (sym long) there.within
 
 pub returns : goal.returns
@@ -63,6 +67,8 @@ returns c =
     let w = world_of c.args.self.now in
     let there = is_there w c.args.node c.in_ok-number.number c.in_ok-number.ensures in
     let above : 1 ≤ c.in_ok-number.number = omega (arith, c.if-number-eq0.false) in
-    depot_granted _ there c.address.result c.eui-eui.result c.psk-psk.result c.depot.result c.in-Ok.grant c.provision.result c.depot.new.self c.provision.new.self _ c.requires.bounds
-    c.requires.events c.if-not-takes_setup.ensures above c.address.ensures c.if-is_some.ensures c.eui-eui.ensures c.psk-psk.ensures c.depot.ensures c.in-Ok.is c.provision.ensures
+    depot_granted _ there c.address.result c.eui-eui.result c.psk-psk.result c.depot.result c.in-Ok.grant c.provision.result c.depot.new.self
+    c.provision.new.self _ c.requires.bounds
+    c.requires.events c.if-not-takes_setup.ensures above c.address.ensures c.if-is_some.ensures c.eui-eui.ensures c.psk-psk.ensures c.depot.ensures c.in-Ok.is
+    c.provision.ensures
     (c.happened.ensures ∙ ap (λ (l : Line). happened (world_of l) said.Joined) c.set_up.ensures) (ap world_of c.set_up.ensures)

@@ -23,7 +23,9 @@ returns-in-None c =
     by_node w.nodes node (λ x. Steps true w (Ok answered.result) (world_of answered.new.self) (Ok (discovered_in w node x c.args.frame link)))
     (λ x at.
     let k = memory_in x.memory (at_number _ x (λ (y : Node). false ≡ not (is_some y.memory)) at c.if-halted.ensures.value) in
-    steps_as (Ok (discovered_in w node x c.args.frame link)) (Ok (discovers_in w node x.role k.0.station None link)) (λ i. Ok (discovered_by w node x (k.1 i) (c.in-None.is i) link))
-    (discovery_stays w (world_of answered.new.self) node discovery_word (beacon_taken node None link) (hear_discovery_in x.role k.0.station (beside_at w node).scan None link) answered.result
+    steps_as (Ok (discovered_in w node x c.args.frame link)) (Ok (discovers_in w node x.role k.0.station None link))
+    (λ i. Ok (discovered_by w node x (k.1 i) (c.in-None.is i) link))
+    (discovery_stays w (world_of answered.new.self) node discovery_word (beacon_taken node None link)
+    (hear_discovery_in x.role k.0.station (beside_at w node).scan None link) answered.result
     c.requires.bounds c.requires.events (Err drops.Malformed) refl
     answered.ensures.told (ap world_of answered.ensures.line ∙ (λ i. record (ran w) { nodes = c.if-halted.ensures.same i }))))

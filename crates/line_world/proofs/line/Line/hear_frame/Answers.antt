@@ -21,8 +21,10 @@ returns-in-Request c =
     by_memory w.nodes node (λ x m. Steps true w (Ok result) new (Ok (discovers_in w node x.role m.station (Some c.args.frame.now) link)))
     (λ x m at here.
     subst (λ (f : Discovery). Steps true w (Ok result) new (Ok (discovers_in w node x.role m.station (Some f) link))) (sym c.in-Request.is)
-    (subst (λ (o : Option Memory). IfSome o (λ k. (n : ℕ) → Steps true w (Ok result) new (Ok (discovers_in w node x.role k.station (Some (discoveries.Request n)) 0)))) here
-    (at_number _ x (λ (y : Node). IfSome y.memory (λ k. (n : ℕ) → Steps true w (Ok result) new (Ok (discovers_in w node y.role k.station (Some (discoveries.Request n)) 0)))) at c.hear_request.ensures)
+    (subst (λ (o : Option Memory). IfSome o
+    (λ k. (n : ℕ) → Steps true w (Ok result) new (Ok (discovers_in w node x.role k.station (Some (discoveries.Request n)) 0)))) here
+    (at_number _ x (λ (y : Node). IfSome y.memory
+    (λ k. (n : ℕ) → Steps true w (Ok result) new (Ok (discovers_in w node y.role k.station (Some (discoveries.Request n)) 0)))) at c.hear_request.ensures)
     seq))
 
 pub returns-in-Beacon : goal.returns-in-Beacon

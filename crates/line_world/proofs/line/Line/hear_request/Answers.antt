@@ -15,7 +15,8 @@ use Rattle.line_rules.specs.Steps.{ran}
 use Rattle.line_world.specs.Discovering.{discovers_in, flies_in}
 use Rattle.line_world.specs.Lines.{world_of}
 use Rattle.line_world.specs.Steps.{Steps}
-use Rattle.line_world.proofs.Discoveries.{address_in, at_number, by_memory, cost_in, discovery_sends, discovery_stays, request_answered, request_elsewhere, request_routeless, scan_stays}
+use Rattle.line_world.proofs.Discoveries.{address_in, at_number, by_memory, cost_in, discovery_sends, discovery_stays, request_answered, request_elsewhere}
+use Rattle.line_world.proofs.Discoveries.{request_routeless, scan_stays}
 use Rattle.line_world.proofs.line.Line.hear_request.Goals as goal
 
 pub returns-in_default : goal.returns-in_default
@@ -24,9 +25,11 @@ returns-in_default c =
     let node = c.args.node in
     let scan : Scanned = (beside_at w node).scan in
     by_memory w.nodes node
-    (λ x m. (seq : ℕ) → Steps true w (Ok c.answered.result) (world_of c.answered.new.self) (Ok (discovers_in w node x.role m.station (Some (discoveries.Request seq)) 0)))
+    (λ x m. (seq : ℕ) → Steps true w (Ok c.answered.result) (world_of c.answered.new.self)
+    (Ok (discovers_in w node x.role m.station (Some (discoveries.Request seq)) 0)))
     (λ x m at here seq.
-    discovery_stays w (world_of c.answered.new.self) node discovery_word (beacon_taken node (Some (discoveries.Request seq)) 0) (hear_request x.role m.station scan) c.answered.result
+    discovery_stays w (world_of c.answered.new.self) node discovery_word (beacon_taken node (Some (discoveries.Request seq)) 0)
+    (hear_request x.role m.station scan) c.answered.result
     c.requires.bounds c.requires.events (Err drops.NotForMe)
     (request_elsewhere x.role m.station scan
     (address_in x m None here (at_number _ x (λ (y : Node). ◌≡◌ {A = Option ℕ} None (node_address y)) at c.in_default.ensures)))
@@ -39,14 +42,17 @@ returns-in_default-cost_home c =
     let scan : Scanned = (beside_at w node).scan in
     let answered = c.answered-in_default-cost_home in
     by_memory w.nodes node
-    (λ x m. (seq : ℕ) → Steps true w (Ok answered.result) (world_of answered.new.self) (Ok (discovers_in w node x.role m.station (Some (discoveries.Request seq)) 0)))
+    (λ x m. (seq : ℕ) → Steps true w (Ok answered.result) (world_of answered.new.self)
+    (Ok (discovers_in w node x.role m.station (Some (discoveries.Request seq)) 0)))
     (λ x m at here seq.
-    discovery_stays w (world_of answered.new.self) node discovery_word (beacon_taken node (Some (discoveries.Request seq)) 0) (hear_request x.role m.station scan) answered.result
+    discovery_stays w (world_of answered.new.self) node discovery_word (beacon_taken node (Some (discoveries.Request seq)) 0)
+    (hear_request x.role m.station scan) answered.result
     c.requires.bounds c.requires.events (Err drops.NoRoute)
     (request_routeless x.role m.station scan c.in-Some.own
     (address_in x m (Some c.in-Some.own) here (at_number _ x (λ (y : Node). ◌≡◌ {A = Option ℕ} (Some c.in-Some.own) (node_address y)) at c.in-Some.ensures))
     (cost_in x m None here
-    (at_number _ x (λ (y : Node). ◌≡◌ {A = Option ℕ} None (option_and_then (λ (k : Memory). cost_home y.role k.station) y.memory)) at c.in_default-cost_home.ensures.value)))
+    (at_number _ x (λ (y : Node). ◌≡◌ {A = Option ℕ} None (option_and_then (λ (k : Memory). cost_home y.role k.station) y.memory)) at
+    c.in_default-cost_home.ensures.value)))
     answered.ensures.told (ap world_of answered.ensures.line ∙ (λ i. record (ran w) { nodes = c.cost_home.ensures.same i })))
 
 pub returns : goal.returns
@@ -61,11 +67,13 @@ returns c =
     by_memory w.nodes node
     (λ x m. (seq : ℕ) → Steps true w (Ok flown.result) (world_of flown.new.self) (Ok (discovers_in w node x.role m.station (Some (discoveries.Request seq)) 0)))
     (λ x m at here seq.
-    discovery_sends w (world_of flown.new.self) node discovery_word (beacon_taken node (Some (discoveries.Request seq)) 0) (hear_request x.role m.station scan) flown.result
+    discovery_sends w (world_of flown.new.self) node discovery_word (beacon_taken node (Some (discoveries.Request seq)) 0) (hear_request x.role m.station scan)
+    flown.result
     c.requires.bounds c.requires.events (Ok discovered.Beacon) scan beacon
     (request_answered x.role m.station scan own cost
     (address_in x m (Some own) here (at_number _ x (λ (y : Node). ◌≡◌ {A = Option ℕ} (Some own) (node_address y)) at c.in-Some.ensures))
     (cost_in x m (Some cost) here
-    (at_number _ x (λ (y : Node). ◌≡◌ {A = Option ℕ} (Some cost) (option_and_then (λ (k : Memory). cost_home y.role k.station) y.memory)) at c.in-Some-cost_home.ensures.value)))
+    (at_number _ x (λ (y : Node). ◌≡◌ {A = Option ℕ} (Some cost) (option_and_then (λ (k : Memory). cost_home y.role k.station) y.memory)) at
+    c.in-Some-cost_home.ensures.value)))
     flown.ensures.told
     (flown.ensures.world ∙ (λ i. flies_in (record w { nodes = c.cost_home.ensures.same i }) node (Some beacon)) ∙ scan_stays w node (Some beacon)))

@@ -20,7 +20,8 @@ received-requires-clause-bounds c =
     let step : Node → NodeStep Reception = λ y. hears network y c.args.got.now c.args.cost c.args.origin.note w.clock in
     let heard = at_node_told w.nodes c.args.node x.0 (λ y. Received (step y) w.nodes c.args.node c.hear-told.result c.hear-told.new.out c.hear-told.new.self)
     x.1 c.hear-told.ensures.received in
-    in_run_again w c.hear-told.new.self c.requires.bounds (as_many (step x.0) w.nodes c.args.node (step x.0).answer c.hear-told.new.out c.hear-told.new.self heard.did)
+    in_run_again w c.hear-told.new.self c.requires.bounds
+    (as_many (step x.0) w.nodes c.args.node (step x.0).answer c.hear-told.new.out c.hear-told.new.self heard.did)
 
 pub returns : goal.returns
 returns c =
@@ -31,5 +32,7 @@ returns c =
     x.1 c.hear-told.ensures.received in
     subst (λ (o : Option Node). IfSome o (λ y. Steps true w (Ok c.received.result) (world_of c.received.new.self)
     (Ok (hears_so network w c.args.node y c.args.got.now c.args.origin c.args.cost)))) (sym x.1)
-    (heard_so w _ c.args.node x.0 c.args.got.now c.args.origin c.args.cost c.hear-told.result c.hear-told.new.out c.hear-told.new.self c.is_forged-forged.result _
-    c.requires.bounds c.requires.events c.received.ensures.frames c.received.ensures.tags x.1 heard c.is_forged-forged.ensures c.received.ensures.told c.received.ensures.world)
+    (heard_so w _ c.args.node x.0 c.args.got.now c.args.origin c.args.cost c.hear-told.result c.hear-told.new.out c.hear-told.new.self c.is_forged-forged.result
+    _
+    c.requires.bounds c.requires.events c.received.ensures.frames c.received.ensures.tags x.1 heard c.is_forged-forged.ensures c.received.ensures.told
+    c.received.ensures.world)

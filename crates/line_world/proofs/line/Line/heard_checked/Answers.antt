@@ -17,7 +17,8 @@ returns-then-is_unbelieved c =
     let got = c.args.got.now in
     let within : c.args.node < length w.beside = subst (λ (n : ℕ). c.args.node < n) (sym c.requires.beside) c.requires.there in
     let b = c.behind-self.inside in
-    let held : (record { checks = b.checks; log = b.log; scan = b.scan }) ≡ beside_at w c.args.node = c.behind-self.view_is ∙ beside_found w.beside c.args.node c.index.result.now within c.index.ensures in
+    let held : (record { checks = b.checks; log = b.log; scan = b.scan })
+    ≡ beside_at w c.args.node = c.behind-self.view_is ∙ beside_found w.beside c.args.node c.index.result.now within c.index.ensures in
     let is : is_unbelieved (beside_at w c.args.node).checks got.path (message_of got) ≡ true =
     sym (c.if-is_unbelieved.ensures ∙ ap (λ (k : Beside). is_unbelieved k.checks got.path c.args.message.now) held
     ∙ ap (λ (m : Option Message). is_unbelieved (beside_at w c.args.node).checks got.path m) c.requires.message) in
@@ -32,7 +33,8 @@ returns c =
     let got = c.args.got.now in
     let within : c.args.node < length w.beside = subst (λ (n : ℕ). c.args.node < n) (sym c.requires.beside) c.requires.there in
     let b = c.behind-self.inside in
-    let held : (record { checks = b.checks; log = b.log; scan = b.scan }) ≡ beside_at w c.args.node = c.behind-self.view_is ∙ beside_found w.beside c.args.node c.index.result.now within c.index.ensures in
+    let held : (record { checks = b.checks; log = b.log; scan = b.scan })
+    ≡ beside_at w c.args.node = c.behind-self.view_is ∙ beside_found w.beside c.args.node c.index.result.now within c.index.ensures in
     let is : is_unbelieved (beside_at w c.args.node).checks got.path (message_of got) ≡ false =
     sym (c.if-is_unbelieved.ensures ∙ ap (λ (k : Beside). is_unbelieved k.checks got.path c.args.message.now) held
     ∙ ap (λ (m : Option Message). is_unbelieved (beside_at w c.args.node).checks got.path m) c.requires.message) in

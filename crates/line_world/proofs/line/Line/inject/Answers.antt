@@ -19,15 +19,18 @@ pub returns-in_err-reserve-clause-steps : goal.returns-in_err-reserve-clause-ste
 returns-in_err-reserve-clause-steps c =
     let w = world_of c.args.self.now in
     let p = err_from_is_err_and c.from_residual-in_err-reserve.result c.from_residual-in_err-reserve.ensures.1 in
-    rw p.1 (unreserved w (world_of c.reserve.new.self) _ p.0 c.requires.bounds c.reserve.ensures.world (inject_taken w c.args.node c.in_ok-number.number c.args.cost c.args.octets.now c.in_ok-number.ensures)
+    rw p.1 (unreserved w (world_of c.reserve.new.self) _ p.0 c.requires.bounds c.reserve.ensures.world
+    (inject_taken w c.args.node c.in_ok-number.number c.args.cost c.args.octets.now c.in_ok-number.ensures)
     (ap (λ (f : StepFault). Err f) p.2 ∙ c.in_err-reserve.ensures.err))
 
 pub discovered-requires-clause-there : goal.discovered-requires-clause-there
-discovered-requires-clause-there c = found_still (world_of c.reserve.new.self) (world_of c.args.self.now) c.args.node c.in_ok-number.number c.reserve.ensures.world c.in_ok-number.ensures
+discovered-requires-clause-there c =
+    found_still (world_of c.reserve.new.self) (world_of c.args.self.now) c.args.node c.in_ok-number.number c.reserve.ensures.world c.in_ok-number.ensures
 
 pub returns-then-is_discovery-clause-steps : goal.returns-then-is_discovery-clause-steps
 returns-then-is_discovery-clause-steps c =
-    came_discovery (world_of c.reserve.new.self) (world_of c.args.self.now) _ c.args.node c.in_ok-number.number c.args.octets.now c.args.cost c.read_discovery-frame.result c.discovered.result
+    came_discovery (world_of c.reserve.new.self) (world_of c.args.self.now) _ c.args.node c.in_ok-number.number c.args.octets.now c.args.cost
+    c.read_discovery-frame.result c.discovered.result
     c.reserve.ensures.world c.in_ok-number.ensures (sym c.if-is_discovery.ensures) c.read_discovery-frame.ensures.value c.discovered.ensures
 
 pub returns-then-is_discovery-clause-octets : goal.returns-then-is_discovery-clause-octets
@@ -37,32 +40,41 @@ returns-then-is_discovery-clause-octets c =
 
 pub accept-accepted-requires : goal.accept-accepted-requires
 accept-accepted-requires c =
-    record { there = found_still (world_of c.reserve.new.self) (world_of c.args.self.now) c.args.node c.in_ok-number.number c.reserve.ensures.world c.in_ok-number.ensures }
+    record {
+      there = found_still (world_of c.reserve.new.self) (world_of c.args.self.now) c.args.node c.in_ok-number.number c.reserve.ensures.world
+          c.in_ok-number.ensures;
+    }
 
 pub arrived-requires-clause-there : goal.arrived-requires-clause-there
 arrived-requires-clause-there c =
-    still_within (world_of c.reserve.new.self) (world_of c.args.self.now) c.args.node c.in_ok-number.number c.args.octets.now c.accept-accepted.result c.accept-accepted.new.self
+    still_within (world_of c.reserve.new.self) (world_of c.args.self.now) c.args.node c.in_ok-number.number c.args.octets.now c.accept-accepted.result
+    c.accept-accepted.new.self
     c.reserve.ensures.world c.in_ok-number.ensures c.accept-accepted.ensures.did
 
 pub arrived-requires-clause-bounds : goal.arrived-requires-clause-bounds
 arrived-requires-clause-bounds c =
-    still_bounded (world_of c.reserve.new.self) (world_of c.args.self.now) c.args.node c.in_ok-number.number c.args.octets.now c.accept-accepted.result c.accept-accepted.new.self
+    still_bounded (world_of c.reserve.new.self) (world_of c.args.self.now) c.args.node c.in_ok-number.number c.args.octets.now c.accept-accepted.result
+    c.accept-accepted.new.self
     c.reserve.ensures.world c.in_ok-number.ensures c.accept-accepted.ensures.did c.requires.bounds
 
 pub arrived-requires-clause-beside : goal.arrived-requires-clause-beside
 arrived-requires-clause-beside c =
-    still_many (world_of c.reserve.new.self) (world_of c.args.self.now) c.args.node c.in_ok-number.number c.args.octets.now c.accept-accepted.result c.accept-accepted.new.self
+    still_many (world_of c.reserve.new.self) (world_of c.args.self.now) c.args.node c.in_ok-number.number c.args.octets.now c.accept-accepted.result
+    c.accept-accepted.new.self
     c.reserve.ensures.world c.in_ok-number.ensures c.accept-accepted.ensures.did c.requires.beside
 
 pub arrived-requires-clause-logs : goal.arrived-requires-clause-logs
 arrived-requires-clause-logs c =
-    still_logged (world_of c.reserve.new.self) (world_of c.args.self.now) c.args.node c.in_ok-number.number c.args.octets.now c.accept-accepted.result c.accept-accepted.new.self
+    still_logged (world_of c.reserve.new.self) (world_of c.args.self.now) c.args.node c.in_ok-number.number c.args.octets.now c.accept-accepted.result
+    c.accept-accepted.new.self
     c.reserve.ensures.world c.in_ok-number.ensures c.accept-accepted.ensures.did c.short_tables.ensures.tables c.requires.logs
 
 pub returns-clause-steps : goal.returns-clause-steps
 returns-clause-steps c =
-    came_to (world_of c.reserve.new.self) (world_of c.args.self.now) c.args.node c.in_ok-number.number c.args.octets.now c.accept-accepted.result c.accept-accepted.new.self
-    c.reserve.ensures.world c.in_ok-number.ensures c.accept-accepted.ensures.did (world_of c.arrived.new.self) c.args.cost c.origin-origin.result c.arrived.result (sym c.if-is_discovery.ensures)
+    came_to (world_of c.reserve.new.self) (world_of c.args.self.now) c.args.node c.in_ok-number.number c.args.octets.now c.accept-accepted.result
+    c.accept-accepted.new.self
+    c.reserve.ensures.world c.in_ok-number.ensures c.accept-accepted.ensures.did (world_of c.arrived.new.self) c.args.cost c.origin-origin.result
+    c.arrived.result (sym c.if-is_discovery.ensures)
     c.origin-origin.ensures.forged c.origin-origin.ensures.note c.arrived.ensures
 
 pub returns-clause-octets : goal.returns-clause-octets

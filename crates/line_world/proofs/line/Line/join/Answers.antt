@@ -17,20 +17,23 @@ use Rattle.line_rules.specs.Worlds.{World}
 use Rattle.line_world.specs.Lines.{world_of}
 use Rattle.line_world.specs.Steps.{has_address}
 use Rattle.line_world.proofs.Taking.{IsThere, steps_as, begun, at_node, is_there, node_acted, unreserved, taking, addressed}
-use Rattle.line_world.proofs.Orders.{IsMeter, Runs, as_found, at_meter, is_meter, of_found, only_said, reserved, told_with, within_line, meter_not_found, meter_begun, agent_not_found}
+use Rattle.line_world.proofs.Orders.{IsMeter, Runs, as_found, at_meter, is_meter, of_found, only_said, reserved, told_with, within_line, meter_not_found}
+use Rattle.line_world.proofs.Orders.{meter_begun, agent_not_found}
 use Rattle.line_world.proofs.line.Line.join.Goals as goal
 
 pub returns-in_err-number : goal.returns-in_err-number
 unfolding join
 returns-in_err-number c =
     let p = err_from_is_err_and c.from_residual.result c.from_residual.ensures.1 in
-    rw p.1 (meter_not_found (has_address (world_of c.args.self.now) c.args.agent) (world_of c.args.self.now) c.args.node _ p.0 c.requires.bounds (ap (λ (f : StepFault). Err f) p.2 ∙ c.in_err-number.ensures))
+    rw p.1 (meter_not_found (has_address (world_of c.args.self.now) c.args.agent) (world_of c.args.self.now) c.args.node _ p.0 c.requires.bounds
+    (ap (λ (f : StepFault). Err f) p.2 ∙ c.in_err-number.ensures))
 
 pub returns-in_err-agent : goal.returns-in_err-agent
 unfolding join
 returns-in_err-agent c =
     let p = err_from_is_err_and c.from_residual-in_err-agent.result c.from_residual-in_err-agent.ensures.1 in
-    rw p.1 (agent_not_found (has_address (world_of c.args.self.now) c.args.agent) (world_of c.args.self.now) c.args.node c.in_ok-number.number c.args.agent _ p.0 c.requires.bounds c.in_ok-number.ensures (ap (λ (f : StepFault). Err f) p.2 ∙ c.in_err-agent.ensures))
+    rw p.1 (agent_not_found (has_address (world_of c.args.self.now) c.args.agent) (world_of c.args.self.now) c.args.node c.in_ok-number.number c.args.agent _
+    p.0 c.requires.bounds c.in_ok-number.ensures (ap (λ (f : StepFault). Err f) p.2 ∙ c.in_err-agent.ensures))
 
 pub address-requires : goal.address-requires
 address-requires c = record { there = (is_there (world_of c.args.self.now) c.args.agent c.in_ok-agent.agent c.in_ok-agent.ensures).within }
@@ -46,7 +49,11 @@ joins_at {w} {number} {found} {agent} r m there =
 pub returns-in_default : goal.returns-in_default
 returns-in_default c =
     let w = world_of c.args.self.now in
-    let r : Runs w = record { begun = (meter_begun (world_of c.args.self.now) c.args.node c.in_ok-number.number c.in_ok-number.ensures); bounds = c.requires.bounds; room = c.requires.events } in
+    let r : Runs w = record {
+      begun = (meter_begun (world_of c.args.self.now) c.args.node c.in_ok-number.number c.in_ok-number.ensures);
+      bounds = c.requires.bounds;
+      room = c.requires.events;
+    } in
     let m = is_meter w c.args.node c.in_ok-number.number c.in_ok-number.ensures in
     let there = is_there w c.args.agent c.in_ok-agent.agent c.in_ok-agent.ensures in
     let none = of_found there (λ (y : Node). ◌≡◌ {A = Option ℕ} None (node_address y)) c.in_default.ensures in
@@ -57,10 +64,15 @@ pub returns-in_err-reserve : goal.returns-in_err-reserve
 returns-in_err-reserve c =
     let w = world_of c.args.self.now in
     let p = err_from_is_err_and c.from_residual-in_err-reserve.result c.from_residual-in_err-reserve.ensures.1 in
-    let r : Runs w = record { begun = meter_begun w c.args.node c.in_ok-number.number c.in_ok-number.ensures; bounds = c.requires.bounds; room = c.requires.events } in
+    let r : Runs w = record {
+      begun = meter_begun w c.args.node c.in_ok-number.number c.in_ok-number.ensures;
+      bounds = c.requires.bounds;
+      room = c.requires.events;
+    } in
     let m = is_meter w c.args.node c.in_ok-number.number c.in_ok-number.ensures in
     let there = is_there w c.args.agent c.in_ok-agent.agent c.in_ok-agent.ensures in
-    rw p.1 (taking (addressed there c.in-Some.address c.in-Some.ensures) (unreserved w (world_of c.reserve.new.self) _ p.0 c.requires.bounds c.reserve.ensures.world (ap is_ok (joins_at r m there))
+    rw p.1 (taking (addressed there c.in-Some.address c.in-Some.ensures)
+    (unreserved w (world_of c.reserve.new.self) _ p.0 c.requires.bounds c.reserve.ensures.world (ap is_ok (joins_at r m there))
     (ap (λ (f : StepFault). Err f) p.2 ∙ c.in_err-reserve.ensures.err)))
 
 pub join-asked-requires-clause-there : goal.join-asked-requires-clause-there
@@ -69,7 +81,8 @@ join-asked-requires-clause-there c =
     subst (λ (it : World). c.in_ok-number.number < length it.nodes) (sym c.reserve.ensures.world) there.within
 
 pub acted-requires-clause-node : goal.acted-requires-clause-node
-acted-requires-clause-node c = within_line c.requires.bounds (is_meter (world_of c.args.self.now) c.args.node c.in_ok-number.number c.in_ok-number.ensures).there
+acted-requires-clause-node c =
+    within_line c.requires.bounds (is_meter (world_of c.args.self.now) c.args.node c.in_ok-number.number c.in_ok-number.ensures).there
 
 -- What the tests of a joining have found: the meter with its pair key, and the agent with its address.
 record Found (w : World) (number found agent by address : ℕ) (psk : Key) : Type 0 where
@@ -104,7 +117,11 @@ returns c =
     let key = some_key (psk_of meter.there.node) (of_found meter.there (λ (x : Node). IsSome (psk_of x)) keyed) in
     let psk : Key = key.0 in
     let found : Found w c.args.node c.in_ok-number.number c.args.agent c.in_ok-agent.agent address psk = record {
-      runs = record { begun = (meter_begun (world_of c.args.self.now) c.args.node c.in_ok-number.number c.in_ok-number.ensures); bounds = c.requires.bounds; room = c.requires.events };
+      runs = record {
+        begun = (meter_begun (world_of c.args.self.now) c.args.node c.in_ok-number.number c.in_ok-number.ensures);
+        bounds = c.requires.bounds;
+        room = c.requires.events;
+      };
       meter = meter;
       key = key.1;
       there = there;
@@ -116,13 +133,18 @@ returns c =
     let out = c.join-asked.new.out in
     let nodes = c.join-asked.new.self in
     let asked = c.join-asked.result in
-    let did = of_found f.meter.there (λ (y : Node). IfSome (psk_of y) (λ key. Did (acts y (Err joins.Halted) (λ k. meters.join (identity network y key) k address kept.clock)) kept.nodes c.in_ok-number.number asked out nodes))
+    let did = of_found f.meter.there (λ (y : Node). IfSome (psk_of y)
+    (λ key. Did (acts y (Err joins.Halted) (λ k. meters.join (identity network y key) k address kept.clock)) kept.nodes c.in_ok-number.number asked out nodes))
     c.join-asked.ensures.did in
-    let by_key : Did (acts x (Err joins.Halted) (λ k. meters.join (identity network x psk) k address kept.clock)) kept.nodes c.in_ok-number.number asked out nodes =
-    subst (λ (o : Option Key). IfSome o (λ key. Did (acts x (Err joins.Halted) (λ k. meters.join (identity network x key) k address kept.clock)) kept.nodes c.in_ok-number.number asked out nodes)) f.key did in
+    let by_key : Did (acts x (Err joins.Halted) (λ k. meters.join (identity network x psk) k address kept.clock)) kept.nodes c.in_ok-number.number asked out
+    nodes =
+    subst (λ (o : Option Key). IfSome o (λ key. Did (acts x (Err joins.Halted) (λ k. meters.join (identity network x key) k address kept.clock)) kept.nodes
+    c.in_ok-number.number asked out nodes)) f.key did in
     taking (addressed there address c.in-Some.ensures) (reserved kept w (λ it. join network it c.args.node c.args.agent) same
     (steps_as _ _ (joins_is f)
-    (node_acted true kept _ f.meter.there (λ y. acts y (Err joins.Halted) (λ k. meters.join (identity network y psk) k address kept.clock)) join_word asked out nodes _
+    (node_acted true kept _ f.meter.there (λ y. acts y (Err joins.Halted) (λ k. meters.join (identity network y psk) k address kept.clock)) join_word asked out
+    nodes _
     f.runs.bounds f.runs.room c.acted.ensures.frames c.acted.ensures.tags
-    (as_found f.meter.there (λ (y : Node). Did (acts y (Err joins.Halted) (λ k. meters.join (identity network y psk) k address kept.clock)) kept.nodes c.in_ok-number.number asked out nodes) by_key)
+    (as_found f.meter.there (λ (y : Node). Did (acts y (Err joins.Halted) (λ k. meters.join (identity network y psk) k address kept.clock)) kept.nodes
+    c.in_ok-number.number asked out nodes) by_key)
     (told_with kept _ _ _ _ c.acted.ensures.told c.join_word.ensures) c.acted.ensures.world)))

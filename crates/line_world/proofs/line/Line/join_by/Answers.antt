@@ -16,6 +16,7 @@ returns c =
     let new = world_of acted.new.self in
     by_key w.nodes node (λ x psk. Steps true w (Ok (with_agent acted.result c.agent_of-agent.result)) new (Ok (joins_in w node x psk a.address a.total)))
     (λ x psk at key.
-    joins_told w new node x psk a.address a.total c.join-asked.result c.join-asked.new.out c.join-asked.new.self c.agent_of-agent.result acted.result at key c.join-asked.ensures.did
+    joins_told w new node x psk a.address a.total c.join-asked.result c.join-asked.new.out c.join-asked.new.self c.agent_of-agent.result acted.result at key
+    c.join-asked.ensures.did
     c.requires.bounds c.requires.events acted.ensures.frames acted.ensures.tags c.agent_of-agent.ensures
     (told_with w _ _ _ _ acted.ensures.told c.choice_word.ensures) acted.ensures.world)

@@ -23,18 +23,22 @@ returns-in_err-reserve c =
     let w = world_of c.args.self.now in
     let p = err_from_is_err_and c.from_residual-in_err-reserve.result c.from_residual-in_err-reserve.ensures.1 in
     rw p.1 (unreserved w (world_of c.reserve.new.self) _ p.0 c.requires.bounds c.reserve.ensures.world
-    (about_taken w c.args.node c.in_ok-number.number c.requires.bounds c.requires.events c.in_ok-number.ensures (λ x e. by_coordinator network w e said.Kicked (λ m. coordinators.kick m x.eui)))
+    (about_taken w c.args.node c.in_ok-number.number c.requires.bounds c.requires.events c.in_ok-number.ensures
+    (λ x e. by_coordinator network w e said.Kicked (λ m. coordinators.kick m x.eui)))
     (ap (λ (f : StepFault). Err f) p.2 ∙ c.in_err-reserve.ensures.err))
 
 pub eui-eui-requires-clause-there : goal.eui-eui-requires-clause-there
 eui-eui-requires-clause-there c =
-    (about (world_of c.args.self.now) (world_of c.reserve.new.self) (world_of c.reserve.new.self) c.args.node c.in_ok-number.number c.reserve.ensures.world c.requires.bounds
+    (about (world_of c.args.self.now) (world_of c.reserve.new.self) (world_of c.reserve.new.self) c.args.node c.in_ok-number.number c.reserve.ensures.world
+    c.requires.bounds
     c.requires.events c.in_ok-number.ensures).there.within
 
 pub returns : goal.returns
 unfolding kick
 returns c =
-    has_ordered (world_of c.args.self.now) (world_of c.reserve.new.self) (world_of c.acted.new.self) c.args.node c.in_ok-number.number c.reserve.ensures.world c.requires.bounds
+    has_ordered (world_of c.args.self.now) (world_of c.reserve.new.self) (world_of c.acted.new.self) c.args.node c.in_ok-number.number c.reserve.ensures.world
+    c.requires.bounds
     c.requires.events c.in_ok-number.ensures (λ it. kick network it c.args.node) said.Kicked (λ x e k. coordinators.kick k e)
-    c.eui-eui.result c.kick-done.result c.kick-done.new.out c.kick-done.new.self c.ordered_word.result c.acted.result refl c.eui-eui.ensures c.kick-done.ensures c.acted.ensures.frames
+    c.eui-eui.result c.kick-done.result c.kick-done.new.out c.kick-done.new.self c.ordered_word.result c.acted.result refl c.eui-eui.ensures c.kick-done.ensures
+    c.acted.ensures.frames
     c.acted.ensures.tags c.ordered_word.ensures c.acted.ensures.told c.acted.ensures.world

@@ -19,11 +19,13 @@ returns-then-not-takes_setup c = refused faults.Setup refl _ _ _ c.requires.boun
 pub returns-in_err-number : goal.returns-in_err-number
 returns-in_err-number c =
     let p = err_from_is_err_and c.from_residual.result c.from_residual.ensures.1 in
-    rw p.1 (no_such_node (world_of c.args.self.now) c.args.node _ p.0 c.requires.bounds c.if-not-takes_setup.ensures (ap (λ (f : StepFault). Err f) p.2 ∙ c.in_err-number.ensures))
+    rw p.1 (no_such_node (world_of c.args.self.now) c.args.node _ p.0 c.requires.bounds c.if-not-takes_setup.ensures
+    (ap (λ (f : StepFault). Err f) p.2 ∙ c.in_err-number.ensures))
 
 pub returns : goal.returns
 returns c =
     let w = world_of c.args.self.now in
     let there = is_there w c.args.node c.in_ok-number.number c.in_ok-number.ensures in
     value_set w _ there (λ x. acts x (Ok tt) (λ m. of_station m (calls.preset_number m.station c.args.value))) _ _ _ c.requires.bounds c.requires.events
-    c.if-not-takes_setup.ensures (λ x u. stays_uncut x _ _ u) c.preset_number.ensures (c.happened.ensures ∙ ap (λ (l : Line). happened (world_of l) said.Set) c.set_up.ensures) (ap world_of c.set_up.ensures)
+    c.if-not-takes_setup.ensures (λ x u. stays_uncut x _ _ u) c.preset_number.ensures
+    (c.happened.ensures ∙ ap (λ (l : Line). happened (world_of l) said.Set) c.set_up.ensures) (ap world_of c.set_up.ensures)

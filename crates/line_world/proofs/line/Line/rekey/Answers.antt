@@ -22,5 +22,6 @@ returns c =
     let w = world_of c.args.self.now in
     let r : Runs w = record { begun = c.if-not-has_begun.ensures; bounds = c.requires.bounds; room = c.requires.events } in
     steps_as _ _ (by_first r _)
-    (node_answered false w _ (first_there w r.begun) (λ x. acts x (Err orders.Halted) (λ m. coordinators.rekey m c.args.index c.args.key.now)) (ordered_word said.Drawn) _ _ _
+    (node_answered false w _ (first_there w r.begun) (λ x. acts x (Err orders.Halted) (λ m. coordinators.rekey m c.args.index c.args.key.now))
+    (ordered_word said.Drawn) _ _ _
     r.bounds r.room c.rekey-done.ensures (c.answered.ensures.told ∙ ap (λ a. happened w a) c.ordered_word.ensures) (ap world_of c.answered.ensures.line))

@@ -36,12 +36,18 @@ unreachable-requires c =
 
 pub restart_beside-requires : goal.restart_beside-requires
 restart_beside-requires c =
-    record { there = subst (λ (n : ℕ). c.in_ok-number.number < n) (sym c.requires.beside) (is_there (world_of c.args.self.now) c.args.node c.in_ok-number.number c.in_ok-number.ensures).within }
+    record {
+      there = subst (λ (n : ℕ). c.in_ok-number.number < n) (sym c.requires.beside)
+          (is_there (world_of c.args.self.now) c.args.node c.in_ok-number.number c.in_ok-number.ensures).within;
+    }
 
 pub restart-answer-requires : goal.restart-answer-requires
 restart-answer-requires c =
     let there = is_there (world_of c.args.self.now) c.args.node c.in_ok-number.number c.in_ok-number.ensures in
-    record { there = subst (λ (v : World). c.in_ok-number.number < length v.nodes) (sym c.restart_beside.ensures) (subst (λ (ns : List Node). c.in_ok-number.number < length ns) (sym c.open_log.ensures.same) there.within) }
+    record {
+      there = subst (λ (v : World). c.in_ok-number.number < length v.nodes) (sym c.restart_beside.ensures)
+          (subst (λ (ns : List Node). c.in_ok-number.number < length ns) (sym c.open_log.ensures.same) there.within);
+    }
 
 pub returns : goal.returns
 unfolding restarts_further
@@ -51,12 +57,15 @@ returns c =
     let b : Beside = record { checks = nobody; log = c.in-Ok.log; scan = ended } in
     let bs : List Beside = slice_set w.beside c.args.node b in
     let nodes = c.restart-answer.new.self in
-    let held = c.restart_beside.ensures ∙ ap (λ (ns : List Node). record w { nodes = ns; beside = slice_set w.beside c.in_ok-number.number b }) c.open_log.ensures.same in
-    let did = subst (λ (v : World). IfSome (slice_get v.nodes c.in_ok-number.number) (λ (x : Node). Did (restarts x) v.nodes c.in_ok-number.number c.restart-answer.result nothing nodes)) held c.restart-answer.ensures in
+    let held = c.restart_beside.ensures
+    ∙ ap (λ (ns : List Node). record w { nodes = ns; beside = slice_set w.beside c.in_ok-number.number b }) c.open_log.ensures.same in
+    let did = subst (λ (v : World). IfSome (slice_get v.nodes c.in_ok-number.number)
+    (λ (x : Node). Did (restarts x) v.nodes c.in_ok-number.number c.restart-answer.result nothing nodes)) held c.restart-answer.ensures in
     let told = c.answered.ensures.told ∙ ap (λ (v : World). happened (record v { nodes = nodes }) c.restart-answer.result) held in
     let left : World = record (record (ran w) { nodes = nodes }) { beside = bs } in
     let new : world_of c.answered.new.self ≡ left =
-    ap world_of c.answered.ensures.line ∙ ap (λ (v : World). ran (record v { nodes = nodes })) held ∙ (λ i. record (record (ran w) { nodes = nodes }) { beside = slice_set w.beside (there.same i) b }) in
+    ap world_of c.answered.ensures.line ∙ ap (λ (v : World). ran (record v { nodes = nodes })) held
+    ∙ (λ i. record (record (ran w) { nodes = nodes }) { beside = slice_set w.beside (there.same i) b }) in
     subst (λ (v : World). Steps false w (Ok c.answered.result) v (restarts_further network w c.args.node)) (sym new)
     (steps_as _ _ (begun w _ (has_coordinator w c.args.node c.in_ok-number.number c.in_ok-number.ensures) ∙ at_node w c.args.node there.node _ there.at
     ∙ ap (λ (r : World × Trace). Ok r) (restart_is there c.requires.logs c.open_log.result c.open_log.ensures.value c.in-Ok.log c.in-Ok.is))

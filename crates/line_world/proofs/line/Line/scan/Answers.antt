@@ -34,12 +34,16 @@ returns-in_err-reserve c =
     let p = err_from_is_err_and c.from_residual-in_err-reserve.result c.from_residual-in_err-reserve.ensures.1 in
     let number = c.in_ok-number.number in
     let r : Runs w = record { begun = meter_begun w c.args.node number c.in_ok-number.ensures; bounds = c.requires.bounds; room = c.requires.events } in
-    rw p.1 (unreserved w (world_of c.reserve.new.self) _ p.0 c.requires.bounds c.reserve.ensures.world (ap is_ok (scan_at r (is_meter w c.args.node number c.in_ok-number.ensures)))
+    rw p.1 (unreserved w (world_of c.reserve.new.self) _ p.0 c.requires.bounds c.reserve.ensures.world
+    (ap is_ok (scan_at r (is_meter w c.args.node number c.in_ok-number.ensures)))
     (ap (λ (f : StepFault). Err f) p.2 ∙ c.in_err-reserve.ensures.err))
 
 pub halted-requires : goal.halted-requires
 halted-requires c =
-    record { there = subst (λ (it : World). c.in_ok-number.number < length it.nodes) (sym c.reserve.ensures.world) (is_meter (world_of c.args.self.now) c.args.node c.in_ok-number.number c.in_ok-number.ensures).there.within }
+    record {
+      there = subst (λ (it : World). c.in_ok-number.number < length it.nodes) (sym c.reserve.ensures.world)
+          (is_meter (world_of c.args.self.now) c.args.node c.in_ok-number.number c.in_ok-number.ensures).there.within;
+    }
 
 pub returns-then-halted : goal.returns-then-halted
 returns-then-halted c =
@@ -47,18 +51,22 @@ returns-then-halted c =
     let kept = world_of c.reserve.new.self in
     let same : kept ≡ w = c.reserve.ensures.world in
     let number = c.in_ok-number.number in
-    let m : IsMeter kept c.args.node number = subst (λ (it : World). IsMeter it c.args.node number) (sym same) (is_meter w c.args.node number c.in_ok-number.ensures) in
-    let r : Runs kept = still_runs same (record { begun = meter_begun w c.args.node number c.in_ok-number.ensures; bounds = c.requires.bounds; room = c.requires.events }) in
+    let m : IsMeter kept c.args.node number = subst (λ (it : World). IsMeter it c.args.node number) (sym same)
+    (is_meter w c.args.node number c.in_ok-number.ensures) in
+    let r : Runs kept = still_runs same
+    (record { begun = meter_begun w c.args.node number c.in_ok-number.ensures; bounds = c.requires.bounds; room = c.requires.events }) in
     let none = none_in m.there.node.memory (of_found m.there (λ (x : Node). true ≡ not (is_some x.memory)) c.if-halted.ensures.value) in
     reserved kept w (λ it. scan it c.args.node) same
     (steps_as _ _ (scan_at r m ∙ ap (λ (o : Option Memory). Ok (scans_by kept c.args.node o)) none)
-    (only_said true kept _ said.Halted _ r.bounds r.room c.answered.ensures.told (ap world_of c.answered.ensures.line ∙ (λ i. record (ran kept) { nodes = c.if-halted.ensures.same i }))))
+    (only_said true kept _ said.Halted _ r.bounds r.room c.answered.ensures.told
+    (ap world_of c.answered.ensures.line ∙ (λ i. record (ran kept) { nodes = c.if-halted.ensures.same i }))))
 
 pub address-requires : goal.address-requires
 address-requires c =
     record {
       there = subst (λ (ns : List Node). c.in_ok-number.number < length ns) (sym c.if-halted.ensures.same)
-          (subst (λ (it : World). c.in_ok-number.number < length it.nodes) (sym c.reserve.ensures.world) (is_meter (world_of c.args.self.now) c.args.node c.in_ok-number.number c.in_ok-number.ensures).there.within);
+          (subst (λ (it : World). c.in_ok-number.number < length it.nodes) (sym c.reserve.ensures.world)
+          (is_meter (world_of c.args.self.now) c.args.node c.in_ok-number.number c.in_ok-number.ensures).there.within);
     }
 
 pub returns-then-is_some : goal.returns-then-is_some
@@ -67,21 +75,27 @@ returns-then-is_some c =
     let kept = world_of c.reserve.new.self in
     let same : kept ≡ w = c.reserve.ensures.world in
     let number = c.in_ok-number.number in
-    let m : IsMeter kept c.args.node number = subst (λ (it : World). IsMeter it c.args.node number) (sym same) (is_meter w c.args.node number c.in_ok-number.ensures) in
-    let r : Runs kept = still_runs same (record { begun = meter_begun w c.args.node number c.in_ok-number.ensures; bounds = c.requires.bounds; room = c.requires.events }) in
+    let m : IsMeter kept c.args.node number = subst (λ (it : World). IsMeter it c.args.node number) (sym same)
+    (is_meter w c.args.node number c.in_ok-number.ensures) in
+    let r : Runs kept = still_runs same
+    (record { begun = meter_begun w c.args.node number c.in_ok-number.ensures; bounds = c.requires.bounds; room = c.requires.events }) in
     let k = memory_in m.there.node.memory (of_found m.there (λ (x : Node). false ≡ not (is_some x.memory)) c.if-halted.ensures.value) in
     let at = address_in m.there.node k.0 c.address.result k.1
-    (of_found m.there (λ (x : Node). c.address.result ≡ node_address x) (subst (λ (ns : List Node). IfSome (slice_get ns number) (λ x. c.address.result ≡ node_address x)) c.if-halted.ensures.same c.address.ensures)) in
+    (of_found m.there (λ (x : Node). c.address.result ≡ node_address x)
+    (subst (λ (ns : List Node). IfSome (slice_get ns number) (λ x. c.address.result ≡ node_address x)) c.if-halted.ensures.same c.address.ensures)) in
     let joined = joined_in k.0 c.address.result at ∙ sym c.if-is_some.ensures in
     reserved kept w (λ it. scan it c.args.node) same
     (steps_as _ _ (scan_at r m ∙ ap (λ (o : Option Memory). Ok (scans_by kept c.args.node o)) k.1)
-    (discovery_stays kept _ c.args.node scan_word (scanning c.args.node) (begin_scan k.0 (beside_at kept c.args.node).scan) _ r.bounds r.room (Err scan_faults.AlreadyJoined)
-    (scan_joined k.0 (beside_at kept c.args.node).scan joined) c.answered-then-is_some.ensures.told (ap world_of c.answered-then-is_some.ensures.line ∙ (λ i. record (ran kept) { nodes = c.if-halted.ensures.same i }))))
+    (discovery_stays kept _ c.args.node scan_word (scanning c.args.node) (begin_scan k.0 (beside_at kept c.args.node).scan) _ r.bounds r.room
+    (Err scan_faults.AlreadyJoined)
+    (scan_joined k.0 (beside_at kept c.args.node).scan joined) c.answered-then-is_some.ensures.told
+    (ap world_of c.answered-then-is_some.ensures.line ∙ (λ i. record (ran kept) { nodes = c.if-halted.ensures.same i }))))
 
 pub discovery_flies-requires-clause-there : goal.discovery_flies-requires-clause-there
 discovery_flies-requires-clause-there c =
     subst (λ (ns : List Node). c.in_ok-number.number < length ns) (sym c.if-halted.ensures.same)
-    (subst (λ (it : World). c.in_ok-number.number < length it.nodes) (sym c.reserve.ensures.world) (is_meter (world_of c.args.self.now) c.args.node c.in_ok-number.number c.in_ok-number.ensures).there.within)
+    (subst (λ (it : World). c.in_ok-number.number < length it.nodes) (sym c.reserve.ensures.world)
+    (is_meter (world_of c.args.self.now) c.args.node c.in_ok-number.number c.in_ok-number.ensures).there.within)
 
 pub returns : goal.returns
 returns c =
@@ -91,13 +105,16 @@ returns c =
     let number = c.in_ok-number.number in
     let node = c.args.node in
     let m : IsMeter kept node number = subst (λ (it : World). IsMeter it node number) (sym same) (is_meter w node number c.in_ok-number.ensures) in
-    let r : Runs kept = still_runs same (record { begun = meter_begun w node number c.in_ok-number.ensures; bounds = c.requires.bounds; room = c.requires.events }) in
+    let r : Runs kept = still_runs same
+    (record { begun = meter_begun w node number c.in_ok-number.ensures; bounds = c.requires.bounds; room = c.requires.events }) in
     let k = memory_in m.there.node.memory (of_found m.there (λ (x : Node). false ≡ not (is_some x.memory)) c.if-halted.ensures.value) in
     let at = address_in m.there.node k.0 c.address.result k.1
-    (of_found m.there (λ (x : Node). c.address.result ≡ node_address x) (subst (λ (ns : List Node). IfSome (slice_get ns number) (λ x. c.address.result ≡ node_address x)) c.if-halted.ensures.same c.address.ensures)) in
+    (of_found m.there (λ (x : Node). c.address.result ≡ node_address x)
+    (subst (λ (ns : List Node). IfSome (slice_get ns number) (λ x. c.address.result ≡ node_address x)) c.if-halted.ensures.same c.address.ensures)) in
     let apart = joined_in k.0 c.address.result at ∙ sym c.if-is_some.ensures in
     let within : number < length kept.beside =
-    subst (λ (it : World). number < length it.beside) (sym same) (subst (λ (n : ℕ). number < n) (sym c.requires.beside) (is_meter w node number c.in_ok-number.ensures).there.within) in
+    subst (λ (it : World). number < length it.beside) (sym same)
+    (subst (λ (n : ℕ). number < n) (sym c.requires.beside) (is_meter w node number c.in_ok-number.ensures).there.within) in
     let b = c.behind-self.inside in
     let held : record { checks = b.checks; log = b.log; scan = b.scan } ≡ beside_at kept number =
     c.behind-self.view_is ∙ beside_found kept.beside number c.index_mut.result.now within c.index_mut.ensures.value in

@@ -10,7 +10,8 @@ use Rattle.line_world.proofs.line.Line.step.Goals as goal
 pub returns-in-Counter-clause-steps : goal.returns-in-Counter-clause-steps
 returns-in-Counter-clause-steps c =
     let w = world_of c.args.self.now in
-    subst (λ (e : Event). Steps (takes_memory w e) w c.counter.result (world_of c.counter.new.self) (line_step network w e)) (sym c.in-Counter.is) c.counter.ensures
+    subst (λ (e : Event). Steps (takes_memory w e) w c.counter.result (world_of c.counter.new.self) (line_step network w e)) (sym c.in-Counter.is)
+    c.counter.ensures
 
 pub returns-in-Number-clause-steps : goal.returns-in-Number-clause-steps
 returns-in-Number-clause-steps c =

@@ -39,4 +39,5 @@ returns c =
     (is_taken_so false w _ (Ok (left, trace)) trace _ (λ i. Ok (sym new i, trace)) told
     (subst IsBounded (sym new)
     (bounded_beside set (map (tick_beside clock) w.beside)
-    (bounded_by w clock (map (ticked clock) w.nodes) w.flights c.requires.bounds c.requires.events (omega (arith, c.ranges.seconds)) (many_given (ticked clock) w.nodes) refl))))
+    (bounded_by w clock (map (ticked clock) w.nodes) w.flights c.requires.bounds c.requires.events (omega (arith, c.ranges.seconds))
+    (many_given (ticked clock) w.nodes) refl))))

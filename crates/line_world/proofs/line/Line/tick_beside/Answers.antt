@@ -16,9 +16,11 @@ loop-place-preserved c =
     let place = c.loop-place.place in
     let left : List Beside = slice_set old place c.tick.new.self in
     let within : place < length old = omega (arith, c.loop-place-test.true, c.loop-place.invariant.long, c.loop-place.invariant.end) in
-    let one : IfSome (Some c.index_mut.result.now) (λ (x : Beside). left ≡ slice_set old place (f x)) = ap (λ (x : Beside). slice_set old place x) c.tick.ensures in
+    let one : IfSome (Some c.index_mut.result.now) (λ (x : Beside). left ≡ slice_set old place (f x)) = ap (λ (x : Beside). slice_set old place x)
+    c.tick.ensures in
     let next = up_to_next f first old left place c.loop-place.invariant.beside within
-    (subst (λ (o : Option Beside). IfSome o (λ (x : Beside). left ≡ slice_set old place (f x))) (sym (slice_get_read old (length old) place c.index_mut.result.now refl within c.index_mut.ensures.value)) one) in
+    (subst (λ (o : Option Beside). IfSome o (λ (x : Beside). left ≡ slice_set old place (f x)))
+    (sym (slice_get_read old (length old) place c.index_mut.result.now refl within c.index_mut.ensures.value)) one) in
     record {
       world = ap (λ (v : World). record v { beside = left }) c.loop-place.invariant.world;
       beside = next;

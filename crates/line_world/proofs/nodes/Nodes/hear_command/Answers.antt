@@ -6,5 +6,7 @@ use Rattle.line_world.proofs.nodes.Nodes.hear_command.Goals as goal
 
 pub returns-then-number-gt0 : goal.returns-then-number-gt0
 returns-then-number-gt0 c =
-    commanded_on c.self.inside.meters c.hear_command.new.self c.args.beside.now c.hear_command.new.beside (command_of c.args.command.now) c.hear_command.result c.args.out.now c.hear_command.new.out
-    c.self.inside.coordinator _ (c.args.number - 1) c.args.number c.self.view_is c.requires.there (omega (arith, c.if-number-gt0.true)) c.hear_command.ensures.tells c.hear_command.ensures.reached
+    commanded_on c.self.inside.meters c.hear_command.new.self c.args.beside.now c.hear_command.new.beside (command_of c.args.command.now) c.hear_command.result
+    c.args.out.now c.hear_command.new.out
+    c.self.inside.coordinator _ (c.args.number - 1) c.args.number c.self.view_is c.requires.there (omega (arith, c.if-number-gt0.true))
+    c.hear_command.ensures.tells c.hear_command.ensures.reached

@@ -10,13 +10,15 @@ pub returns-clause-tables : goal.returns-clause-tables
 returns-clause-tables c =
     let n = c.self.inside in
     subst (λ (ns : List Node). All IsShort ns) c.self.view_is
-    (nodes_are IsShort n.coordinator n.meters (subst (λ (o : Option Node). IfSome o IsShort) (sym c.in-Some.is) c.short_tables-2.ensures.tables) c.short_tables.ensures.tables)
+    (nodes_are IsShort n.coordinator n.meters (subst (λ (o : Option Node). IfSome o IsShort) (sym c.in-Some.is) c.short_tables-2.ensures.tables)
+    c.short_tables.ensures.tables)
 
 pub returns-clause-counters : goal.returns-clause-counters
 returns-clause-counters c =
     let n = c.self.inside in
     subst (λ (ns : List Node). All IsBelow ns) c.self.view_is
-    (nodes_are IsBelow n.coordinator n.meters (subst (λ (o : Option Node). IfSome o IsBelow) (sym c.in-Some.is) c.short_tables-2.ensures.counter) c.short_tables.ensures.counters)
+    (nodes_are IsBelow n.coordinator n.meters (subst (λ (o : Option Node). IfSome o IsBelow) (sym c.in-Some.is) c.short_tables-2.ensures.counter)
+    c.short_tables.ensures.counters)
 
 pub returns-in_default-clause-tables : goal.returns-in_default-clause-tables
 returns-in_default-clause-tables c =

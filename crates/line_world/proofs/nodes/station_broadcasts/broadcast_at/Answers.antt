@@ -10,7 +10,8 @@ use Rattle.line_world.proofs.nodes.station_broadcasts.broadcast_at.Goals as goal
 
 pub returns-then-halted-clause-reaches : goal.returns-then-halted-clause-reaches
 returns-then-halted-clause-reaches c =
-    rw c.clear.ensures (first_stayed c.args.station.now c.args.beside.now (Err refusals.Halted) (λ y. broadcast alone y c.args.datagram.now) c.if-halted.ensures)
+    rw c.clear.ensures (first_stayed c.args.station.now c.args.beside.now (Err refusals.Halted) (λ y. broadcast alone y c.args.datagram.now)
+    c.if-halted.ensures)
 
 pub returns-in_default-clause-reaches : goal.returns-in_default-clause-reaches
 returns-in_default-clause-reaches c =
@@ -37,5 +38,7 @@ returns-clause-reaches c =
     let s = c.args.station.now in
     let h = held_by s.memory c.if-halted.ensures in
     let own = own_of h.0 c.ring.result.now (Some c.in-Some.own) (at_some s.memory (λ l. c.ring.result.now ≡ l.ring) h.0 h.1 c.ring.ensures) c.in-Some.ensures in
-    same_first s c.broadcast_from.new.station c.args.beside.now c.broadcast_from.new.beside (Err refusals.Halted) c.broadcast_from.result (λ y. broadcast_from alone y c.in-Some.own c.args.datagram.now)
-    (λ y. broadcast alone y c.args.datagram.now) h.0 h.1 (joined_so h.0 c.args.beside.now c.in-Some.own c.args.datagram.now own) c.broadcast_from.new.out c.broadcast_from.ensures.reaches
+    same_first s c.broadcast_from.new.station c.args.beside.now c.broadcast_from.new.beside (Err refusals.Halted) c.broadcast_from.result
+    (λ y. broadcast_from alone y c.in-Some.own c.args.datagram.now)
+    (λ y. broadcast alone y c.args.datagram.now) h.0 h.1 (joined_so h.0 c.args.beside.now c.in-Some.own c.args.datagram.now own) c.broadcast_from.new.out
+    c.broadcast_from.ensures.reaches

@@ -15,7 +15,8 @@ returns-then-not-command-clause-reaches c =
     let s = c.args.station.now in
     let b = c.args.beside.now in
     let h = held_by s.memory c.requires.running in
-    rw c.only.ensures (dropped_command s b (λ y. hear_broadcast alone y c.args.own c.args.command.now.to_all c.args.command.now.body) c.args.number h.0 c.args.out.now h.1
+    rw c.only.ensures (dropped_command s b (λ y. hear_broadcast alone y c.args.own c.args.command.now.to_all c.args.command.now.body) c.args.number h.0
+    c.args.out.now h.1
     (to_one h.0 b c.args.own c.args.command.now.to_all c.args.command.now.body c.if-not-command.true))
 
 pub returns-in_default-clause-reaches : goal.returns-in_default-clause-reaches
@@ -23,8 +24,10 @@ returns-in_default-clause-reaches c =
     let s = c.args.station.now in
     let b = c.args.beside.now in
     let h = held_by s.memory c.requires.running in
-    rw c.only-in_default.ensures (dropped_command s b (λ y. hear_broadcast alone y c.args.own c.args.command.now.to_all c.args.command.now.body) c.args.number h.0 c.args.out.now h.1
-    (no_broadcast h.0 b c.args.own c.args.command.now.to_all c.args.command.now.body c.if-not-command.false (ap broadcast_in (sym c.octets.ensures) ∙ sym c.in_default.ensures.value)))
+    rw c.only-in_default.ensures (dropped_command s b (λ y. hear_broadcast alone y c.args.own c.args.command.now.to_all c.args.command.now.body) c.args.number
+    h.0 c.args.out.now h.1
+    (no_broadcast h.0 b c.args.own c.args.command.now.to_all c.args.command.now.body c.if-not-command.false
+    (ap broadcast_in (sym c.octets.ensures) ∙ sym c.in_default.ensures.value)))
 
 pub returns-clause-reaches : goal.returns-clause-reaches
 returns-clause-reaches c =
@@ -35,7 +38,10 @@ returns-clause-reaches c =
     record {
       answer = handed_up y c.hear_broadcast-heard.result;
       tells = c.broadcast_told.ensures;
-      reaches = same_after s c.hear_broadcast-heard.new.station b c.hear_broadcast-heard.new.beside (Err (Known drops.Store)) (handed_up y c.hear_broadcast-heard.result) (λ x. hear_broadcast_in alone x c.args.own (Some y))
+      reaches = same_after s c.hear_broadcast-heard.new.station b c.hear_broadcast-heard.new.beside (Err (Known drops.Store))
+          (handed_up y c.hear_broadcast-heard.result) (λ x. hear_broadcast_in alone x c.args.own (Some y))
           (λ x. hear_broadcast alone x c.args.own c.args.command.now.to_all c.args.command.now.body) h.0 h.1
-          (is_broadcast h.0 b c.args.own c.args.command.now.to_all c.args.command.now.body y c.if-not-command.false (ap broadcast_in (sym c.octets.ensures) ∙ sym c.in-Some.ensures.value)) c.args.out.now c.hear_broadcast-heard.new.out c.hear_broadcast-heard.ensures.reaches;
+          (is_broadcast h.0 b c.args.own c.args.command.now.to_all c.args.command.now.body y c.if-not-command.false
+          (ap broadcast_in (sym c.octets.ensures) ∙ sym c.in-Some.ensures.value)) c.args.out.now c.hear_broadcast-heard.new.out
+          c.hear_broadcast-heard.ensures.reaches;
     }

@@ -12,21 +12,24 @@ use Rattle.reach_rules.specs.declared.refusal.BroadcastRefusal.{BroadcastRefusal
 use Rattle.reach_rules.specs.declared.refusal.BroadcastRefusal.TheVariants as refusals
 use Rattle.reach_rules.specs.Broadcasts.{broadcast_ends, broadcast_from, own_broadcast}
 use Rattle.line_world.specs.Reaching.{ReachesFirst}
-use Rattle.line_world.proofs.BroadcastPlans.{OnlyPut, refused_first, refuses_size, refuses_spent, refuses_uncounted, own_goes, spent_number, left_number, spent_at, left_at, first_recorded, first_unrecorded, sent_as, still_held, own_told, log_left, log_lost}
+use Rattle.line_world.proofs.BroadcastPlans.{OnlyPut, refused_first, refuses_size, refuses_spent, refuses_uncounted, own_goes, spent_number, left_number}
+use Rattle.line_world.proofs.BroadcastPlans.{spent_at, left_at, first_recorded, first_unrecorded, sent_as, still_held, own_told, log_left, log_lost}
 use Rattle.line_world.proofs.nodes.station_broadcasts.broadcast_from.Goals as goal
 
 pub returns-then-is_bad_size-clause-reaches : goal.returns-then-is_bad_size-clause-reaches
 returns-then-is_bad_size-clause-reaches c =
     let b = c.args.beside.now in
     let h = held_by c.args.station.now.memory c.requires.running in
-    refused_first broadcast_ends c.args.station.now b (Err refusals.Halted) (λ y. broadcast_from alone y c.args.own c.args.datagram.now) h.0 h.1 refusals.BadSize
+    refused_first broadcast_ends c.args.station.now b (Err refusals.Halted) (λ y. broadcast_from alone y c.args.own c.args.datagram.now) h.0 h.1
+    refusals.BadSize
     (refuses_size h.0 b c.args.own c.args.datagram.now (sym c.if-is_bad_size.ensures)) c.args.out.now c.requires.empty
 
 pub returns-then-number_left-eq0-clause-reaches : goal.returns-then-number_left-eq0-clause-reaches
 returns-then-number_left-eq0-clause-reaches c =
     let b : Beside = record { checks = c.beside.inside.checks; log = c.beside.inside.log; scan = c.beside.inside.scan } in
     let h = held_by c.args.station.now.memory c.requires.running in
-    rw (← c.beside.view_is) (refused_first broadcast_ends c.args.station.now b (Err refusals.Halted) (λ y. broadcast_from alone y c.args.own c.args.datagram.now) h.0 h.1 refusals.NumberSpent
+    rw (← c.beside.view_is) (refused_first broadcast_ends c.args.station.now b (Err refusals.Halted)
+    (λ y. broadcast_from alone y c.args.own c.args.datagram.now) h.0 h.1 refusals.NumberSpent
     (refuses_spent h.0 b c.args.own c.args.datagram.now (sym c.if-is_bad_size.ensures)
     (spent_number b.log.numbering c.number_left.result c.number_left.ensures c.if-number_left-eq0.true)) c.args.out.now c.requires.empty)
 
@@ -34,10 +37,12 @@ pub returns-then-counters_left-eq0-clause-reaches : goal.returns-then-counters_l
 returns-then-counters_left-eq0-clause-reaches c =
     let b : Beside = record { checks = c.beside.inside.checks; log = c.beside.inside.log; scan = c.beside.inside.scan } in
     let h = held_by c.args.station.now.memory c.requires.running in
-    rw (← c.beside.view_is) (refused_first broadcast_ends c.args.station.now b (Err refusals.Halted) (λ y. broadcast_from alone y c.args.own c.args.datagram.now) h.0 h.1 refusals.CounterSpent
+    rw (← c.beside.view_is) (refused_first broadcast_ends c.args.station.now b (Err refusals.Halted)
+    (λ y. broadcast_from alone y c.args.own c.args.datagram.now) h.0 h.1 refusals.CounterSpent
     (refuses_uncounted h.0 b c.args.own c.args.datagram.now (sym c.if-is_bad_size.ensures)
     (left_number b.log.numbering c.number_left.result c.number_left.ensures c.if-number_left-eq0.false)
-    (spent_at h.0 c.counters_left.result (at_some c.args.station.now.memory (λ l. c.counters_left.result + l.counter.next ≡ 4294967295) h.0 h.1 c.counters_left.ensures) c.if-counters_left-eq0.true))
+    (spent_at h.0 c.counters_left.result (at_some c.args.station.now.memory (λ l. c.counters_left.result + l.counter.next ≡ 4294967295) h.0 h.1
+    c.counters_left.ensures) c.if-counters_left-eq0.true))
     c.args.out.now c.requires.empty)
 
 pub returns-in_default-clause-reaches : goal.returns-in_default-clause-reaches
@@ -47,11 +52,15 @@ returns-in_default-clause-reaches c =
     let h = held_by s.memory c.requires.running in
     let goes = own_goes h.0 b c.args.own c.args.datagram.now (sym c.if-is_bad_size.ensures)
     (left_number b.log.numbering c.number_left.result c.number_left.ensures c.if-number_left-eq0.false)
-    (left_at h.0 c.counters_left.result (at_some s.memory (λ l. c.counters_left.result + l.counter.next ≡ 4294967295) h.0 h.1 c.counters_left.ensures) c.if-counters_left-eq0.false) in
-    let put : OnlyPut s (number_put b.log.numbering) false c.take_number.new.station = record { stores = c.in_default.ensures.stores; state = c.in_default.ensures.station } in
-    rw (← c.beside.view_is) (subst (λ (x : Beside). ReachesFirst s b (Err refusals.Halted) (λ y. broadcast_from alone y c.args.own c.args.datagram.now) (Err refusals.Store) c.clear.new.self c.take_number.new.station x)
+    (left_at h.0 c.counters_left.result (at_some s.memory (λ l. c.counters_left.result + l.counter.next ≡ 4294967295) h.0 h.1 c.counters_left.ensures)
+    c.if-counters_left-eq0.false) in
+    let put : OnlyPut s (number_put b.log.numbering) false
+    c.take_number.new.station = record { stores = c.in_default.ensures.stores; state = c.in_default.ensures.station } in
+    rw (← c.beside.view_is) (subst (λ (x : Beside). ReachesFirst s b (Err refusals.Halted) (λ y. broadcast_from alone y c.args.own c.args.datagram.now)
+    (Err refusals.Store) c.clear.new.self c.take_number.new.station x)
     (sym (log_lost b c.take_number.new.log c.in_default.ensures.log))
-    (first_unrecorded broadcast_ends s b (Err refusals.Halted) (λ y. broadcast_from alone y c.args.own c.args.datagram.now) h.0 h.1 (number_put b.log.numbering) (numbered_log b.log) tt 4 None
+    (first_unrecorded broadcast_ends s b (Err refusals.Halted) (λ y. broadcast_from alone y c.args.own c.args.datagram.now) h.0 h.1 (number_put b.log.numbering)
+    (numbered_log b.log) tt 4 None
     (spelling (own_broadcast c.args.own b.log c.args.datagram.now)) goes c.clear.new.self c.take_number.new.station c.clear.ensures put))
 
 pub returns-clause-reaches : goal.returns-clause-reaches
@@ -62,13 +71,19 @@ returns-clause-reaches c =
     let h = held_by s.memory c.requires.running in
     let goes = own_goes h.0 b c.args.own c.args.datagram.now (sym c.if-is_bad_size.ensures)
     (left_number b.log.numbering c.number_left.result c.number_left.ensures c.if-number_left-eq0.false)
-    (left_at h.0 c.counters_left.result (at_some s.memory (λ l. c.counters_left.result + l.counter.next ≡ 4294967295) h.0 h.1 c.counters_left.ensures) c.if-counters_left-eq0.false) in
+    (left_at h.0 c.counters_left.result (at_some s.memory (λ l. c.counters_left.result + l.counter.next ≡ 4294967295) h.0 h.1 c.counters_left.ensures)
+    c.if-counters_left-eq0.false) in
     let put : OnlyPut s (number_put b.log.numbering) true m = record { stores = c.in-Some.ensures.stores; state = c.in-Some.ensures.station } in
     let body : List ℕ = spelling (own_broadcast c.args.own b.log c.args.datagram.now) in
-    let same = c.octets.ensures.value ∙ c.write_broadcast.ensures ∙ ap (λ (n : ℕ). spelling (record { hops = 14; origin = c.args.own; number = n; octets = c.args.datagram.now })) c.in-Some.ensures.number in
-    rw (← c.beside.view_is) (subst (λ (r : Result (Unit {0}) BroadcastRefusal). ReachesFirst s b (Err refusals.Halted) (λ y. broadcast_from alone y c.args.own c.args.datagram.now) r c.tell-sent.new.out c.tell-sent.new.station (record b { log = c.tell-sent.new.log }))
+    let same = c.octets.ensures.value ∙ c.write_broadcast.ensures
+    ∙ ap (λ (n : ℕ). spelling (record { hops = 14; origin = c.args.own; number = n; octets = c.args.datagram.now })) c.in-Some.ensures.number in
+    rw (← c.beside.view_is) (subst (λ (r : Result (Unit {0}) BroadcastRefusal). ReachesFirst s b (Err refusals.Halted)
+    (λ y. broadcast_from alone y c.args.own c.args.datagram.now) r c.tell-sent.new.out c.tell-sent.new.station (record b { log = c.tell-sent.new.log }))
     (own_told c.tell-sent.result ∙ sym c.broadcast_sent.ensures)
-    (first_recorded broadcast_ends s b (Err refusals.Halted) (λ y. broadcast_from alone y c.args.own c.args.datagram.now) h.0 h.1 (number_put b.log.numbering) (numbered_log b.log) tt 4 None body goes
+    (first_recorded broadcast_ends s b (Err refusals.Halted) (λ y. broadcast_from alone y c.args.own c.args.datagram.now) h.0 h.1 (number_put b.log.numbering)
+    (numbered_log b.log) tt 4 None body goes
     c.args.out.now c.tell-sent.new.out m c.tell-sent.new.station c.tell-sent.result (record b { log = c.tell-sent.new.log }) c.requires.empty put
-    (sent_as m c.tell-sent.new.station h.0 4 None c.octets.result.now body c.tell-sent.result c.args.out.now c.tell-sent.new.out (still_held s m (number_put b.log.numbering) h.0 put h.1) same c.tell-sent.ensures.carries)
-    (log_left b (numbered_log b.log) c.take_number.new.log c.tell-sent.new.log (is_some c.tell-sent.new.station.memory) c.tell-sent.ensures.log c.in-Some.ensures.log)))
+    (sent_as m c.tell-sent.new.station h.0 4 None c.octets.result.now body c.tell-sent.result c.args.out.now c.tell-sent.new.out
+    (still_held s m (number_put b.log.numbering) h.0 put h.1) same c.tell-sent.ensures.carries)
+    (log_left b (numbered_log b.log) c.take_number.new.log c.tell-sent.new.log (is_some c.tell-sent.new.station.memory) c.tell-sent.ensures.log
+    c.in-Some.ensures.log)))

@@ -19,7 +19,8 @@ returns-in-Some-clause-reaches c =
     let y = broadcast_of c.args.broadcast.now in
     let h = held_by s.memory c.requires.running in
     refused_after reach_ends s b (Err (Known drops.Store)) (λ x. hear_broadcast_in alone x c.args.own (Some y)) h.0 h.1 c.in-Some.fault
-    (hears_fault h.0 b y c.args.own c.in-Some.fault (sym (sym c.in-Some.is ∙ c.broadcast_fault.ensures ∙ ap (λ (x : Beside). broadcast_fault c.args.own x.log y) c.beside.view_is))) c.args.out.now
+    (hears_fault h.0 b y c.args.own c.in-Some.fault
+    (sym (sym c.in-Some.is ∙ c.broadcast_fault.ensures ∙ ap (λ (x : Beside). broadcast_fault c.args.own x.log y) c.beside.view_is))) c.args.out.now
 
 pub returns-clause-reaches : goal.returns-clause-reaches
 returns-clause-reaches c =
@@ -27,8 +28,11 @@ returns-clause-reaches c =
     let b = c.args.beside.now in
     let y = broadcast_of c.args.broadcast.now in
     let h = held_by s.memory c.requires.running in
-    same_after s c.admit_broadcast.new.station b c.admit_broadcast.new.beside (Err (Known drops.Store)) (handed_up y c.admit_broadcast.result) (λ x. admits_broadcast alone x y)
-    (λ x. hear_broadcast_in alone x c.args.own (Some y)) h.0 h.1 (sym (hears_right h.0 b y c.args.own (sym (sym c.in_default.is ∙ c.broadcast_fault.ensures ∙ ap (λ (x : Beside). broadcast_fault c.args.own x.log y) c.beside.view_is)))) c.args.out.now c.admit_broadcast.new.out c.admit_broadcast.ensures.reaches
+    same_after s c.admit_broadcast.new.station b c.admit_broadcast.new.beside (Err (Known drops.Store)) (handed_up y c.admit_broadcast.result)
+    (λ x. admits_broadcast alone x y)
+    (λ x. hear_broadcast_in alone x c.args.own (Some y)) h.0 h.1 (sym
+    (hears_right h.0 b y c.args.own (sym (sym c.in_default.is ∙ c.broadcast_fault.ensures
+    ∙ ap (λ (x : Beside). broadcast_fault c.args.own x.log y) c.beside.view_is)))) c.args.out.now c.admit_broadcast.new.out c.admit_broadcast.ensures.reaches
 
 pub admit_broadcast-requires-clause-joined : goal.admit_broadcast-requires-clause-joined
 admit_broadcast-requires-clause-joined c =
@@ -39,4 +43,5 @@ admit_broadcast-requires-clause-joined c =
 pub admit_broadcast-requires-clause-marks : goal.admit_broadcast-requires-clause-marks
 admit_broadcast-requires-clause-marks c =
     let y = broadcast_of c.args.broadcast.now in
-    right_marks c.args.own c.args.beside.now.log y (sym (sym c.in_default.is ∙ c.broadcast_fault.ensures ∙ ap (λ (x : Beside). broadcast_fault c.args.own x.log y) c.beside.view_is))
+    right_marks c.args.own c.args.beside.now.log y
+    (sym (sym c.in_default.is ∙ c.broadcast_fault.ensures ∙ ap (λ (x : Beside). broadcast_fault c.args.own x.log y) c.beside.view_is))

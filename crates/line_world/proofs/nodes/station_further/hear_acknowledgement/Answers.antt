@@ -15,9 +15,11 @@ returns-in_default c = ends_unread c.args.checks.now (command_of c.args.command.
 pub returns-then-is_err : goal.returns-then-is_err
 returns-then-is_err c =
     unawaited_ends c.args.checks.now c.acked.new.self (command_of c.args.command.now) c.in-Some.ack.0 c.in-Some.ack.1 c.acked.result c.if-command.false
-    (ap ack_in (sym c.octets.ensures) ∙ c.read_ack.ensures.value ∙ c.in-Some.is) (sym c.is_err.ensures.value ∙ c.if-is_err.true) c.acked.ensures.answer c.acked.ensures.same
+    (ap ack_in (sym c.octets.ensures) ∙ c.read_ack.ensures.value ∙ c.in-Some.is) (sym c.is_err.ensures.value ∙ c.if-is_err.true) c.acked.ensures.answer
+    c.acked.ensures.same
 
 pub returns : goal.returns
 returns c =
     awaited_ends c.args.checks.now c.acked.new.self (command_of c.args.command.now) c.in-Some.ack.0 c.in-Some.ack.1 c.acked.result c.if-command.false
-    (ap ack_in (sym c.octets.ensures) ∙ c.read_ack.ensures.value ∙ c.in-Some.is) (sym c.is_err.ensures.value ∙ c.if-is_err.false) c.acked.ensures.answer c.acked.ensures.value
+    (ap ack_in (sym c.octets.ensures) ∙ c.read_ack.ensures.value ∙ c.in-Some.is) (sym c.is_err.ensures.value ∙ c.if-is_err.false) c.acked.ensures.answer
+    c.acked.ensures.value

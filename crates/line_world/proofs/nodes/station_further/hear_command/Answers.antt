@@ -15,17 +15,20 @@ returns-then-command-eq3-clause-reaches c =
     let m = held_by s.memory c.requires.running in
     let b : Beside = record { checks = c.beside.inside.checks; log = c.beside.inside.log; scan = c.beside.inside.scan } in
     rw (← c.beside.view_is)
-    (ended_command s b (command_of c.args.command.now) c.args.own c.args.number m.0 c.acknowledgement_told.result c.hear_acknowledgement-heard.result c.hear_acknowledgement-heard.new.checks c.args.out.now m.1
+    (ended_command s b (command_of c.args.command.now) c.args.own c.args.number m.0 c.acknowledgement_told.result c.hear_acknowledgement-heard.result
+    c.hear_acknowledgement-heard.new.checks c.args.out.now m.1
     c.if-command-eq3.true c.hear_acknowledgement-heard.ensures c.acknowledgement_told.ensures)
 
 pub returns-then-command-eq4-clause-reaches : goal.returns-then-command-eq4-clause-reaches
 returns-then-command-eq4-clause-reaches c =
-    broadcast_command c.args.station.now c.broadcast_command.new.station c.args.beside.now c.broadcast_command.new.beside (command_of c.args.command.now) c.args.own c.args.number c.broadcast_command.result c.args.out.now c.broadcast_command.new.out
+    broadcast_command c.args.station.now c.broadcast_command.new.station c.args.beside.now c.broadcast_command.new.beside (command_of c.args.command.now)
+    c.args.own c.args.number c.broadcast_command.result c.args.out.now c.broadcast_command.new.out
     c.if-command-eq4.true c.broadcast_command.ensures.reaches
 
 pub returns-then-command-eq5-clause-reaches : goal.returns-then-command-eq5-clause-reaches
 returns-then-command-eq5-clause-reaches c =
-    path_command c.args.station.now c.hear_path-heard.new.station c.args.beside.now c.hear_path-heard.new.beside (command_of c.args.command.now) c.args.own c.args.number c.path_told.result (answer_as path_heard c.hear_path-heard.result) c.args.out.now c.hear_path-heard.new.out
+    path_command c.args.station.now c.hear_path-heard.new.station c.args.beside.now c.hear_path-heard.new.beside (command_of c.args.command.now) c.args.own
+    c.args.number c.path_told.result (answer_as path_heard c.hear_path-heard.result) c.args.out.now c.hear_path-heard.new.out
     c.if-command-eq5.true c.hear_path-heard.ensures.reaches c.path_told.ensures
 
 pub returns-clause-reaches : goal.returns-clause-reaches
@@ -33,5 +36,7 @@ returns-clause-reaches c =
     let s = c.args.station.now in
     let b = c.args.beside.now in
     let m = held_by s.memory c.requires.running in
-    dropped_after s b (λ y. hear_command_at alone y c.args.own (command_of c.args.command.now)) m.0 (Known BadUnit) c.only.result c.args.number c.args.out.now m.1
-    (by_none (record { memory = m.0; beside = b }) c.args.own (command_of c.args.command.now) c.if-command-eq3.false c.if-command-eq4.false c.if-command-eq5.false) c.only.ensures
+    dropped_after s b (λ y. hear_command_at alone y c.args.own (command_of c.args.command.now)) m.0 (Known BadUnit) c.only.result c.args.number c.args.out.now
+    m.1
+    (by_none (record { memory = m.0; beside = b }) c.args.own (command_of c.args.command.now) c.if-command-eq3.false c.if-command-eq4.false
+    c.if-command-eq5.false) c.only.ensures

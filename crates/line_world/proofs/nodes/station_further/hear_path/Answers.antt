@@ -19,7 +19,8 @@ returns-then-command-clause-reaches c =
     let b = c.args.beside.now in
     let d = c.args.command.now in
     let m = held_by s.memory c.requires.running in
-    remembers_after s b b (Err (Known Store)) (λ y. hear_path alone y c.args.own d.from d.to_all d.body) m.0 (Err (Known BadUnit)) (Err (Known Store)) c.args.out.now m.1
+    remembers_after s b b (Err (Known Store)) (λ y. hear_path alone y c.args.own d.from d.to_all d.body) m.0 (Err (Known BadUnit)) (Err (Known Store))
+    c.args.out.now m.1
     (hears_for_all (record { memory = m.0; beside = b }) c.args.own d.from d.to_all d.body c.if-command.true)
 
 pub returns-in_default-clause-reaches : goal.returns-in_default-clause-reaches
@@ -28,8 +29,10 @@ returns-in_default-clause-reaches c =
     let b = c.args.beside.now in
     let d = c.args.command.now in
     let m = held_by s.memory c.requires.running in
-    remembers_after s b b (Err (Known Store)) (λ y. hear_path alone y c.args.own d.from d.to_all d.body) m.0 (Err (Known BadUnit)) (Err (Known Store)) c.args.out.now m.1
-    (hears_unread (record { memory = m.0; beside = b }) c.args.own d.from d.to_all d.body c.if-command.false (ap path_in (sym c.octets.ensures) ∙ c.read_path.ensures.value ∙ c.in_default.is))
+    remembers_after s b b (Err (Known Store)) (λ y. hear_path alone y c.args.own d.from d.to_all d.body) m.0 (Err (Known BadUnit)) (Err (Known Store))
+    c.args.out.now m.1
+    (hears_unread (record { memory = m.0; beside = b }) c.args.own d.from d.to_all d.body c.if-command.false
+    (ap path_in (sym c.octets.ensures) ∙ c.read_path.ensures.value ∙ c.in_default.is))
 
 pub returns-clause-reaches : goal.returns-clause-reaches
 returns-clause-reaches c =
@@ -38,6 +41,8 @@ returns-clause-reaches c =
     let d = c.args.command.now in
     reaches_as (λ y. follows_path alone y c.take_path-step.result) (λ y. hear_path alone y c.args.own d.from d.to_all d.body)
     (λ l e. ap (λ (p : Result PathStep PathRefusal). follows_path alone (record { memory = l; beside = b }) p)
-    (c.take_path-step.ensures.step ∙ ap (λ (n : Option ℕ). taken c.args.own d.from n c.in-Some.message) (at_some s.memory (λ k. c.next_toward-next.result ≡ next_toward k c.in-Some.message) l e c.next_toward-next.ensures))
-    ∙ sym (hears_read (record { memory = l; beside = b }) c.args.own d.from d.to_all d.body c.in-Some.message c.if-command.false (ap path_in (sym c.octets.ensures) ∙ c.read_path.ensures.value ∙ c.in-Some.is)))
+    (c.take_path-step.ensures.step ∙ ap (λ (n : Option ℕ). taken c.args.own d.from n c.in-Some.message)
+    (at_some s.memory (λ k. c.next_toward-next.result ≡ next_toward k c.in-Some.message) l e c.next_toward-next.ensures))
+    ∙ sym (hears_read (record { memory = l; beside = b }) c.args.own d.from d.to_all d.body c.in-Some.message c.if-command.false
+    (ap path_in (sym c.octets.ensures) ∙ c.read_path.ensures.value ∙ c.in-Some.is)))
     c.follow_path.ensures.reaches

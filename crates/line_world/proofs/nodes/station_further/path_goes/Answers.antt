@@ -6,4 +6,5 @@ use Rattle.line_world.proofs.nodes.station_further.path_goes.Goals as goal
 
 pub tell-requires-clause-fits : goal.tell-requires-clause-fits
 tell-requires-clause-fits c =
-    subst (λ (xs : List ℕ). length xs ≤ 379) (sym (c.octets.ensures.value ∙ c.write_path.ensures.spelled ∙ ap (λ (xs : List ℕ). xs ++ path_spelling c.args.message.now) c.clear.ensures)) (path_short c.args.message.now c.requires.path)
+    subst (λ (xs : List ℕ). length xs ≤ 379) (sym (c.octets.ensures.value ∙ c.write_path.ensures.spelled
+    ∙ ap (λ (xs : List ℕ). xs ++ path_spelling c.args.message.now) c.clear.ensures)) (path_short c.args.message.now c.requires.path)

@@ -12,5 +12,6 @@ step-requires-clause-beside c = beside_long (world_of c.self.inside.line).beside
 pub invariant_of-self : goal.invariant_of-self
 invariant_of-self c = (
   c.step.ensures.steps.bounds,
-  still_kept (world_of c.self.inside.line) (world_of c.step.new.self) c.args.event.now c.step.result c.short_tables.ensures.tables c.self.invariant.1 c.step.ensures.octets c.step.ensures.steps.gives,
+  still_kept (world_of c.self.inside.line) (world_of c.step.new.self) c.args.event.now c.step.result c.short_tables.ensures.tables c.self.invariant.1
+      c.step.ensures.octets c.step.ensures.steps.gives,
 )

@@ -12,8 +12,34 @@ use Rattle.meter_node.proofs.meter.Meter.activated.Goals as goal
 
 pub returns-clause-carries : goal.returns-clause-carries
 returns-clause-carries g c =
-    rw (← c.self.view_is, c.activated_as.ensures) (on_node (record { station = c.self.inside.station; psk = c.self.inside.pair_key; randoms = c.self.inside.randoms; session = option_map session_of c.self.inside.session }) _ (λ l running.
-    as_station hearing.activated_as (record { station = c.self.inside.station; psk = c.self.inside.pair_key; randoms = c.self.inside.randoms; session = option_map session_of c.self.inside.session })
-    (record { station = c.activate-done.new.self; psk = c.self.inside.pair_key; randoms = c.self.inside.randoms; session = option_map session_of c.self.inside.session })
-    (calls.activate l c.args.index) (meters.activated (memory_with (record { station = c.self.inside.station; psk = c.self.inside.pair_key; randoms = c.self.inside.randoms; session = option_map session_of c.self.inside.session }) l) c.args.index) _ nothing (activates (record { station = c.self.inside.station; psk = c.self.inside.pair_key; randoms = c.self.inside.randoms; session = option_map session_of c.self.inside.session }) l c.args.index)
+    rw (← c.self.view_is, c.activated_as.ensures) (on_node (record {
+      station = c.self.inside.station;
+      psk = c.self.inside.pair_key;
+      randoms = c.self.inside.randoms;
+      session = option_map session_of c.self.inside.session;
+    }) _ (λ l running.
+    as_station hearing.activated_as (record {
+      station = c.self.inside.station;
+      psk = c.self.inside.pair_key;
+      randoms = c.self.inside.randoms;
+      session = option_map session_of c.self.inside.session;
+    })
+    (record {
+      station = c.activate-done.new.self;
+      psk = c.self.inside.pair_key;
+      randoms = c.self.inside.randoms;
+      session = option_map session_of c.self.inside.session;
+    })
+    (calls.activate l c.args.index) (meters.activated (memory_with
+    (record {
+      station = c.self.inside.station;
+      psk = c.self.inside.pair_key;
+      randoms = c.self.inside.randoms;
+      session = option_map session_of c.self.inside.session;
+    }) l) c.args.index) _ nothing (activates (record {
+      station = c.self.inside.station;
+      psk = c.self.inside.pair_key;
+      randoms = c.self.inside.randoms;
+      session = option_map session_of c.self.inside.session;
+    }) l c.args.index)
     (at_some _ _ l running c.activate-done.ensures.carries)))

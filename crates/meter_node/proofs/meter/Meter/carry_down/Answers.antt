@@ -15,21 +15,99 @@ use Rattle.meter_node.proofs.meter.Meter.carry_down.Goals as goal
 
 pub returns-in_default-clause-carries : goal.returns-in_default-clause-carries
 returns-in_default-clause-carries g c =
-    rw (← c.self.view_is) (on_node (record { station = c.self.inside.station; psk = c.self.inside.pair_key; randoms = c.self.inside.randoms; session = option_map session_of c.self.inside.session }) _ (λ l running.
-    refuses dropped (record { station = c.self.inside.station; psk = c.self.inside.pair_key; randoms = c.self.inside.randoms; session = option_map session_of c.self.inside.session }) (record { station = c.self.inside.station; psk = c.self.inside.pair_key; randoms = c.self.inside.randoms; session = option_map session_of c.self.inside.session }) l BadUnit (meters.carry_down (memory_with (record { station = c.self.inside.station; psk = c.self.inside.pair_key; randoms = c.self.inside.randoms; session = option_map session_of c.self.inside.session }) l) c.args.join.now c.args.join.now.body) c.args.out.now running refl
-    (carried_without (record { station = c.self.inside.station; psk = c.self.inside.pair_key; randoms = c.self.inside.randoms; session = option_map session_of c.self.inside.session }) l c.args.join.now c.args.join.now.body (c.in_default.ensures ∙ ap (option_map (λ g. g.address)) (at_some _ _ l running c.ring.ensures))) c.requires.empty))
+    rw (← c.self.view_is) (on_node (record {
+      station = c.self.inside.station;
+      psk = c.self.inside.pair_key;
+      randoms = c.self.inside.randoms;
+      session = option_map session_of c.self.inside.session;
+    }) _ (λ l running.
+    refuses dropped (record {
+      station = c.self.inside.station;
+      psk = c.self.inside.pair_key;
+      randoms = c.self.inside.randoms;
+      session = option_map session_of c.self.inside.session;
+    }) (record {
+      station = c.self.inside.station;
+      psk = c.self.inside.pair_key;
+      randoms = c.self.inside.randoms;
+      session = option_map session_of c.self.inside.session;
+    }) l BadUnit (meters.carry_down (memory_with (record {
+      station = c.self.inside.station;
+      psk = c.self.inside.pair_key;
+      randoms = c.self.inside.randoms;
+      session = option_map session_of c.self.inside.session;
+    }) l) c.args.join.now c.args.join.now.body) c.args.out.now running refl
+    (carried_without (record {
+      station = c.self.inside.station;
+      psk = c.self.inside.pair_key;
+      randoms = c.self.inside.randoms;
+      session = option_map session_of c.self.inside.session;
+    }) l c.args.join.now c.args.join.now.body (c.in_default.ensures ∙ ap (option_map (λ g. g.address)) (at_some _ _ l running c.ring.ensures)))
+    c.requires.empty))
 
 pub returns-then-not-goes_down-clause-carries : goal.returns-then-not-goes_down-clause-carries
 returns-then-not-goes_down-clause-carries g c =
-    rw (← c.self.view_is) (on_node (record { station = c.self.inside.station; psk = c.self.inside.pair_key; randoms = c.self.inside.randoms; session = option_map session_of c.self.inside.session }) _ (λ l running.
-    refuses dropped (record { station = c.self.inside.station; psk = c.self.inside.pair_key; randoms = c.self.inside.randoms; session = option_map session_of c.self.inside.session }) (record { station = c.self.inside.station; psk = c.self.inside.pair_key; randoms = c.self.inside.randoms; session = option_map session_of c.self.inside.session }) l BadUnit (meters.carry_down (memory_with (record { station = c.self.inside.station; psk = c.self.inside.pair_key; randoms = c.self.inside.randoms; session = option_map session_of c.self.inside.session }) l) c.args.join.now c.args.join.now.body) c.args.out.now running refl
-    (not_carried (record { station = c.self.inside.station; psk = c.self.inside.pair_key; randoms = c.self.inside.randoms; session = option_map session_of c.self.inside.session }) l c.args.join.now c.args.join.now.body (sym c.if-not-goes_down.ensures)) c.requires.empty))
+    rw (← c.self.view_is) (on_node (record {
+      station = c.self.inside.station;
+      psk = c.self.inside.pair_key;
+      randoms = c.self.inside.randoms;
+      session = option_map session_of c.self.inside.session;
+    }) _ (λ l running.
+    refuses dropped (record {
+      station = c.self.inside.station;
+      psk = c.self.inside.pair_key;
+      randoms = c.self.inside.randoms;
+      session = option_map session_of c.self.inside.session;
+    }) (record {
+      station = c.self.inside.station;
+      psk = c.self.inside.pair_key;
+      randoms = c.self.inside.randoms;
+      session = option_map session_of c.self.inside.session;
+    }) l BadUnit (meters.carry_down (memory_with (record {
+      station = c.self.inside.station;
+      psk = c.self.inside.pair_key;
+      randoms = c.self.inside.randoms;
+      session = option_map session_of c.self.inside.session;
+    }) l) c.args.join.now c.args.join.now.body) c.args.out.now running refl
+    (not_carried (record {
+      station = c.self.inside.station;
+      psk = c.self.inside.pair_key;
+      randoms = c.self.inside.randoms;
+      session = option_map session_of c.self.inside.session;
+    }) l c.args.join.now c.args.join.now.body (sym c.if-not-goes_down.ensures)) c.requires.empty))
 
 pub returns-clause-carries : goal.returns-clause-carries
 returns-clause-carries g c =
-    rw (← c.self.view_is) (on_node (record { station = c.self.inside.station; psk = c.self.inside.pair_key; randoms = c.self.inside.randoms; session = option_map session_of c.self.inside.session }) _ (λ l running.
-    changes dropped (record { station = c.self.inside.station; psk = c.self.inside.pair_key; randoms = c.self.inside.randoms; session = option_map session_of c.self.inside.session }) (record { station = c.self.inside.station; psk = c.self.inside.pair_key; randoms = c.self.inside.randoms; session = option_map session_of c.self.inside.session }) l (Down c.in-Some.own c.args.join.now ∷ []) heard.Carried (meters.carry_down (memory_with (record { station = c.self.inside.station; psk = c.self.inside.pair_key; randoms = c.self.inside.randoms; session = option_map session_of c.self.inside.session }) l) c.args.join.now c.args.join.now.body) _ running (rw (← c.self.view_is) at c.requires.agrees) refl
-    (carries_down (record { station = c.self.inside.station; psk = c.self.inside.pair_key; randoms = c.self.inside.randoms; session = option_map session_of c.self.inside.session }) l c.args.join.now c.in-Some.own c.args.join.now.body (c.in-Some.ensures ∙ ap (option_map (λ g. g.address)) (at_some _ _ l running c.ring.ensures)) (sym c.if-not-goes_down.ensures))
+    rw (← c.self.view_is) (on_node (record {
+      station = c.self.inside.station;
+      psk = c.self.inside.pair_key;
+      randoms = c.self.inside.randoms;
+      session = option_map session_of c.self.inside.session;
+    }) _ (λ l running.
+    changes dropped (record {
+      station = c.self.inside.station;
+      psk = c.self.inside.pair_key;
+      randoms = c.self.inside.randoms;
+      session = option_map session_of c.self.inside.session;
+    }) (record {
+      station = c.self.inside.station;
+      psk = c.self.inside.pair_key;
+      randoms = c.self.inside.randoms;
+      session = option_map session_of c.self.inside.session;
+    }) l (Down c.in-Some.own c.args.join.now
+    ∷ []) heard.Carried (meters.carry_down (memory_with (record {
+      station = c.self.inside.station;
+      psk = c.self.inside.pair_key;
+      randoms = c.self.inside.randoms;
+      session = option_map session_of c.self.inside.session;
+    }) l) c.args.join.now c.args.join.now.body) _ running (rw (← c.self.view_is) at c.requires.agrees) refl
+    (carries_down (record {
+      station = c.self.inside.station;
+      psk = c.self.inside.pair_key;
+      randoms = c.self.inside.randoms;
+      session = option_map session_of c.self.inside.session;
+    }) l c.args.join.now c.in-Some.own c.args.join.now.body (c.in-Some.ensures ∙ ap (option_map (λ g. g.address)) (at_some _ _ l running c.ring.ensures))
+    (sym c.if-not-goes_down.ensures))
     (c.push_down.ensures ∙ (λ i. record {
       frames = (c.requires.empty i).frames ++ spelled network (Down c.in-Some.own c.args.join.now) ∷ [];
       tags = (c.requires.empty i).tags;

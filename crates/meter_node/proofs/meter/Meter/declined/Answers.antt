@@ -28,6 +28,32 @@ pub returns-clause-carries : goal.returns-clause-carries
 returns-clause-carries g c =
     let free = rw (← c.self.view_is) at c.if-is_joined.ensures in
     let has = rw (← c.self.view_is) at c.if-not-has_session.ensures in
-    rw (← c.self.view_is) (on_node (record { station = c.self.inside.station; psk = c.self.inside.pair_key; randoms = c.self.inside.randoms; session = option_map session_of c.self.inside.session }) _ (λ l running.
-    changes dropped (record { station = c.self.inside.station; psk = c.self.inside.pair_key; randoms = c.self.inside.randoms; session = option_map session_of c.self.inside.session }) (record (record { station = c.self.inside.station; psk = c.self.inside.pair_key; randoms = c.self.inside.randoms; session = option_map session_of c.self.inside.session }) { session = None }) l [] heard.Declined (meters.declined (memory_with (record { station = c.self.inside.station; psk = c.self.inside.pair_key; randoms = c.self.inside.randoms; session = option_map session_of c.self.inside.session }) l) c.args.agent) nothing running (rw (← c.self.view_is) at c.requires.agrees) refl
-    (declines (record { station = c.self.inside.station; psk = c.self.inside.pair_key; randoms = c.self.inside.randoms; session = option_map session_of c.self.inside.session }) l c.args.agent (sym (at_some _ _ l running free)) (sym (has l))) refl))
+    rw (← c.self.view_is) (on_node (record {
+      station = c.self.inside.station;
+      psk = c.self.inside.pair_key;
+      randoms = c.self.inside.randoms;
+      session = option_map session_of c.self.inside.session;
+    }) _ (λ l running.
+    changes dropped (record {
+      station = c.self.inside.station;
+      psk = c.self.inside.pair_key;
+      randoms = c.self.inside.randoms;
+      session = option_map session_of c.self.inside.session;
+    }) (record (record {
+      station = c.self.inside.station;
+      psk = c.self.inside.pair_key;
+      randoms = c.self.inside.randoms;
+      session = option_map session_of c.self.inside.session;
+    }) { session = None }) l [] heard.Declined (meters.declined (memory_with
+    (record {
+      station = c.self.inside.station;
+      psk = c.self.inside.pair_key;
+      randoms = c.self.inside.randoms;
+      session = option_map session_of c.self.inside.session;
+    }) l) c.args.agent) nothing running (rw (← c.self.view_is) at c.requires.agrees) refl
+    (declines (record {
+      station = c.self.inside.station;
+      psk = c.self.inside.pair_key;
+      randoms = c.self.inside.randoms;
+      session = option_map session_of c.self.inside.session;
+    }) l c.args.agent (sym (at_some _ _ l running free)) (sym (has l))) refl))

@@ -19,17 +19,57 @@ returns-then-not-is_joined-clause-carries g c =
 pub returns-in_default-clause-carries : goal.returns-in_default-clause-carries
 returns-in_default-clause-carries g c =
     let ring = rw (← c.self.view_is) at c.if-not-is_joined.ensures in
-    rw (← c.self.view_is) (on_node (record { station = c.self.inside.station; psk = c.self.inside.pair_key; randoms = c.self.inside.randoms; session = option_map session_of c.self.inside.session }) _ (λ l running.
-    as_station left_as (record { station = c.self.inside.station; psk = c.self.inside.pair_key; randoms = c.self.inside.randoms; session = option_map session_of c.self.inside.session })
+    rw (← c.self.view_is) (on_node (record {
+      station = c.self.inside.station;
+      psk = c.self.inside.pair_key;
+      randoms = c.self.inside.randoms;
+      session = option_map session_of c.self.inside.session;
+    }) _ (λ l running.
+    as_station left_as (record {
+      station = c.self.inside.station;
+      psk = c.self.inside.pair_key;
+      randoms = c.self.inside.randoms;
+      session = option_map session_of c.self.inside.session;
+    })
     (record { station = c.leave.new.self; psk = c.self.inside.pair_key; randoms = c.self.inside.randoms; session = None })
-    (calls.leave l) (meters.leave (memory_with (record { station = c.self.inside.station; psk = c.self.inside.pair_key; randoms = c.self.inside.randoms; session = option_map session_of c.self.inside.session }) l)) _ nothing (leaves (record { station = c.self.inside.station; psk = c.self.inside.pair_key; randoms = c.self.inside.randoms; session = option_map session_of c.self.inside.session }) l (sym (at_some _ _ l running ring)))
+    (calls.leave l) (meters.leave (memory_with (record {
+      station = c.self.inside.station;
+      psk = c.self.inside.pair_key;
+      randoms = c.self.inside.randoms;
+      session = option_map session_of c.self.inside.session;
+    }) l)) _ nothing (leaves (record {
+      station = c.self.inside.station;
+      psk = c.self.inside.pair_key;
+      randoms = c.self.inside.randoms;
+      session = option_map session_of c.self.inside.session;
+    }) l (sym (at_some _ _ l running ring)))
     (at_some _ _ l running c.in_default.ensures.carries)))
 
 pub returns-clause-carries : goal.returns-clause-carries
 returns-clause-carries g c =
     let ring = rw (← c.self.view_is) at c.if-not-is_joined.ensures in
-    rw (← c.self.view_is) (on_node (record { station = c.self.inside.station; psk = c.self.inside.pair_key; randoms = c.self.inside.randoms; session = option_map session_of c.self.inside.session }) _ (λ l running.
-    as_station left_as (record { station = c.self.inside.station; psk = c.self.inside.pair_key; randoms = c.self.inside.randoms; session = option_map session_of c.self.inside.session })
+    rw (← c.self.view_is) (on_node (record {
+      station = c.self.inside.station;
+      psk = c.self.inside.pair_key;
+      randoms = c.self.inside.randoms;
+      session = option_map session_of c.self.inside.session;
+    }) _ (λ l running.
+    as_station left_as (record {
+      station = c.self.inside.station;
+      psk = c.self.inside.pair_key;
+      randoms = c.self.inside.randoms;
+      session = option_map session_of c.self.inside.session;
+    })
     (record { station = c.leave.new.self; psk = c.self.inside.pair_key; randoms = c.self.inside.randoms; session = None })
-    (calls.leave l) (meters.leave (memory_with (record { station = c.self.inside.station; psk = c.self.inside.pair_key; randoms = c.self.inside.randoms; session = option_map session_of c.self.inside.session }) l)) _ nothing (leaves (record { station = c.self.inside.station; psk = c.self.inside.pair_key; randoms = c.self.inside.randoms; session = option_map session_of c.self.inside.session }) l (sym (at_some _ _ l running ring)))
+    (calls.leave l) (meters.leave (memory_with (record {
+      station = c.self.inside.station;
+      psk = c.self.inside.pair_key;
+      randoms = c.self.inside.randoms;
+      session = option_map session_of c.self.inside.session;
+    }) l)) _ nothing (leaves (record {
+      station = c.self.inside.station;
+      psk = c.self.inside.pair_key;
+      randoms = c.self.inside.randoms;
+      session = option_map session_of c.self.inside.session;
+    }) l (sym (at_some _ _ l running ring)))
     (at_some _ _ l running c.in-Ok.ensures.carries)))

@@ -23,15 +23,21 @@ pub returns-in_err-awaits-clause-carries : goal.returns-in_err-awaits-clause-car
 returns-in_err-awaits-clause-carries g c =
     let p = err_from_is_err_and c.from_residual.result c.from_residual.ensures.1 in
     rw p.1 (on_node c.args.self.now _ (λ l running.
-    refuses dropped c.args.self.now c.args.self.now l p.0 (meters.reply (identity_of c.args.self.now) (memory_with c.args.self.now l) (memory.ByAgent c.args.agent) c.args.packet.now c.args.now) c.args.out.now running refl
-    (reply_refused c.args.self.now l (memory.ByAgent c.args.agent) c.args.packet.now c.args.now p.0 (ap (λ f. f then first_refusal c.args.self.now.randoms c.args.packet.now) (at_some _ _ l running c.in_err-awaits.ensures ∙ ap Some (sym p.2)))) c.requires.empty))
+    refuses dropped c.args.self.now c.args.self.now l p.0 (meters.reply (identity_of c.args.self.now) (memory_with c.args.self.now l)
+    (memory.ByAgent c.args.agent) c.args.packet.now c.args.now) c.args.out.now running refl
+    (reply_refused c.args.self.now l (memory.ByAgent c.args.agent) c.args.packet.now c.args.now p.0
+    (ap (λ f. f then first_refusal c.args.self.now.randoms c.args.packet.now) (at_some _ _ l running c.in_err-awaits.ensures ∙ ap Some (sym p.2))))
+    c.requires.empty))
 
 pub returns-in_err-peer-clause-carries : goal.returns-in_err-peer-clause-carries
 returns-in_err-peer-clause-carries g c =
     let p = err_from_is_err_and c.from_residual-in_err-peer.result c.from_residual-in_err-peer.ensures.1 in
     rw p.1 (on_node c.args.self.now _ (λ l running.
-    refuses dropped c.args.self.now c.args.self.now l p.0 (meters.reply (identity_of c.args.self.now) (memory_with c.args.self.now l) (memory.ByAgent c.args.agent) c.args.packet.now c.args.now) c.args.out.now running refl
-    (reply_refused c.args.self.now l (memory.ByAgent c.args.agent) c.args.packet.now c.args.now p.0 (ap (λ f. f then first_refusal c.args.self.now.randoms c.args.packet.now) (at_some _ _ l running c.in_ok-awaits.ensures) ∙ c.in_err-peer.ensures.exact ∙ ap Some (sym p.2))) c.requires.empty))
+    refuses dropped c.args.self.now c.args.self.now l p.0 (meters.reply (identity_of c.args.self.now) (memory_with c.args.self.now l)
+    (memory.ByAgent c.args.agent) c.args.packet.now c.args.now) c.args.out.now running refl
+    (reply_refused c.args.self.now l (memory.ByAgent c.args.agent) c.args.packet.now c.args.now p.0
+    (ap (λ f. f then first_refusal c.args.self.now.randoms c.args.packet.now) (at_some _ _ l running c.in_ok-awaits.ensures) ∙ c.in_err-peer.ensures.exact
+    ∙ ap Some (sym p.2))) c.requires.empty))
 
 pub returns-clause-carries : goal.returns-clause-carries
 returns-clause-carries g c =
@@ -41,10 +47,18 @@ returns-clause-carries g c =
     let value = rw (← c.self.view_is) at c.in_ok-peer.ensures.value in
     let is = rw (← c.self.view_is) at c.in_ok-peer.ensures.peer in
     let written = rw (← c.self.view_is) at c.in_ok-peer.ensures.written in
-    let x : MeterState = record { station = c.self.inside.station; psk = c.self.inside.pair_key; randoms = c.self.inside.randoms; session = option_map session_of c.self.inside.session } in
+    let x : MeterState = record {
+      station = c.self.inside.station;
+      psk = c.self.inside.pair_key;
+      randoms = c.self.inside.randoms;
+      session = option_map session_of c.self.inside.session;
+    } in
     rw (← c.self.view_is) (on_node x _ (λ l running.
-    agent_replied x l c.args.packet.now c.args.now c.in_ok-peer.peer fine value is c.args.agent c.drop_oldest.new.self _ running agrees (at_some _ _ l running free) c.drop_oldest.ensures
+    agent_replied x l c.args.packet.now c.args.now c.in_ok-peer.peer fine value is c.args.agent c.drop_oldest.new.self _ running agrees
+    (at_some _ _ l running free) c.drop_oldest.ensures
     (λ i. record {
-      frames = (ap (λ (o : Out). o.frames) c.push_up.ensures ∙ (λ j. (c.requires.empty j).frames ++ spelled network (Up c.args.agent (c.eui-eui.ensures j) ((c.join_with-join.ensures.value ∙ (λ j. message (c.eui-eui.ensures j) (body.Join (written j)))) j)) ∷ [])) i;
+      frames = (ap (λ (o : Out). o.frames) c.push_up.ensures
+          ∙ (λ j. (c.requires.empty j).frames ++ spelled network (Up c.args.agent (c.eui-eui.ensures j)
+          ((c.join_with-join.ensures.value ∙ (λ j. message (c.eui-eui.ensures j) (body.Join (written j)))) j)) ∷ [])) i;
       tags = c.in_ok-peer.ensures.tags i;
     })))

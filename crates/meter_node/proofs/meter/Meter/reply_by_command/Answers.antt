@@ -21,7 +21,8 @@ pub returns-in_err-peer-clause-carries : goal.returns-in_err-peer-clause-carries
 returns-in_err-peer-clause-carries g c =
     let p = err_from_is_err_and c.from_residual.result c.from_residual.ensures.1 in
     rw p.1 (on_node c.args.self.now _ (λ l running.
-    refuses dropped c.args.self.now c.args.self.now l p.0 (meters.reply (identity_of c.args.self.now) (memory_with c.args.self.now l) memory.ByCommand c.args.packet.now c.args.now) c.args.out.now running refl
+    refuses dropped c.args.self.now c.args.self.now l p.0
+    (meters.reply (identity_of c.args.self.now) (memory_with c.args.self.now l) memory.ByCommand c.args.packet.now c.args.now) c.args.out.now running refl
     (reply_refused c.args.self.now l memory.ByCommand c.args.packet.now c.args.now p.0 (c.in_err-peer.ensures.exact ∙ ap Some (sym p.2))) c.requires.empty))
 
 pub returns-in_err-room-clause-carries : goal.returns-in_err-room-clause-carries
@@ -33,11 +34,18 @@ returns-in_err-room-clause-carries g c =
     let is = rw (← c.self.view_is) at c.in_ok-peer.ensures.peer in
     let written = rw (← c.self.view_is) at c.in_ok-peer.ensures.written in
     let fault = rw (← c.self.view_is) at c.in_err-room.ensures in
-    let x : MeterState = record { station = c.self.inside.station; psk = c.self.inside.pair_key; randoms = c.self.inside.randoms; session = option_map session_of c.self.inside.session } in
+    let x : MeterState = record {
+      station = c.self.inside.station;
+      psk = c.self.inside.pair_key;
+      randoms = c.self.inside.randoms;
+      session = option_map session_of c.self.inside.session;
+    } in
     rw (p.1, ← c.self.view_is) (on_node x _ (λ l running.
     refuses dropped x x l p.0 (meters.reply (identity_of x) (memory_with x l) memory.ByCommand c.args.packet.now c.args.now) c.args.out.now running refl
     (reply_lacks x l c.args.packet.now c.args.now c.in_ok-peer.peer fine value is p.0 (at_some _ _ l running joined)
-    (ap (λ (k : List ℕ). command_fault dropped dropped_for l 0 (length k)) (sym (c.write_up.ensures.command ∙ ap command_of (c.join_with-join.ensures.value ∙ (λ j. message (c.eui-eui.ensures j) (body.Join (written j)))))) ∙ at_some _ _ l running fault ∙ ap Some (sym p.2))) c.requires.empty))
+    (ap (λ (k : List ℕ). command_fault dropped dropped_for l 0 (length k))
+    (sym (c.write_up.ensures.command ∙ ap command_of (c.join_with-join.ensures.value ∙ (λ j. message (c.eui-eui.ensures j) (body.Join (written j))))))
+    ∙ at_some _ _ l running fault ∙ ap Some (sym p.2))) c.requires.empty))
 
 pub returns-in_default-clause-carries : goal.returns-in_default-clause-carries
 returns-in_default-clause-carries g c =
@@ -47,12 +55,22 @@ returns-in_default-clause-carries g c =
     let is = rw (← c.self.view_is) at c.in_ok-peer.ensures.peer in
     let written = rw (← c.self.view_is) at c.in_ok-peer.ensures.written in
     let room = rw (← c.self.view_is) at c.in_ok-room.ensures in
-    let x : MeterState = record { station = c.self.inside.station; psk = c.self.inside.pair_key; randoms = c.self.inside.randoms; session = option_map session_of c.self.inside.session } in
+    let x : MeterState = record {
+      station = c.self.inside.station;
+      psk = c.self.inside.pair_key;
+      randoms = c.self.inside.randoms;
+      session = option_map session_of c.self.inside.session;
+    } in
     rw (← c.self.view_is) (on_node x _ (λ l running.
-    command_failed x l c.args.packet.now c.args.now c.in_ok-peer.peer fine value is c.send_command.new.self c.drop_oldest.new.self c.drop_oldest.ensures c.send_command.new.out (at_some _ _ l running joined)
-    (subst (λ (k : List ℕ). HasRoom l 0 (length k)) (c.write_up.ensures.command ∙ ap command_of (c.join_with-join.ensures.value ∙ (λ j. message (c.eui-eui.ensures j) (body.Join (written j))))) (at_some _ _ l running room)) _
-    (sent_as x.station c.send_command.new.self l c.coordinator.result c.octets.result.now (Second x l c.args.packet.now c.args.now c.in_ok-peer.peer) c.args.now _ c.send_command.new.out c.coordinator.ensures
-    (c.octets.ensures.value ∙ (c.write_up.ensures.command ∙ ap command_of (c.join_with-join.ensures.value ∙ (λ j. message (c.eui-eui.ensures j) (body.Join (written j)))))) (at_some _ _ l running c.in_default.ensures.carries))))
+    command_failed x l c.args.packet.now c.args.now c.in_ok-peer.peer fine value is c.send_command.new.self c.drop_oldest.new.self c.drop_oldest.ensures
+    c.send_command.new.out (at_some _ _ l running joined)
+    (subst (λ (k : List ℕ). HasRoom l 0 (length k)) (c.write_up.ensures.command
+    ∙ ap command_of (c.join_with-join.ensures.value ∙ (λ j. message (c.eui-eui.ensures j) (body.Join (written j))))) (at_some _ _ l running room)) _
+    (sent_as x.station c.send_command.new.self l c.coordinator.result c.octets.result.now (Second x l c.args.packet.now c.args.now c.in_ok-peer.peer) c.args.now
+    _ c.send_command.new.out c.coordinator.ensures
+    (c.octets.ensures.value ∙ (c.write_up.ensures.command
+    ∙ ap command_of (c.join_with-join.ensures.value ∙ (λ j. message (c.eui-eui.ensures j) (body.Join (written j))))))
+    (at_some _ _ l running c.in_default.ensures.carries))))
 
 pub returns-clause-carries : goal.returns-clause-carries
 returns-clause-carries g c =
@@ -62,9 +80,19 @@ returns-clause-carries g c =
     let is = rw (← c.self.view_is) at c.in_ok-peer.ensures.peer in
     let written = rw (← c.self.view_is) at c.in_ok-peer.ensures.written in
     let room = rw (← c.self.view_is) at c.in_ok-room.ensures in
-    let x : MeterState = record { station = c.self.inside.station; psk = c.self.inside.pair_key; randoms = c.self.inside.randoms; session = option_map session_of c.self.inside.session } in
+    let x : MeterState = record {
+      station = c.self.inside.station;
+      psk = c.self.inside.pair_key;
+      randoms = c.self.inside.randoms;
+      session = option_map session_of c.self.inside.session;
+    } in
     rw (← c.self.view_is) (on_node x _ (λ l running.
-    command_replied x l c.args.packet.now c.args.now c.in_ok-peer.peer fine value is c.send_command.new.self c.drop_oldest.new.self c.drop_oldest.ensures c.send_command.new.out (at_some _ _ l running joined)
-    (subst (λ (k : List ℕ). HasRoom l 0 (length k)) (c.write_up.ensures.command ∙ ap command_of (c.join_with-join.ensures.value ∙ (λ j. message (c.eui-eui.ensures j) (body.Join (written j))))) (at_some _ _ l running room)) _ _
-    (sent_as x.station c.send_command.new.self l c.coordinator.result c.octets.result.now (Second x l c.args.packet.now c.args.now c.in_ok-peer.peer) c.args.now _ c.send_command.new.out c.coordinator.ensures
-    (c.octets.ensures.value ∙ (c.write_up.ensures.command ∙ ap command_of (c.join_with-join.ensures.value ∙ (λ j. message (c.eui-eui.ensures j) (body.Join (written j)))))) (at_some _ _ l running c.in-Ok.ensures.carries)) (λ i. record c.send_command.new.out { tags = c.in_ok-peer.ensures.tags i })))
+    command_replied x l c.args.packet.now c.args.now c.in_ok-peer.peer fine value is c.send_command.new.self c.drop_oldest.new.self c.drop_oldest.ensures
+    c.send_command.new.out (at_some _ _ l running joined)
+    (subst (λ (k : List ℕ). HasRoom l 0 (length k)) (c.write_up.ensures.command
+    ∙ ap command_of (c.join_with-join.ensures.value ∙ (λ j. message (c.eui-eui.ensures j) (body.Join (written j))))) (at_some _ _ l running room)) _ _
+    (sent_as x.station c.send_command.new.self l c.coordinator.result c.octets.result.now (Second x l c.args.packet.now c.args.now c.in_ok-peer.peer) c.args.now
+    _ c.send_command.new.out c.coordinator.ensures
+    (c.octets.ensures.value ∙ (c.write_up.ensures.command
+    ∙ ap command_of (c.join_with-join.ensures.value ∙ (λ j. message (c.eui-eui.ensures j) (body.Join (written j))))))
+    (at_some _ _ l running c.in-Ok.ensures.carries)) (λ i. record c.send_command.new.out { tags = c.in_ok-peer.ensures.tags i })))

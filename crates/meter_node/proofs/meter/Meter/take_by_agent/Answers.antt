@@ -25,15 +25,21 @@ pub returns-in_err-awaits-clause-carries : goal.returns-in_err-awaits-clause-car
 returns-in_err-awaits-clause-carries g c =
     let p = err_from_is_err_and c.from_residual.result c.from_residual.ensures.1 in
     rw p.1 (on_node c.args.self.now _ (λ l running.
-    refuses dropped c.args.self.now c.args.self.now l p.0 (meters.take (identity_of c.args.self.now) (memory_with c.args.self.now l) (memory.ByAgent c.args.agent) c.args.packet.now c.args.now) c.args.out.now running refl
-    (take_refused c.args.self.now l (memory.ByAgent c.args.agent) c.args.packet.now c.args.now p.0 (ap (λ f. f then third_refusal (keys_of c.args.self.now.psk.0) c.args.self.now.session c.args.packet.now) (at_some _ _ l running c.in_err-awaits.ensures ∙ ap Some (sym p.2)))) c.requires.empty))
+    refuses dropped c.args.self.now c.args.self.now l p.0 (meters.take (identity_of c.args.self.now) (memory_with c.args.self.now l)
+    (memory.ByAgent c.args.agent) c.args.packet.now c.args.now) c.args.out.now running refl
+    (take_refused c.args.self.now l (memory.ByAgent c.args.agent) c.args.packet.now c.args.now p.0
+    (ap (λ f. f then third_refusal (keys_of c.args.self.now.psk.0) c.args.self.now.session c.args.packet.now)
+    (at_some _ _ l running c.in_err-awaits.ensures ∙ ap Some (sym p.2)))) c.requires.empty))
 
 pub returns-in_err-taken-clause-carries : goal.returns-in_err-taken-clause-carries
 returns-in_err-taken-clause-carries g c =
     let p = err_from_is_err_and c.from_residual-in_err-taken.result c.from_residual-in_err-taken.ensures.1 in
     rw p.1 (on_node c.args.self.now _ (λ l running.
-    refuses dropped c.args.self.now c.args.self.now l p.0 (meters.take (identity_of c.args.self.now) (memory_with c.args.self.now l) (memory.ByAgent c.args.agent) c.args.packet.now c.args.now) c.args.out.now running refl
-    (take_refused c.args.self.now l (memory.ByAgent c.args.agent) c.args.packet.now c.args.now p.0 (ap (λ f. f then third_refusal (keys_of c.args.self.now.psk.0) c.args.self.now.session c.args.packet.now) (at_some _ _ l running c.in_ok-awaits.ensures) ∙ c.in_err-taken.ensures.exact ∙ ap Some (sym p.2))) c.requires.empty))
+    refuses dropped c.args.self.now c.args.self.now l p.0 (meters.take (identity_of c.args.self.now) (memory_with c.args.self.now l)
+    (memory.ByAgent c.args.agent) c.args.packet.now c.args.now) c.args.out.now running refl
+    (take_refused c.args.self.now l (memory.ByAgent c.args.agent) c.args.packet.now c.args.now p.0
+    (ap (λ f. f then third_refusal (keys_of c.args.self.now.psk.0) c.args.self.now.session c.args.packet.now) (at_some _ _ l running c.in_ok-awaits.ensures)
+    ∙ c.in_err-taken.ensures.exact ∙ ap Some (sym p.2))) c.requires.empty))
 
 pub returns-in_default-clause-carries : goal.returns-in_default-clause-carries
 returns-in_default-clause-carries g c =
@@ -43,9 +49,15 @@ returns-in_default-clause-carries g c =
     let is = rw (← c.self.view_is) at c.in_ok-taken.ensures.grant in
     let written = rw (← c.self.view_is) at c.in_ok-taken.ensures.written in
     let free = rw (← c.self.view_is) at c.in_ok-awaits.ensures in
-    let x : MeterState = record { station = c.self.inside.station; psk = c.self.inside.pair_key; randoms = c.self.inside.randoms; session = option_map session_of c.self.inside.session } in
+    let x : MeterState = record {
+      station = c.self.inside.station;
+      psk = c.self.inside.pair_key;
+      randoms = c.self.inside.randoms;
+      session = option_map session_of c.self.inside.session;
+    } in
     rw (← c.self.view_is) (on_node x _ (λ l running.
-    agent_cut x l c.args.packet.now c.args.now c.in_ok-taken.taken.peer c.in_ok-taken.taken.grant is held fine c.args.agent c.install.new.self _ running agrees (at_some _ _ l running free) _
+    agent_cut x l c.args.packet.now c.args.now c.in_ok-taken.taken.peer c.in_ok-taken.taken.grant is held fine c.args.agent c.install.new.self _ running agrees
+    (at_some _ _ l running free) _
     (at_some _ _ l running c.in_default.ensures.carries)
     (λ i. record { frames = (c.requires.empty i).frames; tags = record { made = c.clear.ensures i; opened = (c.in_ok-taken.ensures.tags i).opened } })))
 
@@ -57,12 +69,20 @@ returns-clause-carries g c =
     let is = rw (← c.self.view_is) at c.in_ok-taken.ensures.grant in
     let written = rw (← c.self.view_is) at c.in_ok-taken.ensures.written in
     let free = rw (← c.self.view_is) at c.in_ok-awaits.ensures in
-    let x : MeterState = record { station = c.self.inside.station; psk = c.self.inside.pair_key; randoms = c.self.inside.randoms; session = option_map session_of c.self.inside.session } in
+    let x : MeterState = record {
+      station = c.self.inside.station;
+      psk = c.self.inside.pair_key;
+      randoms = c.self.inside.randoms;
+      session = option_map session_of c.self.inside.session;
+    } in
     rw (← c.self.view_is) (on_node x _ (λ l running.
     let eui = c.eui-eui.ensures ∙ ap (λ (k : State memory.StationMemory). k.eui) (at_some _ _ l running c.in-Ok.ensures.carries).new_is in
-    agent_took x l c.args.packet.now c.args.now c.in_ok-taken.taken.peer c.in_ok-taken.taken.grant is held fine c.args.agent c.install.new.self _ running agrees (at_some _ _ l running free)
+    agent_took x l c.args.packet.now c.args.now c.in_ok-taken.taken.peer c.in_ok-taken.taken.grant is held fine c.args.agent c.install.new.self _ running agrees
+    (at_some _ _ l running free)
     c.in_ok-taken.taken.agreed tt c.in_ok-taken.ensures.agreed (at_some _ _ l running c.in-Ok.ensures.carries)
     (λ i. record {
-      frames = (ap (λ (o : Out). o.frames) c.push_up.ensures ∙ (λ j. (c.requires.empty j).frames ++ spelled network (Up c.args.agent c.in_ok-taken.taken.peer.eui ((c.join_with-join.ensures.value ∙ (λ j. message (eui j) (body.Join (written j)))) j)) ∷ [])) i;
+      frames = (ap (λ (o : Out). o.frames) c.push_up.ensures
+          ∙ (λ j. (c.requires.empty j).frames ++ spelled network
+          (Up c.args.agent c.in_ok-taken.taken.peer.eui ((c.join_with-join.ensures.value ∙ (λ j. message (eui j) (body.Join (written j)))) j)) ∷ [])) i;
       tags = c.in_ok-taken.ensures.tags i;
     })))

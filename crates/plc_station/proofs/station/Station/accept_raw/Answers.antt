@@ -11,7 +11,8 @@ use Rattle.plc_station.proofs.station.Station.accept_raw.Goals as goal
 
 pub returns-then-not-is_for_me-clause-carries : goal.returns-then-not-is_for_me-clause-carries
 returns-then-not-is_for_me-clause-carries g c =
-    if_some c.args.self.now.memory _ (λ l m. not_for_me c.args.self.now l (arrived_with network c.args.raw.now.head c.args.raw.now.header.now c.args.raw.now.body.now) m
+    if_some c.args.self.now.memory _
+    (λ l m. not_for_me c.args.self.now l (arrived_with network c.args.raw.now.head c.args.raw.now.header.now c.args.raw.now.body.now) m
     (at_some c.args.self.now.memory _ l m c.if-not-is_for_me.ensures))
 
 pub returns-in-Up-clause-carries : goal.returns-in-Up-clause-carries
@@ -24,4 +25,5 @@ pub returns-in-Down-clause-carries : goal.returns-in-Down-clause-carries
 returns-in-Down-clause-carries g c =
     let a : Arrived = arrived_with network c.args.raw.now.head c.args.raw.now.header.now c.args.raw.now.body.now in
     if_some c.args.self.now.memory _ (λ l m. plain_accepted c.args.self.now l a _ m (at_some c.args.self.now.memory _ l m c.if-not-is_for_me.ensures)
-    (ap (accept_head l a) c.in-Down.is ∙ ap (λ p. resting l (Ok (record { path = paths.Down c.in-Down.from; payload = p })) (Err Store)) (sym c.held-in-Down.ensures)))
+    (ap (accept_head l a) c.in-Down.is
+    ∙ ap (λ p. resting l (Ok (record { path = paths.Down c.in-Down.from; payload = p })) (Err Store)) (sym c.held-in-Down.ensures)))

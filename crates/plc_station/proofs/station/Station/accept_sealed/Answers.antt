@@ -8,9 +8,13 @@ use Rattle.plc_station.proofs.station.Station.accept_sealed.Goals as goal
 pub returns-in_default-clause-carries : goal.returns-in_default-clause-carries
 returns-in_default-clause-carries g c =
     rw (← c.self.view_is)
-    (on_memory c.self.inside.halted _ _ (λ running. key_missing _ (station_in c.self.inside.parts c.self.inside.bodies) (arrived_with network c.args.raw.now.head c.args.raw.now.header.now c.args.raw.now.body.now) c.args.to c.args.from c.args.counter _ running c.in_default.ensures))
+    (on_memory c.self.inside.halted _ _ (λ running. key_missing _ (station_in c.self.inside.parts c.self.inside.bodies)
+    (arrived_with network c.args.raw.now.head c.args.raw.now.header.now c.args.raw.now.body.now) c.args.to c.args.from c.args.counter _ running
+    c.in_default.ensures))
 
 pub returns-in_default-open_frame-clause-carries : goal.returns-in_default-open_frame-clause-carries
 returns-in_default-open_frame-clause-carries g c =
     rw (← c.self.view_is)
-    (on_memory c.self.inside.halted _ _ (λ running. tag_wrong _ (station_in c.self.inside.parts c.self.inside.bodies) (arrived_with network c.args.raw.now.head c.args.raw.now.header.now c.args.raw.now.body.now) c.args.to c.args.from c.args.counter _ _ running c.in-Some.ensures (rw c.new.ensures at c.in_default-open_frame.ensures.exact)))
+    (on_memory c.self.inside.halted _ _ (λ running. tag_wrong _ (station_in c.self.inside.parts c.self.inside.bodies)
+    (arrived_with network c.args.raw.now.head c.args.raw.now.header.now c.args.raw.now.body.now) c.args.to c.args.from c.args.counter _ _ running
+    c.in-Some.ensures (rw c.new.ensures at c.in_default-open_frame.ensures.exact)))

@@ -9,15 +9,19 @@ use Rattle.plc_station.proofs.station.Station.activate.Goals as goal
 
 pub returns-in_default-clause-carries : goal.returns-in_default-clause-carries
 returns-in_default-clause-carries g c =
-    rw (← c.self.view_is) (on_memory c.self.inside.halted _ _ (λ running. refusal ringing_ends _ (station_in c.self.inside.parts c.self.inside.bodies) NotHeld _ _ running (not_held (station_in c.self.inside.parts c.self.inside.bodies) c.args.index c.in_default.ensures) refl))
+    rw (← c.self.view_is) (on_memory c.self.inside.halted _ _ (λ running. refusal ringing_ends _ (station_in c.self.inside.parts c.self.inside.bodies) NotHeld _
+    _ running (not_held (station_in c.self.inside.parts c.self.inside.bodies) c.args.index c.in_default.ensures) refl))
 
 pub returns-clause-carries : goal.returns-clause-carries
 returns-clause-carries g c =
-    rw (← c.self.view_is) (on_memory c.self.inside.halted _ _ (λ running. carried_by _ _ _ _ _ _ (held (station_in c.self.inside.parts c.self.inside.bodies) c.args.index _ c.in-Some.ensures) (at_some _ _ (station_in c.self.inside.parts c.self.inside.bodies) running (rw (← c.self.view_is) at c.set_active.ensures.carries))))
+    rw (← c.self.view_is) (on_memory c.self.inside.halted _ _ (λ running. carried_by _ _ _ _ _ _
+    (held (station_in c.self.inside.parts c.self.inside.bodies) c.args.index _ c.in-Some.ensures)
+    (at_some _ _ (station_in c.self.inside.parts c.self.inside.bodies) running (rw (← c.self.view_is) at c.set_active.ensures.carries))))
 
 pub returns-in_default-clause-either : goal.returns-in_default-clause-either
 returns-in_default-clause-either g c = rw (← c.self.view_is) (on_memory c.self.inside.halted _ _ (λ running. inl refl))
 
 pub returns-clause-either : goal.returns-clause-either
 returns-clause-either g c =
-    rw (← c.self.view_is) (on_memory c.self.inside.halted _ _ (λ running. at_some _ _ (station_in c.self.inside.parts c.self.inside.bodies) running (rw (← c.self.view_is) at c.set_active.ensures.either)))
+    rw (← c.self.view_is) (on_memory c.self.inside.halted _ _
+    (λ running. at_some _ _ (station_in c.self.inside.parts c.self.inside.bodies) running (rw (← c.self.view_is) at c.set_active.ensures.either)))

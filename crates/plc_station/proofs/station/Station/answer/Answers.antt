@@ -31,18 +31,46 @@ use Rattle.plc_station.proofs.station.Station.answer.Goals as goal
 pub returns-in_default-clause-carries : goal.returns-in_default-clause-carries
 unfolding goes leave with_own_number with_rank empty_draft leaving
 returns-in_default-clause-carries g c =
-    rw (← c.self.view_is) (on_memory c.self.inside.halted _ _ (λ running. stopped dropped _ _ (tells c.args.by (Rrep (c.self.inside.parts.own_number.last + 1) 0 c.args.grant.now.address c.args.origin) (offers_numbered c.args.grant.now.address c.args.origin c.args.rank c.args.by c.args.now (station_in c.self.inside.parts c.self.inside.bodies))) (tells c.args.by (Rrep (c.self.inside.parts.own_number.last + 1) 0 c.args.grant.now.address c.args.origin) (offers_numbered c.args.grant.now.address c.args.origin c.args.rank c.args.by c.args.now (station_in c.self.inside.parts c.self.inside.bodies))) tt _ refl (wrote_append_stop _ _ _ _ c.in_default.ensures.store) c.requires.empty refl))
+    rw (← c.self.view_is) (on_memory c.self.inside.halted _ _ (λ running. stopped dropped _ _
+    (tells c.args.by (Rrep (c.self.inside.parts.own_number.last + 1) 0 c.args.grant.now.address c.args.origin)
+    (offers_numbered c.args.grant.now.address c.args.origin c.args.rank c.args.by c.args.now (station_in c.self.inside.parts c.self.inside.bodies)))
+    (tells c.args.by (Rrep (c.self.inside.parts.own_number.last + 1) 0 c.args.grant.now.address c.args.origin)
+    (offers_numbered c.args.grant.now.address c.args.origin c.args.rank c.args.by c.args.now (station_in c.self.inside.parts c.self.inside.bodies))) tt _ refl
+    (wrote_append_stop _ _ _ _ c.in_default.ensures.store) c.requires.empty refl))
 
 pub returns-in_default-advance-clause-carries : goal.returns-in_default-advance-clause-carries
 unfolding goes leave with_own_number with_rank empty_draft leaving
 returns-in_default-advance-clause-carries g c =
-    rw (← c.self.view_is) (on_memory c.self.inside.halted _ _ (λ running. stopped dropped _ _ (tells c.args.by (Rrep (c.self.inside.parts.own_number.last + 1) 0 c.args.grant.now.address c.args.origin) (offers_numbered c.args.grant.now.address c.args.origin c.args.rank c.args.by c.args.now (station_in c.self.inside.parts c.self.inside.bodies))) (tells c.args.by (Rrep (c.self.inside.parts.own_number.last + 1) 0 c.args.grant.now.address c.args.origin) (offers_numbered c.args.grant.now.address c.args.origin c.args.rank c.args.by c.args.now (station_in c.self.inside.parts c.self.inside.bodies))) tt _ refl (wrote_append _ _ _ _ _ _ c.in-Ok.ensures.store (wrote_one _ _ _ _ c.in_default-advance.ensures.store)) c.requires.empty refl))
+    rw (← c.self.view_is) (on_memory c.self.inside.halted _ _ (λ running. stopped dropped _ _
+    (tells c.args.by (Rrep (c.self.inside.parts.own_number.last + 1) 0 c.args.grant.now.address c.args.origin)
+    (offers_numbered c.args.grant.now.address c.args.origin c.args.rank c.args.by c.args.now (station_in c.self.inside.parts c.self.inside.bodies)))
+    (tells c.args.by (Rrep (c.self.inside.parts.own_number.last + 1) 0 c.args.grant.now.address c.args.origin)
+    (offers_numbered c.args.grant.now.address c.args.origin c.args.rank c.args.by c.args.now (station_in c.self.inside.parts c.self.inside.bodies))) tt _ refl
+    (wrote_append _ _ _ _ _ _ c.in-Ok.ensures.store (wrote_one _ _ _ _ c.in_default-advance.ensures.store)) c.requires.empty refl))
 
 pub returns-in_default-reserve-clause-carries : goal.returns-in_default-reserve-clause-carries
 unfolding goes leave with_own_number with_rank empty_draft leaving
 returns-in_default-reserve-clause-carries g c =
-    let count : c.units_for-units.result + 1 ≡ length (tells c.args.by (Rrep (c.self.inside.parts.own_number.last + 1) 0 c.args.grant.now.address c.args.origin) (offers_numbered c.args.grant.now.address c.args.origin c.args.rank c.args.by c.args.now (station_in c.self.inside.parts c.self.inside.bodies))).units = omega (arith, c.units_for-units.ensures.units c.args.grant.now.address c.args.by, length-append (leaving c.args.grant.now.address c.args.origin c.args.by c.self.inside.bodies.waiting) ((record { to = c.args.by; unit = Local 1 (messages.spelling (Rrep (c.self.inside.parts.own_number.last + 1) 0 c.args.grant.now.address c.args.origin)); note = 0 }) ∷ [])) in
-    rw (← c.self.view_is) (on_memory c.self.inside.halted _ _ (λ running. uncounted dropped _ _ (tells c.args.by (Rrep (c.self.inside.parts.own_number.last + 1) 0 c.args.grant.now.address c.args.origin) (offers_numbered c.args.grant.now.address c.args.origin c.args.rank c.args.by c.args.now (station_in c.self.inside.parts c.self.inside.bodies))) (tells c.args.by (Rrep (c.self.inside.parts.own_number.last + 1) 0 c.args.grant.now.address c.args.origin) (offers_numbered c.args.grant.now.address c.args.origin c.args.rank c.args.by c.args.now (station_in c.self.inside.parts c.self.inside.bodies))) tt _ _ _ refl (wrote_append _ _ _ _ _ _ c.in-Ok.ensures.store (wrote_one _ _ _ _ c.in-Ok-advance.ensures.store)) count c.in_default-reserve.ensures.store c.requires.empty refl))
+    let count : c.units_for-units.result + 1 ≡ length (tells c.args.by (Rrep (c.self.inside.parts.own_number.last + 1) 0 c.args.grant.now.address c.args.origin)
+    (offers_numbered c.args.grant.now.address c.args.origin c.args.rank c.args.by c.args.now (station_in c.self.inside.parts c.self.inside.bodies))).units =
+    omega (
+      arith,
+      c.units_for-units.ensures.units c.args.grant.now.address c.args.by,
+      length-append (leaving c.args.grant.now.address c.args.origin c.args.by c.self.inside.bodies.waiting)
+          ((record {
+            to = c.args.by;
+            unit = Local 1
+                (messages.spelling (Rrep (c.self.inside.parts.own_number.last + 1) 0 c.args.grant.now.address c.args.origin));
+            note = 0;
+          }) ∷ []),
+    ) in
+    rw (← c.self.view_is) (on_memory c.self.inside.halted _ _ (λ running. uncounted dropped _ _
+    (tells c.args.by (Rrep (c.self.inside.parts.own_number.last + 1) 0 c.args.grant.now.address c.args.origin)
+    (offers_numbered c.args.grant.now.address c.args.origin c.args.rank c.args.by c.args.now (station_in c.self.inside.parts c.self.inside.bodies)))
+    (tells c.args.by (Rrep (c.self.inside.parts.own_number.last + 1) 0 c.args.grant.now.address c.args.origin)
+    (offers_numbered c.args.grant.now.address c.args.origin c.args.rank c.args.by c.args.now (station_in c.self.inside.parts c.self.inside.bodies))) tt _ _ _
+    refl (wrote_append _ _ _ _ _ _ c.in-Ok.ensures.store (wrote_one _ _ _ _ c.in-Ok-advance.ensures.store)) count c.in_default-reserve.ensures.store
+    c.requires.empty refl))
 
 pub seal_message-requires-clause-room : goal.seal_message-requires-clause-room
 seal_message-requires-clause-room g c =
@@ -50,8 +78,10 @@ seal_message-requires-clause-room g c =
       arith,
       ap (λ (o : Out). length o.frames) c.seal_leaving.ensures,
       ap (λ (o : Out). length o.frames) c.requires.empty,
-      length-append c.args.out.now.frames (frames_of c.args.grant.now c.sealing_key-key.result c.in-Ok-reserve.first (leaving c.args.grant.now.address c.args.origin c.args.by c.self.inside.bodies.waiting)),
-      length-frames c.args.grant.now c.sealing_key-key.result c.in-Ok-reserve.first (leaving c.args.grant.now.address c.args.origin c.args.by c.self.inside.bodies.waiting),
+      length-append c.args.out.now.frames (frames_of c.args.grant.now c.sealing_key-key.result c.in-Ok-reserve.first
+          (leaving c.args.grant.now.address c.args.origin c.args.by c.self.inside.bodies.waiting)),
+      length-frames c.args.grant.now c.sealing_key-key.result c.in-Ok-reserve.first
+          (leaving c.args.grant.now.address c.args.origin c.args.by c.self.inside.bodies.waiting),
       c.units_for-units.ensures.units c.args.grant.now.address c.args.by,
       c.units_for-units.ensures.few,
     )
@@ -59,39 +89,96 @@ seal_message-requires-clause-room g c =
 pub returns-clause-carries : goal.returns-clause-carries
 unfolding goes leave with_own_number with_rank empty_draft leaving
 returns-clause-carries g c =
-    let count : c.units_for-units.result + 1 ≡ length (tells c.args.by (Rrep (c.self.inside.parts.own_number.last + 1) 0 c.args.grant.now.address c.args.origin) (offers_numbered c.args.grant.now.address c.args.origin c.args.rank c.args.by c.args.now (station_in c.self.inside.parts c.self.inside.bodies))).units = omega (arith, c.units_for-units.ensures.units c.args.grant.now.address c.args.by, length-append (leaving c.args.grant.now.address c.args.origin c.args.by c.self.inside.bodies.waiting) ((record { to = c.args.by; unit = Local 1 (messages.spelling (Rrep (c.self.inside.parts.own_number.last + 1) 0 c.args.grant.now.address c.args.origin)); note = 0 }) ∷ [])) in
-    rw (← c.self.view_is) (on_memory c.self.inside.halted _ _ (λ running. ended dropped _ _ (tells c.args.by (Rrep (c.self.inside.parts.own_number.last + 1) 0 c.args.grant.now.address c.args.origin) (offers_numbered c.args.grant.now.address c.args.origin c.args.rank c.args.by c.args.now (station_in c.self.inside.parts c.self.inside.bodies))) (tells c.args.by (Rrep (c.self.inside.parts.own_number.last + 1) 0 c.args.grant.now.address c.args.origin) (offers_numbered c.args.grant.now.address c.args.origin c.args.rank c.args.by c.args.now (station_in c.self.inside.parts c.self.inside.bodies))) tt _ _ _ refl (wrote_append _ _ _ _ _ _ c.in-Ok.ensures.store (wrote_one _ _ _ _ c.in-Ok-advance.ensures.store)) count c.in-Ok-reserve.ensures.store
+    let count : c.units_for-units.result + 1 ≡ length (tells c.args.by (Rrep (c.self.inside.parts.own_number.last + 1) 0 c.args.grant.now.address c.args.origin)
+    (offers_numbered c.args.grant.now.address c.args.origin c.args.rank c.args.by c.args.now (station_in c.self.inside.parts c.self.inside.bodies))).units =
+    omega (
+      arith,
+      c.units_for-units.ensures.units c.args.grant.now.address c.args.by,
+      length-append (leaving c.args.grant.now.address c.args.origin c.args.by c.self.inside.bodies.waiting)
+          ((record {
+            to = c.args.by;
+            unit = Local 1
+                (messages.spelling (Rrep (c.self.inside.parts.own_number.last + 1) 0 c.args.grant.now.address c.args.origin));
+            note = 0;
+          }) ∷ []),
+    ) in
+    rw (← c.self.view_is) (on_memory c.self.inside.halted _ _ (λ running. ended dropped _ _
+    (tells c.args.by (Rrep (c.self.inside.parts.own_number.last + 1) 0 c.args.grant.now.address c.args.origin)
+    (offers_numbered c.args.grant.now.address c.args.origin c.args.rank c.args.by c.args.now (station_in c.self.inside.parts c.self.inside.bodies)))
+    (tells c.args.by (Rrep (c.self.inside.parts.own_number.last + 1) 0 c.args.grant.now.address c.args.origin)
+    (offers_numbered c.args.grant.now.address c.args.origin c.args.rank c.args.by c.args.now (station_in c.self.inside.parts c.self.inside.bodies))) tt _ _ _
+    refl (wrote_append _ _ _ _ _ _ c.in-Ok.ensures.store (wrote_one _ _ _ _ c.in-Ok-advance.ensures.store)) count c.in-Ok-reserve.ensures.store
     (c.seal_message.ensures.sent
     ∙ (λ i. record {
-      frames = (c.seal_leaving.ensures i).frames ++ map (spelled network) (sealed_by (Some c.args.grant.now) (c.in-Ok-reserve.first + c.units_for-units.ensures.units c.args.grant.now.address c.args.by i) (record { to = c.one.ensures.value i; unit = Local 1 (messages.spelling (Rrep (c.in-Ok-advance.ensures.number i) 0 (ap (λ (g : Granted). g.address) c.grant.view_is i) c.args.origin)); note = 0 } ∷ []));
+      frames = (c.seal_leaving.ensures i).frames
+          ++ map (spelled network) (sealed_by (Some c.args.grant.now) (c.in-Ok-reserve.first
+          + c.units_for-units.ensures.units c.args.grant.now.address c.args.by i)
+          (record {
+            to = c.one.ensures.value i;
+            unit = Local 1 (messages.spelling (Rrep (c.in-Ok-advance.ensures.number i) 0 (ap (λ (g : Granted). g.address) c.grant.view_is i) c.args.origin));
+            note = 0;
+          } ∷ []));
       tags = (c.seal_leaving.ensures i).tags;
     })
     ∙ (λ i. record {
-      frames = ((c.requires.empty i).frames ++ frames_of c.args.grant.now c.sealing_key-key.result (c.in-Ok-reserve.ensures.number i) (leaving c.args.grant.now.address c.args.origin c.args.by c.self.inside.bodies.waiting)) ++ map (spelled network) (sealed_by (Some c.args.grant.now) (c.in-Ok-reserve.ensures.number i + length (leaving c.args.grant.now.address c.args.origin c.args.by c.self.inside.bodies.waiting)) ((record { to = c.args.by; unit = Local 1 (messages.spelling (Rrep (c.self.inside.parts.own_number.last + 1) 0 c.args.grant.now.address c.args.origin)); note = 0 }) ∷ []));
+      frames = ((c.requires.empty i).frames ++ frames_of c.args.grant.now c.sealing_key-key.result (c.in-Ok-reserve.ensures.number i)
+          (leaving c.args.grant.now.address c.args.origin c.args.by c.self.inside.bodies.waiting))
+          ++ map (spelled network) (sealed_by (Some c.args.grant.now) (c.in-Ok-reserve.ensures.number i
+          + length (leaving c.args.grant.now.address c.args.origin c.args.by c.self.inside.bodies.waiting))
+          ((record {
+            to = c.args.by;
+            unit = Local 1
+                (messages.spelling (Rrep (c.self.inside.parts.own_number.last + 1) 0 c.args.grant.now.address c.args.origin));
+            note = 0;
+          }) ∷ []));
       tags = (c.requires.empty i).tags;
     })
-    ∙ ap only_frames (sealed_then c.args.grant.now c.sealing_key-key.result c.self.inside.parts.counter.next (leaving c.args.grant.now.address c.args.origin c.args.by c.self.inside.bodies.waiting) ((record { to = c.args.by; unit = Local 1 (messages.spelling (Rrep (c.self.inside.parts.own_number.last + 1) 0 c.args.grant.now.address c.args.origin)); note = 0 }) ∷ []) c.sealing_key-key.ensures)
-    ∙ (λ i. only_frames (map (spelled network) (sealed_by ((sym (at_some c.args.self.now.memory (λ l. l.ring ≡ Some c.args.grant.now) (station_in c.self.inside.parts c.self.inside.bodies) (ap (λ (s : State StationMemory). s.memory) (sym c.self.view_is) ∙ running) c.requires.ring)) i) c.self.inside.parts.counter.next ((leaving c.args.grant.now.address c.args.origin c.args.by c.self.inside.bodies.waiting) ++ (record { to = c.args.by; unit = Local 1 (messages.spelling (Rrep (c.self.inside.parts.own_number.last + 1) 0 c.args.grant.now.address c.args.origin)); note = 0 }) ∷ [])))))
-    (lines_are _ _ _ _ refl c.in-Ok-reserve.ensures.counter refl c.in-Ok.ensures.routing c.in-Ok-advance.ensures.numbering refl (ap (λ (h : Held). h.reassemblies) c.drop_for.ensures) (ap (λ (h : Held). h.waiting) c.drop_for.ensures))))
+    ∙ ap only_frames (sealed_then c.args.grant.now c.sealing_key-key.result c.self.inside.parts.counter.next
+    (leaving c.args.grant.now.address c.args.origin c.args.by c.self.inside.bodies.waiting)
+    ((record {
+      to = c.args.by;
+      unit = Local 1 (messages.spelling (Rrep (c.self.inside.parts.own_number.last + 1) 0 c.args.grant.now.address c.args.origin));
+      note = 0;
+    }) ∷ []) c.sealing_key-key.ensures)
+    ∙ (λ i. only_frames (map (spelled network) (sealed_by ((sym (at_some c.args.self.now.memory (λ l. l.ring ≡ Some c.args.grant.now)
+    (station_in c.self.inside.parts c.self.inside.bodies) (ap (λ (s : State StationMemory). s.memory) (sym c.self.view_is) ∙ running) c.requires.ring)) i)
+    c.self.inside.parts.counter.next ((leaving c.args.grant.now.address c.args.origin c.args.by c.self.inside.bodies.waiting)
+    ++ (record {
+      to = c.args.by;
+      unit = Local 1 (messages.spelling (Rrep (c.self.inside.parts.own_number.last + 1) 0 c.args.grant.now.address c.args.origin));
+      note = 0;
+    }) ∷ [])))))
+    (lines_are _ _ _ _ refl c.in-Ok-reserve.ensures.counter refl c.in-Ok.ensures.routing c.in-Ok-advance.ensures.numbering refl
+    (ap (λ (h : Held). h.reassemblies) c.drop_for.ensures) (ap (λ (h : Held). h.waiting) c.drop_for.ensures))))
 
 pub returns-clause-agrees : goal.returns-clause-agrees
 returns-clause-agrees g c =
-    let before : IfSome (unless_halted c.self.inside.halted (station_in c.self.inside.parts c.self.inside.bodies)) (λ l. AgreesWith l (g.K.Keeper.store c.self.inside.keeper).records) = rw (← c.self.view_is) at c.requires.agrees in
+    let before : IfSome (unless_halted c.self.inside.halted (station_in c.self.inside.parts c.self.inside.bodies))
+    (λ l. AgreesWith l (g.K.Keeper.store c.self.inside.keeper).records) = rw (← c.self.view_is) at c.requires.agrees in
     let running = rw (← c.self.view_is) at c.requires.running in
     agrees_holding _ c.self.inside.bodies c.drop_for.new.self _
-    (agrees_counted _ _ _ _ (agrees_numbered _ _ _ _ (agrees_ranked (station_in c.self.inside.parts c.self.inside.bodies) _ _ _ (of_some _ _ _ running before) c.in-Ok.ensures.kept c.in-Ok.ensures.elsewhere)
+    (agrees_counted _ _ _ _ (agrees_numbered _ _ _ _ (agrees_ranked (station_in c.self.inside.parts c.self.inside.bodies) _ _ _ (of_some _ _ _ running before)
+    c.in-Ok.ensures.kept c.in-Ok.ensures.elsewhere)
     c.in-Ok-advance.ensures.kept c.in-Ok-advance.ensures.elsewhere) c.in-Ok-reserve.ensures.kept c.in-Ok-reserve.ensures.elsewhere)
 
 pub returns-in_default-clause-replied : goal.returns-in_default-clause-replied
 returns-in_default-clause-replied g c = rw (← c.self.view_is) (on_memory c.self.inside.halted _ _ (λ running. rw (← c.self.view_is) at c.requires.fresh))
 
 pub returns-in_default-advance-clause-replied : goal.returns-in_default-advance-clause-replied
-returns-in_default-advance-clause-replied g c = rw (← c.self.view_is) (on_memory c.self.inside.halted _ _ (λ running. rw (← c.self.view_is) at c.requires.fresh))
+returns-in_default-advance-clause-replied g c =
+    rw (← c.self.view_is) (on_memory c.self.inside.halted _ _ (λ running. rw (← c.self.view_is) at c.requires.fresh))
 
 pub returns-in_default-reserve-clause-replied : goal.returns-in_default-reserve-clause-replied
-returns-in_default-reserve-clause-replied g c = rw (← c.self.view_is) (on_memory c.self.inside.halted _ _ (λ running. rw (← c.self.view_is) at c.requires.fresh))
+returns-in_default-reserve-clause-replied g c =
+    rw (← c.self.view_is) (on_memory c.self.inside.halted _ _ (λ running. rw (← c.self.view_is) at c.requires.fresh))
 
 pub returns-clause-replied : goal.returns-clause-replied
 returns-clause-replied g c =
-    rw (← c.self.view_is) (on_memory c.self.inside.halted _ _ (λ running. (λ i. Some (record { to = c.args.by; number = c.in-Ok-advance.ensures.number i; origin = ap (λ (g : Granted). g.address) c.grant.view_is i })) ∙ sym (answer_told (station_in c.self.inside.parts c.self.inside.bodies) c.args.grant.now c.sealing_key-key.result c.args.grant.now.address c.args.by c.args.origin c.args.rank c.args.now
-    (at_some c.args.self.now.memory (λ l. l.ring ≡ Some c.args.grant.now) (station_in c.self.inside.parts c.self.inside.bodies) (ap (λ (s : State StationMemory). s.memory) (sym c.self.view_is) ∙ running) c.requires.ring) c.sealing_key-key.ensures (subst messages.IsMessage (λ i. Rrep (c.in-Ok-advance.ensures.number i) 0 (ap (λ (g : Granted). g.address) c.grant.view_is i) c.args.origin) c.seal_message.ensures.message))))
+    rw (← c.self.view_is) (on_memory c.self.inside.halted _ _ (λ running.
+    (λ i. Some (record { to = c.args.by; number = c.in-Ok-advance.ensures.number i; origin = ap (λ (g : Granted). g.address) c.grant.view_is i }))
+    ∙ sym (answer_told (station_in c.self.inside.parts c.self.inside.bodies) c.args.grant.now c.sealing_key-key.result c.args.grant.now.address c.args.by
+    c.args.origin c.args.rank c.args.now
+    (at_some c.args.self.now.memory (λ l. l.ring ≡ Some c.args.grant.now) (station_in c.self.inside.parts c.self.inside.bodies)
+    (ap (λ (s : State StationMemory). s.memory) (sym c.self.view_is) ∙ running) c.requires.ring) c.sealing_key-key.ensures
+    (subst messages.IsMessage (λ i. Rrep (c.in-Ok-advance.ensures.number i) 0 (ap (λ (g : Granted). g.address) c.grant.view_is i) c.args.origin)
+    c.seal_message.ensures.message))))

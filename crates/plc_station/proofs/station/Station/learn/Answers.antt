@@ -22,29 +22,51 @@ use Rattle.plc_station.proofs.station.Station.learn.Goals as goal
 pub returns-in_default-clause-carries : goal.returns-in_default-clause-carries
 unfolding goes leave with_own_number with_rank empty_draft leaving
 returns-in_default-clause-carries g c =
-    rw (← c.self.view_is) (on_memory c.self.inside.halted _ _ (λ running. stopped dropped _ _ (offers c.args.grant.now.address c.args.origin c.args.rank c.args.by c.args.now (station_in c.self.inside.parts c.self.inside.bodies)) (offers c.args.grant.now.address c.args.origin c.args.rank c.args.by c.args.now (station_in c.self.inside.parts c.self.inside.bodies)) tt _ refl c.in_default.ensures.store c.requires.empty refl))
+    rw (← c.self.view_is) (on_memory c.self.inside.halted _ _ (λ running. stopped dropped _ _
+    (offers c.args.grant.now.address c.args.origin c.args.rank c.args.by c.args.now (station_in c.self.inside.parts c.self.inside.bodies))
+    (offers c.args.grant.now.address c.args.origin c.args.rank c.args.by c.args.now (station_in c.self.inside.parts c.self.inside.bodies)) tt _ refl
+    c.in_default.ensures.store c.requires.empty refl))
 
 pub returns-in_default-reserve-clause-carries : goal.returns-in_default-reserve-clause-carries
 unfolding goes leave with_own_number with_rank empty_draft leaving
 returns-in_default-reserve-clause-carries g c =
-    let count : c.units_for-units.result ≡ length (offers c.args.grant.now.address c.args.origin c.args.rank c.args.by c.args.now (station_in c.self.inside.parts c.self.inside.bodies)).units = c.units_for-units.ensures.units c.args.grant.now.address c.args.by in
-    rw (← c.self.view_is) (on_memory c.self.inside.halted _ _ (λ running. uncounted dropped _ _ (offers c.args.grant.now.address c.args.origin c.args.rank c.args.by c.args.now (station_in c.self.inside.parts c.self.inside.bodies)) (offers c.args.grant.now.address c.args.origin c.args.rank c.args.by c.args.now (station_in c.self.inside.parts c.self.inside.bodies)) tt _ _ _ refl c.in-Ok.ensures.store count c.in_default-reserve.ensures.store c.requires.empty refl))
+    let count : c.units_for-units.result ≡ length (offers c.args.grant.now.address c.args.origin c.args.rank c.args.by c.args.now
+    (station_in c.self.inside.parts c.self.inside.bodies)).units = c.units_for-units.ensures.units c.args.grant.now.address c.args.by in
+    rw (← c.self.view_is) (on_memory c.self.inside.halted _ _ (λ running. uncounted dropped _ _
+    (offers c.args.grant.now.address c.args.origin c.args.rank c.args.by c.args.now (station_in c.self.inside.parts c.self.inside.bodies))
+    (offers c.args.grant.now.address c.args.origin c.args.rank c.args.by c.args.now (station_in c.self.inside.parts c.self.inside.bodies)) tt _ _ _ refl
+    c.in-Ok.ensures.store count c.in_default-reserve.ensures.store c.requires.empty refl))
 
 pub returns-clause-carries : goal.returns-clause-carries
 unfolding goes leave with_own_number with_rank empty_draft leaving
 returns-clause-carries g c =
-    let count : c.units_for-units.result ≡ length (offers c.args.grant.now.address c.args.origin c.args.rank c.args.by c.args.now (station_in c.self.inside.parts c.self.inside.bodies)).units = c.units_for-units.ensures.units c.args.grant.now.address c.args.by in
-    rw (← c.self.view_is) (on_memory c.self.inside.halted _ _ (λ running. ended dropped _ _ (offers c.args.grant.now.address c.args.origin c.args.rank c.args.by c.args.now (station_in c.self.inside.parts c.self.inside.bodies)) (offers c.args.grant.now.address c.args.origin c.args.rank c.args.by c.args.now (station_in c.self.inside.parts c.self.inside.bodies)) tt _ _ _ refl c.in-Ok.ensures.store count c.in-Ok-reserve.ensures.store
+    let count : c.units_for-units.result ≡ length (offers c.args.grant.now.address c.args.origin c.args.rank c.args.by c.args.now
+    (station_in c.self.inside.parts c.self.inside.bodies)).units = c.units_for-units.ensures.units c.args.grant.now.address c.args.by in
+    rw (← c.self.view_is) (on_memory c.self.inside.halted _ _ (λ running. ended dropped _ _
+    (offers c.args.grant.now.address c.args.origin c.args.rank c.args.by c.args.now (station_in c.self.inside.parts c.self.inside.bodies))
+    (offers c.args.grant.now.address c.args.origin c.args.rank c.args.by c.args.now (station_in c.self.inside.parts c.self.inside.bodies)) tt _ _ _ refl
+    c.in-Ok.ensures.store count c.in-Ok-reserve.ensures.store
     (c.seal_leaving.ensures
-    ∙ (λ i. record { frames = (c.requires.empty i).frames ++ frames_of c.args.grant.now c.sealing_key-key.result (c.in-Ok-reserve.ensures.number i) (leaving c.args.grant.now.address c.args.origin c.args.by c.self.inside.bodies.waiting); tags = (c.requires.empty i).tags })
-    ∙ ap only_frames (sealed_alone c.args.grant.now c.sealing_key-key.result c.self.inside.parts.counter.next (leaving c.args.grant.now.address c.args.origin c.args.by c.self.inside.bodies.waiting) c.sealing_key-key.ensures)
-    ∙ (λ i. only_frames (map (spelled network) (sealed_by ((sym (at_some c.args.self.now.memory (λ l. l.ring ≡ Some c.args.grant.now) (station_in c.self.inside.parts c.self.inside.bodies) (ap (λ (s : State StationMemory). s.memory) (sym c.self.view_is) ∙ running) c.requires.ring)) i) c.self.inside.parts.counter.next (leaving c.args.grant.now.address c.args.origin c.args.by c.self.inside.bodies.waiting)))))
-    (lines_are _ _ _ _ refl c.in-Ok-reserve.ensures.counter refl c.in-Ok.ensures.routing refl refl (ap (λ (h : Held). h.reassemblies) c.drop_for.ensures) (ap (λ (h : Held). h.waiting) c.drop_for.ensures))))
+    ∙ (λ i. record {
+      frames = (c.requires.empty i).frames
+          ++ frames_of c.args.grant.now c.sealing_key-key.result (c.in-Ok-reserve.ensures.number i)
+          (leaving c.args.grant.now.address c.args.origin c.args.by c.self.inside.bodies.waiting);
+      tags = (c.requires.empty i).tags;
+    })
+    ∙ ap only_frames (sealed_alone c.args.grant.now c.sealing_key-key.result c.self.inside.parts.counter.next
+    (leaving c.args.grant.now.address c.args.origin c.args.by c.self.inside.bodies.waiting) c.sealing_key-key.ensures)
+    ∙ (λ i. only_frames (map (spelled network) (sealed_by ((sym (at_some c.args.self.now.memory (λ l. l.ring ≡ Some c.args.grant.now)
+    (station_in c.self.inside.parts c.self.inside.bodies) (ap (λ (s : State StationMemory). s.memory) (sym c.self.view_is) ∙ running) c.requires.ring)) i)
+    c.self.inside.parts.counter.next (leaving c.args.grant.now.address c.args.origin c.args.by c.self.inside.bodies.waiting)))))
+    (lines_are _ _ _ _ refl c.in-Ok-reserve.ensures.counter refl c.in-Ok.ensures.routing refl refl (ap (λ (h : Held). h.reassemblies) c.drop_for.ensures)
+    (ap (λ (h : Held). h.waiting) c.drop_for.ensures))))
 
 pub returns-clause-agrees : goal.returns-clause-agrees
 returns-clause-agrees g c =
-    let before : IfSome (unless_halted c.self.inside.halted (station_in c.self.inside.parts c.self.inside.bodies)) (λ l. AgreesWith l (g.K.Keeper.store c.self.inside.keeper).records) = rw (← c.self.view_is) at c.requires.agrees in
+    let before : IfSome (unless_halted c.self.inside.halted (station_in c.self.inside.parts c.self.inside.bodies))
+    (λ l. AgreesWith l (g.K.Keeper.store c.self.inside.keeper).records) = rw (← c.self.view_is) at c.requires.agrees in
     let running = rw (← c.self.view_is) at c.requires.running in
     agrees_holding _ c.self.inside.bodies c.drop_for.new.self _
-    (agrees_counted _ _ _ _ (agrees_ranked (station_in c.self.inside.parts c.self.inside.bodies) _ _ _ (of_some _ _ _ running before) c.in-Ok.ensures.kept c.in-Ok.ensures.elsewhere)
+    (agrees_counted _ _ _ _ (agrees_ranked (station_in c.self.inside.parts c.self.inside.bodies) _ _ _ (of_some _ _ _ running before) c.in-Ok.ensures.kept
+    c.in-Ok.ensures.elsewhere)
     c.in-Ok-reserve.ensures.kept c.in-Ok-reserve.ensures.elsewhere)

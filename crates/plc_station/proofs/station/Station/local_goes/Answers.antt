@@ -21,7 +21,10 @@ unfolding goes empty_draft
 returns-in_default-clause-carries g c =
     rw (← c.self.view_is) (on_memory c.self.inside.halted _ _ (λ running. record {
       added = unsent (goes c.args.to (Local c.args.code c.args.body.now) 0 (empty_draft (station_in c.self.inside.parts c.self.inside.bodies)));
-      carries = uncounted local_ends _ _ (goes c.args.to (Local c.args.code c.args.body.now) 0 (empty_draft (station_in c.self.inside.parts c.self.inside.bodies))) (goes c.args.to (Local c.args.code c.args.body.now) 0 (empty_draft (station_in c.self.inside.parts c.self.inside.bodies))) tt _ _ _ refl (wrote_none _) refl c.in_default.ensures.store refl refl;
+      carries = uncounted local_ends _ _ (goes c.args.to (Local c.args.code c.args.body.now) 0
+          (empty_draft (station_in c.self.inside.parts c.self.inside.bodies)))
+          (goes c.args.to (Local c.args.code c.args.body.now) 0 (empty_draft (station_in c.self.inside.parts c.self.inside.bodies))) tt _ _ _ refl
+          (wrote_none _) refl c.in_default.ensures.store refl refl;
       out_is = c.clear.ensures;
     }))
 
@@ -30,12 +33,21 @@ unfolding goes empty_draft
 returns-clause-carries g c =
     rw (← c.self.view_is) (on_memory c.self.inside.halted _ _ (λ running. record {
       added = sent (goes c.args.to (Local c.args.code c.args.body.now) 0 (empty_draft (station_in c.self.inside.parts c.self.inside.bodies)));
-      carries = ended local_ends _ _ (goes c.args.to (Local c.args.code c.args.body.now) 0 (empty_draft (station_in c.self.inside.parts c.self.inside.bodies))) (goes c.args.to (Local c.args.code c.args.body.now) 0 (empty_draft (station_in c.self.inside.parts c.self.inside.bodies))) tt _ _ _ refl (wrote_none _) refl c.in-Ok.ensures.store refl
+      carries = ended local_ends _ _ (goes c.args.to (Local c.args.code c.args.body.now) 0 (empty_draft (station_in c.self.inside.parts c.self.inside.bodies)))
+          (goes c.args.to (Local c.args.code c.args.body.now) 0 (empty_draft (station_in c.self.inside.parts c.self.inside.bodies))) tt _ _ _ refl
+          (wrote_none _) refl c.in-Ok.ensures.store refl
           (lines_are _ _ _ _ refl c.in-Ok.ensures.counter refl refl refl refl refl refl);
       out_is =
           c.seal.ensures
-          ∙ (λ i. with_frames (c.args.out.now.frames ++ unit_frame c.args.grant.now c.sealing_key-key.result (c.in-Ok.ensures.number i) (record { to = c.args.to; unit = Local c.args.code (c.new-body.ensures i); note = 0 }) ∷ []) c.args.out.now)
-          ∙ ap (λ (frames : List OutFrame). with_frames (c.args.out.now.frames ++ frames) c.args.out.now) (one_sent c.args.grant.now c.sealing_key-key.result c.self.inside.parts.counter.next (record { to = c.args.to; unit = Local c.args.code c.args.body.now; note = 0 }) c.sealing_key-key.ensures)
-          ∙ (λ i. with_frames (c.args.out.now.frames ++ map (spelled network) (sealed_by ((sym (at_some c.args.self.now.memory (λ l. l.ring ≡ Some c.args.grant.now) (station_in c.self.inside.parts c.self.inside.bodies) (ap (λ (s : State StationMemory). s.memory) (sym c.self.view_is) ∙ running) c.requires.ring)) i) c.self.inside.parts.counter.next ((record { to = c.args.to; unit = Local c.args.code c.args.body.now; note = 0 }) ∷ []))) c.args.out.now)
+          ∙ (λ i. with_frames (c.args.out.now.frames
+          ++ unit_frame c.args.grant.now c.sealing_key-key.result (c.in-Ok.ensures.number i)
+          (record { to = c.args.to; unit = Local c.args.code (c.new-body.ensures i); note = 0 }) ∷ []) c.args.out.now)
+          ∙ ap (λ (frames : List OutFrame). with_frames (c.args.out.now.frames ++ frames) c.args.out.now)
+          (one_sent c.args.grant.now c.sealing_key-key.result c.self.inside.parts.counter.next
+          (record { to = c.args.to; unit = Local c.args.code c.args.body.now; note = 0 }) c.sealing_key-key.ensures)
+          ∙ (λ i. with_frames (c.args.out.now.frames
+          ++ map (spelled network) (sealed_by ((sym (at_some c.args.self.now.memory (λ l. l.ring ≡ Some c.args.grant.now)
+          (station_in c.self.inside.parts c.self.inside.bodies) (ap (λ (s : State StationMemory). s.memory) (sym c.self.view_is) ∙ running) c.requires.ring)) i)
+          c.self.inside.parts.counter.next ((record { to = c.args.to; unit = Local c.args.code c.args.body.now; note = 0 }) ∷ []))) c.args.out.now)
           ∙ followed_by c.args.out.now _;
     }))

@@ -18,18 +18,25 @@ use Rattle.plc_station.proofs.station.Station.lose.Goals as goal
 pub returns-in_default-clause-carries : goal.returns-in_default-clause-carries
 unfolding goes empty_draft with_routing_by
 returns-in_default-clause-carries g c =
-    rw (← c.self.view_is) (on_memory c.self.inside.halted _ _ (λ running. uncounted dropped _ _ (loses c.args.lost c.args.by (station_in c.self.inside.parts c.self.inside.bodies)) (loses c.args.lost c.args.by (station_in c.self.inside.parts c.self.inside.bodies)) Broken _ _ _ refl (wrote_none _) refl c.in_default.ensures.store c.requires.empty refl))
+    rw (← c.self.view_is) (on_memory c.self.inside.halted _ _ (λ running. uncounted dropped _ _
+    (loses c.args.lost c.args.by (station_in c.self.inside.parts c.self.inside.bodies))
+    (loses c.args.lost c.args.by (station_in c.self.inside.parts c.self.inside.bodies)) Broken _ _ _ refl (wrote_none _) refl c.in_default.ensures.store
+    c.requires.empty refl))
 
 pub returns-clause-carries : goal.returns-clause-carries
 unfolding goes empty_draft with_routing_by
 returns-clause-carries g c =
     rw (← c.self.view_is)
-    (on_memory c.self.inside.halted _ _ (λ running. ended dropped _ _ (loses c.args.lost c.args.by (station_in c.self.inside.parts c.self.inside.bodies)) (loses c.args.lost c.args.by (station_in c.self.inside.parts c.self.inside.bodies)) Broken _ _ _ refl (wrote_none _) refl c.in-Ok.ensures.store
-    (c.requires.empty ∙ ap (λ (fs : List Frame). only_frames (map (spelled network) fs)) (sym (sealed_none c.self.inside.parts.ring c.self.inside.parts.counter.next)))
+    (on_memory c.self.inside.halted _ _ (λ running. ended dropped _ _ (loses c.args.lost c.args.by (station_in c.self.inside.parts c.self.inside.bodies))
+    (loses c.args.lost c.args.by (station_in c.self.inside.parts c.self.inside.bodies)) Broken _ _ _ refl (wrote_none _) refl c.in-Ok.ensures.store
+    (c.requires.empty ∙ ap (λ (fs : List Frame). only_frames (map (spelled network) fs))
+    (sym (sealed_none c.self.inside.parts.ring c.self.inside.parts.counter.next)))
     (lines_are _ _ _ _ refl c.in-Ok.ensures.counter refl c.invalidate.ensures.routing refl refl refl refl)))
 
 pub returns-clause-agrees : goal.returns-clause-agrees
 returns-clause-agrees g c =
-    let before : IfSome (unless_halted c.self.inside.halted (station_in c.self.inside.parts c.self.inside.bodies)) (λ l. AgreesWith l (g.K.Keeper.store c.self.inside.keeper).records) = rw (← c.self.view_is) at c.requires.agrees in
+    let before : IfSome (unless_halted c.self.inside.halted (station_in c.self.inside.parts c.self.inside.bodies))
+    (λ l. AgreesWith l (g.K.Keeper.store c.self.inside.keeper).records) = rw (← c.self.view_is) at c.requires.agrees in
     let running = rw (← c.self.view_is) at c.requires.running in
-    agrees_routed _ _ _ (agrees_counted (station_in c.self.inside.parts c.self.inside.bodies) _ _ _ (of_some _ _ _ running before) c.in-Ok.ensures.kept c.in-Ok.ensures.elsewhere) c.invalidate.ensures.kept
+    agrees_routed _ _ _ (agrees_counted (station_in c.self.inside.parts c.self.inside.bodies) _ _ _ (of_some _ _ _ running before) c.in-Ok.ensures.kept
+    c.in-Ok.ensures.elsewhere) c.invalidate.ensures.kept

@@ -10,12 +10,19 @@ use Rattle.plc_station.proofs.station.Station.preset_near.Goals as goal
 
 pub returns-then-not-is_better-clause-carries : goal.returns-then-not-is_better-clause-carries
 returns-then-not-is_better-clause-carries g c =
-    rw (← c.self.view_is) (on_memory c.self.inside.halted _ _ (λ running. refusal presetting_ends _ (station_in c.self.inside.parts c.self.inside.bodies) presets.NotBetter _ _ running (near_worse (station_in c.self.inside.parts c.self.inside.bodies) c.args.to c.args.cost _ c.args.now (c.from.ensures ∙ c.from-cost.ensures ∙ c.number.ensures.value) c.if-not-is_better.ensures) refl))
+    rw (← c.self.view_is) (on_memory c.self.inside.halted _ _ (λ running. refusal presetting_ends _ (station_in c.self.inside.parts c.self.inside.bodies)
+    presets.NotBetter _ _ running (near_worse (station_in c.self.inside.parts c.self.inside.bodies) c.args.to c.args.cost _ c.args.now
+    (c.from.ensures ∙ c.from-cost.ensures ∙ c.number.ensures.value) c.if-not-is_better.ensures) refl))
 
 pub returns-then-full-clause-carries : goal.returns-then-full-clause-carries
 returns-then-full-clause-carries g c =
-    rw (← c.self.view_is) (on_memory c.self.inside.halted _ _ (λ running. refusal presetting_ends _ (station_in c.self.inside.parts c.self.inside.bodies) presets.RoutesFull _ _ running (near_full (station_in c.self.inside.parts c.self.inside.bodies) c.args.to c.args.cost _ c.args.now (c.from.ensures ∙ c.from-cost.ensures ∙ c.number.ensures.value) c.if-not-is_better.ensures c.if-full.ensures) refl))
+    rw (← c.self.view_is) (on_memory c.self.inside.halted _ _ (λ running. refusal presetting_ends _ (station_in c.self.inside.parts c.self.inside.bodies)
+    presets.RoutesFull _ _ running (near_full (station_in c.self.inside.parts c.self.inside.bodies) c.args.to c.args.cost _ c.args.now
+    (c.from.ensures ∙ c.from-cost.ensures ∙ c.number.ensures.value) c.if-not-is_better.ensures c.if-full.ensures) refl))
 
 pub returns-clause-carries : goal.returns-clause-carries
 returns-clause-carries g c =
-    rw (← c.self.view_is) (on_memory c.self.inside.halted _ _ (λ running. carried_by _ _ _ _ _ _ (near_kept (station_in c.self.inside.parts c.self.inside.bodies) c.args.to c.args.cost _ c.args.now (c.from-cost.ensures ∙ c.number.ensures.value) (c.if-not-is_better.ensures ∙ ap (λ k. is_better c.self.inside.parts.routing c.args.to (near_rank k)) c.from.ensures) c.if-full.ensures) (at_some _ _ (station_in c.self.inside.parts c.self.inside.bodies) running (rw (← c.self.view_is) at c.keep_near.ensures.carries))))
+    rw (← c.self.view_is) (on_memory c.self.inside.halted _ _ (λ running. carried_by _ _ _ _ _ _
+    (near_kept (station_in c.self.inside.parts c.self.inside.bodies) c.args.to c.args.cost _ c.args.now (c.from-cost.ensures ∙ c.number.ensures.value)
+    (c.if-not-is_better.ensures ∙ ap (λ k. is_better c.self.inside.parts.routing c.args.to (near_rank k)) c.from.ensures) c.if-full.ensures)
+    (at_some _ _ (station_in c.self.inside.parts c.self.inside.bodies) running (rw (← c.self.view_is) at c.keep_near.ensures.carries))))

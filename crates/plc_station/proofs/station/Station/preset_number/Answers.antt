@@ -8,9 +8,17 @@ use Rattle.plc_station.proofs.station.Station.preset_number.Goals as goal
 pub returns-in_default-clause-carries : goal.returns-in_default-clause-carries
 unfolding resting
 returns-in_default-clause-carries g c =
-    rw (← c.self.view_is) (on_memory c.self.inside.halted _ _ (λ running. record { done = false; wrote = wrote_one _ _ (limit_write c.args.value) _ c.in_default.ensures.store; answer_is = refl; out_is = refl; new_is = refl }))
+    rw (← c.self.view_is) (on_memory c.self.inside.halted _ _ (λ running.
+    record { done = false; wrote = wrote_one _ _ (limit_write c.args.value) _ c.in_default.ensures.store; answer_is = refl; out_is = refl; new_is = refl }))
 
 pub returns-clause-carries : goal.returns-clause-carries
 unfolding resting
 returns-clause-carries g c =
-    rw (← c.self.view_is) (on_memory c.self.inside.halted _ _ (λ running. record { done = true; wrote = wrote_one _ _ (limit_write c.args.value) _ c.in-Ok.ensures.store; answer_is = refl; out_is = refl; new_is = lines_are _ _ _ _ refl refl refl refl c.in-Ok.ensures.numbering refl refl refl }))
+    rw (← c.self.view_is) (on_memory c.self.inside.halted _ _ (λ running.
+    record {
+      done = true;
+      wrote = wrote_one _ _ (limit_write c.args.value) _ c.in-Ok.ensures.store;
+      answer_is = refl;
+      out_is = refl;
+      new_is = lines_are _ _ _ _ refl refl refl refl c.in-Ok.ensures.numbering refl refl refl;
+    }))

@@ -6,5 +6,7 @@ use Rattle.plc_station.proofs.station.Station.send.Goals as goal
 
 pub returns-in_default-clause-carries : goal.returns-in_default-clause-carries
 returns-in_default-clause-carries g c =
-    rw (← c.self.view_is) (on_memory c.self.inside.halted _ _ (λ running. refused_as _ (station_in c.self.inside.parts c.self.inside.bodies) NotJoined _ _ running
-    (not_joined (station_in c.self.inside.parts c.self.inside.bodies) c.args.to c.args.datagram.now c.args.note c.args.now c.in_default.ensures) c.clear.ensures))
+    rw (← c.self.view_is) (on_memory c.self.inside.halted _ _
+    (λ running. refused_as _ (station_in c.self.inside.parts c.self.inside.bodies) NotJoined _ _ running
+    (not_joined (station_in c.self.inside.parts c.self.inside.bodies) c.args.to c.args.datagram.now c.args.note c.args.now c.in_default.ensures)
+    c.clear.ensures))

@@ -7,4 +7,5 @@ use Rattle.timing.proofs.stations.Node.joined.Goals as goal
 
 pub install-requires-clause-agrees : goal.install-requires-clause-agrees
 install-requires-clause-agrees c =
-    c.in-Ok.ensures.agrees (empty_gapless peers _ (ap (λ (s : Store). s.records) c.in_ok-keeper.ensures)) (empty_gapless ranks _ (ap (λ (s : Store). s.records) c.in_ok-keeper.ensures))
+    c.in-Ok.ensures.agrees (empty_gapless peers _ (ap (λ (s : Store). s.records) c.in_ok-keeper.ensures))
+    (empty_gapless ranks _ (ap (λ (s : Store). s.records) c.in_ok-keeper.ensures))

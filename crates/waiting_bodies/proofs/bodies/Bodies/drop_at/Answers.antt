@@ -15,7 +15,8 @@ there c = omega (arith, c.requires, ap (λ (h : Held). length h.waiting) c.self.
 
 held : (c : goal.After-give_back) → IsHeld c.self.inside.pool c.self.inside.reassembly c.remove-waiting.result
 held c =
-    subst (IsHeld c.self.inside.pool c.self.inside.reassembly) (read_slot c.self.inside.waiting.items c.args.index c.remove-waiting.result c.remove-waiting.ensures.value (there c) c.remove-waiting.result)
+    subst (IsHeld c.self.inside.pool c.self.inside.reassembly)
+    (read_slot c.self.inside.waiting.items c.args.index c.remove-waiting.result c.remove-waiting.ensures.value (there c) c.remove-waiting.result)
     (c.self.invariant.sound.waits c.args.index c.remove-waiting.result (there c))
 
 returned : (c : goal.After-give_back) → Returns c.self.inside.pool c.give_back.new.pool c.self.inside.waiting.items c.args.index c.remove-waiting.result
@@ -28,20 +29,26 @@ returned c = record {
 
 pub returns : goal.returns
 returns c =
-    seen_waiting c.self.inside.pool c.give_back.new.pool c.self.inside.reassembly c.self.inside.waiting.items c.remove-waiting.new.self.items c.args.self.now _ c.self.view_is
-    (told_remove c.self.inside.pool c.give_back.new.pool c.self.inside.reassembly c.self.inside.waiting.items c.args.index c.remove-waiting.result c.self.invariant.sound (returned c))
+    seen_waiting c.self.inside.pool c.give_back.new.pool c.self.inside.reassembly c.self.inside.waiting.items c.remove-waiting.new.self.items c.args.self.now _
+    c.self.view_is
+    (told_remove c.self.inside.pool c.give_back.new.pool c.self.inside.reassembly c.self.inside.waiting.items c.args.index c.remove-waiting.result
+    c.self.invariant.sound (returned c))
     (ap (bodies_in c.give_back.new.pool) c.remove-waiting.ensures.items
-    ∙ bodies_remove c.self.inside.pool c.give_back.new.pool c.self.inside.reassembly c.self.inside.waiting.items c.args.index c.remove-waiting.result c.self.invariant.sound (returned c)
+    ∙ bodies_remove c.self.inside.pool c.give_back.new.pool c.self.inside.reassembly c.self.inside.waiting.items c.args.index c.remove-waiting.result
+    c.self.invariant.sound (returned c)
     ∙ ap (λ (h : Held). remove h.waiting c.args.index) c.self.view_is)
 
 pub invariant_of-self : goal.invariant_of-self
 invariant_of-self c =
-    let less = blocks_less c.self.inside.waiting.items c.remove-waiting.new.self.items c.args.index c.remove-waiting.result c.remove-waiting.ensures.items (there c)
+    let less = blocks_less c.self.inside.waiting.items c.remove-waiting.new.self.items c.args.index c.remove-waiting.result c.remove-waiting.ensures.items
+    (there c)
     (read_slot c.self.inside.waiting.items c.args.index c.remove-waiting.result c.remove-waiting.ensures.value (there c)) in
     let size : c.div_ceil.result ≡ blocks c.remove-waiting.result.size = c.div_ceil.ensures ∙ ap (λ (v : Slot). blocks v.size) c.waiting.view_is in
     record {
       sound = subst (IsSound c.give_back.new.pool c.self.inside.reassembly) (sym c.remove-waiting.ensures.items)
-          (sound_remove c.self.inside.pool c.give_back.new.pool c.self.inside.reassembly c.self.inside.waiting.items c.args.index c.remove-waiting.result c.self.invariant.sound (returned c));
+          (sound_remove c.self.inside.pool c.give_back.new.pool c.self.inside.reassembly c.self.inside.waiting.items c.args.index c.remove-waiting.result
+          c.self.invariant.sound (returned c));
       count = omega (arith, c.self.invariant.count, less, size);
-      end = subst (IsStill c.self.inside.next_end) (sym (returns c)) (still_removed c.args.self.now c.args.index c.self.inside.next_end (subst (IsStill c.self.inside.next_end) c.self.view_is c.self.invariant.end));
+      end = subst (IsStill c.self.inside.next_end) (sym (returns c))
+          (still_removed c.args.self.now c.args.index c.self.inside.next_end (subst (IsStill c.self.inside.next_end) c.self.view_is c.self.invariant.end));
     }

@@ -5,4 +5,5 @@ use Rattle.waiting_bodies.proofs.Sound.{awaited_same}
 use Rattle.waiting_bodies.proofs.bodies.Bodies.is_awaited.Goals as goal
 
 pub returns : goal.returns
-returns c = c.any_for.ensures ∙ awaited_same c.self.inside.pool c.self.inside.waiting.items c.args.to ∙ ap (λ (h : Held). is_awaited_in h.waiting c.args.to) c.self.view_is
+returns c = c.any_for.ensures ∙ awaited_same c.self.inside.pool c.self.inside.waiting.items c.args.to
+    ∙ ap (λ (h : Held). is_awaited_in h.waiting c.args.to) c.self.view_is

@@ -5,4 +5,5 @@ use Rattle.waiting_bodies.specs.Frames.{with_frames}
 use Rattle.waiting_bodies.proofs.bodies.Bodies.seal_leaving.Given as goal
 
 abbrev pub invariant-loop-index : goal.invariant-loop-index
-invariant-loop-index l = l.out ≡ with_frames (l.fn.out.frames ++ frames_of l.grant l.key l.first (leaving l.grant.address l.dest l.hop (take l.index l.self.waiting))) l.fn.out
+invariant-loop-index l =
+    l.out ≡ with_frames (l.fn.out.frames ++ frames_of l.grant l.key l.first (leaving l.grant.address l.dest l.hop (take l.index l.self.waiting))) l.fn.out

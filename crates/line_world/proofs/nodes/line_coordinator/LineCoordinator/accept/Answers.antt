@@ -19,7 +19,8 @@ accept-requires c = record { agrees = lent_agrees c.self.inside.coordinator c.st
 pub returns-clause-took : goal.returns-clause-took
 returns-clause-took c =
     seen (λ n. acts n (Err frames.Halted) (lent (λ own l. accepting.accept l own (arrived network c.args.octets.now)) n.eui)) _ _ _ _ _ c.self.view_is
-    (station_took c.self.inside.coordinator c.station.result.now c.accept.new.self (Err frames.Halted) (λ own l. accepting.accept l own (arrived network c.args.octets.now)) c.accept.result nothing c.station.ensures.value c.self.invariant
+    (station_took c.self.inside.coordinator c.station.result.now c.accept.new.self (Err frames.Halted)
+    (λ own l. accepting.accept l own (arrived network c.args.octets.now)) c.accept.result nothing c.station.ensures.value c.self.invariant
     (gives_nothing c.station.result.now.memory _ _ c.accept.ensures.halted) c.accept.ensures.carries)
 
 pub returns-clause-hears : goal.returns-clause-hears
@@ -29,5 +30,7 @@ returns-clause-hears c =
 
 pub invariant_of-self : goal.invariant_of-self
 invariant_of-self c =
-    station_sound c.self.inside.coordinator c.station.result.now c.accept.new.self (Err frames.Halted) (λ own l. accepting.accept l own (arrived network c.args.octets.now)) c.accept.result nothing (accepts_own _ (arrived network c.args.octets.now)) c.station.ensures.value c.self.invariant
+    station_sound c.self.inside.coordinator c.station.result.now c.accept.new.self (Err frames.Halted)
+    (λ own l. accepting.accept l own (arrived network c.args.octets.now)) c.accept.result nothing (accepts_own _ (arrived network c.args.octets.now))
+    c.station.ensures.value c.self.invariant
     (gives_nothing c.station.result.now.memory _ _ c.accept.ensures.halted) c.accept.ensures.carries c.accept.ensures.agrees

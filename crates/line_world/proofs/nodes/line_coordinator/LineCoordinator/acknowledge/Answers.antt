@@ -17,11 +17,14 @@ acknowledge_at-requires-clause-joined c = joined_its c.self.inside.coordinator _
 pub returns : goal.returns
 returns c =
     coordinator_alone c.self.inside.coordinator _ c.station.result.now c.acknowledge_at.new.station (Err locals.Store) c.acknowledge_at.result
-    (λ _ l. acknowledges alone c.args.reply.to c.args.reply.number c.args.reply.origin l) c.args.out.now c.acknowledge_at.new.out c.self.view_is c.station.ensures.value c.self.invariant
+    (λ _ l. acknowledges alone c.args.reply.to c.args.reply.number c.args.reply.origin l) c.args.out.now c.acknowledge_at.new.out c.self.view_is
+    c.station.ensures.value c.self.invariant
     c.acknowledge_at.ensures.stayed c.acknowledge_at.ensures.carries
 
 pub invariant_of-self : goal.invariant_of-self
 invariant_of-self c =
     coordinator_alone_sound c.self.inside.coordinator _ c.station.result.now c.acknowledge_at.new.station (Err locals.Store) c.acknowledge_at.result
-    (λ _ l. acknowledges alone c.args.reply.to c.args.reply.number c.args.reply.origin l) c.args.out.now c.acknowledge_at.new.out c.self.view_is c.station.ensures.value c.self.invariant
-    c.acknowledge_at.ensures.stayed c.acknowledge_at.ensures.carries (acknowledges_own c.args.reply.to c.args.reply.number c.args.reply.origin _) c.acknowledge_at.ensures.agrees
+    (λ _ l. acknowledges alone c.args.reply.to c.args.reply.number c.args.reply.origin l) c.args.out.now c.acknowledge_at.new.out c.self.view_is
+    c.station.ensures.value c.self.invariant
+    c.acknowledge_at.ensures.stayed c.acknowledge_at.ensures.carries (acknowledges_own c.args.reply.to c.args.reply.number c.args.reply.origin _)
+    c.acknowledge_at.ensures.agrees

@@ -16,12 +16,14 @@ activate-requires-clause-holds c = holds c.self.inside.coordinator c.self.invari
 pub returns : goal.returns
 returns c =
     seen (λ n. acts n (Err orders.Halted) (λ m. rules.activate m c.args.eui c.args.index c.args.now)) _ _ _ _ _ c.self.view_is
-    (own_took c.self.inside.coordinator c.activate.new.self (Err orders.Halted) (λ m. rules.activate m c.args.eui c.args.index c.args.now) c.activate.result c.activate.new.out c.self.invariant
+    (own_took c.self.inside.coordinator c.activate.new.self (Err orders.Halted) (λ m. rules.activate m c.args.eui c.args.index c.args.now) c.activate.result
+    c.activate.new.out c.self.invariant
     c.activate.ensures.halted c.activate.ensures.carries)
 
 pub invariant_of-self : goal.invariant_of-self
 invariant_of-self c =
-    ringless_sound c.self.inside.coordinator c.activate.new.self (Err orders.Halted) (λ m. rules.activate m c.args.eui c.args.index c.args.now) c.activate.result c.activate.new.out
+    ringless_sound c.self.inside.coordinator c.activate.new.self (Err orders.Halted) (λ m. rules.activate m c.args.eui c.args.index c.args.now)
+    c.activate.result c.activate.new.out
     (λ m short. (coordinators_in_place (identity_of c.self.inside.coordinator) m short).activates c.args.eui c.args.index c.args.now)
     (λ m. (coordinators_write_no_ring (identity_of c.self.inside.coordinator) m).activates c.args.eui c.args.index c.args.now) c.self.invariant
     c.activate.ensures.halted c.activate.ensures.carries c.activate.ensures.holds

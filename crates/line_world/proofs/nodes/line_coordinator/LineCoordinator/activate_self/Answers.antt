@@ -17,7 +17,8 @@ activate_self-requires-clause-holds c = holds c.self.inside.coordinator c.self.i
 pub returns : goal.returns
 returns c =
     seen (λ n. acts n (Err orders.Halted) (λ m. rules.activate_self m c.args.index)) _ _ _ _ _ c.self.view_is
-    (own_took c.self.inside.coordinator c.activate_self.new.self (Err orders.Halted) (λ m. rules.activate_self m c.args.index) c.activate_self.result nothing c.self.invariant
+    (own_took c.self.inside.coordinator c.activate_self.new.self (Err orders.Halted) (λ m. rules.activate_self m c.args.index) c.activate_self.result nothing
+    c.self.invariant
     (gives_nothing (node_of c.self.inside.coordinator).memory _ _ c.activate_self.ensures.halted) c.activate_self.ensures.carries)
 
 pub invariant_of-self : goal.invariant_of-self

@@ -18,7 +18,8 @@ allow-requires c = record { holds = holds c.self.inside.coordinator c.self.invar
 pub returns : goal.returns
 returns c =
     seen (λ n. acts n (Err orders.Halted) (λ m. rules.allow m c.args.eui c.args.psk.now)) _ _ _ _ _ c.self.view_is
-    (own_took c.self.inside.coordinator c.allow.new.self (Err orders.Halted) (λ m. rules.allow m c.args.eui c.args.psk.now) c.allow.result nothing c.self.invariant
+    (own_took c.self.inside.coordinator c.allow.new.self (Err orders.Halted) (λ m. rules.allow m c.args.eui c.args.psk.now) c.allow.result nothing
+    c.self.invariant
     (gives_nothing (node_of c.self.inside.coordinator).memory _ _ c.allow.ensures.halted) c.allow.ensures.carries)
 
 pub invariant_of-self : goal.invariant_of-self

@@ -14,12 +14,14 @@ ask_at-requires c = record { agrees = lent_agrees c.self.inside.coordinator c.st
 
 pub returns : goal.returns
 returns c =
-    coordinator_first c.self.inside.coordinator _ c.station.result.now c.ask_at.new.station c.args.beside.now c.ask_at.new.beside (Err asks.Halted) c.ask_at.result
+    coordinator_first c.self.inside.coordinator _ c.station.result.now c.ask_at.new.station c.args.beside.now c.ask_at.new.beside (Err asks.Halted)
+    c.ask_at.result
     (λ y. ask_path in_memory y c.args.target) (λ y. ask_path alone y c.args.target) c.self.view_is c.station.ensures.value c.self.invariant
     (λ _ m. ask_lent c.args.beside.now m c.args.target) c.ask_at.new.out c.ask_at.ensures.reaches
 
 pub invariant_of-self : goal.invariant_of-self
 invariant_of-self c =
-    coordinator_first_sound c.self.inside.coordinator _ c.station.result.now c.ask_at.new.station c.args.beside.now c.ask_at.new.beside (Err asks.Halted) c.ask_at.result
+    coordinator_first_sound c.self.inside.coordinator _ c.station.result.now c.ask_at.new.station c.args.beside.now c.ask_at.new.beside (Err asks.Halted)
+    c.ask_at.result
     (λ y. ask_path in_memory y c.args.target) (λ y. ask_path alone y c.args.target) c.self.view_is c.station.ensures.value c.self.invariant
     (λ _ m. ask_lent c.args.beside.now m c.args.target) c.ask_at.new.out c.ask_at.ensures.reaches c.ask_at.ensures.agrees

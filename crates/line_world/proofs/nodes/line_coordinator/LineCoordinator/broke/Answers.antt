@@ -16,10 +16,12 @@ pub returns : goal.returns
 unfolding resting
 returns c =
     seen (λ n. acts n said.Halted (lent (breaking c.args.next) n.eui)) _ _ _ _ _ c.self.view_is
-    (station_took c.self.inside.coordinator c.station.result.now c.break_at.new.station said.Halted (breaking c.args.next) c.break_at.result nothing c.station.ensures.value c.self.invariant
+    (station_took c.self.inside.coordinator c.station.result.now c.break_at.new.station said.Halted (breaking c.args.next) c.break_at.result nothing
+    c.station.ensures.value c.self.invariant
     (gives_nothing c.station.result.now.memory _ _ c.break_at.ensures.halted) c.break_at.ensures.carries)
 
 pub invariant_of-self : goal.invariant_of-self
 invariant_of-self c =
-    station_sound c.self.inside.coordinator c.station.result.now c.break_at.new.station said.Halted (breaking c.args.next) c.break_at.result nothing (breaks_own _ c.args.next) c.station.ensures.value c.self.invariant
+    station_sound c.self.inside.coordinator c.station.result.now c.break_at.new.station said.Halted (breaking c.args.next) c.break_at.result nothing
+    (breaks_own _ c.args.next) c.station.ensures.value c.self.invariant
     (gives_nothing c.station.result.now.memory _ _ c.break_at.ensures.halted) c.break_at.ensures.carries c.break_at.ensures.agrees

@@ -16,12 +16,14 @@ challenge-requires c = record { holds = holds c.self.inside.coordinator c.self.i
 pub returns : goal.returns
 returns c =
     seen (λ n. acts n (Err orders.Halted) (λ m. rules.challenge n.eui m c.args.eui c.args.now)) _ _ _ _ _ c.self.view_is
-    (own_took c.self.inside.coordinator c.challenge.new.self (Err orders.Halted) (λ m. rules.challenge c.self.inside.coordinator.station.eui m c.args.eui c.args.now) c.challenge.result c.challenge.new.out c.self.invariant
+    (own_took c.self.inside.coordinator c.challenge.new.self (Err orders.Halted)
+    (λ m. rules.challenge c.self.inside.coordinator.station.eui m c.args.eui c.args.now) c.challenge.result c.challenge.new.out c.self.invariant
     c.challenge.ensures.halted c.challenge.ensures.carries)
 
 pub invariant_of-self : goal.invariant_of-self
 invariant_of-self c =
-    ringless_sound c.self.inside.coordinator c.challenge.new.self (Err orders.Halted) (λ m. rules.challenge c.self.inside.coordinator.station.eui m c.args.eui c.args.now) c.challenge.result c.challenge.new.out
+    ringless_sound c.self.inside.coordinator c.challenge.new.self (Err orders.Halted)
+    (λ m. rules.challenge c.self.inside.coordinator.station.eui m c.args.eui c.args.now) c.challenge.result c.challenge.new.out
     (λ m short. (coordinators_in_place (identity_of c.self.inside.coordinator) m short).challenges c.args.eui c.args.now)
     (λ m. (coordinators_write_no_ring (identity_of c.self.inside.coordinator) m).challenges c.args.eui c.args.now) c.self.invariant
     c.challenge.ensures.halted c.challenge.ensures.carries c.challenge.ensures.holds

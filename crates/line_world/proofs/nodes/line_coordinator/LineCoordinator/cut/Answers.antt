@@ -10,11 +10,14 @@ use Rattle.line_world.proofs.nodes.line_coordinator.LineCoordinator.cut.Goals as
 
 pub returns : goal.returns
 returns c =
-    seen (λ n. stays (record n { store = record n.store { cut = Some (record { nth = c.args.nth; keeps_new = c.args.keeps_new }) } }) said.Set) _ _ _ _ _ c.self.view_is
-    (cut_took Coordinator (beside c.self.inside.coordinator) c.self.inside.coordinator.station c.station.result.now c.keeper_mut.result.now c.cut.new.self (record { nth = c.args.nth; keeps_new = c.args.keeps_new })
+    seen (λ n. stays (record n { store = record n.store { cut = Some (record { nth = c.args.nth; keeps_new = c.args.keeps_new }) } }) said.Set) _ _ _ _ _
+    c.self.view_is
+    (cut_took Coordinator (beside c.self.inside.coordinator) c.self.inside.coordinator.station c.station.result.now c.keeper_mut.result.now c.cut.new.self
+    (record { nth = c.args.nth; keeps_new = c.args.keeps_new })
     c.station.ensures.value c.keeper_mut.ensures.value c.cut.ensures)
 
 pub invariant_of-self : goal.invariant_of-self
 invariant_of-self c =
-    cut_sound Coordinator (beside c.self.inside.coordinator) c.self.inside.coordinator.station c.station.result.now c.keeper_mut.result.now c.cut.new.self (record { nth = c.args.nth; keeps_new = c.args.keeps_new })
+    cut_sound Coordinator (beside c.self.inside.coordinator) c.self.inside.coordinator.station c.station.result.now c.keeper_mut.result.now c.cut.new.self
+    (record { nth = c.args.nth; keeps_new = c.args.keeps_new })
     c.station.ensures.value c.keeper_mut.ensures.value c.cut.ensures c.self.invariant

@@ -18,7 +18,8 @@ depot-requires c = record { holds = holds c.self.inside.coordinator c.self.invar
 pub returns : goal.returns
 returns c =
     seen (λ n. acts n (Err orders.Halted) (λ m. rules.depot m c.args.eui c.args.psk.now)) _ _ _ _ _ c.self.view_is
-    (own_took c.self.inside.coordinator c.depot.new.self (Err orders.Halted) (λ m. rules.depot m c.args.eui c.args.psk.now) c.depot.result nothing c.self.invariant
+    (own_took c.self.inside.coordinator c.depot.new.self (Err orders.Halted) (λ m. rules.depot m c.args.eui c.args.psk.now) c.depot.result nothing
+    c.self.invariant
     (gives_nothing (node_of c.self.inside.coordinator).memory _ _ c.depot.ensures.halted) c.depot.ensures.carries)
 
 pub invariant_of-self : goal.invariant_of-self

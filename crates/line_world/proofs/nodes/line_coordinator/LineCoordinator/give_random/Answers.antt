@@ -16,7 +16,8 @@ give_random-requires c = record { holds = holds c.self.inside.coordinator c.self
 pub returns : goal.returns
 returns c =
     seen (λ n. acts n (Err randoms.Halted) (λ m. drafts.give_random m c.args.value)) _ _ _ _ _ c.self.view_is
-    (own_took c.self.inside.coordinator c.give_random.new.self (Err randoms.Halted) (λ m. drafts.give_random m c.args.value) c.give_random.result nothing c.self.invariant
+    (own_took c.self.inside.coordinator c.give_random.new.self (Err randoms.Halted) (λ m. drafts.give_random m c.args.value) c.give_random.result nothing
+    c.self.invariant
     (gives_nothing (node_of c.self.inside.coordinator).memory _ _ c.give_random.ensures.halted) c.give_random.ensures.carries)
 
 pub invariant_of-self : goal.invariant_of-self

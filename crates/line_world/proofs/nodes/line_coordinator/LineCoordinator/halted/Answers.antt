@@ -10,7 +10,8 @@ pub returns-clause-value : goal.returns-clause-value
 returns-clause-value c = halted_its c.self.inside.coordinator _ c.station.result.now c.self.view_is c.station.ensures.value c.halted.result c.halted.ensures
 
 pub returns-clause-same : goal.returns-clause-same
-returns-clause-same c = ap (λ (x : CoordinatorState). of_coordinator x) (unchanged c.self.inside.coordinator c.station.result.now c.station.ensures.value) ∙ c.self.view_is
+returns-clause-same c =
+    ap (λ (x : CoordinatorState). of_coordinator x) (unchanged c.self.inside.coordinator c.station.result.now c.station.ensures.value) ∙ c.self.view_is
 
 pub invariant_of-self : goal.invariant_of-self
 invariant_of-self c = sound_back c.self.inside.coordinator c.station.result.now c.station.ensures.value c.self.invariant

@@ -25,26 +25,32 @@ pub returns-clause-tells : goal.returns-clause-tells
 returns-clause-tells c =
     let may = subst (λ (n : Node). MayHear n c.args.got.now) (sym c.self.view_is) c.requires.accepted in
     subst (λ (n : Node). Tells c.with_reply.result (hears network n c.args.got.now c.args.cost c.args.note c.args.now).answer) c.self.view_is
-    (told c.self.inside.coordinator c.hear-heard.new.self c.args.got.now c.args.cost c.args.note c.args.now c.hear-heard.result c.hear-heard.new.out c.self.invariant may
-    c.hear-heard.ensures.carries c.with_reply.result (tells_with c.coordinator_told.result c.with_reply.result c.reply_of-replied.result _ c.with_reply.ensures c.coordinator_told.ensures))
+    (told c.self.inside.coordinator c.hear-heard.new.self c.args.got.now c.args.cost c.args.note c.args.now c.hear-heard.result c.hear-heard.new.out
+    c.self.invariant may
+    c.hear-heard.ensures.carries c.with_reply.result
+    (tells_with c.coordinator_told.result c.with_reply.result c.reply_of-replied.result _ c.with_reply.ensures c.coordinator_told.ensures))
 
 pub returns-clause-took : goal.returns-clause-took
 returns-clause-took c =
     let may = subst (λ (n : Node). MayHear n c.args.got.now) (sym c.self.view_is) c.requires.accepted in
     seen_answering (λ n. hears network n c.args.got.now c.args.cost c.args.note c.args.now) _ _ _ _ c.self.view_is
-    (heard c.self.inside.coordinator c.hear-heard.new.self c.args.got.now c.args.cost c.args.note c.args.now c.hear-heard.result c.hear-heard.new.out c.self.invariant may
+    (heard c.self.inside.coordinator c.hear-heard.new.self c.args.got.now c.args.cost c.args.note c.args.now c.hear-heard.result c.hear-heard.new.out
+    c.self.invariant may
     c.hear-heard.ensures.carries)
 
 pub returns-clause-replied : goal.returns-clause-replied
 returns-clause-replied c is =
     let may = subst (λ (n : Node). MayHear n c.args.got.now) (sym c.self.view_is) c.requires.accepted in
     ap (λ (w : Reception). w.replied) c.with_reply.ensures
-    ∙ told_replied c.self.inside.coordinator c.hear-heard.new.self c.args.got.now c.args.cost c.args.note c.args.now c.hear-heard.result c.hear-heard.new.out c.self.invariant may
-    c.hear-heard.ensures.carries c.hear-heard.new.self.station.replied c.reply_of-replied.result (c.reply_of-replied.ensures ∙ c.last_reply.ensures) c.hear-heard.ensures.replied is
+    ∙ told_replied c.self.inside.coordinator c.hear-heard.new.self c.args.got.now c.args.cost c.args.note c.args.now c.hear-heard.result c.hear-heard.new.out
+    c.self.invariant may
+    c.hear-heard.ensures.carries c.hear-heard.new.self.station.replied c.reply_of-replied.result (c.reply_of-replied.ensures ∙ c.last_reply.ensures)
+    c.hear-heard.ensures.replied is
     ∙ ap (λ (n : Node). reply_among (hears network n c.args.got.now c.args.cost c.args.note c.args.now).frames) c.self.view_is
 
 pub invariant_of-self : goal.invariant_of-self
 invariant_of-self c =
     let may = subst (λ (n : Node). MayHear n c.args.got.now) (sym c.self.view_is) c.requires.accepted in
-    heard_sound c.self.inside.coordinator c.hear-heard.new.self c.args.got.now c.args.cost c.args.note c.args.now c.hear-heard.result c.hear-heard.new.out c.self.invariant may
+    heard_sound c.self.inside.coordinator c.hear-heard.new.self c.args.got.now c.args.cost c.args.note c.args.now c.hear-heard.result c.hear-heard.new.out
+    c.self.invariant may
     c.hear-heard.ensures.carries c.hear-heard.ensures.holds

@@ -11,10 +11,12 @@ use Rattle.line_world.proofs.nodes.line_coordinator.LineCoordinator.keeps_rank.G
 
 pub returns-clause-value : goal.returns-clause-value
 returns-clause-value c =
-    says c.self.inside.coordinator c.station.result.now (λ l. is_some (routing.rank_of l.routing c.args.dest)) false _ c.station.ensures.value c.has_rank.ensures ∙ ap (λ (n : Node). keeps_rank n c.args.dest) c.self.view_is
+    says c.self.inside.coordinator c.station.result.now (λ l. is_some (routing.rank_of l.routing c.args.dest)) false _ c.station.ensures.value
+    c.has_rank.ensures ∙ ap (λ (n : Node). keeps_rank n c.args.dest) c.self.view_is
 
 pub returns-clause-same : goal.returns-clause-same
-returns-clause-same c = ap (λ (x : CoordinatorState). of_coordinator x) (unchanged c.self.inside.coordinator c.station.result.now c.station.ensures.value) ∙ c.self.view_is
+returns-clause-same c =
+    ap (λ (x : CoordinatorState). of_coordinator x) (unchanged c.self.inside.coordinator c.station.result.now c.station.ensures.value) ∙ c.self.view_is
 
 pub invariant_of-self : goal.invariant_of-self
 invariant_of-self c = sound_back c.self.inside.coordinator c.station.result.now c.station.ensures.value c.self.invariant

@@ -13,7 +13,8 @@ use Rattle.line_world.proofs.nodes.line_coordinator.LineCoordinator.open_log.Goa
 
 pub returns-clause-value : goal.returns-clause-value
 returns-clause-value c =
-    c.open.ensures.log ∙ ap (λ (s : Store). logs.opened s.records) (c.keeper_mut.ensures.value ∙ ap (λ (s : State StationMemory). s.store) c.station.ensures.value)
+    c.open.ensures.log ∙ ap (λ (s : Store). logs.opened s.records)
+    (c.keeper_mut.ensures.value ∙ ap (λ (s : State StationMemory). s.store) c.station.ensures.value)
     ∙ ap (λ (n : Node). logs.opened n.store.records) c.self.view_is
 
 pub returns-clause-same : goal.returns-clause-same

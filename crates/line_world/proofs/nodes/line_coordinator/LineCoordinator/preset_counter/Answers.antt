@@ -15,10 +15,12 @@ set_counter-requires c = record { agrees = lent_agrees c.self.inside.coordinator
 pub returns : goal.returns
 returns c =
     seen (λ n. acts n (Ok tt) (lent (λ _ l. calls.preset_counter l c.args.value) n.eui)) _ _ _ _ _ c.self.view_is
-    (station_took c.self.inside.coordinator c.station.result.now c.set_counter.new.station (Ok tt) (λ _ l. calls.preset_counter l c.args.value) c.set_counter.result nothing c.station.ensures.value c.self.invariant
+    (station_took c.self.inside.coordinator c.station.result.now c.set_counter.new.station (Ok tt) (λ _ l. calls.preset_counter l c.args.value)
+    c.set_counter.result nothing c.station.ensures.value c.self.invariant
     (gives_nothing c.station.result.now.memory _ _ c.set_counter.ensures.halted) c.set_counter.ensures.carries)
 
 pub invariant_of-self : goal.invariant_of-self
 invariant_of-self c =
-    station_sound c.self.inside.coordinator c.station.result.now c.set_counter.new.station (Ok tt) (λ _ l. calls.preset_counter l c.args.value) c.set_counter.result nothing (counter_own _ c.args.value) c.station.ensures.value c.self.invariant
+    station_sound c.self.inside.coordinator c.station.result.now c.set_counter.new.station (Ok tt) (λ _ l. calls.preset_counter l c.args.value)
+    c.set_counter.result nothing (counter_own _ c.args.value) c.station.ensures.value c.self.invariant
     (gives_nothing c.station.result.now.memory _ _ c.set_counter.ensures.halted) c.set_counter.ensures.carries c.set_counter.ensures.agrees

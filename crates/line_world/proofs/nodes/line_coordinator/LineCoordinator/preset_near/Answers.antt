@@ -15,10 +15,12 @@ offer_near-requires c = record { agrees = lent_agrees c.self.inside.coordinator 
 pub returns : goal.returns
 returns c =
     seen (λ n. acts n (Ok tt) (lent (λ _ l. calls.preset_near l c.args.to c.args.cost c.args.now) n.eui)) _ _ _ _ _ c.self.view_is
-    (station_took c.self.inside.coordinator c.station.result.now c.offer_near.new.station (Ok tt) (λ _ l. calls.preset_near l c.args.to c.args.cost c.args.now) c.offer_near.result nothing c.station.ensures.value c.self.invariant
+    (station_took c.self.inside.coordinator c.station.result.now c.offer_near.new.station (Ok tt) (λ _ l. calls.preset_near l c.args.to c.args.cost c.args.now)
+    c.offer_near.result nothing c.station.ensures.value c.self.invariant
     (gives_nothing c.station.result.now.memory _ _ c.offer_near.ensures.halted) c.offer_near.ensures.carries)
 
 pub invariant_of-self : goal.invariant_of-self
 invariant_of-self c =
-    station_sound c.self.inside.coordinator c.station.result.now c.offer_near.new.station (Ok tt) (λ _ l. calls.preset_near l c.args.to c.args.cost c.args.now) c.offer_near.result nothing (near_own _ c.args.to c.args.cost c.args.now) c.station.ensures.value c.self.invariant
+    station_sound c.self.inside.coordinator c.station.result.now c.offer_near.new.station (Ok tt) (λ _ l. calls.preset_near l c.args.to c.args.cost c.args.now)
+    c.offer_near.result nothing (near_own _ c.args.to c.args.cost c.args.now) c.station.ensures.value c.self.invariant
     (gives_nothing c.station.result.now.memory _ _ c.offer_near.ensures.halted) c.offer_near.ensures.carries c.offer_near.ensures.agrees

@@ -15,10 +15,12 @@ set_number-requires-clause-agrees c = lent_agrees c.self.inside.coordinator c.st
 pub returns : goal.returns
 returns c =
     seen (λ n. acts n (Ok tt) (lent (λ _ l. calls.preset_number l c.args.value) n.eui)) _ _ _ _ _ c.self.view_is
-    (station_took c.self.inside.coordinator c.station.result.now c.set_number.new.station (Ok tt) (λ _ l. calls.preset_number l c.args.value) c.set_number.result nothing c.station.ensures.value c.self.invariant
+    (station_took c.self.inside.coordinator c.station.result.now c.set_number.new.station (Ok tt) (λ _ l. calls.preset_number l c.args.value)
+    c.set_number.result nothing c.station.ensures.value c.self.invariant
     (gives_nothing c.station.result.now.memory _ _ c.set_number.ensures.halted) c.set_number.ensures.carries)
 
 pub invariant_of-self : goal.invariant_of-self
 invariant_of-self c =
-    station_sound c.self.inside.coordinator c.station.result.now c.set_number.new.station (Ok tt) (λ _ l. calls.preset_number l c.args.value) c.set_number.result nothing (number_own _ c.args.value) c.station.ensures.value c.self.invariant
+    station_sound c.self.inside.coordinator c.station.result.now c.set_number.new.station (Ok tt) (λ _ l. calls.preset_number l c.args.value)
+    c.set_number.result nothing (number_own _ c.args.value) c.station.ensures.value c.self.invariant
     (gives_nothing c.station.result.now.memory _ _ c.set_number.ensures.halted) c.set_number.ensures.carries c.set_number.ensures.agrees

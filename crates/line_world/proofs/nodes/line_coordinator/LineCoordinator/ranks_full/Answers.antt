@@ -10,10 +10,12 @@ use Rattle.line_world.proofs.nodes.line_coordinator.LineCoordinator.ranks_full.G
 
 pub returns-clause-value : goal.returns-clause-value
 returns-clause-value c =
-    says c.self.inside.coordinator c.station.result.now (λ l. nat_lt 63 (length l.routing.entries)) false _ c.station.ensures.value c.is_full.ensures ∙ ap (λ (n : Node). ranks_full n) c.self.view_is
+    says c.self.inside.coordinator c.station.result.now (λ l. nat_lt 63 (length l.routing.entries)) false _ c.station.ensures.value c.is_full.ensures
+    ∙ ap (λ (n : Node). ranks_full n) c.self.view_is
 
 pub returns-clause-same : goal.returns-clause-same
-returns-clause-same c = ap (λ (x : CoordinatorState). of_coordinator x) (unchanged c.self.inside.coordinator c.station.result.now c.station.ensures.value) ∙ c.self.view_is
+returns-clause-same c =
+    ap (λ (x : CoordinatorState). of_coordinator x) (unchanged c.self.inside.coordinator c.station.result.now c.station.ensures.value) ∙ c.self.view_is
 
 pub invariant_of-self : goal.invariant_of-self
 invariant_of-self c = sound_back c.self.inside.coordinator c.station.result.now c.station.ensures.value c.self.invariant

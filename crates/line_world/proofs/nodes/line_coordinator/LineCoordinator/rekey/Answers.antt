@@ -17,7 +17,8 @@ rekey-requires-clause-holds c = holds c.self.inside.coordinator c.self.invariant
 pub returns : goal.returns
 returns c =
     seen (λ n. acts n (Err orders.Halted) (λ m. rules.rekey m c.args.index c.args.key.now)) _ _ _ _ _ c.self.view_is
-    (own_took c.self.inside.coordinator c.rekey.new.self (Err orders.Halted) (λ m. rules.rekey m c.args.index c.args.key.now) c.rekey.result nothing c.self.invariant
+    (own_took c.self.inside.coordinator c.rekey.new.self (Err orders.Halted) (λ m. rules.rekey m c.args.index c.args.key.now) c.rekey.result nothing
+    c.self.invariant
     (gives_nothing (node_of c.self.inside.coordinator).memory _ _ c.rekey.ensures.halted) c.rekey.ensures.carries)
 
 pub invariant_of-self : goal.invariant_of-self

@@ -7,7 +7,8 @@ use Rattle.line_world.proofs.nodes.line_coordinator.LineCoordinator.restart.Goal
 pub returns : goal.returns
 returns c =
     seen (λ n. restarts n) _ _ _ _ _ c.self.view_is
-    (restarted c.self.inside.coordinator c.restart.new.self c.restart.result c.restart_word.result c.restart_word.ensures c.restart.ensures.answer c.restart.ensures.memory
+    (restarted c.self.inside.coordinator c.restart.new.self c.restart.result c.restart_word.result c.restart_word.ensures c.restart.ensures.answer
+    c.restart.ensures.memory
     c.restart.ensures.store c.restart.ensures.eui)
 
 pub invariant_of-self : goal.invariant_of-self

@@ -14,10 +14,13 @@ send-requires c = record { agrees = lent_agrees c.self.inside.coordinator c.stat
 pub returns : goal.returns
 returns c =
     seen (λ n. acts n (Err sends.Halted) (lent (λ _ l. calls.send l c.args.to c.args.datagram.now c.args.note c.args.now) n.eui)) _ _ _ _ _ c.self.view_is
-    (station_took c.self.inside.coordinator c.station.result.now c.send.new.self (Err sends.Halted) (λ _ l. calls.send l c.args.to c.args.datagram.now c.args.note c.args.now) c.send.result c.send.new.out c.station.ensures.value c.self.invariant
+    (station_took c.self.inside.coordinator c.station.result.now c.send.new.self (Err sends.Halted)
+    (λ _ l. calls.send l c.args.to c.args.datagram.now c.args.note c.args.now) c.send.result c.send.new.out c.station.ensures.value c.self.invariant
     c.send.ensures.halted c.send.ensures.carries)
 
 pub invariant_of-self : goal.invariant_of-self
 invariant_of-self c =
-    station_sound c.self.inside.coordinator c.station.result.now c.send.new.self (Err sends.Halted) (λ _ l. calls.send l c.args.to c.args.datagram.now c.args.note c.args.now) c.send.result c.send.new.out (sends_own _ c.args.to c.args.datagram.now c.args.note c.args.now) c.station.ensures.value c.self.invariant
+    station_sound c.self.inside.coordinator c.station.result.now c.send.new.self (Err sends.Halted)
+    (λ _ l. calls.send l c.args.to c.args.datagram.now c.args.note c.args.now) c.send.result c.send.new.out
+    (sends_own _ c.args.to c.args.datagram.now c.args.note c.args.now) c.station.ensures.value c.self.invariant
     c.send.ensures.halted c.send.ensures.carries c.send.ensures.agrees

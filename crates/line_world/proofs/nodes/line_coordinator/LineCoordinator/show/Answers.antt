@@ -14,7 +14,8 @@ returns-clause-shown c =
     (shows c.station.result.now.memory c.shown.new.out c.shown.ensures.halted c.shown.ensures.shown) ∙ ap (λ (n : Node). shown_of n) c.self.view_is
 
 pub returns-clause-same : goal.returns-clause-same
-returns-clause-same c = ap (λ (x : CoordinatorState). of_coordinator x) (unchanged c.self.inside.coordinator c.station.result.now c.station.ensures.value) ∙ c.self.view_is
+returns-clause-same c =
+    ap (λ (x : CoordinatorState). of_coordinator x) (unchanged c.self.inside.coordinator c.station.result.now c.station.ensures.value) ∙ c.self.view_is
 
 pub invariant_of-self : goal.invariant_of-self
 invariant_of-self c = sound_back c.self.inside.coordinator c.station.result.now c.station.ensures.value c.self.invariant

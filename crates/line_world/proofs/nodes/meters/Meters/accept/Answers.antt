@@ -12,11 +12,15 @@ use Rattle.line_world.proofs.Places.{station_agrees_at, station_did, stations_so
 use Rattle.line_world.proofs.nodes.meters.Meters.accept.Goals as goal
 
 pub accept-requires : goal.accept-requires
-accept-requires c = record { agrees = station_agrees_at c.self.inside.meters.items _ c.args.place c.index_mut.result.now c.station.result.now c.self.view_is c.requires.there c.index_mut.ensures.value c.self.invariant c.station.ensures.value }
+accept-requires c = record {
+  agrees = station_agrees_at c.self.inside.meters.items _ c.args.place c.index_mut.result.now c.station.result.now c.self.view_is
+      c.requires.there c.index_mut.ensures.value c.self.invariant c.station.ensures.value;
+}
 
 pub returns-clause-did : goal.returns-clause-did
 returns-clause-did c =
-    station_did (Err frames.Halted) (λ own l. accepting.accept l own (arrived network c.args.octets.now)) c.self.inside.meters.items _ c.args.place c.index_mut.result.now c.station.result.now c.accept.new.self
+    station_did (Err frames.Halted) (λ own l. accepting.accept l own (arrived network c.args.octets.now)) c.self.inside.meters.items _ c.args.place
+    c.index_mut.result.now c.station.result.now c.accept.new.self
     c.accept.result nothing c.self.view_is c.requires.there c.index_mut.ensures.value c.self.invariant c.station.ensures.value
     (gives_nothing c.station.result.now.memory _ _ c.accept.ensures.halted) c.accept.ensures.carries
 
@@ -28,7 +32,8 @@ returns-clause-hears c =
 
 pub invariant_of-self : goal.invariant_of-self
 invariant_of-self c =
-    stations_sound (Err frames.Halted) (λ own l. accepting.accept l own (arrived network c.args.octets.now)) c.self.inside.meters.items _ c.args.place c.index_mut.result.now c.station.result.now c.accept.new.self
+    stations_sound (Err frames.Halted) (λ own l. accepting.accept l own (arrived network c.args.octets.now)) c.self.inside.meters.items _ c.args.place
+    c.index_mut.result.now c.station.result.now c.accept.new.self
     c.accept.result nothing c.self.view_is c.requires.there c.index_mut.ensures.value c.self.invariant c.station.ensures.value
     (gives_nothing c.station.result.now.memory _ _ c.accept.ensures.halted) c.accept.ensures.carries
     (accepts_own _ (arrived network c.args.octets.now)) c.accept.ensures.agrees

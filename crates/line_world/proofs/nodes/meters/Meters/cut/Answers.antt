@@ -14,14 +14,19 @@ use Rattle.line_world.proofs.nodes.meters.Meters.cut.Goals as goal
 pub returns : goal.returns
 returns c =
     let x = c.index_mut.result.now in
-    did_at (λ n. stays (record n { store = record n.store { cut = Some (record { nth = c.args.nth; keeps_new = c.args.keeps_new }) } }) said.Set) c.self.inside.meters.items _ c.args.place c.index_mut.result.now
+    did_at (λ n. stays (record n { store = record n.store { cut = Some (record { nth = c.args.nth; keeps_new = c.args.keeps_new }) } }) said.Set)
+    c.self.inside.meters.items _ c.args.place c.index_mut.result.now
     (with_its (over c.cut.new.self c.station.result.now) x) said.Set nothing c.self.view_is c.requires.there c.index_mut.ensures.value
-    (cut_took (Meter x.psk) (beside x) x.station c.station.result.now c.keeper_mut.result.now c.cut.new.self (record { nth = c.args.nth; keeps_new = c.args.keeps_new })
+    (cut_took (Meter x.psk) (beside x) x.station c.station.result.now c.keeper_mut.result.now c.cut.new.self
+    (record { nth = c.args.nth; keeps_new = c.args.keeps_new })
     c.station.ensures.value c.keeper_mut.ensures.value c.cut.ensures)
 
 pub invariant_of-self : goal.invariant_of-self
 invariant_of-self c =
     let x = c.index_mut.result.now in
     All-set IsSoundMeter c.self.inside.meters.items c.args.place (with_its (over c.cut.new.self c.station.result.now) x)
-    (cut_sound (Meter x.psk) (beside x) x.station c.station.result.now c.keeper_mut.result.now c.cut.new.self (record { nth = c.args.nth; keeps_new = c.args.keeps_new })
-    c.station.ensures.value c.keeper_mut.ensures.value c.cut.ensures (sound_at c.self.inside.meters.items _ c.args.place c.index_mut.result.now c.self.view_is c.requires.there c.index_mut.ensures.value c.self.invariant)) c.self.invariant
+    (cut_sound (Meter x.psk) (beside x) x.station c.station.result.now c.keeper_mut.result.now c.cut.new.self
+    (record { nth = c.args.nth; keeps_new = c.args.keeps_new })
+    c.station.ensures.value c.keeper_mut.ensures.value c.cut.ensures
+    (sound_at c.self.inside.meters.items _ c.args.place c.index_mut.result.now c.self.view_is c.requires.there c.index_mut.ensures.value c.self.invariant))
+    c.self.invariant

@@ -11,46 +11,60 @@ use Rattle.line_world.proofs.nodes.meters.Meters.hear.Goals as goal
 
 pub hear-heard-requires-clause-running : goal.hear-heard-requires-clause-running
 hear-heard-requires-clause-running c =
-    running c.index_mut-meter.result.now c.args.got.now (at_place c.self.inside.meters.items _ c.args.place c.index_mut-meter.result.now _ c.self.view_is c.requires.there c.index_mut-meter.ensures.value c.requires.accepted)
+    running c.index_mut-meter.result.now c.args.got.now (at_place c.self.inside.meters.items _ c.args.place c.index_mut-meter.result.now _ c.self.view_is
+    c.requires.there c.index_mut-meter.ensures.value c.requires.accepted)
 
 pub hear-heard-requires-clause-agrees : goal.hear-heard-requires-clause-agrees
-hear-heard-requires-clause-agrees c = agrees_at c.self.inside.meters.items _ c.args.place c.index_mut-meter.result.now c.self.view_is c.requires.there c.index_mut-meter.ensures.value c.self.invariant
+hear-heard-requires-clause-agrees c = agrees_at c.self.inside.meters.items _ c.args.place c.index_mut-meter.result.now c.self.view_is c.requires.there
+    c.index_mut-meter.ensures.value c.self.invariant
 
 pub hear-heard-requires-clause-fits : goal.hear-heard-requires-clause-fits
-hear-heard-requires-clause-fits c = (at_place c.self.inside.meters.items _ c.args.place c.index_mut-meter.result.now (λ x. MayHear x c.args.got.now) c.self.view_is c.requires.there c.index_mut-meter.ensures.value c.requires.accepted).fits
+hear-heard-requires-clause-fits c = (at_place c.self.inside.meters.items _ c.args.place c.index_mut-meter.result.now (λ x. MayHear x c.args.got.now)
+    c.self.view_is c.requires.there c.index_mut-meter.ensures.value c.requires.accepted).fits
 
 pub hear-heard-requires-clause-came : goal.hear-heard-requires-clause-came
 hear-heard-requires-clause-came c =
-    came_up c.index_mut-meter.result.now c.args.got.now (at_place c.self.inside.meters.items _ c.args.place c.index_mut-meter.result.now _ c.self.view_is c.requires.there c.index_mut-meter.ensures.value c.requires.accepted)
+    came_up c.index_mut-meter.result.now c.args.got.now (at_place c.self.inside.meters.items _ c.args.place c.index_mut-meter.result.now _ c.self.view_is
+    c.requires.there c.index_mut-meter.ensures.value c.requires.accepted)
 
 pub returns-clause-received : goal.returns-clause-received
 returns-clause-received c =
     let x = c.index_mut-meter.result.now in
     let y = c.hear-heard.new.self in
-    let sound = sound_at c.self.inside.meters.items _ c.args.place c.index_mut-meter.result.now c.self.view_is c.requires.there c.index_mut-meter.ensures.value c.self.invariant in
-    let may = at_place c.self.inside.meters.items _ c.args.place c.index_mut-meter.result.now (λ n. MayHear n c.args.got.now) c.self.view_is c.requires.there c.index_mut-meter.ensures.value c.requires.accepted in
+    let sound = sound_at c.self.inside.meters.items _ c.args.place c.index_mut-meter.result.now c.self.view_is c.requires.there c.index_mut-meter.ensures.value
+    c.self.invariant in
+    let may = at_place c.self.inside.meters.items _ c.args.place c.index_mut-meter.result.now (λ n. MayHear n c.args.got.now) c.self.view_is c.requires.there
+    c.index_mut-meter.ensures.value c.requires.accepted in
     found_at c.self.inside.meters.items _ c.args.place c.index_mut-meter.result.now _ c.self.view_is c.requires.there c.index_mut-meter.ensures.value (record {
-      tells = told x y c.args.got.now c.args.cost c.args.note c.args.now c.hear-heard.result c.hear-heard.new.out sound may c.hear-heard.ensures.psk c.hear-heard.ensures.carries
+      tells = told x y c.args.got.now c.args.cost c.args.note c.args.now c.hear-heard.result c.hear-heard.new.out sound may c.hear-heard.ensures.psk
+          c.hear-heard.ensures.carries
           c.with_reply.result (tells_with c.meter_told.result c.with_reply.result c.reply_of-replied.result _ c.with_reply.ensures c.meter_told.ensures);
       did = did _ c.self.inside.meters.items _ c.args.place y _ _ c.self.view_is
-          (heard x y c.args.got.now c.args.cost c.args.note c.args.now c.hear-heard.result c.hear-heard.new.out sound may c.hear-heard.ensures.psk c.hear-heard.ensures.carries);
+          (heard x y c.args.got.now c.args.cost c.args.note c.args.now c.hear-heard.result c.hear-heard.new.out sound may c.hear-heard.ensures.psk
+          c.hear-heard.ensures.carries);
     })
 
 pub returns-clause-replied : goal.returns-clause-replied
 returns-clause-replied c is =
     let x = c.index_mut-meter.result.now in
     let y = c.hear-heard.new.self in
-    let sound = sound_at c.self.inside.meters.items _ c.args.place c.index_mut-meter.result.now c.self.view_is c.requires.there c.index_mut-meter.ensures.value c.self.invariant in
-    let may = at_place c.self.inside.meters.items _ c.args.place c.index_mut-meter.result.now (λ n. MayHear n c.args.got.now) c.self.view_is c.requires.there c.index_mut-meter.ensures.value c.requires.accepted in
+    let sound = sound_at c.self.inside.meters.items _ c.args.place c.index_mut-meter.result.now c.self.view_is c.requires.there c.index_mut-meter.ensures.value
+    c.self.invariant in
+    let may = at_place c.self.inside.meters.items _ c.args.place c.index_mut-meter.result.now (λ n. MayHear n c.args.got.now) c.self.view_is c.requires.there
+    c.index_mut-meter.ensures.value c.requires.accepted in
     found_at c.self.inside.meters.items _ c.args.place c.index_mut-meter.result.now _ c.self.view_is c.requires.there c.index_mut-meter.ensures.value
     (ap (λ (w : Reception). w.replied) c.with_reply.ensures
-    ∙ told_replied x y c.args.got.now c.args.cost c.args.note c.args.now c.hear-heard.result c.hear-heard.new.out sound may c.hear-heard.ensures.psk c.hear-heard.ensures.carries
+    ∙ told_replied x y c.args.got.now c.args.cost c.args.note c.args.now c.hear-heard.result c.hear-heard.new.out sound may c.hear-heard.ensures.psk
+    c.hear-heard.ensures.carries
     y.station.replied c.reply_of-replied.result (c.reply_of-replied.ensures ∙ c.last_reply.ensures) c.hear-heard.ensures.replied is)
 
 pub invariant_of-self : goal.invariant_of-self
 invariant_of-self c =
-    let sound = sound_at c.self.inside.meters.items _ c.args.place c.index_mut-meter.result.now c.self.view_is c.requires.there c.index_mut-meter.ensures.value c.self.invariant in
-    let may = at_place c.self.inside.meters.items _ c.args.place c.index_mut-meter.result.now (λ n. MayHear n c.args.got.now) c.self.view_is c.requires.there c.index_mut-meter.ensures.value c.requires.accepted in
+    let sound = sound_at c.self.inside.meters.items _ c.args.place c.index_mut-meter.result.now c.self.view_is c.requires.there c.index_mut-meter.ensures.value
+    c.self.invariant in
+    let may = at_place c.self.inside.meters.items _ c.args.place c.index_mut-meter.result.now (λ n. MayHear n c.args.got.now) c.self.view_is c.requires.there
+    c.index_mut-meter.ensures.value c.requires.accepted in
     All-set IsSoundMeter c.self.inside.meters.items c.args.place c.hear-heard.new.self
-    (heard_sound c.index_mut-meter.result.now c.hear-heard.new.self c.args.got.now c.args.cost c.args.note c.args.now c.hear-heard.result c.hear-heard.new.out sound may
+    (heard_sound c.index_mut-meter.result.now c.hear-heard.new.self c.args.got.now c.args.cost c.args.note c.args.now c.hear-heard.result c.hear-heard.new.out
+    sound may
     c.hear-heard.ensures.carries c.hear-heard.ensures.agrees) c.self.invariant

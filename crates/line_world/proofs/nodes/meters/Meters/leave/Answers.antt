@@ -14,17 +14,26 @@ use Rattle.line_world.proofs.Places.{agrees_at, sound_at, did_at}
 use Rattle.line_world.proofs.nodes.meters.Meters.leave.Goals as goal
 
 pub leave-requires : goal.leave-requires
-leave-requires c = record { agrees = agrees_at c.self.inside.meters.items _ c.args.place c.index_mut.result.now c.self.view_is c.requires.there c.index_mut.ensures.value c.self.invariant }
+leave-requires c = record {
+  agrees = agrees_at c.self.inside.meters.items _ c.args.place c.index_mut.result.now c.self.view_is c.requires.there
+      c.index_mut.ensures.value c.self.invariant;
+}
 
 pub returns : goal.returns
 returns c =
-    did_at (λ n. acts n (Err leaves.Halted) meters.leave) c.self.inside.meters.items _ c.args.place c.index_mut.result.now c.leave.new.self c.leave.result nothing c.self.view_is c.requires.there c.index_mut.ensures.value
-    (meter_took c.index_mut.result.now c.leave.new.self (Err leaves.Halted) meters.leave c.leave.result nothing (sound_at c.self.inside.meters.items _ c.args.place c.index_mut.result.now c.self.view_is c.requires.there c.index_mut.ensures.value c.self.invariant) c.leave.ensures.psk
-    (meter_stayed c.index_mut.result.now c.leave.new.self (Err leaves.Halted) c.leave.result nothing (gives_nothing c.index_mut.result.now.station.memory _ _ c.leave.ensures.halted)) c.leave.ensures.carries)
+    did_at (λ n. acts n (Err leaves.Halted) meters.leave) c.self.inside.meters.items _ c.args.place c.index_mut.result.now c.leave.new.self c.leave.result
+    nothing c.self.view_is c.requires.there c.index_mut.ensures.value
+    (meter_took c.index_mut.result.now c.leave.new.self (Err leaves.Halted) meters.leave c.leave.result nothing
+    (sound_at c.self.inside.meters.items _ c.args.place c.index_mut.result.now c.self.view_is c.requires.there c.index_mut.ensures.value c.self.invariant)
+    c.leave.ensures.psk
+    (meter_stayed c.index_mut.result.now c.leave.new.self (Err leaves.Halted) c.leave.result nothing
+    (gives_nothing c.index_mut.result.now.station.memory _ _ c.leave.ensures.halted)) c.leave.ensures.carries)
 
 pub invariant_of-self : goal.invariant_of-self
 invariant_of-self c =
     All-set IsSoundMeter c.self.inside.meters.items c.args.place c.leave.new.self
     (meter_sound c.index_mut.result.now c.leave.new.self (Err leaves.Halted) meters.leave c.leave.result nothing
-    (λ m short. (meters_in_place (identity_of c.index_mut.result.now) m short).leaves) (sound_at c.self.inside.meters.items _ c.args.place c.index_mut.result.now c.self.view_is c.requires.there c.index_mut.ensures.value c.self.invariant)
-    (meter_stayed c.index_mut.result.now c.leave.new.self (Err leaves.Halted) c.leave.result nothing (gives_nothing c.index_mut.result.now.station.memory _ _ c.leave.ensures.halted)) c.leave.ensures.carries c.leave.ensures.agrees) c.self.invariant
+    (λ m short. (meters_in_place (identity_of c.index_mut.result.now) m short).leaves)
+    (sound_at c.self.inside.meters.items _ c.args.place c.index_mut.result.now c.self.view_is c.requires.there c.index_mut.ensures.value c.self.invariant)
+    (meter_stayed c.index_mut.result.now c.leave.new.self (Err leaves.Halted) c.leave.result nothing
+    (gives_nothing c.index_mut.result.now.station.memory _ _ c.leave.ensures.halted)) c.leave.ensures.carries c.leave.ensures.agrees) c.self.invariant

@@ -19,7 +19,8 @@ invariant_of-self-2 c =
       memory = c.in-Ok.ensures.opened.3;
       agrees = c.in-Ok.ensures.agrees;
     } in
-    all_sound c.self.inside.meters.items c.push.new.self.items c.in-Ok.meter c.self.invariant c.in_ok-push.ensures.items (sound_made c.in_ok-keeper.keeper c.args.eui c.args.psk c.in-Ok.meter made)
+    all_sound c.self.inside.meters.items c.push.new.self.items c.in-Ok.meter c.self.invariant c.in_ok-push.ensures.items
+    (sound_made c.in_ok-keeper.keeper c.args.eui c.args.psk c.in-Ok.meter made)
 
 pub returns-clause-ok : goal.returns-clause-ok
 returns-clause-ok c =

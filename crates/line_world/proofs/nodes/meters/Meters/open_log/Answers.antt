@@ -14,16 +14,21 @@ use Rattle.line_world.proofs.nodes.meters.Meters.open_log.Goals as goal
 
 pub returns-clause-value : goal.returns-clause-value
 returns-clause-value c =
-    found_at c.self.inside.meters.items _ c.args.place c.index_mut.result.now (λ (n : Node). c.open.result ≡ logs.opened n.store.records) c.self.view_is c.requires.there c.index_mut.ensures.value
-    (c.open.ensures.log ∙ ap (λ (s : Store). logs.opened s.records) (c.keeper_mut.ensures.value ∙ ap (λ (s : State StationMemory). s.store) c.station.ensures.value))
+    found_at c.self.inside.meters.items _ c.args.place c.index_mut.result.now (λ (n : Node). c.open.result ≡ logs.opened n.store.records) c.self.view_is
+    c.requires.there c.index_mut.ensures.value
+    (c.open.ensures.log ∙ ap (λ (s : Store). logs.opened s.records)
+    (c.keeper_mut.ensures.value ∙ ap (λ (s : State StationMemory). s.store) c.station.ensures.value))
 
 pub returns-clause-same : goal.returns-clause-same
 returns-clause-same c =
-    same_at c.self.inside.meters.items _ c.args.place c.index_mut.result.now _ c.self.view_is c.index_mut.ensures.value (unchanged c.index_mut.result.now (over c.keeper_mut.result.now c.station.result.now)
+    same_at c.self.inside.meters.items _ c.args.place c.index_mut.result.now _ c.self.view_is c.index_mut.ensures.value
+    (unchanged c.index_mut.result.now (over c.keeper_mut.result.now c.station.result.now)
     (keeper_back c.station.result.now c.keeper_mut.result.now c.keeper_mut.ensures.value ∙ c.station.ensures.value))
 
 pub invariant_of-self : goal.invariant_of-self
 invariant_of-self c =
     All-set IsSoundMeter c.self.inside.meters.items c.args.place _
-    (sound_back c.index_mut.result.now (over c.keeper_mut.result.now c.station.result.now) (keeper_back c.station.result.now c.keeper_mut.result.now c.keeper_mut.ensures.value ∙ c.station.ensures.value)
-    (sound_at c.self.inside.meters.items _ c.args.place c.index_mut.result.now c.self.view_is c.requires.there c.index_mut.ensures.value c.self.invariant)) c.self.invariant
+    (sound_back c.index_mut.result.now (over c.keeper_mut.result.now c.station.result.now)
+    (keeper_back c.station.result.now c.keeper_mut.result.now c.keeper_mut.ensures.value ∙ c.station.ensures.value)
+    (sound_at c.self.inside.meters.items _ c.args.place c.index_mut.result.now c.self.view_is c.requires.there c.index_mut.ensures.value c.self.invariant))
+    c.self.invariant

@@ -10,5 +10,6 @@ use Rattle.line_world.proofs.nodes.meters.Meters.position.Goals as goal
 
 pub returns : goal.returns
 returns c =
-    c.place_of.ensures ∙ ap (λ (ms : List MeterState). position (has_eui c.args.eui) ms) c.deref.ensures.value ∙ sym (position_map of_meter (λ (x : Node). same_eui x.eui c.args.eui) c.self.inside.meters.items)
+    c.place_of.ensures ∙ ap (λ (ms : List MeterState). position (has_eui c.args.eui) ms) c.deref.ensures.value
+    ∙ sym (position_map of_meter (λ (x : Node). same_eui x.eui c.args.eui) c.self.inside.meters.items)
     ∙ ap (λ (xs : List Node). position (λ (x : Node). same_eui x.eui c.args.eui) xs) c.self.view_is

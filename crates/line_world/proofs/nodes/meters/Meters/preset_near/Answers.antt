@@ -8,17 +8,22 @@ use Rattle.line_world.proofs.Places.{station_agrees_at, station_did, stations_so
 use Rattle.line_world.proofs.nodes.meters.Meters.preset_near.Goals as goal
 
 pub offer_near-requires : goal.offer_near-requires
-offer_near-requires c = record { agrees = station_agrees_at c.self.inside.meters.items _ c.args.place c.index_mut.result.now c.station.result.now c.self.view_is c.requires.there c.index_mut.ensures.value c.self.invariant c.station.ensures.value }
+offer_near-requires c = record {
+  agrees = station_agrees_at c.self.inside.meters.items _ c.args.place c.index_mut.result.now c.station.result.now c.self.view_is
+      c.requires.there c.index_mut.ensures.value c.self.invariant c.station.ensures.value;
+}
 
 pub returns : goal.returns
 returns c =
-    station_did (Ok tt) (λ _ l. calls.preset_near l c.args.to c.args.cost c.args.now) c.self.inside.meters.items _ c.args.place c.index_mut.result.now c.station.result.now c.offer_near.new.station
+    station_did (Ok tt) (λ _ l. calls.preset_near l c.args.to c.args.cost c.args.now) c.self.inside.meters.items _ c.args.place c.index_mut.result.now
+    c.station.result.now c.offer_near.new.station
     c.offer_near.result nothing c.self.view_is c.requires.there c.index_mut.ensures.value c.self.invariant c.station.ensures.value
     (gives_nothing c.station.result.now.memory _ _ c.offer_near.ensures.halted) c.offer_near.ensures.carries
 
 pub invariant_of-self : goal.invariant_of-self
 invariant_of-self c =
-    stations_sound (Ok tt) (λ _ l. calls.preset_near l c.args.to c.args.cost c.args.now) c.self.inside.meters.items _ c.args.place c.index_mut.result.now c.station.result.now c.offer_near.new.station
+    stations_sound (Ok tt) (λ _ l. calls.preset_near l c.args.to c.args.cost c.args.now) c.self.inside.meters.items _ c.args.place c.index_mut.result.now
+    c.station.result.now c.offer_near.new.station
     c.offer_near.result nothing c.self.view_is c.requires.there c.index_mut.ensures.value c.self.invariant c.station.ensures.value
     (gives_nothing c.station.result.now.memory _ _ c.offer_near.ensures.halted) c.offer_near.ensures.carries
     (near_own _ c.args.to c.args.cost c.args.now) c.offer_near.ensures.agrees

@@ -7,17 +7,22 @@ use Rattle.line_world.proofs.Places.{station_agrees_at, station_did, stations_so
 use Rattle.line_world.proofs.nodes.meters.Meters.send.Goals as goal
 
 pub send-requires : goal.send-requires
-send-requires c = record { agrees = station_agrees_at c.self.inside.meters.items _ c.args.place c.index_mut.result.now c.station.result.now c.self.view_is c.requires.there c.index_mut.ensures.value c.self.invariant c.station.ensures.value }
+send-requires c = record {
+  agrees = station_agrees_at c.self.inside.meters.items _ c.args.place c.index_mut.result.now c.station.result.now c.self.view_is
+      c.requires.there c.index_mut.ensures.value c.self.invariant c.station.ensures.value;
+}
 
 pub returns : goal.returns
 returns c =
-    station_did (Err sends.Halted) (λ _ l. calls.send l c.args.to c.args.datagram.now c.args.note c.args.now) c.self.inside.meters.items _ c.args.place c.index_mut.result.now c.station.result.now c.send.new.self
+    station_did (Err sends.Halted) (λ _ l. calls.send l c.args.to c.args.datagram.now c.args.note c.args.now) c.self.inside.meters.items _ c.args.place
+    c.index_mut.result.now c.station.result.now c.send.new.self
     c.send.result c.send.new.out c.self.view_is c.requires.there c.index_mut.ensures.value c.self.invariant c.station.ensures.value
     c.send.ensures.halted c.send.ensures.carries
 
 pub invariant_of-self : goal.invariant_of-self
 invariant_of-self c =
-    stations_sound (Err sends.Halted) (λ _ l. calls.send l c.args.to c.args.datagram.now c.args.note c.args.now) c.self.inside.meters.items _ c.args.place c.index_mut.result.now c.station.result.now c.send.new.self
+    stations_sound (Err sends.Halted) (λ _ l. calls.send l c.args.to c.args.datagram.now c.args.note c.args.now) c.self.inside.meters.items _ c.args.place
+    c.index_mut.result.now c.station.result.now c.send.new.self
     c.send.result c.send.new.out c.self.view_is c.requires.there c.index_mut.ensures.value c.self.invariant c.station.ensures.value
     c.send.ensures.halted c.send.ensures.carries
     (sends_own _ c.args.to c.args.datagram.now c.args.note c.args.now) c.send.ensures.agrees

@@ -9,8 +9,10 @@ use Rattle.line_world.proofs.nodes.meters.Meters.short_tables.Goals as goal
 
 pub returns-clause-tables : goal.returns-clause-tables
 returns-clause-tables c =
-    subst (λ (ns : List Node). All IsShort ns) c.self.view_is (meters_are IsShort (λ m s. is_short (Meter m.psk) (node_of m) s) c.self.inside.meters.items c.self.invariant)
+    subst (λ (ns : List Node). All IsShort ns) c.self.view_is
+    (meters_are IsShort (λ m s. is_short (Meter m.psk) (node_of m) s) c.self.inside.meters.items c.self.invariant)
 
 pub returns-clause-counters : goal.returns-clause-counters
 returns-clause-counters c =
-    subst (λ (ns : List Node). All IsBelow ns) c.self.view_is (meters_are IsBelow (λ m s. is_below (Meter m.psk) (node_of m) s) c.self.inside.meters.items c.self.invariant)
+    subst (λ (ns : List Node). All IsBelow ns) c.self.view_is
+    (meters_are IsBelow (λ m s. is_below (Meter m.psk) (node_of m) s) c.self.inside.meters.items c.self.invariant)

@@ -14,9 +14,12 @@ returns-clause-shown c =
     (shows c.station.result.now.memory c.shown.new.out c.shown.ensures.halted c.shown.ensures.shown))
 
 pub returns-clause-same : goal.returns-clause-same
-returns-clause-same c = same_at c.self.inside.meters.items _ c.args.place c.index_mut.result.now _ c.self.view_is c.index_mut.ensures.value (unchanged c.index_mut.result.now c.station.result.now c.station.ensures.value)
+returns-clause-same c = same_at c.self.inside.meters.items _ c.args.place c.index_mut.result.now _ c.self.view_is c.index_mut.ensures.value
+    (unchanged c.index_mut.result.now c.station.result.now c.station.ensures.value)
 
 pub invariant_of-self : goal.invariant_of-self
 invariant_of-self c =
     All-set IsSoundMeter c.self.inside.meters.items c.args.place _
-    (sound_back c.index_mut.result.now c.station.result.now c.station.ensures.value (sound_at c.self.inside.meters.items _ c.args.place c.index_mut.result.now c.self.view_is c.requires.there c.index_mut.ensures.value c.self.invariant)) c.self.invariant
+    (sound_back c.index_mut.result.now c.station.result.now c.station.ensures.value
+    (sound_at c.self.inside.meters.items _ c.args.place c.index_mut.result.now c.self.view_is c.requires.there c.index_mut.ensures.value c.self.invariant))
+    c.self.invariant

@@ -9,14 +9,20 @@ use Rattle.line_world.proofs.Places.{agrees_at, sound_at, found_at, set_at}
 use Rattle.line_world.proofs.nodes.meters.Meters.tick_at.Goals as goal
 
 pub tick-requires : goal.tick-requires
-tick-requires c = record { agrees = agrees_at c.self.inside.meters.items _ c.args.place c.index_mut.result.now c.self.view_is c.requires.there c.index_mut.ensures.value c.self.invariant }
+tick-requires c = record {
+  agrees = agrees_at c.self.inside.meters.items _ c.args.place c.index_mut.result.now c.self.view_is c.requires.there
+      c.index_mut.ensures.value c.self.invariant;
+}
 
 pub returns : goal.returns
 returns c =
     found_at c.self.inside.meters.items _ c.args.place c.index_mut.result.now _ c.self.view_is c.requires.there c.index_mut.ensures.value
-    (set_at c.self.inside.meters.items _ c.args.place _ _ c.self.view_is (ended c.args.now c.index_mut.result.now c.tick.new.self c.tick.ensures.state c.tick.ensures.psk))
+    (set_at c.self.inside.meters.items _ c.args.place _ _ c.self.view_is
+    (ended c.args.now c.index_mut.result.now c.tick.new.self c.tick.ensures.state c.tick.ensures.psk))
 
 pub invariant_of-self : goal.invariant_of-self
 invariant_of-self c =
     All-set IsSoundMeter c.self.inside.meters.items c.args.place c.tick.new.self
-    (stored_sound c.index_mut.result.now c.tick.new.self (sound_at c.self.inside.meters.items _ c.args.place c.index_mut.result.now c.self.view_is c.requires.there c.index_mut.ensures.value c.self.invariant) (ap (λ (s : State Memory). s.store) c.tick.ensures.state) c.tick.ensures.agrees) c.self.invariant
+    (stored_sound c.index_mut.result.now c.tick.new.self (sound_at c.self.inside.meters.items _ c.args.place c.index_mut.result.now c.self.view_is
+    c.requires.there c.index_mut.ensures.value c.self.invariant) (ap (λ (s : State Memory). s.store) c.tick.ensures.state) c.tick.ensures.agrees)
+    c.self.invariant
