@@ -49,7 +49,7 @@ impl<K: Keeper + Drop> Coordinator<K> {
         Ok(())
     }
 
-    // A meter that is reached is shut out, and told so.
+    // A meter with a route to it is shut out, and the command Kick goes to it.
     fn kick_told(
         &mut self,
         entry: BookEntry,
@@ -76,7 +76,7 @@ impl<K: Keeper + Drop> Coordinator<K> {
     }
 
     /// Shuts a meter out: it may not join any more, the keys that were issued to it are cleared, and its session ends. Where there is
-    /// a route to it and a counter for a frame, the command that tells it so is in `out`.
+    /// a route to it and a counter for a frame, the command Kick to it is in `out`.
     ///
     /// Halted, NotAllowed, Store, in this order. After Store it is halted, after the others nothing has changed.
     pub fn kick(&mut self, eui: Eui, out: &mut Out) -> Result<(), CoordinatorRefusal>

@@ -195,7 +195,7 @@ pub enum Answer {
     Answered,
     /// A route was learned.
     Learned,
-    /// The origin was told that its unit can't go on.
+    /// A route error went to the origin, since its unit can't go on.
     Reported,
     /// A joining message went on.
     Carried,

@@ -61,7 +61,7 @@ fn origin_by(flights: &Flights, octets: &[u8], path: &Path) -> Origin
     }
 }
 
-// Where the octets come from that a node looked at; of refused ones nothing is told.
+// Where the octets come from that a node looked at: not forged, and with note 0, where it refused them.
 fn origin(flights: &Flights, octets: &[u8], accepted: &Result<Accepted<'_>, FrameRefusal>) -> Origin
     ensures forged { IfOk accepted.now (λ got. result.is_forged ≡ forged_in flights.now.flights octets.now got.path) }
     ensures note { IfOk accepted.now (λ got. result.note ≡ note_in flights.now.flights octets.now got.path) }

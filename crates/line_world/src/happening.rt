@@ -104,7 +104,7 @@ impl Line {
         flights
     }
 
-    /// What a node did is told to the world and to the report.
+    /// Records what a node did: in the world, and in the happenings for the report.
     pub(crate) fn acted(&mut self, node: usize, answer: Answer) -> Happenings<'static>
         requires room { HasRoom self.old }
         requires node { node < 1000 }

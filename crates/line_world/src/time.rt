@@ -37,7 +37,7 @@ impl Line {
         Ok(self.answered(Answer::Ticked))
     }
 
-    // What each node holds beside its memory is told the time.
+    // What each node holds beside its memory moves to the present time.
     fn tick_beside(&mut self)
         ensures { world_of self.new ≡ record (world_of self.old) { beside = map (tick_beside self.old.clock) self.old.beside.items } }
     {

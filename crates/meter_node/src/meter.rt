@@ -112,7 +112,7 @@ impl<K: Keeper + Drop> Meter<K> {
     }
 
     /// The neighbour, the number and the origin of the route reply that its station sent at its last `hear`, as
-    /// [`Station::last_reply`] tells it.
+    /// [`Station::last_reply`] gives it.
     pub fn last_reply(&self) -> Option<(Short, u16, Short)>
         ensures { result ≡ option_map (λ r. (r.to, r.number, r.origin)) self.now.station.replied }
     {

@@ -29,7 +29,7 @@ pub struct Commanded<'a> {
     pub answer: Answer,
     /// The broadcast that was handed up, if one was.
     pub bup: Option<BroadcastUp<'a>>,
-    /// The way that was told, if one was.
+    /// The walk that came back, if one did.
     pub path: Option<PathLine>,
 }
 

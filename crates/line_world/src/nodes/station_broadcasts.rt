@@ -288,7 +288,7 @@ fn hear_broadcast(
     admit_broadcast(station, beside, broadcast, room, out)
 }
 
-// What is told of a broadcast, at the node of this number.
+// What the report says of a broadcast, at the node of this number.
 fn broadcast_told<'a>(
     heard: Result<(), ReachDropped>,
     number: u16,

@@ -198,7 +198,7 @@ pub(crate) fn acknowledge_at(
     station.send_local(3, Some(reply.to), room.octets(), out)
 }
 
-// The reply that a station tells.
+// The reply that a station gives as its last one.
 pub(crate) fn reply_of(last: Option<(Short, u16, Short)>) -> Option<Reply>
     ensures { option_map (λ r. (r.to, r.number, r.origin)) result ≡ last }
 {
@@ -368,7 +368,7 @@ fn hear_path(
     follow_path(station, beside, step, room, out)
 }
 
-// # What is told of a command
+// # What the report says of a command
 
 // A command that led to nothing but a word.
 pub(crate) fn only(answer: Answer) -> Commanded<'static>
@@ -396,7 +396,7 @@ pub(crate) fn dropped_word(reason: ReachDropped) -> Answer
     }
 }
 
-// What is told of an acknowledgement.
+// What the report says of an acknowledgement.
 fn acknowledgement_told(heard: Result<(), ReachDropped>, number: u16) -> Commanded<'static>
     ensures { TellsCommand result number (answer_as (λ _. commands.Acked) heard) }
 {
@@ -406,7 +406,7 @@ fn acknowledgement_told(heard: Result<(), ReachDropped>, number: u16) -> Command
     }
 }
 
-// What is told of a path message that was taken.
+// What the report says of a path message that was taken.
 fn path_words(heard: PathHeard, number: u16) -> Commanded<'static>
     ensures { TellsCommand result number (Ok (path_heard heard)) }
 {
@@ -421,7 +421,7 @@ fn path_words(heard: PathHeard, number: u16) -> Commanded<'static>
     }
 }
 
-// What is told of a path message, at the node of this number.
+// What the report says of a path message, at the node of this number.
 fn path_told(heard: Result<PathHeard, ReachDropped>, number: u16) -> Commanded<'static>
     ensures { TellsCommand result number (answer_as path_heard heard) }
 {
