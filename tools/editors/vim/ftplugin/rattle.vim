@@ -1,0 +1,1 @@
+setlocal commentstring=//\ %s comments=:///,://!,:// expandtab shiftwidth=4 softtabstop=4
