@@ -70,7 +70,7 @@ append_below (w ∷ ps) qs a b = (a.0, append_below ps qs a.1 b)
 pub number_below : (n : number.Numbering) → AreBelow (puts_of (number.advance_write n))
 number_below n = by_passing (number.passes n)
   where
-    by_passing : (due : Bool) → AreBelow (puts_of (if due then number.limit_write (number.raised n.last) else None))
+    by_passing : (due : Bool) → AreBelow (puts_of (if due then number.limit_write (number.raised n.limit) else None))
     by_passing true = (omega arith, tt)
     by_passing false = tt
 
