@@ -101,7 +101,7 @@ counter_apart c count = by_due (counter.passes c count)
 number_apart : (n : numbers.Numbering) → AreApart (puts_of (numbers.number_put n))
 number_apart n = by_due (passes n 1)
   where
-    by_due : (t : Bool) → AreApart (puts_of (if t then limit_write 6 (raised 32 n.limit) else None))
+    by_due : (t : Bool) → AreApart (puts_of (if t then limit_write numbers.limit_at (raised numbers.limit_at 32 n.limit) else None))
     by_due true = one_apart _ (inl (omega arith, omega arith))
     by_due false = none_apart
 
