@@ -1,6 +1,6 @@
 //! What a coordinator begins with over a store that has records, and over one whose first put fails.
 use coordinator::Coordinator;
-use plc_base::{BadStore, Eui, Keeper, Key, MemKeeper, Record, Short};
+use plc_base::{BadStore, Eui, Keeper, Key, KeyIndex, MemKeeper, Record, Short};
 use plc_station::OpenFault;
 use std::test::Fail;
 
@@ -28,7 +28,7 @@ fn another_address_stays(rt: HostRuntime) -> Result<(), Fail> {
         return Err(Fail::from("not opened"));
     };
     assert_eq!(rt; coordinator.address(), Short::new(7));
-    assert_eq!(rt; coordinator.station().ring().key(0), None);
+    assert_eq!(rt; coordinator.station().ring().key(KeyIndex::first()), None);
     Ok(())
 }
 

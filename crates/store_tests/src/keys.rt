@@ -1,6 +1,6 @@
 //! Which records of a ring and of a key book have a reading.
 use group_keys::{KeyBook, KeyRing};
-use plc_base::{Eui, Keeper, MemKeeper, Record};
+use plc_base::{Eui, Keeper, KeyIndex, MemKeeper, Record};
 use std::test::Fail;
 
 // The record of a ring: joined, address, active index, and the flags and first octets of the two keys.
@@ -46,7 +46,10 @@ fn a_ring_has_a_reading(rt: HostRuntime) -> Result<(), Fail> {
                     ring.joined().map(|address| address.number()),
                     want.map(|w| w.0)
                 );
-                assert_eq!(rt; ring.active(), want.map(|w| w.1));
+                assert_eq!(rt;
+                    ring.active().map(|index| index.number()),
+                    want.map(|w| w.1)
+                );
             }
             Err(bad) => {
                 assert_eq!(rt; bad.slot, 1);
@@ -103,7 +106,10 @@ fn an_entry_has_a_reading(rt: HostRuntime) -> Result<(), Fail> {
                 let eight = Eui([0, 0, 0, 0, 0, 0, 0, 8]);
                 assert_eq!(rt; book.address(eight).map(|a| a.number()), Some(2));
                 assert_eq!(rt; book.allowed(eight), allowed == 1);
-                assert_eq!(rt; book.issued(eight, 1).is_some(), second[0] == 1);
+                assert_eq!(rt;
+                    book.issued(eight, KeyIndex::second()).is_some(),
+                    second[0] == 1
+                );
             }
             Err(bad) => assert_eq!(rt; Some(bad.slot), want),
         }
