@@ -39,7 +39,7 @@ returns-clause-carries g c =
     ∙ (λ i. record {
       frames = (c.requires.empty i).frames
           ++ map (spelled network) (sealed_by (Some c.args.grant.now) (c.in-Ok.ensures.number i)
-          (record { to = c.number.ensures.value i; unit = Local 1 (messages.spelling (Rerr c.args.lost c.args.to)); note = 0 } ∷ []));
+          (record { to = c.one.ensures.value i; unit = Local 1 (messages.spelling (Rerr c.args.lost c.args.to)); note = 0 } ∷ []));
       tags = (c.requires.empty i).tags;
     })
     ∙ (λ i. only_frames (map (spelled network) (sealed_by ((sym (at_some c.args.self.now.memory (λ l. l.ring ≡ Some c.args.grant.now)
