@@ -201,11 +201,38 @@ class Border(unittest.TestCase):
 
     def test_each_form_of_a_bound(self):
         for clause, test in (("1 ≤ length body.now", "body.len() >= 1"), ("length body.old ≤ 379", "body.len() <= 379"), ("3 ≤ code", "code >= 3")):
-            self.assertEqual(border.check_of("plc_station", "f", clause), test)
+            self.assertEqual(border.check_of("plc_station", "f", clause, {}), test)
+
+    def test_a_bound_is_a_constant(self):
+        paths = {"MOST": "far::MOST"}
+        for clause, test in (
+            ("octets ≤ MOST", "(octets as u64) <= (far::MOST as u64)"),
+            ("length body.now ≤ MOST", "(body.len() as u64) <= (far::MOST as u64)"),
+            ("length body.old < MOST", "(body.len() as u64) < (far::MOST as u64)"),
+            ("MOST ≤ code", "(code as u64) >= (far::MOST as u64)"),
+        ):
+            self.assertEqual(border.check_of("plc_station", "f", clause, paths), test)
+        for clause in ("octets ≤ OTHER", "octets ≤ code", "octets + 1 ≤ MOST", "MOST ≤ MOST", "length out.old.frames ≤ MOST"):
+            with self.assertRaises(lexer.Stop, msg=clause):
+                border.check_of("plc_station", "f", clause, paths)
+
+    def test_a_constant_is_the_one_that_the_file_names(self):
+        source = """ghost use Rattle.far.specs.declared.limits.TheConstants.{ONE,
+            TWO};
+        ghost use Rattle.coordinator.specs.declared.inner.places.TheConstants.{THREE};
+        ghost use Rattle.far.specs.Laws.{FOUR};
+        pub(crate) const FIVE: usize = 5;
+        const fn six() -> u8 { 6 }"""
+        wanted = {"ONE": "far::ONE", "TWO": "far::TWO", "THREE": "crate::inner::places::THREE", "FIVE": "FIVE"}
+        self.assertEqual(border.constants(lexer.tokens(source), "coordinator"), wanted)
+
+    def test_a_check_names_a_constant_by_its_path(self):
+        source = "ghost use Rattle.far.specs.declared.limits.TheConstants.{MOST};\nimpl S { pub fn f(&self, n: u16) requires few { n ≤ MOST } { g() } }"
+        self.assertIn('std::required!((n as u64) <= (far::MOST as u64), "coordinator: f: few");', plain(source, crate="coordinator")[0])
 
     def test_a_parameter_with_public_fields_is_checked(self):
         text, tally = plain("impl S { pub fn f(&self, it: &Grant, key: &Key) -> A { g() } }", crate="meter_node")
-        self.assertIn('std::required!(it.keys.get(usize::from(it.active)).is_some_and(Option::is_some), "meter_node: f: it");', text)
+        self.assertIn('std::required!(it.key(it.active).is_some(), "meter_node: f: it");', text)
         self.assertEqual(tally["check at the border"], 1)
 
     def test_a_clause_that_nobody_knows_stops(self):
@@ -252,6 +279,7 @@ class BorderOfTheNodes(unittest.TestCase):
 
     def test_what_is_not_checked_is_that_memory_and_store_agree(self):
         self.assertEqual({it.split(": ")[2] for it in self.unchecked}, {"agrees"})
+        self.assertIn(f"{len(self.unchecked)} calls require it", read(os.path.join(export.TOP, "docs/IN-YOUR-FIRMWARE.md")))
 
 
 if __name__ == "__main__":

@@ -4,7 +4,7 @@ use coordinator::Coordinator;
 use firmware::Flash;
 use meter_node::Meter;
 use node_rules::{Accepted, FrameRef, Path};
-use plc_base::{DatagramBuf, Eui, FrameBuf, Grant, Key, LinkCost, Out, Rand, Short};
+use plc_base::{DatagramBuf, Eui, FrameBuf, Grant, Key, KeyIndex, LinkCost, MOST_FRAMES, Out, Rand, Short};
 use plc_station::Station;
 use rattle_std::alloc::Global;
 use std::panic::{AssertUnwindSafe, catch_unwind};
@@ -62,7 +62,7 @@ fn cost() -> LinkCost {
 
 fn full() -> Out {
     let mut out = Out::new();
-    for _ in 0..24 {
+    for _ in 0..MOST_FRAMES {
         out.frames.push_blank();
     }
     out
@@ -111,8 +111,8 @@ fn a_halted_node_stops() {
     stops("plc_station: preset_number: running", || halted().station().preset_number(1));
     stops("plc_station: preset_near: running", || halted().station().preset_near(address(1), cost(), 0));
     stops("plc_station: install: running", || halted().station().install(&grant()));
-    stops("plc_station: put_key: running", || halted().station().put_key(0, &key()));
-    stops("plc_station: activate: running", || halted().station().activate(0));
+    stops("plc_station: put_key: running", || halted().station().put_key(KeyIndex::first(), &key()));
+    stops("plc_station: activate: running", || halted().station().activate(KeyIndex::first()));
     stops("plc_station: leave: running", || halted().station().leave());
     stops("meter_node: hear: running", || meter_hears(halted(), sealed(), 1));
     stops("meter_node: provision: running", || halted().provision(&grant()));
@@ -126,7 +126,7 @@ fn a_halted_node_stops() {
 #[test]
 fn a_node_without_an_address_stops() {
     stops("plc_station: send_local: joined", || meter().station().send_local(3, None, &[1], &mut Out::new()));
-    stops("plc_station: put_key: joined", || meter().station().put_key(0, &key()));
+    stops("plc_station: put_key: joined", || meter().station().put_key(KeyIndex::first(), &key()));
     stops("meter_node: hear: came", || meter_hears(meter(), Path::Up { from: Eui([3; 8]) }, 1));
 }
 
@@ -137,28 +137,19 @@ fn a_coordinator_that_has_not_address_0000_stops() {
     stops("coordinator: tick: holds", || homeless().tick(0));
     stops("coordinator: allow: holds", || homeless().allow(Eui([2; 8]), &key()));
     stops("coordinator: depot: holds", || homeless().depot(Eui([2; 8]), &key()));
-    stops("coordinator: rekey: holds", || homeless().rekey(0, &key()));
-    stops("coordinator: activate_self: holds", || homeless().activate_self(0));
+    stops("coordinator: rekey: holds", || homeless().rekey(KeyIndex::first(), &key()));
+    stops("coordinator: activate_self: holds", || homeless().activate_self(KeyIndex::first()));
     stops("coordinator: kick: holds", || homeless().kick(Eui([2; 8]), &mut Out::new()));
     stops("coordinator: give_random: holds", || homeless().give_random(Rand([1; 16])));
-    stops("coordinator: activate: holds", || homeless().activate(Eui([2; 8]), 0, 0, &mut Out::new()));
-}
-
-#[test]
-fn an_index_above_1_stops() {
-    stops("plc_station: put_key: index", || joined().station().put_key(2, &key()));
-    stops("plc_station: activate: index", || joined().station().activate(2));
-    stops("coordinator: rekey: index", || coordinator().rekey(7, &key()));
-    stops("coordinator: activate_self: index", || coordinator().activate_self(2));
-    stops("coordinator: activate: index", || coordinator().activate(Eui([2; 8]), 2, 0, &mut Out::new()));
+    stops("coordinator: activate: holds", || homeless().activate(Eui([2; 8]), KeyIndex::first(), 0, &mut Out::new()));
 }
 
 #[test]
 fn a_grant_without_a_key_at_its_active_index_stops() {
     let none = Grant { keys: [None; 2], ..grant() };
-    let outside = Grant { active: 7, ..grant() };
+    let other = Grant { active: KeyIndex::second(), ..grant() };
     stops("plc_station: install: grant", || meter().station().install(&none));
-    for wrong in [none, outside] {
+    for wrong in [none, other] {
         stops("meter_node: provision: grant", || meter().provision(&wrong));
     }
 }
@@ -196,7 +187,7 @@ fn what_a_clause_just_allows_does_not_stop() {
         let _ = station.room(address(0), count as u16);
         let _ = station.send_command(address(0), &vec![1; count], 0, &mut out);
     }
-    for index in 0..2 {
+    for index in [KeyIndex::first(), KeyIndex::second()] {
         assert!(joined().station().put_key(index, &key()).is_ok());
         let _ = joined().station().activate(index);
         let _ = coordinator().rekey(index, &key());

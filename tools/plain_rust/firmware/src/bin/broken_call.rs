@@ -7,7 +7,7 @@ mod bare;
 
 use coordinator::Coordinator;
 use firmware::Flash;
-use plc_base::{Eui, Key};
+use plc_base::{Eui, Key, KeyIndex};
 use rattle_std::alloc::Global;
 
 #[cfg(target_os = "none")]
@@ -16,8 +16,9 @@ static HEAP: bare::Heap<2048> = bare::Heap::new();
 
 fn run() {
     if let Ok(mut coordinator) = Coordinator::open(Global, Flash::new(), Eui([1; 8]), &Key([2; 16])) {
-        // A ring has two keys, at 0 and 1.
-        let _ = coordinator.rekey(7, &Key([3; 16]));
+        // Without the address 0000 it is no coordinator.
+        let _ = coordinator.station().leave();
+        let _ = coordinator.rekey(KeyIndex::second(), &Key([3; 16]));
     }
 }
 
