@@ -103,7 +103,7 @@ pub extern "C" fn call_eax_open(key: &[u8], nonce: &[u8], header: &[u8], text: &
 JOINING = """//! The calls of EAP-PSK. Each makes its end anew from the names and the random values of a session, so that between two calls
 //! the packet alone is passed on. What is answered is the length of the packet that was written, or 0 for a fault.
 use eap_psk::{Peer, PskKeys, Server};
-use plc_base::{EapBuf, Ended, Eui, Grant, Key, Rand, Short, TagList, octets_at};
+use plc_base::{EapBuf, Ended, Eui, Grant, Key, KeyIndex, Rand, Short, TagList, octets_at};
 
 #[derive(Clone, Copy)]
 struct Ends {
@@ -177,7 +177,7 @@ pub extern "C" fn call_server_second(psk: &[u8], group: &[u8], ends: &[u8], pack
     };
     let grant = Grant {
         address,
-        active: 0,
+        active: KeyIndex::first(),
         keys: [Some(Key(group)), None],
     };
     let keys = PskKeys::of(&Key(psk));
