@@ -10,8 +10,8 @@ use Rattle.line_world.proofs.CoordinatorActing.{holds, own_took, ringless_sound}
 use Rattle.line_world.proofs.Places.{seen}
 use Rattle.line_world.proofs.nodes.line_coordinator.LineCoordinator.activate.Goals as goal
 
-pub activate-requires-clause-holds : goal.activate-requires-clause-holds
-activate-requires-clause-holds c = holds c.self.inside.coordinator c.self.invariant
+pub activate-requires : goal.activate-requires
+activate-requires c = record { holds = holds c.self.inside.coordinator c.self.invariant }
 
 pub returns : goal.returns
 returns c =

@@ -11,8 +11,8 @@ use Rattle.line_world.proofs.CoordinatorActing.{holds, own_took, own_sound}
 use Rattle.line_world.proofs.Places.{seen}
 use Rattle.line_world.proofs.nodes.line_coordinator.LineCoordinator.activate_self.Goals as goal
 
-pub activate_self-requires-clause-holds : goal.activate_self-requires-clause-holds
-activate_self-requires-clause-holds c = holds c.self.inside.coordinator c.self.invariant
+pub activate_self-requires : goal.activate_self-requires
+activate_self-requires c = record { holds = holds c.self.inside.coordinator c.self.invariant }
 
 pub returns : goal.returns
 returns c =

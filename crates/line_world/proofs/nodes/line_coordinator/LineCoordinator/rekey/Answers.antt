@@ -11,8 +11,8 @@ use Rattle.line_world.proofs.CoordinatorActing.{holds, own_took, own_sound}
 use Rattle.line_world.proofs.Places.{seen}
 use Rattle.line_world.proofs.nodes.line_coordinator.LineCoordinator.rekey.Goals as goal
 
-pub rekey-requires-clause-holds : goal.rekey-requires-clause-holds
-rekey-requires-clause-holds c = holds c.self.inside.coordinator c.self.invariant
+pub rekey-requires : goal.rekey-requires
+rekey-requires c = record { holds = holds c.self.inside.coordinator c.self.invariant }
 
 pub returns : goal.returns
 returns c =
