@@ -52,6 +52,7 @@ pub mod Tellings
 pub mod ForgeryRight
 pub mod TracesRight
 pub mod FlightFolds
+pub mod FlightFrames
 pub mod LawRuns
 pub mod Homed
 pub mod RankOrder

@@ -1,11 +1,15 @@
 -- What holds of every run of the line.
-use Rattle.std.specs.Prelude.{All, List}
+use Rattle.std.specs.Prelude.{◌≡◌, ◌⊎◌, ℕ, Some, None, All, List}
+use Rattle.plc_base.specs.declared.key.Key.{Key}
+use Rattle.mac_frames.specs.Reading.{head_in}
+use Rattle.pan_discovery.specs.declared.message.Discovery.{Discovery}
+use Rattle.pan_discovery.specs.Messages.{discovery_spelling}
 use Rattle.node_rules.specs.Ciphers.{Ciphers, network}
 use Rattle.line_events.specs.Events.{AreEvents}
 use Rattle.line_rules.specs.Worlds.{Flight, start}
 use Rattle.line_rules.specs.Runs.{Entry, IsRun, events_of}
 use Rattle.line_rules.specs.SafeRuns.{IsAlwaysSized, IsAlwaysSizedBy, RestartsAreAnswered}
-use Rattle.line_rules.specs.Nonces.{CountersRise, NoncesDiffer, AreSpelled, AreAddressed, AreApart}
+use Rattle.line_rules.specs.Nonces.{CountersRise, NoncesDiffer, IsPlainFrame, IsSealedUnder, nonce_in_head, AreSpelled, AreAddressed, AreApart}
 use Rattle.line_rules.specs.Forgery.{IsForgedRight}
 use Rattle.line_rules.specs.Traces.{CountsRight, AreTracedRight}
 use Rattle.line_laws.specs.Owed.{AreOctets, KeepsRanges}
@@ -36,8 +40,26 @@ EveryForgeryIsTold = (ciphers : Ciphers) (entries : List Entry) → IsLineRun ci
 
 -- # What flies
 
--- each flight with a key is a sealed frame under it, and each other one a plain frame or one of discovery; so its address and cost are in their ranges,
--- which other ciphers keep only where they keep ranges
+-- The octets are those of a beacon request or of a beacon, whatever its address and its cost are, and no sealed frame.
+pub record IsDiscoveryOctets (octets : List ℕ) : Type 0 where
+  pub frame : Discovery
+  pub spelled : octets ≡ discovery_spelling frame
+  pub nonce : nonce_in_head (head_in octets) ≡ None
+
+-- A flight with a key is a sealed frame under this key, and one without a key is a plain frame or one of discovery, which carry no send.
+pub record IsFrame (ciphers : Ciphers) (f : Flight) : Type 0 where
+  pub sealed : (key : Key) → f.key ≡ Some key → IsSealedUnder ciphers key f.octets
+  pub plain : f.key ≡ None → (IsPlainFrame f.octets ⊎ IsDiscoveryOctets f.octets) × (f.note ≡ 0)
+
+-- so it is of all flights, after every event of a run
+abbrev pub AreFrames : Ciphers → List Entry → Type 0
+AreFrames ciphers entries = All (λ (x : Entry). All (IsFrame ciphers) x.after.flights) entries
+
+-- so it is of every run, whatever the ciphers are
+abbrev pub EveryFlightIsAFrame : Type 0
+EveryFlightIsAFrame = (ciphers : Ciphers) (entries : List Entry) → IsLineRun ciphers entries → AreFrames ciphers entries
+
+-- and the address and the cost of a beacon are in their ranges too, where the ciphers keep ranges
 abbrev pub EveryFlightIsSpelled : Type 0
 EveryFlightIsSpelled =
     (ciphers : Ciphers) → KeepsRanges ciphers → (entries : List Entry) → IsLineRun ciphers entries

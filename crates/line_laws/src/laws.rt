@@ -4,9 +4,9 @@ ghost use Rattle.line_laws.specs.FurtherLines.{EveryRunHolds};
 ghost use Rattle.line_laws.specs.FurtherState.{EveryIssuedKeyStood, EveryRunIsRanged};
 ghost use Rattle.line_laws.specs.Issued.{EveryJoiningAgrees, OnlyIssuedKeys};
 ghost use Rattle.line_laws.specs.Kicked.{EveryKickedMeterStaysOut};
-ghost use Rattle.line_laws.specs.Laws.{EveryAddressDiffers, EveryCountIsRight, EveryCounterRises, EveryFlightIsOctets, EveryFlightIsSpelled};
-ghost use Rattle.line_laws.specs.Laws.{EveryForgeryIsTold, EveryNetworkRunIsSized, EveryNonceDiffers, EveryRestartIsAnswered, EveryRunIsSized};
-ghost use Rattle.line_laws.specs.Laws.{EverySenderIsRight, EveryTraceIsRight};
+ghost use Rattle.line_laws.specs.Laws.{EveryAddressDiffers, EveryCountIsRight, EveryCounterRises, EveryFlightIsAFrame, EveryFlightIsOctets};
+ghost use Rattle.line_laws.specs.Laws.{EveryFlightIsSpelled, EveryForgeryIsTold, EveryNetworkRunIsSized, EveryNonceDiffers};
+ghost use Rattle.line_laws.specs.Laws.{EveryRestartIsAnswered, EveryRunIsSized, EverySenderIsRight, EveryTraceIsRight};
 ghost use Rattle.line_laws.specs.Live.{EveryFlightFalls, EveryMarkRises};
 ghost use Rattle.line_laws.specs.Loops.{EveryRestartEndsRoutes, EveryRunIsLoopFree};
 ghost use Rattle.line_laws.specs.Network.{EveryNetworkRunIsRight, EveryRunIsSafe, LastFlightsSayAll};
@@ -76,10 +76,12 @@ pub fn every_send_has_octets()
     ensures { EverySendHasOctets }
 {}
 
-/// In every run, forged or not, a flight with a key is a sealed frame under this key, and one without a key is a plain frame or one of discovery.
+/// In every run, forged or not, whatever the ciphers are, a flight with a key is a sealed frame under this key, and one without a key is a plain
+/// frame or one of discovery. Where the ciphers keep ranges and flights are octets, the address and the cost of a beacon are in their ranges too.
 #[tactic(auto)]
 pub fn every_flight_is_spelled()
-    ensures { EveryFlightIsSpelled }
+    ensures frames { EveryFlightIsAFrame }
+    ensures ranges { EveryFlightIsSpelled }
 {}
 
 /// In every run of the network, forged or not, whatever power was lost, every flight is octets: numbers below 256.

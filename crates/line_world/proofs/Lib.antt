@@ -26,6 +26,7 @@ mod ToldReplies
 mod UnaskedReplies
 mod NumberedNodes
 mod Comings
+mod Unchecked
 mod Hearings
 mod Discoveries
 mod Storable

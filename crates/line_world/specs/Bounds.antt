@@ -1,7 +1,9 @@
 -- The bounds of a world's counts, which its code keeps.
 use Rattle.std.specs.Prelude.{◌≡◌, ◌*◌, ◌≤◌, false, length, All, IsSome, None}
 use Rattle.line_events.specs.declared.event.TheConstants.{MAX_EVENTS}
+use Rattle.neighbour_checks.specs.Neighbours.{nobody}
 use Rattle.node_rules.specs.Memory.{Node}
+use Rattle.reach_rules.specs.ReachingNodes.{Beside}
 use Rattle.line_rules.specs.Worlds.{World}
 
 -- A node that no loss of power has halted or is to halt.
@@ -21,3 +23,11 @@ pub record IsBounded (w : World) : Type 0 where
   pub forged : w.forged ≤ w.events
   pub done : w.done ≤ w.events
   pub uncut : w.running ≡ false → All IsUncut w.nodes
+
+-- a node has no open check, and lists no neighbour
+abbrev pub HasNoChecks : Beside → Type 0
+HasNoChecks b = b.checks ≡ nobody
+
+-- where neighbours are not checked, no node has an open check or lists a neighbour
+abbrev pub NoneChecked : World → Type 0
+NoneChecked w = w.checks_on ≡ false → All HasNoChecks w.beside

@@ -7,7 +7,7 @@ ghost use Rattle.line_events.specs.Events.{IsEvent};
 ghost use Rattle.line_rules.specs.Further.{line_step};
 ghost use Rattle.line_rules.specs.Logs.{LogsKept};
 ghost use Rattle.line_world.specs.Arrivals.{BringsOctets};
-ghost use Rattle.line_world.specs.Bounds.{IsBounded};
+ghost use Rattle.line_world.specs.Bounds.{IsBounded, NoneChecked};
 ghost use Rattle.line_world.specs.Lines.{world_of};
 ghost use Rattle.line_world.specs.Steps.{Steps, takes_memory};
 
@@ -56,6 +56,7 @@ impl Line {
         requires bounds { IsBounded (world_of self.old) }
         requires beside { length self.old.beside.items ≡ length self.old.nodes }
         requires logs { LogsKept (world_of self.old) }
+        requires checks { NoneChecked (world_of self.old) }
         requires events { self.old.events < MAX_EVENTS }
         requires event { IsEvent event.now }
         ensures steps { Steps (takes_memory (world_of self.old) event.now) (world_of self.old) result (world_of self.new)

@@ -10,7 +10,7 @@ ghost use Rattle.line_rules.specs.Steps as rules;
 ghost use Rattle.neighbour_checks.specs.Neighbours.{nobody};
 ghost use Rattle.pan_discovery.specs.History.{ended};
 ghost use Rattle.reach_rules.specs.ReachingNodes.{tick_beside};
-ghost use Rattle.line_world.specs.Bounds.{IsBounded};
+ghost use Rattle.line_world.specs.Bounds.{IsBounded, NoneChecked};
 ghost use Rattle.line_world.specs.Lines.{world_of};
 ghost use Rattle.line_world.specs.Steps.{Steps};
 
@@ -24,6 +24,7 @@ impl Line {
     /// The clock goes on by so many seconds, for every node.
     pub(crate) fn tick(&mut self, seconds: u32) -> Result<Happenings<'static>, StepFault>
         requires bounds { IsBounded (world_of self.old) }
+        requires checks { NoneChecked (world_of self.old) }
         requires events { self.old.events < MAX_EVENTS }
         ensures { Steps false (world_of self.old) result (world_of self.new)
             (further.ticks (world_of self.old) seconds) }
@@ -37,10 +38,14 @@ impl Line {
         Ok(self.answered(Answer::Ticked))
     }
 
-    // What each node holds beside its memory moves to the present time.
+    // What each node holds beside its memory moves to the present time. Where neighbours are not checked that changes nothing, so no node is visited.
     fn tick_beside(&mut self)
+        requires checks { NoneChecked (world_of self.old) }
         ensures { world_of self.new ≡ record (world_of self.old) { beside = map (tick_beside self.old.clock) self.old.beside.items } }
     {
+        if !self.checks_on {
+            return;
+        }
         let now = self.clock;
         for place in 0..self.beside.len() {
             self.beside[place].tick(now);

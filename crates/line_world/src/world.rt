@@ -77,7 +77,7 @@ impl Model for World {
     ghost use Rattle.line_rules.specs.Logs.{LogsKept};
     ghost use Rattle.line_rules.specs.Worlds.{World};
     ghost use Rattle.line_world.specs.WorldCodes.{world_code};
-    ghost use Rattle.line_world.specs.Bounds.{IsBounded};
+    ghost use Rattle.line_world.specs.Bounds.{IsBounded, NoneChecked};
     ghost use Rattle.line_world.specs.Lines.{world_of};
 
     ghost Value = { World };
@@ -86,7 +86,7 @@ impl Model for World {
 
     ghost view = { λ w. world_of w.line };
 
-    ghost invariant = { λ w. IsBounded (world_of w.line) × LogsKept (world_of w.line) };
+    ghost invariant = { λ w. IsBounded (world_of w.line) × LogsKept (world_of w.line) × NoneChecked (world_of w.line) };
 }
 
 impl World {

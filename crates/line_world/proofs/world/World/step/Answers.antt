@@ -4,6 +4,7 @@ use Rattle.node_rules.specs.Ciphers.{network}
 use Rattle.line_world.specs.Lines.{world_of}
 use Rattle.line_world.proofs.Besides.{beside_long}
 use Rattle.line_world.proofs.Comings.{still_kept}
+use Rattle.line_world.proofs.Unchecked.{still_none}
 use Rattle.line_world.proofs.world.World.step.Goals as goal
 
 pub step-requires-clause-beside : goal.step-requires-clause-beside
@@ -14,4 +15,5 @@ invariant_of-self c = (
   c.step.ensures.steps.bounds,
   still_kept (world_of c.self.inside.line) (world_of c.step.new.self) c.args.event.now c.step.result c.short_tables.ensures.tables c.self.invariant.1
       c.step.ensures.octets c.step.ensures.steps.gives,
+  still_none (world_of c.self.inside.line) (world_of c.step.new.self) c.args.event.now c.step.result c.self.invariant.2 c.step.ensures.steps.gives,
 )
