@@ -5,6 +5,9 @@ use Rattle.hex.specs.Hex.{encode_lower}
 use Rattle.line_driver.specs.Lines.{Content, Text, Long, TooMuch}
 use Rattle.line_driver.specs.Clauses.{IsStop}
 use Rattle.line_driver.specs.Outcomes.{Turn, Skips, Takes, Stops, Outcome, outcome as outcome_of}
+use Rattle.pan_discovery.specs.declared.message.Discovery.{Discovery}
+use Rattle.pan_discovery.specs.declared.message.Discovery.TheVariants.{Request, Beacon}
+use Rattle.pan_discovery.specs.Reading.{discovery_in}
 use Rattle.plc_base.specs.declared.fields.Fault.{Fault}
 use Rattle.mac_frames.specs.declared.fault.FrameFaultKind.{FrameFaultKind}
 use Rattle.mac_frames.specs.declared.fault.FrameFaultKind.TheVariants as kinds
@@ -60,14 +63,33 @@ head_text (Down ack version seq pan to from) body = plain_text (encode_lower to.
 unfoldable pub fault_text : Fault FrameFaultKind → List ℕ
 fault_text fault = codes "fault " ++ (kind_word fault.kind ++ (codes " " ++ (decimal fault.place ++ codes "\n")))
 
--- what a frame is, or its first fault
-abbrev pub frame_text_by : Option (Fault FrameFaultKind) → List ℕ → List ℕ
-frame_text_by None octets = head_text (head_in octets) (body_in octets)
-frame_text_by (Some fault) octets = fault_text fault
+-- what a MAC frame is, or its first fault
+abbrev pub mac_frame_text_by : Option (Fault FrameFaultKind) → List ℕ → List ℕ
+mac_frame_text_by None octets = head_text (head_in octets) (body_in octets)
+mac_frame_text_by (Some fault) octets = fault_text fault
+
+unfoldable pub mac_frame_text : List ℕ → List ℕ
+mac_frame_text octets = mac_frame_text_by (frame_fault octets) octets
+
+-- a beacon request, or a beacon with its sender, its network and the cost of the sender's way to the coordinator
+unfoldable pub discovery_text : Discovery → List ℕ
+discovery_text (Request seq) = codes "request for beacons\n"
+discovery_text (Beacon seq pan from cost) =
+    codes "beacon from " ++ (short_word from ++ (codes " pan " ++ (short_word pan
+    ++ (codes " cost " ++ (decimal cost ++ codes "\n")))))
+
+-- The two begin with other frame types than a MAC frame, so no octets are both.
+abbrev pub frame_text_by : Option Discovery → List ℕ → List ℕ
+frame_text_by (Some message) octets = discovery_text message
+frame_text_by None octets = mac_frame_text octets
+
+-- what octets are as a frame, or their first fault
+unfoldable pub frame_text : List ℕ → List ℕ
+frame_text octets = frame_text_by (discovery_in octets) octets
 
 -- the line of a frame that stands in a line of this number
 unfoldable pub shown_text : ℕ → List ℕ → List ℕ
-shown_text number octets = decimal number ++ (codes " " ++ frame_text_by (frame_fault octets) octets)
+shown_text number octets = decimal number ++ (codes " " ++ frame_text octets)
 
 -- end <frames>
 unfoldable pub frames_text : ℕ → List ℕ

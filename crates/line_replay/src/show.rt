@@ -1,13 +1,14 @@
-//! Frames in hexadecimal, one a line, and what each is.
+//! Frames in hexadecimal, one a line, and what each is: a beacon request, a beacon, or a MAC frame.
 ghost use Rattle.std.specs.Prelude.{◌≡◌, ◌≤◌, length, IfOk, string_bytes, List, ℕ};
-ghost use Rattle.line_replay.specs.Shown.{frame_line, kind_word, payload_word, plain_text, head_text, fault_text, frame_text_by, shown_text, frames_text};
+ghost use Rattle.line_replay.specs.Shown.{frame_line, kind_word, payload_word, plain_text, head_text, fault_text, mac_frame_text, discovery_text};
+ghost use Rattle.line_replay.specs.Shown.{frame_text, shown_text, frames_text};
 ghost use Rattle.line_replay.specs.Shown.{show_turn, show_stops};
-ghost use Rattle.mac_frames.specs.Faults.{frame_fault};
 
 use crate::report::refuse;
 use line_driver::{LineKind, LineMachine, StopReason, tell};
 use line_script::{LINE_OCTETS, Reason, hex_octets, short_word};
 use mac_frames::{FrameFault, FrameFaultKind, MacHead, read_frame};
+use pan_discovery::{Discovery, read_discovery};
 use plc_base::{Eui, OctetRef, Sink};
 use std::alloc::{AllocError, Global};
 use std::marker::Model;
@@ -110,13 +111,45 @@ fn head_text(alloc: Global, head: &MacHead, body: &[u8]) -> Result<String, Alloc
     }
 }
 
-/// What octets are as a frame, or their first fault.
-fn frame_text(alloc: Global, octets: &[u8]) -> Result<String, AllocError>
-    ensures { IfOk result (λ text. string_bytes text ≡ frame_text_by (frame_fault octets.now) octets.now) }
+/// What octets are as a MAC frame, or their first fault.
+#[tactic(auto, unfolding(crate::specs::Shown::mac_frame_text))]
+fn mac_frame_text(alloc: Global, octets: &[u8]) -> Result<String, AllocError>
+    ensures { IfOk result (λ text. string_bytes text ≡ mac_frame_text octets.now) }
 {
     match read_frame(octets) {
         Ok(raw) => head_text(alloc, &raw.head, raw.body),
         Err(fault) => fault_text(alloc, fault),
+    }
+}
+
+#[tactic(auto, unfolding(crate::specs::Shown::discovery_text))]
+fn discovery_text(alloc: Global, message: Discovery) -> Result<String, AllocError>
+    ensures { IfOk result (λ text. string_bytes text ≡ discovery_text message) }
+{
+    match message {
+        Discovery::Request { .. } => String::from_str(alloc, "request for beacons\n"),
+        Discovery::Beacon {
+            pan,
+            from,
+            cost,
+            ..
+        } => {
+            let from = short_word(alloc, from.number())?;
+            let pan = short_word(alloc, pan)?;
+            format!(in alloc; "beacon from {from} pan {pan} cost {cost}\n")
+        }
+    }
+}
+
+/// What octets are: a beacon request or a beacon (IEEE 802.15.4-2006, 7.3.7 and 7.2.2.1), else a MAC frame or its first
+/// fault.
+#[tactic(auto, unfolding(crate::specs::Shown::frame_text))]
+fn frame_text(alloc: Global, octets: &[u8]) -> Result<String, AllocError>
+    ensures { IfOk result (λ text. string_bytes text ≡ frame_text octets.now) }
+{
+    match read_discovery(octets) {
+        Some(message) => discovery_text(alloc, message),
+        None => mac_frame_text(alloc, octets),
     }
 }
 
