@@ -6,7 +6,14 @@ use Rattle.reach_rules.specs.ReachingNodes.{Beside, tick_beside}
 use Rattle.line_rules.specs.Worlds.{World}
 use Rattle.line_world.specs.Lines.{world_of}
 use Rattle.line_world.proofs.Places.{up_to_next, up_to_end, up_to_long}
+use Rattle.line_world.proofs.Unchecked.{quiet_ticks}
 use Rattle.line_world.proofs.line.Line.tick_beside.Goals as goal
+
+-- where neighbours are not checked, nobody is checked or listed
+pub returns-then-not-self : goal.returns-then-not-self
+returns-then-not-self c =
+    let w = world_of c.args.self.now in
+    ap (λ (bs : List Beside). record w { beside = bs }) (sym (quiet_ticks w.clock w.beside (c.requires.checks c.if-not-self.true)))
 
 pub loop-place-preserved : goal.loop-place-preserved
 loop-place-preserved c =
