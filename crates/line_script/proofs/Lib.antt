@@ -2,3 +2,4 @@ pub mod WordsRead
 pub mod RoundTrip
 pub mod Ranges
 mod HexDigits
+mod HexLanes

@@ -6,3 +6,4 @@ pub mod Laws
 pub mod AnswerWords
 pub mod NodeTexts
 pub mod Texts
+pub mod Digits

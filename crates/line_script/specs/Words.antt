@@ -63,9 +63,10 @@ eui word = do
 unfoldable pub sixteen_octets : List ℕ → Option (List ℕ)
 sixteen_octets word = if length word == 32 then result_ok (decode_of word) else None
 
--- a value below 16, None where it is not
-abbrev pub value_below_16 : ℕ → Option ℕ
-value_below_16 n = if nat_lt n 16 then Some n else None
+-- some times the value of a digit; 256 where there is none
+abbrev pub scaled : ℕ → Option ℕ → ℕ
+scaled k None = 256
+scaled k (Some v) = v * k
 
 -- 1 to 2,048 octets
 unfoldable pub hex_octets : List ℕ → Option (List ℕ)

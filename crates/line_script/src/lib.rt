@@ -2,6 +2,7 @@
 #![tactic(auto)]
 
 mod answer;
+mod digits;
 mod kind;
 mod laws;
 mod node_report;

@@ -6,6 +6,7 @@ ghost use Rattle.line_script.specs.Texts.{reason_word, answer_text, forged_text,
 ghost use Rattle.line_script.specs.Texts.{took_text, done_text, shown_text, details_text, happened_text, fly_text, bad_text, end_text};
 
 use crate::answer::{answer_word, spaced_verdict};
+use crate::digits::push_digits;
 use crate::node_report::{push_node, short_word};
 use itoa::Buffer;
 use line_events::{Admission, AgentLine, Answer, BroadcastUp, Event, Handed, Happenings, PathLine};
@@ -82,13 +83,12 @@ fn push_pair(text: &mut String, first: u32, second: u32) -> Result<(), AllocErro
 }
 
 // The last word of a line, in hexadecimal.
-fn push_octets(text: &mut String, alloc: Global, octets: &[u8]) -> Result<(), AllocError>
+fn push_octets(text: &mut String, octets: &[u8]) -> Result<(), AllocError>
     ensures { OnOk result (string_bytes text.new
         ≡ string_bytes text.old ++ (codes " " ++ (encode_lower octets.now ++ codes "\n"))) }
 {
-    let digits = hex::encode(alloc, octets)?;
     text.push_str(" ")?;
-    text.push_str(digits.as_str())?;
+    push_digits(text, octets)?;
     text.push_str("\n")
 }
 
@@ -116,7 +116,7 @@ fn push_forged(text: &mut String, number: u32, forged: bool) -> Result<(), Alloc
 }
 
 #[tactic(auto, unfolding(crate::specs::Texts::up_text))]
-fn push_up(text: &mut String, alloc: Global, up: &Option<Handed<'_>>) -> Result<(), AllocError>
+fn push_up(text: &mut String, up: &Option<Handed<'_>>) -> Result<(), AllocError>
     ensures { OnOk result (string_bytes text.new ≡ string_bytes text.old ++ up_text up.now) }
 {
     match up {
@@ -124,7 +124,7 @@ fn push_up(text: &mut String, alloc: Global, up: &Option<Handed<'_>>) -> Result<
         Some(up) => {
             text.push_str("up ")?;
             push_pair(text, u32::from(up.node), up.note)?;
-            push_octets(text, alloc, up.octets.octets())
+            push_octets(text, up.octets.octets())
         }
     }
 }
@@ -153,24 +153,19 @@ fn push_bup(
             text.push_str("bup ")?;
             push_number(text, u32::from(up.node))?;
             push_address(text, alloc, up.origin)?;
-            push_broadcast(text, alloc, up.number, up.octets.octets())
+            push_broadcast(text, up.number, up.octets.octets())
         }
     }
 }
 
 // The number of a broadcast and its octets, at the end of a line.
-fn push_broadcast(
-    text: &mut String,
-    alloc: Global,
-    number: u32,
-    octets: &[u8],
-) -> Result<(), AllocError>
+fn push_broadcast(text: &mut String, number: u32, octets: &[u8]) -> Result<(), AllocError>
     ensures { OnOk result (string_bytes text.new ≡ string_bytes text.old
         ++ (codes " " ++ (decimal number ++ (codes " " ++ (encode_lower octets.now ++ codes "\n"))))) }
 {
     text.push_str(" ")?;
     push_number(text, number)?;
-    push_octets(text, alloc, octets)
+    push_octets(text, octets)
 }
 
 #[tactic(auto, unfolding(crate::specs::Texts::agent_text))]
@@ -322,16 +317,16 @@ pub fn push_happened(
 {
     push_answer(text, number, happened.answer)?;
     push_forged(text, number, happened.forged)?;
-    push_up(text, alloc, &happened.up)?;
+    push_up(text, &happened.up)?;
     push_further(text, alloc, happened)?;
     push_details(text, alloc, event, happened)
 }
 
-/// Appends the line of a flight: its number, the node that sent it, and its octets.
+/// Appends the line of a flight: its number, the node that sent it, and its octets. Nothing but the text grows, so nothing uses `_alloc`.
 #[tactic(auto, unfolding(crate::specs::Texts::fly_text))]
 pub fn push_fly(
     text: &mut String,
-    alloc: Global,
+    _alloc: Global,
     number: u32,
     node: u16,
     octets: &[u8],
@@ -340,7 +335,7 @@ pub fn push_fly(
 {
     text.push_str("fly ")?;
     push_pair(text, number, u32::from(node))?;
-    push_octets(text, alloc, octets)
+    push_octets(text, octets)
 }
 
 /// The line of a bad line, by its number among all lines.

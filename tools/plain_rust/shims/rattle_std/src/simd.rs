@@ -1,4 +1,4 @@
-//! The part of `std::simd` that exported code uses: 16 octets at once.
+//! The part of `std::simd` that exported code uses: 16 octets at once, and 32 that a shuffle makes of two times 16.
 //!
 //! `swizzle_dyn` is the byte shuffle of the processor where the target has SSSE3 (x86-64 and i686), and else a software form with the same results, in which
 //! no address and no branch depends on an octet of either side as it is written here. What a compiler makes of it is not proved.
@@ -22,6 +22,12 @@ impl<const N: usize> Simd<u8, N> {
     #[inline(always)]
     pub const fn splat(octet: u8) -> Simd<u8, N> {
         Simd([octet; N])
+    }
+
+    /// The octets at the places `at` of the two one after the other: place N is the first of `other`. A place from 2N on stops.
+    #[inline(always)]
+    pub fn shuffle<const M: usize>(self, other: Simd<u8, N>, at: [usize; M]) -> Simd<u8, M> {
+        Simd(at.map(|it| if it < N { self.0[it] } else { other.0[it - N] }))
     }
 
     /// Where the two differ.
@@ -133,9 +139,14 @@ fn by_bits(table: Simd<u8, 16>, at: Simd<u8, 16>) -> Simd<u8, 16> {
     Simd(found)
 }
 
+#[allow(non_camel_case_types)]
+pub type u8x16 = Simd<u8, 16>;
+#[allow(non_camel_case_types)]
+pub type u8x32 = Simd<u8, 32>;
+
 /// What `std::simd::prelude` has.
 pub mod prelude {
-    pub use super::Simd;
+    pub use super::{Simd, u8x16, u8x32};
 }
 
 #[cfg(test)]
@@ -163,6 +174,19 @@ mod tests {
                 assert_eq!(by_bits(Simd(table), Simd(at)).0, wanted);
                 assert_eq!(Simd(table).swizzle_dyn(Simd(at)).0, wanted);
             }
+        }
+    }
+
+    #[test]
+    fn a_shuffle_takes_the_octets_of_both_in_any_order() {
+        for seed in 0..512 {
+            let (a, b) = (drawn(seed), drawn(seed + 512));
+            let in_turn = Simd(a).shuffle(Simd(b), core::array::from_fn::<_, 32, _>(|i| i / 2 + 16 * (i % 2)));
+            let wanted: [u8; 32] = core::array::from_fn(|i| if i % 2 == 0 { a[i / 2] } else { b[i / 2] });
+            assert_eq!(in_turn.to_array(), wanted);
+            let backward = Simd(a).shuffle(Simd(b), core::array::from_fn::<_, 32, _>(|i| 31 - i));
+            let wanted: [u8; 32] = core::array::from_fn(|i| if i < 16 { b[15 - i] } else { a[31 - i] });
+            assert_eq!(backward.to_array(), wanted);
         }
     }
 
