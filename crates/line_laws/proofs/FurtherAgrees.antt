@@ -24,6 +24,7 @@ use Rattle.line_rules.specs.Runs.{one_of}
 use Rattle.line_rules.specs.Steps.{Step, identity, ran, told}
 use Rattle.line_rules.specs.Worlds.{World, Trace, Issued, Pairing, node_at}
 use Rattle.line_laws.specs.Agreed.{Confirmed, TagTaken}
+use Rattle.line_laws.specs.IssuedRight.{IsIssuedRight}
 use Rattle.line_laws.specs.Keyed.{Among, Each, Keyed}
 use Rattle.line_laws.specs.Lines.{FlightFits, WorldOk}
 use Rattle.line_laws.specs.Owed.{KeepsRanges}
@@ -36,7 +37,7 @@ use Rattle.line_laws.proofs.FurtherSeals.{further_makes}
 use Rattle.line_laws.proofs.FurtherTellings.{After, Anew, Besides, Carries, Chooses, Flies, IsLineStepBy, Known, Moves, Opens, Stays, Turns, Unbelieves}
 use Rattle.line_laws.proofs.FurtherTellings.{Unsends}
 use Rattle.line_laws.proofs.IssuedNamed.{IssueNamed, StepNamed, names}
-use Rattle.line_laws.proofs.KeysStood.{IssuedBy, StoodIn, ToOther, keys_other, keys_stood}
+use Rattle.line_laws.proofs.KeysStood.{IssuedBy, StoodIn, ToOther, keys_other, keys_right, keys_stood}
 use Rattle.line_laws.proofs.Tellings.{IsStep}
 
 -- # Joinings that agree
@@ -158,6 +159,13 @@ module _ (ciphers : Ciphers) (fits : KeepsRanges ciphers) (w : World) (ok : Worl
     pub line_keys_stood : (event : Event) → IsEvent event → IssuedBy ciphers fits w ok flown first (StoodIn ciphers fits w ok flown first)
         (line_step ciphers w event)
     line_keys_stood event says = line_issues (StoodIn ciphers fits w ok flown first) (λ e s is. keys_stood ciphers fits w ok flown first e s is) event says
+
+    -- at their indexes, and to meters that the book allows or that the workshop joins
+    pub line_keys_right : (event : Event) → IsEvent event → IssuedBy ciphers fits w ok flown first (IsIssuedRight w event) (line_step ciphers w event)
+    line_keys_right event says = of_issued (IsIssuedRight w event) (line_step ciphers w event)
+        (line_issued AnyUnits AnyDiscovery ciphers w (IsIssuedRight w event) event
+        (λ s is. in_issued (IsIssuedRight w event) s (keys_right ciphers fits w ok flown first event s is)) (line_step ciphers w event)
+        (line_step_any ciphers fits w ok flown logs event says))
 
     -- nothing is issued to a meter that is shut out, once setup is over
     pub line_keys_other : (eui : Eui) (shut : ShutAt eui w) (running : w.running ≡ true) (event : Event) → IsEvent event

@@ -14,11 +14,12 @@ use Rattle.line_rules.specs.Worlds.{World, Issued, Pairing, node_at, start}
 use Rattle.line_laws.specs.Agreed.{Confirmed}
 use Rattle.line_laws.specs.FurtherLines.{LogsHold, StepHolds}
 use Rattle.line_laws.specs.FurtherState.{EveryIssuedKeyStood, EveryRunIsRanged, IssuedStood, StayRanged}
+use Rattle.line_laws.specs.IssuedRight.{AreIssuedRight, EveryKeyIsIssuedRight, IsIssuedRight}
 use Rattle.line_laws.specs.Keyed.{Among, Each, IsMeter, Keyed}
 use Rattle.line_laws.specs.Lines.{WorldOk}
 use Rattle.line_laws.specs.Ranges.{WorldRanged}
 use Rattle.line_laws.proofs.AgreeRuns.{Agreed_in, agreed}
-use Rattle.line_laws.proofs.FurtherAgrees.{line_agrees, line_keys_stood, line_names}
+use Rattle.line_laws.proofs.FurtherAgrees.{line_agrees, line_keys_right, line_keys_stood, line_names}
 use Rattle.line_laws.proofs.FurtherKeyed.{line_keyed}
 use Rattle.line_laws.proofs.FurtherLogs.{line_logs_hold}
 use Rattle.line_laws.proofs.FurtherOctets.{line_speaks, octets_speak, Octets, Spelled}
@@ -77,6 +78,10 @@ module _ (w : World) (h : Stands w) (x : Entry) (event : IsEvent x.event) (is : 
     stood_here = subst (IssuedBy network network_ranges w h.ok h.speaks.flights (first_node w given k) (λ i. NodeHasKey w 0 i.key)) is
         (line_keys_stood network network_ranges w h.ok h.speaks.flights h.logs (first_node w given k) x.event event)
 
+    pub right_here : Each (IsIssuedRight w x.event) x.trace.issued
+    right_here = subst (IssuedBy network network_ranges w h.ok h.speaks.flights (first_node w given k) (IsIssuedRight w x.event)) is
+        (line_keys_right network network_ranges w h.ok h.speaks.flights h.logs (first_node w given k) x.event event)
+
 module _ (w : World) (before : List Entry) (o : Sound w before) (x : Entry) (event : IsEvent x.event) (is : LeadsTo w x)
     (honest : x.trace.happened.forged ≡ false) where
   abbrev h : Stands w
@@ -131,8 +136,20 @@ stood_from w before o (x ∷ xs) says run =
       λ honest. stood_from x.after (before ++ x ∷ []) (sound_on w before o x event run.2 honest) xs (All-tail IsEvent x.event (events_of xs) says) run.3,
     )
 
+right_from : (w : World) (before : List Entry) → Sound w before → (entries : List Entry) → AreEvents (events_of entries) → IsRun network w entries
+    → AreIssuedRight w entries
+right_from w before o [] says run = tt
+right_from w before o (x ∷ xs) says run =
+    let event = All-head IsEvent x.event (events_of xs) says in (
+      right_here w o.stands x event run.2 (issued before) o.keyed,
+      λ honest. right_from x.after (before ++ x ∷ []) (sound_on w before o x event run.2 honest) xs (All-tail IsEvent x.event (events_of xs) says) run.3,
+    )
+
 pub every_run_ranged : EveryRunIsRanged
 every_run_ranged entries r = ranged_from start [] start_sound entries r.events r.run
 
 pub every_issued_stood : EveryIssuedKeyStood
 every_issued_stood entries r = stood_from start [] start_sound entries r.events r.run
+
+pub every_issued_right : EveryKeyIsIssuedRight
+every_issued_right entries r = right_from start [] start_sound entries r.events r.run

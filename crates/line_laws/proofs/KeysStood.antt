@@ -1,6 +1,6 @@
 -- Every key that an event issues stands in the coordinator's ring before it; once setup is over it goes to a meter that the book allows.
 use Rattle.std.proofs.Common.{◌≡◌, ◌≢◌, ◌⊎◌, inl, inr, ℕ, ◌+◌, Bool, true, false, List, ◌++◌, Option, Some, None, Result, Ok, Err, refl, sym, ap, ◌∙◌, subst}
-use Rattle.std.specs.Prelude.{if◌then◌else◌, All, is_some, slice_get}
+use Rattle.std.specs.Prelude.{if◌then◌else◌, ◌==◌, All, is_some, slice_get}
 use Rattle.std.specs.Option.{option_map, option_map_or, option_and_then}
 use Rattle.std.proofs.lemmas.Option.{same_Some}
 use Rattle.plc_base.specs.declared.address.Eui.{Eui}
@@ -16,6 +16,7 @@ use Rattle.line_rules.specs.Forgery.{Comes, accepting}
 use Rattle.line_rules.specs.Steps.{Step, issued_at, issued_by, issued_of, acted, sent_if, is_taken, tag_of, hears, note_by, identity, takes_setup, psk_of}
 use Rattle.line_rules.specs.Worlds.{World, Issued, Trace, node_at}
 use Rattle.line_events.specs.declared.event.Event.{Event}
+use Rattle.line_events.specs.declared.event.Event.TheVariants as events
 use Rattle.node_rules.specs.Accepting.{Accepting, accept, marking}
 use Rattle.node_rules.specs.Calls as calls
 use Rattle.node_rules.specs.Ciphers.{Ciphers}
@@ -39,6 +40,7 @@ use Rattle.node_rules.specs.declared.refusal.FrameRefusal.{FrameRefusal}
 use Rattle.node_rules.specs.declared.refusal.FrameRefusal.TheVariants as frames
 use Rattle.node_rules.specs.declared.refusal.SendRefusal.TheVariants as sends
 use Rattle.line_laws.specs.Owed.{KeepsRanges}
+use Rattle.line_laws.specs.IssuedRight.{IsIssuedRight, coordinator_key, is_allowed_in}
 use Rattle.line_laws.specs.Stores.{IsKept}
 use Rattle.line_laws.proofs.Answered.{acts_answered}
 use Rattle.line_laws.proofs.BookGrowth.{psk_meter}
@@ -80,20 +82,41 @@ granted_from (Some g) (Some a) granted e =
     let same : record g { address = a } ≡ granted = same_Some _ _ e in
     record { held = g; is = refl; key0 = ap (λ (x : Granted). x.key0) same; key1 = ap (λ (x : Granted). x.key1) same }
 
+-- and a key of such a grant is the ring's at the same index
+index_same : (r : ring.Ring) (granted : Granted) (index : ℕ) → FromRing r granted → ring.key_in_ring r index ≡ ring.key_in_ring (Some granted) index
+index_same r granted index f = ap (λ x. ring.key_in_ring x index) f.is ∙ by_index (index == 0)
+  where
+    by_index : (b : Bool) → (if b then f.held.key0 else f.held.key1) ≡ (if b then granted.key0 else granted.key1)
+    by_index true = f.key0
+    by_index false = f.key1
+
 key_stands : (w : World) (c : Node) (m : Memory) (g : Granted) (key : Key) → node_at w 0 ≡ Some c → c.memory ≡ Some m → m.station.ring ≡ Some g → IsOf g key
     → NodeHasKey w 0 key
 key_stands w c m g key hc hm hg is = rw (hc, hm, hg) is
 
 -- what holds of each key of a grant holds of each that is issued
-issued_each : (P : Issued → Type 0) (eui : Eui) (granted : Granted) → ((i : Issued) → i.eui ≡ eui → IsOf granted i.key → P i) → Each P (issued_by eui granted)
-issued_each P eui granted f = by_keys granted.key0 granted.key1 (λ i e h. f i e (inl h)) (λ i e h. f i e (inr h))
+placed_each : (P : Issued → Type 0) (eui : Eui) (granted : Granted)
+    → ((i : Issued) → i.eui ≡ eui → ring.key_in_ring (Some granted) i.index ≡ Some i.key → P i) → Each P (issued_by eui granted)
+placed_each P eui granted f = by_keys granted.key0 granted.key1 (λ k e. f (record { eui = eui; index = 0; key = k }) refl e)
+    (λ k e. f (record { eui = eui; index = 1; key = k }) refl e)
   where
-    by_keys : (a b : Option Key) → ((i : Issued) → i.eui ≡ eui → a ≡ Some i.key → P i) → ((i : Issued) → i.eui ≡ eui → b ≡ Some i.key → P i)
-        → Each P (issued_at eui 0 a ++ issued_at eui 1 b)
+    by_keys : (a b : Option Key) → ((k : Key) → a ≡ Some k → P (record { eui = eui; index = 0; key = k }))
+        → ((k : Key) → b ≡ Some k → P (record { eui = eui; index = 1; key = k })) → Each P (issued_at eui 0 a ++ issued_at eui 1 b)
     by_keys None None s t = tt
-    by_keys None (Some b) s t = (t (record { eui = eui; index = 1; key = b }) refl refl, tt)
-    by_keys (Some a) None s t = (s (record { eui = eui; index = 0; key = a }) refl refl, tt)
-    by_keys (Some a) (Some b) s t = (s (record { eui = eui; index = 0; key = a }) refl refl, (t (record { eui = eui; index = 1; key = b }) refl refl, tt))
+    by_keys None (Some b) s t = (t b refl, tt)
+    by_keys (Some a) None s t = (s a refl, tt)
+    by_keys (Some a) (Some b) s t = (s a refl, (t b refl, tt))
+
+-- a key at an index is one of the two
+of_index : (granted : Granted) (index : ℕ) (key : Key) → ring.key_in_ring (Some granted) index ≡ Some key → IsOf granted key
+of_index granted index key = by_index (index == 0)
+  where
+    by_index : (b : Bool) → (if b then granted.key0 else granted.key1) ≡ Some key → IsOf granted key
+    by_index true e = inl e
+    by_index false e = inr e
+
+issued_each : (P : Issued → Type 0) (eui : Eui) (granted : Granted) → ((i : Issued) → i.eui ≡ eui → IsOf granted i.key → P i) → Each P (issued_by eui granted)
+issued_each P eui granted f = placed_each P eui granted (λ i e h. f i e (of_index granted i.index i.key h))
 
 from_ring : (r : ring.Ring) (granted : Granted) (key : Key) (f : FromRing r granted) → IsOf granted key → IsOf f.held key
 from_ring r granted key f (inl e) = inl (f.key0 ∙ e)
@@ -156,6 +179,13 @@ accepting_ring ciphers octets m p (Turned reason) = refl
 accepting_ring ciphers octets m p (Plain got plain) = refl
 accepting_ring ciphers octets m p (Marked from counter got a) = refl
 
+accepting_book : (ciphers : Ciphers) (octets : List ℕ) (m : Memory) (p : Accepting) → Accepts m.station (arrived ciphers octets) p
+    → (of_station m p).memory.book ≡ m.book
+unfolding resting marking
+accepting_book ciphers octets m p (Turned reason) = refl
+accepting_book ciphers octets m p (Plain got plain) = refl
+accepting_book ciphers octets m p (Marked from counter got a) = refl
+
 -- # What a frame issues
 
 module _ (ciphers : Ciphers) (y : Node) (got : Accepted) (cost note now : ℕ) (P : Issued → Type 0)
@@ -199,14 +229,14 @@ module _ (ciphers : Ciphers) (fits : KeepsRanges ciphers) (w : World) (ok : Worl
   IssuedBy P (Err fault) = Unit {0}
 
   -- each event, by what holds of a frame and of the workshop
-  issues : (P : Issued → Type 0)
+  issues : (P : Event → Issued → Type 0)
       → ((event : Event) (number : ℕ) (x : Node) (octets : List ℕ) (got : Accepted) → node_at w number ≡ Some x → IsEvent event → Comes w event number octets
       → (accepting ciphers x octets).answer ≡ Ok got
       → (accepting ciphers x octets).node.role ≡ Coordinator → (m : Memory) → (accepting ciphers x octets).node.memory ≡ Some m
-      → (eui : Eui) (granted : Granted) → IsGrantedTo m eui granted → Each P (issued_by eui granted))
+      → (eui : Eui) (granted : Granted) → IsGrantedTo m eui granted → Each (P event) (issued_by eui granted))
       → ((x c : Node) (number : ℕ) (psk : Key) (g : Granted) → takes_setup w ≡ true → node_at w number ≡ Some x → node_at w 0 ≡ Some c → psk_of x ≡ Some psk
-      → (acts c (Err orders.Halted) (λ m. depot m x.eui psk)).answer ≡ Ok g → Each P (issued_by x.eui g))
-      → (event : Event) (s : Step) → IsStep ciphers w event s → IssuedBy P s
+      → (acts c (Err orders.Halted) (λ m. depot m x.eui psk)).answer ≡ Ok g → Each (P (events.Depot number)) (issued_by x.eui g))
+      → (event : Event) (s : Step) → IsStep ciphers w event s → IssuedBy (P event) s
   issues P frame workshop event s (Fails e fault) = tt
   issues P frame workshop event s (Makes e x is) = tt
   issues P frame workshop event s (Rests e quiet) = tt
@@ -217,8 +247,8 @@ module _ (ciphers : Ciphers) (fits : KeepsRanges ciphers) (w : World) (ok : Worl
       let d = answering sent_word (acts x (Err sends.Halted) (λ m. of_station m (calls.send m.station a datagram (w.sends + 1) w.clock))) in
       sent_by from to datagram (tag_of x) (is_taken d.answer) (acted ciphers w from d) tt
     where
-      sent_by : (from to : ℕ) (datagram : List ℕ) (tag : ℕ) (b : Bool) (r : World × Trace) → Each P r.1.issued
-          → Each P (sent_if w from to datagram tag b r).1.issued
+      sent_by : (from to : ℕ) (datagram : List ℕ) (tag : ℕ) (b : Bool) (r : World × Trace) → Each (P (events.Send from to datagram)) r.1.issued
+          → Each (P (events.Send from to datagram)) (sent_if w from to datagram tag b r).1.issued
       sent_by from to datagram tag true r h = h
       sent_by from to datagram tag false r h = h
   issues P frame workshop event s (AllowsMeter number y c psk there call meter) = tt
@@ -228,7 +258,7 @@ module _ (ciphers : Ciphers) (fits : KeepsRanges ciphers) (w : World) (ok : Worl
       workshop x c number psk g open_is hx hc pair (ap (λ (z : NodeStep (Result Granted CoordinatorRefusal)). z.answer) (sym same) ∙ is)
   issues P frame workshop event s (TurnsDown e number x octets reason d there says comes same is) = tt
   issues P frame workshop event s (Hears e number x octets cost got there says comes low is) =
-      heard_issues ciphers (accepting ciphers x octets).node got cost (note_by w octets got.path) w.clock P
+      heard_issues ciphers (accepting ciphers x octets).node got cost (note_by w octets got.path) w.clock (P e)
       (λ role m here eui granted grant. frame e number x octets got there says comes is role m here eui granted grant)
   issues P frame workshop event s (Loses number f there) = tt
   issues P frame workshop event s (Ticks seconds) = tt
@@ -273,7 +303,68 @@ module _ (ciphers : Ciphers) (fits : KeepsRanges ciphers) (w : World) (ok : Worl
       issued_each StoodIn x.eui g (λ i e of. key_stands w c a.memory f.held i.key hc a.there f.is (from_ring a.memory.station.ring g i.key f of))
 
   pub keys_stood : (event : Event) (s : Step) → IsStep ciphers w event s → IssuedBy StoodIn s
-  keys_stood event s is = issues StoodIn frame_stood workshop_stood event s is
+  keys_stood event s is = issues (λ e. StoodIn) frame_stood workshop_stood event s is
+
+  -- so does each at its index, and it goes to a meter that the book allows, or that the workshop joins
+  abbrev pub IssuedIn : Event → Issued → Type 0
+  IssuedIn event i = IsIssuedRight w event i
+
+  coordinator_holds : (c : Node) (m : Memory) (index : ℕ) (key : Key) → node_at w 0 ≡ Some c → c.memory ≡ Some m
+      → ring.key_in_ring m.station.ring index ≡ Some key → coordinator_key w index ≡ Some key
+  coordinator_holds c m index key hc hm is = rw (hc, hm) is
+
+  book_allows : (c : Node) (m : Memory) (eui : Eui) → node_at w 0 ≡ Some c → c.memory ≡ Some m → is_some (allowed_entry m eui) ≡ true
+      → is_allowed_in w eui ≡ true
+  book_allows c m eui hc hm is = rw (hc, hm) (by_entry (books.entry_for m.book eui) is)
+    where
+      by_allowed : (e : BookEntry) (b : Bool) → is_some (if b then Some e else None) ≡ true → b ≡ true
+      by_allowed e true h = refl
+      by_allowed e false h = absurd (cc)
+
+      by_entry : (o : Option BookEntry) → is_some (option_map_or (λ (e : BookEntry). if e.allowed then Some e else None) o None) ≡ true
+          → option_map_or (λ (e : BookEntry). e.allowed) o false ≡ true
+      by_entry None h = absurd (cc)
+      by_entry (Some e) h = by_allowed e e.allowed h
+
+  frame_right : (event : Event) (number : ℕ) (x : Node) (octets : List ℕ) (got : Accepted) → node_at w number ≡ Some x → IsEvent event
+      → Comes w event number octets → (accepting ciphers x octets).answer ≡ Ok got
+      → (accepting ciphers x octets).node.role ≡ Coordinator → (m : Memory) → (accepting ciphers x octets).node.memory ≡ Some m
+      → (eui : Eui) (granted : Granted) → IsGrantedTo m eui granted → Each (IssuedIn event) (issued_by eui granted)
+  frame_right event number x octets got there says comes is role m here eui granted grant =
+      let are = came_octets ciphers fits w ok flown event number octets says comes in
+      let plan : Memory → Plan Memory (Result Accepted FrameRefusal) = λ m. of_station m (accept m.station x.eui (arrived ciphers octets)) in
+      let a = acts_whole x frames.Halted frames.Store plan
+      (λ m. accept_failed ciphers fits octets are m.station _ (accept_is m.station x.eui (arrived ciphers octets))) got is in
+      let zero_is : number ≡ 0 = first number x there (sym (accepted_role event number x octets there says comes) ∙ role) in
+      let at : node_at w 0 ≡ Some x = ap (slice_get w.nodes) (sym zero_is) ∙ there in
+      let same : (plan a.memory).memory ≡ m = same_Some _ _ (sym a.leaves ∙ here) in
+      let rings : m.station.ring ≡ a.memory.station.ring = ap (λ (n : Memory). n.station.ring) (sym same)
+      ∙ accepting_ring ciphers octets a.memory _ (accept_is a.memory.station x.eui (arrived ciphers octets)) in
+      let book_is : m.book ≡ a.memory.book = ap (λ (n : Memory). n.book) (sym same)
+      ∙ accepting_book ciphers octets a.memory _ (accept_is a.memory.station x.eui (arrived ciphers octets)) in
+      let f = granted_from m.station.ring (books.address_of m.book eui) granted grant.grant in
+      placed_each (IssuedIn event) eui granted (λ i e of. record {
+        held = coordinator_holds x a.memory i.index i.key at a.there
+            (ap (λ r. ring.key_in_ring r i.index) (sym rings) ∙ index_same m.station.ring granted i.index f ∙ of);
+        allowed = inl (book_allows x a.memory i.eui at a.there (subst (λ (u : Eui). is_some (books.allowed_one a.memory.book u) ≡ true) (sym e)
+            (subst (λ b. is_some (books.allowed_one b eui) ≡ true) book_is grant.allowed)));
+      })
+
+  workshop_right : (x c : Node) (number : ℕ) (psk : Key) (g : Granted) → takes_setup w ≡ true → node_at w number ≡ Some x → node_at w 0 ≡ Some c
+      → psk_of x ≡ Some psk → (acts c (Err orders.Halted) (λ m. depot m x.eui psk)).answer ≡ Ok g
+      → Each (IssuedIn (events.Depot number)) (issued_by x.eui g)
+  workshop_right x c number psk g open_is hx hc pair is =
+      let fit = at_place NodeFits w.nodes number x hx ok.fits in
+      let a = acts_answered c orders.Halted orders.Store (λ m. depot m x.eui psk)
+      (λ m. depot_failed ciphers fits (record { eui = c.eui; ciphers = ciphers }) m x.eui psk fit.eui (fit.psk psk (psk_meter x psk pair))) g is in
+      let f = depot_ring a.memory x.eui psk g a.is in
+      placed_each (IssuedIn (events.Depot number)) x.eui g (λ i e of. record {
+        held = coordinator_holds c a.memory i.index i.key hc a.there (index_same a.memory.station.ring g i.index f ∙ of);
+        allowed = inr (record { number = number; depot = refl; node = x; there = hx; is = e });
+      })
+
+  pub keys_right : (event : Event) (s : Step) → IsStep ciphers w event s → IssuedBy (IssuedIn event) s
+  keys_right event s is = issues IssuedIn frame_right workshop_right event s is
 
   -- nothing is issued to a meter that is shut out, once setup is over
   module _ (eui : Eui) (shut : ShutAt eui w) (running : w.running ≡ true) where
@@ -300,4 +391,4 @@ module _ (ciphers : Ciphers) (fits : KeepsRanges ciphers) (w : World) (ok : Worl
 
     pub keys_other : (event : Event) (s : Step) → IsStep ciphers w event s → IssuedBy ToOther s
     keys_other event s is =
-        issues ToOther frame_other (λ x c number psk g open_is hx hc pair e. absurd (over eui ciphers fits w ok flown shut running open_is)) event s is
+        issues (λ e. ToOther) frame_other (λ x c number psk g open_is hx hc pair e. absurd (over eui ciphers fits w ok flown shut running open_is)) event s is

@@ -105,6 +105,7 @@ pub mod AddressWorlds
 pub mod AgreeTags
 pub mod AgreeSteps
 pub mod AgreeRuns
+pub mod AgreedRight
 pub mod BookGrowth
 pub mod NonceRuns
 pub mod MarkSteps

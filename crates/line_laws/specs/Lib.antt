@@ -11,6 +11,7 @@ pub mod Tags
 pub mod Ups
 pub mod Loops
 pub mod Issued
+pub mod IssuedRight
 pub mod Kicked
 pub mod Live
 pub mod Once
@@ -20,6 +21,7 @@ pub mod Keyed
 pub mod Ranked
 pub mod InCustody
 pub mod Agreed
+pub mod AgreedRight
 pub mod Shut
 pub mod Later
 pub mod FurtherLines

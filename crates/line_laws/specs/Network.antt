@@ -10,10 +10,12 @@ use Rattle.line_rules.specs.Runs.{Entry, IsRun}
 use Rattle.line_rules.specs.SafeRuns.{IsAlwaysSized, IsSafe, RestartsAreAnswered}
 use Rattle.line_rules.specs.Traces.{CountsRight, AreTracedRight}
 use Rattle.line_rules.specs.Worlds.{World, Flight, start}
+use Rattle.line_laws.specs.AgreedRight.{IsAgreedRight}
 use Rattle.line_laws.specs.CheckHistories.{AreCheckedRight}
 use Rattle.line_laws.specs.Live.{MarksAlwaysRise, FlightsAlwaysFall}
 use Rattle.line_laws.specs.Once.{AcceptsOnce, AcceptedOnce}
 use Rattle.line_laws.specs.Issued.{IsIssuedAfter}
+use Rattle.line_laws.specs.IssuedRight.{AreIssuedRight}
 use Rattle.line_laws.specs.Laws.{IsLineRun, FlightsAreOctets}
 use Rattle.line_laws.specs.Loops.{AreLoopFree, RestartsEndRoutes}
 use Rattle.line_laws.specs.ReachTraces.{AreReachTold, ListsBroadcasts}
@@ -41,7 +43,9 @@ pub record IsRight (entries : List Entry) : Type 0 where
   pub once : AcceptsOnce network start entries
   pub alone : AcceptedOnce network start entries
   pub agrees : Agrees entries
+  pub said : All IsAgreedRight entries
   pub keys : IsIssuedAfter [] entries
+  pub issued : AreIssuedRight start entries
   pub kicked : KickedStaysOut entries
   pub routes : AreLoopFree start entries
   pub counted : CountsRight start entries

@@ -1,8 +1,10 @@
 //! Laws of the runs: each carried by a function that does nothing.
+ghost use Rattle.line_laws.specs.AgreedRight.{EveryAgreementIsSaid};
 ghost use Rattle.line_laws.specs.CheckHistories.{EveryCheckIsRight};
 ghost use Rattle.line_laws.specs.FurtherLines.{EveryRunHolds};
 ghost use Rattle.line_laws.specs.FurtherState.{EveryIssuedKeyStood, EveryRunIsRanged};
 ghost use Rattle.line_laws.specs.Issued.{EveryJoiningAgrees, OnlyIssuedKeys};
+ghost use Rattle.line_laws.specs.IssuedRight.{EveryKeyIsIssuedRight};
 ghost use Rattle.line_laws.specs.Kicked.{EveryKickedMeterStaysOut};
 ghost use Rattle.line_laws.specs.Laws.{EveryAddressDiffers, EveryCountIsRight, EveryCounterRises, EveryFlightIsAFrame, EveryFlightIsOctets};
 ghost use Rattle.line_laws.specs.Laws.{EveryFlightIsSpelled, EveryForgeryIsTold, EveryNetworkRunIsSized, EveryNonceDiffers};
@@ -116,6 +118,13 @@ pub fn every_joining_agrees()
     ensures { EveryJoiningAgrees }
 {}
 
+/// In every run, forged or not, what the history has of a joining is what the tags say that were found right in its event: where a meter took its
+/// grant with two random values, that of the third message is over them, and where the coordinator has done the joining, that of the fourth.
+#[tactic(auto)]
+pub fn every_agreement_is_said()
+    ensures { EveryAgreementIsSaid }
+{}
+
 /// In every run, forged or not, whatever the ciphers are, the world counts events, sends, datagrams that were handed up, forged events, joinings, flights and
 /// pair tags as its history has them.
 #[tactic(auto)]
@@ -206,6 +215,14 @@ pub fn every_run_is_ranged()
 #[tactic(auto)]
 pub fn every_issued_key_stood()
     ensures { EveryIssuedKeyStood }
+{}
+
+/// In every run of the network, up to its first forged event and at it, over restarts and failed writes: each key that an event issues stands at its
+/// index in the coordinator's ring before the event, and goes to a meter that the coordinator's book allows before it, or to the one that the
+/// event joins in the workshop.
+#[tactic(auto)]
+pub fn every_key_is_issued_right()
+    ensures { EveryKeyIsIssuedRight }
 {}
 
 /// In every run of the network, forged or not, over restarts and failed writes: what each node holds of its checks and of its scan is what its

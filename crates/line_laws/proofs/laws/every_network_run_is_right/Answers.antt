@@ -1,9 +1,11 @@
 -- Each law, for the network's ciphers, which keep the ranges, and its flights, which are octets.
 use Rattle.node_rules.specs.Ciphers.{network}
+use Rattle.line_laws.proofs.AgreedRight.{every_agreement}
 use Rattle.line_laws.proofs.CheckedRight.{every_check}
 use Rattle.line_laws.proofs.FurtherLoops.{every_run as loop_free}
 use Rattle.line_laws.proofs.FurtherOctets.{every_flight}
 use Rattle.line_laws.proofs.FurtherRestarts.{every_size}
+use Rattle.line_laws.proofs.FurtherStates.{every_issued_right}
 use Rattle.line_laws.proofs.FurtherUps.{every_up}
 use Rattle.line_laws.proofs.KeyedRuns.{every_address, every_fall, every_joining, every_nonce, only_issued}
 use Rattle.line_laws.proofs.KickRuns.{every_kick}
@@ -35,7 +37,9 @@ returns c = λ entries run. record {
   once = every_node network network_ranges entries run (every_flight entries run);
   alone = every_frame network network_ranges entries run (every_flight entries run);
   agrees = every_joining network network_ranges entries run (every_flight entries run);
+  said = every_agreement network network_ranges entries run (every_flight entries run);
   keys = only_issued network network_ranges entries run (every_flight entries run);
+  issued = every_issued_right entries run;
   kicked = every_kick entries run;
   routes = loop_free entries run;
   counted = every_count network entries run;
