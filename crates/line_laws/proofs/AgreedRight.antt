@@ -28,7 +28,8 @@ use Rattle.node_rules.specs.Memory.{StationMemory, Memory, MeterSession, Course,
 use Rattle.node_rules.specs.MemoryDrafts.{Unread, goes_down, goes_up, in_memory, oldest, on_station, packet_fault, unread, with_memory_by, with_pair_tags}
 use Rattle.node_rules.specs.MemoryDrafts.{is_commanded, with_station}
 use Rattle.node_rules.specs.Meters as meters
-use Rattle.node_rules.specs.Meters.{Hearing, Identity, activated, carries_down, carry_down, carry_up, challenged, declined, drop_it, ends, hear_join, hear_join_in}
+use Rattle.node_rules.specs.Meters.{Hearing, Identity, activated, carries_down, carry_down, carry_up, challenged, declined, drop_it, ends, hear_join}
+use Rattle.node_rules.specs.Meters.{hear_join_in}
 use Rattle.node_rules.specs.Meters.{hear_near, hear_order, heard_by, hear_meter, kicked, reply, reply_with, says, take, take_by, take_with, takes}
 use Rattle.node_rules.specs.Meters.{with_session}
 use Rattle.node_rules.specs.NodeSteps.{NodeStep, acts, answering, left_by, of_station, stays}
