@@ -45,6 +45,14 @@ impl RandomValues {
         Ok(())
     }
 
+    /// How many values are held, at most 8.
+    pub fn count(&self) -> usize
+        ensures value { result ≡ length self.now }
+        ensures few { length self.now ≤ 8 }
+    {
+        self.items.len()
+    }
+
     /// The oldest value, None where none is held.
     pub fn oldest(&self) -> Option<Rand>
         ensures { result ≡ slice_get self.now 0 }

@@ -1,5 +1,5 @@
 //! The meter.
-ghost use Rattle.std.specs.Prelude.{◌≡◌, Some, None, Ok, Err, IfSome, IsSome, IfNone, IfOk, IfErr};
+ghost use Rattle.std.specs.Prelude.{◌≡◌, ◌≤◌, length, Some, None, Ok, Err, IfSome, IsSome, IfNone, IfOk, IfErr};
 ghost use Rattle.std.specs.Result.{result_ok};
 ghost use Rattle.std.specs.Option.{option_map, option_and_then};
 ghost use Rattle.store_tables.specs.SlotTables.{IsGapless};
@@ -9,6 +9,7 @@ ghost use Rattle.node_rules.specs.Memory as memory;
 ghost use Rattle.node_rules.specs.Meters as meters;
 ghost use Rattle.node_rules.specs.StoreReading.{memory_of};
 ghost use Rattle.node_rules.specs.Agreement.{Agrees};
+ghost use Rattle.plc_station.specs.Sizes.{HasSizes};
 ghost use Rattle.meter_node.specs.MeterStates.{node_of};
 ghost use Rattle.meter_node.specs.Sessions.{session_of};
 ghost use Rattle.meter_node.specs.Reading.{read_answer, IsOpenFault};
@@ -109,6 +110,18 @@ impl<K: Keeper + Drop> Meter<K> {
             return None;
         }
         self.station.ring().joined()
+    }
+
+    /// How many random values it holds that it has not used yet. What it holds keeps its sizes, whatever its keeper is: at most 8 random
+    /// values, and its station's tables as [`Station::waiting`] has them. Of the station of a halted one that says nothing.
+    pub fn random_values(&self) -> usize
+        ensures value { result ≡ length self.now.randoms }
+        ensures randoms { length self.now.randoms ≤ 8 }
+        ensures sized { IfSome self.now.station.memory HasSizes }
+    {
+        // The tables keep their sizes by their types.
+        let _waiting = self.station.waiting();
+        self.randoms.count()
     }
 
     /// The neighbour, the number and the origin of the route reply that its station sent at its last `hear`, as
