@@ -1,5 +1,5 @@
 //! The coordinator.
-ghost use Rattle.std.specs.Prelude.{◌≡◌, Some, None, Ok, Err, IfSome, IfNone, IsSome, IfOk, IfErr, is_some};
+ghost use Rattle.std.specs.Prelude.{◌≡◌, ◌≤◌, length, Some, None, Ok, Err, IfSome, IfNone, IsSome, IfOk, IfErr, is_some};
 ghost use Rattle.std.specs.Option.{option_map, option_and_then};
 ghost use Rattle.store_tables.specs.SlotTables.{IsGapless};
 ghost use Rattle.frame_counters.specs.PeerMarks.{peers};
@@ -8,6 +8,7 @@ ghost use Rattle.group_keys.specs.KeyBook as book;
 ghost use Rattle.node_rules.specs.Memory as memory;
 ghost use Rattle.node_rules.specs.StoreReading.{memory_of};
 ghost use Rattle.node_rules.specs.Coordinators as rules;
+ghost use Rattle.plc_station.specs.Sizes.{HasSizes};
 ghost use Rattle.coordinator.specs.CoordinatorReading.{if_read, read_answer};
 ghost use Rattle.coordinator.specs.CoordinatorStates.{node_of};
 ghost use Rattle.coordinator.specs.CoordinatorAgreement.{Holds, HasHome};
@@ -107,6 +108,22 @@ impl<K: Keeper + Drop> Coordinator<K> {
             return false;
         }
         self.sessions.of(eui).is_some()
+    }
+
+    /// How many sessions are open. What it holds keeps its sizes, whatever its keeper is: at most 8 sessions, 8 random values and 999 meters
+    /// in its book, and its station's tables as [`Station::waiting`] has them. Of the station of a halted one that says nothing.
+    pub fn sessions(&self) -> usize
+        ensures value { result ≡ length self.now.sessions }
+        ensures sessions { length self.now.sessions ≤ 8 }
+        ensures randoms { length self.now.randoms ≤ 8 }
+        ensures book { length self.now.book ≤ 999 }
+        ensures sized { IfSome self.now.station.memory HasSizes }
+    {
+        // The tables keep their sizes by their types.
+        let _waiting = self.station.waiting();
+        let _randoms = self.randoms.count();
+        let _meters = self.book.entries();
+        self.sessions.count()
     }
 
     /// Gives the keeper back, as std's `into_inner` does. What the coordinator held in memory is forgotten.

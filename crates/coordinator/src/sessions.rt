@@ -85,6 +85,14 @@ impl Sessions {
         }
     }
 
+    /// How many sessions are open, at most 8.
+    pub(crate) fn count(&self) -> usize
+        ensures value { result ≡ length self.now }
+        ensures few { length self.now ≤ 8 }
+    {
+        self.items.len()
+    }
+
     // The place of a meter's session.
     fn place_of(&self, eui: Eui) -> Option<usize>
         ensures { result ≡ position (is_of eui) self.now }
