@@ -18,13 +18,13 @@ syntax match rattleLifetime /'\h\w*\>'\@!/
 syntax match rattleName /\%(\<fn\s\+\)\@<=\h\w*/
 syntax region rattleString start=/b\?"/ skip=/\\./ end=/"/
 syntax match rattleString /b\?'\%([^\\']\|\\[^']\+\|\\'\)'/
-syntax region rattleAttribute start=/#!\?\[/ end=/\]/ contains=rattleString,rattleBrackets
+syntax region rattleAttribute matchgroup=rattleAttribute start=/#!\?\[/ end=/\]/ contains=rattleString,rattleBrackets
 syntax region rattleBrackets start=/\[/ end=/\]/ contained contains=rattleString,rattleBrackets
 syntax match rattleComment +//.*$+ contains=@Spell
 syntax match rattleDoc +//[/!].*$+ contains=@Spell
 
 " A clause, `requires NAME { .. }`, and a ghost item: what stands in their braces is antt. `ghost use` ends at its semicolon.
-syntax region rattleClause matchgroup=rattleHead start=/\<\%(requires\|ensures\|prove!\)\>*\%(\s\+\h\w*\)\?\s*{/ end=/}/ contains=@antt,rattleBraces
+syntax region rattleClause matchgroup=rattleHead start=/\<\%(requires\>\|ensures\>\|prove!\)\%(\s\+\h\w*\)\?\s*{/ end=/}/ contains=@antt,rattleBraces
 syntax region rattleClause matchgroup=rattleHead start=/\<ghost\s\+\h\w*\%(\s*=\)\?\s*{/ end=/}/ contains=@antt,rattleBraces
 syntax region rattleClause matchgroup=rattleHead start=/\<ghost\s\+use\>/ end=/;/ contains=@antt
 syntax region rattleBraces start=/{/ end=/}/ contained transparent contains=@antt,rattleBraces
