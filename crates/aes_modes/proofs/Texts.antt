@@ -27,7 +27,7 @@ pub ccm_text-twice : (key nonce m : List ℕ) → ccm_text key nonce (ccm_text k
 unfolding ccm_text
 ccm_text-twice key nonce m = masked_twice (λ i. ccm_stream_block key nonce (i + 1)) (λ i. length-encrypted key _) m
 
--- a text that comes back tells two texts apart
+-- texts that come back from different texts differ
 pub eax_text-differs : (key nonce m n : List ℕ) → m ≢ n → eax_text key nonce m ≢ eax_text key nonce n
 eax_text-differs key nonce m n ne same =
     ne (sym (eax_text-twice key nonce m) ∙ ap (eax_text key nonce) same ∙ eax_text-twice key nonce n)

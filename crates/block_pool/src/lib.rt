@@ -2,7 +2,7 @@
 //!
 //! All memory is taken when the pool is made: one region, in which each block leads to the next one of its chain, or of
 //! the free blocks, by a pointer. A chain holds octets in one block after another; what it gives back is free for the
-//! next one. All that follows a pointer stands in `pointers.rt`; a contract does not tell how blocks are linked.
+//! next one. All that follows a pointer stands in `pointers.rt`; no contract says how blocks are linked.
 #![tactic(auto)]
 
 mod blocks;

@@ -1,4 +1,4 @@
--- What telling a meter to seal with another key comes to, by what is tested.
+-- What an order to seal with another key comes to, by what is tested.
 use Rattle.std.proofs.Common.{◌≡◌, ℕ, true, false, Some, None, refl}
 use Rattle.plc_base.specs.declared.address.Eui.{Eui}
 use Rattle.group_keys.specs.declared.key_book.BookEntry.{BookEntry}

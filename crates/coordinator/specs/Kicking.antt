@@ -1,4 +1,4 @@
--- A meter that is shut out, before it is told so.
+-- A meter that is shut out, before a command says so.
 use Rattle.group_keys.specs.declared.key_book.BookEntry.{BookEntry}
 use Rattle.group_keys.specs.KeyBook.{kicked_entry}
 use Rattle.node_rules.specs.Memory.{Memory}
@@ -11,6 +11,6 @@ abbrev pub shut_out : Memory → BookEntry → Draft Memory
 shut_out m e =
     with_memory_by (without_session e.eui) (with_book_entry (kicked_entry e.eui e) (empty_draft m))
 
--- it is not told so
+-- no command says so
 abbrev pub silently : Memory → BookEntry → Ordering (Unit {0})
 silently m e = sealing in_memory orders (shut_out m e) tt

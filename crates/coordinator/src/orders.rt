@@ -119,7 +119,7 @@ impl<K: Keeper + Drop> Coordinator<K> {
         key == issued
     }
 
-    /// Tells a meter, at a time in seconds, to seal with the key at an index, 0 or 1: the command is in `out`, or waits for a route,
+    /// Orders a meter, at a time in seconds, to seal with the key at an index, 0 or 1: the command is in `out`, or waits for a route,
     /// and where nothing waited for that one yet, a request for it to all is in `out`.
     ///
     /// Halted, NotAllowed, NotIssued exactly where its ring has no key at the index or another one than was issued to the meter,

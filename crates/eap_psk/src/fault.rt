@@ -4,7 +4,7 @@ ghost use Rattle.std.specs.Prelude.{◌≡◌};
 use plc_base::Ended;
 use thiserror::Error;
 
-/// Why a packet is refused. Where several hold, the first of this list is told.
+/// Why a packet is refused. Where several hold, the first of this list is answered.
 #[derive(Clone, Copy, Debug, PartialEq, Eq, Drop, Error)]
 pub enum EapFault {
     /// The packet is not the awaited message: its code, identifier, length, type, message number or nonce is another, or a reserved

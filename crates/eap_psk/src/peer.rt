@@ -29,7 +29,7 @@ pub struct Peer {
 }
 
 impl Peer {
-    /// Takes the first message, and writes the second, of 62 octets, in place of what `out` held. The identifier is that of the
+    /// Takes the first message, and writes the second, of 62 octets, which replaces what `out` held. The identifier is that of the
     /// first.
     ///
     /// `tags` gets MAC_P as made. After a fault, which is [`EapFault::Form`], `out` and `tags` are empty.
@@ -68,7 +68,7 @@ impl Peer {
         })
     }
 
-    /// Takes the third message. Where it is right, writes the fourth, of 43 octets and with the same identifier, in place of what
+    /// Takes the third message. Where it is right, writes the fourth, of 43 octets and with the same identifier, which replaces what
     /// `out` held, and answers the grant and the random values that both ends hold.
     ///
     /// `tags` gets MAC_S and the channel's tag as opened, and the answer's as made. After a fault `out` and `tags` are empty.

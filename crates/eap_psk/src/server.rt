@@ -39,7 +39,7 @@ pub struct Server {
 }
 
 impl Server {
-    /// Begins a session with the node of this EUI-64, and writes the first message, of 30 octets, in place of what `out` held.
+    /// Begins a session with the node of this EUI-64, and writes the first message, of 30 octets, which replaces what `out` held.
     pub fn first(eui: Eui, id_s: Eui, rand_s: Rand, out: &mut EapBuf) -> Server
         ensures server { result ≡ record { eui = eui; id_s = id_s; rand_s = rand_s; rand_p = None } }
         ensures message { First 1 rand_s.0 id_s.0 out.new }
@@ -63,7 +63,7 @@ impl Server {
         if self.rand_p.is_some() { 4 } else { 2 }
     }
 
-    /// Takes the second message. Where it is right, writes the third message, which carries the grant, in place of what `out` held,
+    /// Takes the second message. Where it is right, writes the third message, which carries the grant and replaces what `out` held,
     /// and answers the server that awaits the fourth.
     ///
     /// `tags` gets MAC_P as opened, and MAC_S and the channel's tag as made. After a fault `out` and `tags` are empty. A fault

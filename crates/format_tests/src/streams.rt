@@ -1,4 +1,4 @@
-//! The adapters over std, at a reader and a writer that fail in mid-stream; and memory, which fails where it is told to, and nowhere
+//! The adapters over std, at a reader and a writer that fail in mid-stream; and memory, which fails where it was set to, and nowhere
 //! else.
 ghost use Rattle.std.specs.Prelude.{◌≡◌, ◌<◌, ◌≤◌, ◌+◌, [], length, true, IfOk};
 

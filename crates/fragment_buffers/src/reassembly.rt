@@ -45,7 +45,7 @@ pub struct BufferFull;
 ///
 /// A contract sees a list of entries: each has the name (origin, size, tag), the note and the time of the first piece, the chain's
 /// number, and the places and lengths of the pieces. The octets are those that the chains hold, so the entries and their pool
-/// together tell the reassemblies (`told`).
+/// together give the reassemblies (`told`).
 ///
 /// Each call takes the pool that the chains are in. What it needs of the pool, and keeps, is `Keeps`: each chain is one of this
 /// pool's and as long as its datagram, their numbers differ, and the pool has the blocks that are left of 80.

@@ -147,7 +147,7 @@ impl KeyBook {
         Ok(KeyBook { table })
     }
 
-    /// The same in place of what the book held, so that no book is made or copied.
+    /// The same, into a book that there is already, so that no book is made or copied.
     pub fn reload<K: Keeper>(&mut self, keeper: &K) -> Result<(), BadStore>
         ensures book { read_into result self.new ≡ opened entries (K.store keeper.now).records }
         ensures reading { OnOk result (IsReading entries self.new (K.store keeper.now).records) }

@@ -28,7 +28,7 @@ pub fn read_message(octets: &[u8]) -> Option<JoinMessage>
 /// The command that carries a joining message: at most 138 octets.
 pub type CommandBuf = Octets<138>;
 
-/// Writes the octets of the command that carries a message, its code 02 first, in place of what `out` held.
+/// Writes the octets of the command that carries a message, its code 02 first. They replace what `out` held.
 pub fn write_command(message: &JoinMessage, out: &mut CommandBuf)
     requires { IsMessage message.now }
     ensures command { out.new ≡ command_of message.now }
@@ -55,7 +55,7 @@ fn push_plain(head: &MacHead, message: &JoinMessage, out: &mut Out)
     write_plain(head, message, &mut frame.octets);
 }
 
-// Writes the octets of a plain frame with this head, whose payload is a joining command, in place of what `out` held.
+// Writes the octets of a plain frame with this head, whose payload is a joining command. They replace what `out` held.
 fn write_plain(head: &MacHead, message: &JoinMessage, out: &mut FrameBuf)
     requires message { IsMessage message.now }
     requires head { heads.IsAllowed head.now }

@@ -17,7 +17,7 @@ key_same : (k l : Key) → k.0 ≡ l.0 → k ≡ l
 unfolding key_from
 key_same k l e = ap key_from e
 
--- the places for keys are told by what is spelled of them
+-- the places for keys are known by what is spelled of them
 second_same : (a b : Option Key) → IsPlace a → IsPlace b → key_then 1 a [] ≡ key_then 1 b [] → a ≡ b
 second_same None None ha hb e = refl
 second_same None (Some l) ha hb e = absurd cc

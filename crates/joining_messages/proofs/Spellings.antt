@@ -61,7 +61,7 @@ no_fault message h =
     let f2 : eui_fault octets ≡ None = eui_none octets (omega arith) in
     rw (f1, f2, first) (rest_none message.body octets h.1 len rest)
 
--- the code tells the kind, and the rest the value
+-- the code gives the kind, and the rest the value
 body_same : (a b : JoinBody) → code_of a ≡ code_of b → rest_of a ≡ rest_of b → a ≡ b
 body_same (Join x) (Join y) code rest = ap Join rest
 body_same (Accept x) (Accept y) code rest = cc

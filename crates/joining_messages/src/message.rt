@@ -4,7 +4,7 @@ use plc_base::{EapBuf, Eui, KeyIndex};
 /// A joining message: the joining node's identity and what is said.
 #[derive(Debug, Drop)]
 pub struct JoinMessage {
-    /// The EUI-64 of the node that joins, or that is kicked or told to activate a key.
+    /// The EUI-64 of the node that joins, or that is kicked or ordered to activate a key.
     pub eui: Eui,
     /// What is said.
     pub body: JoinBody,

@@ -1,4 +1,4 @@
--- For machines: from a text that was told to the turn of a line.
+-- For machines: from a text that was written to the turn of a line.
 use Rattle.std.proofs.Common.{List, ℕ, Ok, Err, Result, refl}
 use Rattle.plc_base.specs.Streams.{SinkState}
 use Rattle.line_driver.specs.declared.telling.StopReason.{StopReason}
@@ -34,6 +34,6 @@ told_short {old} {new} text reason t = record { w = t.w; wrote = t.wrote; by = s
 pub stopped : {M : Type 0} {old new : SinkState} (text : List ℕ) (r : Result (Unit {0}) StopReason) → StopsWith old new text r → (m : M) → Turned old new m m (Stops text) r
 stopped {M} {old} {new} text r t m = record { w = t.w; wrote = t.wrote; turned = stopped_by old new text t.w m r t.by; faults = t.faults }
 
--- a line was taken, and its report told
+-- a line was taken, and its report written
 pub taken : {M : Type 0} {old new : SinkState} (text : List ℕ) (r : Result (Unit {0}) StopReason) → Told old new text r → (m next : M) → Turned old new m next (Takes next text) r
 taken {M} {old} {new} text r t m next = record { w = t.w; wrote = t.wrote; turned = taken_by old new text t.w m next r t.told; faults = t.faults }

@@ -19,7 +19,7 @@ use Rattle.line_flights.proofs.FlightLists.{octets_at, count_of}
 abbrev pub origin_of : List Flight → List ℕ → Key → Origin
 origin_of fs octets key = record { is_forged = is_forged_frame fs octets key; note = note_of fs octets key }
 
--- what one flight tells, where `later` is what those after it tell
+-- what one flight gives, where `later` is what those after it give
 abbrev pub told_by : Bool → ℕ → Origin → Origin
 told_by b note later = if b then record { is_forged = false; note = note } else later
 
@@ -59,7 +59,7 @@ module _ (octets : List ℕ) (key : Key) where
   skip (f ∷ fs) (suc p) zero none order = absurd (omega (arith, order))
   skip (f ∷ fs) (suc p) (suc q) none order = skip fs p q (λ k low high g e. none (suc k) (omega (arith, low)) (omega (arith, high)) g e) (omega (arith, order))
 
-  -- what a flight with these octets tells
+  -- what a flight with these octets gives
   here : (fs : List Flight) (k : ℕ) (f : Flight) → slice_get fs k ≡ Some f → f.octets ≡ octets
       → origin_of (drop k fs) octets key ≡ told_by (is_under f.key key) f.note (origin_of (drop (suc k) fs) octets key)
   here [] k f there same = absurd cc

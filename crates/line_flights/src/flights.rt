@@ -256,7 +256,7 @@ impl Flights {
         true
     }
 
-    // Where octets come from, by their flight of this number, where `later` is what the flights after it tell.
+    // Where octets come from, by their flight of this number, where `later` is what the flights after it give.
     fn earlier(&self, number: u32, key: &Key, later: Origin) -> Origin
         requires some { 0 < number }
         requires within { number ≤ length self.now.flights }

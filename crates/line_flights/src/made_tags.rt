@@ -1,4 +1,4 @@
-//! The pair tags that were made, so that one that was made by nobody is told.
+//! The pair tags that were made, so that one that was made by nobody is known as forged.
 ghost use Rattle.std.specs.Prelude.{◌≡◌, ◌+◌, ◌-◌, ◌<◌, ◌≤◌, ◌++◌, ◌∷◌, [], max, IsOk, OnOk, OnErr, length};
 ghost use Rattle.std.specs.List.{list_any};
 ghost use Rattle.line_flights.specs.Flights.{is_forged_tag};

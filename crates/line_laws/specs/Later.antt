@@ -114,7 +114,7 @@ SealingKeeps E =
     (ends : Ends E) (halted : E) (to : ℕ) (unit : MeshUnit) → IsTarget to → MayBeSealed unit → (w : World) (number : ℕ) (x : Node)
     → w.running ≡ true → node_at w number ≡ Some x → Keeps w (told network w number (seals_at ends halted to unit x))
 
--- and a node that sends a plain frame of octets, of whatever joining message: which grants are right is told by the pair tags that were
+-- and a node that sends a plain frame of octets, of whatever joining message: which grants are right is known by the pair tags that were
 -- made, and it makes none
 abbrev pub PlainKeeps : Type 0
 PlainKeeps =

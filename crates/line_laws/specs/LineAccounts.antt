@@ -124,7 +124,7 @@ LineNodesAcceptOnce =
 
 -- # The history and the report
 
--- The counts of the world are those of the history, which has of an event what the report says of it; and the event is told to be forged exactly
+-- The counts of the world are those of the history, which has of an event what the report says of it; and the event is reported as forged exactly
 -- where it is.
 pub record IsLineRight (ciphers : Ciphers) (w : World) (x : Entry) : Type 0 where
   pub adds : Adds w x

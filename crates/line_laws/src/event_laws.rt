@@ -214,7 +214,7 @@ pub fn line_nodes_accept_once()
 {}
 
 /// Whatever the ciphers are, what the history has of an event is what the report says of it, the counts of the world are those of its history, and an event
-/// is told to be forged exactly where it is. Of a broadcast, whose word is that of a send, the history has no send.
+/// is reported as forged exactly where it is. Of a broadcast, whose word is that of a send, the history has no send.
 #[tactic(auto)]
 pub fn line_traces_are_right()
     ensures { LineTracesRight }

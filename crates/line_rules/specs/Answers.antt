@@ -120,13 +120,13 @@ random_word (Ok u) = said.Given
 random_word (Err randoms.Halted) = said.Halted
 random_word (Err randoms.RandomsFull) = said.RandomsFull
 
--- the word of a meter that was told to join
+-- the word of a meter that begins to join
 abbrev pub join_word : Result (Unit {0}) JoinRefusal → Answer
 join_word (Ok u) = said.Asked
 join_word (Err joins.Halted) = said.Halted
 join_word (Err joins.AlreadyJoined) = said.AlreadyJoined
 
--- the word of a meter that was told to leave
+-- the word of a meter that leaves
 abbrev pub leave_word : Result (Unit {0}) LeaveRefusal → Answer
 leave_word (Ok u) = said.Left
 leave_word (Err leaves.Halted) = said.Halted

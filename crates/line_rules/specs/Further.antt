@@ -236,7 +236,7 @@ discovers_by w number x octets link (Some m) =
 
 -- # deliver, inject: commands
 
--- the broadcast that was handed up, and the way that was told
+-- the broadcast that was handed up, and the way that was reported
 abbrev pub broadcast_up : ℕ → Result CommandHeard ReachDropped → Option BroadcastUp
 broadcast_up number (Ok (heard_of.Broadcast origin count octets)) =
     Some (record { node = number; origin = origin; number = count; octets = octets })

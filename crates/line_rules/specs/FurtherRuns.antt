@@ -1,4 +1,4 @@
--- What further reach promises of runs: broadcasts are handed up once and as they were sent, paths that are told were walked, and checks and
+-- What further reach promises of runs: broadcasts are handed up once and as they were sent, reported paths were walked, and checks and
 -- scans are what their histories say.
 use Rattle.std.specs.Prelude.{◌≡◌, ◌≢◌, ℕ, ◌==◌, Bool, true, false, List, [], ◌∷◌, ◌++◌, All, Option, Some, None, IfSome, Ok, slice_get, if◌then◌else◌}
 use Rattle.std.specs.Option.{option_map_or}
@@ -74,7 +74,7 @@ pub data StandIn : List Stepping → List Stepping → Type 0 where
   Takes : (one : Stepping) (some all : List Stepping) → StandIn some all → StandIn (one ∷ some) (one ∷ all)
   Passes : (one : Stepping) (some all : List Stepping) → StandIn some all → StandIn some (one ∷ all)
 
--- the steps of a walk that was told were taken, in its order
+-- the steps of a reported walk were taken, in its order
 abbrev pub WasWalked : List ℕ → List Stepping → Type 0
 WasWalked [] taken = ⊥
 WasWalked (a ∷ rest) taken = StandIn (steps_toward (last_of a rest) (a ∷ rest)) taken
@@ -87,7 +87,7 @@ AreWalkedAfter before (x ∷ xs) =
     → IfSome x.trace.happened.path (λ (told : PathLine). WasWalked told.walk (steps_taken before))
     × AreWalkedAfter (before ++ x ∷ []) xs
 
--- Every path that a run tells was walked step by step before it was told.
+-- Every path that a run reports was walked step by step before it was reported.
 abbrev pub AreWalked : List Entry → Type 0
 AreWalked entries = AreWalkedAfter [] entries
 
@@ -170,7 +170,7 @@ LogsAlwaysKept entries = All GiveLogs entries
 
 -- # The world before the first event
 
--- nothing was checked, heard, sent or told
+-- nothing was checked, heard, sent or reported
 pub record NothingFurther : Type 0 where
   pub history : IsOfHistory [] start
   pub once : AreBroadcastOnce []

@@ -38,9 +38,9 @@ IsRun ciphers w (x ∷ xs) =
     (w.events < MAX_EVENTS) × (x.number ≡ w.events + 1) × (line_step ciphers w x.event ≡ Ok (x.after, x.trace))
     × IsRun ciphers x.after xs
 
--- # What a history tells
+-- # What a history has
 
--- what each entry tells, in order
+-- what each entry gives, in order
 abbrev pub all_of : {A : Type 0} → (Trace → List A) → List Entry → List A
 all_of told [] = []
 all_of told (x ∷ xs) = told x.trace ++ all_of told xs

@@ -108,12 +108,12 @@ trace_of h = record {
   further = nothing_further;
 }
 
--- what a node did is told, in the words of its answer
+-- what a node did, in the words of its answer
 abbrev pub spoken : World → NodeStep Answer → Trace
 spoken w d =
     record (trace_of (record (happened w d.answer) { flights = length d.frames })) { made = d.made; opened = d.opened }
 
--- what a node did is told to the world and to the report
+-- what a node did goes into the world and into the report
 abbrev pub acted : Ciphers → World → ℕ → NodeStep Answer → World × Trace
 acted ciphers w number d = (told ciphers (ran w) number d, spoken w d)
 
@@ -319,13 +319,13 @@ joins_by ciphers w number x (Some agent) (Some psk) =
     acted ciphers w number
     (answering join_word (acts x (Err joins.Halted) (λ m. meters.join (identity ciphers x psk) m agent w.clock)))
 
--- a meter is told to join at an agent
+-- a meter begins to join at an agent
 unfoldable pub join : Ciphers → World → ℕ → ℕ → Step
 join ciphers w number agent =
     once_begun w (on_meter w number
     (λ x. on_node w agent (λ y. Ok (joins_by ciphers w number x (node_address y) (psk_of x)))))
 
--- a meter is told to leave
+-- a meter leaves
 unfoldable pub leave : Ciphers → World → ℕ → Step
 leave ciphers w number =
     once_begun w (on_meter w number
@@ -375,7 +375,7 @@ breaks_by ciphers w number x (Some next) =
     acted ciphers w number
     (acts x said.Halted (λ m. changing said.Broken (with_station (calls.broke next m.station) m)))
 
--- a node is told that its link to another one broke
+-- a node learns that its link to another one broke
 unfoldable pub breaks : Ciphers → World → ℕ → ℕ → Step
 breaks ciphers w number next =
     once_begun w (on_node w number (λ x. on_node w next (λ y. Ok (breaks_by ciphers w number x (node_address y)))))
@@ -579,7 +579,7 @@ challenge ciphers w number =
     (λ c. Ok (by_coordinator ciphers w c said.Challenged
     (λ m. coordinator_rules.challenge c.eui m x.eui w.clock)))))
 
--- the coordinator seals with another key itself, or tells a meter to
+-- the coordinator seals with another key itself, or orders a meter to
 abbrev pub activate_at : Ciphers → World → ℕ → ℕ → Node → Node → World × Trace
 activate_at ciphers w number index x c =
     if number == 0 then by_coordinator ciphers w c said.Activated (λ m. coordinator_rules.activate_self m index)

@@ -81,7 +81,7 @@ pub record Pairing : Type 0 where
   pub node : ℕ
   pub agreed : Agreed
 
--- # What is told of further reach
+-- # What is reported of further reach
 
 -- A broadcast that was sent: by which node, at which address, with which number.
 pub record Broadcasting : Type 0 where

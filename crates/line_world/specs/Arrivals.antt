@@ -117,7 +117,7 @@ taker_in number took = if took then Some number else None
 abbrev pub done_in : World → Option Eui → Option ℕ
 done_in w done = option_map (λ (eui : Eui). number_of w eui) done
 
--- what is left of a frame that a node heard, by what the node told and gave out
+-- what is left of a frame that a node heard, by what the node answered and gave out
 abbrev pub left_of : World → ℕ → Out → Bool → telling.Reception → World
 left_of w number out forged told = record (ran w) {
   flights = w.flights ++ map (flight_by number) out.frames;

@@ -11,7 +11,7 @@ use Rattle.meter_node.specs.MeterStates as meters
 use Rattle.coordinator.specs.CoordinatorStates.{CoordinatorState}
 use Rattle.coordinator.specs.CoordinatorStates as coordinators
 
--- the loss of power that is still to come, where the keeper tells one
+-- the loss of power that is still to come, where one is known
 abbrev pub cut_told : Option (Option Cut) → Option Cut
 cut_told None = None
 cut_told (Some cut) = cut

@@ -1,4 +1,4 @@
--- What a node does by its further rules, as the line is told.
+-- What a node does by its further rules, as the line has it.
 use Rattle.std.specs.Prelude.{◌≡◌, ℕ, List, Option, is_some, Result, Ok, Err, IfNone, IfSome, slice_set, if◌then◌else◌}
 use Rattle.plc_base.specs.declared.out_frame.Out.{Out}
 use Rattle.broadcast_log.specs.declared.broadcast.Broadcast.{Broadcast}
@@ -47,7 +47,7 @@ command_of c = record { from = c.from; to_all = c.to_all; code = c.code; body = 
 abbrev pub broadcast_of : BroadcastRef → Broadcast
 broadcast_of b = record { hops = b.hops; origin = b.origin; number = b.number; octets = b.octets }
 
--- What is told of a command is what its rule says.
+-- What is reported of a command is what its rule says.
 pub record TellsCommand (told : Commanded) (number : ℕ) (r : Result CommandHeard ReachDropped) : Type 0 where
   pub answer : told.answer ≡ command_word r
   pub bup : told.bup ≡ broadcast_up number r
@@ -111,7 +111,7 @@ pub record ReachesFirst {A : Type 0} (old : State StationMemory) (b : Beside) (h
   pub carried : IfSome old.memory (λ l. Carries old (of_held b plan l) answer out new)
   pub beside : IfSome old.memory (λ l. c ≡ beside_left b plan l new.memory)
 
--- A station heard a command, and this is told of it.
+-- A station heard a command, and this is reported of it.
 pub record ReachesCommand (old : State StationMemory) (b : Beside)
     (plan : Reaching StationMemory → Plan (Reaching StationMemory) (Result CommandHeard ReachDropped)) (told : Commanded)
     (number : ℕ) (before out : Out) (new : State StationMemory) (c : Beside) : Type 0 where
@@ -159,7 +159,7 @@ pub record TookAfter {A : Type 0} (x : Node) (b : Beside) (halted : A)
   pub node_is : node ≡ (reaches x b halted plan).node
   pub beside : c ≡ beside_after x b plan (reaches x b halted plan).node
 
--- A node heard a command, and this is told of it.
+-- A node heard a command, and this is reported of it.
 pub record ReachedCommand (x : Node) (b : Beside) (c : NeighbourCommand) (old : List Node) (number : ℕ) (told : Commanded)
     (before out : Out) (new : List Node) (left : Beside) : Type 0 where
   pub tells : TellsCommand told number (reaches x b (Err (Known Store)) (λ y. hear_command in_memory y c)).answer

@@ -25,11 +25,11 @@ pub record MayHear (x : Node) (got : Accepted) : Type 0 where
   pub came : IfSome x.memory (λ m. CameTo x.role got m)
   pub waits : IfSome x.memory (λ m. WaitingFits m.station)
 
--- a datagram that the rules hand up, as a node tells it
+-- a datagram that the rules hand up, as a node hands it up
 abbrev pub handed_up : rules.Up → HandedUp
 handed_up u = record { note = u.note; octets = u.octets }
 
--- The word and what is told beside it are those of the reception.
+-- The word and what is reported beside it are those of the reception.
 pub record Tells (told : Reception) (r : rules.Reception) : Type 0 where
   pub answer : told.answer ≡ r.answer
   pub up : told.up ≡ option_map handed_up r.up

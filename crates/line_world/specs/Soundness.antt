@@ -15,7 +15,7 @@ pub record AgreesAs (role : Role) (m : Memory) (records : Records) : Type 0 wher
   pub station : AgreesWith m.station records
   pub book : OfCoordinator role (book.IsKept m.book records)
 
--- The keeper of a node tells the loss of power that is to come; no table of its store has a gap, the coordinator's ring
+-- The loss of power that is to come is known of a node's keeper; no table of its store has a gap, the coordinator's ring
 -- has the address 0000, and unless it is halted it agrees with its store.
 pub record IsSound (role : Role) (s : State Memory) : Type 0 where
   pub told : IsSome s.store.told

@@ -33,7 +33,7 @@ pub enum Message {
     Rerr {
         /// The node that can't be reached.
         lost: Short,
-        /// The node that is told.
+        /// The node that the route error goes to.
         to: Short,
     },
 }

@@ -43,7 +43,7 @@ fn nonce_of(head: &MacHead) -> [u8; 13]
     }
 }
 
-/// Seals a payload: writes the frame of a head `Sealed` in place of what `out` held.
+/// Seals a payload: writes the frame of a head `Sealed`, which replaces what `out` held.
 ///
 /// The body is the payload, encrypted, and a tag of 4 octets: CCM* under the key of `aes`, with all octets before the body as
 /// its header. A short target is not FFFE, the key index is 0 or 1, and the payload has at most 381 octets. A frame counter may
@@ -87,7 +87,7 @@ fn seal_tail(aes: &Aes, nonce: &[u8; 13], out: &mut FrameBuf, tag: &mut [u8; 4])
     ccm_seal(aes, nonce, header, text, tag);
 }
 
-// Opens an encrypted payload: what it is, in place of what `out` held, and nothing where the tag is another.
+// Opens an encrypted payload: what it is replaces what `out` held, and nothing does where the tag is another.
 fn open_text(
     aes: &Aes,
     nonce: &[u8; 13],
@@ -114,7 +114,7 @@ fn open_text(
     Ok(())
 }
 
-/// Opens a sealed frame that was read: its payload, in place of what `out` held.
+/// Opens a sealed frame that was read: its payload replaces what `out` held.
 ///
 /// [`BadTag`] comes exactly where the tag is not that of the key of `aes`, the header and the payload. `out` is empty then.
 pub fn open_frame(aes: &Aes, raw: &RawFrame<'_>, out: &mut FrameBuf) -> Result<(), BadTag>

@@ -124,7 +124,7 @@ fn write_down(out: &mut FrameBuf, ack: bool, version: u8, seq: u8, pan: u16, to:
     push_u16(out, from.number());
 }
 
-/// Writes the header of 15 octets in place of what `out` held.
+/// Writes the header of 15 octets, which replaces what `out` held.
 pub fn write_header(head: &MacHead, out: &mut FrameBuf)
     requires { IsAllowed head.now }
     ensures spelled { out.new ≡ header head.now }
@@ -161,7 +161,7 @@ pub fn write_header(head: &MacHead, out: &mut FrameBuf)
     }
 }
 
-/// Writes the plain frame of a head `Up` or `Down` and a payload, in place of what `out` held.
+/// Writes the plain frame of a head `Up` or `Down` and a payload, which replaces what `out` held.
 ///
 /// The version is 0 or 1, a short target is not FFFE, and the payload has at most 385 octets.
 pub fn plain_frame(head: &MacHead, payload: &[u8], out: &mut FrameBuf)

@@ -30,7 +30,7 @@ fn write_piece(piece: &Piece<'_>, out: &mut FrameBuf)
     out.append(piece.octets());
 }
 
-/// Writes the one spelling of the unit, in place of what `out` held.
+/// Writes the one spelling of the unit, which replaces what `out` held.
 ///
 /// A whole datagram has 1 to 375 octets and a command alone a code of 1 to 5; the spelling has at most 400 octets.
 pub fn write_unit(unit: &Unit<'_>, out: &mut FrameBuf)

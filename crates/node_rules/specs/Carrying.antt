@@ -41,7 +41,7 @@ pub record Shows {M A : Type 0} (o : Outcome M A) (old : State M) (answer : A) (
   pub eui_is : new.eui ≡ old.eui
   pub told_is : IfSome old.store.told (λ c. new.store.told ≡ Some o.cut)
 
--- The call does what `carry_out` gives, under the cut that the keeper tells. Where it tells none there is one all the same, and it
+-- The call does what `carry_out` gives, under the known cut. Where none is known there is one all the same, and it
 -- is none where the count of faults did not rise.
 pub record IsCarriedOut {M A : Type 0} (old : State M) (p : Plan M A) (answer : A) (out : Out)
     (new : State M) : Type 0 where

@@ -347,7 +347,7 @@ same_as_issued (Some key) (Some issued) = book.same_key key issued
 abbrev pub was_issued : Memory → BookEntry → ℕ → Bool
 was_issued m e index = same_as_issued (ring.key_in_ring m.station.ring index) (book.issued_at e index)
 
--- a meter is told to seal with another key
+-- a meter is ordered to seal with another key
 abbrev pub activate_at : Memory → ℕ → JoinMessage → ℕ → Ordering (Unit {0})
 activate_at m to join now =
     checked orders m (order_lack m to join) (sealed in_memory orders m (is_commanded to join now (empty_draft m)) tt)
@@ -365,7 +365,7 @@ activate m eui index now =
     (refused orders m refusal.NotAllowed))
     (allowed_entry m eui) (refused orders m refusal.NotAllowed)
 
--- a meter is shut out, its session ends, and it is told where there is a route and a counter for it; so the command never waits,
+-- a meter is shut out, its session ends, and a command goes where there is a route and a counter for it; so the command never waits,
 -- and the time that it would wait from is no matter
 abbrev pub kick_goes : Memory → ℕ → JoinMessage → Draft Memory → Draft Memory
 kick_goes m to join d =

@@ -146,7 +146,7 @@ hop_less mesh = record mesh { hops = mesh.hops - 1 }
 abbrev pub forwards : StationMemory → ℕ → Unit → ℕ → Hearing
 forwards l hop unit note = ends l (goes hop unit note (empty_draft l)) heard.Relayed
 
--- its origin is told that it can't
+-- a route error to its origin says that it can't
 abbrev pub reports : StationMemory → Mesh → ℕ → Hearing
 reports l mesh hop = ends l (tells hop (Rerr mesh.to mesh.origin) (empty_draft l)) heard.Reported
 
@@ -155,7 +155,7 @@ abbrev pub report_by : StationMemory → Mesh → Option ℕ → Hearing
 report_by l mesh None = drop_it l NoRoute
 report_by l mesh (Some hop) = reports l mesh hop
 
--- by the hop that leads to its target: without one its origin is told, unless that is this node
+-- by the hop that leads to its target: without one its origin gets a route error, unless that is this node
 abbrev pub forward_by : StationMemory → (own : ℕ) → Mesh → Unit → ℕ → Option ℕ → Hearing
 forward_by l own mesh unit note None =
     choose (mesh.origin == own) (drop_it l NoRoute) (report_by l mesh (next_hop l mesh.origin))

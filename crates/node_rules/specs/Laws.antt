@@ -169,7 +169,7 @@ abbrev pub command_answer : StationMemory → ℕ → Option SendRefusal → Res
 command_answer l to None = Ok (calls.how l to)
 command_answer l to (Some reason) = Err reason
 
--- a command is refused for what `room` tells, and but for a failed write for nothing else
+-- a command is refused for what `room` answers, and but for a failed write for nothing else
 abbrev pub TheRoomTellsTheRefusal : Type 0
 TheRoomTellsTheRefusal =
     (l : StationMemory) (to : ℕ) (octets : List ℕ) (now : ℕ)

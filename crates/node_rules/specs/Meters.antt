@@ -1,4 +1,4 @@
--- What a meter does: joining, carrying the messages of others, leaving, and the keys that it is told to use.
+-- What a meter does: joining, carrying the messages of others, leaving, and the keys that it is ordered to use.
 use Rattle.std.specs.Prelude.{ℕ, Bool, true, false, ◌==◌, List, [], ◌∷◌, is_some, Option, Some, None, Result, Ok, Err, if◌then◌else◌}
 use Rattle.std.specs.Option.{option_map, option_map_or}
 use Rattle.plc_base.specs.Faults.{◌then◌, ◌when◌, ◌unless◌}

@@ -1,4 +1,4 @@
--- What a station does towards its neighbours alone: commands of code 03, 04 and 05, and what it tells of its routes.
+-- What a station does towards its neighbours alone: commands of code 03, 04 and 05, and what it answers of its routes.
 use Rattle.std.specs.Prelude.{◌≡◌, ℕ, List, ◌++◌, is_some, unwrap_or, if◌then◌else◌, Option, Result}
 use Rattle.std.specs.Option.{option_map}
 use Rattle.plc_base.specs.declared.out_frame.Out.{Out}

@@ -115,7 +115,7 @@ pub enum Heard<'a> {
     Learned,
     /// A route error was taken in.
     Broken,
-    /// The unit can't go on, and its origin is told.
+    /// The unit can't go on, and a route error goes to its origin.
     Reported,
     /// A joining command for this node, whose body is not read yet.
     Joining {

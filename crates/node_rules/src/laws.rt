@@ -31,7 +31,7 @@ pub fn no_cut_no_failure<M, A>()
     ensures { NoCutNoFailure M A }
 {}
 
-/// What a call does that carries out a plan is a function of the cut that is to come: where the keeper tells its cut it is `carry_out`, and
+/// What a call does that carries out a plan is a function of the cut that is to come: where the cut is known it is `carry_out`, and
 /// over any other keeper in which no put fails it is `carry_out` with no cut.
 pub fn calls_are_functions<M, A>()
     ensures { (old new : State M) (p : Plan M A) (answer : A) (out : Out) → Carries old p answer out new
@@ -98,7 +98,7 @@ pub fn an_order_refused_changes_nothing()
     ensures { AnOrderRefusedChangesNothing }
 {}
 
-/// What `room` tells of a command is what sending it is refused for; where it tells nothing only a failed store write refuses it.
+/// What `room` answers for a command is what sending it is refused for; where it answers None only a failed store write refuses it.
 #[tactic(auto)]
 pub fn the_room_tells_the_refusal()
     ensures { TheRoomTellsTheRefusal }

@@ -1,7 +1,7 @@
 //! Why a node refuses: the words of its answers, in the order in which they are tried.
 use thiserror::Error;
 
-/// The node is halted: a store write failed, its store had no reading when it last restarted, or it was told to halt.
+/// The node is halted: a store write failed, its store had no reading when it last restarted, or its caller halted it.
 #[derive(Clone, Copy, Debug, PartialEq, Eq, Error)]
 #[error("the node is halted")]
 pub struct Halted;

@@ -9,7 +9,7 @@ use crate::strings::Strings;
 use std::alloc::{AllocError, Global};
 use std::marker::Model;
 
-/// So many octets at the end of a string choose its chain. A sealed frame ends with its tag, which tells frames apart.
+/// So many octets at the end of a string choose its chain. A sealed frame ends with its tag, in which frames differ.
 const ENDING: usize = 16;
 
 /// Octet strings in the order in which they came.

@@ -268,7 +268,7 @@ added_first h (suc k) (x ∷ xs) d = by_tests (added_first h k xs d.1) (nat_lt (
 
 -- # What the table does
 
--- whether a beacon tells nothing new to those who come later
+-- whether a beacon has nothing new for those who come later
 known_later : (h : Agent) (xs : List Agent) → From (suc (rank h)) xs → list_any (is_known_by h) xs ≡ false
 known_later h [] f = refl
 known_later h (x ∷ xs) f = by_test (known_later h xs f.1) (h.address == x.address) refl
@@ -291,7 +291,7 @@ behind : (h x : Agent) (xs : List Agent) (k : Bool) → nat_lt (rank h) (rank x)
 behind h x xs true e = refl
 behind h x xs false e = rw e refl
 
--- what is added stands at its new place, unless it tells nothing new
+-- what is added stands at its new place, unless it has nothing new
 pub added_is : (h : Agent) (xs : List Agent) → Sorted xs
     → added h xs ≡ cond (list_any (is_known_by h) xs) xs (placed_by rank h (without h.address xs))
 added_is h [] s = refl

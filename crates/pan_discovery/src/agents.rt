@@ -25,7 +25,7 @@ impl Agent {
         u64::from(self.total) * 65_536 + u64::from(self.address.number())
     }
 
-    // Whether a beacon of this agent tells nothing new to one who knows this other agent.
+    // Whether a beacon of this agent has nothing new for one who knows this other agent.
     fn is_known_by(&self, other: &Agent) -> bool
         ensures { result ≡ agents.is_known_by self.now other.now }
     {
@@ -74,7 +74,7 @@ impl Agents {
         self.items.get(place).copied()
     }
 
-    // Whether a beacon of this agent tells nothing new.
+    // Whether a beacon of this agent has nothing new.
     fn knows(&self, heard: &Agent) -> bool
         ensures { result ≡ list_any (agents.is_known_by heard.now) self.now }
     {

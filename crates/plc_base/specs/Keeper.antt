@@ -17,7 +17,7 @@ pub record Store : Type 0 where
   pub records : Records
   -- how often it has failed, which stays at the highest number of 64 bits
   pub faults : ℕ
-  -- nothing where the keeper does not tell, and else the cut that is to come, if there is one
+  -- None where it is not known, and else the cut that is to come, if there is one
   pub told : Option (Option Cut)
 
 -- The slots: 1 the ring, 2 the limit of the send counter, 3 that of the own number, 4 the next datagram tag, 5 the floors,
@@ -55,7 +55,7 @@ pub record Puts (old : Store) (slot : ℕ) (octets : List ℕ) (ok : Bool) (new 
   pub old_or_new : (new.records ≡ old.records) ⊎ (new.records ≡ insert old.records slot octets)
   pub faults : old.faults ≤ new.faults
   pub rose : OnFalse ok (Rose old.faults new.faults)
-  -- where the cut is told, so is all of the outcome
+  -- where the cut is known, so is all of the outcome
   pub told : new.told ≡ option_map cut_after old.told
   pub told_ok : IfSome old.told (λ cut. ok ≡ succeeds cut)
   pub told_records : IfSome old.told (λ cut. new.records ≡ records_after cut old.records slot octets)
@@ -95,12 +95,12 @@ IsOldOrNew Kept old new records = Kept old records ⊎ Kept new records
 abbrev pub OutsideStays : ℕ → ℕ → Store → Store → Type 0
 OutsideStays first last old new = SameOutside first last old.records new.records
 
--- whether the put of a call succeeds, where the cut is told
+-- whether the put of a call succeeds, where the cut is known
 abbrev pub write_succeeds : Option Cut → Option Write → Bool
 write_succeeds cut None = true
 write_succeeds cut (Some write) = succeeds cut
 
--- the records after the put of a call, where the cut is told
+-- the records after the put of a call, where the cut is known
 abbrev pub records_after_write : Option Cut → Records → Option Write → Records
 records_after_write cut records None = records
 records_after_write cut records (Some write) = records_after cut records write.slot write.octets
@@ -110,7 +110,7 @@ abbrev pub cut_after_write : Option Cut → Option Write → Option Cut
 cut_after_write cut None = cut
 cut_after_write cut (Some write) = cut_after cut
 
--- Where the cut is told, the outcome of a call's put is a function of it.
+-- Where the cut is known, the outcome of a call's put is a function of it.
 pub record IsTold (old : Store) (cut : Option Cut) (write : Option Write) (done : Bool) (new : Store) : Type 0 where
   pub done_is : done ≡ write_succeeds cut write
   pub records_is : new.records ≡ records_after_write cut old.records write

@@ -27,7 +27,7 @@ pub struct BadStore {
 ///
 /// The slots are 1 to 6, 0100 to 013F, 0200 to 023F, 0300 to 031F and 1000 to 13E6 (hexadecimal).
 pub trait Keeper {
-    /// The records that it holds, how often it has failed, and, where it tells, the loss of power that is to come.
+    /// The records that it holds, how often it has failed, and, where it is known, the loss of power that is to come.
     ghost store: { Self → Store };
 
     /// The record at a slot, None exactly where there is none.

@@ -7,7 +7,7 @@
 //! - [`Octets`] holds at most so many octets in place: [`FrameBuf`] 400, [`DatagramBuf`] 1,280, [`EapBuf`] 128, [`Record`] 64.
 //!   [`OctetRef`] refers to octets that stand elsewhere. A contract sees the list of the octets.
 //! - [`Keeper`] is the trait that firmware writes over its flash: `get` and `put` of a record at a slot. [`MemKeeper`] is one
-//!   in memory, for tests and for simulated lines; it can be told at which put power is lost.
+//!   in memory, for tests and for simulated lines; it can be set to lose power at a put.
 //! - [`Out`] is what one step gives out: at most 24 frames ([`OutFrames`]), and the tags that it made and checked
 //!   ([`TagList`]).
 //! - `octet_at`, `two_at`, `octets_at` and the like read the fields of a format, and [`Fault`] is its first fault with the

@@ -1,4 +1,4 @@
-//! A keeper in memory, which loses power when it is told to.
+//! A keeper in memory, which loses power at the put that it is set to.
 ghost use Rattle.std.specs.Prelude.{◌≡◌, ◌<◌, ◌≤◌, Some, None, IfOk, vec_len, vec_capacity};
 ghost use Rattle.std.specs.FinMap as map;
 ghost use Rattle.plc_base.specs.Keeper.{Store, IsSlot};
@@ -8,7 +8,7 @@ use crate::{Cut, Failed, Keeper, Record};
 use std::alloc::{AllocError, Global};
 use std::marker::Model;
 
-/// A keeper over memory that is reserved once. It tells which loss of power is to come.
+/// A keeper over memory that is reserved once. The loss of power that is to come is known.
 ///
 /// A contract sees its records as a finite map from slot to octets. A get takes the same time at each slot, and so does a put, but for the cells
 /// below its slot, which are made once.

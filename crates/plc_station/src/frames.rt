@@ -198,7 +198,7 @@ impl<K: Keeper + Drop> Station<K> {
     }
 
     /// Takes octets that came as a frame: opens them, and keeps the counter of a sealed frame as the mark of its sender. What is
-    /// inside an accepted frame is written into `payload`, in place of what that held.
+    /// inside an accepted frame replaces what `payload` held.
     ///
     /// Halted, Malformed, NotForMe, NoKey, BadTag, Replayed, PeersFull, Store, in this order.
     pub fn accept<'a>(

@@ -17,7 +17,7 @@
 //! - `halted`, `shown`, `ring`, `routing`, `valid` and `last_reply` look at it. `restart` forgets all but the store, and ends a
 //!   halt.
 //!
-//! What goes out is in an `Out` that the caller lends, in place of what that held; `send_local` adds to it.
+//! What goes out is in an `Out` that the caller lends, and replaces what that held; `send_local` adds to it.
 //!
 //! What its calls promise, by the names of their clauses:
 //!
@@ -31,7 +31,7 @@
 //! It takes memory in `open` alone, and has no `unsafe`; the pool of blocks below it is the one crate with pointers. It reads
 //! no clock and draws no random value: times are the caller's, in seconds. It sends nothing by itself. After a write that
 //! failed it is halted, with nothing sent, until `restart` has read the store again. `hear`, `install` and their like ask for a
-//! station that is not halted, which `halted` tells.
+//! station that is not halted, which `halted` answers.
 //!
 //! For example, a node that is installed and gets a frame: `accept` refuses it as Replayed, or answers what is inside; `hear`
 //! then answers `Heard::Up` with the datagram for this node, or `Heard::Relayed` with the frame for the next hop in `out`.

@@ -1,4 +1,4 @@
--- Path requests: a node asks which way another one is reached, and is told the nodes that its ask came by. What a node makes of a
+-- Path requests: a node asks which way another one is reached, and is answered the nodes that its ask came by. What a node makes of a
 -- path message is said by `path_requests`.
 use Rattle.std.specs.Prelude.{ℕ, ◌==◌, Bool, List, [], ◌∷◌, Option, Some, None, Result, Ok, Err}
 use Rattle.std.specs.Option.{option_map_or}

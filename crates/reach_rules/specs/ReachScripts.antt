@@ -168,7 +168,7 @@ sought_then rest = waiting ∷ relayed ∷ answered ∷ relayed ∷ learned ∷ 
 abbrev pub path_told : List Doing
 path_told = path_sought ++ (Comes 6 1 1 ∷ Comes 7 2 1 ∷ Comes 8 1 1 ∷ Comes 9 0 1 ∷ [])
 
--- A node that asks for a path is told the nodes of the way, from itself to the target.
+-- A node that asks for a path is answered the nodes of the way, from itself to the target.
 unfoldable pub APathIsTold : Type 0
 APathIsTold =
     (words_of three_in_a_row path_told

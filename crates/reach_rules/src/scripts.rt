@@ -37,7 +37,7 @@ pub fn the_coordinator_is_an_agent()
     ensures { TheCoordinatorIsAnAgent }
 {}
 
-/// A node that asks for a path is told the nodes of the way.
+/// A node that asks for a path is answered the nodes of the way.
 #[tactic(auto, using(crate::proofs::ReachScripts::a_path_is_told))]
 pub fn a_path_is_told()
     ensures { APathIsTold }

@@ -62,7 +62,7 @@ rises s t [] false h = absurd (cc)
 rises s t (w ∷ ws) false (true, mid, p, rest, u) = omega (arith, p.faults, rises mid t ws false rest)
 rises s t (w ∷ ws) false (false, mid, p, u, stop) = omega (arith, p.rose, ap (λ (k : Store). k.faults) stop.1)
 
--- a told cut is the one
+-- a known cut is the one
 cut_told : (s t : Store) (ws : List Write) (done : Bool) (cut : Option Cut) → Writes s ws done t → s.told ≡ Some cut
     → (done ≡ (write ws cut s.records).whole) × (t.records ≡ (write ws cut s.records).records) × (t.told ≡ Some (write ws cut s.records).cut)
 cut_told s t [] done cut h e = (h.0, ap (λ (k : Store). k.records) h.1, ap (λ (k : Store). k.told) h.1 ∙ e)
@@ -82,7 +82,7 @@ later : Option Cut → Option Cut
 later None = None
 later (Some c) = Some (record c { nth = c.nth + 1 })
 
--- where none is told, there is one all the same
+-- where none is known, there is one all the same
 pub record IsSomeCut (s t : Store) (ws : List Write) (done : Bool) (cut : Option Cut) : Type 0 where
   pub comes : IfSome cut (λ c. 1 ≤ c.nth)
   pub whole : done ≡ (write ws cut s.records).whole
@@ -140,7 +140,7 @@ some_cut s t (w ∷ ws) done (false, mid, p, u, stop) = either p.old_or_new
       },
     )
 
--- some cut makes of the puts what was made, and the told one if one is told
+-- some cut makes of the puts what was made, and the known one if one is known
 pub cut_of : (s t : Store) (ws : List Write) (done : Bool) → Wrote s ws done t → (cut : Option Cut) × IsCutBy s ws done t cut
 cut_of s t ws done h = go s.told refl
   where

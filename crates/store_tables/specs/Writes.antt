@@ -36,7 +36,7 @@ write (w ∷ rest) cut records =
     if succeeds cut then write rest (cut_after cut) (records_after cut records w.slot w.octets)
     else record { whole = false; records = records_after cut records w.slot w.octets; cut = cut_after cut }
 
--- These are the puts under this cut, which is the one that the keeper tells, if it tells one.
+-- These are the puts under this cut, which is the known cut, if it is known.
 pub record IsCutBy (old : Store) (puts : List Write) (done : Bool) (new : Store) (cut : Option Cut) : Type 0 where
   pub told : IfSome old.told (λ c. (c ≡ cut) × (new.told ≡ Some (write puts cut old.records).cut))
   pub whole : done ≡ (write puts cut old.records).whole

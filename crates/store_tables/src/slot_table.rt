@@ -97,7 +97,7 @@ impl<E: SlotEntry, const N: usize> SlotTable<E, N> {
         }
     }
 
-    /// The same in place of what the table held, so that no table is made or copied. After an error it holds the entries before the
+    /// The same, into a table that there is already, so that no table is made or copied. After an error it holds the entries before the
     /// bad record.
     pub fn reload<K: Keeper>(&mut self, keeper: &K) -> Result<(), BadStore>
         ensures table { read_into result self.new ≡ opened E.layout (K.store keeper.now).records }
@@ -265,7 +265,7 @@ impl<E: SlotEntry, const N: usize> SlotTable<E, N> {
         self.order.insert(self.entries.as_slice(), place);
     }
 
-    // Holds an entry in place of another one, whose key it may have.
+    // Replaces an entry by one that may have its key.
     fn replace(&mut self, place: usize, entry: E)
         requires within { place < length self.old }
         requires free { IsFree E.layout self.old place (E.layout.key entry) }

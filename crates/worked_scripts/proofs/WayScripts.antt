@@ -1,4 +1,4 @@
--- Which joining messages are taken by which way, and what each other one is told: the runs are computed.
+-- Which joining messages are taken by which way, and what each other one is answered: the runs are computed.
 use Rattle.std.proofs.Common.{refl}
 use Rattle.worked_scripts.proofs.Computing.{computed}
 use Rattle.worked_scripts.specs.WayScripts.{OnlyAJoinGoesUp, PlainFramesComeDown, CommandsComeFromTheCoordinator, OnlyAJoinReachesTheCoordinator}

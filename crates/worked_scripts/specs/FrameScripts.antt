@@ -145,7 +145,7 @@ UnitsHaveTheirPaths =
 
 -- # The octets of frames
 
--- a joining with EUIs and keys that tell their octets apart
+-- a joining with EUIs and keys whose octets all differ
 abbrev pub named_joining : List Event
 named_joining =
     Coordinator (record { 0 = big_bytes 8 0xaabbccddeeff0011 }) group_key

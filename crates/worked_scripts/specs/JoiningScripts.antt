@@ -27,7 +27,7 @@ asking =
 abbrev pub joining : List Event
 joining = asking ++ (Deliver 1 0 1 ∷ Deliver 2 1 1 ∷ Deliver 3 0 1 ∷ Deliver 4 1 1 ∷ Deliver 5 0 1 ∷ Deliver 6 1 1 ∷ [])
 
--- the fourth packet comes again, and the meter is told which key seals
+-- the fourth packet comes again, and the meter learns which key seals
 abbrev pub joined : List Event
 joined = joining ++ (Deliver 5 0 1 ∷ Activate 1 0 ∷ [])
 
@@ -243,9 +243,9 @@ EightSessionsAreOpen =
     ≡ said.SessionsFull ∷ said.SessionsFull ∷ said.NoRandom ∷ said.NoRandom ∷ said.Given ∷ said.SessionsFull
     ∷ said.Challenged ∷ said.Kicked ∷ said.NoRandom ∷ said.Given ∷ said.Challenged ∷ [])
 
--- # Kicked, and not told
+-- # Kicked without a command
 
--- the meter is kicked, and told to join
+-- the meter is kicked, and begins to join
 abbrev pub kicked_unaware : List Event
 kicked_unaware = joining ++ (Kick 1 ∷ Join 1 0 ∷ [])
 

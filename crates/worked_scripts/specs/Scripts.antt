@@ -1,4 +1,4 @@
--- Words of small scripts that are computed, with plain ciphers in place of the network's.
+-- Words of small scripts that are computed, with plain ciphers and not the network's.
 use Rattle.std.specs.Prelude.{ℕ, ◌-◌, ◌==◌, Bool, false, List, [], ◌∷◌, ◌++◌, length, map, take, drop, Option, Some, None, Ok, Err, if◌then◌else◌}
 use Rattle.std.specs.FinMap.{insert}
 use Rattle.std.specs.Option.{option_map, option_map_or, option_and_then}

@@ -1,4 +1,4 @@
--- Which joining messages are taken by which way, and what each other one is told.
+-- Which joining messages are taken by which way, and what each other one is answered.
 use Rattle.std.specs.Prelude.{◌≡◌, ℕ, ◌+◌, List, [], ◌∷◌, ◌++◌, map, replicate, Some}
 use Rattle.byteorder.specs.Endian.{big_bytes}
 use Rattle.eap_psk.specs.Messages as packets

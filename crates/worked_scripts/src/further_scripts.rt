@@ -19,7 +19,7 @@ pub fn meters_choose_agents()
     ensures { MetersChooseAgents }
 {}
 
-/// A node asks for the way to another one, and is told it where no link on it broke.
+/// A node asks for the way to another one, and learns it where no link on it broke.
 #[tactic(auto, using(crate::proofs::FurtherScripts::paths_are_told))]
 pub fn paths_are_told()
     ensures { PathsAreTold }

@@ -1,4 +1,4 @@
-//! Which joining messages are taken by which way, and what each other one is told.
+//! Which joining messages are taken by which way, and what each other one is answered.
 ghost use Rattle.worked_scripts.specs.WayScripts.{OnlyAJoinGoesUp, PlainFramesComeDown, CommandsComeFromTheCoordinator, OnlyAJoinReachesTheCoordinator};
 ghost use Rattle.worked_scripts.specs.WayScripts.{AnAnswerByCommandMayLackRoom};
 

@@ -47,7 +47,7 @@ fn cost_of(route: Option<(Short, u16)>) -> Option<u16>
     Some(cost)
 }
 
-// The cost from the coordinator to itself, which a halted one does not tell.
+// The cost from the coordinator to itself, which a halted one does not know.
 fn own_cost(halted: bool) -> Option<u16>
     ensures { result ≡ (if halted then None else Some 0) }
 {

@@ -1,4 +1,4 @@
-//! What the line is told of what a node heard: a word, and what came up with it.
+//! Receptions of what a node heard: a word, and what came up with it.
 ghost use Rattle.std.specs.Prelude.{◌≡◌, ℕ, List, Ok};
 ghost use Rattle.line_rules.specs.Answers as rules;
 ghost use Rattle.line_world.specs.Receiving.{Tells};

@@ -1,4 +1,4 @@
--- What is kept beside the octets of a flight tells by which key it was sealed.
+-- What is kept beside the octets of a flight says by which key it was sealed.
 use Rattle.std.proofs.Common.{◌≡◌, ◌-◌, ◌<◌, true, Some, sym, ap, ◌∙◌, arith, length}
 use Rattle.std.specs.Prelude.{slice_get}
 use Rattle.line_flights.specs.Flights.{Flight}
