@@ -16,7 +16,7 @@ use Rattle.node_rules.proofs.Outcomes.{carried}
 use Rattle.node_rules.proofs.Tables.{writes_keep_tables}
 use Rattle.line_events.specs.declared.event.Answer.{Answer}
 use Rattle.line_events.specs.declared.event.Answer.TheVariants as said
-use Rattle.line_world.specs.Nodes.{cut_told, node_in}
+use Rattle.line_world.specs.Nodes.{cut_ahead, node_in}
 use Rattle.line_world.specs.Doings.{Took}
 use Rattle.line_world.specs.Soundness.{AgreesAs, IsSound}
 
@@ -34,9 +34,9 @@ some_is {M} o m e = subst (λ (k : Option M). IsSome k) (sym e) (cc)
 
 -- a node of these parts
 node_is : (role : Role) (y : State Memory) (eui : Eui) (records : Records) (cut : Option Cut) (memory : Option Memory)
-    → y.eui ≡ eui → y.store.records ≡ records → y.store.told ≡ Some cut → y.memory ≡ memory
+    → y.eui ≡ eui → y.store.records ≡ records → y.store.known_cut ≡ Some cut → y.memory ≡ memory
     → node_in role y ≡ record { role = role; eui = eui; store = record { records = records; cut = cut }; memory = memory }
-node_is role y eui records cut memory e r t m = λ i. record { role = role; eui = e i; store = record { records = r i; cut = cut_told (t i) }; memory = m i }
+node_is role y eui records cut memory e r t m = λ i. record { role = role; eui = e i; store = record { records = r i; cut = cut_ahead (t i) }; memory = m i }
 
 -- # One plan
 
@@ -44,37 +44,37 @@ node_is role y eui records cut memory e r t m = λ i. record { role = role; eui 
 abbrev step_of : {A : Type 0} → Role → State Memory → A → (Memory → Plan Memory A) → Option Memory → NodeStep A
 step_of role x halted p o = acts (record (node_in role x) { memory = o }) halted p
 
-by_cut : {A : Type 0} (role : Role) (x y : State Memory) (p : Plan Memory A) (answer : A) (out : Out) (cut : Option Cut) → x.store.told ≡ Some cut
+by_cut : {A : Type 0} (role : Role) (x y : State Memory) (p : Plan Memory A) (answer : A) (out : Out) (cut : Option Cut) → x.store.known_cut ≡ Some cut
     → (is : IsCarriedOut x p answer out y) → cut ≡ is.cut
-    → Took (left_by (node_in role x) (carry_out x.store.records (cut_told x.store.told) p)) answer out (node_in role y)
+    → Took (left_by (node_in role x) (carry_out x.store.records (cut_ahead x.store.known_cut) p)) answer out (node_in role y)
 by_cut {A} role x y p answer out cut told is same =
-    let told_is : x.store.told ≡ Some is.cut = told ∙ ap (λ c. Some c) same in
+    let known_cut_is : x.store.known_cut ≡ Some is.cut = told ∙ ap (λ c. Some c) same in
     let o : Outcome Memory A = carry_out x.store.records is.cut p in
-    let e : o ≡ carry_out x.store.records (cut_told x.store.told) p = ap (λ c. carry_out x.store.records (cut_told c) p) (sym told_is) in
-    let y_told : y.store.told ≡ Some o.cut = at x.store.told (λ c. y.store.told ≡ Some o.cut) cut told is.shows.told_is in
+    let e : o ≡ carry_out x.store.records (cut_ahead x.store.known_cut) p = ap (λ c. carry_out x.store.records (cut_ahead c) p) (sym known_cut_is) in
+    let y_known : y.store.known_cut ≡ Some o.cut = at x.store.known_cut (λ c. y.store.known_cut ≡ Some o.cut) cut told is.shows.known_cut_is in
     let t : Took (left_by (node_in role x) o) answer out (node_in role y) = record {
       answer_is = is.shows.answer_is;
       out_is = is.shows.out_is;
-      node_is = node_is role y x.eui o.records o.cut o.memory is.shows.eui_is is.shows.records_is y_told is.shows.memory_is;
+      node_is = node_is role y x.eui o.records o.cut o.memory is.shows.eui_is is.shows.records_is y_known is.shows.memory_is;
     } in
     subst (λ (k : Outcome Memory A). Took (left_by (node_in role x) k) answer out (node_in role y)) e t
 
 -- a plan that was carried out is the step that it gives
-pub took_plan : {A : Type 0} (role : Role) (x y : State Memory) (p : Plan Memory A) (answer : A) (out : Out) → IsSome x.store.told → Carries x p answer out y
-    → Took (left_by (node_in role x) (carry_out x.store.records (cut_told x.store.told) p)) answer out (node_in role y)
+pub took_plan : {A : Type 0} (role : Role) (x y : State Memory) (p : Plan Memory A) (answer : A) (out : Out) → IsSome x.store.known_cut → Carries x p answer out y
+    → Took (left_by (node_in role x) (carry_out x.store.records (cut_ahead x.store.known_cut) p)) answer out (node_in role y)
 took_plan role x y p answer out told c =
-    let k = told_cut x.store.told told in
+    let k = told_cut x.store.known_cut told in
     let is = carried x p answer out y c in
-    by_cut role x y p answer out k.0 k.1 is (at x.store.told (λ d. d ≡ is.cut) k.0 k.1 is.told)
+    by_cut role x y p answer out k.0 k.1 is (at x.store.known_cut (λ d. d ≡ is.cut) k.0 k.1 is.known_cut)
 
 -- what the keeper tells afterwards
-pub tells_still : {A : Type 0} (x y : State Memory) (p : Plan Memory A) (answer : A) (out : Out) → IsSome x.store.told → Carries x p answer out y
-    → IsSome y.store.told
+pub tells_still : {A : Type 0} (x y : State Memory) (p : Plan Memory A) (answer : A) (out : Out) → IsSome x.store.known_cut → Carries x p answer out y
+    → IsSome y.store.known_cut
 tells_still {A} x y p answer out told c =
-    let k = told_cut x.store.told told in
+    let k = told_cut x.store.known_cut told in
     let is = carried x p answer out y c in
     let o : Outcome Memory A = carry_out x.store.records is.cut p in
-    some_is y.store.told o.cut (at x.store.told (λ d. y.store.told ≡ Some o.cut) k.0 k.1 is.shows.told_is)
+    some_is y.store.known_cut o.cut (at x.store.known_cut (λ d. y.store.known_cut ≡ Some o.cut) k.0 k.1 is.shows.known_cut_is)
 
 -- # A call, of a node that is halted or not
 
@@ -83,7 +83,7 @@ abbrev pub StayedHalted : {A : Type 0} → State Memory → A → A → Out → 
 StayedHalted x halted answer out y = IfNone x.memory ((answer ≡ halted) × (out ≡ nothing) × (y ≡ x))
 
 -- A call took the step of its rule.
-pub took : {A : Type 0} (role : Role) (x y : State Memory) (halted : A) (p : Memory → Plan Memory A) (answer : A) (out : Out) → IsSome x.store.told
+pub took : {A : Type 0} (role : Role) (x y : State Memory) (halted : A) (p : Memory → Plan Memory A) (answer : A) (out : Out) → IsSome x.store.known_cut
     → StayedHalted x halted answer out y → IfSome x.memory (λ m. Carries x (p m) answer out y)
     → Took (acts (node_in role x) halted p) answer out (node_in role y)
 unfolding acts
@@ -114,12 +114,12 @@ abbrev pub Places : {A : Type 0} → (Memory → Plan Memory A) → Type 0
 Places p = (m : Memory) → HasShortTables m.station → WritesInPlace m.station m.book (p m)
 
 pub told_after : {A : Type 0} (role : Role) (x y : State Memory) (halted : A) (p : Memory → Plan Memory A) (answer : A) (out : Out) → IsSound role x
-    → StayedHalted x halted answer out y → IfSome x.memory (λ m. Carries x (p m) answer out y) → IsSome y.store.told
+    → StayedHalted x halted answer out y → IfSome x.memory (λ m. Carries x (p m) answer out y) → IsSome y.store.known_cut
 told_after {A} role x y halted p answer out sound stayed carries = by x.memory stayed carries
   where
-    by : (o : Option Memory) → IfNone o ((answer ≡ halted) × (out ≡ nothing) × (y ≡ x)) → IfSome o (λ m. Carries x (p m) answer out y) → IsSome y.store.told
-    by None s c = subst (λ (z : State Memory). IsSome z.store.told) (sym s.2) sound.told
-    by (Some m) s c = tells_still x y (p m) answer out sound.told c
+    by : (o : Option Memory) → IfNone o ((answer ≡ halted) × (out ≡ nothing) × (y ≡ x)) → IfSome o (λ m. Carries x (p m) answer out y) → IsSome y.store.known_cut
+    by None s c = subst (λ (z : State Memory). IsSome z.store.known_cut) (sym s.2) sound.known_cut
+    by (Some m) s c = tells_still x y (p m) answer out sound.known_cut c
 
 pub tables_after : {A : Type 0} (role : Role) (x y : State Memory) (halted : A) (p : Memory → Plan Memory A) (answer : A) (out : Out) → Places p
     → IsSound role x

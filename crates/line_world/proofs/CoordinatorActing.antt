@@ -65,10 +65,10 @@ agrees_as y h = by (node_of y).memory h
     by None h = tt
     by (Some m) h = record { station = h.station; book = h.book }
 
-pub sound_with : (y : CoordinatorState) → IsSome y.station.store.told → HasGaplessTables Coordinator y.station.store.records → HasHome y.station.store.records
+pub sound_with : (y : CoordinatorState) → IsSome y.station.store.known_cut → HasGaplessTables Coordinator y.station.store.records → HasHome y.station.store.records
     → Holds (node_of y)
     → IsSoundCoordinator y
-sound_with y told tables home h = record { told = told; tables = tables; home = home; agrees = agrees_as y h }
+sound_with y known_cut tables home h = record { known_cut = known_cut; tables = tables; home = home; agrees = agrees_as y h }
 
 -- its station does too
 pub station_agrees : (x : CoordinatorState) → IsSoundCoordinator x → Agrees x.station
@@ -99,7 +99,7 @@ pub own_took : {A : Type 0} (x y : CoordinatorState) (halted : A) (p : Memory �
     → Stayed x halted answer out y
     → IfSome (node_of x).memory (λ m. Carries (node_of x) (p m) answer out (node_of y)) → Took (acts (of_coordinator x) halted p) answer out (of_coordinator y)
 own_took x y halted p answer out sound stayed carries =
-    took Coordinator (node_of x) (node_of y) halted p answer out sound.told (stays x y halted answer out stayed) carries
+    took Coordinator (node_of x) (node_of y) halted p answer out sound.known_cut (stays x y halted answer out stayed) carries
 
 -- It is sound still where its home is as before.
 pub own_sound : {A : Type 0} (x y : CoordinatorState) (halted : A) (p : Memory → Plan Memory A) (answer : A) (out : Out) → Places p → IsSoundCoordinator x
@@ -151,7 +151,7 @@ pub station_took : {A : Type 0} (x : CoordinatorState) (s t : State StationMemor
     → StationStayed s halted answer out t → StationCarries s q answer out t
     → Took (acts (of_coordinator x) halted (lent q x.station.eui)) answer out (of_coordinator (with_its t x))
 station_took x s t halted q answer out same sound stayed carries =
-    lent_took Coordinator (beside x) x.station t halted q answer out sound.told
+    lent_took Coordinator (beside x) x.station t halted q answer out sound.known_cut
     (subst (λ (k : State StationMemory). StationStayed k halted answer out t) same stayed)
     (subst (λ (k : State StationMemory). StationCarries k q answer out t) same carries)
 
@@ -190,7 +190,7 @@ ended now x y state = ap (λ (z : State Memory). node_in Coordinator z) state
 -- a coordinator that keeps its store, and holds what that gives, is sound as before
 pub stored_sound : (x y : CoordinatorState) → IsSoundCoordinator x → y.station.store ≡ x.station.store → Holds (node_of y) → IsSoundCoordinator y
 stored_sound x y sound store h =
-    sound_with y (subst (λ (s : Store). IsSome s.told) (sym store) sound.told)
+    sound_with y (subst (λ (s : Store). IsSome s.known_cut) (sym store) sound.known_cut)
     (subst (λ (s : Store). HasGaplessTables Coordinator s.records) (sym store) sound.tables)
     (subst (λ (s : Store). HasHome s.records) (sym store) sound.home) h
 

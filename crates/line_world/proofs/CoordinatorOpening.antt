@@ -40,7 +40,7 @@ gapless m records h = record {
 home_of : (m : Memory) (records : Records) → HoldsWith m records → HasHome records
 home_of m records h = ap (option_and_then (option_map (λ (g : Granted). g.address))) h.station.ring.stored ∙ h.home
 
-runs_sound : (y : CoordinatorState) → IsSome (node_of y).memory → Holds (node_of y) → IsSome y.station.store.told → IsSoundCoordinator y
+runs_sound : (y : CoordinatorState) → IsSome (node_of y).memory → Holds (node_of y) → IsSome y.station.store.known_cut → IsSoundCoordinator y
 runs_sound y running h told =
     let both = by (node_of y).memory running h in
     sound_with y told both.0 both.1 h
@@ -52,7 +52,7 @@ runs_sound y running h told =
 
 -- a keeper without a record, which has no loss of power to come
 abbrev blank_store : Store
-blank_store = record { records = empty; faults = 0; told = Some None }
+blank_store = record { records = empty; faults = 0; known_cut = Some None }
 
 -- what it gives
 reads_blank : (m : Memory) → memory_of Coordinator empty ≡ Ok m → remembering blank_station [] ≡ m
@@ -68,8 +68,8 @@ module _ (store : Store) (eui : Eui) (key : Key) (y : CoordinatorState) (new : s
       let reads = reads_blank m (subst (λ (s : Store). memory_of Coordinator s.records ≡ Ok m) new read) in
       λ i. node_in Coordinator (read_state (new i) eui (sym reads i))
 
-  tells : IsSome store.told
-  tells = subst (λ (s : Store). IsSome s.told) (sym new) (cc)
+  tells : IsSome store.known_cut
+  tells = subst (λ (s : Store). IsSome s.known_cut) (sym new) (cc)
 
   pub made : Begins store eui key (Ok tt) (node_of y) → of_coordinator y ≡ coordinator_node eui key
   made b =

@@ -74,7 +74,7 @@ module _ {A : Type 0} (x : CoordinatorState) (old : Node) (s t : State StationMe
   pub coordinator_first : (out : Out) → ReachesFirst s b halted q answer out t c → TookFirst old b halted p answer out (of_coordinator (with_its t x)) c
   coordinator_first out r =
       subst (λ (n : Node). TookFirst n b halted p answer out (of_coordinator (with_its t x)) c) view
-      (first_took Coordinator (beside x) x.station t b c halted answer p q are_its out sound.told
+      (first_took Coordinator (beside x) x.station t b c halted answer p q are_its out sound.known_cut
       (subst (λ (k : State StationMemory). ReachesFirst k b halted q answer out t c) same r))
 
   pub coordinator_first_sound : (out : Out) → ReachesFirst s b halted q answer out t c → Agrees t → IsSoundCoordinator (with_its t x)
@@ -86,7 +86,7 @@ module _ {A : Type 0} (x : CoordinatorState) (old : Node) (s t : State StationMe
       → TookAfter old b halted p answer before out (of_coordinator (with_its t x)) c
   coordinator_after before out r =
       subst (λ (n : Node). TookAfter n b halted p answer before out (of_coordinator (with_its t x)) c) view
-      (after_took Coordinator (beside x) x.station t b c halted answer p q are_its before out sound.told
+      (after_took Coordinator (beside x) x.station t b c halted answer p q are_its before out sound.known_cut
       (subst (λ (k : State StationMemory). Reaches k b halted q answer before out t c) same r))
 
   coordinator_after_sound : (before out : Out) → Reaches s b halted q answer before out t c → Agrees t → IsSoundCoordinator (with_its t x)
@@ -128,7 +128,7 @@ module _ {A : Type 0} (x : CoordinatorState) (old : Node) (s t : State StationMe
   pub coordinator_alone : TookAlone (acts old halted (lent q old.eui)) answer before out (of_coordinator (with_its t x))
   coordinator_alone =
       subst (λ (n : Node). TookAlone (acts n halted (lent q n.eui)) answer before out (of_coordinator (with_its t x))) view
-      (alone_took Coordinator (beside x) x.station t halted answer q before out sound.told added_its)
+      (alone_took Coordinator (beside x) x.station t halted answer q before out sound.known_cut added_its)
 
   pub coordinator_alone_sound : IsOwnPlan q x.station.eui → Agrees t → IsSoundCoordinator (with_its t x)
   coordinator_alone_sound own agrees =

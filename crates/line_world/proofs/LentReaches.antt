@@ -80,7 +80,7 @@ held_so m (Some l) = refl
 
 -- The node took the step of its rule after what was given out before.
 pub alone_took : {A : Type 0} (role : Role) (m : Memory) (s t : State StationMemory) (halted answer : A) (q : StationPlan A) (before out : Out)
-    → IsSome s.store.told → Added s t halted answer q before out
+    → IsSome s.store.known_cut → Added s t halted answer q before out
     → TookAlone (acts (node_in role (holder m s)) halted (lent q s.eui)) answer before out (node_in role (holder m t))
 alone_took role m s t halted answer q before out told a =
     let k = lent_took role m s t halted q answer a.added told a.stayed a.carries in
@@ -158,7 +158,7 @@ module _ {A : Type 0} (role : Role) (m : Memory) (s t : State StationMemory) (b 
       by (Some l) e h k = k ∙ (λ i. if sym (held_so m t.memory) i then sym (beside_is b p q (there l e) (with_station l m)) i else without_log b)
 
   -- The node did so too, where it comes first in its step.
-  pub first_took : (out : Out) → IsSome s.store.told → ReachesFirst s b halted q answer out t c
+  pub first_took : (out : Out) → IsSome s.store.known_cut → ReachesFirst s b halted q answer out t c
       → TookFirst (node_in role (holder m s)) b halted p answer out (node_in role (holder m t)) c
   first_took out told r =
       let k = took role (holder m s) (holder m t) halted (with_beside b p) answer out told (stays_lent m s t halted answer out (stays_so out r.stayed))
@@ -179,7 +179,7 @@ module _ {A : Type 0} (role : Role) (m : Memory) (s t : State StationMemory) (b 
   added_by before out r = adds s t halted answer (held_plan b q) before out (stays_after out r.stayed) r.carried
 
   -- The node did so too, after what was given out before in the step.
-  pub after_took : (before out : Out) → IsSome s.store.told → Reaches s b halted q answer before out t c
+  pub after_took : (before out : Out) → IsSome s.store.known_cut → Reaches s b halted q answer before out t c
       → TookAfter (node_in role (holder m s)) b halted p answer before out (node_in role (holder m t)) c
   after_took before out told r =
       let a = added_by before out r in

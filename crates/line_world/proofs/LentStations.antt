@@ -80,7 +80,7 @@ carries_lent {A} m s t q answer out h = by s.memory h
 
 -- The node took the step of its rule.
 pub lent_took : {A : Type 0} (role : Role) (m : Memory) (s t : State StationMemory) (halted : A) (q : StationPlan A) (answer : A) (out : Out)
-    → IsSome s.store.told
+    → IsSome s.store.known_cut
     → StationStayed s halted answer out t → StationCarries s q answer out t
     → Took (acts (node_in role (holder m s)) halted (lent q s.eui)) answer out (node_in role (holder m t))
 lent_took role m s t halted q answer out told stayed carries =
@@ -185,7 +185,7 @@ lent_sound role m s t halted q answer out own sound stayed carries agrees =
     let does = carries_lent m s t q answer out carries in
     let same = membership role m s t halted q answer out own sound stayed carries in
     record {
-      told = told_after role (holder m s) (holder m t) halted (lent q s.eui) answer out sound stays does;
+      known_cut = told_after role (holder m s) (holder m t) halted (lent q s.eui) answer out sound stays does;
       tables = tables_after role (holder m s) (holder m t) halted (lent q s.eui) answer out own.places sound stays does;
       home = home_stays role s.store.records t.store.records same sound.home;
       agrees = agrees_left role m s t halted answer out same sound stayed agrees;
@@ -195,7 +195,7 @@ lent_sound role m s t halted q answer out own sound stayed carries agrees =
 
 -- the keeper with this loss of power to come
 abbrev cut_in : Store → Cut → Store
-cut_in s cut = record s { told = Some (Some cut) }
+cut_in s cut = record s { known_cut = Some (Some cut) }
 
 -- the station over another keeper
 abbrev pub over : Store → State StationMemory → State StationMemory
@@ -212,7 +212,7 @@ module _ (role : Role) (m : Memory) (u s : State StationMemory) (k new : Store) 
   pub cut_sound : IsSound role (holder m u) → IsSound role (holder m (over new s))
   cut_sound sound =
       subst (λ (z : State StationMemory). IsSound role (holder m z)) (sym cut_is)
-      (record { told = (cc); tables = sound.tables; home = sound.home; agrees = sound.agrees })
+      (record { known_cut = (cc); tables = sound.tables; home = sound.home; agrees = sound.agrees })
 
 -- # What is looked up
 

@@ -25,7 +25,7 @@ use Rattle.line_world.proofs.MeterActing.{sound_meter}
 
 -- what an empty keeper holds
 abbrev pub empty_store : Store
-empty_store = record { records = empty; faults = 0; told = Some None }
+empty_store = record { records = empty; faults = 0; known_cut = Some None }
 
 -- What is said of a meter that was opened over a keeper.
 pub record Opened (keeper : Store) (own : Eui) (key : Key) (y : MeterState) : Type 0 where
@@ -46,7 +46,7 @@ module _ (keeper : Store) (own : Eui) (key : Key) (y : MeterState) (o : Opened k
   pub sound_made : IsSoundMeter y
   sound_made =
       let none = ap (λ (s : Store). s.records) store_is in
-      sound_meter y (subst (λ (s : Store). IsSome s.told) (sym store_is) (cc))
+      sound_meter y (subst (λ (s : Store). IsSome s.known_cut) (sym store_is) (cc))
       (record {
         marks = empty_gapless marks.peers y.station.store.records none;
         ranks = empty_gapless routing.ranks y.station.store.records none;

@@ -38,15 +38,15 @@ agrees_of_meter psk y a = by y.station.memory a
     by None a = tt
     by (Some l) a = record { station = a; book = tt }
 
-pub sound_meter : (y : MeterState) → IsSome y.station.store.told → HasGaplessTables (Meter y.psk) y.station.store.records → Agrees y.station → IsSoundMeter y
-sound_meter y told tables agrees = record { told = told; tables = tables; home = tt; agrees = agrees_of_meter y.psk y agrees }
+pub sound_meter : (y : MeterState) → IsSome y.station.store.known_cut → HasGaplessTables (Meter y.psk) y.station.store.records → Agrees y.station → IsSoundMeter y
+sound_meter y known_cut tables agrees = record { known_cut = known_cut; tables = tables; home = tt; agrees = agrees_of_meter y.psk y agrees }
 
 pub meter_took : {A : Type 0} (x y : MeterState) (halted : A) (p : Memory → Plan Memory A) (answer : A) (out : Out) → IsSoundMeter x → y.psk ≡ x.psk
     → StayedHalted (node_of x) halted answer out (node_of y) → IfSome (node_of x).memory (λ m. Carries (node_of x) (p m) answer out (node_of y))
     → Took (acts (of_meter x) halted p) answer out (of_meter y)
 meter_took {A} x y halted p answer out sound psk stayed carries =
     subst (λ (k : Key). Took (acts (of_meter x) halted p) answer out (node_in (Meter k) (node_of y))) (sym psk)
-    (took (Meter x.psk) (node_of x) (node_of y) halted p answer out sound.told stayed carries)
+    (took (Meter x.psk) (node_of x) (node_of y) halted p answer out sound.known_cut stayed carries)
 
 pub meter_sound : {A : Type 0} (x y : MeterState) (halted : A) (p : Memory → Plan Memory A) (answer : A) (out : Out) → Places p → IsSoundMeter x
     → StayedHalted (node_of x) halted answer out (node_of y) → IfSome (node_of x).memory (λ m. Carries (node_of x) (p m) answer out (node_of y))
@@ -81,7 +81,7 @@ pub station_took : {A : Type 0} (x : MeterState) (s t : State StationMemory) (ha
     → StationStayed s halted answer out t → StationCarries s q answer out t
     → Took (acts (of_meter x) halted (lent q x.station.eui)) answer out (of_meter (with_its t x))
 station_took x s t halted q answer out same sound stayed carries =
-    lent_took (Meter x.psk) (beside x) x.station t halted q answer out sound.told
+    lent_took (Meter x.psk) (beside x) x.station t halted q answer out sound.known_cut
     (subst (λ (k : State StationMemory). StationStayed k halted answer out t) same stayed)
     (subst (λ (k : State StationMemory). StationCarries k q answer out t) same carries)
 
@@ -140,7 +140,7 @@ restarted x y read word is answer memory store eui psk =
 -- a meter that keeps its store, and agrees with it, is sound as before
 pub stored_sound : (x y : MeterState) → IsSoundMeter x → y.station.store ≡ x.station.store → Agrees y.station → IsSoundMeter y
 stored_sound x y sound store agrees =
-    sound_meter y (subst (λ (s : Store). IsSome s.told) (sym store) sound.told)
+    sound_meter y (subst (λ (s : Store). IsSome s.known_cut) (sym store) sound.known_cut)
     (gapless_of_meter x.psk y.psk y.station.store.records (subst (λ (s : Store). HasGaplessTables (Meter x.psk) s.records) (sym store) sound.tables)) agrees
 
 -- a meter at which what is old ended

@@ -97,7 +97,7 @@ module _ (ms : List MeterState) (old : List Node) (place : ℕ) (x : MeterState)
     pub meter_first : (out : Out) → ReachesFirst s b halted q answer out t c
         → IfSome (slice_get old place) (λ n. ReachedFirst n b halted p old place answer out meters_left c)
     meter_first out r =
-        let k = first_took (Meter x.psk) (beside x) x.station t b c halted answer p q are_its out sound_here.told
+        let k = first_took (Meter x.psk) (beside x) x.station t b c halted answer p q are_its out sound_here.known_cut
         (subst (λ (k : State StationMemory). ReachesFirst k b halted q answer out t c) same r) in
         found_at ms old place x (λ n. ReachedFirst n b halted p old place answer out meters_left c) view there here
         (record { did = did (reaches (of_meter x) b halted p) ms old place (with_its t x) answer out view k.took; beside = k.beside })
@@ -111,7 +111,7 @@ module _ (ms : List MeterState) (old : List Node) (place : ℕ) (x : MeterState)
     meter_after : (before out : Out) → Reaches s b halted q answer before out t c
         → TookAfter (of_meter x) b halted p answer before out (of_meter (with_its t x)) c
     meter_after before out r =
-        after_took (Meter x.psk) (beside x) x.station t b c halted answer p q are_its before out sound_here.told
+        after_took (Meter x.psk) (beside x) x.station t b c halted answer p q are_its before out sound_here.known_cut
         (subst (λ (k : State StationMemory). Reaches k b halted q answer before out t c) same r)
 
     meter_after_sound : (before out : Out) → Reaches s b halted q answer before out t c → Agrees t → All IsSoundMeter (slice_set ms place (with_its t x))
@@ -161,7 +161,7 @@ module _ (ms : List MeterState) (old : List Node) (place : ℕ) (x : MeterState)
     meter_alone =
         found_at ms old place x (λ n. DidAfter (acts n halted (lent q n.eui)) old place answer before out meters_left) view there here
         (after_at (acts (of_meter x) halted (lent q x.station.eui)) ms old place (with_its t x) answer before out view
-        (alone_took (Meter x.psk) (beside x) x.station t halted answer q before out sound_here.told added_its))
+        (alone_took (Meter x.psk) (beside x) x.station t halted answer q before out sound_here.known_cut added_its))
 
     pub meter_alone_sound : IsOwnPlan q x.station.eui → Agrees t → All IsSoundMeter (slice_set ms place (with_its t x))
     meter_alone_sound own agrees =

@@ -12,13 +12,13 @@ use Rattle.coordinator.specs.CoordinatorStates.{CoordinatorState}
 use Rattle.coordinator.specs.CoordinatorStates as coordinators
 
 -- the loss of power that is still to come, where one is known
-abbrev pub cut_told : Option (Option Cut) → Option Cut
-cut_told None = None
-cut_told (Some cut) = cut
+abbrev pub cut_ahead : Option (Option Cut) → Option Cut
+cut_ahead None = None
+cut_ahead (Some cut) = cut
 
 -- what a keeper holds, as the store of a node
 abbrev pub stored_in : Store → Stored
-stored_in s = record { records = s.records; cut = cut_told s.told }
+stored_in s = record { records = s.records; cut = cut_ahead s.known_cut }
 
 -- a state, as a node
 abbrev pub node_in : Role → State Memory → Node

@@ -18,7 +18,7 @@ pub record AgreesAs (role : Role) (m : Memory) (records : Records) : Type 0 wher
 -- The loss of power that is to come is known of a node's keeper; no table of its store has a gap, the coordinator's ring
 -- has the address 0000, and unless it is halted it agrees with its store.
 pub record IsSound (role : Role) (s : State Memory) : Type 0 where
-  pub told : IsSome s.store.told
+  pub known_cut : IsSome s.store.known_cut
   pub tables : HasGaplessTables role s.store.records
   pub home : OfCoordinator role (HasHome s.store.records)
   pub agrees : IfSome s.memory (λ m. AgreesAs role m s.store.records)

@@ -11,13 +11,13 @@ use Rattle.node_rules.specs.States.{State}
 use Rattle.node_rules.specs.Carrying.{Carries}
 use Rattle.node_rules.specs.Carrying.{Shows, IsCarriedOut}
 
-told_first : (P Q : Option Cut → Type 0) (o : Option (Option Cut)) → IfSome o (λ c. P c × Q c) → IfSome o P
-told_first P Q None h = tt
-told_first P Q (Some c) h = h.0
+known_first : (P Q : Option Cut → Type 0) (o : Option (Option Cut)) → IfSome o (λ c. P c × Q c) → IfSome o P
+known_first P Q None h = tt
+known_first P Q (Some c) h = h.0
 
-told_second : (P Q : Option Cut → Type 0) (o : Option (Option Cut)) → IfSome o (λ c. P c × Q c) → IfSome o Q
-told_second P Q None h = tt
-told_second P Q (Some c) h = h.1
+known_second : (P Q : Option Cut → Type 0) (o : Option (Option Cut)) → IfSome o (λ c. P c × Q c) → IfSome o Q
+known_second P Q None h = tt
+known_second P Q (Some c) h = h.1
 
 no_fault : {F : Type 0} (done : Bool) → OnFalse done F → (F → ⊥) → done ≡ true
 no_fault true r q = refl
@@ -29,7 +29,7 @@ carried {M} {A} old p answer out new c =
     let k = cut_of old.store new.store p.puts c.done c.wrote in
     record {
       cut = k.0;
-      told = told_first (λ d. d ≡ k.0) (λ d. new.store.told ≡ Some (write p.puts k.0 old.store.records).cut) old.store.told k.1.told;
+      known_cut = known_first (λ d. d ≡ k.0) (λ d. new.store.known_cut ≡ Some (write p.puts k.0 old.store.records).cut) old.store.known_cut k.1.known_cut;
       shows = by_done k.0 k.1 c.done refl;
       fault = λ quiet. k.1.none (no_fault c.done k.1.rose quiet);
     }
@@ -44,7 +44,7 @@ carried {M} {A} old p answer out new c =
           records_is = is.records;
           memory_is = ap (λ (s : State M). s.memory) c.new_is ∙ ap (λ b. if b then Some p.memory else None) e;
           eui_is = ap (λ (s : State M). s.eui) c.new_is;
-          told_is = told_second (λ d. d ≡ cut) (λ d. new.store.told ≡ Some w.cut) old.store.told is.told;
+          known_cut_is = known_second (λ d. d ≡ cut) (λ d. new.store.known_cut ≡ Some w.cut) old.store.known_cut is.known_cut;
         })
     by_done cut is false e =
         let w = write p.puts cut old.store.records in
@@ -55,5 +55,5 @@ carried {M} {A} old p answer out new c =
           records_is = is.records;
           memory_is = ap (λ (s : State M). s.memory) c.new_is ∙ ap (λ b. if b then Some p.memory else None) e;
           eui_is = ap (λ (s : State M). s.eui) c.new_is;
-          told_is = told_second (λ d. d ≡ cut) (λ d. new.store.told ≡ Some w.cut) old.store.told is.told;
+          known_cut_is = known_second (λ d. d ≡ cut) (λ d. new.store.known_cut ≡ Some w.cut) old.store.known_cut is.known_cut;
         })

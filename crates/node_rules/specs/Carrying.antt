@@ -39,13 +39,13 @@ pub record Shows {M A : Type 0} (o : Outcome M A) (old : State M) (answer : A) (
   pub records_is : new.store.records ≡ o.records
   pub memory_is : new.memory ≡ o.memory
   pub eui_is : new.eui ≡ old.eui
-  pub told_is : IfSome old.store.told (λ c. new.store.told ≡ Some o.cut)
+  pub known_cut_is : IfSome old.store.known_cut (λ c. new.store.known_cut ≡ Some o.cut)
 
 -- The call does what `carry_out` gives, under the known cut. Where none is known there is one all the same, and it
 -- is none where the count of faults did not rise.
 pub record IsCarriedOut {M A : Type 0} (old : State M) (p : Plan M A) (answer : A) (out : Out)
     (new : State M) : Type 0 where
   pub cut : Option Cut
-  pub told : IfSome old.store.told (λ c. c ≡ cut)
+  pub known_cut : IfSome old.store.known_cut (λ c. c ≡ cut)
   pub shows : Shows (carry_out old.store.records cut p) old answer out new
-  pub fault : (Rose old.store.faults new.store.faults → ⊥) → IfNone old.store.told (cut ≡ None)
+  pub fault : (Rose old.store.faults new.store.faults → ⊥) → IfNone old.store.known_cut (cut ≡ None)

@@ -18,7 +18,7 @@ pub record Store : Type 0 where
   -- how often it has failed, which stays at the highest number of 64 bits
   pub faults : ℕ
   -- None where it is not known, and else the cut that is to come, if there is one
-  pub told : Option (Option Cut)
+  pub known_cut : Option (Option Cut)
 
 -- The slots: 1 the ring, 2 the limit of the send counter, 3 that of the own number, 4 the next datagram tag, 5 the floors,
 -- 6 the limit of the broadcast number; the peers' marks; the ranks; the broadcast marks; the book.
@@ -56,17 +56,17 @@ pub record Puts (old : Store) (slot : ℕ) (octets : List ℕ) (ok : Bool) (new 
   pub faults : old.faults ≤ new.faults
   pub rose : OnFalse ok (Rose old.faults new.faults)
   -- where the cut is known, so is all of the outcome
-  pub told : new.told ≡ option_map cut_after old.told
-  pub told_ok : IfSome old.told (λ cut. ok ≡ succeeds cut)
-  pub told_records : IfSome old.told (λ cut. new.records ≡ records_after cut old.records slot octets)
+  pub known_cut : new.known_cut ≡ option_map cut_after old.known_cut
+  pub known_cut_ok : IfSome old.known_cut (λ cut. ok ≡ succeeds cut)
+  pub known_cut_records : IfSome old.known_cut (λ cut. new.records ≡ records_after cut old.records slot octets)
 
 -- a store is kept as the tuple of its fields
 abbrev pub store_code : Coded Store
 store_code =
     code_by (Records × (ℕ × Option (Option Cut)))
     (coded× (code coded_ℕ (coded_list coded_ℕ)) (coded× coded_ℕ (coded_option (coded_option cut_code))))
-    (λ s. (s.records, (s.faults, s.told)))
-    (λ p. record { records = p.0; faults = p.1.0; told = p.1.1 })
+    (λ s. (s.records, (s.faults, s.known_cut)))
+    (λ p. record { records = p.0; faults = p.1.0; known_cut = p.1.1 })
     (λ _. refl)
   where
     cut_code : Coded Cut
@@ -111,7 +111,7 @@ cut_after_write cut None = cut
 cut_after_write cut (Some write) = cut_after cut
 
 -- Where the cut is known, the outcome of a call's put is a function of it.
-pub record IsTold (old : Store) (cut : Option Cut) (write : Option Write) (done : Bool) (new : Store) : Type 0 where
+pub record HasKnownOutcome (old : Store) (cut : Option Cut) (write : Option Write) (done : Bool) (new : Store) : Type 0 where
   pub done_is : done ≡ write_succeeds cut write
   pub records_is : new.records ≡ records_after_write cut old.records write
-  pub told_is : new.told ≡ Some (cut_after_write cut write)
+  pub known_cut_is : new.known_cut ≡ Some (cut_after_write cut write)

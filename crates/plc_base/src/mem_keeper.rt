@@ -29,7 +29,7 @@ impl Model for MemKeeper {
 
     ghost coded = { store_code };
 
-    ghost view = { λ k. record { records = records_in k.cells.items; faults = k.faults; told = Some k.cut } };
+    ghost view = { λ k. record { records = records_in k.cells.items; faults = k.faults; known_cut = Some k.cut } };
 
     ghost invariant = { λ k. (vec_len k.cells ≤ 1165) × (1165 ≤ vec_capacity k.cells) };
 }
@@ -72,7 +72,7 @@ fn reach(cells: &mut Vec<Option<Record>>, place: usize)
 impl MemKeeper {
     /// A keeper with no record and no loss of power to come. It fails only for want of memory.
     pub fn new(alloc: Global) -> Result<MemKeeper, AllocError>
-        ensures { IfOk result (λ keeper. keeper ≡ record { records = map.empty; faults = 0; told = Some None }) }
+        ensures { IfOk result (λ keeper. keeper ≡ record { records = map.empty; faults = 0; known_cut = Some None }) }
     {
         Ok(MemKeeper {
             cells: Vec::with_capacity(alloc, SLOTS)?,
@@ -84,7 +84,7 @@ impl MemKeeper {
     /// Makes the `nth` put from now on fail and leave the new record, or the old one. It replaces an earlier cut.
     pub fn cut(&mut self, nth: u16, keep_new: bool)
         requires { 1 ≤ nth }
-        ensures { self.new ≡ record self.old { told = Some (Some (record { nth = nth; keeps_new = keep_new })) } }
+        ensures { self.new ≡ record self.old { known_cut = Some (Some (record { nth = nth; keeps_new = keep_new })) } }
     {
         self.cut = Some(Cut {
             nth,

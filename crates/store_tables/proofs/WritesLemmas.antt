@@ -8,7 +8,7 @@ use Rattle.plc_base.specs.declared.keeper.Cut.{Cut}
 use Rattle.plc_base.specs.Causes.{Rose}
 use Rattle.plc_base.specs.Keeper.{Store, Records, Write, Stores, succeeds, cut_after}
 use Rattle.store_tables.specs.Writes.{Writes, Wrote, Written, IsCutBy, write, puts_of}
-use Rattle.store_tables.proofs.StoreLemmas.{stores_told}
+use Rattle.store_tables.proofs.StoreLemmas.{stores_known}
 
 -- no put
 pub wrote_none : (s : Store) → Wrote s [] true s
@@ -63,19 +63,19 @@ rises s t (w ∷ ws) false (true, mid, p, rest, u) = omega (arith, p.faults, ris
 rises s t (w ∷ ws) false (false, mid, p, u, stop) = omega (arith, p.rose, ap (λ (k : Store). k.faults) stop.1)
 
 -- a known cut is the one
-cut_told : (s t : Store) (ws : List Write) (done : Bool) (cut : Option Cut) → Writes s ws done t → s.told ≡ Some cut
-    → (done ≡ (write ws cut s.records).whole) × (t.records ≡ (write ws cut s.records).records) × (t.told ≡ Some (write ws cut s.records).cut)
-cut_told s t [] done cut h e = (h.0, ap (λ (k : Store). k.records) h.1, ap (λ (k : Store). k.told) h.1 ∙ e)
-cut_told s t (w ∷ ws) done cut (true, mid, p, rest, u) e =
-    let told = stores_told s mid (Some w) true cut p e in
-    let k = cut_told mid t ws done (cut_after cut) rest told.told_is in
-    let ok : succeeds cut ≡ true = sym told.done_is in
-    let more = subst (λ m. (done ≡ (write ws (cut_after cut) m).whole) × (t.records ≡ (write ws (cut_after cut) m).records) × (t.told ≡ Some (write ws (cut_after cut) m).cut)) told.records_is k in
+with_known_cut : (s t : Store) (ws : List Write) (done : Bool) (cut : Option Cut) → Writes s ws done t → s.known_cut ≡ Some cut
+    → (done ≡ (write ws cut s.records).whole) × (t.records ≡ (write ws cut s.records).records) × (t.known_cut ≡ Some (write ws cut s.records).cut)
+with_known_cut s t [] done cut h e = (h.0, ap (λ (k : Store). k.records) h.1, ap (λ (k : Store). k.known_cut) h.1 ∙ e)
+with_known_cut s t (w ∷ ws) done cut (true, mid, p, rest, u) e =
+    let known = stores_known s mid (Some w) true cut p e in
+    let k = with_known_cut mid t ws done (cut_after cut) rest known.known_cut_is in
+    let ok : succeeds cut ≡ true = sym known.done_is in
+    let more = subst (λ m. (done ≡ (write ws (cut_after cut) m).whole) × (t.records ≡ (write ws (cut_after cut) m).records) × (t.known_cut ≡ Some (write ws (cut_after cut) m).cut)) known.records_is k in
     rw ok more
-cut_told s t (w ∷ ws) done cut (false, mid, p, u, stop) e =
-    let told = stores_told s mid (Some w) false cut p e in
-    let failed : succeeds cut ≡ false = sym told.done_is in
-    rw failed (stop.0, ap (λ (k : Store). k.records) stop.1 ∙ told.records_is, ap (λ (k : Store). k.told) stop.1 ∙ told.told_is)
+with_known_cut s t (w ∷ ws) done cut (false, mid, p, u, stop) e =
+    let known = stores_known s mid (Some w) false cut p e in
+    let failed : succeeds cut ≡ false = sym known.done_is in
+    rw failed (stop.0, ap (λ (k : Store). k.records) stop.1 ∙ known.records_is, ap (λ (k : Store). k.known_cut) stop.1 ∙ known.known_cut_is)
 
 -- a cut that comes one put later
 later : Option Cut → Option Cut
@@ -142,14 +142,14 @@ some_cut s t (w ∷ ws) done (false, mid, p, u, stop) = either p.old_or_new
 
 -- some cut makes of the puts what was made, and the known one if one is known
 pub cut_of : (s t : Store) (ws : List Write) (done : Bool) → Wrote s ws done t → (cut : Option Cut) × IsCutBy s ws done t cut
-cut_of s t ws done h = go s.told refl
+cut_of s t ws done h = go s.known_cut refl
   where
-    go : (o : Option (Option Cut)) → s.told ≡ o → (cut : Option Cut) × IsCutBy s ws done t cut
+    go : (o : Option (Option Cut)) → s.known_cut ≡ o → (cut : Option Cut) × IsCutBy s ws done t cut
     go None e =
         let k = some_cut s t ws done h.by in (
           k.0,
           record {
-            told = subst (λ (o : Option (Option Cut)). IfSome o (λ c. (c ≡ k.0) × (t.told ≡ Some (write ws k.0 s.records).cut))) (sym e) tt;
+            known_cut = subst (λ (o : Option (Option Cut)). IfSome o (λ c. (c ≡ k.0) × (t.known_cut ≡ Some (write ws k.0 s.records).cut))) (sym e) tt;
             whole = k.1.whole;
             records = k.1.records;
             none = λ d. subst (λ (o : Option (Option Cut)). IfNone o (k.0 ≡ None)) (sym e) (k.1.none d);
@@ -157,10 +157,10 @@ cut_of s t ws done h = go s.told refl
           },
         )
     go (Some cut) e =
-        let k = cut_told s t ws done cut h.by e in (
+        let k = with_known_cut s t ws done cut h.by e in (
           cut,
           record {
-            told = subst (λ (o : Option (Option Cut)). IfSome o (λ c. (c ≡ cut) × (t.told ≡ Some (write ws cut s.records).cut))) (sym e) (refl, k.2);
+            known_cut = subst (λ (o : Option (Option Cut)). IfSome o (λ c. (c ≡ cut) × (t.known_cut ≡ Some (write ws cut s.records).cut))) (sym e) (refl, k.2);
             whole = k.0;
             records = k.1;
             none = λ d. subst (λ (o : Option (Option Cut)). IfNone o (cut ≡ None)) (sym e) tt;

@@ -38,9 +38,9 @@ write (w ∷ rest) cut records =
 
 -- These are the puts under this cut, which is the known cut, if it is known.
 pub record IsCutBy (old : Store) (puts : List Write) (done : Bool) (new : Store) (cut : Option Cut) : Type 0 where
-  pub told : IfSome old.told (λ c. (c ≡ cut) × (new.told ≡ Some (write puts cut old.records).cut))
+  pub known_cut : IfSome old.known_cut (λ c. (c ≡ cut) × (new.known_cut ≡ Some (write puts cut old.records).cut))
   pub whole : done ≡ (write puts cut old.records).whole
   pub records : new.records ≡ (write puts cut old.records).records
   -- where none failed, it may be taken that none was to fail
-  pub none : done ≡ true → IfNone old.told (cut ≡ None)
+  pub none : done ≡ true → IfNone old.known_cut (cut ≡ None)
   pub rose : OnFalse done (Rose old.faults new.faults)
