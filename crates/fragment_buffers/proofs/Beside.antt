@@ -3,7 +3,7 @@ use Rattle.std.proofs.Common.{◌≡◌, ℕ, ◌<◌, List, length, ap, subst, 
 use Rattle.block_pool.specs.Pool.{PoolState, IsChain, chain_octets}
 use Rattle.fragment_buffers.specs.Entries.{Entry, Keeps, IsBounded, entry_at}
 use Rattle.fragment_buffers.specs.Laws.{IsBeside, AreKept}
-use Rattle.fragment_buffers.proofs.Keeping.{kept_chain, told_same}
+use Rattle.fragment_buffers.proofs.Keeping.{kept_chain, gathered_same}
 
 pub beside_kept : (p q : PoolState) (es : List Entry) (c : ℕ) → IsBounded es → Keeps p es → IsBeside p q es c → AreKept p q es c
 beside_kept p q es c bounded keeps beside = record {
@@ -12,7 +12,7 @@ beside_kept p q es c bounded keeps beside = record {
     distinct = keeps.distinct;
     room = beside.room;
   };
-  same = told_same p q es octets;
+  same = gathered_same p q es octets;
   others = λ d ne other. let stays = beside.others d other.0 ne in ((stays.there, other.1), stays.octets);
 }
   where

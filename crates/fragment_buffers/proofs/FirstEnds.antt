@@ -9,11 +9,11 @@ use Rattle.block_pool.specs.Pool.{PoolState}
 use Rattle.mesh_header.specs.Pieces.{Placed}
 use Rattle.fragment_buffers.specs.Reassembly.{PlacedPiece, Reassembly, placed, begun, datagram_of, repeats, overlaps}
 use Rattle.fragment_buffers.specs.Taking.{Held, Full, taken, taken_in, has_room, same_name, grown, settled, joined, behind, unexpired}
-use Rattle.fragment_buffers.specs.Entries.{Entry, told, reassembly_in}
+use Rattle.fragment_buffers.specs.Entries.{Entry, reassemblies_in, reassembly_in}
 use Rattle.fragment_buffers.specs.FirstEnd.{end_by, first_end, IsStill}
 
 -- what is computed is such a time
-pub still : (pool : PoolState) (entries : List Entry) → IsStill (first_end entries) (told pool entries)
+pub still : (pool : PoolState) (entries : List Entry) → IsStill (first_end entries) (reassemblies_in pool entries)
 unfolding first_end
 still pool entries =
     All-map (λ (r : Reassembly). fold end_by 18446744073709551615 entries ≤ r.since + 60) (reassembly_in pool) entries

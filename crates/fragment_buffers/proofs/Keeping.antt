@@ -10,7 +10,7 @@ use Rattle.block_pool.specs.Pool.{PoolState, IsChain, chain_octets}
 use Rattle.block_pool.proofs.Callers.{is_chain_if_long}
 use Rattle.fragment_buffers.specs.Reassembly.{Reassembly}
 use Rattle.fragment_buffers.specs.Taking.{blocks, blocks_held}
-use Rattle.fragment_buffers.specs.Entries.{Entry, no_entry, entry_at, blocks_used, piece_in, reassembly_in, told, Keeps, Moves, IsBounded}
+use Rattle.fragment_buffers.specs.Entries.{Entry, no_entry, entry_at, blocks_used, piece_in, reassembly_in, reassemblies_in, Keeps, Moves, IsBounded}
 use Rattle.fragment_buffers.proofs.Octets.{map_same}
 use Rattle.fragment_buffers.proofs.Writing.{Stays}
 
@@ -23,19 +23,19 @@ kept_chain p es i k some lt = is_chain_if_long p _ (omega (arith, k.lengths i lt
 
 -- # What the entries tell
 
-told_entry_same : (p q : PoolState) (e : Entry) → chain_octets q e.chain ≡ chain_octets p e.chain → reassembly_in q e ≡ reassembly_in p e
-told_entry_same p q e same = ap (λ os. record { origin = e.origin; size = e.size; tag = e.tag; note = e.note; since = e.since; pieces = map (piece_in os) e.places }) same
+gathered_entry_same : (p q : PoolState) (e : Entry) → chain_octets q e.chain ≡ chain_octets p e.chain → reassembly_in q e ≡ reassembly_in p e
+gathered_entry_same p q e same = ap (λ os. record { origin = e.origin; size = e.size; tag = e.tag; note = e.note; since = e.since; pieces = map (piece_in os) e.places }) same
 
-pub told_same : (p q : PoolState) (es : List Entry) → ((i : ℕ) → i < length es → chain_octets q (entry_at es i).chain ≡ chain_octets p (entry_at es i).chain) → told q es ≡ told p es
-told_same p q es same =
-    map_same (reassembly_in q) (reassembly_in p) es (All-from_get_or (λ e. reassembly_in q e ≡ reassembly_in p e) es no_entry (λ i lt. told_entry_same p q (entry_at es i) (same i lt)))
+pub gathered_same : (p q : PoolState) (es : List Entry) → ((i : ℕ) → i < length es → chain_octets q (entry_at es i).chain ≡ chain_octets p (entry_at es i).chain) → reassemblies_in q es ≡ reassemblies_in p es
+gathered_same p q es same =
+    map_same (reassembly_in q) (reassembly_in p) es (All-from_get_or (λ e. reassembly_in q e ≡ reassembly_in p e) es no_entry (λ i lt. gathered_entry_same p q (entry_at es i) (same i lt)))
 
-pub told_at : (p : PoolState) (es : List Entry) (i : ℕ) (d : Reassembly) → i < length es → get_or (told p es) i d ≡ reassembly_in p (entry_at es i)
-told_at p es i d lt = get_or-map (reassembly_in p) es i no_entry d lt
+pub gathered_at : (p : PoolState) (es : List Entry) (i : ℕ) (d : Reassembly) → i < length es → get_or (reassemblies_in p es) i d ≡ reassembly_in p (entry_at es i)
+gathered_at p es i d lt = get_or-map (reassembly_in p) es i no_entry d lt
 
-pub blocks_told : (p : PoolState) (es : List Entry) → blocks_held (told p es) ≡ blocks_used es
-blocks_told p [] = refl
-blocks_told p (e ∷ es) = sum_by-cons (λ r. blocks r.size) (reassembly_in p e) (told p es) ∙ ap (λ n. blocks e.size + n) (blocks_told p es) ∙ sym (sum_by-cons (λ e. blocks e.size) e es)
+pub blocks_gathered : (p : PoolState) (es : List Entry) → blocks_held (reassemblies_in p es) ≡ blocks_used es
+blocks_gathered p [] = refl
+blocks_gathered p (e ∷ es) = sum_by-cons (λ r. blocks r.size) (reassembly_in p e) (reassemblies_in p es) ∙ ap (λ n. blocks e.size + n) (blocks_gathered p es) ∙ sym (sum_by-cons (λ e. blocks e.size) e es)
 
 -- # An entry more
 
@@ -55,9 +55,9 @@ pub record Begins (p q : PoolState) (e : Entry) : Type 0 where
   pub free : q.free + blocks e.size ≡ p.free
   pub others : (c : ℕ) → IsChain p c → Stays p q c
 
-pub told_push : (p q : PoolState) (es : List Entry) (e : Entry) → Keeps p es → AreSome es → Begins p q e → told q (es ++ e ∷ []) ≡ told p es ++ reassembly_in q e ∷ []
-told_push p q es e k some b =
-    map-append (reassembly_in q) es (e ∷ []) ∙ ap (λ rs. rs ++ reassembly_in q e ∷ []) (told_same p q es (λ i lt. (b.others _ (kept_chain p es i k some lt)).1))
+pub gathered_push : (p q : PoolState) (es : List Entry) (e : Entry) → Keeps p es → AreSome es → Begins p q e → reassemblies_in q (es ++ e ∷ []) ≡ reassemblies_in p es ++ reassembly_in q e ∷ []
+gathered_push p q es e k some b =
+    map-append (reassembly_in q) es (e ∷ []) ∙ ap (λ rs. rs ++ reassembly_in q e ∷ []) (gathered_same p q es (λ i lt. (b.others _ (kept_chain p es i k some lt)).1))
 
 pub keeps_push : (p q : PoolState) (es : List Entry) (e : Entry) → Keeps p es → AreSome es → Begins p q e → Keeps q (es ++ e ∷ [])
 keeps_push p q es e k some b =
@@ -138,19 +138,19 @@ keeps_set p q es i e k some c =
       room = omega (arith, sum, ap (λ n. blocks n) c.size_is, c.free, k.room);
     }
 
-pub told_set : (p q : PoolState) (es : List Entry) (i : ℕ) (e : Entry) → Keeps p es → AreSome es → Changes p q es i e → told q (set es i e) ≡ set (told p es) i (reassembly_in q e)
-told_set p q es i e k some c =
+pub gathered_set : (p q : PoolState) (es : List Entry) (i : ℕ) (e : Entry) → Keeps p es → AreSome es → Changes p q es i e → reassemblies_in q (set es i e) ≡ set (reassemblies_in p es) i (reassembly_in q e)
+gathered_set p q es i e k some c =
     let n : length (set es i e) ≡ length es = length-set es i e in
-    let new : length (told q (set es i e)) ≡ length es = length-map (set es i e) (reassembly_in q) ∙ n in
-    let old : length (told p es) ≡ length es = length-map es (reassembly_in p) in
-    same_lists _ _ (new ∙ sym (length-set (told p es) i (reassembly_in q e) ∙ old)) (λ j d lj.
+    let new : length (reassemblies_in q (set es i e)) ≡ length es = length-map (set es i e) (reassembly_in q) ∙ n in
+    let old : length (reassemblies_in p es) ≡ length es = length-map es (reassembly_in p) in
+    same_lists _ _ (new ∙ sym (length-set (reassemblies_in p es) i (reassembly_in q e) ∙ old)) (λ j d lj.
     let within : j < length es = omega (arith, new) in
-    told_at q (set es i e) j d (omega (arith, n)) ∙ elim (entry_set es i e j c.there) [
-      | inl here ↦ ap (reassembly_in q) here.1 ∙ sym (ap (λ m. get_or (set (told p es) i (reassembly_in q e)) m d) here.0 ∙ get_or-set_same (told p es) i (reassembly_in q e) d (omega (arith, old, c.there)))
+    gathered_at q (set es i e) j d (omega (arith, n)) ∙ elim (entry_set es i e j c.there) [
+      | inl here ↦ ap (reassembly_in q) here.1 ∙ sym (ap (λ m. get_or (set (reassemblies_in p es) i (reassembly_in q e)) m d) here.0 ∙ get_or-set_same (reassemblies_in p es) i (reassembly_in q e) d (omega (arith, old, c.there)))
       | inr other ↦
           ap (reassembly_in q) other.1
-          ∙ told_entry_same p q (entry_at es j) (c.others _ (apart_from p es i j k c.there within other.0) (kept_chain p es j k some within)).1
-          ∙ sym (get_or-set_other (told p es) i j (reassembly_in q e) d other.0 ∙ told_at p es j d within)
+          ∙ gathered_entry_same p q (entry_at es j) (c.others _ (apart_from p es i j k c.there within other.0) (kept_chain p es j k some within)).1
+          ∙ sym (get_or-set_other (reassemblies_in p es) i j (reassembly_in q e) d other.0 ∙ gathered_at p es j d within)
     ])
 
 pub moves_set : (p q : PoolState) (es : List Entry) (i : ℕ) (e : Entry) → Changes p q es i e → Moves p q es (set es i e)
@@ -207,11 +207,11 @@ keeps_remove p q es i k some e =
 map_remove : {X Y : Type 0} (f : X → Y) (xs : List X) (i : ℕ) → map f (remove xs i) ≡ remove (map f xs) i
 map_remove f xs i = map-append f (take i xs) (drop (suc i) xs) ∙ ap (λ ys. ys ++ map f (drop (suc i) xs)) (sym (take-map f i xs)) ∙ ap (λ ys. take i (map f xs) ++ ys) (sym (drop-map f (suc i) xs))
 
-pub told_remove : (p q : PoolState) (es : List Entry) (i : ℕ) → Keeps p es → AreSome es → Ends p q es i → told q (remove es i) ≡ remove (told p es) i
-told_remove p q es i k some e =
+pub gathered_remove : (p q : PoolState) (es : List Entry) (i : ℕ) → Keeps p es → AreSome es → Ends p q es i → reassemblies_in q (remove es i) ≡ remove (reassemblies_in p es) i
+gathered_remove p q es i k some e =
     let long : length (remove es i) + 1 ≡ length es = length-remove es i e.there in
     let old : (j : ℕ) → j < length (remove es i) → later i j < length es = λ j lj. later_within i j (length es) e.there (omega (arith, long)) in
-    told_same p q (remove es i) (λ j lj.
+    gathered_same p q (remove es i) (λ j lj.
     subst (λ (w : Entry). chain_octets q w.chain ≡ chain_octets p w.chain) (sym (entry_remove es i j e.there))
     (e.others _ (apart_from p es i (later i j) k e.there (old j lj) (later_apart i j)) (kept_chain p es (later i j) k some (old j lj))).1)
     ∙ map_remove (reassembly_in p) es i

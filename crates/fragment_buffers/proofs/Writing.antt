@@ -43,9 +43,9 @@ entry_written e piece rule is size none = record {
 abbrev with_pieces : Entry → List PlacedPiece → Reassembly
 with_pieces e ps = record { origin = e.origin; size = e.size; tag = e.tag; note = e.note; since = e.since; pieces = ps }
 
-pub told_written : (p q : PoolState) (e f : Entry) (piece : Placed) → Fits p e piece → Writes p q e f piece
+pub gathered_written : (p q : PoolState) (e f : Entry) (piece : Placed) → Fits p e piece → Writes p q e f piece
     → reassembly_in q f ≡ record (reassembly_in p e) { pieces = (reassembly_in p e).pieces ++ placed piece ∷ [] }
-told_written p q e f piece fits w =
+gathered_written p q e f piece fits w =
     let os : List ℕ = chain_octets p e.chain in
     let places : All (IsPlace (length os)) e.places = subst (λ n. All (IsPlace n) e.places) (sym fits.long) fits.entry.places in
     ap (reassembly_in q) w.places
@@ -93,23 +93,23 @@ pub before_size : (e e' : Entry) (piece : Placed) (note now : ℕ) → Before e 
 before_size e e' piece note now (anew h is) = ap (λ g. g.size) is
 before_size e e' piece note now (same h is) = ap (λ g. g.size) is
 
-pub told_grown : (p q : PoolState) (e e' f : Entry) (piece : Placed) (note now : ℕ) → Before e e' piece note now → IsEntry e → IsPiece piece → e.size ≡ piece.size → e.tag ≡ piece.tag
+pub gathered_grown : (p q : PoolState) (e e' f : Entry) (piece : Placed) (note now : ℕ) → Before e e' piece note now → IsEntry e → IsPiece piece → e.size ≡ piece.size → e.tag ≡ piece.tag
     → length (chain_octets p e.chain) ≡ e.size → Writes p q e' f piece
     → reassembly_in q f ≡ grown (reassembly_in p e) (begun e.origin piece note now) (placed piece)
-told_grown p q e e' f piece note now before rule ok size tag long w =
+gathered_grown p q e e' f piece note now before rule ok size tag long w =
     let fits : Fits p e' piece = before_fits p e e' piece note now before rule ok size long in
     let places : All (IsPlace (length (chain_octets p e.chain))) e.places = subst (λ n. All (IsPlace n) e.places) (sym long) rule.places in
     let test : overlaps (reassembly_in p e).pieces (placed piece) ≡ list_any (meet (place_of piece)) e.places = overlaps_in (chain_octets p e.chain) e.places piece places in
-    told_written p q e' f piece fits w ∙ told_before p e e' piece note now before size tag test where
-      told_before : (p : PoolState) (e e' : Entry) (piece : Placed) (note now : ℕ) → Before e e' piece note now → e.size ≡ piece.size → e.tag ≡ piece.tag
+    gathered_written p q e' f piece fits w ∙ gathered_before p e e' piece note now before size tag test where
+      gathered_before : (p : PoolState) (e e' : Entry) (piece : Placed) (note now : ℕ) → Before e e' piece note now → e.size ≡ piece.size → e.tag ≡ piece.tag
           → overlaps (reassembly_in p e).pieces (placed piece) ≡ list_any (meet (place_of piece)) e.places
           → record (reassembly_in p e') { pieces = (reassembly_in p e').pieces ++ placed piece ∷ [] } ≡ grown (reassembly_in p e) (begun e.origin piece note now) (placed piece)
-      told_before p e e' piece note now (anew h is) size tag test =
+      gathered_before p e e' piece note now (anew h is) size tag test =
           ap (λ g. record (reassembly_in p g) { pieces = (reassembly_in p g).pieces ++ placed piece ∷ [] }) is
           ∙ ap (λ n. record { origin = e.origin; size = n; tag = e.tag; note = note; since = now; pieces = placed piece ∷ [] }) size
           ∙ ap (λ t. record { origin = e.origin; size = piece.size; tag = t; note = note; since = now; pieces = placed piece ∷ [] }) tag
           ∙ sym (cond-true _ _ _ (test ∙ h))
-      told_before p e e' piece note now (same h is) size tag test =
+      gathered_before p e e' piece note now (same h is) size tag test =
           ap (λ g. record (reassembly_in p g) { pieces = (reassembly_in p g).pieces ++ placed piece ∷ [] }) is
           ∙ sym (cond-false _ _ _ (test ∙ h))
 
@@ -127,9 +127,9 @@ begun_fits p piece origin note now chain rule long = record {
   entry = record { size = rule.size.1; places = All-nil (IsPlace piece.size); apart = λ i j d li lj. absurd (omega arith) };
 }
 
-pub told_begun : (p q : PoolState) (f : Entry) (piece : Placed) (origin note now chain : ℕ) → IsPiece piece → length (chain_octets p chain) ≡ piece.size
+pub gathered_begun : (p q : PoolState) (f : Entry) (piece : Placed) (origin note now chain : ℕ) → IsPiece piece → length (chain_octets p chain) ≡ piece.size
     → Writes p q (entry_begun origin piece note now chain []) f piece → reassembly_in q f ≡ begun origin piece note now
-told_begun p q f piece origin note now chain rule long w = told_written p q (entry_begun origin piece note now chain []) f piece (begun_fits p piece origin note now chain rule long) w
+gathered_begun p q f piece origin note now chain rule long w = gathered_written p q (entry_begun origin piece note now chain []) f piece (begun_fits p piece origin note now chain rule long) w
 
 abbrev entry_of_parts : (origin note now chain size tag : ℕ) → List PieceSpan → Placed → Entry
 entry_of_parts origin note now chain size tag ps piece = record { origin = origin; size = size; tag = tag; note = note; since = now; chain = chain; places = ps ++ place_of piece ∷ [] }

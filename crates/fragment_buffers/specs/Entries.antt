@@ -70,8 +70,8 @@ reassembly_in pool e =
     }
 
 -- the reassemblies whose octets the pool holds
-abbrev pub told : PoolState → List Entry → List Reassembly
-told pool es = map (reassembly_in pool) es
+abbrev pub reassemblies_in : PoolState → List Entry → List Reassembly
+reassemblies_in pool es = map (reassembly_in pool) es
 
 -- each chain is one of the pool's and as long as its datagram; the numbers differ; and the pool has the blocks that are left of 80
 pub record Keeps (pool : PoolState) (es : List Entry) : Type 0 where

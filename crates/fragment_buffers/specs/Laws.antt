@@ -5,7 +5,7 @@ use Rattle.block_pool.specs.Pool.{PoolState, IsChain, OthersStay, chain_octets}
 use Rattle.plc_base.specs.Fields.{AreOctets}
 use Rattle.mesh_header.specs.Pieces.{Placed}
 use Rattle.mesh_header.specs.Laws.{SpellsOctets}
-use Rattle.fragment_buffers.specs.Entries.{Entry, Keeps, IsBounded, IsOther, entry_at, blocks_used, told}
+use Rattle.fragment_buffers.specs.Entries.{Entry, Keeps, IsBounded, IsOther, entry_at, blocks_used, reassemblies_in}
 use Rattle.fragment_buffers.specs.Cutting.{pieces_of, piece_of}
 use Rattle.fragment_buffers.specs.Loads.{Load, IsShort, load_octets, units_of}
 use Rattle.fragment_buffers.specs.Reassembly.{Reassembly, PlacedPiece, datagram_of, octet_of, overlap, begun}
@@ -114,7 +114,7 @@ pub record IsBeside (p q : PoolState) (es : List Entry) (c : ℕ) : Type 0 where
 -- The reassemblies are kept and stay as they were, and so is each other chain that none of them has.
 pub record AreKept (p q : PoolState) (es : List Entry) (c : ℕ) : Type 0 where
   pub keeps : Keeps q es
-  pub same : told q es ≡ told p es
+  pub same : reassemblies_in q es ≡ reassemblies_in p es
   pub others : (d : ℕ) → (d ≡ c → ⊥) → IsOther p es d → IsOther q es d × (chain_octets q d ≡ chain_octets p d)
 
 abbrev pub OtherChainsKeepReassemblies : Type 0

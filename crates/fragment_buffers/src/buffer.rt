@@ -62,7 +62,7 @@ impl Buffer {
     ) -> Buffer
         requires { div_ceil piece.now.size 64 ≤ pool.old.free }
         ensures new { IsChain pool.old result.chain → ⊥ }
-        ensures told { reassembly_in pool.new result ≡ begun origin piece.now note now }
+        ensures gathered { reassembly_in pool.new result ≡ begun origin piece.now note now }
         ensures long { length (chain_octets pool.new result.chain) ≡ piece.now.size }
         ensures some { 0 < piece.now.size }
         ensures free { pool.new.free + div_ceil piece.now.size 64 ≡ pool.old.free }
@@ -157,7 +157,7 @@ impl Buffer {
         requires chain { length (chain_octets pool.old self.old.chain) ≡ self.old.size }
         ensures chain { self.new.chain ≡ self.old.chain }
         ensures size { self.new.size ≡ self.old.size }
-        ensures told { reassembly_in pool.new self.new
+        ensures gathered { reassembly_in pool.new self.new
             ≡ grown (reassembly_in pool.old self.old) (begun self.old.origin piece.now note now) (placed piece.now) }
         ensures long { length (chain_octets pool.new self.new.chain) ≡ self.new.size }
         ensures free { pool.new.free ≡ pool.old.free }

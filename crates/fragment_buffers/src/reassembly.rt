@@ -6,7 +6,7 @@ ghost use Rattle.mesh_header.specs.Pieces.{IsPiece};
 ghost use Rattle.fragment_buffers.specs.Reassembly.{begun, placed};
 ghost use Rattle.fragment_buffers.specs.Taking.{taken, unexpired, blocks, grown};
 ghost use Rattle.fragment_buffers.specs.FirstEnd.{first_end, IsStill};
-ghost use Rattle.fragment_buffers.specs.Entries.{entry_at, blocks_used, reassembly_in, told, Keeps, Moves, IsBounded, IsOther};
+ghost use Rattle.fragment_buffers.specs.Entries.{entry_at, blocks_used, reassembly_in, reassemblies_in, Keeps, Moves, IsBounded, IsOther};
 ghost use Rattle.fragment_buffers.specs.Answers.{answer_of, taken_of, octets_of, has_name, joined_at, settled_at, NoneIsNamed};
 
 use crate::buffer::Buffer;
@@ -45,7 +45,7 @@ pub struct BufferFull;
 ///
 /// A contract sees a list of entries: each has the name (origin, size, tag), the note and the time of the first piece, the chain's
 /// number, and the places and lengths of the pieces. The octets are those that the chains hold, so the entries and their pool
-/// together give the reassemblies (`told`).
+/// together give the reassemblies (`reassemblies_in`).
 ///
 /// Each call takes the pool that the chains are in. What it needs of the pool, and keeps, is `Keeps`: each chain is one of this
 /// pool's and as long as its datagram, their numbers differ, and the pool has the blocks that are left of 80.
@@ -100,9 +100,9 @@ impl Reassembly {
         out: &mut DatagramBuf,
     ) -> Result<Taken, BufferFull>
         requires keeps { Keeps pool.old self.old }
-        ensures answer { result ≡ answer_of (taken (told pool.old self.old) origin piece.now note now).outcome }
-        ensures datagram { out.new ≡ octets_of (taken (told pool.old self.old) origin piece.now note now).outcome }
-        ensures told { told pool.new self.new ≡ (taken (told pool.old self.old) origin piece.now note now).held }
+        ensures answer { result ≡ answer_of (taken (reassemblies_in pool.old self.old) origin piece.now note now).outcome }
+        ensures datagram { out.new ≡ octets_of (taken (reassemblies_in pool.old self.old) origin piece.now note now).outcome }
+        ensures gathered { reassemblies_in pool.new self.new ≡ (taken (reassemblies_in pool.old self.old) origin piece.now note now).held }
         ensures full { IsErr result ↔ (NoneIsNamed self.old origin piece.now
             × ((8 ≤ length self.old) ⊎ (80 < blocks_used self.old + blocks piece.now.size))) }
         ensures err { OnErr result ((self.new ≡ self.old) × (pool.new ≡ pool.old)) }
@@ -120,7 +120,7 @@ impl Reassembly {
     /// Drops the reassemblies that began at least 60 seconds before `now`, and gives their chains back.
     pub fn expire(&mut self, pool: &mut Pool, now: u64)
         requires keeps { Keeps pool.old self.old }
-        ensures told { told pool.new self.new ≡ unexpired (told pool.old self.old) now }
+        ensures gathered { reassemblies_in pool.new self.new ≡ unexpired (reassemblies_in pool.old self.old) now }
         ensures keeps { Keeps pool.new self.new }
         ensures moves { Moves pool.old pool.new self.old self.new }
         ensures bounded { IsBounded self.new }
@@ -150,7 +150,7 @@ impl Reassembly {
     /// When the first reassembly expires, in seconds: before that, none does. It is 2^64 - 1 where none is there.
     pub fn next_end(&self) -> u64
         ensures value { result ≡ first_end self.now }
-        ensures still { (pool : PoolState) → IsStill result (told pool self.now) }
+        ensures still { (pool : PoolState) → IsStill result (reassemblies_in pool self.now) }
     {
         self.first_end()
     }
@@ -198,9 +198,9 @@ impl Reassembly {
         requires rule { IsPiece piece.now }
         requires empty { out.old ≡ [] }
         requires none { NoneIsNamed self.old origin piece.now }
-        ensures answer { result ≡ answer_of (taken (told pool.old self.old) origin piece.now note now).outcome }
-        ensures datagram { out.new ≡ octets_of (taken (told pool.old self.old) origin piece.now note now).outcome }
-        ensures told { told pool.new self.new ≡ (taken (told pool.old self.old) origin piece.now note now).held }
+        ensures answer { result ≡ answer_of (taken (reassemblies_in pool.old self.old) origin piece.now note now).outcome }
+        ensures datagram { out.new ≡ octets_of (taken (reassemblies_in pool.old self.old) origin piece.now note now).outcome }
+        ensures gathered { reassemblies_in pool.new self.new ≡ (taken (reassemblies_in pool.old self.old) origin piece.now note now).held }
         ensures full { IsErr result ↔ ((8 ≤ length self.old) ⊎ (80 < blocks_used self.old + blocks piece.now.size)) }
         ensures err { OnErr result ((self.new ≡ self.old) × (pool.new ≡ pool.old)) }
         ensures keeps { Keeps pool.new self.new }
@@ -220,7 +220,7 @@ impl Reassembly {
         requires keeps { Keeps pool.old self.old }
         requires rule { IsPiece piece.now }
         requires room { (length self.old < 8) × (blocks_used self.old + blocks piece.now.size ≤ 80) }
-        ensures told { told pool.new self.new ≡ told pool.old self.old ++ begun origin piece.now note now ∷ [] }
+        ensures gathered { reassemblies_in pool.new self.new ≡ reassemblies_in pool.old self.old ++ begun origin piece.now note now ∷ [] }
         ensures longer { length self.new ≡ length self.old + 1 }
         ensures keeps { Keeps pool.new self.new }
         ensures moves { Moves pool.old pool.new self.old self.new }
@@ -246,9 +246,9 @@ impl Reassembly {
         requires there { index < length self.old }
         requires size { (entry_at self.old index).size ≡ piece.now.size }
         requires tag { (entry_at self.old index).tag ≡ piece.now.tag }
-        ensures answer { result ≡ taken_of (joined_at (told pool.old self.old) index piece.now note now).outcome }
-        ensures datagram { out.new ≡ octets_of (joined_at (told pool.old self.old) index piece.now note now).outcome }
-        ensures told { told pool.new self.new ≡ (joined_at (told pool.old self.old) index piece.now note now).held }
+        ensures answer { result ≡ taken_of (joined_at (reassemblies_in pool.old self.old) index piece.now note now).outcome }
+        ensures datagram { out.new ≡ octets_of (joined_at (reassemblies_in pool.old self.old) index piece.now note now).outcome }
+        ensures gathered { reassemblies_in pool.new self.new ≡ (joined_at (reassemblies_in pool.old self.old) index piece.now note now).held }
         ensures keeps { Keeps pool.new self.new }
         ensures moves { Moves pool.old pool.new self.old self.new }
         ensures bounded { IsBounded self.new }
@@ -267,7 +267,7 @@ impl Reassembly {
         requires there { index < length self.old }
         requires size { (entry_at self.old index).size ≡ piece.now.size }
         requires tag { (entry_at self.old index).tag ≡ piece.now.tag }
-        ensures told { told pool.new self.new ≡ slice_set (told pool.old self.old) index
+        ensures gathered { reassemblies_in pool.new self.new ≡ slice_set (reassemblies_in pool.old self.old) index
             (grown (reassembly_in pool.old (entry_at self.old index))
             (begun (entry_at self.old index).origin piece.now note now) (placed piece.now)) }
         ensures as_many { length self.new ≡ length self.old }
@@ -282,9 +282,9 @@ impl Reassembly {
         requires keeps { Keeps pool.old self.old }
         requires empty { out.old ≡ [] }
         requires there { index < length self.old }
-        ensures answer { result ≡ taken_of (settled_at (told pool.old self.old) index).outcome }
-        ensures datagram { out.new ≡ octets_of (settled_at (told pool.old self.old) index).outcome }
-        ensures told { told pool.new self.new ≡ (settled_at (told pool.old self.old) index).held }
+        ensures answer { result ≡ taken_of (settled_at (reassemblies_in pool.old self.old) index).outcome }
+        ensures datagram { out.new ≡ octets_of (settled_at (reassemblies_in pool.old self.old) index).outcome }
+        ensures gathered { reassemblies_in pool.new self.new ≡ (settled_at (reassemblies_in pool.old self.old) index).held }
         ensures keeps { Keeps pool.new self.new }
         ensures moves { Moves pool.old pool.new self.old self.new }
         ensures bounded { IsBounded self.new }
@@ -303,7 +303,7 @@ impl Reassembly {
         requires keeps { Keeps pool.old self.old }
         requires there { index < length self.old }
         ensures entries { self.new ≡ remove self.old index }
-        ensures told { told pool.new self.new ≡ remove (told pool.old self.old) index }
+        ensures gathered { reassemblies_in pool.new self.new ≡ remove (reassemblies_in pool.old self.old) index }
         ensures keeps { Keeps pool.new self.new }
         ensures moves { Moves pool.old pool.new self.old self.new }
         ensures bounded { IsBounded self.new }

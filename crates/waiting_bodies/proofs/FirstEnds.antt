@@ -11,7 +11,7 @@ use Rattle.block_pool.specs.Pool.{PoolState}
 use Rattle.mesh_header.specs.Pieces.{Placed}
 use Rattle.fragment_buffers.specs.Reassembly.{Reassembly}
 use Rattle.fragment_buffers.specs.Taking.{taken, unexpired}
-use Rattle.fragment_buffers.specs.Entries.{Entry, told, reassembly_in}
+use Rattle.fragment_buffers.specs.Entries.{Entry, reassemblies_in, reassembly_in}
 use Rattle.fragment_buffers.specs.Waiting.{Body, still_waiting}
 use Rattle.fragment_buffers.specs.FirstEnd as pieces
 use Rattle.fragment_buffers.proofs.FirstEnds.{none_expires, still_sooner, still_taken, still_unexpired}
@@ -24,16 +24,16 @@ slots_last ws time = all_last end_by (λ (time : ℕ) (w : Slot). time ≤ w.sin
     (λ sooner later w le lasts. omega (arith, le, lasts)) ws time
 
 -- what is computed is such a time
-pub still : (pool : PoolState) (es : List Entry) (ws : List Slot) (time : ℕ) → pieces.IsStill time (told pool es)
-    → IsStill (fold end_by time ws) (record { reassemblies = told pool es; waiting = bodies_in pool ws })
+pub still : (pool : PoolState) (es : List Entry) (ws : List Slot) (time : ℕ) → pieces.IsStill time (reassemblies_in pool es)
+    → IsStill (fold end_by time ws) (record { reassemblies = reassemblies_in pool es; waiting = bodies_in pool ws })
 still pool es ws time before = record {
-  gathered = still_sooner (fold end_by time ws) time (told pool es) (slots_last ws time).0 before;
+  gathered = still_sooner (fold end_by time ws) time (reassemblies_in pool es) (slots_last ws time).0 before;
   waiting = All-map (λ (b : Body). fold end_by time ws ≤ b.since + 30) (body_in pool) ws (slots_last ws time).1;
 }
 
 -- what is computed is the first end
 pub is_first : (pool : PoolState) (es : List Entry) (ws : List Slot)
-    → fold end_by (pieces.first_end es) ws ≡ first_end (record { reassemblies = told pool es; waiting = bodies_in pool ws })
+    → fold end_by (pieces.first_end es) ws ≡ first_end (record { reassemblies = reassemblies_in pool es; waiting = bodies_in pool ws })
 unfolding first_end pieces.first_end
 is_first pool es ws =
     ap (λ (time : ℕ). fold end_by time ws)

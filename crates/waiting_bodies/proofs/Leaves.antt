@@ -8,7 +8,7 @@ use Rattle.std.proofs.lemmas.Grind.{flat_map-append}
 use Rattle.std.proofs.lemmas.List.{length-append, length-map, take-append-drop, append-nil, take_all}
 use Rattle.std.proofs.lemmas.List.Elements.{filter-append, All-nil, All-cons, All-head, All-tail}
 use Rattle.block_pool.specs.Pool.{PoolState, chain_octets}
-use Rattle.fragment_buffers.specs.Entries.{Entry, told}
+use Rattle.fragment_buffers.specs.Entries.{Entry, reassemblies_in}
 use Rattle.fragment_buffers.specs.Loads.{IsShort, load_of, units_in}
 use Rattle.fragment_buffers.specs.Waiting.{Body, waits_for, units_by, leaving, pending_in}
 use Rattle.fragment_buffers.proofs.Sizes.{length-all_go, length-units_of, leaving_units, few_pending}
@@ -69,7 +69,7 @@ short_loads p es (w ∷ ws) h = All-cons (λ (b : Body). IsShort b.load) (body_i
     short held = by_tag w.tag (omega (arith, held.long, held.fits))
 
 pub few-units : (own dest hop : ℕ) (p : PoolState) (es : List Entry) (ws : List Slot) (h : Held)
-    → record { reassemblies = told p es; waiting = bodies_in p ws } ≡ h → IsSound p es ws → length ws ≤ 8
+    → record { reassemblies = reassemblies_in p es; waiting = bodies_in p ws } ≡ h → IsSound p es ws → length ws ≤ 8
     → length (leaving own dest hop h.waiting) ≤ 21
 unfolding leaving
 few-units own dest hop p es ws h view s count =

@@ -4,10 +4,10 @@ use Rattle.std.specs.List.{All}
 use Rattle.std.proofs.lemmas.List.{length-map}
 use Rattle.std.proofs.lemmas.List.Elements.{All-nil, All-cons, All-head, All-tail}
 use Rattle.block_pool.specs.Pool.{PoolState, chain_octets}
-use Rattle.fragment_buffers.specs.Entries.{Entry, told}
+use Rattle.fragment_buffers.specs.Entries.{Entry, reassemblies_in}
 use Rattle.fragment_buffers.specs.Loads.{load_of}
 use Rattle.fragment_buffers.specs.Waiting.{Body}
-use Rattle.fragment_buffers.proofs.Keeping.{blocks_told}
+use Rattle.fragment_buffers.proofs.Keeping.{blocks_gathered}
 use Rattle.waiting_bodies.specs.Bodies.{Slot}
 use Rattle.waiting_bodies.specs.BodiesInPool.{IsHeld, IsSound, body_in, bodies_in}
 use Rattle.waiting_bodies.specs.Sizes.{IsLoadSized, AreSized}
@@ -30,14 +30,14 @@ loads_sized p es (w ∷ ws) h =
 
 -- what stands in a sound pool keeps its sizes, where no more than 8 bodies wait
 pub are_sized : (p : PoolState) (es : List Entry) (ws : List Slot) → IsSound p es ws → length ws ≤ 8
-    → AreSized (record { reassemblies = told p es; waiting = bodies_in p ws })
+    → AreSized (record { reassemblies = reassemblies_in p es; waiting = bodies_in p ws })
 are_sized p es ws s count = record {
-  reassemblies = omega (arith, length_told, s.bounded.count);
-  gathered = omega (arith, blocks_told p es, s.bounded.blocks);
+  reassemblies = omega (arith, length_gathered, s.bounded.count);
+  gathered = omega (arith, blocks_gathered p es, s.bounded.blocks);
   bodies = omega (arith, count, length-map ws (body_in p));
   waiting = omega (arith, blocks_same p es ws s.waits, s.few);
   loads = loads_sized p es ws s.waits;
 }
   where
-    length_told : length (told p es) ≡ length es
-    length_told = length-map es _
+    length_gathered : length (reassemblies_in p es) ≡ length es
+    length_gathered = length-map es _

@@ -12,10 +12,10 @@ use Rattle.std.specs.Prelude.{◌==◌, ◌||◌, if◌then◌else◌}
 use Rattle.fragment_buffers.specs.Reassembly.{Reassembly}
 use Rattle.block_pool.specs.Pool.{PoolState, IsChain, chain_octets}
 use Rattle.fragment_buffers.specs.Taking.{blocks}
-use Rattle.fragment_buffers.specs.Entries.{Entry, Keeps, Moves, IsOther, IsBounded, entry_at, told}
+use Rattle.fragment_buffers.specs.Entries.{Entry, Keeps, Moves, IsOther, IsBounded, entry_at, reassemblies_in}
 use Rattle.fragment_buffers.proofs.Octets.{map_same}
 use Rattle.fragment_buffers.proofs.Writing.{Stays}
-use Rattle.fragment_buffers.proofs.Keeping.{kept_chain, told_same}
+use Rattle.fragment_buffers.proofs.Keeping.{kept_chain, gathered_same}
 use Rattle.fragment_buffers.specs.Loads.{load_octets}
 use Rattle.fragment_buffers.specs.Waiting.{Body, waiting_blocks, no_room_in, is_awaited_in}
 use Rattle.fragment_buffers.specs.Loads.{load_of}
@@ -94,8 +94,8 @@ sound_push p q es ws w os s r room = record {
   few = omega (arith, blocks_push ws w, room.room);
 }
 
-pub told_push : (p q : PoolState) (es : List Entry) (ws : List Slot) (w : Slot) (os : List ℕ) → IsSound p es ws → Reserves p q w os → told q es ≡ told p es
-told_push p q es ws w os s r = told_same p q es (λ i lt. (r.others _ (kept_chain p es i s.keeps s.bounded.some lt)).1)
+pub gathered_push : (p q : PoolState) (es : List Entry) (ws : List Slot) (w : Slot) (os : List ℕ) → IsSound p es ws → Reserves p q w os → reassemblies_in q es ≡ reassemblies_in p es
+gathered_push p q es ws w os s r = gathered_same p q es (λ i lt. (r.others _ (kept_chain p es i s.keeps s.bounded.some lt)).1)
 
 pub bodies_push : (p q : PoolState) (es : List Entry) (ws : List Slot) (w : Slot) (os : List ℕ) → IsSound p es ws → Reserves p q w os
     → bodies_in q (ws ++ w ∷ []) ≡ bodies_in p ws ++ record { to = w.to; note = w.note; since = w.since; load = load_of w.tag os } ∷ []
@@ -162,8 +162,8 @@ sound_remove p q es ws i w s r =
       few = omega (arith, sum, s.few);
     }
 
-pub told_remove : (p q : PoolState) (es : List Entry) (ws : List Slot) (i : ℕ) (w : Slot) → IsSound p es ws → Returns p q ws i w → told q es ≡ told p es
-told_remove p q es ws i w s r = told_same p q es (λ k lt. (r.others _ (entry_apart p q es ws i w s r k lt) (kept_chain p es k s.keeps s.bounded.some lt)).1)
+pub gathered_remove : (p q : PoolState) (es : List Entry) (ws : List Slot) (i : ℕ) (w : Slot) → IsSound p es ws → Returns p q ws i w → reassemblies_in q es ≡ reassemblies_in p es
+gathered_remove p q es ws i w s r = gathered_same p q es (λ k lt. (r.others _ (entry_apart p q es ws i w s r k lt) (kept_chain p es k s.keeps s.bounded.some lt)).1)
 
 bodies_left : (p q : PoolState) (es : List Entry) (ws : List Slot) (i : ℕ) (w : Slot) → IsSound p es ws → Returns p q ws i w
     → bodies_in q (remove ws i) ≡ bodies_in p (remove ws i)
@@ -199,7 +199,7 @@ blocks_same p es (w ∷ ws) h =
     ∙ sym (sum_by-cons (λ (v : Slot). blocks v.size) w ws)
 
 -- where there is room for so many octets, there is
-pub room_is : (p : PoolState) (es : List Entry) (ws : List Slot) (h : Held) (octets : ℕ) → record { reassemblies = told p es; waiting = bodies_in p ws } ≡ h
+pub room_is : (p : PoolState) (es : List Entry) (ws : List Slot) (h : Held) (octets : ℕ) → record { reassemblies = reassemblies_in p es; waiting = bodies_in p ws } ≡ h
     → All (IsHeld p es) ws
     → no_room_in h.waiting octets ≡ false → blocks_of ws + blocks octets ≤ 80
 room_is p es ws h octets view waits free =
@@ -212,20 +212,20 @@ room_is p es ws h octets view waits free =
 
 -- what a contract sees after the reassemblies have changed
 pub seen_moved : (p q : PoolState) (es fs : List Entry) (ws : List Slot) (h : Held) (rs : List Reassembly)
-    → record { reassemblies = told p es; waiting = bodies_in p ws } ≡ h
-    → IsSound p es ws → Moves p q es fs → told q fs ≡ rs
-    → ◌≡◌ {A = Held} (record { reassemblies = told q fs; waiting = bodies_in q ws }) (record { reassemblies = rs; waiting = h.waiting })
+    → record { reassemblies = reassemblies_in p es; waiting = bodies_in p ws } ≡ h
+    → IsSound p es ws → Moves p q es fs → reassemblies_in q fs ≡ rs
+    → ◌≡◌ {A = Held} (record { reassemblies = reassemblies_in q fs; waiting = bodies_in q ws }) (record { reassemblies = rs; waiting = h.waiting })
 seen_moved p q es fs ws h rs view s moves t =
     let same : bodies_in q ws ≡ h.waiting = bodies_same p q es fs ws moves.others s.waits ∙ ap (λ (k : Held). k.waiting) view in
     λ i. record { reassemblies = t i; waiting = same i }
 
 -- and after the waiting bodies have
 pub seen_waiting : (p q : PoolState) (es : List Entry) (ws vs : List Slot) (h : Held) (bs : List Body)
-    → record { reassemblies = told p es; waiting = bodies_in p ws } ≡ h
-    → told q es ≡ told p es → bodies_in q vs ≡ bs
-    → ◌≡◌ {A = Held} (record { reassemblies = told q es; waiting = bodies_in q vs }) (record { reassemblies = h.reassemblies; waiting = bs })
+    → record { reassemblies = reassemblies_in p es; waiting = bodies_in p ws } ≡ h
+    → reassemblies_in q es ≡ reassemblies_in p es → bodies_in q vs ≡ bs
+    → ◌≡◌ {A = Held} (record { reassemblies = reassemblies_in q es; waiting = bodies_in q vs }) (record { reassemblies = h.reassemblies; waiting = bs })
 seen_waiting p q es ws vs h bs view t b =
-    let same : told q es ≡ h.reassemblies = t ∙ ap (λ (k : Held). k.reassemblies) view in
+    let same : reassemblies_in q es ≡ h.reassemblies = t ∙ ap (λ (k : Held). k.reassemblies) view in
     λ i. record { reassemblies = same i; waiting = b i }
 
 -- an address is awaited where a body for it waits

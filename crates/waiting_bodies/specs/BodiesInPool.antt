@@ -4,7 +4,7 @@ use Rattle.std.specs.List.{All, AllPairs, sum_by}
 use Rattle.block_pool.specs.declared.pool.Chain.{Chain}
 use Rattle.block_pool.specs.Pool.{PoolState, chain_octets}
 use Rattle.fragment_buffers.specs.Taking.{blocks}
-use Rattle.fragment_buffers.specs.Entries.{Entry, Keeps, IsOther, IsBounded, blocks_used, told}
+use Rattle.fragment_buffers.specs.Entries.{Entry, Keeps, IsOther, IsBounded, blocks_used, reassemblies_in}
 use Rattle.fragment_buffers.specs.Loads.{load_of}
 use Rattle.fragment_buffers.specs.Waiting.{Body}
 use Rattle.waiting_bodies.specs.Bodies.{Held, Slot}
@@ -52,7 +52,7 @@ pub record IsSound (pool : PoolState) (es : List Entry) (ws : List Slot) : Type 
   pub few : blocks_of ws ≤ 80
 
 abbrev pub held_in : bodies.Inside → Held
-held_in b = record { reassemblies = told b.pool b.reassembly; waiting = bodies_in b.pool b.waiting.items }
+held_in b = record { reassemblies = reassemblies_in b.pool b.reassembly; waiting = bodies_in b.pool b.waiting.items }
 
 pub record AreSound (b : bodies.Inside) : Type 0 where
   pub sound : IsSound b.pool b.reassembly b.waiting.items

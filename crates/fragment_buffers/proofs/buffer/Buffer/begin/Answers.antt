@@ -2,7 +2,7 @@ use Rattle.std.proofs.Common.{◌≡◌, [], length, ap, subst, ◌∙◌}
 use Rattle.std.proofs.lemmas.List.{length-replicate}
 use Rattle.block_pool.specs.Pool.{IsChain, chain_octets}
 use Rattle.block_pool.proofs.Callers.{chain_octets-insert}
-use Rattle.fragment_buffers.proofs.Writing.{Writes, Stays, entry_begun, begun_fits, told_begun, long_written, stays-insert, same_parts}
+use Rattle.fragment_buffers.proofs.Writing.{Writes, Stays, entry_begun, begun_fits, gathered_begun, long_written, stays-insert, same_parts}
 use Rattle.fragment_buffers.proofs.buffer.Buffer.begin.Goals as goal
 
 reserved : (c : goal.After-write) → length (chain_octets c.reserve.new.self c.in-Ok.chain) ≡ c.args.piece.now.size
@@ -17,8 +17,8 @@ written c = record {
 pub write-requires-clause-chain : goal.write-requires-clause-chain
 write-requires-clause-chain c = ap length (chain_octets-insert c.args.pool.now c.reserve.new.self c.in-Ok.chain _ c.in-Ok.ensures.chains) ∙ length-replicate c.size-size.result 0
 
-pub returns-clause-told : goal.returns-clause-told
-returns-clause-told c = told_begun c.reserve.new.self c.write.new.pool c.write.new.self c.args.piece.now c.args.origin c.args.note c.args.now c.in-Ok.chain c.size-size.ensures.rule (reserved c) (written c)
+pub returns-clause-gathered : goal.returns-clause-gathered
+returns-clause-gathered c = gathered_begun c.reserve.new.self c.write.new.pool c.write.new.self c.args.piece.now c.args.origin c.args.note c.args.now c.in-Ok.chain c.size-size.ensures.rule (reserved c) (written c)
 
 pub returns-clause-long : goal.returns-clause-long
 returns-clause-long c =

@@ -1,7 +1,7 @@
 use Rattle.std.proofs.Common.{[], sym, ap, ◌∙◌}
 use Rattle.fragment_buffers.specs.Buffer.{entry_of}
 use Rattle.fragment_buffers.specs.Entries.{Entry}
-use Rattle.fragment_buffers.proofs.Writing.{Before, anew, same, Writes, Fits, told_grown, long_written, before_fits, before_chain, before_size, stays-insert}
+use Rattle.fragment_buffers.proofs.Writing.{Before, anew, same, Writes, Fits, gathered_grown, long_written, before_fits, before_chain, before_size, stays-insert}
 use Rattle.fragment_buffers.proofs.buffer.Buffer.grow.Goals as goal
 use Rattle.fragment_buffers.proofs.buffer.Buffer.grow.Goals.{then-overlaps, else-overlaps}
 
@@ -21,9 +21,9 @@ fits c = before_fits c.args.pool.now c.args.self.now c.if-overlaps.self c.args.p
 pub returns-clause-size : goal.returns-clause-size
 returns-clause-size c = ap (λ (e : Entry). e.size) c.write.ensures.places ∙ before_size c.args.self.now c.if-overlaps.self c.args.piece.now c.args.note c.args.now (before c)
 
-pub returns-clause-told : goal.returns-clause-told
-returns-clause-told c =
-    told_grown c.args.pool.now c.write.new.pool c.args.self.now c.if-overlaps.self c.write.new.self c.args.piece.now c.args.note c.args.now (before c) c.overlaps.ensures.rule c.requires.rule c.requires.size
+pub returns-clause-gathered : goal.returns-clause-gathered
+returns-clause-gathered c =
+    gathered_grown c.args.pool.now c.write.new.pool c.args.self.now c.if-overlaps.self c.write.new.self c.args.piece.now c.args.note c.args.now (before c) c.overlaps.ensures.rule c.requires.rule c.requires.size
     c.requires.tag c.requires.chain (written c)
 
 pub returns-clause-long : goal.returns-clause-long

@@ -2,9 +2,9 @@ use Rattle.std.proofs.Common.{◌≡◌, ◌+◌, length, sym, ap, subst, ◌∙
 use Rattle.std.specs.List.{remove}
 use Rattle.block_pool.specs.Pool.{chain_octets}
 use Rattle.fragment_buffers.specs.Taking.{blocks}
-use Rattle.fragment_buffers.specs.Entries.{Entry, IsBounded, Keeps, Moves, told, entry_at, blocks_used}
+use Rattle.fragment_buffers.specs.Entries.{Entry, IsBounded, Keeps, Moves, reassemblies_in, entry_at, blocks_used}
 use Rattle.fragment_buffers.proofs.Writing.{stays-remove}
-use Rattle.fragment_buffers.proofs.Keeping.{AreSome, Ends, told_remove, keeps_remove, moves_remove, bounded_after, used_after, read_entry}
+use Rattle.fragment_buffers.proofs.Keeping.{AreSome, Ends, gathered_remove, keeps_remove, moves_remove, bounded_after, used_after, read_entry}
 use Rattle.fragment_buffers.proofs.reassembly.Reassembly.end.Goals as goal
 
 the_entry : (c : goal.After-give_back) → c.remove-buffer.result ≡ entry_at c.args.self.now c.args.index
@@ -35,9 +35,9 @@ invariant_of-self c =
       bounded = bounded_after c.args.self.now _ c.args.index (items c) c.requires.there (subst IsBounded c.self.view_is c.self.invariant.bounded);
     }
 
-pub returns-clause-told : goal.returns-clause-told
-returns-clause-told c =
-    ap (told c.give_back.new.pool) (items c) ∙ told_remove c.args.pool.now c.give_back.new.pool c.args.self.now c.args.index c.requires.keeps (some c) (ends c)
+pub returns-clause-gathered : goal.returns-clause-gathered
+returns-clause-gathered c =
+    ap (reassemblies_in c.give_back.new.pool) (items c) ∙ gathered_remove c.args.pool.now c.give_back.new.pool c.args.self.now c.args.index c.requires.keeps (some c) (ends c)
 
 pub returns-clause-keeps : goal.returns-clause-keeps
 returns-clause-keeps c =

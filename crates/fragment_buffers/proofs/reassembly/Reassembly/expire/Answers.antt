@@ -3,37 +3,37 @@ use Rattle.std.proofs.lemmas.Bool.{cases_lt, false≢true}
 use Rattle.std.proofs.lemmas.List.Edits.{length-remove}
 use Rattle.fragment_buffers.specs.Reassembly.{Reassembly}
 use Rattle.fragment_buffers.specs.Answers.{nothing}
-use Rattle.fragment_buffers.specs.Entries.{Entry, told}
-use Rattle.fragment_buffers.proofs.Naming.{length-told}
-use Rattle.fragment_buffers.proofs.Keeping.{read_entry, told_at, moves_both}
+use Rattle.fragment_buffers.specs.Entries.{Entry, reassemblies_in}
+use Rattle.fragment_buffers.proofs.Naming.{length-gathered}
+use Rattle.fragment_buffers.proofs.Keeping.{read_entry, gathered_at, moves_both}
 use Rattle.fragment_buffers.proofs.Expiring.{kept_so_far, expired_at, unexpired_at, all_kept}
 use Rattle.fragment_buffers.proofs.reassembly.Reassembly.expire.Goals as goal
 
 pub loop-index-preserved-then-has_expired : goal.loop-index-preserved-then-has_expired
 loop-index-preserved-then-has_expired c =
     let es = c.loop-index.self in
-    let held = told c.loop-index.pool es in
-    let long = length-told c.loop-index.pool es in
+    let held = reassemblies_in c.loop-index.pool es in
+    let long = length-gathered c.loop-index.pool es in
     let lt : c.loop-index.index < length es = omega (arith, ap length c.self.view_is, c.len.ensures.value, c.loop-index-test.true) in
     let entry = read_entry _ es c.loop-index.index c.index-deref-index.result c.index-deref-index.is (c.deref.ensures.0 ∙ c.self.view_is) lt in
-    let since = ap (λ (e : Entry). e.since) entry ∙ sym (ap (λ (r : Reassembly). r.since) (told_at c.loop-index.pool es c.loop-index.index nothing lt)) in
+    let since = ap (λ (e : Entry). e.since) entry ∙ sym (ap (λ (r : Reassembly). r.since) (gathered_at c.loop-index.pool es c.loop-index.index nothing lt)) in
     record {
       keeps = c.end.ensures.keeps;
       moves = moves_both c.args.pool.now c.loop-index.pool c.end.new.pool c.args.self.now es c.end.new.self c.loop-index.invariant.moves c.end.ensures.moves;
       within = omega (arith, ap length c.end.ensures.entries, length-remove es c.loop-index.index lt, lt);
-      told =
-          c.loop-index.invariant.told ∙ expired_at held c.loop-index.index c.args.now (omega (arith, long, lt)) (omega (arith, since, c.if-has_expired.ensures))
-          ∙ ap (λ rs. kept_so_far rs c.loop-index.index c.args.now) (sym c.end.ensures.told);
+      gathered =
+          c.loop-index.invariant.gathered ∙ expired_at held c.loop-index.index c.args.now (omega (arith, long, lt)) (omega (arith, since, c.if-has_expired.ensures))
+          ∙ ap (λ rs. kept_so_far rs c.loop-index.index c.args.now) (sym c.end.ensures.gathered);
     }
 
 pub loop-index-preserved : goal.loop-index-preserved
 loop-index-preserved c =
     let es = c.loop-index.self in
-    let held = told c.loop-index.pool es in
-    let long = length-told c.loop-index.pool es in
+    let held = reassemblies_in c.loop-index.pool es in
+    let long = length-gathered c.loop-index.pool es in
     let lt : c.loop-index.index < length es = omega (arith, ap length c.self.view_is, c.len.ensures.value, c.loop-index-test.true) in
     let entry = read_entry _ es c.loop-index.index c.index-deref-index.result c.index-deref-index.is (c.deref.ensures.0 ∙ c.self.view_is) lt in
-    let since = ap (λ (e : Entry). e.since) entry ∙ sym (ap (λ (r : Reassembly). r.since) (told_at c.loop-index.pool es c.loop-index.index nothing lt)) in
+    let since = ap (λ (e : Entry). e.since) entry ∙ sym (ap (λ (r : Reassembly). r.since) (gathered_at c.loop-index.pool es c.loop-index.index nothing lt)) in
     let young : c.args.now < c.index-deref-index.result.since + 60 = elim (cases_lt c.args.now (c.index-deref-index.result.since + 60)) [
       | inl less ↦ less
       | inr more ↦ absurd (false≢true (c.if-has_expired.ensures.1 more))
@@ -42,10 +42,10 @@ loop-index-preserved c =
       keeps = c.loop-index.invariant.keeps;
       moves = c.loop-index.invariant.moves;
       within = omega (arith, lt);
-      told = c.loop-index.invariant.told ∙ unexpired_at held c.loop-index.index c.args.now (omega (arith, long, lt)) (omega (arith, since, young));
+      gathered = c.loop-index.invariant.gathered ∙ unexpired_at held c.loop-index.index c.args.now (omega (arith, long, lt)) (omega (arith, since, young));
     }
 
-pub returns-clause-told : goal.returns-clause-told
-returns-clause-told c =
-    let long = length-told c.loop-index.pool c.loop-index.self in
-    sym (c.loop-index.invariant.told ∙ all_kept (told c.loop-index.pool c.loop-index.self) c.loop-index.index c.args.now (omega (arith, long, ap length c.self.view_is, c.len.ensures.value, c.loop-index-test.false)))
+pub returns-clause-gathered : goal.returns-clause-gathered
+returns-clause-gathered c =
+    let long = length-gathered c.loop-index.pool c.loop-index.self in
+    sym (c.loop-index.invariant.gathered ∙ all_kept (reassemblies_in c.loop-index.pool c.loop-index.self) c.loop-index.index c.args.now (omega (arith, long, ap length c.self.view_is, c.len.ensures.value, c.loop-index-test.false)))

@@ -3,8 +3,8 @@ use Rattle.std.specs.List.{refill}
 use Rattle.store_tables.proofs.SlotTables.{refill-set}
 use Rattle.fragment_buffers.specs.Reassembly.{begun, placed}
 use Rattle.fragment_buffers.specs.Taking.{grown}
-use Rattle.fragment_buffers.specs.Entries.{Entry, Keeps, Moves, IsBounded, told, entry_at, reassembly_in, blocks_used, no_entry}
-use Rattle.fragment_buffers.proofs.Keeping.{AreSome, Changes, read_entry, told_set, keeps_set, moves_set, bounded_set, used_set}
+use Rattle.fragment_buffers.specs.Entries.{Entry, Keeps, Moves, IsBounded, reassemblies_in, entry_at, reassembly_in, blocks_used, no_entry}
+use Rattle.fragment_buffers.proofs.Keeping.{AreSome, Changes, read_entry, gathered_set, keeps_set, moves_set, bounded_set, used_set}
 use Rattle.fragment_buffers.proofs.reassembly.Reassembly.grow.Goals as goal
 
 -- the entry that grows, as it was
@@ -29,10 +29,10 @@ changes c = record {
   others = λ d ne is. c.grow.ensures.others d (λ e. ne (e ∙ ap (λ (e : Entry). e.chain) (old c))) is;
 }
 
-pub returns-clause-told : goal.returns-clause-told
-returns-clause-told c =
-    ap (told c.grow.new.pool) (items c) ∙ told_set c.args.pool.now c.grow.new.pool c.args.self.now c.args.index c.grow.new.self c.requires.keeps (some c) (changes c)
-    ∙ ap (λ r. set (told c.args.pool.now c.args.self.now) c.args.index r) (c.grow.ensures.told
+pub returns-clause-gathered : goal.returns-clause-gathered
+returns-clause-gathered c =
+    ap (reassemblies_in c.grow.new.pool) (items c) ∙ gathered_set c.args.pool.now c.grow.new.pool c.args.self.now c.args.index c.grow.new.self c.requires.keeps (some c) (changes c)
+    ∙ ap (λ r. set (reassemblies_in c.args.pool.now c.args.self.now) c.args.index r) (c.grow.ensures.gathered
     ∙ ap (λ (e : Entry). grown (reassembly_in c.args.pool.now e) (begun e.origin c.args.piece.now c.args.note c.args.now) (placed c.args.piece.now)) (old c))
 
 pub returns-clause-keeps : goal.returns-clause-keeps

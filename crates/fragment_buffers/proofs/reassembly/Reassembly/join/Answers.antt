@@ -2,12 +2,12 @@ use Rattle.std.proofs.Common.{◌≡◌, sym, ap, subst, ◌∙◌}
 use Rattle.std.specs.List.{list_any}
 use Rattle.fragment_buffers.specs.Taking.{Taking, Held}
 use Rattle.fragment_buffers.specs.Answers.{taken_of, octets_of, settled_at, joined_at}
-use Rattle.fragment_buffers.specs.Entries.{Entry, IsEntry, told, same_place, place_of}
+use Rattle.fragment_buffers.specs.Entries.{Entry, IsEntry, reassemblies_in, same_place, place_of}
 use Rattle.fragment_buffers.proofs.Keeping.{read_entry, moves_both}
 use Rattle.fragment_buffers.proofs.Settling.{joined_repeat, joined_grown}
 use Rattle.fragment_buffers.proofs.reassembly.Reassembly.join.Goals as goal
 
-repeat : (c : goal.Then-repeats) → joined_at (told c.args.pool.now c.args.self.now) c.args.index c.args.piece.now c.args.note c.args.now ≡ record { held = told c.args.pool.now c.args.self.now; outcome = Held }
+repeat : (c : goal.Then-repeats) → joined_at (reassemblies_in c.args.pool.now c.args.self.now) c.args.index c.args.piece.now c.args.note c.args.now ≡ record { held = reassemblies_in c.args.pool.now c.args.self.now; outcome = Held }
 repeat c =
     let entry = read_entry _ c.args.self.now c.args.index c.index-deref-index.result c.index-deref-index.is (c.deref.ensures.0 ∙ c.self.view_is) c.requires.there in
     joined_repeat c.args.pool.now c.args.self.now c.args.index c.args.piece.now c.args.note c.args.now c.requires.there (subst IsEntry entry c.repeats.ensures.rule) (c.requires.keeps.lengths c.args.index c.requires.there)
@@ -19,15 +19,15 @@ returns-then-repeats-clause-answer c = sym (ap (λ (t : Taking). taken_of t.outc
 pub returns-then-repeats-clause-datagram : goal.returns-then-repeats-clause-datagram
 returns-then-repeats-clause-datagram c = c.requires.empty ∙ sym (ap (λ (t : Taking). octets_of t.outcome) (repeat c))
 
-pub returns-then-repeats-clause-told : goal.returns-then-repeats-clause-told
-returns-then-repeats-clause-told c = sym (ap (λ (t : Taking). t.held) (repeat c))
+pub returns-then-repeats-clause-gathered : goal.returns-then-repeats-clause-gathered
+returns-then-repeats-clause-gathered c = sym (ap (λ (t : Taking). t.held) (repeat c))
 
-grown_is : (c : goal.After-settle) → joined_at (told c.args.pool.now c.args.self.now) c.args.index c.args.piece.now c.args.note c.args.now ≡ settled_at (told c.grow.new.pool c.grow.new.self) c.args.index
+grown_is : (c : goal.After-settle) → joined_at (reassemblies_in c.args.pool.now c.args.self.now) c.args.index c.args.piece.now c.args.note c.args.now ≡ settled_at (reassemblies_in c.grow.new.pool c.grow.new.self) c.args.index
 grown_is c =
     let entry = read_entry _ c.args.self.now c.args.index c.index-deref-index.result c.index-deref-index.is (c.deref.ensures.0 ∙ c.self.view_is) c.requires.there in
     joined_grown c.args.pool.now c.args.self.now c.args.index c.args.piece.now c.args.note c.args.now c.requires.there (subst IsEntry entry c.repeats.ensures.rule) (c.requires.keeps.lengths c.args.index c.requires.there)
     (ap (λ (e : Entry). list_any (same_place (place_of c.args.piece.now)) e.places) (sym entry) ∙ sym c.repeats.ensures.value ∙ c.if-repeats.false)
-    ∙ ap (λ held. settled_at held c.args.index) (sym c.grow.ensures.told)
+    ∙ ap (λ held. settled_at held c.args.index) (sym c.grow.ensures.gathered)
 
 pub returns-clause-answer : goal.returns-clause-answer
 returns-clause-answer c = c.settle.ensures.answer ∙ sym (ap (λ (t : Taking). taken_of t.outcome) (grown_is c))
@@ -35,8 +35,8 @@ returns-clause-answer c = c.settle.ensures.answer ∙ sym (ap (λ (t : Taking). 
 pub returns-clause-datagram : goal.returns-clause-datagram
 returns-clause-datagram c = c.settle.ensures.datagram ∙ sym (ap (λ (t : Taking). octets_of t.outcome) (grown_is c))
 
-pub returns-clause-told : goal.returns-clause-told
-returns-clause-told c = c.settle.ensures.told ∙ sym (ap (λ (t : Taking). t.held) (grown_is c))
+pub returns-clause-gathered : goal.returns-clause-gathered
+returns-clause-gathered c = c.settle.ensures.gathered ∙ sym (ap (λ (t : Taking). t.held) (grown_is c))
 
 pub returns-clause-moves : goal.returns-clause-moves
 returns-clause-moves c = moves_both c.args.pool.now c.grow.new.pool c.settle.new.pool c.args.self.now c.grow.new.self c.settle.new.self c.grow.ensures.moves c.settle.ensures.moves

@@ -4,12 +4,12 @@ use Rattle.block_pool.specs.Pool.{chain_octets}
 use Rattle.fragment_buffers.specs.declared.reassembly.Taken.TheVariants as answer
 use Rattle.fragment_buffers.specs.Taking.{Taking, Held, Whole}
 use Rattle.fragment_buffers.specs.Answers.{taken_of, octets_of, settled_at}
-use Rattle.fragment_buffers.specs.Entries.{Entry, IsEntry, IsCovered, HasGap, told, entry_at}
+use Rattle.fragment_buffers.specs.Entries.{Entry, IsEntry, IsCovered, HasGap, reassemblies_in, entry_at}
 use Rattle.fragment_buffers.proofs.Keeping.{read_entry}
 use Rattle.fragment_buffers.proofs.Settling.{settled_gap, settled_whole}
 use Rattle.fragment_buffers.proofs.reassembly.Reassembly.settle.Goals as goal
 
-gap : (c : goal.Then-not-is_whole) → settled_at (told c.args.pool.now c.args.self.now) c.args.index ≡ record { held = told c.args.pool.now c.args.self.now; outcome = Held }
+gap : (c : goal.Then-not-is_whole) → settled_at (reassemblies_in c.args.pool.now c.args.self.now) c.args.index ≡ record { held = reassemblies_in c.args.pool.now c.args.self.now; outcome = Held }
 gap c =
     let entry = read_entry _ c.args.self.now c.args.index c.index-deref-index.result c.index-deref-index.is (c.deref.ensures.0 ∙ c.self.view_is) c.requires.there in
     settled_gap c.args.pool.now c.args.self.now c.args.index c.requires.there (subst HasGap entry c.if-not-is_whole.ensures.value)
@@ -20,11 +20,11 @@ returns-then-not-is_whole-clause-answer c = sym (ap (λ (t : Taking). taken_of t
 pub returns-then-not-is_whole-clause-datagram : goal.returns-then-not-is_whole-clause-datagram
 returns-then-not-is_whole-clause-datagram c = c.requires.empty ∙ sym (ap (λ (t : Taking). octets_of t.outcome) (gap c))
 
-pub returns-then-not-is_whole-clause-told : goal.returns-then-not-is_whole-clause-told
-returns-then-not-is_whole-clause-told c = sym (ap (λ (t : Taking). t.held) (gap c))
+pub returns-then-not-is_whole-clause-gathered : goal.returns-then-not-is_whole-clause-gathered
+returns-then-not-is_whole-clause-gathered c = sym (ap (λ (t : Taking). t.held) (gap c))
 
-whole : (c : goal.After-end) → settled_at (told c.args.pool.now c.args.self.now) c.args.index
-    ≡ record { held = remove (told c.args.pool.now c.args.self.now) c.args.index; outcome = Whole (entry_at c.args.self.now c.args.index).note (chain_octets c.args.pool.now (entry_at c.args.self.now c.args.index).chain) }
+whole : (c : goal.After-end) → settled_at (reassemblies_in c.args.pool.now c.args.self.now) c.args.index
+    ≡ record { held = remove (reassemblies_in c.args.pool.now c.args.self.now) c.args.index; outcome = Whole (entry_at c.args.self.now c.args.index).note (chain_octets c.args.pool.now (entry_at c.args.self.now c.args.index).chain) }
 whole c =
     let entry = read_entry _ c.args.self.now c.args.index c.index-deref-index.result c.index-deref-index.is (c.deref.ensures.0 ∙ c.self.view_is) c.requires.there in
     settled_whole c.args.pool.now c.args.self.now c.args.index c.requires.there (subst IsEntry entry c.is_whole.ensures.rule) (c.requires.keeps.lengths c.args.index c.requires.there)
@@ -40,5 +40,5 @@ returns-clause-datagram c =
     let entry = read_entry _ c.args.self.now c.args.index c.index-deref-index-3.result c.index-deref-index-3.is (c.deref-3.ensures.0 ∙ c.self.view_is) c.requires.there in
     c.read.ensures ∙ ap (λ (e : Entry). chain_octets c.args.pool.now e.chain) entry ∙ sym (ap (λ (t : Taking). octets_of t.outcome) (whole c))
 
-pub returns-clause-told : goal.returns-clause-told
-returns-clause-told c = c.end.ensures.told ∙ sym (ap (λ (t : Taking). t.held) (whole c))
+pub returns-clause-gathered : goal.returns-clause-gathered
+returns-clause-gathered c = c.end.ensures.gathered ∙ sym (ap (λ (t : Taking). t.held) (whole c))

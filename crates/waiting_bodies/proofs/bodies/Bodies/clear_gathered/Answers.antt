@@ -1,5 +1,5 @@
 use Rattle.std.proofs.Common.{sym, subst, ap}
-use Rattle.fragment_buffers.specs.Entries.{told}
+use Rattle.fragment_buffers.specs.Entries.{reassemblies_in}
 use Rattle.waiting_bodies.proofs.Sound.{seen_moved, sound_moves, bounded_none}
 use Rattle.waiting_bodies.specs.FirstEnd.{IsStill}
 use Rattle.waiting_bodies.proofs.FirstEnds.{still_cleared}
@@ -9,7 +9,7 @@ pub returns : goal.returns
 returns c =
     seen_moved c.self.inside.pool c.clear.new.pool c.self.inside.reassembly c.clear.new.self c.self.inside.waiting.items c.args.self.now _ c.self.view_is
     c.self.invariant.sound
-    c.clear.ensures.moves (ap (told c.clear.new.pool) c.clear.ensures.empty)
+    c.clear.ensures.moves (ap (reassemblies_in c.clear.new.pool) c.clear.ensures.empty)
 
 pub invariant_of-self : goal.invariant_of-self
 invariant_of-self c = record {

@@ -5,7 +5,7 @@ use Rattle.fragment_buffers.specs.Taking.{blocks}
 use Rattle.fragment_buffers.proofs.Writing.{stays-remove}
 use Rattle.waiting_bodies.specs.Bodies.{Held, Slot}
 use Rattle.waiting_bodies.specs.BodiesInPool.{IsSound, IsHeld, body_in, bodies_in}
-use Rattle.waiting_bodies.proofs.Sound.{Returns, sound_remove, told_remove, bodies_remove, seen_waiting, read_slot, blocks_less}
+use Rattle.waiting_bodies.proofs.Sound.{Returns, sound_remove, gathered_remove, bodies_remove, seen_waiting, read_slot, blocks_less}
 use Rattle.waiting_bodies.specs.FirstEnd.{IsStill}
 use Rattle.waiting_bodies.proofs.FirstEnds.{still_removed}
 use Rattle.waiting_bodies.proofs.bodies.Bodies.drop_at.Goals as goal
@@ -31,7 +31,7 @@ pub returns : goal.returns
 returns c =
     seen_waiting c.self.inside.pool c.give_back.new.pool c.self.inside.reassembly c.self.inside.waiting.items c.remove-waiting.new.self.items c.args.self.now _
     c.self.view_is
-    (told_remove c.self.inside.pool c.give_back.new.pool c.self.inside.reassembly c.self.inside.waiting.items c.args.index c.remove-waiting.result
+    (gathered_remove c.self.inside.pool c.give_back.new.pool c.self.inside.reassembly c.self.inside.waiting.items c.args.index c.remove-waiting.result
     c.self.invariant.sound (returned c))
     (ap (bodies_in c.give_back.new.pool) c.remove-waiting.ensures.items
     ∙ bodies_remove c.self.inside.pool c.give_back.new.pool c.self.inside.reassembly c.self.inside.waiting.items c.args.index c.remove-waiting.result

@@ -10,7 +10,7 @@ pub returns-clause-held : goal.returns-clause-held
 returns-clause-held c =
     seen_moved c.self.inside.pool c.take.new.pool c.self.inside.reassembly c.take.new.self c.self.inside.waiting.items c.args.self.now _ c.self.view_is
     c.self.invariant.sound
-    c.take.ensures.moves (c.take.ensures.told
+    c.take.ensures.moves (c.take.ensures.gathered
     ∙ ap (λ (h : Held). (taken h.reassemblies c.args.origin c.args.piece.now c.args.note c.args.now).held) c.self.view_is)
 
 pub invariant_of-self : goal.invariant_of-self

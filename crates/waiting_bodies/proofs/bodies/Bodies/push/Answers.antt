@@ -6,7 +6,7 @@ use Rattle.fragment_buffers.proofs.Writing.{Stays, stays-insert}
 use Rattle.fragment_buffers.specs.Loads.{load_of}
 use Rattle.waiting_bodies.specs.Bodies.{Held, Slot}
 use Rattle.waiting_bodies.specs.BodiesInPool.{IsSound, bodies_in}
-use Rattle.waiting_bodies.proofs.Sound.{Reserves, HasRoom, room_is, sound_push, told_push, bodies_push, seen_waiting, blocks_more}
+use Rattle.waiting_bodies.proofs.Sound.{Reserves, HasRoom, room_is, sound_push, gathered_push, bodies_push, seen_waiting, blocks_more}
 use Rattle.waiting_bodies.specs.FirstEnd.{IsStill}
 use Rattle.waiting_bodies.proofs.FirstEnds.{still_pushed}
 use Rattle.waiting_bodies.proofs.bodies.Bodies.push.Goals.{After-push}
@@ -67,7 +67,7 @@ unfolding slot
 returns c =
     seen_waiting c.self.inside.pool c.write_at.new.self c.self.inside.reassembly c.self.inside.waiting.items c.push.new.self.items c.args.self.now _
     c.self.view_is
-    (told_push c.self.inside.pool c.write_at.new.self c.self.inside.reassembly c.self.inside.waiting.items (slot c) c.args.octets.now c.self.invariant.sound
+    (gathered_push c.self.inside.pool c.write_at.new.self c.self.inside.reassembly c.self.inside.waiting.items (slot c) c.args.octets.now c.self.invariant.sound
     (reserves c))
     (ap (bodies_in c.write_at.new.self) c.push.ensures.items
     ∙ bodies_push c.self.inside.pool c.write_at.new.self c.self.inside.reassembly c.self.inside.waiting.items (slot c) c.args.octets.now c.self.invariant.sound
