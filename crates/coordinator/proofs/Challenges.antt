@@ -71,12 +71,12 @@ module _ (own : Eui) (m : Memory) (to now : ℕ) (server : Server) where
   unfolding from_address begins opened
   long home = ap (λ o. length (from_address o).units) home ∙ command_units 0 to (command_of first) now [] opened [] [] []
 
-  pub told_plan : address_of m.station ≡ Some 0 → RoomFor m to (message server.eui (Challenge (first_packet server)))
+  pub ordered_plan : address_of m.station ≡ Some 0 → RoomFor m to (message server.eui (Challenge (first_packet server)))
       → telling (with_session (record { server = server; way = Mesh to; since = now }) (without_oldest m)) to
       (message server.eui (Challenge (first_packet server))) now
       ≡ challenge_by own m to now server
   unfolding from_address begins opened first is_commanded with_memory_by empty_draft
-  told_plan home room =
+  ordered_plan home room =
       command_plan orders [] opened [] [] [] 0 to (Command (command_of first)) now tt ∙ (λ i. sealing in_memory orders (from_address (sym home i)) tt)
       ∙ room_seals to (length (command_of first)) orders lacking m (from_address (address_of m.station)) tt room (long home)
 
@@ -95,7 +95,7 @@ module _ (own : Eui) (m : Memory) (to now : ℕ) (server : Server) where
   unfolding first opened
   first_done s mid t answer out h room is tells =
       let held : mid.memory ≡ Some opened = ap (λ (x : State Memory). x.memory) is in
-      carried_by s t (telling opened to first now) (challenge_by own m to now server) answer out (told_plan h.home room)
+      carried_by s t (telling opened to first now) (challenge_by own m to now server) answer out (ordered_plan h.home room)
       (carries_behind s mid t [] (telling opened to first now) answer out
       (subst (λ (k : Store). Wrote s.store [] true k) (sym (ap (λ (x : State Memory). x.store) is)) (wrote_none s.store))
       (sym (ap (λ (x : State Memory). x.eui) is)) (subst (λ (o : Option Memory). IfSome o (λ n. Carries mid (telling n to first now) answer out t)) held tells))
@@ -106,12 +106,12 @@ module _ (own : Eui) (m : Memory) (to now : ℕ) (server : Server) where
       → lacks m to (length (command_of join)) ≡ Some reason → refused {H = Unit {0}} orders m reason ≡ challenge_by own m to now server
   lacking_plan join reason same home fault = first_lacks reason home (subst (λ (j : JoinMessage). lacks m to (length (command_of j)) ≡ Some reason) same fault)
 
-  pub told_done : (join : JoinMessage) (s mid t : State Memory) (answer : Result (Unit {0}) CoordinatorRefusal) (out : Out)
+  pub ordered_done : (join : JoinMessage) (s mid t : State Memory) (answer : Result (Unit {0}) CoordinatorRefusal) (out : Out)
       → join ≡ message server.eui (Challenge (first_packet server))
       → HoldsWith m s.store.records → RoomFor m to join
       → mid ≡ record s { memory = Some (with_session (record { server = server; way = Mesh to; since = now }) (without_oldest m)) }
       → IfSome mid.memory (λ n. Carries mid (telling n to join now) answer out t) → Carries s (challenge_by own m to now server) answer out t
-  told_done join s mid t answer out same h room is tells =
+  ordered_done join s mid t answer out same h room is tells =
       first_done s mid t answer out h (subst (λ (j : JoinMessage). RoomFor m to j) same room) is
       (subst (λ (j : JoinMessage). IfSome mid.memory (λ n. Carries mid (telling n to j now) answer out t)) same tells)
 

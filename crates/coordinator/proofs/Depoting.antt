@@ -124,7 +124,7 @@ depot_is m eui psk entry e granted room is grants may =
 
 issued_quiet : (m : Memory) (x : BookEntry) (d : Draft Memory) → IsQuiet m d → IsQuiet m (with_book_entry x d)
 unfolding with_book_entry
-issued_quiet m x d q = record { units = q.units; told = q.told; untold = q.untold; station = q.station }
+issued_quiet m x d q = record { units = q.units; out_done = q.out_done; out_failed = q.out_failed; station = q.station }
 
 -- what the second step gives, of the memory that the first one left
 at_left : (s mid : State Memory) (d : Draft Memory) (P : Memory → Type 0) → Does s d true mid → IfSome mid.memory P → P d.memory
@@ -151,7 +151,7 @@ depot_done s mid t m eui psk entry granted h room is first grants second =
     carried_by s t (sealing in_memory orders d granted) (depot m eui psk) (Ok granted) nothing
     (depot_is m eui psk entry entry granted room is granting (found m eui psk entry is))
     (stored orders s t d granted nothing q.units (below_limit s m d h q.station)
-    (then_booked s mid t (changed m entry) (book.issued_entry eui granted entry) true first does) q.told)
+    (then_booked s mid t (changed m entry) (book.issued_entry eui granted entry) true first does) q.out_done)
 
 -- the address of the coordinator stays, so there is a grant
 pub home_left : (m : Memory) (entry : BookEntry) → address_of m.station ≡ Some 0 → address_of (changed m entry).memory.station ≡ Some 0
@@ -173,7 +173,7 @@ depot_failed s t m eui psk entry h room is does = by_grant (grant_for (changed m
         let q = issued_quiet m (book.issued_entry eui granted entry) (changed m entry) (changed_quiet m entry) in
         carried_by s t (sealing in_memory orders d granted) (depot m eui psk) (Err Failed) nothing
         (depot_is m eui psk entry entry granted room is grants (found m eui psk entry is))
-        (unstored orders s t d granted nothing (does granted grants) q.untold)
+        (unstored orders s t d granted nothing (does granted grants) q.out_failed)
 
 pub depot_stopped : (s t : State Memory) (m : Memory) (eui : Eui) (psk : Key) (entry : BookEntry) → HoldsWith m s.store.records
     → true ≡ book.has_room m.book eui → entry ≡ book.allowed_entry eui psk (book.entry_for m.book eui) → Does s (changed m entry) false t

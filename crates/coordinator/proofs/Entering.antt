@@ -19,7 +19,7 @@ use Rattle.node_rules.proofs.Composing.{state_is}
 use Rattle.plc_station.proofs.Carrying.{at_some}
 use Rattle.coordinator.specs.CoordinatorAgreement.{HoldsWith}
 use Rattle.coordinator.specs.Doings.{Does}
-use Rattle.coordinator.proofs.Storing.{stored, unstored, carried_by, told, untold}
+use Rattle.coordinator.proofs.Storing.{stored, unstored, carried_by, out_done, out_failed}
 
 -- # Doings one after another
 
@@ -68,14 +68,14 @@ held_other m e is = ap (change_by m e) is
 -- what changes sends nothing, and the station stays
 pub record IsQuiet (m : Memory) (d : Draft Memory) : Type 0 where
   pub units : d.units ≡ []
-  pub told : nothing ≡ told d
-  pub untold : nothing ≡ untold d
+  pub out_done : nothing ≡ out_done d
+  pub out_failed : nothing ≡ out_failed d
   pub station : d.memory.station ≡ m.station
 
 quiet_by : (m : Memory) (e : BookEntry) (held : Bool) → IsQuiet m (change_by m e held)
 unfolding change_by with_memory_by with_book_entry empty_draft
-quiet_by m e true = record { units = refl; told = refl; untold = refl; station = refl }
-quiet_by m e false = record { units = refl; told = refl; untold = refl; station = refl }
+quiet_by m e true = record { units = refl; out_done = refl; out_failed = refl; station = refl }
+quiet_by m e false = record { units = refl; out_done = refl; out_failed = refl; station = refl }
 
 pub changed_quiet : (m : Memory) (e : BookEntry) → IsQuiet m (changed m e)
 unfolding change_by
@@ -117,11 +117,11 @@ pub allow_done : (s t : State Memory) (m : Memory) (eui : Eui) (psk : Key) (entr
 allow_done s t m eui psk entry address h room is at does =
     let q = changed_quiet m entry in
     carried_by s t (sealing in_memory orders (changed m entry) address) (allow m eui psk) (Ok address) nothing (allow_is m eui psk entry address room is at)
-    (stored orders s t (changed m entry) address nothing q.units (below_limit s m (changed m entry) h q.station) does q.told)
+    (stored orders s t (changed m entry) address nothing q.units (below_limit s m (changed m entry) h q.station) does q.out_done)
 
 pub allow_failed : (s t : State Memory) (m : Memory) (eui : Eui) (psk : Key) (entry : BookEntry) → true ≡ book.has_room m.book eui
     → entry ≡ book.allowed_entry eui psk (book.entry_for m.book eui) → Does s (changed m entry) false t → Carries s (allow m eui psk) (Err Failed) nothing t
 allow_failed s t m eui psk entry room is does =
     let address = book.place_for m.book entry.eui + 1 in
     carried_by s t (sealing in_memory orders (changed m entry) address) (allow m eui psk) (Err Failed) nothing (allow_is m eui psk entry address room is refl)
-    (unstored orders s t (changed m entry) address nothing does (changed_quiet m entry).untold)
+    (unstored orders s t (changed m entry) address nothing does (changed_quiet m entry).out_failed)

@@ -85,10 +85,10 @@ module _ (m : Memory) (e : BookEntry) (to : ℕ) where
   from_address : Option ℕ → Draft Memory
   from_address o = option_map_or (λ own. on_station (commands own to (command_of (message e.eui Kick)) 0) (shut_out m e)) o (shut_out m e)
 
-  pub told_plan : address_of m.station ≡ Some 0 → reaches m to ≡ true
+  pub ordered_plan : address_of m.station ≡ Some 0 → reaches m to ≡ true
       → behind (shut_out m e).puts (telling (shut_out m e).memory to (message e.eui Kick) 0) ≡ kick_by m e to
   unfolding goes_by from_address is_commanded with_memory_by with_book_entry empty_draft
-  told_plan home reached =
+  ordered_plan home reached =
       command_plan orders (shut_out m e).puts (shut_out m e).memory [] [] [] 0 to (Command (command_of (message e.eui Kick))) 0 tt
       ∙ (λ i. sealing in_memory orders (from_address (sym home i)) tt) ∙ (λ i. sealing in_memory orders (goes_by (sym reached i)) tt)
 
@@ -106,20 +106,20 @@ alone_opened l own to load now = opened_by l own to load now (next_hop l to) (is
 
 pub shut_quiet : (m : Memory) (e : BookEntry) → IsQuiet m (shut_out m e)
 unfolding with_memory_by with_book_entry empty_draft
-shut_quiet m e = record { units = refl; told = refl; untold = refl; station = refl }
+shut_quiet m e = record { units = refl; out_done = refl; out_failed = refl; station = refl }
 
 module _ (s : State Memory) (m : Memory) (e : BookEntry) where
   pub silent_done : (t : State Memory) → HoldsWith m s.store.records → Does s (shut_out m e) true t → Carries s (silently m e) (Ok tt) nothing t
   silent_done t h does =
-      let q = shut_quiet m e in stored orders s t (shut_out m e) tt nothing q.units (below_limit s m (shut_out m e) h q.station) does q.told
+      let q = shut_quiet m e in stored orders s t (shut_out m e) tt nothing q.units (below_limit s m (shut_out m e) h q.station) does q.out_done
 
   pub silent_stopped : (t : State Memory) → Does s (shut_out m e) false t → Carries s (silently m e) (Err Failed) nothing t
-  silent_stopped t does = unstored orders s t (shut_out m e) tt nothing does (shut_quiet m e).untold
+  silent_stopped t does = unstored orders s t (shut_out m e) tt nothing does (shut_quiet m e).out_failed
 
-  pub told_stopped : (t : State Memory) (to : ℕ) (out : Out) → HoldsWith m s.store.records → reaches m to ≡ true → out ≡ nothing → Does s (shut_out m e) false t
+  pub ordered_stopped : (t : State Memory) (to : ℕ) (out : Out) → HoldsWith m s.store.records → reaches m to ≡ true → out ≡ nothing → Does s (shut_out m e) false t
       → Carries s (kick_by m e to) (Err Failed) out t
-  told_stopped t to out h reached empty does =
-      carried_by s t _ (kick_by m e to) (Err Failed) out (told_plan m e to h.home reached)
+  ordered_stopped t to out h reached empty does =
+      carried_by s t _ (kick_by m e to) (Err Failed) out (ordered_plan m e to h.home reached)
       (carries_stopped s t (shut_out m e).puts _ (behind (shut_out m e).puts (telling (shut_out m e).memory to (message e.eui Kick) 0)) out does.wrote refl
       (empty ∙ (λ i. record {
         frames = [];
@@ -127,12 +127,12 @@ module _ (s : State Memory) (m : Memory) (e : BookEntry) where
       }))
       (ap (λ (x : State Memory). x.eui) does.state) (ap (λ (x : State Memory). x.memory) does.state))
 
-  pub told_done : (mid t : State Memory) (to : ℕ) (answer : Result (Unit {0}) CoordinatorRefusal) (out : Out) → HoldsWith m s.store.records
+  pub ordered_done : (mid t : State Memory) (to : ℕ) (answer : Result (Unit {0}) CoordinatorRefusal) (out : Out) → HoldsWith m s.store.records
       → reaches m to ≡ true
       → Does s (shut_out m e) true mid → IfSome mid.memory (λ n. Carries mid (telling n to (message e.eui Kick) 0) answer out t)
       → Carries s (kick_by m e to) answer out t
-  told_done mid t to answer out h reached does tells =
-      carried_by s t _ (kick_by m e to) answer out (told_plan m e to h.home reached)
+  ordered_done mid t to answer out h reached does tells =
+      carried_by s t _ (kick_by m e to) answer out (ordered_plan m e to h.home reached)
       (carries_behind s mid t (shut_out m e).puts (telling (shut_out m e).memory to (message e.eui Kick) 0) answer out does.wrote
       (sym (ap (λ (x : State Memory). x.eui) does.state))
       (at_some mid.memory (λ n. Carries mid (telling n to (message e.eui Kick) 0) answer out t) (shut_out m e).memory

@@ -33,7 +33,7 @@ use Rattle.node_rules.specs.Calls.{commands, command_fault, command_frames}
 use Rattle.node_rules.specs.Coordinators.{Hearing, says}
 use Rattle.node_rules.specs.States.{State}
 use Rattle.node_rules.specs.Carrying.{Carries}
-use Rattle.node_rules.specs.Composing.{behind, adding, told, command_alone, HasRoom}
+use Rattle.node_rules.specs.Composing.{behind, adding, answer_if_sent, command_alone, HasRoom}
 use Rattle.node_rules.proofs.Composing.{carries_within, carries_behind, carries_stopped, carries_quiet, state_is, sealed_quiet, command_plan, command_units}
 use Rattle.node_rules.proofs.Composing.{room_fault_as, room_seals, room_refuses, carried_whole, carried_cut}
 use Rattle.plc_station.specs.Rooms.{room_answer}
@@ -89,7 +89,7 @@ module _ (m : Memory) (to : ℕ) (join : JoinMessage) (now : ℕ) where
   by_own puts tags o = option_map_or (λ own. on_station (commands own to (command_of join) now) (done_by puts m tags)) o (done_by puts m tags)
 
   pub command_is : {H : Type 0} (puts : List Write) (tags : TagList) (answer : H) → address_of m.station ≡ Some 0
-      → adding [] tags.made tags.opened (behind puts (within (λ l. with_station l m) (told dropped answer) Alone))
+      → adding [] tags.made tags.opened (behind puts (within (λ l. with_station l m) (answer_if_sent dropped answer) Alone))
       ≡ sealing in_memory dropped (says (Mesh to) join now (done_by puts m tags)) answer
   unfolding by_own is_commanded
   command_is puts tags answer home =

@@ -31,18 +31,18 @@ not_none None Q there = absurd (cc)
 not_none (Some m) Q there = tt
 
 -- what goes out of a draft without units
-abbrev pub told : Draft Memory → Out
-told d = record { frames = map (spelled network) d.plain; tags = record { made = d.made; opened = d.opened } }
+abbrev pub out_done : Draft Memory → Out
+out_done d = record { frames = map (spelled network) d.plain; tags = record { made = d.made; opened = d.opened } }
 
-abbrev pub untold : Draft Memory → Out
-untold d = record { frames = []; tags = record { made = []; opened = d.opened } }
+abbrev pub out_failed : Draft Memory → Out
+out_failed d = record { frames = []; tags = record { made = []; opened = d.opened } }
 
 begun_is : (d : Draft Memory) → d.units ≡ [] → begun d.puts d.memory d.plain d.made d.opened ≡ d
 begun_is d none = λ i. record { puts = d.puts; memory = d.memory; units = sym none i; plain = d.plain; made = d.made; opened = d.opened }
 
 -- all of it was done
 pub stored : {H E : Type 0} (ends : Ends E) (s t : State Memory) (d : Draft Memory) (answer : H) (out : Out) → d.units ≡ []
-    → d.memory.station.counter.next ≤ d.memory.station.counter.limit → Does s d true t → out ≡ told d
+    → d.memory.station.counter.next ≤ d.memory.station.counter.limit → Does s d true t → out ≡ out_done d
     → Carries s (sealing in_memory ends d answer) (Ok answer) out t
 stored {H} {E} ends s t d answer out none below does is =
     subst (λ (x : Draft Memory). Carries s (sealing in_memory ends x answer) (Ok answer) out t) (begun_is d none)
@@ -50,7 +50,7 @@ stored {H} {E} ends s t d answer out none below does is =
     (ap (λ (x : State Memory). x.memory) does.state))
 
 -- a put failed
-pub unstored : {H E : Type 0} (ends : Ends E) (s t : State Memory) (d : Draft Memory) (answer : H) (out : Out) → Does s d false t → out ≡ untold d
+pub unstored : {H E : Type 0} (ends : Ends E) (s t : State Memory) (d : Draft Memory) (answer : H) (out : Out) → Does s d false t → out ≡ out_failed d
     → Carries s (sealing in_memory ends d answer) (Err ends.store) out t
 unstored {H} {E} ends s t d answer out does is =
     carries_unsealed ends s t d d.puts [] answer out does.wrote (sym (append-nil d.puts)) is (ap (λ (x : State Memory). x.eui) does.state)

@@ -8,7 +8,7 @@ use Rattle.node_rules.specs.Plans.{within}
 use Rattle.node_rules.specs.Drafts.{counters_left}
 use Rattle.node_rules.specs.Joining.{command_of}
 use Rattle.node_rules.specs.Calls.{command_fault}
-use Rattle.node_rules.specs.Composing.{HasRoom, told, command_alone}
+use Rattle.node_rules.specs.Composing.{HasRoom, answer_if_sent, command_alone}
 use Rattle.node_rules.specs.Coordinators.{Ordering, orders, lacking}
 
 -- there is room for the command that carries a message
@@ -22,7 +22,7 @@ lacks m to octets = command_fault orders lacking m.station to octets
 -- the command goes, from the coordinator's address
 abbrev pub telling : Memory → ℕ → JoinMessage → ℕ → Ordering (Unit {0})
 telling m to join now =
-    within (λ l. with_station l m) (told orders tt) (command_alone m.station 0 to (Command (command_of join)) now)
+    within (λ l. with_station l m) (answer_if_sent orders tt) (command_alone m.station 0 to (Command (command_of join)) now)
 
 -- whether there is a route to an address, and a counter for a frame
 abbrev pub reaches : Memory → ℕ → Bool

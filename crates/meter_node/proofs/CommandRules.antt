@@ -35,7 +35,7 @@ use Rattle.node_rules.specs.MemoryDrafts.{in_memory, on_station, is_commanded, c
 use Rattle.node_rules.specs.States.{State}
 use Rattle.node_rules.specs.Carrying.{Carries}
 use Rattle.node_rules.specs.Calls.{command_fault}
-use Rattle.node_rules.specs.Composing.{behind, adding, out_with, seen, begun, told, command_alone, HasRoom}
+use Rattle.node_rules.specs.Composing.{behind, adding, out_with, seen, begun, answer_if_sent, command_alone, HasRoom}
 use Rattle.node_rules.proofs.Composing.{carries_stopped, carries_within, carries_behind, carries_adding, command_plan, command_sent, carried_whole, carried_cut}
 use Rattle.node_rules.proofs.Composing.{Whole, CutOff, room_seals, room_refuses, command_units}
 use Rattle.meter_node.specs.MeterStates.{MeterState, memory_with, node_of}
@@ -69,22 +69,22 @@ module _ (x y : MeterState) (t : State StationMemory) (l : StationMemory) (puts 
   Sending = command_alone l own to (Command octets) now
 
   -- the plan as a meter says it, after other puts
-  abbrev Told : Plan Memory (Result MeterHeard Dropped)
-  Told = behind puts (within (memory_with y) (told dropped answer) Sending)
+  abbrev AnswerPlan : Plan Memory (Result MeterHeard Dropped)
+  AnswerPlan = behind puts (within (memory_with y) (answer_if_sent dropped answer) Sending)
 
   -- the rule
   abbrev pub Commands : Plan Memory (Result MeterHeard Dropped)
   Commands = sealing in_memory dropped (on_station (sets_out own to 0 (Command octets) now) (begun puts (memory_with y l) [] made opened)) answer
 
   of_station : (r : Result SentHow SendRefusal) → Wrote x.station.store puts true t.store → x.station.eui ≡ t.eui → Carries t Sending r out y.station
-      → more ≡ out_with [] made opened (is_some (node_of y).memory) out → Carries (node_of x) Commands (told dropped answer r) more (node_of y)
+      → more ≡ out_with [] made opened (is_some (node_of y).memory) out → Carries (node_of x) Commands (answer_if_sent dropped answer r) more (node_of y)
   of_station r wrote eui c is =
-      subst (λ (p : Plan Memory (Result MeterHeard Dropped)). Carries (node_of x) p (told dropped answer r) more (node_of y))
+      subst (λ (p : Plan Memory (Result MeterHeard Dropped)). Carries (node_of x) p (answer_if_sent dropped answer r) more (node_of y))
       (command_plan dropped puts (memory_with y l) [] made opened own to (Command octets) now answer)
-      (carries_adding [] made opened (node_of x) (node_of y) Told (told dropped answer r) out more
-      (carries_behind (node_of x) (seen (memory_with y) t) (node_of y) puts (within (memory_with y) (told dropped answer) Sending) (told dropped answer r) out
+      (carries_adding [] made opened (node_of x) (node_of y) AnswerPlan (answer_if_sent dropped answer r) out more
+      (carries_behind (node_of x) (seen (memory_with y) t) (node_of y) puts (within (memory_with y) (answer_if_sent dropped answer) Sending) (answer_if_sent dropped answer r) out
       wrote eui
-      (carries_within (memory_with y) (told dropped answer) (seen (memory_with y) t) t y.station Sending r out refl refl c)) is)
+      (carries_within (memory_with y) (answer_if_sent dropped answer) (seen (memory_with y) t) t y.station Sending r out refl refl c)) is)
 
   sending : (r : Result SentHow SendRefusal) → address_of l ≡ Some own → HasRoom l to (length octets)
       → Carries t (calls.send_command l to octets now) r out y.station → Carries t Sending r out y.station
@@ -129,7 +129,7 @@ module _ (x y : MeterState) (t : State StationMemory) (l : StationMemory) (puts 
   stopped_before wrote eui memory is =
       subst (λ (p : Plan Memory (Result MeterHeard Dropped)). Carries (node_of x) p (Err dropped.store) more (node_of y))
       (command_plan dropped puts (memory_with y l) [] made opened own to (Command octets) now answer)
-      (carries_stopped (node_of x) (node_of y) puts Sending.puts (adding [] made opened Told) more wrote refl
+      (carries_stopped (node_of x) (node_of y) puts Sending.puts (adding [] made opened AnswerPlan) more wrote refl
       (is ∙ (λ i. record {
         frames = [];
         tags = record { made = []; opened = (sym (append-nil opened) ∙ ap (λ k. opened ++ k) (sym (opened_none l own to (Command octets) now))) i };

@@ -35,7 +35,7 @@ use Rattle.group_keys.specs.declared.fault.RingFault.TheVariants.{Store as RingS
 use Rattle.node_rules.specs.declared.refusal.SendRefusal.TheVariants.{NotJoined, CounterSpent}
 use Rattle.node_rules.specs.States.{State}
 use Rattle.node_rules.specs.Carrying.{Carries, given}
-use Rattle.node_rules.specs.Composing.{behind, adding, out_with, seen, begun, told, command_alone, HasRoom}
+use Rattle.node_rules.specs.Composing.{behind, adding, out_with, seen, begun, answer_if_sent, command_alone, HasRoom}
 
 -- # A part of what a node holds
 
@@ -187,7 +187,7 @@ sealed_quiet {H} {E} ends m d answer none = rw (none, never_less (counters_left 
 module _ {H E : Type 0} (ends : Ends E) (puts : List Write) (m : Memory) (plain : List Sent) (made opened : List PairTag) (own to : ℕ) (load : Load) (now : ℕ) (answer : H) where
   abbrev CommandPlan : Type 0
   CommandPlan =
-      adding plain made opened (behind puts (within (λ l. with_station l m) (told ends answer) (command_alone m.station own to load now)))
+      adding plain made opened (behind puts (within (λ l. with_station l m) (answer_if_sent ends answer) (command_alone m.station own to load now)))
       ≡ sealing in_memory ends (on_station (sets_out own to 0 load now) (begun puts m plain made opened)) answer
 
   by_hop : (hop : ℕ) → next_hop m.station to ≡ Some hop → CommandPlan

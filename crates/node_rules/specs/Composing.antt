@@ -61,9 +61,9 @@ abbrev pub command_alone : StationMemory → (own to : ℕ) → Load → (now : 
 command_alone l own to load now = sealing alone sending_ends (sets_out own to 0 load now (empty_draft l)) (how l to)
 
 -- its answer, as another one: it went out or waits, or a put failed
-abbrev pub told : {H E : Type 0} → Ends E → H → Result SentHow SendRefusal → Result H E
-told ends answer (Ok how) = Ok answer
-told ends answer (Err reason) = Err ends.store
+abbrev pub answer_if_sent : {H E : Type 0} → Ends E → H → Result SentHow SendRefusal → Result H E
+answer_if_sent ends answer (Ok how) = Ok answer
+answer_if_sent ends answer (Err reason) = Err ends.store
 
 -- # A joining command that the station hands on
 

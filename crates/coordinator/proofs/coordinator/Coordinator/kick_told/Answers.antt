@@ -3,12 +3,12 @@ use Rattle.coordinator.specs.CoordinatorStates.{node_of}
 use Rattle.coordinator.specs.Kicking.{shut_out}
 use Rattle.coordinator.proofs.Storing.{by_some}
 use Rattle.coordinator.proofs.Depoting.{runs}
-use Rattle.coordinator.proofs.Kicks.{told_done, told_stopped, room_left}
+use Rattle.coordinator.proofs.Kicks.{ordered_done, ordered_stopped, room_left}
 use Rattle.coordinator.proofs.coordinator.Coordinator.kick_told.Goals as goal
 
 pub returns-in_default-clause-carries : goal.returns-in_default-clause-carries
 returns-in_default-clause-carries g c =
-    if_some (node_of c.args.self.now).memory _ (λ m running. told_stopped (node_of c.args.self.now) m c.args.entry _ c.args.to _
+    if_some (node_of c.args.self.now).memory _ (λ m running. ordered_stopped (node_of c.args.self.now) m c.args.entry _ c.args.to _
     (at_some (node_of c.args.self.now).memory _ m running c.requires.holds) (at_some (node_of c.args.self.now).memory _ m running c.requires.reached)
     c.requires.empty (at_some (node_of c.args.self.now).memory _ m running c.in_default.ensures.does))
 
@@ -24,6 +24,6 @@ tell-requires-clause-room g c =
 
 pub returns-clause-carries : goal.returns-clause-carries
 returns-clause-carries g c =
-    if_some (node_of c.args.self.now).memory _ (λ m running. told_done (node_of c.args.self.now) m c.args.entry _ _ c.args.to _ _
+    if_some (node_of c.args.self.now).memory _ (λ m running. ordered_done (node_of c.args.self.now) m c.args.entry _ _ c.args.to _ _
     (at_some (node_of c.args.self.now).memory _ m running c.requires.holds) (at_some (node_of c.args.self.now).memory _ m running c.requires.reached)
     (at_some (node_of c.args.self.now).memory _ m running c.in-Ok.ensures.does) c.tell.ensures.carries)

@@ -5,7 +5,7 @@ use Rattle.node_rules.specs.Coordinators.{orders}
 use Rattle.plc_station.proofs.Carrying.{if_some, at_some}
 use Rattle.coordinator.specs.CoordinatorStates.{node_of}
 use Rattle.coordinator.proofs.Storing.{refusal, by_some}
-use Rattle.coordinator.proofs.Challenges.{told_done, lacking_plan, session_runs, session_room}
+use Rattle.coordinator.proofs.Challenges.{ordered_done, lacking_plan, session_runs, session_room}
 use Rattle.coordinator.proofs.coordinator.Coordinator.open_by.Goals as goal
 
 pub returns-in_err-message_room-clause-carries : goal.returns-in_err-message_room-clause-carries
@@ -30,7 +30,7 @@ tell-requires-clause-room g c =
 
 pub returns-clause-carries : goal.returns-clause-carries
 returns-clause-carries g c =
-    if_some (node_of c.args.self.now).memory _ (λ m running. told_done c.args.self.now.station.eui m c.args.to c.args.now c.args.server c.args.message.now
+    if_some (node_of c.args.self.now).memory _ (λ m running. ordered_done c.args.self.now.station.eui m c.args.to c.args.now c.args.server c.args.message.now
     (node_of c.args.self.now) _ _ _ _ c.requires.packet (at_some (node_of c.args.self.now).memory _ m running c.requires.holds)
     (at_some (node_of c.args.self.now).memory _ m running c.in_ok-message_room.ensures.room)
     (at_some (node_of c.args.self.now).memory _ m running c.begin_session.ensures.state) c.tell.ensures.carries)

@@ -1,7 +1,7 @@
 use Rattle.std.proofs.Common.{refl, ap, sym, ◌∙◌}
 use Rattle.std.specs.Option.{option_map}
 use Rattle.node_rules.specs.Joining.{command_of}
-use Rattle.node_rules.specs.Composing.{told}
+use Rattle.node_rules.specs.Composing.{answer_if_sent}
 use Rattle.node_rules.specs.Coordinators.{orders}
 use Rattle.node_rules.proofs.Composing.{command_sent}
 use Rattle.plc_station.proofs.Carrying.{at_some}
@@ -20,7 +20,7 @@ send_command-requires-clause-agrees g c =
 pub returns-in_default-clause-carries : goal.returns-in_default-clause-carries
 returns-in_default-clause-carries g c =
     rw (← c.self.view_is) (on_parts c.self.inside.station.memory _ _ (λ l running.
-    (within_carried (memory_in c.self.inside.randoms c.self.inside.sessions c.self.inside.book) (told orders tt) c.self.inside.station _ _ _ _
+    (within_carried (memory_in c.self.inside.randoms c.self.inside.sessions c.self.inside.book) (answer_if_sent orders tt) c.self.inside.station _ _ _ _
     (station_by c.self.inside.station _ _ _ _ _ (sym (command_sent 0 c.args.to (command_of c.args.message.now) c.args.now l
     (part_home c.self.inside.randoms c.self.inside.sessions c.self.inside.book _ c.self.inside.station.memory l running
     (rw (← c.self.view_is) at c.requires.holds))
@@ -31,7 +31,7 @@ returns-in_default-clause-carries g c =
 pub returns-clause-carries : goal.returns-clause-carries
 returns-clause-carries g c =
     rw (← c.self.view_is) (on_parts c.self.inside.station.memory _ _ (λ l running.
-    (within_carried (memory_in c.self.inside.randoms c.self.inside.sessions c.self.inside.book) (told orders tt) c.self.inside.station _ _ _ _
+    (within_carried (memory_in c.self.inside.randoms c.self.inside.sessions c.self.inside.book) (answer_if_sent orders tt) c.self.inside.station _ _ _ _
     (station_by c.self.inside.station _ _ _ _ _ (sym (command_sent 0 c.args.to (command_of c.args.message.now) c.args.now l
     (part_home c.self.inside.randoms c.self.inside.sessions c.self.inside.book _ c.self.inside.station.memory l running
     (rw (← c.self.view_is) at c.requires.holds))
