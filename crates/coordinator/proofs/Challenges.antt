@@ -93,12 +93,12 @@ module _ (own : Eui) (m : Memory) (to now : ℕ) (server : Server) where
       → IfSome mid.memory (λ n. Carries mid (telling n to (message server.eui (Challenge (first_packet server))) now) answer out t)
       → Carries s (challenge_by own m to now server) answer out t
   unfolding first opened
-  first_done s mid t answer out h room is tells =
+  first_done s mid t answer out h room is goes =
       let held : mid.memory ≡ Some opened = ap (λ (x : State Memory). x.memory) is in
       carried_by s t (telling opened to first now) (challenge_by own m to now server) answer out (ordered_plan h.home room)
       (carries_behind s mid t [] (telling opened to first now) answer out
       (subst (λ (k : Store). Wrote s.store [] true k) (sym (ap (λ (x : State Memory). x.store) is)) (wrote_none s.store))
-      (sym (ap (λ (x : State Memory). x.eui) is)) (subst (λ (o : Option Memory). IfSome o (λ n. Carries mid (telling n to first now) answer out t)) held tells))
+      (sym (ap (λ (x : State Memory). x.eui) is)) (subst (λ (o : Option Memory). IfSome o (λ n. Carries mid (telling n to first now) answer out t)) held goes))
 
   -- the same of a message that is this one
   pub lacking_plan : (join : JoinMessage) (reason : CoordinatorRefusal) → join ≡ message server.eui (Challenge (first_packet server))
@@ -111,9 +111,9 @@ module _ (own : Eui) (m : Memory) (to now : ℕ) (server : Server) where
       → HoldsWith m s.store.records → RoomFor m to join
       → mid ≡ record s { memory = Some (with_session (record { server = server; way = Mesh to; since = now }) (without_oldest m)) }
       → IfSome mid.memory (λ n. Carries mid (telling n to join now) answer out t) → Carries s (challenge_by own m to now server) answer out t
-  ordered_done join s mid t answer out same h room is tells =
+  ordered_done join s mid t answer out same h room is goes =
       first_done s mid t answer out h (subst (λ (j : JoinMessage). RoomFor m to j) same room) is
-      (subst (λ (j : JoinMessage). IfSome mid.memory (λ n. Carries mid (telling n to j now) answer out t)) same tells)
+      (subst (λ (j : JoinMessage). IfSome mid.memory (λ n. Carries mid (telling n to j now) answer out t)) same goes)
 
 -- # The session in the memory
 

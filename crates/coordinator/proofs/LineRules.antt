@@ -25,7 +25,7 @@ use Rattle.node_rules.specs.Memory.{StationMemory, address_of, next_hop}
 use Rattle.node_rules.specs.Plans.{resting}
 use Rattle.node_rules.specs.Drafts.{Draft, alone, empty_draft, with_rank, with_own_number, with_routing_by, goes, leave, refused, sealing, sealed, checked}
 use Rattle.node_rules.specs.Drafts.{choose}
-use Rattle.node_rules.specs.Hearing.{Hearing, dropped, drop_it, hear_request, hear_reply_for, hear_reply, hear_error, tells_on, loses, forward_by, forward}
+use Rattle.node_rules.specs.Hearing.{Hearing, dropped, drop_it, hear_request, hear_reply_for, hear_reply, hear_error, pass_error_on, loses, forward_by, forward}
 use Rattle.node_rules.specs.Hearing.{report_by, gathered, hear_message, hear_message_in, hear_command, hear_over_mesh, hear_sealed, hear_plain, is_joining}
 use Rattle.node_rules.specs.Hearing.{hear_unit, hear_unit_in, hear}
 use Rattle.coordinator.proofs.Within.{AreBelow, KeepsHome, append_below, number_below, counter_below}
@@ -151,12 +151,12 @@ module _ (l : StationMemory) (home : address_of l ≡ Some 0) (short : length l.
       choose_kept _ _ _ (checked_kept l home short _ _ (sealed_kept l home short _ _ (offered_drafted own origin rank by now)))
       (reply_for_kept own by origin to rank now (next_hop l to))
 
-  tells_drafted : (lost to by : ℕ) (hop : Option ℕ) → Drafted (tells_on lost to hop (loses lost by l))
-  tells_drafted lost to by None = routing_drafted _ _ (empty_drafted l home short)
-  tells_drafted lost to by (Some hop) = goes_drafted _ _ _ _ (routing_drafted _ _ (empty_drafted l home short))
+  sends_drafted : (lost to by : ℕ) (hop : Option ℕ) → Drafted (pass_error_on lost to hop (loses lost by l))
+  sends_drafted lost to by None = routing_drafted _ _ (empty_drafted l home short)
+  sends_drafted lost to by (Some hop) = goes_drafted _ _ _ _ (routing_drafted _ _ (empty_drafted l home short))
 
   error_kept : (own by lost to : ℕ) → Kept (hear_error l own by lost to)
-  error_kept own by lost to = sealed_kept l home short _ _ (tells_drafted lost to by _)
+  error_kept own by lost to = sealed_kept l home short _ _ (sends_drafted lost to by _)
 
   report_kept : (mesh : MeshHeader) (hop : Option ℕ) → Kept (report_by l mesh hop)
   report_kept mesh None = drop _

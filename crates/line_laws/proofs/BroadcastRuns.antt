@@ -60,7 +60,7 @@ use Rattle.reach_rules.specs.Broadcasts.{admits_broadcast, broadcast, broadcast_
 use Rattle.reach_rules.specs.Broadcasts.{hear_broadcast_in, hop_less, own_broadcast, with_broadcast_mark, with_broadcast_number}
 use Rattle.reach_rules.specs.CheckedReplies.{acknowledges, hear_acknowledgement_in, message_of}
 use Rattle.reach_rules.specs.PathAsking.{ask_ends, ask_path, asks_by as asks_over, asks_from, follows_path, hear_path_in, next_toward, path_word}
-use Rattle.reach_rules.specs.ReachingNodes.{Beside, Reaching, drop_it, in_reach, reach_ends, tells_neighbours}
+use Rattle.reach_rules.specs.ReachingNodes.{Beside, Reaching, drop_it, in_reach, reach_ends, adds_local}
 use Rattle.reach_rules.specs.Receiving.{NeighbourCommand, command_of, hear_command, hear_command_at}
 use Rattle.line_events.specs.declared.event.Answer.{Answer}
 use Rattle.line_events.specs.declared.event.Answer.TheVariants as said
@@ -202,7 +202,7 @@ module _ (sent : List Broadcasting) (number : ℕ) (x : Node) (b : Beside) (data
       → (is_spent b.log.numbering ≡ false → b.log.numbering.next < 2 ^ 32)
       → let p : Plan (Reaching Memory) (Result (Unit {0}) BroadcastRefusal) = broadcast in_memory (record { memory = m; beside = b }) datagram in Both OwnBy
       p.answer p.failed p.frames
-  unfolding checked_plan tells_neighbours with_broadcast_number empty_draft
+  unfolding checked_plan adds_local with_broadcast_number empty_draft
   own_sends m here low fits = by_address (address_of m.station) refl
     where
       fails : (e : BroadcastRefusal) → OwnBy (Err e) []
@@ -222,7 +222,7 @@ module _ (sent : List Broadcasting) (number : ℕ) (x : Node) (b : Beside) (data
       by_fault : (own : ℕ) → address_of m.station ≡ Some own → (o : Option BroadcastRefusal) → datagram_fault b.log datagram ≡ o
           → let p : Plan (Reaching Memory) (Result (Unit {0}) BroadcastRefusal) = checked_plan broadcast_ends (record { memory = m; beside = b }) o
           (sealed (in_reach in_memory) broadcast_ends (record { memory = m; beside = b })
-          (tells_neighbours to_all 4 (spelling (own_broadcast own b.log datagram)) (with_broadcast_number (empty_draft (record { memory = m; beside = b }))))
+          (adds_local to_all 4 (spelling (own_broadcast own b.log datagram)) (with_broadcast_number (empty_draft (record { memory = m; beside = b }))))
           tt) in Both OwnBy p.answer p.failed p.frames
       by_fault own e (Some reason) fault = refused_by OwnBy fails broadcast_ends (record { memory = m; beside = b }) reason
       by_fault own e None fault =
@@ -231,7 +231,7 @@ module _ (sent : List Broadcasting) (number : ℕ) (x : Node) (b : Beside) (data
           (option_map (λ address. record { node = number; address = address; number = b.log.numbering.next; datagram = datagram }))
           (ap (option_and_then (λ (n : Memory). address_of n.station)) here ∙ e) in
           sealed_by_plan OwnBy fails broadcast_ends (record { memory = m; beside = b })
-          (tells_neighbours to_all 4 (spelling (own_broadcast own b.log datagram))
+          (adds_local to_all 4 (spelling (own_broadcast own b.log datagram))
           (with_broadcast_number (empty_draft (record { memory = m; beside = b })))) tt
           (subst (λ o. All (FrameSays (UnitSent (sent ++ one_of o))) (sealed_by m.station.ring m.station.counter.next
           (record { to = to_all; unit = units.Local 4 (spelling (own_broadcast own b.log datagram)); note = 0 } ∷ []))) (sym is)
@@ -283,16 +283,16 @@ module _ (sent : List Broadcasting) (ups : List BroadcastUp) (home number : ℕ)
       (λ e. record { whole = (tt, All-nil (FrameSays (UnitSent sent))); cut = (tt, All-nil (FrameSays (UnitSent sent))) }) (λ e. dropped reach_drops.NotAwaited)
 
   follows_casts : (o : Result PathStep PathRefusal) → IsCast (follows_path in_memory z o)
-  unfolding resting tells_neighbours empty_draft
+  unfolding resting adds_local empty_draft
   follows_casts (Err reason) = dropped (path_word reason)
   follows_casts (Ok (Forward to message)) = sealed_by_plan (CastBy sent ups home number) fails reach_ends z
-      (tells_neighbours to 5 (path_spelling message) (empty_draft z)) heard_of.Relayed (
+      (adds_local to 5 (path_spelling message) (empty_draft z)) heard_of.Relayed (
         tt,
         one_sealed (UnitSent sent) m.station.ring m.station.counter.next to (units.Local 5 (path_spelling message)) 0
             (other_sent sent to 5 (path_spelling message) (λ e. cc (e))),
       )
   follows_casts (Ok (Answers to message)) = sealed_by_plan (CastBy sent ups home number) fails reach_ends z
-      (tells_neighbours to 5 (path_spelling message) (empty_draft z)) heard_of.Answered (
+      (adds_local to 5 (path_spelling message) (empty_draft z)) heard_of.Answered (
         tt,
         one_sealed (UnitSent sent) m.station.ring m.station.counter.next to (units.Local 5 (path_spelling message)) 0
             (other_sent sent to 5 (path_spelling message) (λ e. cc (e))),
@@ -318,7 +318,7 @@ module _ (sent : List Broadcasting) (ups : List BroadcastUp) (home number : ℕ)
 
   admits_casts : (own : ℕ) → address_of m.station ≡ Some own → c.code ≡ 4 → (d : Broadcast) → broadcast_in c.body ≡ Some d → broadcast_fault own b.log d ≡ None
       → IsCast (admits_broadcast in_memory z d)
-  unfolding goes_further with_broadcast_mark tells_neighbours empty_draft
+  unfolding goes_further with_broadcast_mark adds_local empty_draft
   admits_casts own e four d read none = by_hops (nat_lt d.hops 2) refl
     where
       s : Spells d c.body
@@ -344,12 +344,12 @@ module _ (sent : List Broadcasting) (ups : List BroadcastUp) (home number : ℕ)
           { hops = (omega arith, omega arith); origin = s.0.origin; number = s.0.number; some = s.0.some; fits = s.0.fits }
 
       by_hops : (t : Bool) → nat_lt d.hops 2 ≡ t → IsCast (sealed (in_reach in_memory) reach_ends z
-          (if t then with_broadcast_mark d.origin d.number (empty_draft z) else tells_neighbours to_all 4 (spelling (hop_less d))
+          (if t then with_broadcast_mark d.origin d.number (empty_draft z) else adds_local to_all 4 (spelling (hop_less d))
           (with_broadcast_mark d.origin d.number (empty_draft z))) (heard_of.Broadcast d.origin d.number d.octets))
       by_hops true e = sealed_by_plan (CastBy sent ups home number) fails reach_ends z (with_broadcast_mark d.origin d.number (empty_draft z))
           (heard_of.Broadcast d.origin d.number d.octets) (up_fits, none_sealed (UnitSent sent) m.station.ring m.station.counter.next)
       by_hops false e = sealed_by_plan (CastBy sent ups home number) fails reach_ends z
-          (tells_neighbours to_all 4 (spelling (hop_less d)) (with_broadcast_mark d.origin d.number (empty_draft z)))
+          (adds_local to_all 4 (spelling (hop_less d)) (with_broadcast_mark d.origin d.number (empty_draft z)))
           (heard_of.Broadcast d.origin d.number d.octets) (
             up_fits,
             one_sealed (UnitSent sent) m.station.ring m.station.counter.next to_all (units.Local 4 (spelling (hop_less d))) 0
@@ -475,7 +475,7 @@ module _ (w : World) (ok : WorldOk w) (s : WorldSpeaks w) (logs : LogsKept w) (r
       }
 
   ask_casts : (x : Node) (b : Beside) (target : ℕ) → All (FrameSays P) (reaches x b (Err ask_faults.Halted) (λ z. ask_path in_memory z target)).frames
-  unfolding choose_plan tells_neighbours empty_draft
+  unfolding choose_plan adds_local empty_draft
   ask_casts x b target = acts_by AskSays x (Err ask_faults.Halted) (with_beside b (λ z. ask_path in_memory z target)) (All-nil (FrameSays P))
       (λ m here. by_address m (address_of m.station))
     where
@@ -486,7 +486,7 @@ module _ (w : World) (ok : WorldOk w) (s : WorldSpeaks w) (logs : LogsKept w) (r
           (record { memory = m; beside = b }) own target o in Both AskSays p.answer p.failed p.frames
       by_route m own None = refused_by AskSays fails ask_ends (record { memory = m; beside = b }) ask_faults.NoRoute
       by_route m own (Some hop) = sealed_by_plan AskSays fails ask_ends (record { memory = m; beside = b })
-          (tells_neighbours hop 5 (path_spelling (Ask target (own ∷ []))) (empty_draft (record { memory = m; beside = b }))) tt
+          (adds_local hop 5 (path_spelling (Ask target (own ∷ []))) (empty_draft (record { memory = m; beside = b }))) tt
           (one_sealed P m.station.ring m.station.counter.next hop (units.Local 5 (path_spelling (Ask target (own ∷ [])))) 0
           (other_sent sent hop 5 (path_spelling (Ask target (own ∷ []))) (λ e. cc (e))))
 

@@ -30,7 +30,7 @@ use Rattle.reach_rules.specs.declared.refusal.ReachDropped.TheVariants.{Known, N
 use Rattle.reach_rules.specs.Broadcasts.{admits_broadcast, broadcast_fault, goes_further, hear_broadcast, hear_broadcast_in, hop_less, with_broadcast_mark}
 use Rattle.reach_rules.specs.CheckedReplies.{hear_acknowledgement, hear_acknowledgement_in}
 use Rattle.reach_rules.specs.PathAsking.{follows_path, hear_path, hear_path_in, next_toward, path_word}
-use Rattle.reach_rules.specs.ReachingNodes.{Beside, Reaching, drop_it, in_reach, reach_ends, remembers, tells_neighbours, with_checks}
+use Rattle.reach_rules.specs.ReachingNodes.{Beside, Reaching, drop_it, in_reach, reach_ends, remembers, adds_local, with_checks}
 use Rattle.reach_rules.specs.Receiving.{NeighbourCommand, hear_command, hear_command_at}
 use Rattle.line_rules.specs.Further.{with_beside}
 
@@ -79,13 +79,13 @@ module _ (x : Reaching Memory) where
       (drop_it x NotAwaited) (keeps (with_checks (acked_after x.beside.checks from number origin) x) heard_of.Acked) (drops NotAwaited)
 
   goes_on : (c : Broadcast) → (goes_further c (with_broadcast_mark c.origin c.number (empty_draft x))).made ≡ []
-  unfolding goes_further with_broadcast_mark tells_neighbours empty_draft
+  unfolding goes_further with_broadcast_mark adds_local empty_draft
   goes_on c = by_hops (nat_lt c.hops 2)
     where
       marked : Draft (Reaching Memory)
       marked = with_broadcast_mark c.origin c.number (empty_draft x)
 
-      by_hops : (t : Bool) → (if t then marked else tells_neighbours to_all 4 (spelling (hop_less c)) marked).made ≡ []
+      by_hops : (t : Bool) → (if t then marked else adds_local to_all 4 (spelling (hop_less c)) marked).made ≡ []
       by_hops true = refl
       by_hops false = refl
 
@@ -98,14 +98,14 @@ module _ (x : Reaching Memory) where
       by_fault None = seals (goes_further c (with_broadcast_mark c.origin c.number (empty_draft x))) (heard_of.Broadcast c.origin c.number c.octets) (goes_on c)
       by_fault (Some reason) = drops reason
 
-  tells : (to : ℕ) (message : PathMessage) → (tells_neighbours to 5 (path_spelling message) (empty_draft x)).made ≡ []
-  unfolding tells_neighbours empty_draft
+  tells : (to : ℕ) (message : PathMessage) → (adds_local to 5 (path_spelling message) (empty_draft x)).made ≡ []
+  unfolding adds_local empty_draft
   tells to message = refl
 
   follows : (o : Result PathStep PathRefusal) → MakesNone (follows_path in_memory x o)
   follows (Err reason) = drops (path_word reason)
-  follows (Ok (Forward to message)) = seals (tells_neighbours to 5 (path_spelling message) (empty_draft x)) heard_of.Relayed (tells to message)
-  follows (Ok (Answer to message)) = seals (tells_neighbours to 5 (path_spelling message) (empty_draft x)) heard_of.Answered (tells to message)
+  follows (Ok (Forward to message)) = seals (adds_local to 5 (path_spelling message) (empty_draft x)) heard_of.Relayed (tells to message)
+  follows (Ok (Answer to message)) = seals (adds_local to 5 (path_spelling message) (empty_draft x)) heard_of.Answered (tells to message)
   follows (Ok (Done walk)) = keeps x (heard_of.Path walk)
 
   paths : (own from : ℕ) (o : Option PathMessage) → MakesNone (hear_path_in in_memory x own from o)

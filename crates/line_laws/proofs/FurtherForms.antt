@@ -31,11 +31,11 @@ use Rattle.reach_rules.specs.declared.heard.CommandHeard.{CommandHeard}
 use Rattle.reach_rules.specs.declared.heard.CommandHeard.TheVariants as heard_of
 use Rattle.reach_rules.specs.declared.refusal.ReachDropped.{ReachDropped}
 use Rattle.reach_rules.specs.declared.refusal.ReachDropped.TheVariants.{Known, NotAwaited}
-use Rattle.reach_rules.specs.ReachingNodes.{Beside, Reaching, in_reach, reach_ends, drop_it, remembers, tells_neighbours, with_checks}
+use Rattle.reach_rules.specs.ReachingNodes.{Beside, Reaching, in_reach, reach_ends, drop_it, remembers, adds_local, with_checks}
 use Rattle.reach_rules.specs.CheckedReplies.{hear_acknowledgement, hear_acknowledgement_in}
 use Rattle.reach_rules.specs.Broadcasts.{broadcast, broadcast_from, broadcast_ends, broadcast_fault, datagram_fault, own_broadcast, with_broadcast_number}
 use Rattle.reach_rules.specs.Broadcasts.{with_broadcast_mark, hop_less, goes_further, admits_broadcast, hear_broadcast, hear_broadcast_in}
-use Rattle.reach_rules.specs.PathAsking.{ask_path, asks_from, asks_by, ask_ends, follows_path, hear_path, hear_path_in, next_toward, path_word, tells_path}
+use Rattle.reach_rules.specs.PathAsking.{ask_path, asks_from, asks_by, ask_ends, follows_path, hear_path, hear_path_in, next_toward, path_word, send_path}
 use Rattle.reach_rules.specs.Receiving.{NeighbourCommand, hear_command, hear_command_at}
 use Rattle.neighbour_checks.specs.Acks.{ack_in}
 use Rattle.neighbour_checks.specs.Neighbours.{is_awaited, acked_after}
@@ -123,7 +123,7 @@ module _ (U : List Outgoing → Type 0) where
 
     asks_by_is : (own : ℕ) (o : Option ℕ) → address_of m.station ≡ Some own → station_route m.station target ≡ o
         → IsFurther U m (of_memory (asks_by in_memory asker own target o))
-    unfolding tells_neighbours empty_draft
+    unfolding adds_local empty_draft
     asks_by_is own None here e = refused_is ask_ends asker asks.NoRoute
     asks_by_is own (Some hop) here e = sealed_is ask_ends asker b []
         (record { to = hop; unit = Local 5 (path_spelling (Ask target (own ∷ []))); note = 0 } ∷ []) tt tt (says own hop here e) (omega arith)
@@ -160,12 +160,12 @@ module _ (U : List Outgoing → Type 0) where
     sender = record { memory = m; beside = b }
 
     broadcast_from_is : (own : ℕ) → address_of m.station ≡ Some own → IsFurther U m (of_memory (broadcast_from in_memory sender own datagram))
-    unfolding checked tells_neighbours empty_draft with_broadcast_number
+    unfolding checked adds_local empty_draft with_broadcast_number
     broadcast_from_is own here = by_fault (datagram_fault b.log datagram) refl
       where
         sent : Plan (Reaching Memory) (Result (Unit {0}) BroadcastRefusal)
         sent = sealed (in_reach in_memory) broadcast_ends sender
-            (tells_neighbours to_all 4 (spelling (own_broadcast own b.log datagram)) (with_broadcast_number (empty_draft sender))) tt
+            (adds_local to_all 4 (spelling (own_broadcast own b.log datagram)) (with_broadcast_number (empty_draft sender))) tt
 
         by_fault : (o : Option BroadcastRefusal) → datagram_fault b.log datagram ≡ o → IsFurther U m (of_memory (checked broadcast_ends sender o sent))
         by_fault (Some reason) e = refused_is broadcast_ends sender reason
@@ -220,8 +220,8 @@ module _ (U : List Outgoing → Type 0) (none : U []) where
       (drops x (Known drops_by.BadUnit)) (ack_in_is x from (ack_in body))
 
   tells_is : (x : Reaching Memory) (to : ℕ) (message : PathMessage) (word : CommandHeard) → U (one_of_path to message)
-      → IsFurther U x.memory (of_memory (tells_path in_memory x to message word))
-  unfolding tells_neighbours empty_draft
+      → IsFurther U x.memory (of_memory (send_path in_memory x to message word))
+  unfolding adds_local empty_draft
   tells_is x to message word says =
       sealed_is U reach_ends x x.beside [] (record { to = to; unit = Local 5 (path_spelling message); note = 0 } ∷ []) word tt says (omega arith)
 
@@ -255,14 +255,14 @@ module _ (U : List Outgoing → Type 0) (none : U []) where
 
     goes_is : (own : ℕ) (c : Broadcast) (word : CommandHeard) → broadcast_fault own b.log c ≡ None → U (one_of_broadcast c)
         → IsFurther U m (of_memory (sealed (in_reach in_memory) reach_ends x (goes_further c (with_broadcast_mark c.origin c.number (empty_draft x))) word))
-    unfolding goes_further with_broadcast_mark tells_neighbours empty_draft
+    unfolding goes_further with_broadcast_mark adds_local empty_draft
     goes_is own c word e says = by_hops (nat_lt c.hops 2)
       where
         marked : Draft (Reaching Memory)
         marked = with_broadcast_mark c.origin c.number (empty_draft x)
 
         by_hops : (t : Bool) → IsFurther U m
-            (of_memory (sealed (in_reach in_memory) reach_ends x (if t then marked else tells_neighbours to_all 4 (spelling (hop_less c)) marked) word))
+            (of_memory (sealed (in_reach in_memory) reach_ends x (if t then marked else adds_local to_all 4 (spelling (hop_less c)) marked) word))
         by_hops true = sealed_is U reach_ends x (record b { log = admitted_log b.log c.origin c.number }) (puts_of (keep_write b.log.marks c.origin c.number))
             [] word (logs own c e) none zero-le
         by_hops false = sealed_is U reach_ends x (record b { log = admitted_log b.log c.origin c.number }) (puts_of (keep_write b.log.marks c.origin c.number))

@@ -29,7 +29,7 @@ use Rattle.node_rules.specs.Memory.{StationMemory, address_of, next_hop}
 use Rattle.node_rules.specs.Plans.{resting}
 use Rattle.node_rules.specs.Drafts.{Draft, alone, empty_draft, with_rank, with_own_number, numbers_spent, leave, goes}
 use Rattle.node_rules.specs.Hearing.{Hearing, dropped, drop_it, rank_over, rank_fault, offers, offers_numbered, hear_request, hear_reply, hear_reply_for}
-use Rattle.node_rules.specs.Hearing.{hear_error, loses, tells_on, report_by, forward_by, gathered, gather, hear_message, hear_message_in, hear_over_mesh}
+use Rattle.node_rules.specs.Hearing.{hear_error, loses, pass_error_on, report_by, forward_by, gathered, gather, hear_message, hear_message_in, hear_over_mesh}
 use Rattle.node_rules.specs.Hearing.{hear_sealed, is_joining, hear_plain, hear_unit, hear_unit_in, hear}
 use Rattle.node_rules.proofs.Words.{IsDone, learns_done, sends_on_done, answers_done, goes_done, error_done, error_on_done}
 use Rattle.line_laws.proofs.Planned.{Planned, Refuses, Keeps, checked_planned, choose_planned, sealed_planned}
@@ -191,22 +191,22 @@ module _ (W : RingWord → Type 0) (g : Given) (l : StationMemory) where
   loses_made : (lost by : ℕ) → Made W g (empty_draft l) (loses lost by l)
   loses_made lost by = Loses lost by (empty_draft l) Starts
 
-  tells_on_made : (lost to by : ℕ) (hop : Option ℕ) → IsTold g by false (Rerr lost to)
-      → ((h : ℕ) → hop ≡ Some h → next_hop (loses lost by l).memory to ≡ Some h) → Made W g (empty_draft l) (tells_on lost to hop (loses lost by l))
-  tells_on_made lost to by None told there = loses_made lost by
-  tells_on_made lost to by (Some hop) told there = Goes hop _ 0 _ (loses_made lost by) (Tells hop lost to to (ByError by lost to told) (there hop refl)) Unnoted
+  pass_error_on_made : (lost to by : ℕ) (hop : Option ℕ) → IsTold g by false (Rerr lost to)
+      → ((h : ℕ) → hop ≡ Some h → next_hop (loses lost by l).memory to ≡ Some h) → Made W g (empty_draft l) (pass_error_on lost to hop (loses lost by l))
+  pass_error_on_made lost to by None told there = loses_made lost by
+  pass_error_on_made lost to by (Some hop) told there = Goes hop _ 0 _ (loses_made lost by) (Tells hop lost to to (ByError by lost to told) (there hop refl)) Unnoted
 
   -- the hop that is left
   hop_left : (b : Bool) (lost to by h : ℕ) → (if b then None else next_hop (loses lost by l).memory to) ≡ Some h → next_hop (loses lost by l).memory to ≡ Some h
   hop_left true lost to by h e = absurd (cc)
   hop_left false lost to by h e = e
 
-  tells_on_done : (lost to by : ℕ) (hop : Option ℕ) → IsDone l (tells_on lost to hop (loses lost by l))
-  tells_on_done lost to by None = error_done l (λ r. routing.without_next_to r lost by)
-  tells_on_done lost to by (Some hop) = error_on_done l hop _ 0 (λ r. routing.without_next_to r lost by)
+  pass_error_on_done : (lost to by : ℕ) (hop : Option ℕ) → IsDone l (pass_error_on lost to hop (loses lost by l))
+  pass_error_on_done lost to by None = error_done l (λ r. routing.without_next_to r lost by)
+  pass_error_on_done lost to by (Some hop) = error_on_done l hop _ 0 (λ r. routing.without_next_to r lost by)
 
   error_is : (own by lost to : ℕ) → IsTold g by false (Rerr lost to) → Is (hear_error l own by lost to)
-  error_is own by lost to told = sealed_planned _ _ (tells_on_made lost to by _ told (hop_left (to == own) lost to by), tells_on_done lost to by _, tt)
+  error_is own by lost to told = sealed_planned _ _ (pass_error_on_made lost to by _ told (hop_left (to == own) lost to by), pass_error_on_done lost to by _, tt)
 
   message_is : (own by : ℕ) (all : Bool) (message : Message) → address_of l ≡ Some own → IsTold g by all message
       → Is (hear_message l own by all g.cost g.now message)

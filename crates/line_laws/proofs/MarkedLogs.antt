@@ -68,7 +68,7 @@ use Rattle.reach_rules.specs.Broadcasts.{admits_broadcast, broadcast, broadcast_
 use Rattle.reach_rules.specs.Broadcasts.{hear_broadcast_in, hop_less, mark_fault, own_broadcast, with_broadcast_mark, with_broadcast_number}
 use Rattle.reach_rules.specs.CheckedReplies.{hear_acknowledgement_in}
 use Rattle.reach_rules.specs.PathAsking.{ask_ends, ask_path, asks_by, asks_from, follows_path, hear_path_in, next_toward, path_word}
-use Rattle.reach_rules.specs.ReachingNodes.{Beside, Reaching, drop_it, in_reach, nothing_beside, reach_ends, remembers, restarted_by, tells_neighbours}
+use Rattle.reach_rules.specs.ReachingNodes.{Beside, Reaching, drop_it, in_reach, nothing_beside, reach_ends, remembers, restarted_by, adds_local}
 use Rattle.reach_rules.specs.ReachingNodes.{with_checks}
 use Rattle.reach_rules.specs.Receiving.{NeighbourCommand, hear_command, hear_command_at}
 use Rattle.line_events.specs.declared.happenings.BroadcastUp.{BroadcastUp}
@@ -307,15 +307,15 @@ module _ (ups : List BroadcastUp) (n : ℕ) where
     number_left datagram e = when_none _ _ (then_none _ _ e).1
 
     pub broadcast_marks : (datagram : List ℕ) → PlanMarks b (λ _. None) (broadcast in_memory y datagram)
-    unfolding checked tells_neighbours empty_draft with_broadcast_number
+    unfolding checked adds_local empty_draft with_broadcast_number
     broadcast_marks datagram = by_address (address_of m.station)
       where
         by_fault : (own : ℕ) (o : Option BroadcastRefusal) → datagram_fault b.log datagram ≡ o
             → PlanMarks b (λ _. None) (checked broadcast_ends y o (sealed (in_reach in_memory) broadcast_ends y
-            (tells_neighbours to_all 4 (spelling (own_broadcast own b.log datagram)) (with_broadcast_number (empty_draft y))) (tt {0})))
+            (adds_local to_all 4 (spelling (own_broadcast own b.log datagram)) (with_broadcast_number (empty_draft y))) (tt {0})))
         by_fault own (Some reason) e = refused_marks (λ _. None) (λ e. refl) broadcast_ends reason
         by_fault own None e = sealed_marks (λ _. None) (λ e. refl) broadcast_ends
-            (tells_neighbours to_all 4 (spelling (own_broadcast own b.log datagram)) (with_broadcast_number (empty_draft y))) (tt {0})
+            (adds_local to_all 4 (spelling (own_broadcast own b.log datagram)) (with_broadcast_number (empty_draft y))) (tt {0})
             (number_leads b.log (number_left datagram e))
 
         by_address : (o : Option ℕ) → PlanMarks b (λ _. None) (option_map_or (λ own. broadcast_from in_memory y own datagram) o
@@ -325,12 +325,12 @@ module _ (ups : List BroadcastUp) (n : ℕ) where
 
     -- an ask
     pub ask_marks : (target : ℕ) → PlanMarks b (λ _. None) (ask_path in_memory y target)
-    unfolding tells_neighbours empty_draft
+    unfolding adds_local empty_draft
     ask_marks target = by_address (address_of m.station)
       where
         by_route : (own : ℕ) (o : Option ℕ) → PlanMarks b (λ _. None) (asks_by in_memory y own target o)
         by_route own None = refused_marks (λ _. None) (λ e. refl) ask_ends asks_of.NoRoute
-        by_route own (Some hop) = sealed_marks (λ _. None) (λ e. refl) ask_ends (tells_neighbours hop 5 (path_spelling (Ask target (own ∷ []))) (empty_draft y))
+        by_route own (Some hop) = sealed_marks (λ _. None) (λ e. refl) ask_ends (adds_local hop 5 (path_spelling (Ask target (own ∷ []))) (empty_draft y))
             (tt {0}) still_leads
 
         by_address : (o : Option ℕ) → PlanMarks b (λ _. None) (option_map_or (λ own. asks_from in_memory y own target) o (refused ask_ends y asks_of.NotJoined))
@@ -365,11 +365,11 @@ module _ (ups : List BroadcastUp) (n : ℕ) where
           (dropped reach_drops.NotAwaited)
 
       follows_marks : (o : Result PathStep PathRefusal) → PlanMarks b Ups (follows_path in_memory y o)
-      unfolding resting tells_neighbours empty_draft
+      unfolding resting adds_local empty_draft
       follows_marks (Err reason) = dropped (path_word reason)
-      follows_marks (Ok (Forward to message)) = sealed_marks Ups drops_up reach_ends (tells_neighbours to 5 (path_spelling message) (empty_draft y))
+      follows_marks (Ok (Forward to message)) = sealed_marks Ups drops_up reach_ends (adds_local to 5 (path_spelling message) (empty_draft y))
           heard_of.Relayed still_leads
-      follows_marks (Ok (Answer to message)) = sealed_marks Ups drops_up reach_ends (tells_neighbours to 5 (path_spelling message) (empty_draft y))
+      follows_marks (Ok (Answer to message)) = sealed_marks Ups drops_up reach_ends (adds_local to 5 (path_spelling message) (empty_draft y))
           heard_of.Answered still_leads
       follows_marks (Ok (Done walk)) = record { leads = still_leads; cut = refl }
 
@@ -390,7 +390,7 @@ module _ (ups : List BroadcastUp) (n : ℕ) where
 
       admits_marks : (own : ℕ) (d : Broadcast) → broadcast_in c.body ≡ Some d → broadcast_fault own b.log d ≡ None
           → PlanMarks b Ups (admits_broadcast in_memory y d)
-      unfolding goes_further with_broadcast_mark tells_neighbours empty_draft
+      unfolding goes_further with_broadcast_mark adds_local empty_draft
       admits_marks own d read none = by_hops (nat_lt d.hops 2)
         where
           up : BroadcastUp
@@ -408,9 +408,9 @@ module _ (ups : List BroadcastUp) (n : ℕ) where
           marked = with_broadcast_mark d.origin d.number (empty_draft y)
 
           by_hops : (t : Bool) → PlanMarks b Ups (sealed (in_reach in_memory) reach_ends y
-              (if t then marked else tells_neighbours to_all 4 (spelling (hop_less d)) marked) (heard_of.Broadcast d.origin d.number d.octets))
+              (if t then marked else adds_local to_all 4 (spelling (hop_less d)) marked) (heard_of.Broadcast d.origin d.number d.octets))
           by_hops true = sealed_marks Ups drops_up reach_ends marked (heard_of.Broadcast d.origin d.number d.octets) leads
-          by_hops false = sealed_marks Ups drops_up reach_ends (tells_neighbours to_all 4 (spelling (hop_less d)) marked)
+          by_hops false = sealed_marks Ups drops_up reach_ends (adds_local to_all 4 (spelling (hop_less d)) marked)
               (heard_of.Broadcast d.origin d.number d.octets) leads
 
       broadcast_in_marks : (own : ℕ) (o : Option Broadcast) → broadcast_in c.body ≡ o → PlanMarks b Ups (hear_broadcast_in in_memory y own o)

@@ -46,7 +46,7 @@ use Rattle.reach_rules.specs.declared.refusal.ReachDropped.TheVariants as reach_
 use Rattle.reach_rules.specs.Broadcasts.{admits_broadcast, broadcast_fault, goes_further, hear_broadcast, hear_broadcast_in, mark_fault, with_broadcast_mark}
 use Rattle.reach_rules.specs.CheckedReplies.{hear_acknowledgement, hear_acknowledgement_in}
 use Rattle.reach_rules.specs.PathAsking.{follows_path, hear_path, hear_path_in, next_toward, path_word}
-use Rattle.reach_rules.specs.ReachingNodes.{Beside, Reaching, drop_it, in_reach, reach_ends, remembers, tells_neighbours, with_checks}
+use Rattle.reach_rules.specs.ReachingNodes.{Beside, Reaching, drop_it, in_reach, reach_ends, remembers, adds_local, with_checks}
 use Rattle.reach_rules.specs.Receiving.{NeighbourCommand, command_of, command_on, command_with, hear_command, hear_command_at}
 use Rattle.line_events.specs.declared.event.Event.{Event}
 use Rattle.line_rules.specs.Forgery.{Comes, accepting}

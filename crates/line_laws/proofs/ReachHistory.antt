@@ -63,7 +63,7 @@ use Rattle.reach_rules.specs.Broadcasts.{admits_broadcast, broadcast, broadcast_
 use Rattle.reach_rules.specs.Broadcasts.{hear_broadcast_in, hop_less, own_broadcast, with_broadcast_mark, with_broadcast_number}
 use Rattle.reach_rules.specs.CheckedReplies.{checks_after, hear_acknowledgement_in, message_of}
 use Rattle.reach_rules.specs.PathAsking.{ask_ends, ask_path, asks_by as asks_over, asks_from, follows_path, hear_path_in, next_toward, path_word}
-use Rattle.reach_rules.specs.ReachingNodes.{Beside, Reaching, drop_it, in_reach, nothing_beside, reach_ends, restarted_by, tells_neighbours, tick_beside}
+use Rattle.reach_rules.specs.ReachingNodes.{Beside, Reaching, drop_it, in_reach, nothing_beside, reach_ends, restarted_by, adds_local, tick_beside}
 use Rattle.reach_rules.specs.Receiving.{NeighbourCommand, hear_command, hear_command_at}
 use Rattle.line_rules.specs.Answers.{Reception, sent_word}
 use Rattle.line_events.specs.declared.event.Answer.{Answer}
@@ -325,16 +325,16 @@ module _ (number now : ℕ) (b : Beside) where
 
     -- a broadcast
     broadcast_notes : (datagram : List ℕ) → PlanNotes number now b (λ _. None) (broadcast in_memory y datagram)
-    unfolding checked_plan tells_neighbours with_broadcast_number empty_draft
+    unfolding checked_plan adds_local with_broadcast_number empty_draft
     broadcast_notes datagram = by_address (address_of m.station)
       where
         sent : ℕ → Plan (Reaching Memory) (Result (Unit {0}) BroadcastRefusal)
-        sent own = sealed (in_reach in_memory) broadcast_ends y (tells_neighbours to_all 4 (spelling (own_broadcast own b.log datagram))
+        sent own = sealed (in_reach in_memory) broadcast_ends y (adds_local to_all 4 (spelling (own_broadcast own b.log datagram))
             (with_broadcast_number (empty_draft y))) tt
 
         by_fault : (own : ℕ) (o : Option BroadcastRefusal) → PlanNotes number now b (λ _. None) (checked_plan broadcast_ends y o (sent own))
         by_fault own (Some reason) = refused_notes (λ _. None) broadcast_ends reason (λ e. refl)
-        by_fault own None = sealed_notes (λ _. None) broadcast_ends (tells_neighbours to_all 4 (spelling (own_broadcast own b.log datagram))
+        by_fault own None = sealed_notes (λ _. None) broadcast_ends (adds_local to_all 4 (spelling (own_broadcast own b.log datagram))
             (with_broadcast_number (empty_draft y))) tt refl refl refl (λ e. refl)
 
         by_address : (o : Option ℕ) → PlanNotes number now b (λ _. None)
@@ -350,12 +350,12 @@ module _ (number now : ℕ) (b : Beside) where
 
     -- an ask
     ask_notes : (target : ℕ) → PlanNotes number now b (λ _. None) (ask_path in_memory y target)
-    unfolding tells_neighbours empty_draft
+    unfolding adds_local empty_draft
     ask_notes target = by_address (address_of m.station)
       where
         by_route : (own : ℕ) (o : Option ℕ) → PlanNotes number now b (λ _. None) (asks_over in_memory y own target o)
         by_route own None = refused_notes (λ _. None) ask_ends ask_faults.NoRoute (λ e. refl)
-        by_route own (Some hop) = sealed_notes (λ _. None) ask_ends (tells_neighbours hop 5 (path_spelling (Ask target (own ∷ []))) (empty_draft y)) tt refl
+        by_route own (Some hop) = sealed_notes (λ _. None) ask_ends (adds_local hop 5 (path_spelling (Ask target (own ∷ []))) (empty_draft y)) tt refl
             refl refl (λ e. refl)
 
         by_address : (o : Option ℕ) → PlanNotes number now b (λ _. None)
@@ -393,11 +393,11 @@ module _ (number now : ℕ) (b : Beside) where
           (dropped reach_drops.NotAwaited)
 
       follows_notes : (o : Result PathStep PathRefusal) → PlanNotes number now b noted (follows_path in_memory y o)
-      unfolding resting tells_neighbours empty_draft
+      unfolding resting adds_local empty_draft
       follows_notes (Err reason) = dropped (path_word reason)
-      follows_notes (Ok (Forward to message)) = sealed_notes noted reach_ends (tells_neighbours to 5 (path_spelling message) (empty_draft y)) heard_of.Relayed
+      follows_notes (Ok (Forward to message)) = sealed_notes noted reach_ends (adds_local to 5 (path_spelling message) (empty_draft y)) heard_of.Relayed
           refl refl refl (λ e. refl)
-      follows_notes (Ok (Answers to message)) = sealed_notes noted reach_ends (tells_neighbours to 5 (path_spelling message) (empty_draft y)) heard_of.Answered
+      follows_notes (Ok (Answers to message)) = sealed_notes noted reach_ends (adds_local to 5 (path_spelling message) (empty_draft y)) heard_of.Answered
           refl refl refl (λ e. refl)
       follows_notes (Ok (Done walk)) = quiet_notes noted _ refl refl refl refl
 
@@ -406,16 +406,16 @@ module _ (number now : ℕ) (b : Beside) where
       path_notes own (Some message) = follows_notes (taken own c.from (next_toward m.station message) message)
 
       admits_notes : (d : Broadcast) → PlanNotes number now b noted (admits_broadcast in_memory y d)
-      unfolding goes_further with_broadcast_mark tells_neighbours empty_draft
+      unfolding goes_further with_broadcast_mark adds_local empty_draft
       admits_notes d = by_hops (nat_lt d.hops 2)
         where
           marked : Draft (Reaching Memory)
           marked = with_broadcast_mark d.origin d.number (empty_draft y)
 
           by_hops : (t : Bool) → PlanNotes number now b noted (sealed (in_reach in_memory) reach_ends y
-              (if t then marked else tells_neighbours to_all 4 (spelling (hop_less d)) marked) (heard_of.Broadcast d.origin d.number d.octets))
+              (if t then marked else adds_local to_all 4 (spelling (hop_less d)) marked) (heard_of.Broadcast d.origin d.number d.octets))
           by_hops true = sealed_notes noted reach_ends marked (heard_of.Broadcast d.origin d.number d.octets) refl refl refl (λ e. refl)
-          by_hops false = sealed_notes noted reach_ends (tells_neighbours to_all 4 (spelling (hop_less d)) marked)
+          by_hops false = sealed_notes noted reach_ends (adds_local to_all 4 (spelling (hop_less d)) marked)
               (heard_of.Broadcast d.origin d.number d.octets) refl refl refl (λ e. refl)
 
       broadcast_in_notes : (own : ℕ) (o : Option Broadcast) → PlanNotes number now b noted (hear_broadcast_in in_memory y own o)

@@ -44,7 +44,7 @@ use Rattle.reach_rules.specs.declared.refusal.ReachDropped.TheVariants as reach_
 use Rattle.reach_rules.specs.Broadcasts.{admits_broadcast, broadcast_fault, goes_further, hear_broadcast, hear_broadcast_in, hop_less, with_broadcast_mark}
 use Rattle.reach_rules.specs.CheckedReplies.{hear_acknowledgement, hear_acknowledgement_in, message_of}
 use Rattle.reach_rules.specs.PathAsking.{ask_ends, ask_path, asks_by as asks_over, asks_from, follows_path, hear_path, hear_path_in, next_toward, path_word}
-use Rattle.reach_rules.specs.ReachingNodes.{Beside, Reaching, drop_it, in_reach, reach_ends, remembers, tells_neighbours, with_checks}
+use Rattle.reach_rules.specs.ReachingNodes.{Beside, Reaching, drop_it, in_reach, reach_ends, remembers, adds_local, with_checks}
 use Rattle.reach_rules.specs.Receiving.{NeighbourCommand, command_of, hear_command, hear_command_at}
 use Rattle.line_rules.specs.Answers.{Reception}
 use Rattle.line_events.specs.declared.event.Event.{Event}
@@ -138,12 +138,12 @@ module _ (x : Node) (b : Beside) (target : ℕ) (m : Memory) where
       )
 
   asks_leave : AskLeaves (ask_path in_memory asker target)
-  unfolding choose tells_neighbours empty_draft
+  unfolding choose adds_local empty_draft
   asks_leave = by_address (address_of m.station)
     where
       by_route : (own : ℕ) (o : Option ℕ) → AskLeaves (asks_over in_memory asker own target o)
       by_route own None = ask_refused ask_faults.NoRoute
-      by_route own (Some to) = ask_sealed (tells_neighbours to 5 (path_spelling (Ask target (own ∷ []))) (empty_draft asker)) refl
+      by_route own (Some to) = ask_sealed (adds_local to 5 (path_spelling (Ask target (own ∷ []))) (empty_draft asker)) refl
 
       by_test : (own : ℕ) (t : Bool)
           → AskLeaves (choose t (refused ask_ends asker ask_faults.ToSelf) (asks_over in_memory asker own target (station_route m.station target)))
@@ -245,24 +245,24 @@ module _ (x : Node) (b : Beside) (m : Memory) (c : NeighbourCommand) where
       by_fault None = seals (goes_further d (with_broadcast_mark d.origin d.number (empty_draft y))) (heard_of.Broadcast d.origin d.number d.octets) (inl refl)
       by_fault (Some reason) = dropped reason
 
-  same_draft : (to : ℕ) (message : PathMessage) → (tells_neighbours to 5 (path_spelling message) (empty_draft y)).memory ≡ y
-  unfolding tells_neighbours empty_draft
+  same_draft : (to : ℕ) (message : PathMessage) → (adds_local to 5 (path_spelling message) (empty_draft y)).memory ≡ y
+  unfolding adds_local empty_draft
   same_draft to message = refl
 
   tells_follow : (walk : List ℕ) → path_in c.body ≡ Some (Tell walk) → (o : Result PathStep PathRefusal) → Leaves (follows_path in_memory y o)
   tells_follow walk read (Err reason) = dropped (path_word reason)
   tells_follow walk read (Ok (Forward to more)) =
-      seals (tells_neighbours to 5 (path_spelling more) (empty_draft y)) heard_of.Relayed (inl (ap (goes_toward x) read))
-  tells_follow walk read (Ok (Answers to more)) = seals (tells_neighbours to 5 (path_spelling more) (empty_draft y)) heard_of.Answered (inl refl)
+      seals (adds_local to 5 (path_spelling more) (empty_draft y)) heard_of.Relayed (inl (ap (goes_toward x) read))
+  tells_follow walk read (Ok (Answers to more)) = seals (adds_local to 5 (path_spelling more) (empty_draft y)) heard_of.Answered (inl refl)
   tells_follow walk read (Ok (Done other)) = kept y (heard_of.Path other) refl
 
   asks_follow : c.code ≡ 5 → c.to_all ≡ false → (target : ℕ) (walk : List ℕ) → path_in c.body ≡ Some (Ask target walk) → (o : Result PathStep PathRefusal)
       → EndsAsk c.from walk o → Leaves (follows_path in_memory y o)
   asks_follow code alone target walk read (Err reason) last = dropped (path_word reason)
-  asks_follow code alone target walk read (Ok (Forward to more)) last = seals (tells_neighbours to 5 (path_spelling more) (empty_draft y)) heard_of.Relayed
+  asks_follow code alone target walk read (Ok (Forward to more)) last = seals (adds_local to 5 (path_spelling more) (empty_draft y)) heard_of.Relayed
       (inr (record { code = code; alone = alone; target = target; walk = walk; read = read; last = last }, same_draft to more))
   asks_follow code alone target walk read (Ok (Answers to more)) last =
-      seals (tells_neighbours to 5 (path_spelling more) (empty_draft y)) heard_of.Answered (inl refl)
+      seals (adds_local to 5 (path_spelling more) (empty_draft y)) heard_of.Answered (inl refl)
   asks_follow code alone target walk read (Ok (Done other)) last = kept y (heard_of.Path other) refl
 
   walks : c.code ≡ 5 → c.to_all ≡ false → (own : ℕ) (o : Option PathMessage) → path_in c.body ≡ o → Leaves (hear_path_in in_memory y own c.from o)

@@ -64,7 +64,7 @@ use Rattle.reach_rules.specs.Broadcasts.{admits_broadcast, broadcast, broadcast_
 use Rattle.reach_rules.specs.Broadcasts.{hear_broadcast_in, hop_less, own_broadcast, with_broadcast_mark, with_broadcast_number}
 use Rattle.reach_rules.specs.CheckedReplies.{acknowledges, hear_acknowledgement_in, message_of}
 use Rattle.reach_rules.specs.PathAsking.{ask_ends, ask_path, asks_by as asks_over, asks_from, follows_path, hear_path_in, path_word}
-use Rattle.reach_rules.specs.ReachingNodes.{Beside, Reaching, drop_it, in_reach, reach_ends, tells_neighbours}
+use Rattle.reach_rules.specs.ReachingNodes.{Beside, Reaching, drop_it, in_reach, reach_ends, adds_local}
 use Rattle.reach_rules.specs.Receiving.{NeighbourCommand, command_of, hear_command, hear_command_at}
 use Rattle.line_events.specs.declared.event.Answer.{Answer}
 use Rattle.line_events.specs.declared.event.Answer.TheVariants as said
@@ -226,12 +226,12 @@ module _ (walked : List Stepping) where
 
     asks_walk : (own : ℕ) → IsAddress own → address_of m.station ≡ Some own → (target == own) ≡ false → (o : Option ℕ) → station_route m.station target ≡ o
         → IsAsked (asks_over in_memory y own target o)
-    unfolding tells_neighbours empty_draft
+    unfolding adds_local empty_draft
     asks_walk own fits address other None route = refused_by AskBy fails ask_ends y ask_faults.NoRoute
     asks_walk own fits address other (Some to) route =
         let step : Stepping = record { from = own; to = to; target = target } in
         let is : asked x target (Ok tt) ≡ Some step = one_step own to address route in
-        sealed_by_plan AskBy fails ask_ends y (tells_neighbours to 5 (path_spelling (Ask target (own ∷ []))) (empty_draft y)) tt (
+        sealed_by_plan AskBy fails ask_ends y (adds_local to 5 (path_spelling (Ask target (own ∷ []))) (empty_draft y)) tt (
           tt,
           subst (λ o. All (FrameSays (UnitWalks (walked ++ one_of o)))
               (sealed_by m.station.ring m.station.counter.next (record { to = to; unit = units.Local 5 (path_spelling (Ask target (own ∷ []))); note = 0 } ∷
@@ -353,17 +353,17 @@ module _ (walked : List Stepping) (number : ℕ) (x : Node) (b : Beside) (m : Me
       (dropped reach_drops.NotAwaited)
 
   admits_walk : (d : Broadcast) → IsDone (admits_broadcast in_memory z d)
-  unfolding goes_further with_broadcast_mark tells_neighbours empty_draft
+  unfolding goes_further with_broadcast_mark adds_local empty_draft
   admits_walk d = by_hops (nat_lt d.hops 2)
     where
       marked : Draft (Reaching Memory)
       marked = with_broadcast_mark d.origin d.number (empty_draft z)
 
-      by_hops : (t : Bool) → IsDone (sealed (in_reach in_memory) reach_ends z (if t then marked else tells_neighbours to_all 4 (spelling (hop_less d)) marked)
+      by_hops : (t : Bool) → IsDone (sealed (in_reach in_memory) reach_ends z (if t then marked else adds_local to_all 4 (spelling (hop_less d)) marked)
           (heard_of.Broadcast d.origin d.number d.octets))
       by_hops true = sealed_by_plan (HeardBy walked number x c) drops_walk reach_ends z marked (heard_of.Broadcast d.origin d.number d.octets)
           (tt, none_sealed (UnitWalks (walked ++ [])) m.station.ring m.station.counter.next)
-      by_hops false = sealed_by_plan (HeardBy walked number x c) drops_walk reach_ends z (tells_neighbours to_all 4 (spelling (hop_less d)) marked)
+      by_hops false = sealed_by_plan (HeardBy walked number x c) drops_walk reach_ends z (adds_local to_all 4 (spelling (hop_less d)) marked)
           (heard_of.Broadcast d.origin d.number d.octets) (
             tt,
             one_sealed (UnitWalks (walked ++ [])) m.station.ring m.station.counter.next to_all (units.Local 4 (spelling (hop_less d))) 0
@@ -383,10 +383,10 @@ module _ (walked : List Stepping) (number : ℕ) (x : Node) (b : Beside) (m : Me
     -- what is sent on has walked, with the step that it takes
     sends : (to : ℕ) (more : PathMessage) (word : CommandHeard) (stepping : Option Stepping) → step_by x c (Ok word) ≡ stepping
         → path_line number (Ok word) ≡ None → IsPath more → MessageWalks (walked ++ one_of stepping) to more
-        → IsDone (sealed (in_reach in_memory) reach_ends z (tells_neighbours to 5 (path_spelling more) (empty_draft z)) word)
-    unfolding tells_neighbours empty_draft
+        → IsDone (sealed (in_reach in_memory) reach_ends z (adds_local to 5 (path_spelling more) (empty_draft z)) word)
+    unfolding adds_local empty_draft
     sends to more word stepping step silent fits h =
-        sealed_by_plan (HeardBy walked number x c) drops_walk reach_ends z (tells_neighbours to 5 (path_spelling more) (empty_draft z)) word (
+        sealed_by_plan (HeardBy walked number x c) drops_walk reach_ends z (adds_local to 5 (path_spelling more) (empty_draft z)) word (
           rw silent tt,
           subst (λ o. All (FrameSays (UnitWalks (walked ++ one_of o)))
               (sealed_by m.station.ring m.station.counter.next (record { to = to; unit = units.Local 5 (path_spelling more); note = 0 } ∷ []))) (sym step)
@@ -536,7 +536,7 @@ module _ (w : World) (ok : WorldOk w) (s : WorldSpeaks w) (r : IsInRange w) (wal
 
   bcast_walks : (x : Node) (b : Beside) (datagram : List ℕ) → All (FrameSays P)
       (reaches x b (Err broadcast_faults.Halted) (λ y. broadcast in_memory y datagram)).frames
-  unfolding checked_plan tells_neighbours with_broadcast_number empty_draft
+  unfolding checked_plan adds_local with_broadcast_number empty_draft
   bcast_walks x b datagram = acts_by CastSays x (Err broadcast_faults.Halted) (with_beside b (λ y. broadcast in_memory y datagram)) (All-nil (FrameSays P))
       (λ m here. by_address m (address_of m.station))
     where
@@ -545,11 +545,11 @@ module _ (w : World) (ok : WorldOk w) (s : WorldSpeaks w) (r : IsInRange w) (wal
 
       by_fault : (m : Memory) (own : ℕ) (o : Option BroadcastRefusal) → let p : Plan (Reaching Memory) (Result (Unit {0}) BroadcastRefusal) = checked_plan
           broadcast_ends (reached m) o (sealed (in_reach in_memory) broadcast_ends (reached m)
-          (tells_neighbours to_all 4 (spelling (own_broadcast own b.log datagram)) (with_broadcast_number (empty_draft (reached m)))) tt) in Both CastSays
+          (adds_local to_all 4 (spelling (own_broadcast own b.log datagram)) (with_broadcast_number (empty_draft (reached m)))) tt) in Both CastSays
           p.answer p.failed p.frames
       by_fault m own (Some reason) = refused_by CastSays (λ e. All-nil (FrameSays P)) broadcast_ends (reached m) reason
       by_fault m own None = sealed_by_plan CastSays (λ e. All-nil (FrameSays P)) broadcast_ends (reached m)
-          (tells_neighbours to_all 4 (spelling (own_broadcast own b.log datagram)) (with_broadcast_number (empty_draft (reached m)))) tt
+          (adds_local to_all 4 (spelling (own_broadcast own b.log datagram)) (with_broadcast_number (empty_draft (reached m)))) tt
           (one_sealed P m.station.ring m.station.counter.next to_all (units.Local 4 (spelling (own_broadcast own b.log datagram))) 0
           (other_walks walked to_all 4 (spelling (own_broadcast own b.log datagram)) (λ e. cc (e))))
 

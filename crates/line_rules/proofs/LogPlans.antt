@@ -66,11 +66,11 @@ use Rattle.reach_rules.specs.declared.refusal.ReachDropped.TheVariants as reach_
 use Rattle.reach_rules.specs.declared.refusal.BroadcastRefusal.{BroadcastRefusal}
 use Rattle.reach_rules.specs.declared.refusal.BroadcastRefusal.TheVariants as broadcast_faults
 use Rattle.reach_rules.specs.declared.refusal.AskRefusal.TheVariants as asks_of
-use Rattle.reach_rules.specs.ReachingNodes.{Beside, Reaching, in_reach, nothing_beside, reach_ends, drop_it, remembers, tells_neighbours, with_checks}
+use Rattle.reach_rules.specs.ReachingNodes.{Beside, Reaching, in_reach, nothing_beside, reach_ends, drop_it, remembers, adds_local, with_checks}
 use Rattle.reach_rules.specs.CheckedReplies.{acknowledges, hear_acknowledgement, hear_acknowledgement_in}
 use Rattle.reach_rules.specs.Broadcasts.{broadcast, broadcast_from, broadcast_ends, broadcast_fault, datagram_fault, own_broadcast, with_broadcast_number}
 use Rattle.reach_rules.specs.Broadcasts.{with_broadcast_mark, hop_less, goes_further, admits_broadcast, hear_broadcast, hear_broadcast_in, mark_fault}
-use Rattle.reach_rules.specs.PathAsking.{ask_path, asks_from, asks_by, ask_ends, follows_path, hear_path, hear_path_in, next_toward, tells_path}
+use Rattle.reach_rules.specs.PathAsking.{ask_path, asks_from, asks_by, ask_ends, follows_path, hear_path, hear_path_in, next_toward, send_path}
 use Rattle.reach_rules.specs.Receiving.{NeighbourCommand, hear_command, hear_command_at}
 use Rattle.reach_rules.specs.Beacons.{choose_agent, choosing_ends, joins_by}
 use Rattle.pan_discovery.specs.Agents.{kth_of}
@@ -206,8 +206,8 @@ module _ (m : Memory) (b : Beside) where
 
   -- an ask
   told_leads : {H E : Type 0} (ends : Ends E) (to code : ℕ) (body : List ℕ) (answer : H)
-      → PlanLeads held (sealed (in_reach in_memory) ends held (tells_neighbours to code body (empty_draft held)) answer)
-  unfolding tells_neighbours empty_draft
+      → PlanLeads held (sealed (in_reach in_memory) ends held (adds_local to code body (empty_draft held)) answer)
+  unfolding adds_local empty_draft
   told_leads ends to code body answer = sealed_leads ends held _ answer (still held)
 
   asks_by_lead : (own target : ℕ) (o : Option ℕ) → PlanLeads held (asks_by in_memory held own target o)
@@ -227,12 +227,12 @@ module _ (m : Memory) (b : Beside) where
   number_left datagram e = when_none _ _ (then_none _ _ e).1
 
   broadcast_from_leads : (own : ℕ) (datagram : List ℕ) → PlanLeads held (broadcast_from in_memory held own datagram)
-  unfolding checked tells_neighbours empty_draft with_broadcast_number
+  unfolding checked adds_local empty_draft with_broadcast_number
   broadcast_from_leads own datagram = by_fault (datagram_fault b.log datagram) refl
     where
       by_fault : (o : Option BroadcastRefusal) → datagram_fault b.log datagram ≡ o
           → PlanLeads held (checked broadcast_ends held o (sealed (in_reach in_memory) broadcast_ends held
-          (tells_neighbours to_all 4 (spelling (own_broadcast own b.log datagram)) (with_broadcast_number (empty_draft held))) (tt {0})))
+          (adds_local to_all 4 (spelling (own_broadcast own b.log datagram)) (with_broadcast_number (empty_draft held))) (tt {0})))
       by_fault (Some reason) e = refused_leads broadcast_ends held reason
       by_fault None e = sealed_leads broadcast_ends held _ (tt {0}) (number_leads b.log (number_left datagram e))
 
@@ -286,14 +286,14 @@ module _ (m : Memory) (b : Beside) where
 
   goes_lead : (c : Broadcast) (answer : CommandHeard) → Leads b.log (puts_of (keep_write b.log.marks c.origin c.number)) (admitted_log b.log c.origin c.number)
       → PlanLeads held (sealed (in_reach in_memory) reach_ends held (goes_further c (with_broadcast_mark c.origin c.number (empty_draft held))) answer)
-  unfolding goes_further with_broadcast_mark tells_neighbours empty_draft
+  unfolding goes_further with_broadcast_mark adds_local empty_draft
   goes_lead c answer leads = by_hops (nat_lt c.hops 2)
     where
       marked : Draft (Reaching Memory)
       marked = with_broadcast_mark c.origin c.number (empty_draft held)
 
       by_hops : (t : Bool) → PlanLeads held
-          (sealed (in_reach in_memory) reach_ends held (if t then marked else tells_neighbours to_all 4 (spelling (hop_less c)) marked) answer)
+          (sealed (in_reach in_memory) reach_ends held (if t then marked else adds_local to_all 4 (spelling (hop_less c)) marked) answer)
       by_hops true = sealed_leads reach_ends held _ answer leads
       by_hops false = sealed_leads reach_ends held _ answer leads
 

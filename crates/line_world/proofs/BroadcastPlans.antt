@@ -42,7 +42,7 @@ use Rattle.reach_rules.specs.declared.refusal.ReachDropped.{ReachDropped}
 use Rattle.reach_rules.specs.declared.refusal.ReachDropped.TheVariants.{Known, Old}
 use Rattle.reach_rules.specs.Broadcasts.{admits_broadcast, broadcast, broadcast_ends, broadcast_fault, broadcast_from, datagram_fault, goes_further}
 use Rattle.reach_rules.specs.Broadcasts.{hear_broadcast, hear_broadcast_in, hop_less, mark_fault, own_broadcast, with_broadcast_mark, with_broadcast_number}
-use Rattle.reach_rules.specs.ReachingNodes.{Beside, Reaching, in_reach, reach_ends, tells_neighbours}
+use Rattle.reach_rules.specs.ReachingNodes.{Beside, Reaching, in_reach, reach_ends, adds_local}
 use Rattle.line_events.specs.declared.event.Answer.TheVariants as said
 use Rattle.line_rules.specs.Further.{without_log}
 use Rattle.line_world.specs.Reaching.{Reaches, ReachesCommand, ReachesFirst, beside_left, handed_up, of_held, told_after}
@@ -199,14 +199,14 @@ module _ (l : StationMemory) (b : Beside) (own : ℕ) (datagram : List ℕ) wher
   pub refuses_uncounted : ((length datagram == 0) || nat_lt 360 (length datagram)) ≡ false → is_spent b.log.numbering ≡ false
       → nat_lt (counters_left l) 1 ≡ true
       → broadcast_from alone (beside l b) own datagram ≡ refused broadcast_ends (beside l b) refusals.CounterSpent
-  unfolding checked datagram_fault sealed tells_neighbours with_broadcast_number empty_draft
+  unfolding checked datagram_fault sealed adds_local with_broadcast_number empty_draft
   refuses_uncounted right left none = rw (right, left, none) refl
 
   pub own_goes : ((length datagram == 0) || nat_lt 360 (length datagram)) ≡ false → is_spent b.log.numbering ≡ false → nat_lt (counters_left l) 1 ≡ false
       → broadcast_from alone (beside l b) own datagram
       ≡ logged (number_put b.log.numbering) (record b { log = numbered_log b.log }) (told_as broadcast_ends tt)
       (send_local l 4 None (spelling (own_broadcast own b.log datagram)))
-  unfolding checked datagram_fault sealed tells_neighbours goes with_broadcast_number empty_draft resting
+  unfolding checked datagram_fault sealed adds_local goes with_broadcast_number empty_draft resting
   own_goes right left some = rw (right, left, some) refl
 
 -- # A broadcast that is heard
@@ -214,7 +214,7 @@ module _ (l : StationMemory) (b : Beside) (own : ℕ) (datagram : List ℕ) wher
 module _ (l : StationMemory) (b : Beside) (y : Broadcast) where
   pub admits_uncounted : nat_lt y.hops 2 ≡ false → nat_lt (counters_left l) 1 ≡ true
       → admits_broadcast alone (beside l b) y ≡ refused reach_ends (beside l b) (Known CounterSpent)
-  unfolding sealed goes_further tells_neighbours with_broadcast_mark empty_draft
+  unfolding sealed goes_further adds_local with_broadcast_mark empty_draft
   admits_uncounted more none = rw (more, none) refl
 
   pub admits_on : nat_lt y.hops 2 ≡ false → nat_lt (counters_left l) 1 ≡ false
@@ -222,7 +222,7 @@ module _ (l : StationMemory) (b : Beside) (y : Broadcast) where
       ≡ logged (keep_write b.log.marks y.origin y.number) (record b { log = admitted_log b.log y.origin y.number })
       (told_as reach_ends (heard.Broadcast y.origin y.number y.octets))
       (send_local l 4 None (spelling (hop_less y)))
-  unfolding sealed goes_further tells_neighbours goes with_broadcast_mark empty_draft resting
+  unfolding sealed goes_further adds_local goes with_broadcast_mark empty_draft resting
   admits_on more some = rw (more, some) refl
 
   pub admits_last : nat_lt y.hops 2 ≡ true → l.counter.next ≤ l.counter.limit

@@ -36,7 +36,7 @@ use Rattle.reach_rules.specs.PathAsking.{ask_ends, ask_path, asks_from}
 use Rattle.reach_rules.specs.declared.heard.CommandHeard.{CommandHeard}
 use Rattle.reach_rules.specs.declared.heard.CommandHeard.TheVariants.{Acked}
 use Rattle.reach_rules.specs.CheckedReplies.{hear_acknowledgement_in}
-use Rattle.reach_rules.specs.ReachingNodes.{Beside, Reaching, drop_it, in_reach, nothing_beside, remembers, tells_neighbours, with_checks}
+use Rattle.reach_rules.specs.ReachingNodes.{Beside, Reaching, drop_it, in_reach, nothing_beside, remembers, adds_local, with_checks}
 use Rattle.reach_rules.specs.Receiving.{NeighbourCommand}
 use Rattle.line_rules.specs.Further.{without_log}
 use Rattle.line_world.specs.Reaching.{EndsCheck, Reaches, ReachesFirst, beside_left, check_ended, of_held}
@@ -239,13 +239,13 @@ told_as ends answer (Err locals.Store) = Err ends.store
 
 module _ {H E : Type 0} (ends : Ends E) (l : StationMemory) (b : Beside) (to code : ℕ) (body : List ℕ) (answer : H) where
   pub sealed_told : sealed (in_reach alone) ends (record { memory = l; beside = b })
-      (tells_neighbours to code body (empty_draft (record { memory = l; beside = b }))) answer
+      (adds_local to code body (empty_draft (record { memory = l; beside = b }))) answer
       ≡ within (λ k. record { memory = k; beside = b }) (told_as ends answer) (send_local l code (Some to) body)
-  unfolding sealed tells_neighbours goes empty_draft resting
+  unfolding sealed adds_local goes empty_draft resting
   sealed_told = by (nat_lt (counters_left l) 1)
     where
       by : (t : Bool) → (if t then refused ends (record { memory = l; beside = b }) ends.spent
-          else sealing (in_reach alone) ends (tells_neighbours to code body (empty_draft (record { memory = l; beside = b }))) answer)
+          else sealing (in_reach alone) ends (adds_local to code body (empty_draft (record { memory = l; beside = b }))) answer)
           ≡ within (λ k. record { memory = k; beside = b }) (told_as ends answer)
           (if t then refused local_ends l locals.CounterSpent else sealing alone local_ends (local_draft l code (Some to) body) tt)
       by true = refl

@@ -51,7 +51,7 @@ use Rattle.reach_rules.specs.Broadcasts.{admits_broadcast, broadcast, broadcast_
 use Rattle.reach_rules.specs.Broadcasts.{hear_broadcast_in, hop_less, mark_fault, own_broadcast, with_broadcast_mark, with_broadcast_number}
 use Rattle.reach_rules.specs.CheckedReplies.{hear_acknowledgement_in}
 use Rattle.reach_rules.specs.PathAsking.{ask_ends, ask_path, asks_by, asks_from, follows_path, hear_path_in, next_toward, path_word}
-use Rattle.reach_rules.specs.ReachingNodes.{Beside, Reaching, drop_it, in_reach, reach_ends, remembers, tells_neighbours}
+use Rattle.reach_rules.specs.ReachingNodes.{Beside, Reaching, drop_it, in_reach, reach_ends, remembers, adds_local}
 use Rattle.reach_rules.specs.Receiving.{NeighbourCommand, hear_command, hear_command_at}
 
 -- # Slots
@@ -170,9 +170,9 @@ module _ (b : Beside) (m : Memory) where
       by_left false = record { same = refl; apart = All-append IsApart ps _ are (counter_apart m.station.counter (length us)) }
 
   tells_lent : {H E : Type 0} (ends : Ends E) (to code : ℕ) (body : List ℕ) (answer : H)
-      → Lent (sealed (in_reach in_memory) ends node_side (tells_neighbours to code body (empty_draft node_side)) answer)
-      (sealed (in_reach alone) ends station_side (tells_neighbours to code body (empty_draft station_side)) answer)
-  unfolding tells_neighbours empty_draft
+      → Lent (sealed (in_reach in_memory) ends node_side (adds_local to code body (empty_draft node_side)) answer)
+      (sealed (in_reach alone) ends station_side (adds_local to code body (empty_draft station_side)) answer)
+  unfolding adds_local empty_draft
   tells_lent ends to code body answer = sealed_lent ends b [] _ answer none_apart
 
   drops : {H : Type 0} (reason : ReachDropped) → Lent (drop_it {H = H} node_side reason) (drop_it station_side reason)
@@ -200,14 +200,14 @@ module _ (b : Beside) (m : Memory) where
   -- # A broadcast of its own
 
   broadcast_from_lent : (own : ℕ) (datagram : List ℕ) → Lent (broadcast_from in_memory node_side own datagram) (broadcast_from alone station_side own datagram)
-  unfolding checked tells_neighbours empty_draft with_broadcast_number
+  unfolding checked adds_local empty_draft with_broadcast_number
   broadcast_from_lent own datagram = by_fault (datagram_fault b.log datagram)
     where
       by_fault : (o : Option BroadcastRefusal)
           → Lent (checked broadcast_ends node_side o (sealed (in_reach in_memory) broadcast_ends node_side
-          (tells_neighbours to_all 4 (spelling (own_broadcast own b.log datagram)) (with_broadcast_number (empty_draft node_side))) (tt {0})))
+          (adds_local to_all 4 (spelling (own_broadcast own b.log datagram)) (with_broadcast_number (empty_draft node_side))) (tt {0})))
           (checked broadcast_ends station_side o (sealed (in_reach alone) broadcast_ends station_side
-          (tells_neighbours to_all 4 (spelling (own_broadcast own b.log datagram)) (with_broadcast_number (empty_draft station_side))) (tt {0})))
+          (adds_local to_all 4 (spelling (own_broadcast own b.log datagram)) (with_broadcast_number (empty_draft station_side))) (tt {0})))
       by_fault (Some reason) = refused_lent broadcast_ends reason
       by_fault None = sealed_lent broadcast_ends (record b { log = numbered_log b.log }) (puts_of (numbers.number_put b.log.numbering)) _ (tt {0})
           (number_apart b.log.numbering)
@@ -254,7 +254,7 @@ module _ (b : Beside) (m : Memory) where
   goes_lent : (d : Broadcast) (answer : CommandHeard) → AreApart (puts_of (keep_write b.log.marks d.origin d.number))
       → Lent (sealed (in_reach in_memory) reach_ends node_side (goes_further d (with_broadcast_mark d.origin d.number (empty_draft node_side))) answer)
       (sealed (in_reach alone) reach_ends station_side (goes_further d (with_broadcast_mark d.origin d.number (empty_draft station_side))) answer)
-  unfolding goes_further with_broadcast_mark tells_neighbours empty_draft
+  unfolding goes_further with_broadcast_mark adds_local empty_draft
   goes_lent d answer are = by_hops (nat_lt d.hops 2)
     where
       marked : {M : Type 0} → Reaching M → Draft (Reaching M)
@@ -264,9 +264,9 @@ module _ (b : Beside) (m : Memory) where
       left = record b { log = admitted_log b.log d.origin d.number }
 
       by_hops : (t : Bool) → Lent (sealed (in_reach in_memory) reach_ends node_side
-          (if t then marked node_side else tells_neighbours to_all 4 (spelling (hop_less d)) (marked node_side)) answer)
+          (if t then marked node_side else adds_local to_all 4 (spelling (hop_less d)) (marked node_side)) answer)
           (sealed (in_reach alone) reach_ends station_side
-          (if t then marked station_side else tells_neighbours to_all 4 (spelling (hop_less d)) (marked station_side)) answer)
+          (if t then marked station_side else adds_local to_all 4 (spelling (hop_less d)) (marked station_side)) answer)
       by_hops true = sealed_lent reach_ends left (puts_of (keep_write b.log.marks d.origin d.number)) [] answer are
       by_hops false = sealed_lent reach_ends left (puts_of (keep_write b.log.marks d.origin d.number)) _ answer are
 

@@ -256,6 +256,6 @@ keeper_back s k e = ap (λ (z : Store). over z s) e
 -- what goes to a neighbour is written by the station itself, and in place
 pub acknowledges_own : (to number origin : ℕ) (e : Eui) → IsOwnPlan (λ _ l. acknowledges alone to number origin l) e
 acknowledges_own to number origin e = record {
-  places = λ m short. (stations m.station m.book short).tells 3 (Some to) (ack_spelling number origin);
-  owns = λ l short. (stations_write_their_own l short).tells 3 (Some to) (ack_spelling number origin);
+  places = λ m short. (stations m.station m.book short).sends_local 3 (Some to) (ack_spelling number origin);
+  owns = λ l short. (stations_write_their_own l short).sends_local 3 (Some to) (ack_spelling number origin);
 }

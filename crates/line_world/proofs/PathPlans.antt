@@ -32,7 +32,7 @@ use Rattle.reach_rules.specs.declared.refusal.ReachDropped.{ReachDropped}
 use Rattle.reach_rules.specs.declared.refusal.ReachDropped.TheVariants.{Known, NotAwaited}
 use Rattle.reach_rules.specs.Broadcasts.{hear_broadcast}
 use Rattle.reach_rules.specs.CheckedReplies.{hear_acknowledgement, hear_acknowledgement_in}
-use Rattle.reach_rules.specs.PathAsking.{ask_ends, ask_path, follows_path, hear_path, hear_path_in, next_toward, tells_path}
+use Rattle.reach_rules.specs.PathAsking.{ask_ends, ask_path, follows_path, hear_path, hear_path_in, next_toward, send_path}
 use Rattle.reach_rules.specs.ReachingNodes.{Beside, Reaching, drop_it, reach_ends, remembers, with_checks}
 use Rattle.reach_rules.specs.Receiving.{NeighbourCommand, hear_command, hear_command_at}
 use Rattle.line_rules.specs.Answers.{reach_drop_word}
@@ -216,7 +216,7 @@ asked s t b target own hop l message sent result before out log running is apart
 pub path_went : (s t : State StationMemory) (b : Beside) (plan : Reaching StationMemory → Plan (Reaching StationMemory) (Result CommandHeard ReachDropped))
     (l : StationMemory) (to : ℕ) (message : PathMessage)
     (answer : CommandHeard) (sent : Result (Unit {0}) LocalRefusal) (r : Result CommandHeard ReachDropped) (before out : Out) (log : Log) → s.memory ≡ Some l
-    → plan (record { memory = l; beside = b }) ≡ tells_path alone (record { memory = l; beside = b }) to message answer
+    → plan (record { memory = l; beside = b }) ≡ send_path alone (record { memory = l; beside = b }) to message answer
     → IfSome s.memory (λ k. CarriesAfter s (send_local k 5 (Some to) (path_spelling message)) sent before out t)
     → log ≡ (if is_some t.memory then b.log else empty_log)
     → told_as reach_ends answer sent ≡ r → Reaches s b (Err (Known Store)) plan r before out t (record b { log = log })

@@ -53,7 +53,7 @@ use Rattle.reach_rules.specs.Broadcasts.{hear_broadcast, hear_broadcast_in, hop_
 use Rattle.reach_rules.specs.CheckedReplies.{hear_acknowledgement, hear_acknowledgement_in, message_of}
 use Rattle.reach_rules.specs.PathAsking.{ask_ends, ask_path, asks_by as asks_hop, asks_from, follows_path, hear_path, hear_path_in, next_toward, path_word}
 use Rattle.reach_rules.specs.ReachingNodes.{Beside, Reaching, drop_it, in_reach, nothing_beside, reach_ends, remembers, restarted, restarted_by}
-use Rattle.reach_rules.specs.ReachingNodes.{tells_neighbours, tick_beside, with_checks}
+use Rattle.reach_rules.specs.ReachingNodes.{adds_local, tick_beside, with_checks}
 use Rattle.reach_rules.specs.Receiving.{NeighbourCommand, command_of, hear_command, hear_command_at}
 use Rattle.pan_discovery.specs.Agents.{kth_of}
 use Rattle.line_events.specs.declared.event.Event.{Event}
@@ -116,13 +116,13 @@ module _ (x : Reaching Memory) (none : HasNoChecks x.beside) where
       by_test true = none
       by_test false = left
 
-  told_one : (to code : ℕ) (body : List ℕ) → HasNoChecks (tells_neighbours to code body (empty_draft x)).memory.beside
-  unfolding tells_neighbours empty_draft
+  told_one : (to code : ℕ) (body : List ℕ) → HasNoChecks (adds_local to code body (empty_draft x)).memory.beside
+  unfolding adds_local empty_draft
   told_one to code body = none
 
   -- a broadcast
-  numbered : (body : List ℕ) → HasNoChecks (tells_neighbours to_all 4 body (with_broadcast_number (empty_draft x))).memory.beside
-  unfolding tells_neighbours with_broadcast_number empty_draft
+  numbered : (body : List ℕ) → HasNoChecks (adds_local to_all 4 body (with_broadcast_number (empty_draft x))).memory.beside
+  unfolding adds_local with_broadcast_number empty_draft
   numbered body = none
 
   broadcasts_left : (datagram : List ℕ) → Left (broadcast in_memory x datagram)
@@ -131,7 +131,7 @@ module _ (x : Reaching Memory) (none : HasNoChecks x.beside) where
       by_address : (o : Option ℕ) → Left (option_map_or (λ own. broadcast_from in_memory x own datagram) o (refused broadcast_ends x broadcasts.NotJoined))
       by_address None = rests (Unit {0}) broadcast_ends broadcasts.NotJoined
       by_address (Some own) = unless broadcast_ends (datagram_fault x.beside.log datagram) _
-          (seals broadcast_ends (tells_neighbours to_all 4 (spelling (own_broadcast own x.beside.log datagram)) (with_broadcast_number (empty_draft x))) tt
+          (seals broadcast_ends (adds_local to_all 4 (spelling (own_broadcast own x.beside.log datagram)) (with_broadcast_number (empty_draft x))) tt
           (numbered (spelling (own_broadcast own x.beside.log datagram))))
 
   -- an ask
@@ -140,7 +140,7 @@ module _ (x : Reaching Memory) (none : HasNoChecks x.beside) where
     where
       by_hop : (own : ℕ) (hop : Option ℕ) → Left (asks_hop in_memory x own target hop)
       by_hop own None = rests (Unit {0}) ask_ends asks.NoRoute
-      by_hop own (Some hop) = seals ask_ends (tells_neighbours hop 5 (path_spelling (Ask target (own ∷ []))) (empty_draft x)) tt
+      by_hop own (Some hop) = seals ask_ends (adds_local hop 5 (path_spelling (Ask target (own ∷ []))) (empty_draft x)) tt
           (told_one hop 5 (path_spelling (Ask target (own ∷ []))))
 
       by_address : (o : Option ℕ) → Left (option_map_or (λ own. asks_from in_memory x own target) o (refused ask_ends x asks.NotJoined))
@@ -177,13 +177,13 @@ module _ (x : Reaching Memory) (none : HasNoChecks x.beside) where
       (drop_it x NotAwaited) (ended from number origin) (drops_it NotAwaited)
 
   goes_on : (c : Broadcast) → HasNoChecks (goes_further c (with_broadcast_mark c.origin c.number (empty_draft x))).memory.beside
-  unfolding goes_further with_broadcast_mark tells_neighbours empty_draft
+  unfolding goes_further with_broadcast_mark adds_local empty_draft
   goes_on c = by_hops (nat_lt c.hops 2)
     where
       marked : Draft (Reaching Memory)
       marked = with_broadcast_mark c.origin c.number (empty_draft x)
 
-      by_hops : (t : Bool) → HasNoChecks (if t then marked else tells_neighbours to_all 4 (spelling (hop_less c)) marked).memory.beside
+      by_hops : (t : Bool) → HasNoChecks (if t then marked else adds_local to_all 4 (spelling (hop_less c)) marked).memory.beside
       by_hops true = none
       by_hops false = none
 
@@ -195,9 +195,9 @@ module _ (x : Reaching Memory) (none : HasNoChecks x.beside) where
   follows_left : (o : Result PathStep PathRefusal) → Left (follows_path in_memory x o)
   follows_left (Err reason) = drops_it (path_word reason)
   follows_left (Ok (Forward to message)) =
-      seals reach_ends (tells_neighbours to 5 (path_spelling message) (empty_draft x)) heard_of.Relayed (told_one to 5 (path_spelling message))
+      seals reach_ends (adds_local to 5 (path_spelling message) (empty_draft x)) heard_of.Relayed (told_one to 5 (path_spelling message))
   follows_left (Ok (Answer to message)) =
-      seals reach_ends (tells_neighbours to 5 (path_spelling message) (empty_draft x)) heard_of.Answered (told_one to 5 (path_spelling message))
+      seals reach_ends (adds_local to 5 (path_spelling message) (empty_draft x)) heard_of.Answered (told_one to 5 (path_spelling message))
   follows_left (Ok (Done walk)) = keeps (heard_of.Path walk)
 
   paths_left : (own from : ℕ) (o : Option PathMessage) → Left (hear_path_in in_memory x own from o)

@@ -148,8 +148,8 @@ module _ (l : StationMemory) (cost note now : ℕ) where
   unit_is (paths.Up from) unit are = plain_is _ (λ body h. (h, tt)) unit are
   unit_is (paths.Down from) unit are = plain_is _ (λ body h. (h, tt)) unit are
 
-  hear_tells : (got : Accepted) → AreOctets got.payload → Is (hear l got cost note now)
-  hear_tells got are = by_unit (unit_in got.payload) refl
+  hear_names : (got : Accepted) → AreOctets got.payload → Is (hear l got cost note now)
+  hear_names got are = by_unit (unit_in got.payload) refl
     where
       by_unit : (o : Option MeshUnit) → unit_in got.payload ≡ o → Is (hear_unit_in l got.path o cost note now)
       by_unit None e = drop_is _
@@ -157,7 +157,7 @@ module _ (l : StationMemory) (cost note now : ℕ) where
 
 -- what is handed on unread is octets, from one node where it came over the mesh
 unread_fits : (l : StationMemory) (got : Accepted) (cost note now : ℕ) (u : Unread) → AreOctets got.payload → unread (hear l got cost note now).answer ≡ Some u → AreOctets u.body × WayFits u.way
-unread_fits l got cost note now u are = by_answer (hear l got cost note now).answer (hear_tells l cost note now got are)
+unread_fits l got cost note now u are = by_answer (hear l got cost note now).answer (hear_names l cost note now got are)
   where
     by_answer : (r : Result Heard Dropped) → Tells r → unread r ≡ Some u → AreOctets u.body × WayFits u.way
     by_answer (Err reason) h e = absurd (cc)

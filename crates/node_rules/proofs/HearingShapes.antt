@@ -24,7 +24,7 @@ use Rattle.node_rules.specs.declared.refusal.Dropped.TheVariants.{BufferFull, Ba
 use Rattle.node_rules.specs.Memory.{StationMemory, address_of, next_hop}
 use Rattle.node_rules.specs.Plans.{resting}
 use Rattle.node_rules.specs.Drafts.{alone}
-use Rattle.node_rules.specs.Hearing.{Hearing, dropped, drop_it, hear_request, hear_reply_for, hear_reply, hear_error, tells_on, loses, forward_by, forward, report_by, gathered, gather, hear_message, hear_message_in, hear_command, hear_over_mesh, hear_sealed, hear_plain, is_joining, hear_unit, hear_unit_in, hear}
+use Rattle.node_rules.specs.Hearing.{Hearing, dropped, drop_it, hear_request, hear_reply_for, hear_reply, hear_error, pass_error_on, loses, forward_by, forward, report_by, gathered, gather, hear_message, hear_message_in, hear_command, hear_over_mesh, hear_sealed, hear_plain, is_joining, hear_unit, hear_unit_in, hear}
 use Rattle.node_rules.proofs.Shapes.{Shape, Rests, Keeps, rests_shape, checked_shape, choose_shape, sealed_shape}
 use Rattle.node_rules.proofs.TablePuts.{Membership, Does, station_does, error_does, error_on_does}
 
@@ -91,12 +91,12 @@ module _ (R : Membership → Type 0) (listed : Book) (l : StationMemory) where
   reply_shape : (own by origin to : ℕ) (rank : Rank) (now : ℕ) → StationShape R listed l (hear_reply l own by origin to rank now)
   reply_shape own by origin to rank now = search (words, reply_for_shape own by origin to rank now (next_hop l to)) depth 16
 
-  tells_on_done : (lost to by : ℕ) (hop : Option ℕ) → Does R listed l (tells_on lost to hop (loses lost by l))
-  tells_on_done lost to by None = error_does R listed l (λ r. routing.without_next_to r lost by)
-  tells_on_done lost to by (Some hop) = error_on_does R listed l hop _ 0 (λ r. routing.without_next_to r lost by)
+  pass_error_on_done : (lost to by : ℕ) (hop : Option ℕ) → Does R listed l (pass_error_on lost to hop (loses lost by l))
+  pass_error_on_done lost to by None = error_does R listed l (λ r. routing.without_next_to r lost by)
+  pass_error_on_done lost to by (Some hop) = error_on_does R listed l hop _ 0 (λ r. routing.without_next_to r lost by)
 
   error_shape : (own by lost to : ℕ) → StationShape R listed l (hear_error l own by lost to)
-  error_shape own by lost to = sealed_shape _ _ _ _ _ _ (tells_on_done lost to by _)
+  error_shape own by lost to = sealed_shape _ _ _ _ _ _ (pass_error_on_done lost to by _)
 
   report_shape : (mesh : Mesh) (hop : Option ℕ) → StationShape R listed l (report_by l mesh hop)
   report_shape mesh None = search words depth 16

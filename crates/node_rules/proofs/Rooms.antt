@@ -9,7 +9,7 @@ use Rattle.node_rules.specs.Memory.{StationMemory, Command, address_of, next_hop
 use Rattle.node_rules.specs.Plans.{resting}
 use Rattle.node_rules.specs.Drafts.{Draft, Ends, alone, empty_draft, body_goes, waits, seeks, seeks_once, goes, with_own_number, lack, no_room, numbers_spent, is_awaited, counters_left, refused, sealed, checked}
 use Rattle.node_rules.specs.Calls.{sending_ends, command_from, room_fault, how}
-use Rattle.node_rules.specs.Laws.{TheRoomTellsTheRefusal, command_answer}
+use Rattle.node_rules.specs.Laws.{TheRoomNamesTheRefusal, command_answer}
 
 never_less : (n : ℕ) → nat_lt n 0 ≡ false
 never_less n = grind (arith, nat_tests)
@@ -54,9 +54,9 @@ module _ (l : StationMemory) (own to : ℕ) (octets : List ℕ) (now : ℕ) wher
   by_hop (Some hop) e = by_route hop (nat_lt (counters_left l) 1) e refl
   by_hop None e = by_room (no_room l (length octets)) (is_awaited l to) (numbers_spent l) e refl refl refl
 
-pub room_tells : TheRoomTellsTheRefusal
+pub room_names : TheRoomNamesTheRefusal
 unfolding resting
-room_tells l to octets now = by_address (address_of l)
+room_names l to octets now = by_address (address_of l)
   where
     by_address : (own : Option ℕ) → (option_map_or (λ o. command_from l o to octets now) own (refused sending_ends l NotJoined)).answer
         ≡ command_answer l to (option_map_or (λ _. room_fault l to (length octets)) own (Some NotJoined))

@@ -84,8 +84,8 @@ unfoldable pub goes : ℕ → Unit → ℕ → Draft StationMemory → Draft Sta
 goes to unit note d = record d { units = d.units ++ record { to = to; unit = unit; note = note } ∷ [] }
 
 -- a route message goes to one node or to all
-abbrev pub tells : ℕ → Message → Draft StationMemory → Draft StationMemory
-tells to message d = goes to (Local 1 (messages.spelling message)) 0 d
+abbrev pub send_message : ℕ → Message → Draft StationMemory → Draft StationMemory
+send_message to message d = goes to (Local 1 (messages.spelling message)) 0 d
 
 -- a body goes to a next hop
 unfoldable pub body_goes : ℕ → ℕ → ℕ → ℕ → Load → Draft StationMemory → Draft StationMemory
@@ -107,7 +107,7 @@ waits to note load now d =
 
 -- an own number is taken, and a request for the route to an address goes to all
 abbrev pub seeks : ℕ → ℕ → Draft StationMemory → Draft StationMemory
-seeks own dest d = tells to_all (Rreq (number_of d) 0 own dest) (with_own_number d)
+seeks own dest d = send_message to_all (Rreq (number_of d) 0 own dest) (with_own_number d)
 
 -- the route is sought unless something waits for it already
 unfoldable pub seeks_once : ℕ → ℕ → Draft StationMemory → Draft StationMemory

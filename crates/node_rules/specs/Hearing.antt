@@ -24,7 +24,7 @@ use Rattle.node_rules.specs.declared.refusal.Dropped.TheVariants.{BadUnit, NoRou
 use Rattle.node_rules.specs.Frames.{to_all}
 use Rattle.node_rules.specs.Memory.{StationMemory, address_of, next_hop}
 use Rattle.node_rules.specs.Plans.{Plan, resting}
-use Rattle.node_rules.specs.Drafts.{Draft, Ends, Lack, OfRoom, OfNumbers, alone, empty_draft, with_rank, with_own_number, with_routing_by, goes, tells, leave, numbers_spent, refused, sealed, checked, choose}
+use Rattle.node_rules.specs.Drafts.{Draft, Ends, Lack, OfRoom, OfNumbers, alone, empty_draft, with_rank, with_own_number, with_routing_by, goes, send_message, leave, numbers_spent, refused, sealed, checked, choose}
 
 -- what a node does on the line about a frame that was accepted
 abbrev pub Hearing : Type 0
@@ -74,13 +74,13 @@ offers_numbered own origin rank by now l =
 -- the node that is sought takes an own number, and answers with it
 abbrev pub answers : StationMemory → (own by origin : ℕ) → Rank → ℕ → Hearing
 answers l own by origin rank now =
-    ends l (tells by (Rrep (l.own_number.last + 1) 0 own origin)
+    ends l (send_message by (Rrep (l.own_number.last + 1) 0 own origin)
     (offers_numbered own origin rank by now l)) heard.Answered
 
 -- another node sends the request on, with the higher cost
 abbrev pub sends_on : StationMemory → (own by origin dest : ℕ) → Rank → ℕ → Hearing
 sends_on l own by origin dest rank now =
-    ends l (tells to_all (Rreq rank.number rank.cost origin dest) (offers own origin rank by now l)) heard.Relayed
+    ends l (send_message to_all (Rreq rank.number rank.cost origin dest) (offers own origin rank by now l)) heard.Relayed
 
 -- a request is answered by the node that is sought, and sent on by each other one
 abbrev pub hear_request : StationMemory → (own by origin dest : ℕ) → Rank → ℕ → Hearing
@@ -99,7 +99,7 @@ learns l own by origin rank now = ends l (offers own origin rank by now l) heard
 -- another node sends the reply on, to the hop that led to its target before
 abbrev pub passes_on : StationMemory → (own by origin to hop : ℕ) → Rank → ℕ → Hearing
 passes_on l own by origin to hop rank now =
-    ends l (tells hop (Rrep rank.number rank.cost origin to) (offers own origin rank by now l)) heard.Relayed
+    ends l (send_message hop (Rrep rank.number rank.cost origin to) (offers own origin rank by now l)) heard.Relayed
 
 -- by the hop that leads to its target
 abbrev pub hear_reply_for : StationMemory → (own by origin to : ℕ) → Rank → ℕ → Option ℕ → Hearing
@@ -123,14 +123,14 @@ loses lost by l = with_routing_by (λ r. routing.without_next_to r lost by) (emp
 abbrev pub error_hop : StationMemory → (own by lost to : ℕ) → Option ℕ
 error_hop l own by lost to = if to == own then None else next_hop (loses lost by l).memory to
 
-abbrev pub tells_on : ℕ → ℕ → Option ℕ → Draft StationMemory → Draft StationMemory
-tells_on lost to None d = d
-tells_on lost to (Some hop) d = tells hop (Rerr lost to) d
+abbrev pub pass_error_on : ℕ → ℕ → Option ℕ → Draft StationMemory → Draft StationMemory
+pass_error_on lost to None d = d
+pass_error_on lost to (Some hop) d = send_message hop (Rerr lost to) d
 
 -- the route ends, and the error goes on where it is for another node
 abbrev pub hear_error : StationMemory → (own by lost to : ℕ) → Hearing
 hear_error l own by lost to =
-    ends l (tells_on lost to (error_hop l own by lost to) (loses lost by l)) heard.Broken
+    ends l (pass_error_on lost to (error_hop l own by lost to) (loses lost by l)) heard.Broken
 
 -- # Units over the mesh for other nodes
 
@@ -148,7 +148,7 @@ forwards l hop unit note = ends l (goes hop unit note (empty_draft l)) heard.Rel
 
 -- a route error to its origin says that it can't
 abbrev pub reports : StationMemory → Mesh → ℕ → Hearing
-reports l mesh hop = ends l (tells hop (Rerr mesh.to mesh.origin) (empty_draft l)) heard.Reported
+reports l mesh hop = ends l (send_message hop (Rerr mesh.to mesh.origin) (empty_draft l)) heard.Reported
 
 -- by the hop that leads to its origin
 abbrev pub report_by : StationMemory → Mesh → Option ℕ → Hearing

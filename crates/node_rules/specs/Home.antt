@@ -41,7 +41,7 @@ pub record CoordinatorWritesHome (own : coordinator_rules.CoordinatorIdentity) (
   pub station_hears : (got : Accepted) (cost note now : ℕ) → WritesHome (hearing.hear m.station got cost note now)
   pub sends : (to : ℕ) (octets : List ℕ) (note now : ℕ) → WritesHome (calls.send m.station to octets note now)
   pub commands : (to : ℕ) (octets : List ℕ) (now : ℕ) → WritesHome (calls.send_command m.station to octets now)
-  pub tells : (code : ℕ) (to : Option ℕ) (body : List ℕ) → WritesHome (neighbours.send_local m.station code to body)
+  pub sends_local : (code : ℕ) (to : Option ℕ) (body : List ℕ) → WritesHome (neighbours.send_local m.station code to body)
   pub counter : (value : ℕ) → WritesHome (calls.preset_counter m.station value)
   pub number : (value : ℕ) → WritesHome (calls.preset_number m.station value)
   pub near : (to cost now : ℕ) → WritesHome (calls.preset_near m.station to cost now)

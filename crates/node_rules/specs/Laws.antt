@@ -170,8 +170,8 @@ command_answer l to None = Ok (calls.how l to)
 command_answer l to (Some reason) = Err reason
 
 -- a command is refused for what `room` answers, and but for a failed write for nothing else
-abbrev pub TheRoomTellsTheRefusal : Type 0
-TheRoomTellsTheRefusal =
+abbrev pub TheRoomNamesTheRefusal : Type 0
+TheRoomNamesTheRefusal =
     (l : StationMemory) (to : ℕ) (octets : List ℕ) (now : ℕ)
     → (calls.send_command l to octets now).answer ≡ command_answer l to (calls.room l to (length octets))
 

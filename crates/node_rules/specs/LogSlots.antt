@@ -40,7 +40,7 @@ pub record StationLeavesLog (l : StationMemory) : Type 0 where
   pub hears : (got : Accepted) (cost note now : ℕ) → LeavesLog (hearing.hear l got cost note now)
   pub sends : (to : ℕ) (octets : List ℕ) (note now : ℕ) → LeavesLog (calls.send l to octets note now)
   pub commands : (to : ℕ) (octets : List ℕ) (now : ℕ) → LeavesLog (calls.send_command l to octets now)
-  pub tells : (code : ℕ) (to : Option ℕ) (body : List ℕ) → LeavesLog (neighbours.send_local l code to body)
+  pub sends_local : (code : ℕ) (to : Option ℕ) (body : List ℕ) → LeavesLog (neighbours.send_local l code to body)
   pub counter : (value : ℕ) → LeavesLog (calls.preset_counter l value)
   pub number : (value : ℕ) → LeavesLog (calls.preset_number l value)
   pub near : (to cost now : ℕ) → LeavesLog (calls.preset_near l to cost now)

@@ -31,7 +31,7 @@ pub record WritesItsOwn (l : StationMemory) : Type 0 where
   pub hears : (got : Accepted) (cost note now : ℕ) → WritesOfStation (hearing.hear l got cost note now)
   pub sends : (to : ℕ) (octets : List ℕ) (note now : ℕ) → WritesOfStation (calls.send l to octets note now)
   pub commands : (to : ℕ) (octets : List ℕ) (now : ℕ) → WritesOfStation (calls.send_command l to octets now)
-  pub tells : (code : ℕ) (to : Option ℕ) (body : List ℕ) → WritesOfStation (neighbours.send_local l code to body)
+  pub sends_local : (code : ℕ) (to : Option ℕ) (body : List ℕ) → WritesOfStation (neighbours.send_local l code to body)
   pub counter : (value : ℕ) → WritesOfStation (calls.preset_counter l value)
   pub number : (value : ℕ) → WritesOfStation (calls.preset_number l value)
   pub near : (to cost now : ℕ) → WritesOfStation (calls.preset_near l to cost now)

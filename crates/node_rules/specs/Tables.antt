@@ -54,7 +54,7 @@ pub record StationWritesInPlace (l : StationMemory) (b : book.Book) : Type 0 whe
   pub hears : (got : Accepted) (cost note now : ℕ) → WritesInPlace l b (hearing.hear l got cost note now)
   pub sends : (to : ℕ) (octets : List ℕ) (note now : ℕ) → WritesInPlace l b (calls.send l to octets note now)
   pub commands : (to : ℕ) (octets : List ℕ) (now : ℕ) → WritesInPlace l b (calls.send_command l to octets now)
-  pub tells : (code : ℕ) (to : Option ℕ) (body : List ℕ) → WritesInPlace l b (neighbours.send_local l code to body)
+  pub sends_local : (code : ℕ) (to : Option ℕ) (body : List ℕ) → WritesInPlace l b (neighbours.send_local l code to body)
   pub counter : (value : ℕ) → WritesInPlace l b (calls.preset_counter l value)
   pub number : (value : ℕ) → WritesInPlace l b (calls.preset_number l value)
   pub near : (to cost now : ℕ) → WritesInPlace l b (calls.preset_near l to cost now)

@@ -15,7 +15,7 @@ ghost use Rattle.plc_base.specs.declared.out_frame.Out.{Out};
 ghost use Rattle.node_rules.specs.Carrying.{Carries, IsCarriedOut};
 ghost use Rattle.node_rules.specs.Plans.{Plan, resting, within};
 ghost use Rattle.node_rules.specs.States.{State};
-ghost use Rattle.node_rules.specs.Laws.{WritesFailCleanly, NoCutNoFailure, HaltedHasNoAddress, RinglessHasNoAddress, HaltedDoesNothing, AFrameRefusedChangesNothing, ADropChangesNothing, AMetersDropChangesNothing, ACoordinatorsDropChangesNothing, ASendRefusedChangesNothing, AJoinRefusedChangesNothing, AnOrderRefusedChangesNothing, TheRoomTellsTheRefusal, HearingIsBounded, RepliesAreFew, AMetersRepliesAreFew, ACoordinatorsRepliesAreFew, AMetersHearingIsBounded, ACoordinatorsHearingIsBounded, ASendIsBounded, AJoinIsBounded, AnOrderIsBounded, AcceptingOnlyMarks, AnEmptyStoreIsBlank};
+ghost use Rattle.node_rules.specs.Laws.{WritesFailCleanly, NoCutNoFailure, HaltedHasNoAddress, RinglessHasNoAddress, HaltedDoesNothing, AFrameRefusedChangesNothing, ADropChangesNothing, AMetersDropChangesNothing, ACoordinatorsDropChangesNothing, ASendRefusedChangesNothing, AJoinRefusedChangesNothing, AnOrderRefusedChangesNothing, TheRoomNamesTheRefusal, HearingIsBounded, RepliesAreFew, AMetersRepliesAreFew, ACoordinatorsRepliesAreFew, AMetersHearingIsBounded, ACoordinatorsHearingIsBounded, ASendIsBounded, AJoinIsBounded, AnOrderIsBounded, AcceptingOnlyMarks, AnEmptyStoreIsBlank};
 
 /// Where the write of a plan fails, the writes in front of it are stored and those after it are not; the failed one is stored as the
 /// loss of power says. The node answers the word of a failed write, and nothing is sent, made or kept in memory. A plan whose writes are
@@ -100,8 +100,8 @@ pub fn an_order_refused_changes_nothing()
 
 /// What `room` answers for a command is what sending it is refused for; where it answers None only a failed store write refuses it.
 #[tactic(auto)]
-pub fn the_room_tells_the_refusal()
-    ensures { TheRoomTellsTheRefusal }
+pub fn the_room_names_the_refusal()
+    ensures { TheRoomNamesTheRefusal }
 {}
 
 /// A station that hears a frame sends at most 24 frames, where at most 8 bodies of 80 blocks wait, and stores in this order: the

@@ -21,7 +21,7 @@ pub use laws::{
     an_order_is_bounded, an_order_refused_changes_nothing, calls_are_functions,
     commands_are_handed_on, halted_does_nothing, halted_has_no_address, hearing_is_bounded,
     no_cut_no_failure, parts_are_carried_out, plans_follow_puts, plans_give_out_more,
-    replies_are_few, ringless_has_no_address, the_room_tells_the_refusal, writes_fail_cleanly,
+    replies_are_few, ringless_has_no_address, the_room_names_the_refusal, writes_fail_cleanly,
 };
 pub use octet_laws::{
     the_network_opens_octets, the_network_opens_what_it_seals, unreads_are_octets,

@@ -13,7 +13,7 @@ use Rattle.node_rules.specs.declared.refusal.Dropped.{Dropped}
 use Rattle.node_rules.specs.declared.refusal.Dropped.TheVariants.{BadUnit, Store, NoRoute, HopsSpent, CounterSpent}
 use Rattle.node_rules.specs.Memory.{StationMemory, next_hop}
 use Rattle.node_rules.specs.Plans.{Plan, resting}
-use Rattle.node_rules.specs.Drafts.{alone, empty_draft, choose, goes, tells, counters_left, refused, sealing}
+use Rattle.node_rules.specs.Drafts.{alone, empty_draft, choose, goes, send_message, counters_left, refused, sealing}
 use Rattle.node_rules.specs.Hearing.{dropped, drop_it, hands_up, gather, hop_less, hear_over_mesh, forward, report_by, is_spent}
 use Rattle.plc_station.proofs.Ways.{sealed_spent, sealed_fits}
 
@@ -34,13 +34,13 @@ pub report_spent : (l : StationMemory) (own : ℕ) (mesh : Mesh) (hop : ℕ) →
     → true ≡ nat_lt (counters_left l) 1
     → refused {H = Heard} dropped l CounterSpent ≡ reporting l own mesh
 unfolding choose goes empty_draft
-report_spent l own mesh hop e by few = rw (← e, ← by) (sealed_spent dropped l (tells hop (Rerr mesh.to mesh.origin) (empty_draft l)) Reported 1 refl few)
+report_spent l own mesh hop e by few = rw (← e, ← by) (sealed_spent dropped l (send_message hop (Rerr mesh.to mesh.origin) (empty_draft l)) Reported 1 refl few)
 
 pub reported : (l : StationMemory) (own : ℕ) (mesh : Mesh) (hop : ℕ) → false ≡ (mesh.origin == own) → Some hop ≡ next_hop l mesh.origin
     → false ≡ nat_lt (counters_left l) 1
-    → sealing alone dropped (tells hop (Rerr mesh.to mesh.origin) (empty_draft l)) Reported ≡ reporting l own mesh
+    → sealing alone dropped (send_message hop (Rerr mesh.to mesh.origin) (empty_draft l)) Reported ≡ reporting l own mesh
 unfolding choose goes empty_draft
-reported l own mesh hop e by few = rw (← e, ← by) (sealed_fits dropped l (tells hop (Rerr mesh.to mesh.origin) (empty_draft l)) Reported 1 refl few)
+reported l own mesh hop e by few = rw (← e, ← by) (sealed_fits dropped l (send_message hop (Rerr mesh.to mesh.origin) (empty_draft l)) Reported 1 refl few)
 
 pub no_way : (l : StationMemory) (own : ℕ) (mesh : Mesh) (unit : MeshUnit) (note : ℕ) → None ≡ next_hop l mesh.to
     → reporting l own mesh ≡ forward l own mesh unit note

@@ -13,7 +13,7 @@ use Rattle.node_rules.specs.declared.refusal.Dropped.{Dropped}
 use Rattle.node_rules.specs.declared.refusal.Dropped.TheVariants.{NotBetter, CostSpent, RoutesFull, CounterSpent, NoRoute}
 use Rattle.node_rules.specs.Memory.{StationMemory, next_hop}
 use Rattle.node_rules.specs.Plans.{Plan}
-use Rattle.node_rules.specs.Drafts.{alone, empty_draft, choose, checked, goes, tells, leave, with_rank, counters_left, refused, sealing}
+use Rattle.node_rules.specs.Drafts.{alone, empty_draft, choose, checked, goes, send_message, leave, with_rank, counters_left, refused, sealing}
 use Rattle.node_rules.specs.Hearing.{dropped, rank_fault, learns, hear_reply, hear_reply_for, offers}
 use Rattle.fragment_buffers.specs.Waiting.{leaving}
 use Rattle.plc_station.proofs.Requests.{IsTaken}
@@ -51,7 +51,7 @@ unfolding leave with_rank empty_draft leaving
 learn_long l own by origin rank now = refl
 
 pass_long : (l : StationMemory) (own by origin to hop : ℕ) (rank : Rank) (now : ℕ)
-    → length (leaving own origin by l.waiting) + 1 ≡ length (tells hop (Rrep rank.number rank.cost origin to) (offers own origin rank by now l)).units
+    → length (leaving own origin by l.waiting) + 1 ≡ length (send_message hop (Rrep rank.number rank.cost origin to) (offers own origin rank by now l)).units
 unfolding goes leave with_rank empty_draft leaving
 pass_long l own by origin to hop rank now = sym (length-append (leaving own origin by l.waiting)
     (record { to = hop; unit = Local 1 (messages.spelling (Rrep rank.number rank.cost origin to)); note = 0 } ∷ []))
@@ -72,15 +72,15 @@ pub pass_spent : (l : StationMemory) (own by origin to hop : ℕ) (rank : Rank) 
     → true ≡ nat_lt (counters_left l) (length (leaving own origin by l.waiting) + 1)
     → refused {H = Heard} dropped l CounterSpent ≡ hear_reply_for l own by origin to rank now (Some hop)
 pass_spent l own by origin to hop rank now t few =
-    sealed_spent dropped l (tells hop (Rrep rank.number rank.cost origin to) (offers own origin rank by now l)) Relayed
+    sealed_spent dropped l (send_message hop (Rrep rank.number rank.cost origin to) (offers own origin rank by now l)) Relayed
     (length (leaving own origin by l.waiting) + 1) (pass_long l own by origin to hop rank now) few ∙ taken l own origin rank now _ t
 
 pub passing : (l : StationMemory) (own by origin to hop : ℕ) (rank : Rank) (now : ℕ) → IsTaken l own origin rank now
     → false ≡ nat_lt (counters_left l) (length (leaving own origin by l.waiting) + 1)
-    → sealing alone dropped (tells hop (Rrep rank.number rank.cost origin to) (offers own origin rank by now l)) Relayed
+    → sealing alone dropped (send_message hop (Rrep rank.number rank.cost origin to) (offers own origin rank by now l)) Relayed
     ≡ hear_reply_for l own by origin to rank now (Some hop)
 passing l own by origin to hop rank now t few =
-    sealed_fits dropped l (tells hop (Rrep rank.number rank.cost origin to) (offers own origin rank by now l)) Relayed
+    sealed_fits dropped l (send_message hop (Rrep rank.number rank.cost origin to) (offers own origin rank by now l)) Relayed
     (length (leaving own origin by l.waiting) + 1) (pass_long l own by origin to hop rank now) few ∙ taken l own origin rank now _ t
 
 -- # By its target

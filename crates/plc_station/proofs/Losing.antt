@@ -9,7 +9,7 @@ use Rattle.node_rules.specs.declared.heard.Heard.{Heard}
 use Rattle.node_rules.specs.declared.heard.Heard.TheVariants.{Broken}
 use Rattle.node_rules.specs.declared.refusal.Dropped.TheVariants.{CounterSpent}
 use Rattle.node_rules.specs.Memory.{StationMemory, next_hop}
-use Rattle.node_rules.specs.Drafts.{alone, empty_draft, goes, tells, with_routing_by, counters_left, refused, sealing}
+use Rattle.node_rules.specs.Drafts.{alone, empty_draft, goes, send_message, with_routing_by, counters_left, refused, sealing}
 use Rattle.node_rules.specs.Hearing.{dropped, loses, hear_error}
 use Rattle.plc_station.proofs.Ways.{sealed_spent, sealed_fits, never_less}
 
@@ -33,10 +33,10 @@ error_ends l own by lost to e none = rw (← e, ← none) (sealed_fits dropped l
 pub error_spent : (l : StationMemory) (own by lost to hop : ℕ) → false ≡ (to == own) → Some hop ≡ next_hop (loses lost by l).memory to
     → true ≡ nat_lt (counters_left l) 1 → refused {H = Heard} dropped l CounterSpent ≡ hear_error l own by lost to
 unfolding with_routing_by empty_draft goes
-error_spent l own by lost to hop e some few = rw (← e, ← some) (sealed_spent dropped l (tells hop (Rerr lost to) (loses lost by l)) Broken 1 refl few)
+error_spent l own by lost to hop e some few = rw (← e, ← some) (sealed_spent dropped l (send_message hop (Rerr lost to) (loses lost by l)) Broken 1 refl few)
 
 pub error_on : (l : StationMemory) (own by lost to hop : ℕ) → false ≡ (to == own) → Some hop ≡ next_hop (loses lost by l).memory to
     → false ≡ nat_lt (counters_left l) 1
-    → sealing alone dropped (tells hop (Rerr lost to) (loses lost by l)) Broken ≡ hear_error l own by lost to
+    → sealing alone dropped (send_message hop (Rerr lost to) (loses lost by l)) Broken ≡ hear_error l own by lost to
 unfolding with_routing_by empty_draft goes
-error_on l own by lost to hop e some few = rw (← e, ← some) (sealed_fits dropped l (tells hop (Rerr lost to) (loses lost by l)) Broken 1 refl few)
+error_on l own by lost to hop e some few = rw (← e, ← some) (sealed_fits dropped l (send_message hop (Rerr lost to) (loses lost by l)) Broken 1 refl few)

@@ -30,9 +30,9 @@ use Rattle.node_rules.specs.Frames.{Sent, to_all}
 use Rattle.node_rules.specs.Memory.{StationMemory, next_hop}
 use Rattle.node_rules.specs.Plans.{Plan, resting}
 use Rattle.node_rules.specs.Drafts.{Draft, Ends, alone, checked, choose, counters_left, empty_draft, goes, leave, letters, refused, sealed, sealed_by, sealing}
-use Rattle.node_rules.specs.Drafts.{sealing_key, tells, with_own_number, with_rank, with_routing_by}
+use Rattle.node_rules.specs.Drafts.{sealing_key, send_message, with_own_number, with_rank, with_routing_by}
 use Rattle.node_rules.specs.Hearing.{dropped, drop_it, ends, error_hop, forward, forward_by, gathered, hear_error, hear_over_mesh, hop_less, is_spent, learns}
-use Rattle.node_rules.specs.Hearing.{loses, offers, offers_numbered, rank_fault, report_by, tells_on}
+use Rattle.node_rules.specs.Hearing.{loses, offers, offers_numbered, rank_fault, report_by, pass_error_on}
 use Rattle.node_rules.specs.Replies.{first_of, reply_among, reply_of, reply_sent, reply_with, route_message}
 use Rattle.node_rules.specs.States.{State}
 use Rattle.node_rules.specs.Carrying.{Carries, nothing}
@@ -146,9 +146,9 @@ pub errors_quiet : (l : StationMemory) (own by lost to : ℕ) → reply_among (h
 unfolding goes empty_draft with_routing_by
 errors_quiet l own by lost to = by_hop (error_hop l own by lost to)
   where
-    by_hop : (hop : Option ℕ) → reply_among (ends l (tells_on lost to hop (loses lost by l)) heard.Broken).frames ≡ None
-    by_hop None = ends_quiet l (tells_on lost to None (loses lost by l)) _ refl refl
-    by_hop (Some hop) = ends_quiet l (tells_on lost to (Some hop) (loses lost by l)) _ refl (error_quiet hop lost to)
+    by_hop : (hop : Option ℕ) → reply_among (ends l (pass_error_on lost to hop (loses lost by l)) heard.Broken).frames ≡ None
+    by_hop None = ends_quiet l (pass_error_on lost to None (loses lost by l)) _ refl refl
+    by_hop (Some hop) = ends_quiet l (pass_error_on lost to (Some hop) (loses lost by l)) _ refl (error_quiet hop lost to)
 
 chosen_quiet : (b : Bool) (p q : Plan StationMemory (Result Heard Dropped)) → reply_among p.frames ≡ None → reply_among q.frames ≡ None
     → reply_among (choose b p q).frames ≡ None
@@ -171,7 +171,7 @@ forward_quiet l own mesh unit note none = by_hop (next_hop l mesh.to)
   where
     by_report : (hop : Option ℕ) → reply_among (report_by l mesh hop).frames ≡ None
     by_report None = dropped_quiet l _
-    by_report (Some hop) = ends_quiet l (tells hop (Rerr mesh.to mesh.origin) (empty_draft l)) _ refl (error_quiet hop mesh.to mesh.origin)
+    by_report (Some hop) = ends_quiet l (send_message hop (Rerr mesh.to mesh.origin) (empty_draft l)) _ refl (error_quiet hop mesh.to mesh.origin)
 
     by_hop : (hop : Option ℕ) → reply_among (forward_by l own mesh unit note hop).frames ≡ None
     by_hop None = chosen_quiet (mesh.origin == own) _ _ (dropped_quiet l _) (by_report (next_hop l mesh.origin))
@@ -197,7 +197,7 @@ learned_quiet l own by origin rank now = by_fault (rank_fault l own origin rank 
 
 -- so does a request that goes on
 pub sent_on_quiet : (l : StationMemory) (own by origin dest : ℕ) (rank : Rank) (now : ℕ)
-    → reply_among (sealing {H = Unit {0}} alone dropped (tells to_all (Rreq rank.number rank.cost origin dest) (offers own origin rank by now l)) tt).frames
+    → reply_among (sealing {H = Unit {0}} alone dropped (send_message to_all (Rreq rank.number rank.cost origin dest) (offers own origin rank by now l)) tt).frames
     ≡ None
 unfolding goes leave with_rank empty_draft
 sent_on_quiet l own by origin dest rank now =
@@ -208,7 +208,7 @@ sent_on_quiet l own by origin dest rank now =
 
 pub answer_told : (l : StationMemory) (g : Granted) (key : Key) (own by origin : ℕ) (rank : Rank) (now : ℕ) → l.ring ≡ Some g → sealing_key g ≡ Some key
     → messages.IsMessage (Rrep (l.own_number.last + 1) 0 own origin)
-    → reply_among (sealing {H = Unit {0}} alone dropped (tells by (Rrep (l.own_number.last + 1) 0 own origin) (offers_numbered own origin rank by now l))
+    → reply_among (sealing {H = Unit {0}} alone dropped (send_message by (Rrep (l.own_number.last + 1) 0 own origin) (offers_numbered own origin rank by now l))
     tt).frames
     ≡ Some (record { to = by; number = l.own_number.last + 1; origin = own })
 unfolding goes leave with_own_number with_rank empty_draft
@@ -221,7 +221,7 @@ answer_told l g key own by origin rank now ring seals is =
 
 pub passed_told : (l : StationMemory) (g : Granted) (own by hop origin to : ℕ) (rank : Rank) (now : ℕ) → l.ring ≡ Some g → IsSome (sealing_key g)
     → messages.IsMessage (Rrep rank.number rank.cost origin to)
-    → reply_among (sealing {H = Unit {0}} alone dropped (tells hop (Rrep rank.number rank.cost origin to) (offers own origin rank by now l)) tt).frames
+    → reply_among (sealing {H = Unit {0}} alone dropped (send_message hop (Rrep rank.number rank.cost origin to) (offers own origin rank by now l)) tt).frames
     ≡ Some (record { to = hop; number = rank.number; origin = origin })
 unfolding goes leave with_rank empty_draft
 passed_told l g own by hop origin to rank now ring seals is =
@@ -311,10 +311,10 @@ failed_heard {H} {E} ends s t d reason answer out c is = record { carries = fail
 -- a request that went on is no reply
 pub sent_on_kept : (before after : Option Reply) (memory : Option StationMemory) (l : StationMemory) (own by origin dest : ℕ) (rank : Rank) (now : ℕ)
     → before ≡ None → after ≡ before
-    → after ≡ reply_sent (sealing {H = Unit {0}} alone dropped (tells to_all (Rreq rank.number rank.cost origin dest) (offers own origin rank by now l)) tt)
+    → after ≡ reply_sent (sealing {H = Unit {0}} alone dropped (send_message to_all (Rreq rank.number rank.cost origin dest) (offers own origin rank by now l)) tt)
     memory
 sent_on_kept before after memory l own by origin dest rank now fresh stays =
-    stays ∙ fresh ∙ none_sent (sealing {H = Unit {0}} alone dropped (tells to_all (Rreq rank.number rank.cost origin dest) (offers own origin rank by now l))
+    stays ∙ fresh ∙ none_sent (sealing {H = Unit {0}} alone dropped (send_message to_all (Rreq rank.number rank.cost origin dest) (offers own origin rank by now l))
     tt) memory (sent_on_quiet l own by origin dest rank now)
 
 -- what is kept of the last frame is no part of a plan

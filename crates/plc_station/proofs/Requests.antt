@@ -15,7 +15,7 @@ use Rattle.node_rules.specs.declared.heard.Heard.TheVariants.{Answered, Relayed}
 use Rattle.node_rules.specs.declared.refusal.Dropped.TheVariants.{NotBetter, CostSpent, RoutesFull, SeqSpent, CounterSpent}
 use Rattle.node_rules.specs.Frames.{to_all}
 use Rattle.node_rules.specs.Memory.{StationMemory}
-use Rattle.node_rules.specs.Drafts.{Outgoing, alone, empty_draft, choose, checked, goes, tells, leave, with_own_number, with_rank, numbers_spent, counters_left}
+use Rattle.node_rules.specs.Drafts.{Outgoing, alone, empty_draft, choose, checked, goes, send_message, leave, with_own_number, with_rank, numbers_spent, counters_left}
 use Rattle.node_rules.specs.Drafts.{refused, sealing}
 use Rattle.node_rules.specs.Hearing.{dropped, rank_fault, hear_request, offers, offers_numbered}
 use Rattle.fragment_buffers.specs.Waiting.{leaving}
@@ -32,12 +32,12 @@ one to message = record { to = to; unit = Local 1 (messages.spelling message); n
 
 answer_long : (l : StationMemory) (own by origin dest : ℕ) (rank : Rank) (now : ℕ)
     → length (leaving own origin by l.waiting) + 1
-    ≡ length (tells by (Rrep (l.own_number.last + 1) 0 own origin) (offers_numbered own origin rank by now l)).units
+    ≡ length (send_message by (Rrep (l.own_number.last + 1) 0 own origin) (offers_numbered own origin rank by now l)).units
 unfolding goes leave with_own_number with_rank empty_draft leaving
 answer_long l own by origin dest rank now = sym (length-append (leaving own origin by l.waiting) (one by (Rrep (l.own_number.last + 1) 0 own origin)))
 
 relay_long : (l : StationMemory) (own by origin dest : ℕ) (rank : Rank) (now : ℕ)
-    → length (leaving own origin by l.waiting) + 1 ≡ length (tells to_all (Rreq rank.number rank.cost origin dest) (offers own origin rank by now l)).units
+    → length (leaving own origin by l.waiting) + 1 ≡ length (send_message to_all (Rreq rank.number rank.cost origin dest) (offers own origin rank by now l)).units
 unfolding goes leave with_rank empty_draft leaving
 relay_long l own by origin dest rank now = sym (length-append (leaving own origin by l.waiting) (one to_all (Rreq rank.number rank.cost origin dest)))
 
@@ -69,16 +69,16 @@ pub answer_spent : (l : StationMemory) (own by origin dest : ℕ) (rank : Rank) 
     → refused {H = Heard} dropped l CounterSpent ≡ hear_request l own by origin dest rank now
 unfolding checked rank_fault choose
 answer_spent l own by origin dest rank now t h e few = rw (← t.better, ← t.cost, ← t.room, ← h, ← e)
-    (sealed_spent dropped l (tells by (Rrep (l.own_number.last + 1) 0 own origin) (offers_numbered own origin rank by now l)) Answered
+    (sealed_spent dropped l (send_message by (Rrep (l.own_number.last + 1) 0 own origin) (offers_numbered own origin rank by now l)) Answered
     (length (leaving own origin by l.waiting) + 1) (answer_long l own by origin dest rank now) few)
 
 pub answering : (l : StationMemory) (own by origin dest : ℕ) (rank : Rank) (now : ℕ) → IsTaken l own origin rank now → true ≡ (dest == own)
     → false ≡ numbers_spent l → false ≡ nat_lt (counters_left l) (length (leaving own origin by l.waiting) + 1)
-    → sealing alone dropped (tells by (Rrep (l.own_number.last + 1) 0 own origin) (offers_numbered own origin rank by now l)) Answered
+    → sealing alone dropped (send_message by (Rrep (l.own_number.last + 1) 0 own origin) (offers_numbered own origin rank by now l)) Answered
     ≡ hear_request l own by origin dest rank now
 unfolding checked rank_fault choose
 answering l own by origin dest rank now t h e few = rw (← t.better, ← t.cost, ← t.room, ← h, ← e)
-    (sealed_fits dropped l (tells by (Rrep (l.own_number.last + 1) 0 own origin) (offers_numbered own origin rank by now l)) Answered
+    (sealed_fits dropped l (send_message by (Rrep (l.own_number.last + 1) 0 own origin) (offers_numbered own origin rank by now l)) Answered
     (length (leaving own origin by l.waiting) + 1) (answer_long l own by origin dest rank now) few)
 
 pub relay_spent : (l : StationMemory) (own by origin dest : ℕ) (rank : Rank) (now : ℕ) → IsTaken l own origin rank now → false ≡ (dest == own)
@@ -86,16 +86,16 @@ pub relay_spent : (l : StationMemory) (own by origin dest : ℕ) (rank : Rank) (
     → refused {H = Heard} dropped l CounterSpent ≡ hear_request l own by origin dest rank now
 unfolding checked rank_fault choose
 relay_spent l own by origin dest rank now t h few = rw (← t.better, ← t.cost, ← t.room, ← h)
-    (sealed_spent dropped l (tells to_all (Rreq rank.number rank.cost origin dest) (offers own origin rank by now l)) Relayed
+    (sealed_spent dropped l (send_message to_all (Rreq rank.number rank.cost origin dest) (offers own origin rank by now l)) Relayed
     (length (leaving own origin by l.waiting) + 1) (relay_long l own by origin dest rank now) few)
 
 pub relaying : (l : StationMemory) (own by origin dest : ℕ) (rank : Rank) (now : ℕ) → IsTaken l own origin rank now → false ≡ (dest == own)
     → false ≡ nat_lt (counters_left l) (length (leaving own origin by l.waiting) + 1)
-    → sealing alone dropped (tells to_all (Rreq rank.number rank.cost origin dest) (offers own origin rank by now l)) Relayed
+    → sealing alone dropped (send_message to_all (Rreq rank.number rank.cost origin dest) (offers own origin rank by now l)) Relayed
     ≡ hear_request l own by origin dest rank now
 unfolding checked rank_fault choose
 relaying l own by origin dest rank now t h few = rw (← t.better, ← t.cost, ← t.room, ← h)
-    (sealed_fits dropped l (tells to_all (Rreq rank.number rank.cost origin dest) (offers own origin rank by now l)) Relayed
+    (sealed_fits dropped l (send_message to_all (Rreq rank.number rank.cost origin dest) (offers own origin rank by now l)) Relayed
     (length (leaving own origin by l.waiting) + 1) (relay_long l own by origin dest rank now) few)
 
 pub big : (n : ℕ) → (n < 65536 → ⊥) → true ≡ nat_lt 65535 n

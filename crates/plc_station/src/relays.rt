@@ -45,7 +45,7 @@ impl<K: Keeper + Drop> Station<K> {
             (λ l. l.counter.next + (length (leaving grant.now.address origin by l.waiting) + 1) ≤ GREATEST_COUNTER) }
         requires empty { out.old ≡ nothing }
         ensures carries { IfSome self.old.memory (λ l. Carries self.old (drafts.sealing drafts.alone hearing.dropped
-            (drafts.tells to message.now (hearing.offers grant.now.address origin rank by now l)) tt)
+            (drafts.send_message to message.now (hearing.offers grant.now.address origin rank by now l)) tt)
             result out.new self.new) }
         ensures agrees { Agrees self.new }
         ensures replied { self.new.replied ≡ self.old.replied }
@@ -95,7 +95,7 @@ impl<K: Keeper + Drop> Station<K> {
             (λ l. l.counter.next + (length (leaving grant.now.address origin by l.waiting) + 1) ≤ GREATEST_COUNTER) }
         requires empty { out.old ≡ nothing }
         ensures carries { IfSome self.old.memory (λ l. Carries self.old (drafts.sealing drafts.alone hearing.dropped
-            (drafts.tells to_all (message.Rreq rank.number rank.cost origin dest)
+            (drafts.send_message to_all (message.Rreq rank.number rank.cost origin dest)
             (hearing.offers grant.now.address origin rank by now l)) tt) result out.new self.new) }
         ensures agrees { Agrees self.new }
         ensures replied { self.new.replied ≡ self.old.replied }

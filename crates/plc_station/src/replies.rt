@@ -41,11 +41,11 @@ impl<K: Keeper + Drop> Station<K> {
         requires empty { out.old ≡ nothing }
         requires fresh { self.old.replied ≡ None }
         ensures carries { IfSome self.old.memory (λ l. Carries self.old (drafts.sealing drafts.alone hearing.dropped
-            (drafts.tells hop (message.Rrep rank.number rank.cost origin to)
+            (drafts.send_message hop (message.Rrep rank.number rank.cost origin to)
             (hearing.offers grant.now.address origin rank by now l)) tt) result out.new self.new) }
         ensures agrees { Agrees self.new }
         ensures replied { IfSome self.old.memory (λ l. self.new.replied ≡ reply_sent_by
-            (drafts.tells hop (message.Rrep rank.number rank.cost origin to)
+            (drafts.send_message hop (message.Rrep rank.number rank.cost origin to)
             (hearing.offers grant.now.address origin rank by now l)) self.new.memory) }
     {
         let reply = Message::Rrep {

@@ -57,7 +57,7 @@ impl<K: Keeper + Drop> Station<K> {
     }
 
     // The route to the lost address ends, and the error goes on to the hop.
-    fn tell_on(
+    fn pass_error_on(
         &mut self,
         grant: &Grant,
         by: Short,
@@ -72,7 +72,7 @@ impl<K: Keeper + Drop> Station<K> {
         requires left { IfSome self.old.memory (λ l. l.counter.next + 1 ≤ GREATEST_COUNTER) }
         requires empty { out.old ≡ nothing }
         ensures carries { IfSome self.old.memory (λ l. Carries self.old (drafts.sealing drafts.alone hearing.dropped
-            (drafts.tells hop (message.Rerr lost to) (hearing.loses lost by l)) heard.Broken) result out.new self.new) }
+            (drafts.send_message hop (message.Rerr lost to) (hearing.loses lost by l)) heard.Broken) result out.new self.new) }
         ensures agrees { Agrees self.new }
         ensures replied { self.new.replied ≡ self.old.replied }
     {
@@ -125,6 +125,6 @@ impl<K: Keeper + Drop> Station<K> {
         if left < 1 {
             return Err(Dropped::CounterSpent);
         }
-        self.tell_on(grant, by, lost, to, hop, out)
+        self.pass_error_on(grant, by, lost, to, hop, out)
     }
 }

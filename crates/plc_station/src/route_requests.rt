@@ -43,11 +43,11 @@ impl<K: Keeper + Drop> Station<K> {
         requires empty { out.old ≡ nothing }
         requires fresh { self.old.replied ≡ None }
         ensures carries { IfSome self.old.memory (λ l. Carries self.old (drafts.sealing drafts.alone hearing.dropped
-            (drafts.tells by (message.Rrep (l.own_number.last + 1) 0 grant.now.address origin)
+            (drafts.send_message by (message.Rrep (l.own_number.last + 1) 0 grant.now.address origin)
             (hearing.offers_numbered grant.now.address origin rank by now l)) tt) result out.new self.new) }
         ensures agrees { Agrees self.new }
         ensures replied { IfSome self.old.memory (λ l. self.new.replied ≡ reply_sent_by
-            (drafts.tells by (message.Rrep (l.own_number.last + 1) 0 grant.now.address origin)
+            (drafts.send_message by (message.Rrep (l.own_number.last + 1) 0 grant.now.address origin)
             (hearing.offers_numbered grant.now.address origin rank by now l)) self.new.memory) }
     {
         self.halted = true;

@@ -38,7 +38,7 @@ use Rattle.reach_rules.specs.declared.refusal.ReachDropped.{ReachDropped}
 use Rattle.reach_rules.specs.declared.refusal.ReachDropped.TheVariants.{Known}
 use Rattle.reach_rules.specs.declared.refusal.BroadcastRefusal.TheVariants as broadcasts
 use Rattle.reach_rules.specs.declared.refusal.AskRefusal.TheVariants as asks
-use Rattle.reach_rules.specs.ReachingNodes.{Beside, Reaching, Commanding, in_reach, reach_ends, drop_it, tells_neighbours}
+use Rattle.reach_rules.specs.ReachingNodes.{Beside, Reaching, Commanding, in_reach, reach_ends, drop_it, adds_local}
 use Rattle.reach_rules.specs.CheckedReplies.{hear_acknowledgement, hear_acknowledgement_in}
 use Rattle.reach_rules.specs.Broadcasts.{with_broadcast_mark, with_broadcast_number, broadcast_fault, hop_less, goes_further, admits_broadcast, hear_broadcast_in, hear_broadcast, Broadcasting, broadcast_ends, broadcast_from, broadcast}
 use Rattle.reach_rules.specs.PathAsking.{follows_path, hear_path_in, hear_path, next_toward, Asking, ask_ends, asks_by, asks_from, ask_path}
@@ -108,19 +108,19 @@ module _ {M : Type 0} (x : Reaching M) where
   marked origin number = record { turns = mark_turn x.beside.log.marks origin number; units = Nothing; plain = refl; memory = refl; scan = refl }
 
   goes_on : (b : Broadcast) → IsReach x (goes_further b (with_broadcast_mark b.origin b.number (empty_draft x)))
-  unfolding empty_draft with_broadcast_mark goes_further tells_neighbours
+  unfolding empty_draft with_broadcast_mark goes_further adds_local
   goes_on b = by_hops (nat_lt b.hops 2)
     where
-      by_hops : (t : Bool) → IsReach x (if t then with_broadcast_mark b.origin b.number (empty_draft x) else tells_neighbours to_all 4 (spelling (hop_less b)) (with_broadcast_mark b.origin b.number (empty_draft x)))
+      by_hops : (t : Bool) → IsReach x (if t then with_broadcast_mark b.origin b.number (empty_draft x) else adds_local to_all 4 (spelling (hop_less b)) (with_broadcast_mark b.origin b.number (empty_draft x)))
       by_hops true = marked b.origin b.number
       by_hops false = record { turns = mark_turn x.beside.log.marks b.origin b.number; units = Command to_all 4 _ (omega arith) (omega arith); plain = refl; memory = refl; scan = refl }
 
-  numbered : (octets : List ℕ) → IsReach x (tells_neighbours to_all 4 octets (with_broadcast_number (empty_draft x)))
-  unfolding empty_draft with_broadcast_number tells_neighbours
+  numbered : (octets : List ℕ) → IsReach x (adds_local to_all 4 octets (with_broadcast_number (empty_draft x)))
+  unfolding empty_draft with_broadcast_number adds_local
   numbered octets = record { turns = number_turn x.beside.log.numbering; units = Command to_all 4 octets (omega arith) (omega arith); plain = refl; memory = refl; scan = refl }
 
-  tells : (to : ℕ) (octets : List ℕ) → IsReach x (tells_neighbours to 5 octets (empty_draft x))
-  unfolding empty_draft tells_neighbours
+  tells : (to : ℕ) (octets : List ℕ) → IsReach x (adds_local to 5 octets (empty_draft x))
+  unfolding empty_draft adds_local
   tells to octets = record { turns = omega arith; units = Command to 5 octets (omega arith) (omega arith); plain = refl; memory = refl; scan = refl }
 
 -- # Plans
@@ -313,19 +313,19 @@ module _ {M : Type 0} (h : StationPlace M) (x : Reaching M) (b : Broadcast) (got
   marked_draft = with_broadcast_mark b.origin b.number (empty_draft x)
 
   abbrev draft_when : Bool → Draft (Reaching M)
-  draft_when spent = if spent then marked_draft else tells_neighbours to_all 4 (spelling (hop_less b)) marked_draft
+  draft_when spent = if spent then marked_draft else adds_local to_all 4 (spelling (hop_less b)) marked_draft
 
   abbrev plan_when : (few spent : Bool) → CommandHeard → Commanding M
   plan_when few spent word = if few then refused reach_ends x reach_ends.spent else sealing (in_reach h) reach_ends (draft_when spent) word
 
   puts_when : (few spent : Bool) (word : CommandHeard) → (plan_when few spent word).answer ≡ Ok got → (plan_when few spent word).puts ≡ puts_of (keep_write x.beside.log.marks b.origin b.number) ++ puts_of (counter.reserve_write (h.station x.memory).counter (if spent then 0 else 1))
-  unfolding resting empty_draft with_broadcast_mark tells_neighbours
+  unfolding resting empty_draft with_broadcast_mark adds_local
   puts_when true spent word e = absurd (cc)
   puts_when false true word e = refl
   puts_when false false word e = refl
 
   marks_when : (few spent : Bool) (word : CommandHeard) → (plan_when few spent word).answer ≡ Ok got → (plan_when few spent word).memory.beside.log.marks ≡ kept_after x.beside.log.marks b.origin b.number
-  unfolding resting empty_draft with_broadcast_mark tells_neighbours
+  unfolding resting empty_draft with_broadcast_mark adds_local
   marks_when true spent word e = absurd (cc)
   marks_when false true word e = refl
   marks_when false false word e = refl

@@ -61,7 +61,7 @@ unfolding rules_accepting.marking rules_drafts.empty_draft rules_drafts.with_ran
     rules_drafts.body_goes rules_drafts.waits rules_drafts.seeks_once rules_drafts.leave rules_drafts.lack
     rules_drafts.sealed rules_drafts.checked rules_drafts.choose rules_hearing.rank_fault rules_hearing.gathered
     rules_memory_drafts.with_memory_by rules_memory_drafts.goes_up rules_memory.next_hop rules_plans.resting
-    rules_replies.reply_of reach_nodes.tells_neighbours reach_broadcasts.with_broadcast_mark
+    rules_replies.reply_of reach_nodes.adds_local reach_broadcasts.with_broadcast_mark
     reach_broadcasts.with_broadcast_number reach_broadcasts.broadcast_fault reach_broadcasts.goes_further
     reach_broadcasts.datagram_fault
 rules = tt

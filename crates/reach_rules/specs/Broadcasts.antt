@@ -22,7 +22,7 @@ use Rattle.reach_rules.specs.declared.refusal.ReachDropped.{ReachDropped}
 use Rattle.reach_rules.specs.declared.refusal.ReachDropped.TheVariants.{Known, Old, OriginsFull}
 use Rattle.reach_rules.specs.declared.refusal.BroadcastRefusal.{BroadcastRefusal}
 use Rattle.reach_rules.specs.declared.refusal.BroadcastRefusal.TheVariants.{NotJoined, BadSize, NumberSpent, CounterSpent, Store}
-use Rattle.reach_rules.specs.ReachingNodes.{Reaching, Commanding, in_reach, with_log, reach_ends, drop_it, tells_neighbours}
+use Rattle.reach_rules.specs.ReachingNodes.{Reaching, Commanding, in_reach, with_log, reach_ends, drop_it, adds_local}
 
 -- # Words
 
@@ -60,7 +60,7 @@ hop_less b = record b { hops = b.hops - 1 }
 
 -- it goes on to all while it has a hop more
 unfoldable pub goes_further : {M : Type 0} → Broadcast → Draft (Reaching M) → Draft (Reaching M)
-goes_further b d = if nat_lt b.hops 2 then d else tells_neighbours to_all 4 (spelling (hop_less b)) d
+goes_further b d = if nat_lt b.hops 2 then d else adds_local to_all 4 (spelling (hop_less b)) d
 
 -- a broadcast is handed up, marked and sent on
 abbrev pub admits_broadcast : {M : Type 0} → StationPlace M → Reaching M → Broadcast → Commanding M
@@ -105,7 +105,7 @@ abbrev pub broadcast_from : {M : Type 0} → StationPlace M → Reaching M → (
 broadcast_from h x own datagram =
     checked broadcast_ends x (datagram_fault x.beside.log datagram)
     (sealed (in_reach h) broadcast_ends x
-    (tells_neighbours to_all 4 (spelling (own_broadcast own x.beside.log datagram))
+    (adds_local to_all 4 (spelling (own_broadcast own x.beside.log datagram))
     (with_broadcast_number (empty_draft x))) tt)
 
 -- a datagram is sent to all

@@ -21,7 +21,7 @@ use Rattle.reach_rules.specs.declared.refusal.ReachDropped.{ReachDropped}
 use Rattle.reach_rules.specs.declared.refusal.ReachDropped.TheVariants.{Known, Revisited, PathLong}
 use Rattle.reach_rules.specs.declared.refusal.AskRefusal.{AskRefusal}
 use Rattle.reach_rules.specs.declared.refusal.AskRefusal.TheVariants as asks
-use Rattle.reach_rules.specs.ReachingNodes.{Reaching, Commanding, in_reach, reach_ends, drop_it, remembers, tells_neighbours}
+use Rattle.reach_rules.specs.ReachingNodes.{Reaching, Commanding, in_reach, reach_ends, drop_it, remembers, adds_local}
 
 -- # Hearing a path message
 
@@ -38,15 +38,15 @@ path_word refusals.Revisited = Revisited
 path_word refusals.PathLong = PathLong
 
 -- a path message goes to a neighbour
-abbrev pub tells_path : {M : Type 0} → StationPlace M → Reaching M → (to : ℕ) → PathMessage → CommandHeard → Commanding M
-tells_path h x to message answer =
-    sealed (in_reach h) reach_ends x (tells_neighbours to 5 (path_spelling message) (empty_draft x)) answer
+abbrev pub send_path : {M : Type 0} → StationPlace M → Reaching M → (to : ℕ) → PathMessage → CommandHeard → Commanding M
+send_path h x to message answer =
+    sealed (in_reach h) reach_ends x (adds_local to 5 (path_spelling message) (empty_draft x)) answer
 
 -- what becomes of a message: it goes on, is answered, or has come back
 abbrev pub follows_path : {M : Type 0} → StationPlace M → Reaching M → Result PathStep PathRefusal → Commanding M
 follows_path h x (Err reason) = drop_it x (path_word reason)
-follows_path h x (Ok (Forward to message)) = tells_path h x to message Relayed
-follows_path h x (Ok (Answer to message)) = tells_path h x to message Answered
+follows_path h x (Ok (Forward to message)) = send_path h x to message Relayed
+follows_path h x (Ok (Answer to message)) = send_path h x to message Answered
 follows_path h x (Ok (Done walk)) = remembers x (Path walk)
 
 -- octets that are no path message are dropped
@@ -74,7 +74,7 @@ abbrev pub asks_by : {M : Type 0} → StationPlace M → Reaching M → (own tar
 asks_by h x own target None = refused ask_ends x asks.NoRoute
 asks_by h x own target (Some hop) =
     sealed (in_reach h) ask_ends x
-    (tells_neighbours hop 5 (path_spelling (Ask target (own ∷ []))) (empty_draft x)) tt
+    (adds_local hop 5 (path_spelling (Ask target (own ∷ []))) (empty_draft x)) tt
 
 -- the way to another node is asked for
 abbrev pub asks_from : {M : Type 0} → StationPlace M → Reaching M → (own target : ℕ) → Asking M

@@ -112,8 +112,8 @@ command_answer (Err reason) = Err reason
 -- # Words of what goes out
 
 -- a command of a code goes to one node or to all
-unfoldable pub tells_neighbours : {M : Type 0} → (to code : ℕ) → List ℕ → Draft M → Draft M
-tells_neighbours to code body d = record d { units = d.units ++ record { to = to; unit = Local code body; note = 0 } ∷ [] }
+unfoldable pub adds_local : {M : Type 0} → (to code : ℕ) → List ℕ → Draft M → Draft M
+adds_local to code body d = record d { units = d.units ++ record { to = to; unit = Local code body; note = 0 } ∷ [] }
 
 -- # Plans one after the other
 

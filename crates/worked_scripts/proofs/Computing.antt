@@ -127,7 +127,7 @@ unfoldable pub further : Unit {0}
 unfolding commands_acks.ack_in commands_grammar.hops_stand commands_grammar.origin_stands commands_grammar.sequence_stands
     commands_grammar.has_length commands_grammar.is_body commands_reading.broadcast_in commands_paths.is_ask commands_paths.is_tell
     commands_paths.path_in commands_discovery.is_request commands_discovery.is_beacon commands_discovery.discovery_in
-    rules_replies.reply_of reach_nodes.tells_neighbours reach_broadcasts.with_broadcast_mark
+    rules_replies.reply_of reach_nodes.adds_local reach_broadcasts.with_broadcast_mark
     reach_broadcasts.with_broadcast_number reach_broadcasts.broadcast_fault reach_broadcasts.goes_further
     reach_broadcasts.datagram_fault line_further.beside_after line_further.checks line_further.bcast line_further.path
     line_further.scan line_further.choose line_further.comes line_further.delivers line_further.injects line_further.ticks

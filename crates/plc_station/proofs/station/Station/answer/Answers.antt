@@ -9,7 +9,7 @@ use Rattle.mesh_header.specs.declared.unit.Unit.TheVariants.{Local}
 use Rattle.node_rules.specs.Ciphers.{network}
 use Rattle.node_rules.specs.Frames.{spelled}
 use Rattle.node_rules.specs.Memory.{StationMemory}
-use Rattle.node_rules.specs.Drafts.{empty_draft, goes, leave, with_own_number, with_rank, tells, sealed_by}
+use Rattle.node_rules.specs.Drafts.{empty_draft, goes, leave, with_own_number, with_rank, send_message, sealed_by}
 use Rattle.node_rules.specs.Hearing.{dropped, offers_numbered}
 use Rattle.waiting_bodies.specs.Bodies.{Held}
 use Rattle.fragment_buffers.specs.Waiting.{leaving}
@@ -32,9 +32,9 @@ pub returns-in_default-clause-carries : goal.returns-in_default-clause-carries
 unfolding goes leave with_own_number with_rank empty_draft leaving
 returns-in_default-clause-carries g c =
     rw (← c.self.view_is) (on_memory c.self.inside.halted _ _ (λ running. stopped dropped _ _
-    (tells c.args.by (Rrep (c.self.inside.parts.own_number.last + 1) 0 c.args.grant.now.address c.args.origin)
+    (send_message c.args.by (Rrep (c.self.inside.parts.own_number.last + 1) 0 c.args.grant.now.address c.args.origin)
     (offers_numbered c.args.grant.now.address c.args.origin c.args.rank c.args.by c.args.now (station_in c.self.inside.parts c.self.inside.bodies)))
-    (tells c.args.by (Rrep (c.self.inside.parts.own_number.last + 1) 0 c.args.grant.now.address c.args.origin)
+    (send_message c.args.by (Rrep (c.self.inside.parts.own_number.last + 1) 0 c.args.grant.now.address c.args.origin)
     (offers_numbered c.args.grant.now.address c.args.origin c.args.rank c.args.by c.args.now (station_in c.self.inside.parts c.self.inside.bodies))) tt _ refl
     (wrote_append_stop _ _ _ _ c.in_default.ensures.store) c.requires.empty refl))
 
@@ -42,16 +42,16 @@ pub returns-in_default-advance-clause-carries : goal.returns-in_default-advance-
 unfolding goes leave with_own_number with_rank empty_draft leaving
 returns-in_default-advance-clause-carries g c =
     rw (← c.self.view_is) (on_memory c.self.inside.halted _ _ (λ running. stopped dropped _ _
-    (tells c.args.by (Rrep (c.self.inside.parts.own_number.last + 1) 0 c.args.grant.now.address c.args.origin)
+    (send_message c.args.by (Rrep (c.self.inside.parts.own_number.last + 1) 0 c.args.grant.now.address c.args.origin)
     (offers_numbered c.args.grant.now.address c.args.origin c.args.rank c.args.by c.args.now (station_in c.self.inside.parts c.self.inside.bodies)))
-    (tells c.args.by (Rrep (c.self.inside.parts.own_number.last + 1) 0 c.args.grant.now.address c.args.origin)
+    (send_message c.args.by (Rrep (c.self.inside.parts.own_number.last + 1) 0 c.args.grant.now.address c.args.origin)
     (offers_numbered c.args.grant.now.address c.args.origin c.args.rank c.args.by c.args.now (station_in c.self.inside.parts c.self.inside.bodies))) tt _ refl
     (wrote_append _ _ _ _ _ _ c.in-Ok.ensures.store (wrote_one _ _ _ _ c.in_default-advance.ensures.store)) c.requires.empty refl))
 
 pub returns-in_default-reserve-clause-carries : goal.returns-in_default-reserve-clause-carries
 unfolding goes leave with_own_number with_rank empty_draft leaving
 returns-in_default-reserve-clause-carries g c =
-    let count : c.units_for-units.result + 1 ≡ length (tells c.args.by (Rrep (c.self.inside.parts.own_number.last + 1) 0 c.args.grant.now.address c.args.origin)
+    let count : c.units_for-units.result + 1 ≡ length (send_message c.args.by (Rrep (c.self.inside.parts.own_number.last + 1) 0 c.args.grant.now.address c.args.origin)
     (offers_numbered c.args.grant.now.address c.args.origin c.args.rank c.args.by c.args.now (station_in c.self.inside.parts c.self.inside.bodies))).units =
     omega (
       arith,
@@ -65,9 +65,9 @@ returns-in_default-reserve-clause-carries g c =
           }) ∷ []),
     ) in
     rw (← c.self.view_is) (on_memory c.self.inside.halted _ _ (λ running. uncounted dropped _ _
-    (tells c.args.by (Rrep (c.self.inside.parts.own_number.last + 1) 0 c.args.grant.now.address c.args.origin)
+    (send_message c.args.by (Rrep (c.self.inside.parts.own_number.last + 1) 0 c.args.grant.now.address c.args.origin)
     (offers_numbered c.args.grant.now.address c.args.origin c.args.rank c.args.by c.args.now (station_in c.self.inside.parts c.self.inside.bodies)))
-    (tells c.args.by (Rrep (c.self.inside.parts.own_number.last + 1) 0 c.args.grant.now.address c.args.origin)
+    (send_message c.args.by (Rrep (c.self.inside.parts.own_number.last + 1) 0 c.args.grant.now.address c.args.origin)
     (offers_numbered c.args.grant.now.address c.args.origin c.args.rank c.args.by c.args.now (station_in c.self.inside.parts c.self.inside.bodies))) tt _ _ _
     refl (wrote_append _ _ _ _ _ _ c.in-Ok.ensures.store (wrote_one _ _ _ _ c.in-Ok-advance.ensures.store)) count c.in_default-reserve.ensures.store
     c.requires.empty refl))
@@ -89,7 +89,7 @@ seal_message-requires-clause-room g c =
 pub returns-clause-carries : goal.returns-clause-carries
 unfolding goes leave with_own_number with_rank empty_draft leaving
 returns-clause-carries g c =
-    let count : c.units_for-units.result + 1 ≡ length (tells c.args.by (Rrep (c.self.inside.parts.own_number.last + 1) 0 c.args.grant.now.address c.args.origin)
+    let count : c.units_for-units.result + 1 ≡ length (send_message c.args.by (Rrep (c.self.inside.parts.own_number.last + 1) 0 c.args.grant.now.address c.args.origin)
     (offers_numbered c.args.grant.now.address c.args.origin c.args.rank c.args.by c.args.now (station_in c.self.inside.parts c.self.inside.bodies))).units =
     omega (
       arith,
@@ -103,9 +103,9 @@ returns-clause-carries g c =
           }) ∷ []),
     ) in
     rw (← c.self.view_is) (on_memory c.self.inside.halted _ _ (λ running. ended dropped _ _
-    (tells c.args.by (Rrep (c.self.inside.parts.own_number.last + 1) 0 c.args.grant.now.address c.args.origin)
+    (send_message c.args.by (Rrep (c.self.inside.parts.own_number.last + 1) 0 c.args.grant.now.address c.args.origin)
     (offers_numbered c.args.grant.now.address c.args.origin c.args.rank c.args.by c.args.now (station_in c.self.inside.parts c.self.inside.bodies)))
-    (tells c.args.by (Rrep (c.self.inside.parts.own_number.last + 1) 0 c.args.grant.now.address c.args.origin)
+    (send_message c.args.by (Rrep (c.self.inside.parts.own_number.last + 1) 0 c.args.grant.now.address c.args.origin)
     (offers_numbered c.args.grant.now.address c.args.origin c.args.rank c.args.by c.args.now (station_in c.self.inside.parts c.self.inside.bodies))) tt _ _ _
     refl (wrote_append _ _ _ _ _ _ c.in-Ok.ensures.store (wrote_one _ _ _ _ c.in-Ok-advance.ensures.store)) count c.in-Ok-reserve.ensures.store
     (c.seal_message.ensures.sent

@@ -44,4 +44,4 @@ returns-clause-carries g c =
     (error_on (station_in c.self.inside.parts c.self.inside.bodies) c.args.grant.now.address c.args.by c.args.lost c.args.to c.in-Some.hop
     (grind (arith, nat_tests, c.if-number.false, c.number.ensures.value, c.number-2.ensures.value, ap (λ (g : Granted). g.address) c.grant.view_is))
     c.in-Some.ensures (enough _ _ _ c.left-left.ensures (omega (arith, c.if-left-lt1.false))))
-    (at_some _ _ (station_in c.self.inside.parts c.self.inside.bodies) running (rw (← c.self.view_is) at c.tell_on.ensures.carries))))
+    (at_some _ _ (station_in c.self.inside.parts c.self.inside.bodies) running (rw (← c.self.view_is) at c.pass_error_on.ensures.carries))))

@@ -4,7 +4,7 @@ use Rattle.loadng_messages.specs.declared.message.Message.TheVariants.{Rrep}
 use Rattle.node_rules.specs.declared.heard.Heard.TheVariants.{Relayed}
 use Rattle.node_rules.specs.declared.refusal.Dropped.TheVariants.{NotBetter, CostSpent, RoutesFull, CounterSpent}
 use Rattle.node_rules.specs.Memory.{StationMemory}
-use Rattle.node_rules.specs.Drafts.{tells}
+use Rattle.node_rules.specs.Drafts.{send_message}
 use Rattle.node_rules.specs.Hearing.{dropped, offers, passes_on}
 use Rattle.plc_station.specs.StationReading.{station_in}
 use Rattle.node_rules.specs.States.{State}
@@ -78,7 +78,7 @@ returns-in-Ok-pass_on-clause-hears g c =
       cost = (small _ c.in-Ok.ensures.0);
       room = c.if-full.ensures;
     }) (enough _ _ _ c.left-left.ensures (omega (arith, c.if-left-units.false, c.units_for-units.ensures.units c.args.grant.now.address c.args.by))))
-    (answered_heard dropped _ _ (tells c.args.hop (Rrep c.args.number c.args.cost c.args.origin c.args.to)
+    (answered_heard dropped _ _ (send_message c.args.hop (Rrep c.args.number c.args.cost c.args.origin c.args.to)
     (offers c.args.grant.now.address c.args.origin (record { number = c.args.number; cost = c.args.cost }) c.args.by c.args.now
     (station_in c.self.inside.parts c.self.inside.bodies))) _ Relayed _
     (at_some _ _ (station_in c.self.inside.parts c.self.inside.bodies) running
@@ -98,7 +98,7 @@ returns-in-Err-clause-hears g c =
       cost = (small _ c.in-Ok.ensures.0);
       room = c.if-full.ensures;
     }) (enough _ _ _ c.left-left.ensures (omega (arith, c.if-left-units.false, c.units_for-units.ensures.units c.args.grant.now.address c.args.by))))
-    (failed_heard dropped _ _ (tells c.args.hop (Rrep c.args.number c.args.cost c.args.origin c.args.to)
+    (failed_heard dropped _ _ (send_message c.args.hop (Rrep c.args.number c.args.cost c.args.origin c.args.to)
     (offers c.args.grant.now.address c.args.origin (record { number = c.args.number; cost = c.args.cost }) c.args.by c.args.now
     (station_in c.self.inside.parts c.self.inside.bodies))) _ Relayed _
     (at_some _ _ (station_in c.self.inside.parts c.self.inside.bodies) running (rw c.in-Ok.ensures.1 at (rw (← c.self.view_is) at c.in-Err.ensures.carries)))

@@ -5,7 +5,7 @@ use Rattle.loadng_messages.specs.declared.message.Message.TheVariants.{Rreq, Rre
 use Rattle.node_rules.specs.declared.heard.Heard.TheVariants.{Answered, Relayed}
 use Rattle.node_rules.specs.declared.refusal.Dropped.TheVariants.{NotBetter, CostSpent, RoutesFull, SeqSpent, CounterSpent}
 use Rattle.node_rules.specs.Memory.{StationMemory}
-use Rattle.node_rules.specs.Drafts.{tells}
+use Rattle.node_rules.specs.Drafts.{send_message}
 use Rattle.node_rules.specs.Hearing.{dropped, offers, offers_numbered}
 use Rattle.plc_station.specs.StationReading.{station_in}
 use Rattle.node_rules.specs.States.{State}
@@ -107,7 +107,7 @@ returns-in-Ok-answer-clause-hears g c =
     }) (grind (arith, nat_tests, c.if-number.true, c.number.ensures.value, c.number-2.ensures.value, ap (λ (g : Granted). g.address) c.grant.view_is))
     (grind (arith, nat_tests, c.last.ensures, c.if-last.false))
     (enough _ _ _ c.left-left.ensures (omega (arith, c.if-left-units.false, c.units_for-units.ensures.units c.args.grant.now.address c.args.by))))
-    (answered_heard dropped _ _ (tells c.args.by (Rrep (c.self.inside.parts.own_number.last + 1) 0 c.args.grant.now.address c.args.origin)
+    (answered_heard dropped _ _ (send_message c.args.by (Rrep (c.self.inside.parts.own_number.last + 1) 0 c.args.grant.now.address c.args.origin)
     (offers_numbered c.args.grant.now.address c.args.origin (record { number = c.args.number; cost = c.args.cost }) c.args.by c.args.now
     (station_in c.self.inside.parts c.self.inside.bodies))) _ Answered _
     (at_some _ _ (station_in c.self.inside.parts c.self.inside.bodies) running
@@ -129,7 +129,7 @@ returns-in-Err-clause-hears g c =
     }) (grind (arith, nat_tests, c.if-number.true, c.number.ensures.value, c.number-2.ensures.value, ap (λ (g : Granted). g.address) c.grant.view_is))
     (grind (arith, nat_tests, c.last.ensures, c.if-last.false))
     (enough _ _ _ c.left-left.ensures (omega (arith, c.if-left-units.false, c.units_for-units.ensures.units c.args.grant.now.address c.args.by))))
-    (failed_heard dropped _ _ (tells c.args.by (Rrep (c.self.inside.parts.own_number.last + 1) 0 c.args.grant.now.address c.args.origin)
+    (failed_heard dropped _ _ (send_message c.args.by (Rrep (c.self.inside.parts.own_number.last + 1) 0 c.args.grant.now.address c.args.origin)
     (offers_numbered c.args.grant.now.address c.args.origin (record { number = c.args.number; cost = c.args.cost }) c.args.by c.args.now
     (station_in c.self.inside.parts c.self.inside.bodies))) _ Answered _
     (at_some _ _ (station_in c.self.inside.parts c.self.inside.bodies) running (rw c.in-Ok.ensures.1 at (rw (← c.self.view_is) at c.in-Err.ensures.carries)))
@@ -148,7 +148,7 @@ returns-in-Ok-send_on-clause-hears g c =
       room = c.if-full.ensures;
     }) (grind (arith, nat_tests, c.if-number.false, c.number.ensures.value, c.number-2.ensures.value, ap (λ (g : Granted). g.address) c.grant.view_is))
     (enough _ _ _ c.left-left.ensures (omega (arith, c.if-left-units-2.false, c.units_for-units.ensures.units c.args.grant.now.address c.args.by))))
-    (answered_heard dropped _ _ (tells 0xFFFF (Rreq c.args.number c.args.cost c.args.origin c.args.dest)
+    (answered_heard dropped _ _ (send_message 0xFFFF (Rreq c.args.number c.args.cost c.args.origin c.args.dest)
     (offers c.args.grant.now.address c.args.origin (record { number = c.args.number; cost = c.args.cost }) c.args.by c.args.now
     (station_in c.self.inside.parts c.self.inside.bodies))) _ Relayed _
     (at_some _ _ (station_in c.self.inside.parts c.self.inside.bodies) running
@@ -170,7 +170,7 @@ returns-in-Err-send_on-clause-hears g c =
       room = c.if-full.ensures;
     }) (grind (arith, nat_tests, c.if-number.false, c.number.ensures.value, c.number-2.ensures.value, ap (λ (g : Granted). g.address) c.grant.view_is))
     (enough _ _ _ c.left-left.ensures (omega (arith, c.if-left-units-2.false, c.units_for-units.ensures.units c.args.grant.now.address c.args.by))))
-    (failed_heard dropped _ _ (tells 0xFFFF (Rreq c.args.number c.args.cost c.args.origin c.args.dest)
+    (failed_heard dropped _ _ (send_message 0xFFFF (Rreq c.args.number c.args.cost c.args.origin c.args.dest)
     (offers c.args.grant.now.address c.args.origin (record { number = c.args.number; cost = c.args.cost }) c.args.by c.args.now
     (station_in c.self.inside.parts c.self.inside.bodies))) _ Relayed _
     (at_some _ _ (station_in c.self.inside.parts c.self.inside.bodies) running

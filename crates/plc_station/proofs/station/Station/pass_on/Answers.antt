@@ -1,7 +1,7 @@
 use Rattle.std.proofs.Common.{Some, ◌∙◌}
 use Rattle.std.proofs.lemmas.Result.{err_from_is_err_and}
 use Rattle.loadng_messages.specs.declared.message.Message.TheVariants.{Rrep}
-use Rattle.node_rules.specs.Drafts.{tells}
+use Rattle.node_rules.specs.Drafts.{send_message}
 use Rattle.node_rules.specs.Hearing.{dropped, offers}
 use Rattle.plc_station.proofs.Carrying.{if_some, at_some}
 use Rattle.plc_station.proofs.Replying.{kept_done, kept_failed, passed_told, retold}
@@ -15,7 +15,7 @@ returns-in_err-relay-clause-carries g c =
 pub returns-in_err-relay-clause-replied : goal.returns-in_err-relay-clause-replied
 returns-in_err-relay-clause-replied g c =
     if_some c.args.self.now.memory _ (λ l m. kept_failed dropped _ _
-    (tells c.args.hop (Rrep c.args.rank.number c.args.rank.cost c.args.origin c.args.to)
+    (send_message c.args.hop (Rrep c.args.rank.number c.args.rank.cost c.args.origin c.args.to)
     (offers c.args.grant.now.address c.args.origin c.args.rank c.args.by c.args.now l)) _ _ _
     (at_some _ _ l m (rw c.one.ensures.value at c.in_err-relay.ensures.carries)) (c.in_err-relay.ensures.replied ∙ c.requires.fresh))
 
@@ -30,7 +30,7 @@ returns-clause-agrees g c = rw (← c.self.view_is) at c.in_ok-relay.ensures.agr
 pub returns-clause-replied : goal.returns-clause-replied
 returns-clause-replied g c =
     if_some c.args.self.now.memory _ (λ l m. kept_done dropped _ _
-    (tells c.args.hop (Rrep c.args.rank.number c.args.rank.cost c.args.origin c.args.to)
+    (send_message c.args.hop (Rrep c.args.rank.number c.args.rank.cost c.args.origin c.args.to)
     (offers c.args.grant.now.address c.args.origin c.args.rank c.args.by c.args.now l)) _ _ _
     (at_some _ _ l m (rw (c.one.ensures.value, ← c.self.view_is) at c.in_ok-relay.ensures.carries))
     (passed_told l c.args.grant.now c.args.grant.now.address c.args.by c.args.hop c.args.origin c.args.to c.args.rank c.args.now

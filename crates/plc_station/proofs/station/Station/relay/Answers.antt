@@ -6,7 +6,7 @@ use Rattle.mesh_header.specs.declared.unit.Unit.TheVariants.{Local}
 use Rattle.node_rules.specs.Ciphers.{network}
 use Rattle.node_rules.specs.Frames.{spelled}
 use Rattle.node_rules.specs.Memory.{StationMemory}
-use Rattle.node_rules.specs.Drafts.{empty_draft, goes, leave, with_own_number, with_rank, tells, sealed_by}
+use Rattle.node_rules.specs.Drafts.{empty_draft, goes, leave, with_own_number, with_rank, send_message, sealed_by}
 use Rattle.node_rules.specs.Hearing.{dropped, offers}
 use Rattle.waiting_bodies.specs.Bodies.{Held}
 use Rattle.fragment_buffers.specs.Waiting.{leaving}
@@ -28,15 +28,15 @@ pub returns-in_default-clause-carries : goal.returns-in_default-clause-carries
 unfolding goes leave with_own_number with_rank empty_draft leaving
 returns-in_default-clause-carries g c =
     rw (← c.self.view_is) (on_memory c.self.inside.halted _ _ (λ running. stopped dropped _ _
-    (tells c.args.to c.args.message.now (offers c.args.grant.now.address c.args.origin c.args.rank c.args.by c.args.now
-    (station_in c.self.inside.parts c.self.inside.bodies))) (tells c.args.to c.args.message.now
+    (send_message c.args.to c.args.message.now (offers c.args.grant.now.address c.args.origin c.args.rank c.args.by c.args.now
+    (station_in c.self.inside.parts c.self.inside.bodies))) (send_message c.args.to c.args.message.now
     (offers c.args.grant.now.address c.args.origin c.args.rank c.args.by c.args.now (station_in c.self.inside.parts c.self.inside.bodies))) tt _ refl
     c.in_default.ensures.store c.requires.empty refl))
 
 pub returns-in_default-reserve-clause-carries : goal.returns-in_default-reserve-clause-carries
 unfolding goes leave with_own_number with_rank empty_draft leaving
 returns-in_default-reserve-clause-carries g c =
-    let count : c.units_for-units.result + 1 ≡ length (tells c.args.to c.args.message.now
+    let count : c.units_for-units.result + 1 ≡ length (send_message c.args.to c.args.message.now
     (offers c.args.grant.now.address c.args.origin c.args.rank c.args.by c.args.now (station_in c.self.inside.parts c.self.inside.bodies))).units = omega (
       arith,
       c.units_for-units.ensures.units c.args.grant.now.address c.args.by,
@@ -44,8 +44,8 @@ returns-in_default-reserve-clause-carries g c =
           ((record { to = c.args.to; unit = Local 1 (messages.spelling c.args.message.now); note = 0 }) ∷ []),
     ) in
     rw (← c.self.view_is) (on_memory c.self.inside.halted _ _ (λ running. uncounted dropped _ _
-    (tells c.args.to c.args.message.now (offers c.args.grant.now.address c.args.origin c.args.rank c.args.by c.args.now
-    (station_in c.self.inside.parts c.self.inside.bodies))) (tells c.args.to c.args.message.now
+    (send_message c.args.to c.args.message.now (offers c.args.grant.now.address c.args.origin c.args.rank c.args.by c.args.now
+    (station_in c.self.inside.parts c.self.inside.bodies))) (send_message c.args.to c.args.message.now
     (offers c.args.grant.now.address c.args.origin c.args.rank c.args.by c.args.now (station_in c.self.inside.parts c.self.inside.bodies))) tt _ _ _ refl
     c.in-Ok.ensures.store count c.in_default-reserve.ensures.store c.requires.empty refl))
 
@@ -66,7 +66,7 @@ seal_message-requires-clause-room g c =
 pub returns-clause-carries : goal.returns-clause-carries
 unfolding goes leave with_own_number with_rank empty_draft leaving
 returns-clause-carries g c =
-    let count : c.units_for-units.result + 1 ≡ length (tells c.args.to c.args.message.now
+    let count : c.units_for-units.result + 1 ≡ length (send_message c.args.to c.args.message.now
     (offers c.args.grant.now.address c.args.origin c.args.rank c.args.by c.args.now (station_in c.self.inside.parts c.self.inside.bodies))).units = omega (
       arith,
       c.units_for-units.ensures.units c.args.grant.now.address c.args.by,
@@ -74,8 +74,8 @@ returns-clause-carries g c =
           ((record { to = c.args.to; unit = Local 1 (messages.spelling c.args.message.now); note = 0 }) ∷ []),
     ) in
     rw (← c.self.view_is) (on_memory c.self.inside.halted _ _ (λ running. ended dropped _ _
-    (tells c.args.to c.args.message.now (offers c.args.grant.now.address c.args.origin c.args.rank c.args.by c.args.now
-    (station_in c.self.inside.parts c.self.inside.bodies))) (tells c.args.to c.args.message.now
+    (send_message c.args.to c.args.message.now (offers c.args.grant.now.address c.args.origin c.args.rank c.args.by c.args.now
+    (station_in c.self.inside.parts c.self.inside.bodies))) (send_message c.args.to c.args.message.now
     (offers c.args.grant.now.address c.args.origin c.args.rank c.args.by c.args.now (station_in c.self.inside.parts c.self.inside.bodies))) tt _ _ _ refl
     c.in-Ok.ensures.store count c.in-Ok-reserve.ensures.store
     (c.seal_message.ensures.sent

@@ -5,7 +5,7 @@ use Rattle.loadng_messages.specs.declared.message.Message.TheVariants.{Rerr}
 use Rattle.node_rules.specs.declared.heard.Heard.TheVariants.{Reported}
 use Rattle.node_rules.specs.declared.refusal.Dropped.TheVariants.{NoRoute, CounterSpent}
 use Rattle.node_rules.specs.Memory.{next_hop}
-use Rattle.node_rules.specs.Drafts.{empty_draft, tells}
+use Rattle.node_rules.specs.Drafts.{empty_draft, send_message}
 use Rattle.node_rules.specs.Hearing.{dropped}
 use Rattle.plc_station.specs.StationReading.{station_in}
 use Rattle.plc_station.proofs.Carrying.{if_some, on_memory, at_some}
@@ -51,7 +51,7 @@ returns-in-Ok-clause-carries g c =
     (reported (station_in c.self.inside.parts c.self.inside.bodies) c.args.grant.now.address c.args.mesh.now c.in-Some.hop
     (grind (arith, nat_tests, c.if-number.false, c.number.ensures.value, c.number-2.ensures.value, (ap (λ (g : Granted). g.address) c.grant.view_is)))
     c.in-Some.ensures (enough _ _ _ c.left-left.ensures (omega (arith, c.if-left-lt1.false))))
-    (answered dropped _ _ (tells c.in-Some.hop (Rerr c.args.mesh.now.to c.args.mesh.now.origin)
+    (answered dropped _ _ (send_message c.in-Some.hop (Rerr c.args.mesh.now.to c.args.mesh.now.origin)
     (empty_draft (station_in c.self.inside.parts c.self.inside.bodies))) _ Reported _
     (rw (c.one.ensures.value, c.error_unit-unit.ensures) at
     (at_some _ _ (station_in c.self.inside.parts c.self.inside.bodies) running (rw (← c.self.view_is) at c.in-Ok.ensures.carries))))))
@@ -63,7 +63,7 @@ returns-in-Err-clause-carries g c =
     (reported (station_in c.self.inside.parts c.self.inside.bodies) c.args.grant.now.address c.args.mesh.now c.in-Some.hop
     (grind (arith, nat_tests, c.if-number.false, c.number.ensures.value, c.number-2.ensures.value, (ap (λ (g : Granted). g.address) c.grant.view_is)))
     c.in-Some.ensures (enough _ _ _ c.left-left.ensures (omega (arith, c.if-left-lt1.false))))
-    (failed dropped _ _ (tells c.in-Some.hop (Rerr c.args.mesh.now.to c.args.mesh.now.origin)
+    (failed dropped _ _ (send_message c.in-Some.hop (Rerr c.args.mesh.now.to c.args.mesh.now.origin)
     (empty_draft (station_in c.self.inside.parts c.self.inside.bodies))) _ Reported _
     (rw (c.one.ensures.value, c.error_unit-unit.ensures) at
     (at_some _ _ (station_in c.self.inside.parts c.self.inside.bodies) running (rw (← c.self.view_is) at c.in-Err.ensures.carries))))))

@@ -8,7 +8,7 @@ use Rattle.node_rules.specs.declared.heard.Heard.TheVariants.{Broken}
 use Rattle.node_rules.specs.Ciphers.{network}
 use Rattle.node_rules.specs.Frames.{spelled}
 use Rattle.node_rules.specs.Memory.{StationMemory}
-use Rattle.node_rules.specs.Drafts.{empty_draft, goes, tells, with_routing_by, sealed_by}
+use Rattle.node_rules.specs.Drafts.{empty_draft, goes, send_message, with_routing_by, sealed_by}
 use Rattle.node_rules.specs.Hearing.{dropped, loses}
 use Rattle.node_rules.specs.Agreement.{AgreesWith}
 use Rattle.plc_station.specs.StationReading.{station_in}
@@ -17,14 +17,14 @@ use Rattle.node_rules.specs.States.{State, unless_halted}
 use Rattle.plc_station.proofs.Carrying.{on_memory, at_some, of_some, lines_are}
 use Rattle.plc_station.proofs.Agreeing.{agrees_counted, agrees_routed}
 use Rattle.plc_station.proofs.Ending.{ended, uncounted}
-use Rattle.plc_station.proofs.station.Station.tell_on.Goals as goal
+use Rattle.plc_station.proofs.station.Station.pass_error_on.Goals as goal
 
 pub returns-in_default-clause-carries : goal.returns-in_default-clause-carries
 unfolding goes empty_draft with_routing_by
 returns-in_default-clause-carries g c =
     rw (← c.self.view_is) (on_memory c.self.inside.halted _ _ (λ running. uncounted dropped _ _
-    (tells c.args.hop (Rerr c.args.lost c.args.to) (loses c.args.lost c.args.by (station_in c.self.inside.parts c.self.inside.bodies)))
-    (tells c.args.hop (Rerr c.args.lost c.args.to) (loses c.args.lost c.args.by (station_in c.self.inside.parts c.self.inside.bodies))) Broken _ _ _ refl
+    (send_message c.args.hop (Rerr c.args.lost c.args.to) (loses c.args.lost c.args.by (station_in c.self.inside.parts c.self.inside.bodies)))
+    (send_message c.args.hop (Rerr c.args.lost c.args.to) (loses c.args.lost c.args.by (station_in c.self.inside.parts c.self.inside.bodies))) Broken _ _ _ refl
     (wrote_none _) refl c.in_default.ensures.store c.requires.empty refl))
 
 pub returns-clause-carries : goal.returns-clause-carries
@@ -32,8 +32,8 @@ unfolding goes empty_draft with_routing_by
 returns-clause-carries g c =
     rw (← c.self.view_is)
     (on_memory c.self.inside.halted _ _ (λ running. ended dropped _ _
-    (tells c.args.hop (Rerr c.args.lost c.args.to) (loses c.args.lost c.args.by (station_in c.self.inside.parts c.self.inside.bodies)))
-    (tells c.args.hop (Rerr c.args.lost c.args.to) (loses c.args.lost c.args.by (station_in c.self.inside.parts c.self.inside.bodies))) Broken _ _ _ refl
+    (send_message c.args.hop (Rerr c.args.lost c.args.to) (loses c.args.lost c.args.by (station_in c.self.inside.parts c.self.inside.bodies)))
+    (send_message c.args.hop (Rerr c.args.lost c.args.to) (loses c.args.lost c.args.by (station_in c.self.inside.parts c.self.inside.bodies))) Broken _ _ _ refl
     (wrote_none _) refl c.in-Ok.ensures.store
     (c.seal_message.ensures.sent
     ∙ (λ i. record {
