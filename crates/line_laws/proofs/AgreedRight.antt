@@ -64,7 +64,7 @@ use Rattle.node_rules.specs.Drafts.{Outgoing}
 use Rattle.pan_discovery.specs.declared.message.Discovery.{Discovery}
 use Rattle.line_laws.proofs.FurtherForms.{AnyUnits}
 use Rattle.line_laws.proofs.FurtherSame.{AnyDiscovery, OldStep, line_step_any}
-use Rattle.line_laws.proofs.FurtherTellings.{After, Anew, Chooses, IsLineStepBy, Known, Opens, Unbelieves, Unsends}
+use Rattle.line_laws.proofs.FurtherStepKinds.{After, Anew, Chooses, IsLineStepBy, Known, Opens, Unbelieves, Unsends}
 use Rattle.line_laws.proofs.HearingForms.{Handed, MadeOf, hear_is}
 use Rattle.line_laws.proofs.IssueCoordinator.{CoordinatorTags, IsDoneBy, coordinator_hears, done_in, says_tags}
 use Rattle.line_laws.proofs.IssueMeters.{took_in}
@@ -74,8 +74,8 @@ use Rattle.line_laws.proofs.Made.{Given, RingWord}
 use Rattle.line_laws.proofs.NodeCalls.{heard_given}
 use Rattle.line_laws.proofs.Planned.{Ended, Keeps, Planned, Refuses, checked_planned, choose_planned, option_planned, planned_failed, sealed_planned}
 use Rattle.line_laws.proofs.ReceivedKeys.{keyed_same, took_same}
-use Rattle.line_laws.proofs.Tellings.{IsStep, Fails, Makes, Rests, Shows, Acts, BreaksLink, SendsFrom, AllowsMeter, Sets, SetsTwo, Provides, TurnsDown, Hears}
-use Rattle.line_laws.proofs.Tellings.{Loses, Ticks, Restarts, Cuts}
+use Rattle.line_laws.proofs.StepKinds.{IsStep, Fails, Makes, Rests, Shows, Acts, BreaksLink, SendsFrom, AllowsMeter, Sets, SetsTwo, Provides, TurnsDown, Hears}
+use Rattle.line_laws.proofs.StepKinds.{Loses, Ticks, Restarts, Cuts}
 
 -- # What a meter makes of a frame
 

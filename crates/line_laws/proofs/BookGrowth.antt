@@ -57,9 +57,9 @@ use Rattle.line_laws.proofs.IssueCalls.{challenge_coordinator, activate_coordina
 use Rattle.line_laws.proofs.IssueSteps.{keyed_same}
 use Rattle.line_laws.proofs.IssueWorlds.{Keyed}
 use Rattle.line_laws.proofs.FlightFolds.{address_low, came_octets}
-use Rattle.line_laws.proofs.Tellings.{IsCall, Gives, Joins, Leaves, Sends, Breaks, Nears, Counts, Numbers, Accepts, Provisions, Depots, Allows, Rekeys, Turns}
-use Rattle.line_laws.proofs.Tellings.{Challenges, Activates, Kicks, preset_call, IsStep, Fails, Makes, Rests, Shows, Acts, BreaksLink, SendsFrom, AllowsMeter}
-use Rattle.line_laws.proofs.Tellings.{Sets, SetsTwo, Provides, TurnsDown, Hears, Loses, Ticks, Restarts, Cuts}
+use Rattle.line_laws.proofs.StepKinds.{IsCall, Gives, Joins, Leaves, Sends, Breaks, Nears, Counts, Numbers, Accepts, Provisions, Depots, Allows, Rekeys, Turns}
+use Rattle.line_laws.proofs.StepKinds.{Challenges, Activates, Kicks, preset_call, IsStep, Fails, Makes, Rests, Shows, Acts, BreaksLink, SendsFrom, AllowsMeter}
+use Rattle.line_laws.proofs.StepKinds.{Sets, SetsTwo, Provides, TurnsDown, Hears, Loses, Ticks, Restarts, Cuts}
 
 -- the pair key of a meter
 pub psk_meter : (x : Node) (psk : Key) → psk_of x ≡ Some psk → x.role ≡ Meter psk

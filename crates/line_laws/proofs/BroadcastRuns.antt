@@ -83,7 +83,7 @@ use Rattle.line_laws.proofs.FlightFolds.{address_low, came_octets}
 use Rattle.line_laws.proofs.FlightsSay.{FlightSays, FrameSays, discovery_says, heard_says, old_flights, told_as_before, told_says, told_silently}
 use Rattle.line_laws.proofs.FurtherLogs.{commands_fit}
 use Rattle.line_laws.proofs.FurtherOctets.{line_speaks, octets_speak, Octets, Spelled}
-use Rattle.line_laws.proofs.FurtherTellings.{line_step_is}
+use Rattle.line_laws.proofs.FurtherStepKinds.{line_step_is}
 use Rattle.line_laws.proofs.LetterAccepts.{to_of}
 use Rattle.line_laws.proofs.OctetRuns.{SpeaksIn, WorldSpeaks, start_speaks}
 use Rattle.line_laws.proofs.OldUnits.{IsOldFrame, IsOldUnit, joins_old}
@@ -92,7 +92,7 @@ use Rattle.line_laws.proofs.ReachSteps.{Asks, Bcasts, Checked, Chooses, Commands
 use Rattle.line_laws.proofs.ReachSteps.{Rests, Scans, Ticks, Unbelieves, after_accepting, heard_node, reach_step_is}
 use Rattle.line_laws.proofs.Running.{start_ok}
 use Rattle.line_laws.proofs.SendsSay.{Both, acts_by, none_sealed, one_sealed, refused_by, sealed_by_plan}
-use Rattle.line_laws.proofs.Tellings as old
+use Rattle.line_laws.proofs.StepKinds as old
 use Rattle.line_laws.proofs.Worlds.{at_place}
 use Rattle.store_tables.specs.AdmittedNumbers.{Admitted, AllEarlier}
 use Rattle.plc_base.specs.Keeper.{Records}

@@ -65,7 +65,7 @@ use Rattle.line_laws.proofs.ReachCame.{Says, acts_says, command_came, command_sa
 use Rattle.line_laws.proofs.ReachHistory.{every_history, start_history}
 use Rattle.line_laws.proofs.ReachSteps.{Asks, Bcasts, Checked, Chooses, Commands, Discovers, Fails, Hears, IsAccepted, IsReachStep, Known, Opens, Restarts}
 use Rattle.line_laws.proofs.ReachSteps.{Rests, Scans, Ticks, Unbelieves, after_accepting, heard_node, reach_step_is, same_comes}
-use Rattle.line_laws.proofs.ReachTold.{QuietIn, old_quiet}
+use Rattle.line_laws.proofs.ReachReported.{QuietIn, old_quiet}
 use Rattle.line_laws.proofs.ReachWords.{Quiet, ask_quiet, broadcast_quiet, choice_quiet, drop_quiet, hears_quiet, idle_quiet, is_new, lost_quiet, restart_quiet}
 use Rattle.line_laws.proofs.TracesRight.{comes_brought, entry, false_true}
 

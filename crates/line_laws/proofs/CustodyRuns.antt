@@ -62,7 +62,7 @@ use Rattle.line_laws.proofs.RangeCoordinator.{SpeaksWell}
 use Rattle.line_laws.proofs.RangeHeard.{SaysShort}
 use Rattle.line_laws.proofs.StoreFold.{WordFits}
 use Rattle.line_laws.proofs.StoreMarks.{accept_is}
-use Rattle.line_laws.proofs.Tellings.{IsBrought, step_is}
+use Rattle.line_laws.proofs.StepKinds.{IsBrought, step_is}
 use Rattle.line_laws.proofs.Worlds.{FlightFits, WorldOk, at_place}
 pub use Rattle.line_laws.specs.InCustody.{SentUnder}
 

@@ -74,9 +74,9 @@ use Rattle.line_laws.proofs.RangePlans.{DidRanged, acts_ranged}
 use Rattle.line_laws.proofs.Readings.{held, none_held}
 use Rattle.line_laws.proofs.StepsOk.{coordinator_acts, read_again}
 use Rattle.line_laws.proofs.TagRuns.{at_end}
-use Rattle.line_laws.proofs.Tellings.{IsAddressed, IsAddressedAt, workshop, IsAsked, AskRandom, AskJoin, AskLeave, AskRekey, AskTurn, AskChallenge, AskActivate}
-use Rattle.line_laws.proofs.Tellings.{AskKick, IsMade, OfCoordinator, OfMeter, IsPreset, OfCounter, OfNumber, IsBrought, IsStep, Fails, Makes, Rests, Shows}
-use Rattle.line_laws.proofs.Tellings.{Acts, BreaksLink, SendsFrom, AllowsMeter, Sets, SetsTwo, Provides, TurnsDown, Hears, Loses, Ticks, Restarts, Cuts}
+use Rattle.line_laws.proofs.StepKinds.{IsAddressed, IsAddressedAt, workshop, IsAsked, AskRandom, AskJoin, AskLeave, AskRekey, AskTurn, AskChallenge, AskActivate}
+use Rattle.line_laws.proofs.StepKinds.{AskKick, IsMade, OfCoordinator, OfMeter, IsPreset, OfCounter, OfNumber, IsBrought, IsStep, Fails, Makes, Rests, Shows}
+use Rattle.line_laws.proofs.StepKinds.{Acts, BreaksLink, SendsFrom, AllowsMeter, Sets, SetsTwo, Provides, TurnsDown, Hears, Loses, Ticks, Restarts, Cuts}
 use Rattle.line_laws.proofs.Worlds.{NodeFits, WorldOk, at_place, within}
 pub use Rattle.line_laws.specs.InCustody.{sent_as}
 

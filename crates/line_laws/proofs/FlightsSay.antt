@@ -57,8 +57,8 @@ use Rattle.line_laws.proofs.RangeRuns.{call_ranged, heard_did}
 use Rattle.line_laws.proofs.Readings.{network_ranges}
 use Rattle.line_laws.proofs.Worlds.{at_place}
 use Rattle.line_laws.proofs.StoreMarks.{accept_is}
-use Rattle.line_laws.proofs.Tellings.{IsStep, Fails, Makes, Rests, Shows, Acts, BreaksLink, SendsFrom, AllowsMeter, Sets, SetsTwo, Provides, TurnsDown, Hears}
-use Rattle.line_laws.proofs.Tellings.{Loses, Ticks, Restarts, Cuts, preset_call}
+use Rattle.line_laws.proofs.StepKinds.{IsStep, Fails, Makes, Rests, Shows, Acts, BreaksLink, SendsFrom, AllowsMeter, Sets, SetsTwo, Provides, TurnsDown, Hears}
+use Rattle.line_laws.proofs.StepKinds.{Loses, Ticks, Restarts, Cuts, preset_call}
 
 module _ (P : ℕ → MeshUnit → Type 0) where
   -- What is said of the unit of a flight, and of the address that it goes to.

@@ -24,7 +24,7 @@ use Rattle.line_laws.proofs.CustodyHomes.{homed_back}
 use Rattle.line_laws.proofs.CustodySteps.{HomedAt}
 use Rattle.line_laws.proofs.FurtherKeyed.{moved_keyed}
 use Rattle.line_laws.proofs.FurtherSeals.{further_quietly}
-use Rattle.line_laws.proofs.FurtherTellings.{Besides, Carries, Flies, Moves, Stays, Turns, moved_follows, moved_ok}
+use Rattle.line_laws.proofs.FurtherStepKinds.{Besides, Carries, Flies, Moves, Stays, Turns, moved_follows, moved_ok}
 use Rattle.line_laws.proofs.Homed.{Addressed}
 use Rattle.line_laws.proofs.Homed as homed
 use Rattle.line_laws.proofs.Homes.{addressed_before, at_length, homes_grow}

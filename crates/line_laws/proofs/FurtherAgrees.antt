@@ -34,11 +34,11 @@ use Rattle.line_laws.proofs.FurtherForms.{AnyUnits}
 use Rattle.line_laws.proofs.FurtherKeyed.{chosen_made, front_each}
 use Rattle.line_laws.proofs.FurtherSame.{AnyDiscovery, KeepsMade, OldStep, after_made, line_step_any, of_old}
 use Rattle.line_laws.proofs.FurtherSeals.{further_makes}
-use Rattle.line_laws.proofs.FurtherTellings.{After, Anew, Besides, Carries, Chooses, Flies, IsLineStepBy, Known, Moves, Opens, Stays, Turns, Unbelieves}
-use Rattle.line_laws.proofs.FurtherTellings.{Unsends}
+use Rattle.line_laws.proofs.FurtherStepKinds.{After, Anew, Besides, Carries, Chooses, Flies, IsLineStepBy, Known, Moves, Opens, Stays, Turns, Unbelieves}
+use Rattle.line_laws.proofs.FurtherStepKinds.{Unsends}
 use Rattle.line_laws.proofs.IssuedNamed.{IssueNamed, StepNamed, names}
 use Rattle.line_laws.proofs.KeysStood.{IssuedBy, StoodIn, ToOther, keys_other, keys_right, keys_stood}
-use Rattle.line_laws.proofs.Tellings.{IsStep}
+use Rattle.line_laws.proofs.StepKinds.{IsStep}
 
 -- # Joinings that agree
 

@@ -61,8 +61,8 @@ use Rattle.line_laws.proofs.FurtherKeyed.{moved_keyed, old_keyed}
 use Rattle.line_laws.proofs.FurtherRanges.{one_speaks}
 use Rattle.line_laws.proofs.FurtherSame.{OldStep, line_step_same}
 use Rattle.line_laws.proofs.FurtherSeals.{IsOne, further_clean}
-use Rattle.line_laws.proofs.FurtherTellings.{After, Anew, Besides, Carries, Chooses, Flies, IsLineStepBy, Known, Moves, Opens, Stays, Turns, Unbelieves}
-use Rattle.line_laws.proofs.FurtherTellings.{Unsends}
+use Rattle.line_laws.proofs.FurtherStepKinds.{After, Anew, Besides, Carries, Chooses, Flies, IsLineStepBy, Known, Moves, Opens, Stays, Turns, Unbelieves}
+use Rattle.line_laws.proofs.FurtherStepKinds.{Unsends}
 use Rattle.line_laws.proofs.LaterMoves.{is_flight}
 use Rattle.line_laws.proofs.OctetRuns.{WorldSpeaks}
 use Rattle.line_laws.proofs.RangeFrames.{IsSent}
@@ -70,8 +70,8 @@ use Rattle.line_laws.proofs.RangeHeard.{SaysShort}
 use Rattle.line_laws.proofs.RangeRuns.{short_at}
 use Rattle.line_laws.proofs.Readings.{network_ranges}
 use Rattle.line_laws.proofs.StoreMarks.{Accepts, Marked, Plain, Turned, accept_is}
-use Rattle.line_laws.proofs.Tellings as tellings
-use Rattle.line_laws.proofs.Tellings.{IsStep}
+use Rattle.line_laws.proofs.StepKinds as tellings
+use Rattle.line_laws.proofs.StepKinds.{IsStep}
 use Rattle.line_laws.proofs.UpsSent.{owed_at}
 use Rattle.line_laws.proofs.Worlds.{at_place}
 

@@ -45,8 +45,8 @@ use Rattle.line_rules.specs.Steps.{acted, ticked, hears, heard, note_by, restart
 use Rattle.line_rules.specs.Worlds.{World, Flight, Trace, node_at, flight_at}
 use Rattle.line_laws.proofs.IssueNodes.{acts_whole}
 use Rattle.line_laws.proofs.TracesRight.{comes_is, is_same}
-use Rattle.line_laws.proofs.Tellings.{IsStep, IsBrought, Ticks, Restarts, TurnsDown, step_is}
-use Rattle.line_laws.proofs.Tellings.{Fails as OldFails}
+use Rattle.line_laws.proofs.StepKinds.{IsStep, IsBrought, Ticks, Restarts, TurnsDown, step_is}
+use Rattle.line_laws.proofs.StepKinds.{Fails as OldFails}
 
 -- # Octets that were accepted
 

@@ -42,8 +42,8 @@ use Rattle.line_laws.proofs.FlightFolds.{came_octets}
 use Rattle.line_laws.proofs.FurtherForms.{AnyUnits}
 use Rattle.line_laws.proofs.FurtherSeals.{further_quietly}
 use Rattle.line_laws.proofs.FurtherSenders.{AnyFrame, known}
-use Rattle.line_laws.proofs.FurtherTellings.{IsLineStep, Moves, line_follows, line_step_is, moved_ok}
-use Rattle.line_laws.proofs.FurtherTellings.{Known, Opens, Anew, After, Unsends, Unbelieves, Chooses, Stays, Carries, Flies, Besides, Turns}
+use Rattle.line_laws.proofs.FurtherStepKinds.{IsLineStep, Moves, line_follows, line_step_is, moved_ok}
+use Rattle.line_laws.proofs.FurtherStepKinds.{Known, Opens, Anew, After, Unsends, Unbelieves, Chooses, Stays, Carries, Flies, Besides, Turns}
 use Rattle.line_laws.proofs.Homes.{at_length}
 use Rattle.line_laws.proofs.IssueCalls.{accept_quietly}
 use Rattle.line_laws.proofs.Keeping.{Leads, Left, carried}
@@ -51,7 +51,7 @@ use Rattle.line_laws.proofs.MarkSteps.{FollowsIn}
 use Rattle.line_laws.proofs.ShutSteps.{event_shut, other_shut}
 use Rattle.line_laws.proofs.ShutSteps.{ShutBy as ShutBefore}
 use Rattle.line_laws.proofs.StepsOk.{ran_ok}
-use Rattle.line_laws.proofs.Tellings.{IsStep}
+use Rattle.line_laws.proofs.StepKinds.{IsStep}
 use Rattle.line_laws.proofs.Worlds.{at_place, within as place_within}
 
 -- # One node

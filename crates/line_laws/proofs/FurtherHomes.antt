@@ -16,7 +16,7 @@ use Rattle.line_laws.proofs.FurtherForms.{AnyUnits}
 use Rattle.line_laws.proofs.FurtherLoops.{book_grows, euis_stay, nodes_stay}
 use Rattle.line_laws.proofs.FurtherSame.{AnyDiscovery}
 use Rattle.line_laws.proofs.FurtherStates.{LeadsTo, Sound, Stands, sound_on}
-use Rattle.line_laws.proofs.FurtherTellings.{any_speaks, line_follows, line_step_is}
+use Rattle.line_laws.proofs.FurtherStepKinds.{any_speaks, line_follows, line_step_is}
 use Rattle.line_laws.proofs.LiveRuns.{none_falls, some_book}
 use Rattle.line_laws.proofs.MarkSteps.{FollowsIn}
 use Rattle.line_laws.proofs.Readings.{network_ranges}

@@ -38,8 +38,8 @@ use Rattle.line_laws.proofs.FlightFolds.{came_octets}
 use Rattle.line_laws.proofs.FurtherForms.{AnyUnits}
 use Rattle.line_laws.proofs.FurtherSame.{AnyDiscovery, KeepsMade, OldStep, after_made, line_step_any, of_old}
 use Rattle.line_laws.proofs.FurtherSeals.{further_quietly}
-use Rattle.line_laws.proofs.FurtherTellings.{After, Anew, Besides, Carries, Chooses, Flies, IsLineStepBy, Known, Moves, Opens, Stays, Turns, Unbelieves}
-use Rattle.line_laws.proofs.FurtherTellings.{Unsends, moved_ok}
+use Rattle.line_laws.proofs.FurtherStepKinds.{After, Anew, Besides, Carries, Chooses, Flies, IsLineStepBy, Known, Moves, Opens, Stays, Turns, Unbelieves}
+use Rattle.line_laws.proofs.FurtherStepKinds.{Unsends, moved_ok}
 use Rattle.line_laws.proofs.IssueCalls.{accept_quietly}
 use Rattle.line_laws.proofs.IssueMeters.{MeterPlan, joins_made, joins_opened, joins_plan}
 use Rattle.line_laws.proofs.IssueSteps.{Fails, StepKeyed, Taken, own_told, quiet_told, quiet_told_at, step_keyed}

@@ -47,7 +47,7 @@ use Rattle.line_laws.proofs.FurtherForms.{AnyUnits}
 use Rattle.line_laws.proofs.FurtherGrowth.{GoesIn, any_line, line_goes}
 use Rattle.line_laws.proofs.FurtherSenders.{AnyFrame, further_did, heard_did, known}
 use Rattle.line_laws.proofs.FurtherSteps.{ack_did, did_on, line_steps_hold}
-use Rattle.line_laws.proofs.FurtherTellings.{line_follows}
+use Rattle.line_laws.proofs.FurtherStepKinds.{line_follows}
 use Rattle.line_laws.specs.FurtherLines.{StepHolds}
 use Rattle.line_laws.proofs.LiveRuns.{Admission, Became, admitted_once, falls_where, head_falls_so, ok_is, passes_so, taken_begun}
 use Rattle.line_laws.proofs.MarkOrder.{raised_same}

@@ -41,7 +41,7 @@ use Rattle.line_laws.proofs.FurtherKeyed.{moved_keyed, old_keyed}
 use Rattle.line_laws.proofs.FurtherRoutes.{AreHomesOf, line_holds}
 use Rattle.line_laws.proofs.FurtherSame.{AnyDiscovery, OldStep, line_step_any, old_on}
 use Rattle.line_laws.proofs.FurtherStates.{LeadsTo, Sound, Stands, sound_on, start_sound}
-use Rattle.line_laws.proofs.FurtherTellings.{After, Anew, Chooses, IsLineStepBy, Known, Moves, Opens, Unbelieves, Unsends}
+use Rattle.line_laws.proofs.FurtherStepKinds.{After, Anew, Chooses, IsLineStepBy, Known, Moves, Opens, Unbelieves, Unsends}
 use Rattle.line_laws.proofs.HomeGrants.{takes_own}
 use Rattle.line_laws.proofs.Homed as homed
 use Rattle.line_laws.proofs.Homed.{DepotFits, HomesFit}

@@ -77,8 +77,8 @@ use Rattle.line_laws.specs.Stores.{IsReadable}
 use Rattle.line_laws.proofs.FurtherForms.{IsFurther, Goes, Rests, ask_is, broadcast_is, command_is}
 use Rattle.line_laws.proofs.FurtherLogs.{commands_fit, line_logs_hold}
 use Rattle.line_laws.proofs.FurtherSteps.{line_steps_hold}
-use Rattle.line_laws.proofs.FurtherTellings.{After, Anew, Besides, Carries, Chooses, Flies, IsLineStep, Known, Moves, Opens, Speaks, Stays, Turns, Unbelieves}
-use Rattle.line_laws.proofs.FurtherTellings.{Unsends, fits_at, line_step_is, moved_ok}
+use Rattle.line_laws.proofs.FurtherStepKinds.{After, Anew, Besides, Carries, Chooses, Flies, IsLineStep, Known, Moves, Opens, Speaks, Stays, Turns, Unbelieves}
+use Rattle.line_laws.proofs.FurtherStepKinds.{Unsends, fits_at, line_step_is, moved_ok}
 use Rattle.line_laws.proofs.MeterOctets.{joins_speaks}
 use Rattle.line_laws.proofs.Nodes.{ring_readable}
 use Rattle.line_laws.proofs.OctetCalls.{NodeSpeaks, accept_speaks, acts_speaks}

@@ -100,8 +100,8 @@ use Rattle.line_laws.proofs.FurtherLines.{all_target}
 use Rattle.line_laws.proofs.FurtherOctets.{ack_octets, broadcast_octets, datagram_octets, path_octets, sent_short, walk_of}
 use Rattle.line_laws.proofs.FurtherSeals.{IsOne, One, Silent, further_ranged}
 use Rattle.line_laws.proofs.FurtherSteps.{hears_nothing}
-use Rattle.line_laws.proofs.FurtherTellings.{After, Anew, Besides, Carries, Chooses, Flies, IsLineStep, Known, Moves, Opens, Speaks, Stays, Turns, Unbelieves}
-use Rattle.line_laws.proofs.FurtherTellings.{Unsends, fits_at, line_step_is, spelled_by}
+use Rattle.line_laws.proofs.FurtherStepKinds.{After, Anew, Besides, Carries, Chooses, Flies, IsLineStep, Known, Moves, Opens, Speaks, Stays, Turns, Unbelieves}
+use Rattle.line_laws.proofs.FurtherStepKinds.{Unsends, fits_at, line_step_is, spelled_by}
 use Rattle.line_laws.proofs.LaterEnds.{may_be_sealed}
 use Rattle.line_laws.proofs.LaterMoves.{is_flight}
 use Rattle.node_rules.proofs.NetworkOpens.{network_opens_again}

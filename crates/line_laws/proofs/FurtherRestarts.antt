@@ -26,7 +26,7 @@ use Rattle.line_laws.specs.Lines.{NodeOk, WorldOk}
 use Rattle.line_laws.proofs.FurtherLogs.{line_logs_hold}
 use Rattle.line_laws.proofs.FurtherOctets.{Octets, Spelled, line_speaks, octets_speak}
 use Rattle.line_laws.proofs.FurtherSteps.{line_steps_hold, restarts_read}
-use Rattle.line_laws.proofs.FurtherTellings.{line_step_is}
+use Rattle.line_laws.proofs.FurtherStepKinds.{line_step_is}
 use Rattle.line_laws.proofs.IssueWorlds.{told_here}
 use Rattle.line_laws.proofs.NetworkSizes.{EntrySized, world_within}
 use Rattle.line_laws.proofs.OctetRuns.{SpeaksIn, WorldSpeaks, start_speaks}

@@ -84,8 +84,8 @@ use Rattle.line_laws.proofs.FurtherEvents.{Old, TurnsOn, Spreads, Seeks, Looks, 
 use Rattle.line_laws.proofs.FurtherEvents.{IsAnswered}
 use Rattle.line_laws.proofs.FurtherForms.{AnyUnits, ask_is, broadcast_is}
 use Rattle.line_laws.proofs.FurtherSteps.{ack_is, hears_nothing}
-use Rattle.line_laws.proofs.FurtherTellings.{untold}
-use Rattle.line_laws.proofs.Tellings.{Hears}
+use Rattle.line_laws.proofs.FurtherStepKinds.{untold}
+use Rattle.line_laws.proofs.StepKinds.{Hears}
 use Rattle.line_laws.proofs.TracesRight.{Good, IsTracedSo, NoneCame, Plain, Right, acted_right, drop_fits, entry, false_true, forged_right, quiet_adds}
 use Rattle.line_laws.proofs.TracesRight.{quiet_right, ran_counted, received_right, right, still_right, told_counted, told_flights, told_made, unbrought}
 use Rattle.line_laws.proofs.TracesRight.{unforged}

@@ -48,8 +48,8 @@ use Rattle.line_laws.proofs.Homes.{addressed, at_length}
 use Rattle.line_laws.proofs.FurtherRanges.{choice_ranged, moved_ranged, one_speaks}
 use Rattle.line_laws.proofs.FurtherSame.{OldStep, line_step_same, of_old}
 use Rattle.line_laws.proofs.FurtherSeals.{IsOne, further_ranged, further_ranks}
-use Rattle.line_laws.proofs.FurtherTellings.{After, Anew, Besides, Carries, Chooses, Flies, IsLineStepBy, Known, Moves, Opens, Stays, Turns, Unbelieves}
-use Rattle.line_laws.proofs.FurtherTellings.{Unsends, moved_ok}
+use Rattle.line_laws.proofs.FurtherStepKinds.{After, Anew, Besides, Carries, Chooses, Flies, IsLineStepBy, Known, Moves, Opens, Stays, Turns, Unbelieves}
+use Rattle.line_laws.proofs.FurtherStepKinds.{Unsends, moved_ok}
 use Rattle.line_laws.proofs.Homed.{Addressed, DepotFits, HomesFit}
 use Rattle.line_laws.proofs.LettersRead.{FrameRead, sent_read}
 use Rattle.line_laws.proofs.OctetRuns.{WorldSpeaks}

@@ -19,9 +19,9 @@ use Rattle.line_rules.proofs.StepsOn.{steps}
 use Rattle.line_laws.specs.Lines.{FlightFits, WorldOk}
 use Rattle.line_laws.specs.Owed.{KeepsRanges}
 use Rattle.line_laws.proofs.FurtherForms.{AnyUnits}
-use Rattle.line_laws.proofs.FurtherTellings.{Besides, Carries, Flies, IsLineStepBy, Moves, Speaks, Stays, Turns, any_speaks, line_step_by}
-use Rattle.line_laws.proofs.Tellings.{IsStep, step_is}
-use Rattle.line_laws.proofs.Tellings.{Fails as OldFails}
+use Rattle.line_laws.proofs.FurtherStepKinds.{Besides, Carries, Flies, IsLineStepBy, Moves, Speaks, Stays, Turns, any_speaks, line_step_by}
+use Rattle.line_laws.proofs.StepKinds.{IsStep, step_is}
+use Rattle.line_laws.proofs.StepKinds.{Fails as OldFails}
 
 -- What is known of it: how it is made, and that it is what the event does without further reach.
 pub record OldStep (ciphers : Ciphers) (w : World) (event : Event) (s : Step) : Type 1 where

@@ -62,13 +62,13 @@ use Rattle.line_laws.proofs.FurtherEvents.{Old, TurnsOn, Spreads, Seeks, Looks, 
 use Rattle.line_laws.proofs.FurtherEvents.{IsAnswered}
 use Rattle.line_laws.proofs.FurtherForms.{AnyUnits, IsFurther, Goes, Rests, further_ok, ask_is, broadcast_is}
 use Rattle.line_laws.proofs.FurtherSteps.{ack_did, ack_is, choice_ok, command_silent, restarts_read}
-use Rattle.line_laws.proofs.FurtherTellings.{Speaks, any_speaks}
+use Rattle.line_laws.proofs.FurtherStepKinds.{Speaks, any_speaks}
 use Rattle.line_laws.proofs.LaterMoves.{discovery_nonce}
 use Rattle.line_laws.proofs.Nodes.{DidOk, acts_ok, ring_readable}
 use Rattle.line_laws.proofs.Senders.{AreFrom, from_append}
 use Rattle.line_laws.proofs.StepsOk.{hears_ok}
 use Rattle.line_laws.proofs.StoreMarks.{accept_is}
-use Rattle.line_laws.proofs.Tellings.{Hears}
+use Rattle.line_laws.proofs.StepKinds.{Hears}
 use Rattle.line_laws.proofs.Worlds.{at_place, within as place_within}
 
 -- # A node that goes on keeps its address

@@ -25,7 +25,7 @@ use Rattle.line_laws.proofs.FurtherLogs.{line_logs_hold}
 use Rattle.line_laws.proofs.FurtherOctets.{line_speaks, octets_speak, Octets, Spelled}
 use Rattle.line_laws.proofs.FurtherRanges.{LineRangedIn, line_ranged}
 use Rattle.line_laws.proofs.FurtherSteps.{line_steps_hold}
-use Rattle.line_laws.proofs.FurtherTellings.{line_step_is}
+use Rattle.line_laws.proofs.FurtherStepKinds.{line_step_is}
 use Rattle.line_laws.proofs.IssueRuns.{IsNamed, Kept, all_of_one, kept, start_keyed}
 use Rattle.line_laws.proofs.IssueWords.{each_append}
 use Rattle.line_laws.proofs.IssuedNamed.{StepNamed}

@@ -38,13 +38,13 @@ use Rattle.line_laws.proofs.FurtherForms.{AnyUnits}
 use Rattle.line_laws.proofs.FurtherGrowth.{any_line}
 use Rattle.line_laws.proofs.FurtherSenders.{AnyFrame}
 use Rattle.line_laws.proofs.FurtherSeals.{further_away}
-use Rattle.line_laws.proofs.FurtherTellings.{IsLineStep, Moves}
-use Rattle.line_laws.proofs.FurtherTellings.{Known, Opens, Anew, After, Unsends, Unbelieves, Chooses, Stays, Carries, Flies, Besides, Turns}
+use Rattle.line_laws.proofs.FurtherStepKinds.{IsLineStep, Moves}
+use Rattle.line_laws.proofs.FurtherStepKinds.{Known, Opens, Anew, After, Unsends, Unbelieves, Chooses, Stays, Carries, Flies, Besides, Turns}
 use Rattle.line_laws.proofs.TagPuts.{Away, carried_puts, join_away}
 use Rattle.line_laws.proofs.TagRuns.{Moved, IsNew, Was, StepTags, TagNow, TagStays, accepts_stays, event_tags, next_tags, none_took, put_same, same_moved}
 use Rattle.line_laws.proofs.TagRuns.{told_tags}
 use Rattle.line_laws.proofs.TagRuns.{Stays as Remains, Rises}
-use Rattle.line_laws.proofs.Tellings.{IsStep}
+use Rattle.line_laws.proofs.StepKinds.{IsStep}
 use Rattle.line_laws.proofs.TracesRight.{Good, right}
 use Rattle.line_laws.proofs.Worlds.{within as place_within}
 

@@ -44,8 +44,8 @@ use Rattle.line_laws.proofs.IssueCoordinator.{keyed_in}
 use Rattle.line_laws.proofs.IssueSteps.{keyed_same, no_keys}
 use Rattle.line_laws.proofs.IssueWords.{Each}
 use Rattle.line_laws.proofs.KeyedAnswers.{IsGrantedTo, hears_keyed, keyed_granted}
-use Rattle.line_laws.proofs.Tellings.{IsStep, Fails, Makes, Rests, Shows, Acts, BreaksLink, SendsFrom, AllowsMeter, Sets, SetsTwo, Provides, TurnsDown, Hears}
-use Rattle.line_laws.proofs.Tellings.{Loses, Ticks, Restarts, Cuts}
+use Rattle.line_laws.proofs.StepKinds.{IsStep, Fails, Makes, Rests, Shows, Acts, BreaksLink, SendsFrom, AllowsMeter, Sets, SetsTwo, Provides, TurnsDown, Hears}
+use Rattle.line_laws.proofs.StepKinds.{Loses, Ticks, Restarts, Cuts}
 
 -- the meter of an issue has an EUI of 8 octets
 abbrev pub IssueNamed : Issued → Type 0

@@ -57,8 +57,8 @@ use Rattle.line_laws.proofs.Planned.{planned_failed}
 use Rattle.line_laws.proofs.ShutBook.{Shut, allowed_other}
 use Rattle.line_laws.proofs.ShutSteps.{ShutAt, accepted_shut, over}
 use Rattle.line_laws.proofs.StoreMarks.{Accepts, Turned, Plain, Marked, accept_is}
-use Rattle.line_laws.proofs.Tellings.{IsStep, Fails, Makes, Rests, Shows, Acts, BreaksLink, SendsFrom, AllowsMeter, Sets, SetsTwo, Provides, TurnsDown, Hears}
-use Rattle.line_laws.proofs.Tellings.{Loses, Ticks, Restarts, Cuts}
+use Rattle.line_laws.proofs.StepKinds.{IsStep, Fails, Makes, Rests, Shows, Acts, BreaksLink, SendsFrom, AllowsMeter, Sets, SetsTwo, Provides, TurnsDown, Hears}
+use Rattle.line_laws.proofs.StepKinds.{Loses, Ticks, Restarts, Cuts}
 use Rattle.line_laws.proofs.Worlds.{NodeFits, FlightFits, WorldOk, at_place}
 
 -- # Rings

@@ -18,7 +18,7 @@ use Rattle.line_rules.specs.SafeRuns.{IsAlwaysSizedBy, IsSizedBy, RestartsAreAns
 use Rattle.line_rules.specs.Traces.{AreTracedRight, CountsRight, IsSendOf}
 use Rattle.line_rules.specs.Worlds.{World, Sending, node_at, start}
 use Rattle.line_laws.specs.FurtherLines.{FlightsSpelled}
-use Rattle.line_laws.specs.Laws.{EveryCountIsRight, EveryCounterRises, EveryFlightIsSpelled, EveryForgeryIsTold, EveryRestartIsAnswered}
+use Rattle.line_laws.specs.Laws.{EveryCountIsRight, EveryCounterRises, EveryFlightIsSpelled, EveryForgeryIsReported, EveryRestartIsAnswered}
 use Rattle.line_laws.specs.Laws.{EveryRunIsSized, EverySenderIsRight, EveryTraceIsRight, IsLineRun}
 use Rattle.line_laws.specs.LineAccounts.{IsLineRight, RestartIn, TagsIn}
 use Rattle.line_laws.specs.Live.{EveryMarkRises, MarksAlwaysRise}
@@ -163,7 +163,7 @@ every_count ciphers entries r = counts_from ciphers start entries (all_right cip
 pub every_trace : EveryTraceIsRight
 every_trace ciphers entries r = traces_from ciphers start entries (all_right ciphers entries r)
 
-pub every_forgery : EveryForgeryIsTold
+pub every_forgery : EveryForgeryIsReported
 every_forgery ciphers entries r = forged_from ciphers start entries (all_right ciphers entries r)
 
 pub every_send : EverySendHasOctets

@@ -48,7 +48,7 @@ pub mod Rising
 pub mod Worlds
 pub mod StepsOk
 pub mod Running
-pub mod Tellings
+pub mod StepKinds
 pub mod ForgeryRight
 pub mod TracesRight
 pub mod FlightFolds
@@ -144,7 +144,7 @@ pub mod FurtherLines
 pub mod SplitWrites
 pub mod FurtherSeals
 pub mod FurtherSteps
-pub mod FurtherTellings
+pub mod FurtherStepKinds
 pub mod FurtherLogs
 pub mod FurtherOctets
 pub mod FurtherRanges
@@ -169,7 +169,7 @@ pub mod FurtherRestarts
 pub mod ReachSteps
 pub mod ReachWords
 pub mod ReachCame
-pub mod ReachTold
+pub mod ReachReported
 pub mod CheckHistories
 pub mod CheckedRight
 pub mod StepsTaken

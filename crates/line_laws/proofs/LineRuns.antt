@@ -27,7 +27,7 @@ use Rattle.line_laws.proofs.FurtherLive.{line_flights_fall, line_follow, line_no
 use Rattle.line_laws.proofs.FurtherLogs.{line_logs_hold}
 use Rattle.line_laws.proofs.FurtherSenders.{line_senders_right}
 use Rattle.line_laws.proofs.FurtherSteps.{line_steps_hold}
-use Rattle.line_laws.proofs.FurtherTellings.{line_steps_rise}
+use Rattle.line_laws.proofs.FurtherStepKinds.{line_steps_rise}
 use Rattle.line_laws.proofs.IssueRuns.{EntryFlies, Kept, all_of_one, kept}
 use Rattle.line_laws.proofs.MarkSteps.{Follows}
 use Rattle.line_laws.proofs.Running.{start_ok}

@@ -59,7 +59,7 @@ use Rattle.line_laws.proofs.FlightFolds.{came_octets}
 use Rattle.line_laws.proofs.IssueNodes.{acts_whole}
 use Rattle.line_laws.proofs.IssueWorlds.{Keyed, IsMeter}
 use Rattle.line_laws.proofs.IssueRuns.{kept}
-use Rattle.line_laws.proofs.Tellings.{step_is}
+use Rattle.line_laws.proofs.StepKinds.{step_is}
 use Rattle.line_laws.proofs.BookGrowth.{Goes, GoesBy, goes}
 
 -- # What is past

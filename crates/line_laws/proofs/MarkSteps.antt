@@ -53,9 +53,9 @@ use Rattle.line_laws.proofs.Worlds.{NodeFits, FlightFits, WorldOk, within as pla
 use Rattle.line_laws.proofs.StepsOk.{coordinator_acts, hears_ok, restarts_ok}
 use Rattle.line_laws.proofs.FlightFolds.{address_low, came_octets}
 use Rattle.line_laws.proofs.OctetRuns.{psk_role}
-use Rattle.line_laws.proofs.Tellings.{IsCall, Gives, Joins, Leaves, Sends, Breaks, Nears, Counts, Numbers, Accepts, Provisions, Depots, Allows, Rekeys, Turns}
-use Rattle.line_laws.proofs.Tellings.{Challenges, Activates, Kicks, workshop, preset_call, IsStep, Fails, Makes, Rests, Shows, Acts, BreaksLink, SendsFrom}
-use Rattle.line_laws.proofs.Tellings.{AllowsMeter, Sets, SetsTwo, Provides, TurnsDown, Hears, Loses, Ticks, Restarts, Cuts, step_is}
+use Rattle.line_laws.proofs.StepKinds.{IsCall, Gives, Joins, Leaves, Sends, Breaks, Nears, Counts, Numbers, Accepts, Provisions, Depots, Allows, Rekeys, Turns}
+use Rattle.line_laws.proofs.StepKinds.{Challenges, Activates, Kicks, workshop, preset_call, IsStep, Fails, Makes, Rests, Shows, Acts, BreaksLink, SendsFrom}
+use Rattle.line_laws.proofs.StepKinds.{AllowsMeter, Sets, SetsTwo, Provides, TurnsDown, Hears, Loses, Ticks, Restarts, Cuts, step_is}
 
 -- # Nodes
 

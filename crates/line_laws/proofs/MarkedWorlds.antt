@@ -76,7 +76,7 @@ use Rattle.line_laws.proofs.MarkedLogs.{others_marks, quiet_marks, restart_marks
 use Rattle.line_laws.proofs.ReachHistory.{aside, aside_more, aside_other, aside_set, aside_ticked, beside_within}
 use Rattle.line_laws.proofs.ReachSteps.{Asks, Bcasts, Checked, Chooses, Commands, Discovers, Fails, Hears, IsAccepted, IsOther, IsReachStep, Known, Opens}
 use Rattle.line_laws.proofs.ReachSteps.{Restarts, Rests, Scans, Ticks, Unbelieves, after_accepting, heard_node}
-use Rattle.line_laws.proofs.Tellings as old
+use Rattle.line_laws.proofs.StepKinds as old
 
 -- so it is of each node
 abbrev pub MarkedWorld : List BroadcastUp → World → Type 0

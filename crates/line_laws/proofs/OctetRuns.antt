@@ -51,9 +51,9 @@ use Rattle.line_laws.proofs.OctetDrafts.{MemorySpeaks, SentOctets, PlanSpeaks}
 use Rattle.line_laws.proofs.BookGrowth.{psk_meter}
 use Rattle.line_laws.proofs.Readings.{held, network_ranges}
 use Rattle.line_laws.proofs.StoreMarks.{accept_is}
-use Rattle.line_laws.proofs.Tellings.{IsCall, Gives, Joins, Leaves, Sends, Breaks, Nears, Counts, Numbers, Accepts, Provisions, Depots, Allows, Rekeys, Turns}
-use Rattle.line_laws.proofs.Tellings.{Challenges, Activates, Kicks, IsMade, OfCoordinator, OfMeter, preset_call, IsStep, Fails, Makes, Rests, Shows, Acts}
-use Rattle.line_laws.proofs.Tellings.{BreaksLink, SendsFrom, AllowsMeter, Sets, SetsTwo, Provides, TurnsDown, Hears, Loses, Ticks, Restarts, Cuts}
+use Rattle.line_laws.proofs.StepKinds.{IsCall, Gives, Joins, Leaves, Sends, Breaks, Nears, Counts, Numbers, Accepts, Provisions, Depots, Allows, Rekeys, Turns}
+use Rattle.line_laws.proofs.StepKinds.{Challenges, Activates, Kicks, IsMade, OfCoordinator, OfMeter, preset_call, IsStep, Fails, Makes, Rests, Shows, Acts}
+use Rattle.line_laws.proofs.StepKinds.{BreaksLink, SendsFrom, AllowsMeter, Sets, SetsTwo, Provides, TurnsDown, Hears, Loses, Ticks, Restarts, Cuts}
 use Rattle.line_laws.proofs.Worlds.{NodeFits, FlightFits, WorldOk, at_place}
 
 -- What the nodes of a line hold, and what flies, is octets.

@@ -50,7 +50,7 @@ use Rattle.line_laws.proofs.NodeCalls.{NoEui, NoGrant, NoPair, call_given, heard
 use Rattle.line_laws.proofs.Planned.{Planned, Refuses, Keeps, Ended}
 use Rattle.line_laws.proofs.Quiet.{accept_quiet, acts_quiet, allow_quiet, counter_quiet, depot_quiet, install_quiet, near_quiet, number_quiet}
 use Rattle.line_laws.proofs.StoreMarks.{accept_is}
-use Rattle.line_laws.proofs.Tellings as old
+use Rattle.line_laws.proofs.StepKinds as old
 
 -- a command alone of such a unit is a route message
 abbrev pub IsOldUnit : MeshUnit → Type 0

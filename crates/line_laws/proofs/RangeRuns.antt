@@ -65,9 +65,9 @@ use Rattle.line_laws.proofs.RangePlans.{DidRanged, acts_ranged, did_flights}
 use Rattle.line_laws.proofs.Readings.{held, none_held, network_ranges}
 use Rattle.line_laws.proofs.StepsOk.{read_again}
 use Rattle.line_laws.proofs.StoreMarks.{accept_is}
-use Rattle.line_laws.proofs.Tellings.{IsCall, Gives, Joins, Leaves, Sends, Breaks, Nears, Counts, Numbers, Accepts, Provisions, Depots, Allows, Rekeys, Turns}
-use Rattle.line_laws.proofs.Tellings.{Challenges, Activates, Kicks, IsMade, OfCoordinator, OfMeter, preset_call, IsStep, Fails, Makes, Rests, Shows, Acts}
-use Rattle.line_laws.proofs.Tellings.{BreaksLink, SendsFrom, AllowsMeter, Sets, SetsTwo, Provides, TurnsDown, Hears, Loses, Ticks, Restarts, Cuts}
+use Rattle.line_laws.proofs.StepKinds.{IsCall, Gives, Joins, Leaves, Sends, Breaks, Nears, Counts, Numbers, Accepts, Provisions, Depots, Allows, Rekeys, Turns}
+use Rattle.line_laws.proofs.StepKinds.{Challenges, Activates, Kicks, IsMade, OfCoordinator, OfMeter, preset_call, IsStep, Fails, Makes, Rests, Shows, Acts}
+use Rattle.line_laws.proofs.StepKinds.{BreaksLink, SendsFrom, AllowsMeter, Sets, SetsTwo, Provides, TurnsDown, Hears, Loses, Ticks, Restarts, Cuts}
 use Rattle.line_laws.proofs.Worlds.{NodeFits, WorldOk, at_place}
 pub use Rattle.line_laws.specs.Ranges.{WorldRanged}
 

@@ -83,7 +83,7 @@ use Rattle.line_laws.specs.Reach.{EveryHistoryIsKept}
 use Rattle.line_laws.proofs.FurtherOctets.{every_run_holds}
 use Rattle.line_laws.proofs.ReachSteps.{Asks, Bcasts, Checked, Chooses, Commands, Discovers, Fails, Hears, IsAccepted, IsOther, IsReachStep, Known, Opens}
 use Rattle.line_laws.proofs.ReachSteps.{Restarts, Rests, Scans as Begins, Ticks, Unbelieves, after_accepting, heard_node, reach_step_is}
-use Rattle.line_laws.proofs.Tellings as old
+use Rattle.line_laws.proofs.StepKinds as old
 
 -- # Histories
 

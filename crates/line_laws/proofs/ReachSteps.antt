@@ -35,7 +35,7 @@ use Rattle.line_rules.specs.Steps.{takes_setup, tick, ticked, told, trace_of}
 use Rattle.line_rules.specs.Worlds.{World, Trace, Flight, flight_at, node_at}
 use Rattle.line_laws.specs.ReachTraces.{link_of}
 use Rattle.line_laws.proofs.FurtherSteps.{restarts_read}
-use Rattle.line_laws.proofs.Tellings.{IsBrought, IsStep, TurnsDown, step_is}
+use Rattle.line_laws.proofs.StepKinds.{IsBrought, IsStep, TurnsDown, step_is}
 
 -- an event that is neither time nor a restart
 abbrev pub IsOther : Event → Type 0

@@ -3,7 +3,7 @@ use Rattle.std.proofs.Common.{◌≡◌, Bool, true, false, ℕ, List, Option, S
 use Rattle.std.specs.Prelude.{if◌then◌else◌}
 use Rattle.std.specs.Option.{option_map_or}
 use Rattle.line_laws.proofs.ReachSteps.{is_idle}
-use Rattle.line_laws.proofs.Tellings.{IsWord, OfRandom, OfJoin, OfLeave, OfDraw, OfChallenge, OfTurn, OfOrder, OfKick}
+use Rattle.line_laws.proofs.StepKinds.{IsWord, OfRandom, OfJoin, OfLeave, OfDraw, OfChallenge, OfTurn, OfOrder, OfKick}
 use Rattle.line_laws.specs.ReachTraces.{as_bcast, is_acked, is_beaconed, is_bup, is_path, is_scanning, is_sent, sent_to_all}
 use Rattle.line_rules.specs.Answers.{Reception, ask_word, broadcast_word, coordinator_reception, discovery_word, drop_word, frame_word, join_word, leave_word}
 use Rattle.line_rules.specs.Answers.{meter_reception, order_word, ordered_word, random_word, reach_drop_word, send_word, sent_word, station_reception}

@@ -58,9 +58,9 @@ use Rattle.line_laws.proofs.ShutBook.{Shut}
 use Rattle.line_laws.proofs.ShutCalls.{BookShut, acts_shut, hears_shut, allow_shut, rekey_shut, activate_self_shut, challenge_shut, activate_shut, kick_shut}
 use Rattle.line_laws.proofs.ShutCalls.{kick_leaves_shut, kick_failed}
 use Rattle.line_laws.proofs.StoreMarks.{accept_is}
-use Rattle.line_laws.proofs.Tellings.{IsStep, Fails, Makes, Rests, Shows, Acts, BreaksLink, SendsFrom, AllowsMeter, Sets, SetsTwo, Provides, TurnsDown, Hears}
-use Rattle.line_laws.proofs.Tellings.{Loses, Ticks, Restarts, Cuts, IsAsked, AskRandom, AskJoin, AskLeave, AskRekey, AskTurn, AskChallenge, AskActivate}
-use Rattle.line_laws.proofs.Tellings.{AskKick, step_is}
+use Rattle.line_laws.proofs.StepKinds.{IsStep, Fails, Makes, Rests, Shows, Acts, BreaksLink, SendsFrom, AllowsMeter, Sets, SetsTwo, Provides, TurnsDown, Hears}
+use Rattle.line_laws.proofs.StepKinds.{Loses, Ticks, Restarts, Cuts, IsAsked, AskRandom, AskJoin, AskLeave, AskRekey, AskTurn, AskChallenge, AskActivate}
+use Rattle.line_laws.proofs.StepKinds.{AskKick, step_is}
 use Rattle.line_laws.proofs.Worlds.{NodeFits, FlightFits, WorldOk, within as place_within, at_place}
 pub use Rattle.line_laws.specs.Shut.{ShutAt}
 

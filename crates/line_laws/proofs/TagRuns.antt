@@ -65,9 +65,9 @@ use Rattle.line_laws.proofs.StoreWords.{tag_reads}
 use Rattle.line_laws.proofs.TagPuts.{Away, TagPut, Elsewhere, Next, carried_puts, away_tags, send_tags, random_away, join_away, leave_away, broke_away}
 use Rattle.line_laws.proofs.TagPuts.{near_away, counter_put_away, number_put_away, provision_away, accept_away, meter_away, coordinator_away, allow_away}
 use Rattle.line_laws.proofs.TagPuts.{depot_away, rekey_away, activate_self_away, challenge_away, activate_away, kick_away}
-use Rattle.line_laws.proofs.Tellings.{IsCall, Gives, Joins, Leaves, Sends, Breaks, Nears, Counts, Numbers, Accepts, Provisions, Depots, Allows, Rekeys, Turns}
-use Rattle.line_laws.proofs.Tellings.{Challenges, Activates, Kicks, preset_call, IsMade, OfCoordinator, OfMeter, IsStep, Fails, Makes, Rests, Shows, Acts}
-use Rattle.line_laws.proofs.Tellings.{BreaksLink, SendsFrom, AllowsMeter, Sets, SetsTwo, Provides, TurnsDown, Hears, Loses, Ticks, Restarts, Cuts}
+use Rattle.line_laws.proofs.StepKinds.{IsCall, Gives, Joins, Leaves, Sends, Breaks, Nears, Counts, Numbers, Accepts, Provisions, Depots, Allows, Rekeys, Turns}
+use Rattle.line_laws.proofs.StepKinds.{Challenges, Activates, Kicks, preset_call, IsMade, OfCoordinator, OfMeter, IsStep, Fails, Makes, Rests, Shows, Acts}
+use Rattle.line_laws.proofs.StepKinds.{BreaksLink, SendsFrom, AllowsMeter, Sets, SetsTwo, Provides, TurnsDown, Hears, Loses, Ticks, Restarts, Cuts}
 use Rattle.line_laws.proofs.Worlds.{WorldOk, at_place, within}
 pub use Rattle.line_laws.specs.Tags.{IsUnder, TagOf, TagsOk}
 

@@ -67,10 +67,10 @@ use Rattle.line_laws.proofs.Untagged.{random_untagged, provision_untagged, accep
 use Rattle.line_laws.proofs.IssueMeters.{joins_opened, leaves_opened}
 use Rattle.line_laws.proofs.IssueNodes.{acts_opened}
 use Rattle.line_laws.proofs.ForgeryRight.{some_passes, any_at, none_flew, flew_none, none_made, made_none}
-use Rattle.line_laws.proofs.Tellings.{IsCall, Gives, Joins, Leaves, Sends, Breaks, Nears, Counts, Numbers, Accepts, Provisions, Depots, Allows, Rekeys, Turns}
-use Rattle.line_laws.proofs.Tellings.{Challenges, Activates, Kicks, workshop, IsPreset, OfCounter, OfNumber, IsBrought, IsWord, OfRandom, OfJoin, OfLeave}
-use Rattle.line_laws.proofs.Tellings.{OfDraw, OfChallenge, OfTurn, OfOrder, OfKick, IsMade, OfCoordinator, OfMeter, IsStep, Fails, Makes, Rests, Shows, Acts}
-use Rattle.line_laws.proofs.Tellings.{BreaksLink, SendsFrom, AllowsMeter, Sets, SetsTwo, Provides, TurnsDown, Hears, Loses, Ticks, Restarts, Cuts}
+use Rattle.line_laws.proofs.StepKinds.{IsCall, Gives, Joins, Leaves, Sends, Breaks, Nears, Counts, Numbers, Accepts, Provisions, Depots, Allows, Rekeys, Turns}
+use Rattle.line_laws.proofs.StepKinds.{Challenges, Activates, Kicks, workshop, IsPreset, OfCounter, OfNumber, IsBrought, IsWord, OfRandom, OfJoin, OfLeave}
+use Rattle.line_laws.proofs.StepKinds.{OfDraw, OfChallenge, OfTurn, OfOrder, OfKick, IsMade, OfCoordinator, OfMeter, IsStep, Fails, Makes, Rests, Shows, Acts}
+use Rattle.line_laws.proofs.StepKinds.{BreaksLink, SendsFrom, AllowsMeter, Sets, SetsTwo, Provides, TurnsDown, Hears, Loses, Ticks, Restarts, Cuts}
 
 -- # Words of the report
 

@@ -35,8 +35,8 @@ abbrev pub EveryTraceIsRight : Type 0
 EveryTraceIsRight = (ciphers : Ciphers) (entries : List Entry) → IsLineRun ciphers entries → AreTracedRight start entries
 
 -- exactly forged events are reported to be forged
-abbrev pub EveryForgeryIsTold : Type 0
-EveryForgeryIsTold = (ciphers : Ciphers) (entries : List Entry) → IsLineRun ciphers entries → IsForgedRight ciphers start entries
+abbrev pub EveryForgeryIsReported : Type 0
+EveryForgeryIsReported = (ciphers : Ciphers) (entries : List Entry) → IsLineRun ciphers entries → IsForgedRight ciphers start entries
 
 -- # What flies
 

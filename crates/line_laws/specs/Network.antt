@@ -18,7 +18,7 @@ use Rattle.line_laws.specs.Issued.{IsIssuedAfter}
 use Rattle.line_laws.specs.IssuedRight.{AreIssuedRight}
 use Rattle.line_laws.specs.Laws.{IsLineRun, FlightsAreOctets}
 use Rattle.line_laws.specs.Loops.{AreLoopFree, RestartsEndRoutes}
-use Rattle.line_laws.specs.ReachTraces.{AreReachTold, ListsBroadcasts}
+use Rattle.line_laws.specs.ReachTraces.{AreReachReported, ListsBroadcasts}
 use Rattle.line_laws.specs.StepsTaken.{AreStepsTaken}
 use Rattle.line_laws.specs.Tags.{SendsHaveOctets, TagsRise}
 use Rattle.line_laws.specs.Ups.{UpsAreSentAfter}
@@ -59,7 +59,7 @@ pub record IsRight (entries : List Entry) : Type 0 where
   pub logs : LogsAlwaysKept entries
   pub broadcasts : AreBroadcastOnce entries
   pub walks : AreWalked entries
-  pub told : AreReachTold start entries
+  pub reported : AreReachReported start entries
   pub listed : ListsBroadcasts entries
   pub checked : AreCheckedRight entries
   pub steps : AreStepsTaken start entries

@@ -183,7 +183,7 @@ is_beaconed _ = false
 -- # Events
 
 -- What the history and the report have of further reach is there exactly where the answer says so, and has its frame.
-pub record IsReachTold (w : World) (x : Entry) : Type 0 where
+pub record IsReachReported (w : World) (x : Entry) : Type 0 where
   pub broadcast : option_map to_all_of x.trace.further.broadcast ≡ sent_to_all x.event x.trace.happened.answer
   pub bup : is_some x.trace.happened.bup ≡ is_bup x.trace.happened.answer
   pub bup_came : IfSome x.trace.happened.bup (BroadcastCame w x.event)
@@ -195,13 +195,13 @@ pub record IsReachTold (w : World) (x : Entry) : Type 0 where
   pub noticed : IfSome x.trace.further.noticed (HasFrame w x)
 
 -- so it is of each event of a run
-abbrev pub AreReachTold : World → List Entry → Type 0
-AreReachTold w [] = Unit {0}
-AreReachTold w (x ∷ xs) = IsReachTold w x × AreReachTold x.after xs
+abbrev pub AreReachReported : World → List Entry → Type 0
+AreReachReported w [] = Unit {0}
+AreReachReported w (x ∷ xs) = IsReachReported w x × AreReachReported x.after xs
 
 -- so it is of every run of the network, forged or not, over restarts and failed writes
-abbrev pub EveryEventIsTold : Type 0
-EveryEventIsTold = (entries : List Entry) → IsLineRun network entries → AreReachTold start entries
+abbrev pub EveryEventIsReported : Type 0
+EveryEventIsReported = (entries : List Entry) → IsLineRun network entries → AreReachReported start entries
 
 -- and its history lists the broadcasts
 abbrev pub EveryBroadcastIsListed : Type 0

@@ -7,7 +7,7 @@ ghost use Rattle.line_laws.specs.Issued.{EveryJoiningAgrees, OnlyIssuedKeys};
 ghost use Rattle.line_laws.specs.IssuedRight.{EveryKeyIsIssuedRight};
 ghost use Rattle.line_laws.specs.Kicked.{EveryKickedMeterStaysOut};
 ghost use Rattle.line_laws.specs.Laws.{EveryAddressDiffers, EveryCountIsRight, EveryCounterRises, EveryFlightIsAFrame, EveryFlightIsOctets};
-ghost use Rattle.line_laws.specs.Laws.{EveryFlightIsSpelled, EveryForgeryIsTold, EveryNetworkRunIsSized, EveryNonceDiffers};
+ghost use Rattle.line_laws.specs.Laws.{EveryFlightIsSpelled, EveryForgeryIsReported, EveryNetworkRunIsSized, EveryNonceDiffers};
 ghost use Rattle.line_laws.specs.Laws.{EveryRestartIsAnswered, EveryRunIsSized, EverySenderIsRight, EveryTraceIsRight};
 ghost use Rattle.line_laws.specs.Live.{EveryFlightFalls, EveryMarkRises};
 ghost use Rattle.line_laws.specs.Loops.{EveryRestartEndsRoutes, EveryRunIsLoopFree};
@@ -15,7 +15,7 @@ ghost use Rattle.line_laws.specs.Network.{EveryNetworkRunIsRight, EveryRunIsSafe
 ghost use Rattle.line_laws.specs.Once.{EveryFrameIsAcceptedOnce, EveryNodeAcceptsOnce};
 ghost use Rattle.line_laws.specs.Owed.{KeepsRanges};
 ghost use Rattle.line_laws.specs.Reach.{EveryBroadcastIsOnce, EveryHistoryIsKept, EveryLogIsKept, EveryWalkWasTaken};
-ghost use Rattle.line_laws.specs.ReachTraces.{EveryBroadcastIsListed, EveryEventIsTold};
+ghost use Rattle.line_laws.specs.ReachTraces.{EveryBroadcastIsListed, EveryEventIsReported};
 ghost use Rattle.line_laws.specs.StepsTaken.{EveryStepIsTaken};
 ghost use Rattle.line_laws.specs.Tags.{EverySendHasOctets, EveryTagRises};
 ghost use Rattle.line_laws.specs.Ups.{EveryDatagramWasSent};
@@ -142,8 +142,8 @@ pub fn every_trace_is_right()
 /// In every run, whatever the ciphers are, exactly those events are reported to be forged in which a node accepted octets that no node sent under their key, or
 /// found a pair tag right that no node made.
 #[tactic(auto)]
-pub fn every_forgery_is_told()
-    ensures { EveryForgeryIsTold }
+pub fn every_forgery_is_reported()
+    ensures { EveryForgeryIsReported }
 {}
 
 /// In every run, forged or not, each sealed flight has in its sender field the address that its node has after the event that sent it.
@@ -257,8 +257,8 @@ pub fn every_broadcast_is_once()
 /// that is handed up and a walk that is reported at the answers Bup and Path, with what came in the frame that was accepted; an acknowledgement, a
 /// beacon and a scan at Acked, Beaconed and Scanning, with the frame that came; and a reply that begins a check is one of the flights of its event.
 #[tactic(auto)]
-pub fn every_event_is_told()
-    ensures { EveryEventIsTold }
+pub fn every_event_is_reported()
+    ensures { EveryEventIsReported }
 {}
 
 /// In every run of the network the history lists exactly the broadcasts that `bcast` lines sent, each once and in their order.

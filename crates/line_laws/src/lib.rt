@@ -17,8 +17,8 @@ pub use event_laws::{
 pub use laws::{
     every_address_differs, every_agreement_is_said, every_broadcast_is_listed,
     every_broadcast_is_once, every_check_is_right, every_count_is_right, every_counter_rises,
-    every_datagram_was_sent, every_event_is_told, every_flight_falls, every_flight_is_octets,
-    every_flight_is_spelled, every_forgery_is_told, every_frame_is_accepted_once,
+    every_datagram_was_sent, every_event_is_reported, every_flight_falls, every_flight_is_octets,
+    every_flight_is_spelled, every_forgery_is_reported, every_frame_is_accepted_once,
     every_history_is_kept, every_issued_key_stood, every_joining_agrees, every_key_is_issued_right,
     every_kicked_meter_stays_out, every_log_is_kept, every_mark_rises, every_network_run_is_right,
     every_node_accepts_once, every_nonce_differs, every_restart_ends_routes,

@@ -1,7 +1,7 @@
 -- Single commands and calls of further reach, which are computed.
 use Rattle.std.proofs.Common.{refl}
 use Rattle.reach_rules.proofs.Computing.{computed}
-use Rattle.reach_rules.specs.ReachCases.{StrangeCommandsAreDropped, BroadcastsAreJudgedInOrder, ABroadcastStoresItsMark, OwnBroadcastsAreJudgedInOrder, PathsAreJudgedInOrder, AsksAreJudgedInOrder, DiscoveryIsJudgedInOrder, DiscoveryIsToldByItsType, OnlyTheUnjoinedScan, AnAcknowledgementTakesACounter, ARelayIsCheckedToo}
+use Rattle.reach_rules.specs.ReachCases.{StrangeCommandsAreDropped, BroadcastsAreJudgedInOrder, ABroadcastStoresItsMark, OwnBroadcastsAreJudgedInOrder, PathsAreJudgedInOrder, AsksAreJudgedInOrder, DiscoveryIsJudgedInOrder, DiscoveryIsKnownByItsType, OnlyTheUnjoinedScan, AnAcknowledgementTakesACounter, ARelayIsCheckedToo}
 
 pub strange_commands_are_dropped : StrangeCommandsAreDropped
 unfolding computed StrangeCommandsAreDropped
@@ -31,9 +31,9 @@ pub discovery_is_judged_in_order : DiscoveryIsJudgedInOrder
 unfolding computed DiscoveryIsJudgedInOrder
 discovery_is_judged_in_order = (refl, refl, refl, refl, refl, refl, refl, refl, refl, refl)
 
-pub discovery_is_told_by_its_type : DiscoveryIsToldByItsType
-unfolding computed DiscoveryIsToldByItsType
-discovery_is_told_by_its_type = (refl, refl, refl, refl)
+pub discovery_is_known_by_its_type : DiscoveryIsKnownByItsType
+unfolding computed DiscoveryIsKnownByItsType
+discovery_is_known_by_its_type = (refl, refl, refl, refl)
 
 pub only_the_unjoined_scan : OnlyTheUnjoinedScan
 unfolding computed OnlyTheUnjoinedScan

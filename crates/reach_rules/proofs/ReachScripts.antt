@@ -1,7 +1,7 @@
 -- What becomes of acknowledgements, broadcasts, beacons and path requests: the scripts are computed.
 use Rattle.std.proofs.Common.{refl}
 use Rattle.reach_rules.proofs.Computing.{computed}
-use Rattle.reach_rules.specs.ReachScripts.{ALateNeighbourIsListed, ANeighbourInTimeIsBelieved, WithoutChecksAllAreBelieved, BroadcastsGoOnAndEnd, TheCheapestAgentIsChosen, TheCoordinatorIsAnAgent, APathIsTold, ABrokenPathIsNotTold}
+use Rattle.reach_rules.specs.ReachScripts.{ALateNeighbourIsListed, ANeighbourInTimeIsBelieved, WithoutChecksAllAreBelieved, BroadcastsGoOnAndEnd, TheCheapestAgentIsChosen, TheCoordinatorIsAnAgent, APathIsAnswered, ABrokenPathIsNotAnswered}
 
 pub a_late_neighbour_is_listed : ALateNeighbourIsListed
 unfolding computed ALateNeighbourIsListed
@@ -27,10 +27,10 @@ pub the_coordinator_is_an_agent : TheCoordinatorIsAnAgent
 unfolding computed TheCoordinatorIsAnAgent
 the_coordinator_is_an_agent = (refl, refl, refl)
 
-pub a_path_is_told : APathIsTold
-unfolding computed APathIsTold
-a_path_is_told = (refl, refl)
+pub a_path_is_answered : APathIsAnswered
+unfolding computed APathIsAnswered
+a_path_is_answered = (refl, refl)
 
-pub a_broken_path_is_not_told : ABrokenPathIsNotTold
-unfolding computed ABrokenPathIsNotTold
-a_broken_path_is_not_told = (refl, refl)
+pub a_broken_path_is_not_answered : ABrokenPathIsNotAnswered
+unfolding computed ABrokenPathIsNotAnswered
+a_broken_path_is_not_answered = (refl, refl)

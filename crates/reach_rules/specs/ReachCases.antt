@@ -212,8 +212,8 @@ DiscoveryIsJudgedInOrder =
     × (meter_answer (scanning unjoined) (beacon_spelling 0 PAN 2 5) ≡ Ok Beaconed)
 
 -- The lowest three bits of the first octet say what is heard as discovery, whatever comes after it.
-unfoldable pub DiscoveryIsToldByItsType : Type 0
-DiscoveryIsToldByItsType =
+unfoldable pub DiscoveryIsKnownByItsType : Type 0
+DiscoveryIsKnownByItsType =
     (is_discovery (0x00 ∷ []) ≡ true)
     × (is_discovery (0x0b ∷ 7 ∷ []) ≡ true)
     × (is_discovery (0x69 ∷ 0x98 ∷ []) ≡ false)

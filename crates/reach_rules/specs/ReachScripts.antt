@@ -165,23 +165,23 @@ abbrev pub sought_then : List Word → List Word
 sought_then rest = waiting ∷ relayed ∷ answered ∷ relayed ∷ learned ∷ Asking (Ok tt) ∷ rest
 
 -- the ask goes to its target, and the tell comes back
-abbrev pub path_told : List Doing
-path_told = path_sought ++ (Comes 6 1 1 ∷ Comes 7 2 1 ∷ Comes 8 1 1 ∷ Comes 9 0 1 ∷ [])
+abbrev pub path_answered : List Doing
+path_answered = path_sought ++ (Comes 6 1 1 ∷ Comes 7 2 1 ∷ Comes 8 1 1 ∷ Comes 9 0 1 ∷ [])
 
 -- A node that asks for a path is answered the nodes of the way, from itself to the target.
-unfoldable pub APathIsTold : Type 0
-APathIsTold =
-    (words_of three_in_a_row path_told
+unfoldable pub APathIsAnswered : Type 0
+APathIsAnswered =
+    (words_of three_in_a_row path_answered
     ≡ sought_then (Hearing (Ok (OfCommand commands.Relayed)) ∷ Hearing (Ok (OfCommand commands.Answered))
     ∷ Hearing (Ok (OfCommand commands.Relayed)) ∷ Hearing (Ok (OfCommand (commands.Path (0 ∷ 1 ∷ 2 ∷ [])))) ∷ []))
-    × (flown_in three_in_a_row path_told ≡ 9)
+    × (flown_in three_in_a_row path_answered ≡ 9)
 
 -- the link after the first hop breaks before the ask comes there
 abbrev pub path_broken : List Doing
 path_broken = path_sought ++ (Breaks 1 2 ∷ Comes 6 1 1 ∷ [])
 
 -- An ask goes no further where no route leads on.
-unfoldable pub ABrokenPathIsNotTold : Type 0
-ABrokenPathIsNotTold =
+unfoldable pub ABrokenPathIsNotAnswered : Type 0
+ABrokenPathIsNotAnswered =
     (words_of three_in_a_row path_broken ≡ sought_then (Breaking ∷ Hearing (Err (Known NoRoute)) ∷ []))
     × (flown_in three_in_a_row path_broken ≡ 6)

@@ -1,5 +1,5 @@
 //! Single commands and calls of further reach that the checker computes: each stands as the contract of a function that does nothing.
-ghost use Rattle.reach_rules.specs.ReachCases.{StrangeCommandsAreDropped, BroadcastsAreJudgedInOrder, ABroadcastStoresItsMark, OwnBroadcastsAreJudgedInOrder, PathsAreJudgedInOrder, AsksAreJudgedInOrder, DiscoveryIsJudgedInOrder, DiscoveryIsToldByItsType, OnlyTheUnjoinedScan, AnAcknowledgementTakesACounter, ARelayIsCheckedToo};
+ghost use Rattle.reach_rules.specs.ReachCases.{StrangeCommandsAreDropped, BroadcastsAreJudgedInOrder, ABroadcastStoresItsMark, OwnBroadcastsAreJudgedInOrder, PathsAreJudgedInOrder, AsksAreJudgedInOrder, DiscoveryIsJudgedInOrder, DiscoveryIsKnownByItsType, OnlyTheUnjoinedScan, AnAcknowledgementTakesACounter, ARelayIsCheckedToo};
 
 /// Octets that are none of these commands are dropped, and so is a command that came on a wrong way or to a node without an address.
 #[tactic(auto, using(crate::proofs::ReachCases::strange_commands_are_dropped))]
@@ -44,9 +44,9 @@ pub fn discovery_is_judged_in_order()
 {}
 
 /// The lowest three bits of the first octet say what is heard as discovery.
-#[tactic(auto, using(crate::proofs::ReachCases::discovery_is_told_by_its_type))]
-pub fn discovery_is_told_by_its_type()
-    ensures { DiscoveryIsToldByItsType }
+#[tactic(auto, using(crate::proofs::ReachCases::discovery_is_known_by_its_type))]
+pub fn discovery_is_known_by_its_type()
+    ensures { DiscoveryIsKnownByItsType }
 {}
 
 /// A meter that is joined neither scans nor chooses; one that heard no agent has none to choose.

@@ -14,7 +14,7 @@ mod scripts;
 pub use cases::{
     a_broadcast_stores_its_mark, a_relay_is_checked_too, an_acknowledgement_takes_a_counter,
     asks_are_judged_in_order, broadcasts_are_judged_in_order, discovery_is_judged_in_order,
-    discovery_is_told_by_its_type, only_the_unjoined_scan, own_broadcasts_are_judged_in_order,
+    discovery_is_known_by_its_type, only_the_unjoined_scan, own_broadcasts_are_judged_in_order,
     paths_are_judged_in_order, strange_commands_are_dropped,
 };
 pub use heard::{CommandHeard, DiscoveryHeard};
@@ -32,7 +32,7 @@ pub use refusal::{
     AskRefusal, BroadcastRefusal, ChooseRefusal, DiscoveryDropped, ReachDropped, ScanRefusal,
 };
 pub use scripts::{
-    a_broken_path_is_not_told, a_late_neighbour_is_listed, a_neighbour_in_time_is_believed,
-    a_path_is_told, broadcasts_go_on_and_end, the_cheapest_agent_is_chosen,
+    a_broken_path_is_not_answered, a_late_neighbour_is_listed, a_neighbour_in_time_is_believed,
+    a_path_is_answered, broadcasts_go_on_and_end, the_cheapest_agent_is_chosen,
     the_coordinator_is_an_agent, without_checks_all_are_believed,
 };

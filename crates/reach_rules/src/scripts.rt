@@ -1,5 +1,5 @@
 //! Scripts of further reach that the checker computes: each stands as the contract of a function that does nothing.
-ghost use Rattle.reach_rules.specs.ReachScripts.{ALateNeighbourIsListed, ANeighbourInTimeIsBelieved, WithoutChecksAllAreBelieved, BroadcastsGoOnAndEnd, TheCheapestAgentIsChosen, TheCoordinatorIsAnAgent, APathIsTold, ABrokenPathIsNotTold};
+ghost use Rattle.reach_rules.specs.ReachScripts.{ALateNeighbourIsListed, ANeighbourInTimeIsBelieved, WithoutChecksAllAreBelieved, BroadcastsGoOnAndEnd, TheCheapestAgentIsChosen, TheCoordinatorIsAnAgent, APathIsAnswered, ABrokenPathIsNotAnswered};
 
 /// A neighbour that acknowledges a reply after two seconds is not believed for 300 seconds, and its acknowledgement is not awaited.
 #[tactic(auto, using(crate::proofs::ReachScripts::a_late_neighbour_is_listed))]
@@ -38,13 +38,13 @@ pub fn the_coordinator_is_an_agent()
 {}
 
 /// A node that asks for a path is answered the nodes of the way.
-#[tactic(auto, using(crate::proofs::ReachScripts::a_path_is_told))]
-pub fn a_path_is_told()
-    ensures { APathIsTold }
+#[tactic(auto, using(crate::proofs::ReachScripts::a_path_is_answered))]
+pub fn a_path_is_answered()
+    ensures { APathIsAnswered }
 {}
 
 /// An ask goes no further where no route leads on.
-#[tactic(auto, using(crate::proofs::ReachScripts::a_broken_path_is_not_told))]
-pub fn a_broken_path_is_not_told()
-    ensures { ABrokenPathIsNotTold }
+#[tactic(auto, using(crate::proofs::ReachScripts::a_broken_path_is_not_answered))]
+pub fn a_broken_path_is_not_answered()
+    ensures { ABrokenPathIsNotAnswered }
 {}

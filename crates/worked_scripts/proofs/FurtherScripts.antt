@@ -1,7 +1,7 @@
 -- The worked rows of further reach: the runs are computed.
 use Rattle.std.proofs.Common.{refl}
 use Rattle.worked_scripts.proofs.Computing.{computed}
-use Rattle.worked_scripts.specs.FurtherScripts.{RepliesAreAcknowledged, BroadcastsComeOnce, MetersChooseAgents, PathsAreTold}
+use Rattle.worked_scripts.specs.FurtherScripts.{RepliesAreAcknowledged, BroadcastsComeOnce, MetersChooseAgents, PathsAreAnswered}
 
 pub replies_are_acknowledged : RepliesAreAcknowledged
 unfolding computed RepliesAreAcknowledged
@@ -15,6 +15,6 @@ pub meters_choose_agents : MetersChooseAgents
 unfolding computed MetersChooseAgents
 meters_choose_agents = (refl, refl, refl, refl, refl, refl, refl)
 
-pub paths_are_told : PathsAreTold
-unfolding computed PathsAreTold
-paths_are_told = (refl, refl, refl, refl)
+pub paths_are_answered : PathsAreAnswered
+unfolding computed PathsAreAnswered
+paths_are_answered = (refl, refl, refl, refl)

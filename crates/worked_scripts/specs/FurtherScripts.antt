@@ -61,15 +61,15 @@ RepliesAreAcknowledged =
 
 -- # Broadcasts
 
-abbrev pub told_to_all : List Event
-told_to_all = two_meters ++ (Bcast 0 (0xAA ∷ []) ∷ Deliver 1 1 1 ∷ Deliver 1 2 1 ∷ Deliver 2 2 1 ∷ Deliver 2 0 1 ∷ [])
+abbrev pub sent_to_all : List Event
+sent_to_all = two_meters ++ (Bcast 0 (0xAA ∷ []) ∷ Deliver 1 1 1 ∷ Deliver 1 2 1 ∷ Deliver 2 2 1 ∷ Deliver 2 0 1 ∷ [])
 
 unfoldable pub BroadcastsComeOnce : Type 0
 BroadcastsComeOnce =
-    (line_answers 5 told_to_all ≡ said.Sent ∷ said.Bup ∷ said.Bup ∷ said.Old ∷ said.Old ∷ [])
-    × (bups (run plain start told_to_all)
+    (line_answers 5 sent_to_all ≡ said.Sent ∷ said.Bup ∷ said.Bup ∷ said.Old ∷ said.Old ∷ [])
+    × (bups (run plain start sent_to_all)
     ≡ record { node = 1; origin = 0; number = 0; octets = 0xAA ∷ [] } ∷ record { node = 2; origin = 0; number = 0; octets = 0xAA ∷ [] } ∷ [])
-    × (line_counts told_to_all ≡ record { events = 10; flights = 3; sends = 0; ups = 0; forged = 0 })
+    × (line_counts sent_to_all ≡ record { events = 10; flights = 3; sends = 0; ups = 0; forged = 0 })
 
 -- # Beacons
 
@@ -105,8 +105,8 @@ walked = learned ++ (Deliver 6 1 1 ∷ Deliver 7 2 1 ∷ Deliver 8 1 1 ∷ Deliv
 abbrev pub broken : List Event
 broken = learned ++ (Break 1 2 ∷ Deliver 6 1 1 ∷ [])
 
-unfoldable pub PathsAreTold : Type 0
-PathsAreTold =
+unfoldable pub PathsAreAnswered : Type 0
+PathsAreAnswered =
     (line_answers 7 walked
     ≡ said.Waiting ∷ said.Relayed ∷ said.Answered ∷ said.Relayed ∷ said.Learned ∷ said.Traced ∷ said.Relayed ∷ said.Answered ∷ said.Relayed ∷ said.Path ∷ [])
     × (paths (run plain start walked) ≡ record { node = 0; walk = 0 ∷ 1 ∷ 2 ∷ [] } ∷ [])

@@ -1,5 +1,5 @@
 //! The worked rows of further reach.
-ghost use Rattle.worked_scripts.specs.FurtherScripts.{RepliesAreAcknowledged, BroadcastsComeOnce, MetersChooseAgents, PathsAreTold};
+ghost use Rattle.worked_scripts.specs.FurtherScripts.{RepliesAreAcknowledged, BroadcastsComeOnce, MetersChooseAgents, PathsAreAnswered};
 
 /// A neighbour that does not acknowledge a reply in time is not believed for a while, and one that does is.
 #[tactic(auto, using(crate::proofs::FurtherScripts::replies_are_acknowledged))]
@@ -20,7 +20,7 @@ pub fn meters_choose_agents()
 {}
 
 /// A node asks for the way to another one, and learns it where no link on it broke.
-#[tactic(auto, using(crate::proofs::FurtherScripts::paths_are_told))]
-pub fn paths_are_told()
-    ensures { PathsAreTold }
+#[tactic(auto, using(crate::proofs::FurtherScripts::paths_are_answered))]
+pub fn paths_are_answered()
+    ensures { PathsAreAnswered }
 {}

@@ -24,7 +24,7 @@ pub use frame_scripts::{
     frames_have_their_nodes, malicious_frames_are_refused, units_have_their_paths,
 };
 pub use further_scripts::{
-    broadcasts_come_once, meters_choose_agents, paths_are_told, replies_are_acknowledged,
+    broadcasts_come_once, meters_choose_agents, paths_are_answered, replies_are_acknowledged,
 };
 pub use hop_scripts::{
     a_broken_route_stays_broken, a_lost_flight_comes_no_more, a_repeat_is_refused,

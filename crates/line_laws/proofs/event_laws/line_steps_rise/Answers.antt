@@ -1,5 +1,5 @@
 -- The law, by the ways that events are made.
-use Rattle.line_laws.proofs.FurtherTellings.{line_steps_rise}
+use Rattle.line_laws.proofs.FurtherStepKinds.{line_steps_rise}
 use Rattle.line_laws.proofs.event_laws.line_steps_rise.Goals as goal
 
 pub returns : goal.returns

@@ -1,5 +1,5 @@
 -- The law, from what each event tells.
-use Rattle.line_laws.proofs.ReachTold.{every_list}
+use Rattle.line_laws.proofs.ReachReported.{every_list}
 use Rattle.line_laws.proofs.laws.every_broadcast_is_listed.Goals as goal
 
 pub returns : goal.returns

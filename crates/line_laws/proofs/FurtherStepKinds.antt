@@ -122,9 +122,9 @@ use Rattle.line_rules.specs.Worlds.{Noticed, nothing_further}
 use Rattle.std.proofs.lemmas.List.{append-nil}
 use Rattle.std.proofs.lemmas.Bool.{eqb-false}
 use Rattle.line_laws.specs.Later.{flown as flown_world}
-use Rattle.line_laws.proofs.Tellings as tellings
-use Rattle.line_laws.proofs.Tellings.{IsStep, Ticks, Restarts, Hears, TurnsDown, step_is}
-use Rattle.line_laws.proofs.Tellings.{Fails as OldFails}
+use Rattle.line_laws.proofs.StepKinds as tellings
+use Rattle.line_laws.proofs.StepKinds.{IsStep, Ticks, Restarts, Hears, TurnsDown, step_is}
+use Rattle.line_laws.proofs.StepKinds.{Fails as OldFails}
 use Rattle.line_laws.proofs.FlightFolds.{came_octets}
 use Rattle.line_laws.proofs.StepsOk.{StepGood, Taken, restarts_ok, tick_good, true_false}
 use Rattle.line_laws.proofs.StepsOk.{ran_ok as steps_ran_ok}

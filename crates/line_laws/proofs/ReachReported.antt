@@ -70,8 +70,8 @@ use Rattle.line_rules.specs.Forgery.{Comes}
 use Rattle.line_rules.specs.FurtherRuns.{broadcasts}
 use Rattle.line_rules.specs.Worlds.{Acknowledged, Broadcasting, Flight, Noticed, Trace, World, start}
 use Rattle.line_laws.specs.FurtherLines.{HoldsAfter}
-use Rattle.line_laws.specs.ReachTraces.{AckCame, AreReachTold, BeaconCame, BroadcastCame, FrameCame, EveryBroadcastIsListed, EveryEventIsTold, HasFrame}
-use Rattle.line_laws.specs.ReachTraces.{IsReachTold, ListsBroadcasts, ReplyFlew, WalkCame, as_bcast, is_acked, is_acknowledged, is_beacon, is_beaconed, is_bup}
+use Rattle.line_laws.specs.ReachTraces.{AckCame, AreReachReported, BeaconCame, BroadcastCame, FrameCame, EveryBroadcastIsListed, EveryEventIsReported, HasFrame}
+use Rattle.line_laws.specs.ReachTraces.{IsReachReported, ListsBroadcasts, ReplyFlew, WalkCame, as_bcast, is_acked, is_acknowledged, is_beacon, is_beaconed, is_bup}
 use Rattle.line_laws.specs.ReachTraces.{is_path, is_scan, is_scanning, is_sent, link_of, sent_to_all, to_all_of}
 use Rattle.line_laws.proofs.FurtherOctets.{every_run_holds}
 use Rattle.line_laws.proofs.ReachCame.{Says, acts_says, command_came, command_said}
@@ -80,7 +80,7 @@ use Rattle.line_laws.proofs.ReachSteps.{Rests, Scans as Begins, Ticks, Unbelieve
 use Rattle.line_laws.proofs.ReachWords.{IsUnsent, Quiet, Untold, ask_quiet, breaks_quiet, broadcast_quiet, choice_quiet, frame_quiet, hears_quiet, idle_quiet}
 use Rattle.line_laws.proofs.ReachWords.{lost_quiet, ordered_quiet, reach_untold, restart_quiet, sent_quiet, unsent_answer, unsent_event, unsent_octets}
 use Rattle.line_laws.proofs.ReachWords.{unsent_word, untold, word_quiet}
-use Rattle.line_laws.proofs.Tellings as old
+use Rattle.line_laws.proofs.StepKinds as old
 use Rattle.line_laws.proofs.TracesRight.{entry}
 
 -- # What tells nothing of further reach
@@ -209,10 +209,10 @@ flown_at f (y ∷ xs) rest (suc place) x e = flown_at f xs rest place x e
 
 module _ (w : World) (logs : LogsKept w) (n : ℕ) where
   abbrev ToldIn : Event → Step → Type 0
-  ToldIn event (Ok r) = IsReachTold w (entry n event r)
+  ToldIn event (Ok r) = IsReachReported w (entry n event r)
   ToldIn event (Err fault) = Unit {0}
 
-  untold_told : (event : Event) (v : World) (t : Trace) → IsUntold event t → IsReachTold w (entry n event (v, t))
+  untold_told : (event : Event) (v : World) (t : Trace) → IsUntold event t → IsReachReported w (entry n event (v, t))
   untold_told event v t u = let q = untold t.happened.answer u.word in record {
     broadcast = ap (option_map to_all_of) u.broadcast ∙ sym u.spread;
     bup = ap is_some u.bup ∙ sym q.0;
@@ -265,7 +265,7 @@ module _ (w : World) (logs : LogsKept w) (n : ℕ) where
               (any own is p.answer, any own is p.failed)
 
   spreads_told : (number : ℕ) (x : Node) (datagram : List ℕ)
-      → IsReachTold w (entry n (events.Bcast number datagram) (broadcasts_by network w number x datagram))
+      → IsReachReported w (entry n (events.Bcast number datagram) (broadcasts_by network w number x datagram))
   spreads_told number x datagram =
       let a = (reaches x (beside_at w number) (Err broadcast_faults.Halted) (λ y. broadcast in_memory y datagram)).answer in
       let q = untold (broadcast_word a) (broadcast_quiet a) in
@@ -294,7 +294,7 @@ module _ (w : World) (logs : LogsKept w) (n : ℕ) where
   -- # Scans and beacons
 
   scans_told : (number : ℕ) (d : Discovering (Result (Unit {0}) ScanRefusal))
-      → IsReachTold w (entry n (events.Scan number) (has_discovered w number scan_word (scanning number) d))
+      → IsReachReported w (entry n (events.Scan number) (has_discovered w number scan_word (scanning number) d))
   scans_told number d = record {
     broadcast = sym (unsent_event (events.Scan number) (scan_word d.answer) refl);
     bup = none_up d.answer;
@@ -395,7 +395,7 @@ module _ (w : World) (logs : LogsKept w) (n : ℕ) where
       by_tests false false = loses_so number link beacon discovery_drops.NotScanning refl
 
   finds_told : (event : Event) (number : ℕ) (x : Node) (m : Memory) (octets : List ℕ) (link : ℕ) → Comes w event number octets → link_of event ≡ link
-      → IsReachTold w (entry n event (discovers_by w number x octets link (Some m)))
+      → IsReachReported w (entry n event (discovers_by w number x octets link (Some m)))
   finds_told event number x m octets link comes over =
       let h = finds_so number link x.role m.station (beside_at w number).scan (discovery_in octets) in
       record {
@@ -423,7 +423,7 @@ module _ (w : World) (logs : LogsKept w) (n : ℕ) where
     quiet : Quiet d.answer.answer
     quiet = hears_quiet network (after_accepting network x octets) got cost (note_by w octets got.path) w.clock
 
-    hears_told : IsReachTold w (entry n event r)
+    hears_told : IsReachReported w (entry n event r)
     hears_told = untold_told event r.0 r.1 (quietly event r.1 quiet (unsent_octets a.comes) refl refl refl refl)
 
     -- a command
@@ -524,7 +524,7 @@ module _ (w : World) (logs : LogsKept w) (n : ℕ) where
       ack_has b y (Ok (heard_of.Path walk)) is s = tt
       ack_has b y (Err reason) is s = tt
 
-      commands_told : IsReachTold w (entry n event (commanded network number d.node c r))
+      commands_told : IsReachReported w (entry n event (commanded network number d.node c r))
       commands_told =
           let b = beside_at r.0 number in
           let halted : Answer_of = Err (reach_drops.Known drops.Store) in
@@ -574,7 +574,7 @@ module _ (w : World) (logs : LogsKept w) (n : ℕ) where
 
       replied_told : (v : World) (t : Trace) → Quiet t.happened.answer → t.happened.bup ≡ None → t.happened.path ≡ None → t.further.broadcast ≡ None
           → t.further.noticed ≡ replied number (reply_among d.frames)
-          → IfSome (replied number (reply_among d.frames)) (HasFrame w (entry n event (v, t))) → IsReachTold w (entry n event (v, t))
+          → IfSome (replied number (reply_among d.frames)) (HasFrame w (entry n event (v, t))) → IsReachReported w (entry n event (v, t))
       replied_told v t quiet_is bup path cast noticed frame = record {
         broadcast = ap (option_map to_all_of) cast ∙ sym (unsent_event event t.happened.answer (unsent_octets a.comes));
         bup = ap is_some bup ∙ sym (untold t.happened.answer quiet_is).0;
@@ -599,17 +599,17 @@ module _ (w : World) (logs : LogsKept w) (n : ℕ) where
           no_beacon None = refl
           no_beacon (Some q) = refl
 
-      checked_told : IsReachTold w (entry n event (checked network w number got d r))
+      checked_told : IsReachReported w (entry n event (checked network w number got d r))
       unfolding told
       checked_told = by_due (due got.path (message_of got) d.answer.answer)
         where
-          sent_alone : IsReachTold w (entry n event with_it)
+          sent_alone : IsReachReported w (entry n event with_it)
           sent_alone = replied_told with_it.0 with_it.1 quiet refl refl refl refl
               (reply_flew (entry n event with_it) [] (ap (λ fs. w.flights ++ fs) (sym (append-nil (map flight_of d.frames)))))
 
           by_memory : (reply : Reply) (t : Bool) → let v : World = told network with_it.0 number (acknowledging d.node reply) in
               let q : World × Trace = if t then adds_frames v with_it.1 (acknowledging d.node reply) else sends_nothing w (v, with_it.1) in
-              IsReachTold w (entry n event q)
+              IsReachReported w (entry n event q)
           by_memory reply true =
               let k = acknowledging d.node reply in
               let q : World × Trace = adds_frames (told network with_it.0 number k) with_it.1 k in
@@ -619,7 +619,7 @@ module _ (w : World) (logs : LogsKept w) (n : ℕ) where
               let q : World × Trace = sends_nothing w (told network with_it.0 number (acknowledging d.node reply), with_it.1) in
               untold_told event q.0 q.1 (silent event q.1 refl refl refl refl refl refl)
 
-          by_due : (o : Option Reply) → IsReachTold w (entry n event (acknowledged_if network w number d.node o with_it))
+          by_due : (o : Option Reply) → IsReachReported w (entry n event (acknowledged_if network w number d.node o with_it))
           by_due None = sent_alone
           by_due (Some reply) = by_memory reply (is_some (acknowledging d.node reply).node.memory)
 
@@ -654,7 +654,7 @@ module _ (w : World) (logs : LogsKept w) (n : ℕ) where
 -- # Runs
 
 told_from : (w : World) → LogsKept w → (entries : List Entry) → AreEvents (events_of entries) → IsRun network w entries → All HoldsAfter entries
-    → AreReachTold w entries
+    → AreReachReported w entries
 told_from w logs [] says run holds = tt
 told_from w logs (x ∷ xs) says run holds =
     let event = All-head IsEvent x.event (events_of xs) says in
@@ -665,12 +665,12 @@ told_from w logs (x ∷ xs) says run holds =
     )
 
 -- so it is of every run of the network
-pub every_told : EveryEventIsTold
+pub every_told : EveryEventIsReported
 every_told entries r = told_from start tt entries r.events r.run (every_run_holds entries r)
 
 -- # The list of broadcasts
 
-list_from : (w : World) (entries : List Entry) → AreReachTold w entries → ListsBroadcasts entries
+list_from : (w : World) (entries : List Entry) → AreReachReported w entries → ListsBroadcasts entries
 list_from w [] told = refl
 list_from w (x ∷ xs) told = map-append to_all_of (one_of x.trace.further.broadcast) (broadcasts xs) ∙ (λ i. first i ++ list_from x.after xs told.1 i)
   where

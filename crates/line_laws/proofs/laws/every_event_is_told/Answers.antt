@@ -1,6 +1,0 @@
--- The law, by induction over runs.
-use Rattle.line_laws.proofs.ReachTold.{every_told}
-use Rattle.line_laws.proofs.laws.every_event_is_told.Goals as goal
-
-pub returns : goal.returns
-returns c = every_told
