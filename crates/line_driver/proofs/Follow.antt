@@ -12,13 +12,13 @@ use Rattle.plc_base.proofs.SinkLemmas.{wrote_nothing, wrote_both, spared}
 use Rattle.line_driver.specs.declared.input.LineKind.{LineKind}
 use Rattle.line_driver.specs.declared.input.LineKind.TheVariants as kinds
 use Rattle.line_driver.specs.declared.machine.Exit.TheVariants as exits
-use Rattle.line_driver.specs.declared.telling.StopReason.{StopReason}
-use Rattle.line_driver.specs.declared.telling.StopReason.TheVariants as reasons
+use Rattle.line_driver.specs.declared.text_output.StopReason.{StopReason}
+use Rattle.line_driver.specs.declared.text_output.StopReason.TheVariants as reasons
 use Rattle.line_driver.specs.declared.window.TheConstants.{WINDOW}
 use Rattle.line_driver.specs.Lines.{Content, TooMuch, Line, lines_from}
 use Rattle.line_driver.specs.Next.{content_found, MayFollow, Advances, NextLine}
 use Rattle.line_driver.specs.Outcomes.{Turn, Skips, Takes, Stops, Ended, Open, Outcome, outcome_turn, outcome_from, outcome, StopsShortOf}
-use Rattle.line_driver.specs.Clauses.{Told, ToldBy, turn_text, GoesOn, IsStop, Turned, TurnedBy, exit_of, Comes, Drives}
+use Rattle.line_driver.specs.Clauses.{IsWritten, IsWrittenBy, turn_text, GoesOn, IsStop, Turned, TurnedBy, exit_of, Comes, Drives}
 use Rattle.line_driver.proofs.Turns.{line_outcome, no_lines, no_lines_yet, goes_text, goes_ending, goes_no_stop, stops_text, stops_ending, turn_front, front_of_front, front_behind}
 
 pub next_at : {source0 source1 : SourceState} {seen0 count0 : ℕ} {window0 : List ℕ} {ended0 : Bool} {seen1 count1 : ℕ} {window1 : List ℕ} {ended1 : Bool} {line : List ℕ} {r : Option LineKind} → NextLine source0 source1 seen0 count0 window0 ended0 seen1 count1 window1 ended1 line (Ok r) → (q : Option LineKind) → r ≡ q → NextLine source0 source1 seen0 count0 window0 ended0 seen1 count1 window1 ended1 line (Ok q)
@@ -169,30 +169,30 @@ module _ {M : Type 0} (turn : M → ℕ → Content → Turn M) (end_text : M �
       front_at_end : (w : List ℕ) → IsPrefixOf w (end_text m0) → IsPrefixOf (s.w ++ w) ((outcome turn end_text first (s.b ++ n.octets) source2.ended).text)
       front_at_end w p = subst (λ b. IsPrefixOf (s.w ++ w) ((outcome turn end_text first (s.b ++ n.octets) b).text)) (sym (over n.found.0)) (front_behind s.w w _ _ p text_at_end)
 
-      comes_short : (sink2 : SinkState) (m1 : M) (q : StopReason) (w : List ℕ) → ToldBy w (end_text m0) sink1 sink2 (Err q) → Comes (outcome turn end_text first) m1 source0 source2 sink0 sink2 (s.b ++ n.octets) (s.w ++ w) (exit_of q)
+      comes_short : (sink2 : SinkState) (m1 : M) (q : StopReason) (w : List ℕ) → IsWrittenBy w (end_text m0) sink1 sink2 (Err q) → Comes (outcome turn end_text first) m1 source0 source2 sink0 sink2 (s.b ++ n.octets) (s.w ++ w) (exit_of q)
       comes_short sink2 m1 reasons.Memory w t = front_at_end w t
       comes_short sink2 m1 reasons.WriteFault w t = (rose_then s.sink.later t.0, front_at_end w t.1)
       comes_short sink2 m1 reasons.BadLine w t = absurd t
 
-      pub ends_fine : {sink2 : SinkState} {u : Unit {0}} → Told sink1 sink2 (end_text m0) (Ok u) → Drives (outcome turn end_text first) m0 source0 source2 sink0 sink2 exits.Fine
+      pub ends_fine : {sink2 : SinkState} {u : Unit {0}} → IsWritten sink1 sink2 (end_text m0) (Ok u) → Drives (outcome turn end_text first) m0 source0 source2 sink0 sink2 exits.Fine
       ends_fine {sink2} t = record {
         b = s.b ++ n.octets;
         w = s.w ++ t.w;
         gave = gave_all n;
         wrote = Appends-trans sink0.taken sink1.taken sink2.taken s.w t.w s.wrote t.wrote;
-        comes = (over n.found.0, ending_at_end, ap (λ (l : List ℕ). s.w ++ l) t.told ∙ sym text_at_end);
+        comes = (over n.found.0, ending_at_end, ap (λ (l : List ℕ). s.w ++ l) t.is_written ∙ sym text_at_end);
         source = both_reads s.source read;
         sink_later = omega (arith, s.sink.later, t.faults.later);
         sink_none = none_failed s.w _ _ s.sink t.faults (front_at_end _ (whole_of _));
       }
 
-      pub ends_short : {sink2 : SinkState} {m1 : M} (q : StopReason) → Told sink1 sink2 (end_text m0) (Err q) → Drives (outcome turn end_text first) m1 source0 source2 sink0 sink2 (exit_of q)
+      pub ends_short : {sink2 : SinkState} {m1 : M} (q : StopReason) → IsWritten sink1 sink2 (end_text m0) (Err q) → Drives (outcome turn end_text first) m1 source0 source2 sink0 sink2 (exit_of q)
       ends_short {sink2} {m1} q t = record {
         b = s.b ++ n.octets;
         w = s.w ++ t.w;
         gave = gave_all n;
         wrote = Appends-trans sink0.taken sink1.taken sink2.taken s.w t.w s.wrote t.wrote;
-        comes = comes_short sink2 m1 q t.w t.told;
+        comes = comes_short sink2 m1 q t.w t.is_written;
         source = both_reads s.source read;
         sink_later = omega (arith, s.sink.later, t.faults.later);
         sink_none = none_failed s.w _ _ s.sink t.faults (front_at_end _ (whole_of _));

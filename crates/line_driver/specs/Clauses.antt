@@ -4,23 +4,23 @@ use Rattle.std.specs.Io.KnownBytes.{Consumes, Appends}
 use Rattle.plc_base.specs.Streams.{SourceState, SinkState, SourceFaults, SinkFaults, SourceRose, SinkRose, PlansRoomFor, IsPrefixOf}
 use Rattle.line_driver.specs.declared.machine.Exit.{Exit}
 use Rattle.line_driver.specs.declared.machine.Exit.TheVariants as exits
-use Rattle.line_driver.specs.declared.telling.StopReason.{StopReason}
-use Rattle.line_driver.specs.declared.telling.StopReason.TheVariants as stops
+use Rattle.line_driver.specs.declared.text_output.StopReason.{StopReason}
+use Rattle.line_driver.specs.declared.text_output.StopReason.TheVariants as stops
 use Rattle.line_driver.specs.declared.window.TheConstants.{WINDOW}
 use Rattle.line_driver.specs.Outcomes.{Turn, Skips, Takes, Stops, Ended, Open, Outcome, StopsShortOf}
 
 -- w was written of a text: all of it, or a prefix where memory ran out or the sink failed
-abbrev pub ToldBy : List ℕ → List ℕ → SinkState → SinkState → Result (Unit {0}) StopReason → Type 0
-ToldBy w text old new (Ok _) = w ≡ text
-ToldBy w text old new (Err stops.Memory) = IsPrefixOf w text
-ToldBy w text old new (Err stops.WriteFault) = SinkRose old new × IsPrefixOf w text
-ToldBy w text old new (Err stops.BadLine) = ⊥
+abbrev pub IsWrittenBy : List ℕ → List ℕ → SinkState → SinkState → Result (Unit {0}) StopReason → Type 0
+IsWrittenBy w text old new (Ok _) = w ≡ text
+IsWrittenBy w text old new (Err stops.Memory) = IsPrefixOf w text
+IsWrittenBy w text old new (Err stops.WriteFault) = SinkRose old new × IsPrefixOf w text
+IsWrittenBy w text old new (Err stops.BadLine) = ⊥
 
 -- a text was written
-pub record Told (old new : SinkState) (text : List ℕ) (result : Result (Unit {0}) StopReason) : Type 0 where
+pub record IsWritten (old new : SinkState) (text : List ℕ) (result : Result (Unit {0}) StopReason) : Type 0 where
   pub w : List ℕ
   pub wrote : Appends old.taken new.taken w
-  pub told : ToldBy w text old new result
+  pub is_written : IsWrittenBy w text old new result
   pub faults : SinkFaults old new (length text)
 
 -- w was written of the report of a bad line: all of it, and the run stops there, or a prefix of it

@@ -10,11 +10,11 @@
 mod input;
 mod laws;
 mod machine;
-mod telling;
+mod text_output;
 mod window;
 
 pub use input::{LineKind, MAX_INPUT};
 pub use laws::lines_of_a_script;
 pub use machine::{Exit, LineMachine, run};
-pub use telling::{StopReason, stop, tell, tell_made};
+pub use text_output::{StopReason, stop, write_text, write_made};
 pub use window::{MAX_LINE, WINDOW};

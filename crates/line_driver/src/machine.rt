@@ -4,10 +4,10 @@ ghost use Rattle.std.specs.Io.KnownBytes.{IsAtEnd};
 ghost use Rattle.line_driver.specs.Lines.{Content, TooMuch};
 ghost use Rattle.line_driver.specs.Next.{content_found};
 ghost use Rattle.line_driver.specs.Outcomes.{Turn, outcome};
-ghost use Rattle.line_driver.specs.Clauses.{Told, Turned, IsStop, Drives};
+ghost use Rattle.line_driver.specs.Clauses.{IsWritten, Turned, IsStop, Drives};
 
 use crate::input::{Input, LineKind};
-use crate::telling::StopReason;
+use crate::text_output::StopReason;
 use crate::window::Window;
 use plc_base::{Failed, Sink, Source};
 use std::alloc::Global;
@@ -65,7 +65,7 @@ pub trait LineMachine {
 
     /// Writes the text at the end of input. `WriteFault` where the sink failed, `Memory` where memory ran out; never `BadLine`.
     fn finish<K: Sink>(&self, sink: &mut K) -> Result<(), StopReason>
-        ensures { Told (K.state sink.old) (K.state sink.new) (end_text self.now) result };
+        ensures { IsWritten (K.state sink.old) (K.state sink.new) (end_text self.now) result };
 
     /// The octet that is too much makes its line bad.
     ghost stops: { (m : Self) (number : ℕ) → IsStop (turn m number TooMuch) };

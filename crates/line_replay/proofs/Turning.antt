@@ -3,9 +3,9 @@ use Rattle.std.proofs.Common.{◌≡◌, ℕ, ◌+◌, ◌<◌, Bool, List, [], 
 use Rattle.std.specs.Prelude.{OnOk}
 use Rattle.std.proofs.lemmas.Bool.{lt-ltb}
 use Rattle.plc_base.specs.Streams.{SinkState}
-use Rattle.line_driver.specs.declared.telling.StopReason.{StopReason}
+use Rattle.line_driver.specs.declared.text_output.StopReason.{StopReason}
 use Rattle.line_driver.specs.Outcomes.{Turn, Takes}
-use Rattle.line_driver.specs.Clauses.{Told, Turned}
+use Rattle.line_driver.specs.Clauses.{IsWritten, Turned}
 use Rattle.line_driver.proofs.Turned.{taken}
 use Rattle.line_events.specs.declared.event.Event.{Event}
 use Rattle.line_events.specs.declared.happenings.Happenings.{Happenings}
@@ -29,7 +29,7 @@ turn_is quiet number w next e h room is =
 
 pub event_taken : {old new : SinkState} (quiet : Bool) (number count : ℕ) (w next : World) (e : Event) (h : Happenings) (r : Result (Unit {0}) StopReason)
     → count ≡ w.events → w.events < MAX_EVENTS → TakesStep h next (line_step network w e)
-    → Told old new (text_of quiet (count + 1) next e h) r
+    → IsWritten old new (text_of quiet (count + 1) next e h) r
     → Turned {M = Playing} old new (record { quiet = quiet; world = w }) (record { quiet = quiet; world = next }) (turn_by quiet number (event_taking w e)) r
 event_taken {old} {new} quiet number count w next e h r counts room is t =
     subst (λ (turn : Turn Playing). Turned {M = Playing} old new (record { quiet = quiet; world = w }) (record { quiet = quiet; world = next }) turn r)

@@ -99,23 +99,23 @@ pub record Replays (quiet : Bool) (source0 source1 : SourceState) (sink0 sink1 :
 
 -- Why a status comes where one text is written and nothing is read: all of it was written, and the status is the one for that;
 -- or the sink failed, and a prefix of it was written.
-abbrev pub TellsBy : List ℕ → Status → List ℕ → SinkState → SinkState → Status → Type 0
-TellsBy text done w sink0 sink1 status.Fine = (done ≡ status.Fine) × (w ≡ text)
-TellsBy text done w sink0 sink1 status.Usage = (done ≡ status.Usage) × (w ≡ text)
-TellsBy text done w sink0 sink1 status.WriteFault = SinkRose sink0 sink1 × IsPrefixOf w text
-TellsBy text done w sink0 sink1 status.BadScript = ⊥
-TellsBy text done w sink0 sink1 status.Forged = ⊥
-TellsBy text done w sink0 sink1 status.Memory = ⊥
-TellsBy text done w sink0 sink1 status.ReadFault = ⊥
+abbrev pub WritesTextBy : List ℕ → Status → List ℕ → SinkState → SinkState → Status → Type 0
+WritesTextBy text done w sink0 sink1 status.Fine = (done ≡ status.Fine) × (w ≡ text)
+WritesTextBy text done w sink0 sink1 status.Usage = (done ≡ status.Usage) × (w ≡ text)
+WritesTextBy text done w sink0 sink1 status.WriteFault = SinkRose sink0 sink1 × IsPrefixOf w text
+WritesTextBy text done w sink0 sink1 status.BadScript = ⊥
+WritesTextBy text done w sink0 sink1 status.Forged = ⊥
+WritesTextBy text done w sink0 sink1 status.Memory = ⊥
+WritesTextBy text done w sink0 sink1 status.ReadFault = ⊥
 
 -- What the writing of one text did.
-pub record Tells (text : List ℕ) (done : Status) (sink0 sink1 : SinkState) (result : Status) : Type 0 where
+pub record WritesText (text : List ℕ) (done : Status) (sink0 sink1 : SinkState) (result : Status) : Type 0 where
   pub w : List ℕ
   pub wrote : Appends sink0.taken sink1.taken w
-  pub by : TellsBy text done w sink0 sink1 result
+  pub by : WritesTextBy text done w sink0 sink1 result
   pub faults : SinkFaults sink0 sink1 (length text)
 
 -- One text was written, unless memory ran out while it was made: then nothing was written.
-abbrev pub TellsOrMemory : List ℕ → Status → SinkState → SinkState → Status → Type 0
-TellsOrMemory text done sink0 sink1 status.Memory = sink1 ≡ sink0
-TellsOrMemory text done sink0 sink1 result = Tells text done sink0 sink1 result
+abbrev pub WritesTextOrMemory : List ℕ → Status → SinkState → SinkState → Status → Type 0
+WritesTextOrMemory text done sink0 sink1 status.Memory = sink1 ≡ sink0
+WritesTextOrMemory text done sink0 sink1 result = WritesText text done sink0 sink1 result

@@ -8,7 +8,7 @@ ghost use Rattle.line_replay.specs.Texts.{sent_text};
 ghost use Rattle.line_replay.specs.Replay.{Playing, is_forged, event_taking, turn_by, turn_of, end_of, stops_at_too_much};
 
 use crate::report::{push_sent, refuse, totals};
-use line_driver::{LineKind, LineMachine, StopReason, tell, tell_made};
+use line_driver::{LineKind, LineMachine, StopReason, write_text, write_made};
 use line_events::{Event, Happenings, MAX_EVENTS, StepFault};
 use line_script::{LINE_OCTETS, Reading, Reason, end_text, push_happened, read_line};
 use line_world::{Space, World};
@@ -91,7 +91,7 @@ impl Player {
             event,
             &happened,
         );
-        tell_made(sink, made, self.text.as_str())
+        write_made(sink, made, self.text.as_str())
     }
 }
 
@@ -169,7 +169,7 @@ impl LineMachine for Replay {
     }
 
     fn finish<K: Sink>(&self, sink: &mut K) -> Result<(), StopReason> {
-        tell(
+        write_text(
             sink,
             end_text(self.player.alloc, totals(&self.player.world)),
         )

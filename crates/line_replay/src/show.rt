@@ -5,7 +5,7 @@ ghost use Rattle.line_replay.specs.Shown.{frame_text, shown_text, frames_text};
 ghost use Rattle.line_replay.specs.Shown.{show_turn, show_stops};
 
 use crate::report::refuse;
-use line_driver::{LineKind, LineMachine, StopReason, tell};
+use line_driver::{LineKind, LineMachine, StopReason, write_text};
 use line_script::{LINE_OCTETS, Reason, hex_octets, short_word};
 use mac_frames::{FrameFault, FrameFaultKind, MacHead, read_frame};
 use pan_discovery::{Discovery, read_discovery};
@@ -225,13 +225,13 @@ impl LineMachine for Show {
                         return Err(StopReason::Memory);
                     };
                     self.frames = frames;
-                    tell(sink, shown_text(self.alloc, number, octets.octets()))
+                    write_text(sink, shown_text(self.alloc, number, octets.octets()))
                 }
             },
         }
     }
 
     fn finish<K: Sink>(&self, sink: &mut K) -> Result<(), StopReason> {
-        tell(sink, frames_text(self.alloc, self.frames))
+        write_text(sink, frames_text(self.alloc, self.frames))
     }
 }

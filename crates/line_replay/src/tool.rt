@@ -2,7 +2,7 @@
 ghost use Rattle.std.specs.Prelude.{◌≡◌, ℕ, ◌≤◌, ◌⊎◌, Bool, true, Some, None};
 ghost use Rattle.std.specs.Io.KnownBytes.{IsAtEnd};
 ghost use Rattle.plc_base.specs.Streams.{SourceFaults, SourceRose, SinkRose};
-ghost use Rattle.line_replay.specs.Tool.{Replays, Shows, Tells, TellsOrMemory, command_of, drill_of, status_of, is_whole};
+ghost use Rattle.line_replay.specs.Tool.{Replays, Shows, WritesText, WritesTextOrMemory, command_of, drill_of, status_of, is_whole};
 ghost use Rattle.line_replay.specs.Drills.{drill_text};
 ghost use Rattle.line_replay.specs.Texts.{usage_text};
 ghost use Rattle.standard_vectors.specs.VectorsText.{vectors_text};
@@ -63,9 +63,9 @@ fn show<S: Source, K: Sink>(alloc: Global, source: &mut S, sink: &mut K) -> Stat
 }
 
 /// Writes a text, and answers `done` where all of it was written.
-fn tell<K: Sink>(sink: &mut K, text: &[u8], done: Status) -> Status
+fn write_whole<K: Sink>(sink: &mut K, text: &[u8], done: Status) -> Status
     requires { (done ≡ Status.Fine) ⊎ (done ≡ Status.Usage) }
-    ensures { Tells text.now done (K.state sink.old) (K.state sink.new) result }
+    ensures { WritesText text.now done (K.state sink.old) (K.state sink.new) result }
 {
     match write_all(sink, text) {
         Ok(()) => done,
@@ -121,13 +121,13 @@ fn drill_of(number: &str) -> Option<Command>
 
 /// Runs a drill of so many meters, and writes its text.
 fn run_drill<K: Sink>(alloc: Global, meters: u8, sink: &mut K) -> Status
-    ensures drill { TellsOrMemory (drill_text meters) Status.Fine (K.state sink.old) (K.state sink.new) result }
+    ensures drill { WritesTextOrMemory (drill_text meters) Status.Fine (K.state sink.old) (K.state sink.new) result }
     ensures write { result ≡ Status.WriteFault → SinkRose (K.state sink.old) (K.state sink.new) }
     ensures sink { (K.state sink.old).faults ≤ (K.state sink.new).faults }
     ensures read { (result ≡ Status.ReadFault) → ⊥ }
 {
     match drill_text(alloc, meters) {
-        Ok(text) => tell(sink, text.as_bytes(), Status::Fine),
+        Ok(text) => write_whole(sink, text.as_bytes(), Status::Fine),
         Err(AllocError) => Status::Memory,
     }
 }
@@ -167,13 +167,13 @@ pub fn run_tool<S: Source, K: Sink>(
         → is_whole result ≡ true → IsAtEnd ((S.state source.new).left) }
     // The vectors are those of the definitions, and nothing is read for them.
     ensures vectors { command_of words.now ≡ Some Command.Vectors
-        → (source.new ≡ source.old) × Tells vectors_text Status.Fine (K.state sink.old) (K.state sink.new) result }
+        → (source.new ≡ source.old) × WritesText vectors_text Status.Fine (K.state sink.old) (K.state sink.new) result }
     // A drill is the one of its number, and nothing is read for it.
     ensures drill { (meters : ℕ) → command_of words.now ≡ Some (Command.Drill meters) → (source.new ≡ source.old)
-        × TellsOrMemory (drill_text meters) Status.Fine (K.state sink.old) (K.state sink.new) result }
+        × WritesTextOrMemory (drill_text meters) Status.Fine (K.state sink.old) (K.state sink.new) result }
     // Other words write the usage line, and nothing is read.
     ensures usage { command_of words.now ≡ None
-        → (source.new ≡ source.old) × Tells usage_text Status.Usage (K.state sink.old) (K.state sink.new) result }
+        → (source.new ≡ source.old) × WritesText usage_text Status.Usage (K.state sink.old) (K.state sink.new) result }
     // A fault has its cause outside.
     ensures read { result ≡ Status.ReadFault → SourceRose (S.state source.old) (S.state source.new) }
     ensures write { result ≡ Status.WriteFault → SinkRose (K.state sink.old) (K.state sink.new) }
@@ -184,7 +184,7 @@ pub fn run_tool<S: Source, K: Sink>(
         Some(Command::Replay { quiet }) => replay(alloc, quiet, source, sink),
         Some(Command::Show) => show(alloc, source, sink),
         Some(Command::Drill { meters }) => run_drill(alloc, meters, sink),
-        Some(Command::Vectors) => tell(sink, vectors_text().octets(), Status::Fine),
-        None => tell(sink, USAGE, Status::Usage),
+        Some(Command::Vectors) => write_whole(sink, vectors_text().octets(), Status::Fine),
+        None => write_whole(sink, USAGE, Status::Usage),
     }
 }

@@ -1,6 +1,6 @@
 //! Texts that a machine writes.
 ghost use Rattle.std.specs.Prelude.{◌≡◌, IfOk, OnOk, IsErr, string_bytes, List, ℕ};
-ghost use Rattle.line_driver.specs.Clauses.{Told, StopsWith};
+ghost use Rattle.line_driver.specs.Clauses.{IsWritten, StopsWith};
 
 use plc_base::{Sink, write_all};
 use std::alloc::AllocError;
@@ -17,25 +17,25 @@ pub enum StopReason {
 }
 
 /// Writes a text, if there was memory for it. Never `BadLine`.
-pub fn tell<K: Sink>(sink: &mut K, text: Result<String, AllocError>) -> Result<(), StopReason>
-    ensures told { (t : List ℕ) → IfOk text (λ s. string_bytes s ≡ t)
-        → Told (K.state sink.old) (K.state sink.new) t result }
+pub fn write_text<K: Sink>(sink: &mut K, text: Result<String, AllocError>) -> Result<(), StopReason>
+    ensures is_written { (t : List ℕ) → IfOk text (λ s. string_bytes s ≡ t)
+        → IsWritten (K.state sink.old) (K.state sink.new) t result }
     ensures memory { result ≡ Err StopReason.Memory → IsErr text }
 {
     match text {
         Err(_) => Err(StopReason::Memory),
-        Ok(text) => tell_made(sink, Ok(()), text.as_str()),
+        Ok(text) => write_made(sink, Ok(()), text.as_str()),
     }
 }
 
 /// Writes a text that is in a buffer, if there was memory to make it. Never `BadLine`.
-pub fn tell_made<K: Sink>(
+pub fn write_made<K: Sink>(
     sink: &mut K,
     made: Result<(), AllocError>,
     text: &str,
 ) -> Result<(), StopReason>
-    ensures told { (t : List ℕ) → OnOk made (text.now ≡ t)
-        → Told (K.state sink.old) (K.state sink.new) t result }
+    ensures is_written { (t : List ℕ) → OnOk made (text.now ≡ t)
+        → IsWritten (K.state sink.old) (K.state sink.new) t result }
     ensures memory { result ≡ Err StopReason.Memory → IsErr made }
 {
     match made {
@@ -53,7 +53,7 @@ pub fn stop<K: Sink>(sink: &mut K, text: Result<String, AllocError>) -> Result<(
         → StopsWith (K.state sink.old) (K.state sink.new) t result }
     ensures memory { result ≡ Err StopReason.Memory → IsErr text }
 {
-    match tell(sink, text) {
+    match write_text(sink, text) {
         Ok(()) => Err(StopReason::BadLine),
         Err(reason) => Err(reason),
     }
