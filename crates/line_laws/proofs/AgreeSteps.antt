@@ -39,7 +39,7 @@ use Rattle.node_rules.specs.Coordinators as coordinator_rules
 use Rattle.line_rules.specs.Answers.{Reception, meter_reception, coordinator_reception, random_word, join_word, leave_word, sent_word, ordered_word, frame_word}
 use Rattle.line_events.specs.Events.{IsEvent}
 use Rattle.line_rules.specs.Worlds.{World, Trace, node_at, flight_at, is_forged_tag}
-use Rattle.line_rules.specs.Steps.{Step, set_up, ran, told, acted, once_begun, in_setup, has_begun, takes_setup, on_node, on_meter, made_node, blank_node}
+use Rattle.line_rules.specs.Steps.{Step, set_up, ran, world_after, acted, once_begun, in_setup, has_begun, takes_setup, on_node, on_meter, made_node, blank_node}
 use Rattle.line_rules.specs.Steps.{identity, hears, restarts, ticked, rand, join, joins_by, leave, send, sends_by, sent_if, breaks, breaks_by, lose, tick}
 use Rattle.line_rules.specs.Steps.{restart, cut, show, psk_of, trace_of, happened, coordinator, coordinator_node, meter, is_known, depot, depot_by, provisioned}
 use Rattle.line_rules.specs.Steps.{near, near_by, keeps_rank, ranks_full, offered_near, preset, allow, allowed, deliver, inject, arrives, accepted_by, received}
@@ -157,14 +157,14 @@ set_lasts nodes number x y there eui n z is = ⊎_elim
 module _ {A : Type 0} (ciphers : Ciphers) (w : World) (number : ℕ) (x : Node) (d : NodeStep A) (there : node_at w number ≡ Some x)
     (eui : d.node.eui ≡ x.eui) where
   pub told_confirmed : (taken more : List Pairing) → Confirmed w taken → Each (TagTaken (slice_set w.nodes number d.node) (taken ++ more)) d.made
-      → Confirmed (told ciphers w number d) (taken ++ more)
-  unfolding told
+      → Confirmed (world_after ciphers w number d) (taken ++ more)
+  unfolding world_after
   told_confirmed taken more c new = each_append (TagTaken (slice_set w.nodes number d.node) (taken ++ more)) w.made d.made
       (each_weaker (TagTaken w.nodes taken) (TagTaken (slice_set w.nodes number d.node) (taken ++ more))
       (tag_on w.nodes (slice_set w.nodes number d.node) taken more (set_lasts w.nodes number x d.node there eui)) w.made c) new
 
-  pub told_nothing : (taken : List Pairing) → Confirmed w taken → d.made ≡ [] → Confirmed (told ciphers w number d) taken
-  told_nothing taken c none = subst (Confirmed (told ciphers w number d)) (append-nil taken) (told_confirmed taken [] c (subst (Each _) (sym none) tt))
+  pub told_nothing : (taken : List Pairing) → Confirmed w taken → d.made ≡ [] → Confirmed (world_after ciphers w number d) taken
+  told_nothing taken c none = subst (Confirmed (world_after ciphers w number d)) (append-nil taken) (told_confirmed taken [] c (subst (Each _) (sym none) tt))
 
 -- a node that carries out a plan keeps its EUI, and makes what the plan makes or nothing
 pub acts_eui : {A : Type 0} (x : Node) (halted : A) (plan : Memory → Plan Memory A) → (acts x halted plan).node.eui ≡ x.eui
@@ -277,12 +277,12 @@ module _ (ciphers : Ciphers) (fits : KeepsRanges ciphers) (w : World) (ok : Worl
   -- what a node did without a tag
   plain_told : {A B : Type 0} (v : World) → Confirmed v taken → (number : ℕ) (x : Node) → node_at v number ≡ Some x
       → (reads : A → B) (halted : A) (plan : Memory → Plan Memory A) → ((m : Memory) → x.memory ≡ Some m → (plan m).made ≡ [])
-      → Confirmed (told ciphers v number (answering reads (acts x halted plan))) taken
+      → Confirmed (world_after ciphers v number (answering reads (acts x halted plan))) taken
   plain_told v cv number x there reads halted plan none =
       told_nothing ciphers v number x (answering reads (acts x halted plan)) there (acts_eui x halted plan) taken cv (acts_nothing x halted plan none)
 
   plain_acts : {A : Type 0} (v : World) → Confirmed v taken → (number : ℕ) (x : Node) → node_at v number ≡ Some x → (halted : A) (plan : Memory → Plan Memory A)
-      → ((m : Memory) → x.memory ≡ Some m → (plan m).made ≡ []) → Confirmed (told ciphers v number (acts x halted plan)) taken
+      → ((m : Memory) → x.memory ≡ Some m → (plan m).made ≡ []) → Confirmed (world_after ciphers v number (acts x halted plan)) taken
   plain_acts v cv number x there halted plan none =
       told_nothing ciphers v number x (acts x halted plan) there (acts_eui x halted plan) taken cv (acts_nothing x halted plan none)
 
@@ -412,7 +412,7 @@ module _ (ciphers : Ciphers) (fits : KeepsRanges ciphers) (w : World) (ok : Worl
   -- # Setup
 
   offered_agrees : (v : World) → Confirmed v taken → (number : ℕ) (x : Node) → node_at v number ≡ Some x → NodeOk x → (to cost : ℕ) → to < 0xFFFE → cost ≤ 255
-      → Confirmed (told ciphers v number (offered_near x to cost w.clock)) taken
+      → Confirmed (world_after ciphers v number (offered_near x to cost w.clock)) taken
   offered_agrees v cv number x there good to cost short low = plain_told v cv number x there (λ _. tt) (Ok tt)
       (λ m. of_station m (calls.preset_near m.station to cost w.clock))
       (λ m here. (near_quietly m (sized_of x m good here) to cost w.clock short (omega arith)).made)
@@ -441,7 +441,7 @@ module _ (ciphers : Ciphers) (fits : KeepsRanges ciphers) (w : World) (ok : Worl
       branch ((a == b) || (keeps_rank x q || (ranks_full x || ranks_full y))) _ _ (λ _. Refused faults.Setup) (λ may.
       let far : b ≢ a = λ same. eqb-false _ _ (or_parts _ _ may).0 (sym same) in
       let first = offered_agrees (set_up w) c a x hx (node_ok a x hx) q cost (address_low ciphers fits w ok flown given k y q (node_ok b y hy) eq) low in
-      quiet _ refl refl (offered_agrees (told ciphers (set_up w) a (offered_near x q cost w.clock)) first b y
+      quiet _ refl refl (offered_agrees (world_after ciphers (set_up w) a (offered_near x q cost w.clock)) first b y
       (other_there ciphers fits w ok flown given k a b (offered_near x q cost w.clock) y far hy) (node_ok b y hy) p cost
       (address_low ciphers fits w ok flown given k x p (node_ok a x hx) ep) low))
 
@@ -462,10 +462,10 @@ module _ (ciphers : Ciphers) (fits : KeepsRanges ciphers) (w : World) (ok : Worl
       by_answer (Err reason) e = rw e (Refused faults.Setup)
       by_answer (Ok g) e =
           let d : NodeStep (Result Granted CoordinatorRefusal) = record (acts y (Err orders.Halted) plan) { answer = Ok g } in
-          let first : Confirmed (told ciphers (set_up w) 0 d) taken = told_nothing ciphers (set_up w) 0 y d hy (acts_eui y (Err orders.Halted) plan) taken c
+          let first : Confirmed (world_after ciphers (set_up w) 0 d) taken = told_nothing ciphers (set_up w) 0 y d hy (acts_eui y (Err orders.Halted) plan) taken c
           (acts_nothing y (Err orders.Halted) plan (λ m here. (depot_untagged m x.eui psk).0)) in
-          rw e (quiet (provisioned ciphers (told ciphers (set_up w) 0 d) number x g) refl refl
-          (plain_acts (told ciphers (set_up w) 0 d) first number x (other_there ciphers fits w ok flown given k 0 number d x ne hx) (Ok tt)
+          rw e (quiet (provisioned ciphers (world_after ciphers (set_up w) 0 d) number x g) refl refl
+          (plain_acts (world_after ciphers (set_up w) 0 d) first number x (other_there ciphers fits w ok flown given k 0 number d x ne hx) (Ok tt)
           (λ m. meters.provision m g) (λ m here. (installs_rest m g).1)))
 
   depot_agrees : (number : ℕ) → Good (depot ciphers w number)
@@ -483,7 +483,7 @@ module _ (ciphers : Ciphers) (fits : KeepsRanges ciphers) (w : World) (ok : Worl
   meter_told : (number : ℕ) (x y : Node) (psk : Key) → y.role ≡ Meter psk → (got : Accepted) (cost note now : ℕ) → node_at w number ≡ Some x → NodeOk y
       → y.eui ≡ x.eui → IfSome y.memory (λ m. PeerIs y.eui m.session) → RoutesFit got
       → let d : NodeStep (Result MeterHeard Dropped) = acts y (Err drops.Store) (λ m. meters.hear_meter (identity ciphers y psk) m got cost note now) in
-      Confirmed (told ciphers (ran w) number d) (taken ++ one_of (paired number (meter_reception d.answer).took))
+      Confirmed (world_after ciphers (ran w) number d) (taken ++ one_of (paired number (meter_reception d.answer).took))
   meter_told number x y psk role got cost note now there good eui peer routes =
       let plan : Memory → Plan Memory (Result MeterHeard Dropped) = λ m. meters.hear_meter (identity ciphers y psk) m got cost note now in
       let d = acts y (Err drops.Store) plan in
@@ -585,12 +585,12 @@ module _ (ciphers : Ciphers) (fits : KeepsRanges ciphers) (w : World) (ok : Worl
 
   Agreeing : (number : ℕ) → NodeStep Reception → Type 0
   Agreeing number d =
-      Confirmed (told ciphers (ran w) number d) (taken ++ one_of (paired number d.answer.took)) × IfSome (done_by w d.answer.done) (λ p. Among p taken)
+      Confirmed (world_after ciphers (ran w) number d) (taken ++ one_of (paired number d.answer.took)) × IfSome (done_by w d.answer.done) (λ p. Among p taken)
 
   hears_agree : (number : ℕ) (x y : Node) (got : Accepted) (cost note now : ℕ) → node_at w number ≡ Some x → NodeOk y → y.eui ≡ x.eui → y.role ≡ x.role
       → (number ≢ 0 → IfSome y.memory (λ m. PeerIs y.eui m.session)) → RoutesFit got
       → list_any (is_forged_tag w.made) (hears ciphers y got cost note now).opened ≡ false → Agreeing number (hears ciphers y got cost note now)
-  unfolding Agreeing told
+  unfolding Agreeing world_after
   hears_agree number x y got cost note now there good eui role peer routes = by_role y.role refl
     where
       hears_as : Role → NodeStep Reception
@@ -637,7 +637,7 @@ module _ (ciphers : Ciphers) (fits : KeepsRanges ciphers) (w : World) (ok : Worl
           (λ a t. TagTaken (slice_set w.nodes number d.node) (taken ++ []) t) y (Err drops.Store) plan
           (λ m here. each_weaker (CoordinatorTag m (coordinator_reception (plan m).answer).keyed) (TagTaken (slice_set w.nodes number d.node) (taken ++ []))
           (coordinator_taken m _ _ _) (plan m).made (says m).made) in (
-            subst (λ o. Confirmed (told ciphers (ran w) number d) (taken ++ one_of (paired number o))) (sym (took_none d.answer))
+            subst (λ o. Confirmed (world_after ciphers (ran w) number d) (taken ++ one_of (paired number o))) (sym (took_none d.answer))
                 (told_confirmed ciphers (ran w) number x d there (acts_eui y (Err drops.Store) plan ∙ eui) taken [] c made),
             was_among (coordinator_reception d.answer).done d.opened (acts_done y plan
                 (λ m. planned_failed (plan m) (coordinator_hears own m (heard_given got cost note now) got refl)) (λ m. (says m).right))
@@ -652,7 +652,7 @@ module _ (ciphers : Ciphers) (fits : KeepsRanges ciphers) (w : World) (ok : Worl
 
   arrives_agrees : (number : ℕ) (x : Node) (octets : List ℕ) (cost : ℕ) → node_at w number ≡ Some x → AreOctets octets
       → Good (Ok (arrives ciphers w number x octets cost))
-  unfolding arrives Agreeing told
+  unfolding arrives Agreeing world_after
   arrives_agrees number x octets cost there are = by_answer (acts x (Err frames.Halted) plan).answer refl
     where
       plan : Memory → Plan Memory (Result Accepted FrameRefusal)
@@ -672,7 +672,7 @@ module _ (ciphers : Ciphers) (fits : KeepsRanges ciphers) (w : World) (ok : Worl
           → Good (Ok (accepted_by ciphers w number octets cost (acts x (Err frames.Halted) plan)))
       by_answer (Err reason) e =
           let d : NodeStep (Result Accepted FrameRefusal) = record (acts x (Err frames.Halted) plan) { answer = Err reason } in
-          rw e (quiet (told ciphers (ran w) number d, trace_of (happened w (frame_word reason))) refl refl
+          rw e (quiet (world_after ciphers (ran w) number d, trace_of (happened w (frame_word reason))) refl refl
           (told_nothing ciphers (ran w) number x d there (acts_eui x (Err frames.Halted) plan) taken c
           (acts_nothing x (Err frames.Halted) plan (λ m here. (accept_quietly ciphers fits octets are m x.eui).made))))
       by_answer (Ok got) e =

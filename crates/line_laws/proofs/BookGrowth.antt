@@ -36,7 +36,7 @@ use Rattle.line_rules.specs.Answers.{coordinator_reception, meter_reception, Rec
 use Rattle.line_events.specs.Events.{IsEvent}
 use Rattle.line_rules.specs.Forgery.{Comes, accepting}
 use Rattle.line_rules.specs.Worlds.{World, Issued, node_at}
-use Rattle.line_rules.specs.Steps.{Step, set_up, ran, told, acted, sending, sent_if, is_taken, tag_of, hears, offered_near, heard, note_by, identity, issued_of}
+use Rattle.line_rules.specs.Steps.{Step, set_up, ran, world_after, acted, sending, sent_if, is_taken, tag_of, hears, offered_near, heard, note_by, identity, issued_of}
 use Rattle.line_rules.specs.Steps.{psk_of, restarts, ticked}
 use Rattle.line_laws.specs.Stores.{IsReadable, IsBookKept}
 use Rattle.line_laws.specs.Sizes.{IsMemorySized}
@@ -235,8 +235,8 @@ module _ (ciphers : Ciphers) (fits : KeepsRanges ciphers) (w : World) (ok : Worl
           (λ (ne : n ≢ number). g.euis n y lt (other_is n y ne is))
           (cases_eq n number)
 
-  told_nodes : {A : Type 0} (u : World) (number : ℕ) (d : NodeStep A) → (told ciphers u number d).nodes ≡ slice_set u.nodes number d.node
-  unfolding told
+  told_nodes : {A : Type 0} (u : World) (number : ℕ) (d : NodeStep A) → (world_after ciphers u number d).nodes ≡ slice_set u.nodes number d.node
+  unfolding world_after
   told_nodes u number d = refl
 
   abbrev pub GoesBy : Step → Type 0
@@ -245,17 +245,17 @@ module _ (ciphers : Ciphers) (fits : KeepsRanges ciphers) (w : World) (ok : Worl
 
   -- a call of one node
   called : (u v : World) (number : ℕ) (x : Node) (A B : Type 0) (reads : A → B) (halted : A) (plan : Memory → Plan Memory A) → u.nodes ≡ w.nodes
-      → v.nodes ≡ (told ciphers u number (answering reads (acts x halted plan))).nodes → node_at w number ≡ Some x → IsCall ciphers w number x A halted plan
+      → v.nodes ≡ (world_after ciphers u number (answering reads (acts x halted plan))).nodes → node_at w number ≡ Some x → IsCall ciphers w number x A halted plan
       → Goes v
   called u v number x A B reads halted plan e f there call =
       told_goes u v number x (answering reads (acts x halted plan)) (same_goes w u e self_goes) (f ∙ told_nodes u number (answering reads (acts x halted plan)))
       (ap (λ ns. slice_get ns number) e ∙ there) (acts_eui x halted plan) (call_grows number x A halted plan there call)
 
   sent_nodes : (from to : ℕ) (datagram : List ℕ) (tag : ℕ) (d : NodeStep Answer)
-      → (sending ciphers w from to datagram tag d).0.nodes ≡ (told ciphers (ran w) from d).nodes
+      → (sending ciphers w from to datagram tag d).0.nodes ≡ (world_after ciphers (ran w) from d).nodes
   sent_nodes from to datagram tag d = by_taken (is_taken d.answer)
     where
-      by_taken : (b : Bool) → (sent_if w from to datagram tag b (acted ciphers w from d)).0.nodes ≡ (told ciphers (ran w) from d).nodes
+      by_taken : (b : Bool) → (sent_if w from to datagram tag b (acted ciphers w from d)).0.nodes ≡ (world_after ciphers (ran w) from d).nodes
       by_taken true = refl
       by_taken false = refl
 
@@ -301,10 +301,10 @@ module _ (ciphers : Ciphers) (fits : KeepsRanges ciphers) (w : World) (ok : Worl
       λ some. called (set_up w) _ number x _ _ (λ a. a) (Ok tt) _ refl refl there (preset_call ciphers w number x plan open_is is)
   goes event s (SetsTwo e quiet a b cost x y p q hx hy apart open_is first second fresh near) = λ some.
       let d = offered_near x q cost w.clock in
-      let one = told_goes (set_up w) (told ciphers (set_up w) a d) a x d (same_goes w (set_up w) refl self_goes) (told_nodes (set_up w) a d) hx
+      let one = told_goes (set_up w) (world_after ciphers (set_up w) a d) a x d (same_goes w (set_up w) refl self_goes) (told_nodes (set_up w) a d) hx
       (acts_eui x (Ok tt) _) (call_grows a x _ (Ok tt) _ hx first) in
-      told_goes (told ciphers (set_up w) a d) _ b y (offered_near y p cost w.clock) one
-      (told_nodes (told ciphers (set_up w) a d) b (offered_near y p cost w.clock))
+      told_goes (world_after ciphers (set_up w) a d) _ b y (offered_near y p cost w.clock) one
+      (told_nodes (world_after ciphers (set_up w) a d) b (offered_near y p cost w.clock))
       (ap (λ ns. slice_get ns b) (told_nodes (set_up w) a d) ∙ slice_get-set_other w.nodes a b d.node apart ∙ hy) (acts_eui y (Ok tt) _)
       (call_grows b y _ (Ok tt) _ hy second)
   goes event s (Provides number x c psk g d ne open_is hx hc pair same is) = λ some.
@@ -312,10 +312,10 @@ module _ (ciphers : Ciphers) (fits : KeepsRanges ciphers) (w : World) (ok : Worl
       (record { other = ne; there = hx }) pair in
       let eui : d.node.eui ≡ c.eui = ap (λ (z : NodeStep _). z.node.eui) same ∙ acts_eui c (Err orders.Halted) _ in
       let grown : BookGrows d.node = subst (λ (z : NodeStep _). BookGrows z.node) (sym same) (call_grows 0 c _ (Err orders.Halted) _ hc kind refl) in
-      let one = told_goes (set_up w) (told ciphers (set_up w) 0 d) 0 c d (same_goes w (set_up w) refl self_goes) (told_nodes (set_up w) 0 d) hc eui
+      let one = told_goes (set_up w) (world_after ciphers (set_up w) 0 d) 0 c d (same_goes w (set_up w) refl self_goes) (told_nodes (set_up w) 0 d) hc eui
       (λ e. grown) in
-      told_goes (told ciphers (set_up w) 0 d) _ number x (acts x (Ok tt) (λ m. meters.provision m g)) one
-      (told_nodes (told ciphers (set_up w) 0 d) number (acts x (Ok tt) (λ m. meters.provision m g)))
+      told_goes (world_after ciphers (set_up w) 0 d) _ number x (acts x (Ok tt) (λ m. meters.provision m g)) one
+      (told_nodes (world_after ciphers (set_up w) 0 d) number (acts x (Ok tt) (λ m. meters.provision m g)))
       (ap (λ ns. slice_get ns number) (told_nodes (set_up w) 0 d) ∙ slice_get-set_other w.nodes 0 number d.node ne ∙ hx) (acts_eui x (Ok tt) _)
       (λ first. absurd (ne first))
   goes event s (TurnsDown e number x octets reason d there says comes same is) = λ some.

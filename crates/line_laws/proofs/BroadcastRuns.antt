@@ -73,7 +73,7 @@ use Rattle.line_rules.specs.Further.{discovery_flights, due, has_discovered, lin
 use Rattle.line_rules.specs.FurtherRuns.{AreBroadcastOnce, AreBroadcastOnceAfter, IsFirst, WasBroadcast, broadcast_ups, broadcasts}
 use Rattle.line_rules.specs.Logs.{LogIn, LogsKept}
 use Rattle.line_rules.specs.Runs.{Entry, IsRun, events_of, one_of}
-use Rattle.line_rules.specs.Steps.{Step, acted, forged_by, heard, identity, is_taken, note_by, ran, restarts, sent_if, tag_of, told}
+use Rattle.line_rules.specs.Steps.{Step, acted, forged_by, heard, identity, is_taken, note_by, ran, restarts, sent_if, tag_of, world_after}
 use Rattle.line_rules.specs.Worlds.{Broadcasting, Flight, Noticed, Trace, World, node_at, start}
 use Rattle.line_laws.specs.FurtherLines.{HoldsAfter}
 use Rattle.line_laws.specs.Lines.{NodeOk, WorldOk}
@@ -530,7 +530,7 @@ module _ (w : World) (ok : WorldOk w) (s : WorldSpeaks w) (logs : LogsKept w) (r
 
     commanded_casts : (c : NeighbourCommand) → command_of got ≡ Some c → h.1.happened.forged ≡ false
         → let q : World × Trace = commanded network number left c h in CastsOn sent ups home q.0 q.1
-    unfolding told
+    unfolding world_after
     commanded_casts c e honest = record { up = fits d.answer by.0; from = tt; flights = flown }
       where
         unforged : forged_by w octets got.path ≡ false
@@ -579,8 +579,8 @@ module _ (w : World) (ok : WorldOk w) (s : WorldSpeaks w) (logs : LogsKept w) (r
         fits (Ok (heard_of.Path walk)) f = tt
         fits (Err reason) f = tt
 
-        flown : All (FlightSays (UnitSent (sent ++ []))) (told network h.0 number d).flights
-        flown = wider sent [] (told network h.0 number d).flights (told_says P h.0 number d
+        flown : All (FlightSays (UnitSent (sent ++ []))) (world_after network h.0 number d).flights
+        flown = wider sent [] (world_after network h.0 number d).flights (told_says P h.0 number d
             (r.sends.commands event number x octets got cost c (is_heard unforged) e) by.1 (heard_flights unforged))
 
     abbrev noted : World × Trace
@@ -588,15 +588,15 @@ module _ (w : World) (ok : WorldOk w) (s : WorldSpeaks w) (logs : LogsKept w) (r
 
     checked_casts : h.1.happened.forged ≡ false → let q : World × Trace = checked network w number got (heard_node network w x octets got cost) h in CastsOn
         sent ups home q.0 q.1
-    unfolding told
+    unfolding world_after
     checked_casts honest = by_due (due got.path (message_of got) (heard_node network w x octets got cost).answer.answer) refl
       where
         unforged : forged_by w octets got.path ≡ false
         unforged = (or_parts _ _ honest).0
 
         by_memory : (reply : Reply) → due got.path (message_of got) (heard_node network w x octets got cost).answer.answer ≡ Some reply → (t : Bool)
-            → let q : World × Trace = (if t then adds_frames (told network noted.0 number (acknowledging left reply)) noted.1 (acknowledging left reply) else
-            sends_nothing w (told network noted.0 number (acknowledging left reply), noted.1)) in CastsOn sent ups home q.0 q.1
+            → let q : World × Trace = (if t then adds_frames (world_after network noted.0 number (acknowledging left reply)) noted.1 (acknowledging left reply) else
+            sends_nothing w (world_after network noted.0 number (acknowledging left reply), noted.1)) in CastsOn sent ups home q.0 q.1
         by_memory reply e true = silent _ _ (record { bup = refl; broadcast = refl })
             (told_says P noted.0 number (acknowledging left reply) (r.sends.acknowledges event number x octets got cost reply (is_heard unforged) e)
             (ack_casts_at left reply) (heard_flights unforged))
@@ -611,8 +611,8 @@ module _ (w : World) (ok : WorldOk w) (s : WorldSpeaks w) (logs : LogsKept w) (r
     checked_honest : (checked network w number got (heard_node network w x octets got cost) h).1.happened.forged ≡ false → h.1.happened.forged ≡ false
     checked_honest = by_due (due got.path (message_of got) (heard_node network w x octets got cost).answer.answer)
       where
-        by_memory : (reply : Reply) (t : Bool) → (if t then adds_frames (told network noted.0 number (acknowledging left reply)) noted.1
-            (acknowledging left reply) else sends_nothing w (told network noted.0 number (acknowledging left reply), noted.1)).1.happened.forged ≡ false
+        by_memory : (reply : Reply) (t : Bool) → (if t then adds_frames (world_after network noted.0 number (acknowledging left reply)) noted.1
+            (acknowledging left reply) else sends_nothing w (world_after network noted.0 number (acknowledging left reply), noted.1)).1.happened.forged ≡ false
             → h.1.happened.forged ≡ false
         by_memory reply true e = e
         by_memory reply false e = e

@@ -53,7 +53,7 @@ use Rattle.line_rules.specs.Further.{sends_nothing, unbelieved, with_beside, wit
 use Rattle.line_rules.specs.FurtherRuns.{AreOfHistoryAfter, IsOfHistory, check_history}
 use Rattle.line_rules.specs.Logs.{LogsKept}
 use Rattle.line_rules.specs.Runs.{Entry, IsRun, events_of}
-use Rattle.line_rules.specs.Steps.{Step, heard, identity, note_by, told}
+use Rattle.line_rules.specs.Steps.{Step, heard, identity, note_by, world_after}
 use Rattle.line_rules.specs.Worlds.{Trace, World, node_at, start}
 use Rattle.line_laws.specs.CheckHistories.{AreCheckedRightAfter, EveryCheckIsRight, IsAwaited, IsBlacklisted, IsCheckedRight, IsListed, IsNotAwaited, IsOpen}
 use Rattle.line_laws.specs.FurtherLines.{HoldsAfter}
@@ -270,7 +270,7 @@ module _ (w : World) (before : List Entry) (h : IsOfHistory before w) (n : ℕ) 
       unawaited_is (Err reach_drops.PathLong) s e = absurd (cc (e))
 
       commands_checked : IsCheckedRight w before (entry n event (commanded network number d.node c r))
-      unfolding told
+      unfolding world_after
       commands_checked =
           let halted : Result CommandHeard ReachDropped = Err (reach_drops.Known drops.Store) in
           let o = (reaches d.node b halted (λ y. hear_command in_memory y c)).answer in
@@ -296,15 +296,15 @@ module _ (w : World) (before : List Entry) (h : IsOfHistory before w) (n : ℕ) 
         quiet : Quiet d.answer.answer
         quiet = hears_quiet network (after_accepting network x octets) got cost (note_by w octets got.path) w.clock
 
-        by_memory : (reply : Reply) (t : Bool) → let v : World = told network with_it.0 number (acknowledging d.node reply) in
+        by_memory : (reply : Reply) (t : Bool) → let v : World = world_after network with_it.0 number (acknowledging d.node reply) in
             let q : World × Trace = if t then adds_frames v with_it.1 (acknowledging d.node reply) else sends_nothing w (v, with_it.1) in
             IsCheckedRight w before (entry n event q)
         by_memory reply true =
             let k = acknowledging d.node reply in
-            let q : World × Trace = adds_frames (told network with_it.0 number k) with_it.1 k in
+            let q : World × Trace = adds_frames (world_after network with_it.0 number k) with_it.1 k in
             quiet_checked event q.0 q.1 quiet (believed event number x octets got a passes)
         by_memory reply false =
-            let q : World × Trace = sends_nothing w (told network with_it.0 number (acknowledging d.node reply), with_it.1) in
+            let q : World × Trace = sends_nothing w (world_after network with_it.0 number (acknowledging d.node reply), with_it.1) in
             quiet_checked event q.0 q.1 refl (believed event number x octets got a passes)
 
         by_due : (o : Option Reply) → IsCheckedRight w before (entry n event (acknowledged_if network w number d.node o with_it))

@@ -33,7 +33,7 @@ use Rattle.node_rules.specs.Laws.{IsWhole, IsCutOff}
 use Rattle.node_rules.specs.Meters as meters
 use Rattle.node_rules.specs.Coordinators as coordinators
 use Rattle.node_rules.specs.NodeSteps.{NodeStep, acts, stays, left_by, of_station, answering}
-use Rattle.line_rules.specs.Steps.{identity, hears, note_by, forged_by, told, ran, trace_of, happened, flights_of, handed_by, heard, arrives}
+use Rattle.line_rules.specs.Steps.{identity, hears, note_by, forged_by, world_after, ran, trace_of, happened, flights_of, handed_by, heard, arrives}
 use Rattle.line_rules.specs.Worlds.{Flight, Trace, World, has_octets, note_of, is_forged_frame}
 use Rattle.line_events.specs.declared.happenings.Handed.{Handed}
 use Rattle.node_rules.proofs.Writing.{clean}
@@ -307,12 +307,12 @@ module _ (ciphers : Ciphers) (opens : OpensWhatItSeals ciphers) (w : World) (are
   pub arrives_kept : All IsSent accepting.frames → ((got : Accepted) → accepting.answer ≡ Ok got → HeardWell got)
       → (arrives ciphers w number x octets cost).1.happened.forged ≡ false
       → Delivered (arrives ciphers w number x octets cost).0 (arrives ciphers w number x octets cost).1
-  unfolding arrives told
+  unfolding arrives world_after
   arrives_kept sent well unforged = by_answer accepting.answer refl unforged
     where
       after : Result Accepted FrameRefusal → World × Trace
       after (Ok got) = heard ciphers w number accepting.node octets got cost
-      after (Err reason) = (told ciphers (ran w) number accepting, trace_of (happened w (frame_word reason)))
+      after (Err reason) = (world_after ciphers (ran w) number accepting, trace_of (happened w (frame_word reason)))
 
       by_answer : (a : Result Accepted FrameRefusal) → accepting.answer ≡ a → (after a).1.happened.forged ≡ false → Delivered (after a).0 (after a).1
       by_answer (Err reason) e unforged =

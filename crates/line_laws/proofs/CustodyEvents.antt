@@ -19,7 +19,7 @@ use Rattle.node_rules.specs.Drafts.{alone, empty_draft}
 use Rattle.line_rules.specs.Answers.{sent_word, send_word}
 use Rattle.node_rules.specs.Laws.{IsWhole, IsCutOff}
 use Rattle.node_rules.specs.NodeSteps.{NodeStep, acts, stays, left_by, of_station, answering}
-use Rattle.line_rules.specs.Steps.{is_taken, tag_of, sending, sent_if, acted, told, ran, flights_of, ticked}
+use Rattle.line_rules.specs.Steps.{is_taken, tag_of, sending, sent_if, acted, world_after, ran, flights_of, ticked}
 use Rattle.line_rules.specs.Worlds.{Flight, World}
 use Rattle.line_events.specs.declared.happenings.Handed.{Handed}
 use Rattle.node_rules.proofs.Writing.{clean}
@@ -140,7 +140,7 @@ module _ (ciphers : Ciphers) (live : World → Flight → Bool) (opens : OpensWh
   after = (sending ciphers w from to datagram (tag_of x) (answering sent_word sends_it)).0
 
   pub send_in_custody : IsInCustody ciphers live w before → All IsSent sends_it.frames → LiveFalls live w after None → IsInCustody ciphers live after before
-  unfolding told
+  unfolding world_after
   send_in_custody held sent falls = record {
     at_most = λ n i some.
         let weight : ℕ = weigh n (w.sends + 1) (below i (length datagram)) in

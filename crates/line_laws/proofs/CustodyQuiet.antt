@@ -26,7 +26,7 @@ use Rattle.routing_set.specs.OwnNumber as own_number
 use Rattle.node_rules.specs.Drafts.{tag_slot}
 use Rattle.node_rules.specs.StoreReading.{tag_in, reading, station_of, memory_of, remembering}
 use Rattle.node_rules.specs.NodeSteps.{NodeStep}
-use Rattle.line_rules.specs.Steps.{acted, told, restarts, memory_by, flights_of}
+use Rattle.line_rules.specs.Steps.{acted, world_after, restarts, memory_by, flights_of}
 use Rattle.line_rules.specs.Worlds.{Flight, World}
 use Rattle.line_events.specs.declared.happenings.Handed.{Handed}
 use Rattle.node_rules.specs.Ciphers.{OpensWhatItSeals}
@@ -49,7 +49,7 @@ pub acted_in_custody : (ciphers : Ciphers) (live : World → Flight → Bool) �
     → slice_get w.nodes number ≡ Some x → (d : NodeStep Answer) (before : List Handed) → IsInCustody ciphers live w before → All IsSent d.frames
     → ((n i : ℕ) → 0 < n → DidKeep n i 0 (λ (a : Answer). 0) x d) → LiveFalls live w (acted ciphers w number d).0 None
     → IsInCustody ciphers live (acted ciphers w number d).0 before
-unfolding told
+unfolding world_after
 acted_in_custody ciphers live opens w number x here d before held sent kept falls = record {
   at_most = λ n i some.
       let v : World = (acted ciphers w number d).0 in

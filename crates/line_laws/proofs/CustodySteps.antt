@@ -37,7 +37,7 @@ use Rattle.node_rules.specs.Plans.{Plan, resting}
 use Rattle.node_rules.specs.StoreReading.{blank_station, first_grant}
 use Rattle.line_rules.specs.Answers.{sent_word}
 use Rattle.line_rules.specs.Forgery.{Comes, OfFlight, OfScript}
-use Rattle.line_rules.specs.Steps.{Step, set_up, ran, told, flights_of, made_node, blank_node, psk_of, ticked, acted, sending, sent_if, is_taken, tag_of}
+use Rattle.line_rules.specs.Steps.{Step, set_up, ran, world_after, flights_of, made_node, blank_node, psk_of, ticked, acted, sending, sent_if, is_taken, tag_of}
 use Rattle.line_rules.specs.Steps.{offered_near, identity, restarts, memory_by}
 use Rattle.line_rules.specs.Worlds.{World, Flight, Sending, node_at, flight_at}
 use Rattle.line_laws.specs.Letters.{IsFlight, AreFlights}
@@ -123,8 +123,8 @@ module _ (ciphers : Ciphers) (opens : OpensWhatItSeals ciphers) (S : ℕ → Sen
       (cases_eq k number)
 
   told_rest : {A : Type 0} (u : World) (number : ℕ) (x : Node) (d : NodeStep A) → Rest u → slice_get u.nodes number ≡ Some x → NodeRanged d.node
-      → All IsSent d.frames → NodeTrue S (home number) d.node → All (SentIsOf S) d.frames → Rest (told ciphers u number d)
-  unfolding told
+      → All IsSent d.frames → NodeTrue S (home number) d.node → All (SentIsOf S) d.frames → Rest (world_after ciphers u number d)
+  unfolding world_after
   told_rest u number x d c here ranged fits station frames = record {
     flights = All-append (IsFlight ciphers) u.flights (flights_of ciphers number d) c.flights (flights_fit ciphers number d fits);
     ranged = All-set NodeRanged u.nodes number d.node ranged c.ranged;
@@ -153,11 +153,11 @@ module _ (ciphers : Ciphers) (opens : OpensWhatItSeals ciphers) (S : ℕ → Sen
     set_at w c = record { flights = c.flights; ranged = c.ranged; sent = c.sent; nodes = c.nodes; places = record { at_most = c.places.at_most } }
 
     told_places : {A : Type 0} (u : World) (number : ℕ) (x : Node) (d : NodeStep A) → IsInCustody ciphers (λ _ f. L f) u before
-        → slice_get u.nodes number ≡ Some x → DidClean S (home number) x d → IsInCustody ciphers (λ _ f. L f) (told ciphers u number d) before
-    unfolding told
+        → slice_get u.nodes number ≡ Some x → DidClean S (home number) x d → IsInCustody ciphers (λ _ f. L f) (world_after ciphers u number d) before
+    unfolding world_after
     told_places u number x d c here did = record {
       at_most = λ n i some.
-          let v : World = told ciphers u number d in
+          let v : World = world_after ciphers u number d in
           let fly = sent_flies ciphers opens n i number d.frames did.fits in
           let k = did.kept n i some in
           let node : OneNode u v x d.node (flights_of ciphers number d) = record { number = number; here = here; nodes = refl; flights = refl } in
@@ -167,8 +167,8 @@ module _ (ciphers : Ciphers) (opens : OpensWhatItSeals ciphers) (S : ℕ → Sen
     }
 
     pub told_at : {A : Type 0} (u : World) (number : ℕ) (x : Node) (d : NodeStep A) → At u → slice_get u.nodes number ≡ Some x → DidClean S (home number) x d
-        → At (told ciphers u number d)
-    told_at u number x d c here did = at_of (told ciphers u number d) (told_rest u number x d (rest_of u c) here did.ranged did.fits did.station did.frames)
+        → At (world_after ciphers u number d)
+    told_at u number x d c here did = at_of (world_after ciphers u number d) (told_rest u number x d (rest_of u c) here did.ranged did.fits did.station did.frames)
         (told_places u number x d c.places here did)
 
 -- what was live may be live no more
@@ -339,16 +339,16 @@ module _ (ciphers : Ciphers) (opens : OpensWhatItSeals ciphers) (fits : KeepsRan
 
   -- one node did something
   ran_told : {A : Type 0} (number : ℕ) (x : Node) (d : NodeStep A) → node_at w number ≡ Some x → DidClean S (home number) x d
-      → Now (told ciphers (ran w) number d)
+      → Now (world_after ciphers (ran w) number d)
   ran_told number x d there did = told_at ciphers opens S home L before (ran w) number x d (ran_at ciphers opens S home L before w c) there did
 
   set_told : {A : Type 0} (number : ℕ) (x : Node) (d : NodeStep A) → node_at w number ≡ Some x → DidClean S (home number) x d
-      → Now (told ciphers (set_up w) number d)
+      → Now (world_after ciphers (set_up w) number d)
   set_told number x d there did = told_at ciphers opens S home L before (set_up w) number x d (set_at ciphers opens S home L before w c) there did
 
   other_there : {A : Type 0} (number other : ℕ) (d : NodeStep A) (y : Node) → other ≢ number → node_at w other ≡ Some y
-      → node_at (told ciphers (set_up w) number d) other ≡ Some y
-  unfolding told
+      → node_at (world_after ciphers (set_up w) number d) other ≡ Some y
+  unfolding world_after
   other_there number other d y ne there = slice_get-set_other w.nodes number other d.node ne ∙ there
 
   -- # A node more
@@ -426,7 +426,7 @@ module _ (ciphers : Ciphers) (opens : OpensWhatItSeals ciphers) (fits : KeepsRan
       did : SentDid S (home from) d
       did = sends_did S (home from) x a datagram (w.sends + 1) w.clock (ranged_at from x there) (c.nodes from x there) is_of
 
-      told_so : Rest ciphers opens S home (told ciphers (ran w) from (answering sent_word d))
+      told_so : Rest ciphers opens S home (world_after ciphers (ran w) from (answering sent_word d))
       told_so = told_rest ciphers opens S home (ran w) from x (answering sent_word d)
           (rest_of ciphers opens S home L before (ran w) (ran_at ciphers opens S home L before w c)) there ranged.station ranged.frames did.station did.frames
 
@@ -508,20 +508,20 @@ module _ (ciphers : Ciphers) (opens : OpensWhatItSeals ciphers) (fits : KeepsRan
       depot_grants a.memory x.eui psk g kept.station.range.ring kept.book.table.short a.is
 
   told_other : {A : Type 0} (u : World) (number other : ℕ) (d : NodeStep A) (y : Node) → other ≢ number → node_at u other ≡ Some y
-      → node_at (told ciphers u number d) other ≡ Some y
-  unfolding told
+      → node_at (world_after ciphers u number d) other ≡ Some y
+  unfolding world_after
   told_other u number other d y apart there = slice_get-set_other u.nodes number other d.node apart ∙ there
 
   -- the grant of the workshop has the address that the book gives then
   grant_home : (number : ℕ) (x cn : Node) (psk : Key) (g : Granted) → number ≢ 0 → node_at w number ≡ Some x → node_at w 0 ≡ Some cn → x.role ≡ Meter psk
       → (workshop cn x.eui psk).answer ≡ Ok g
-      → HomedAt home (told ciphers (told ciphers (set_up w) 0 (workshop cn x.eui psk)) number (acts x (Ok tt) (λ m. meters.provision m g)))
+      → HomedAt home (world_after ciphers (world_after ciphers (set_up w) 0 (workshop cn x.eui psk)) number (acts x (Ok tt) (λ m. meters.provision m g)))
       → g.address ≡ home number
   grant_home number x cn psk g ne hx hc role e later =
       let plan : Memory → Plan Memory (Result Granted CoordinatorRefusal) = λ m. coordinator_rules.depot m x.eui psk in
       let d : NodeStep (Result Granted CoordinatorRefusal) = workshop cn x.eui psk in
       let p : NodeStep (Result (Unit {0}) RingFault) = acts x (Ok tt) (λ m. meters.provision m g) in
-      let u : World = told ciphers (set_up w) 0 d in
+      let u : World = world_after ciphers (set_up w) 0 d in
       let fit = at_place NodeFits w.nodes number x hx ok.fits in
       let good = good_at 0 cn hc in
       let first : cn.role ≡ Coordinator = ok.first cn hc in
@@ -530,8 +530,8 @@ module _ (ciphers : Ciphers) (opens : OpensWhatItSeals ciphers) (fits : KeepsRan
       let a = acts_whole cn orders.Halted orders.Store plan (λ m. depot_failed ciphers fits (own_of cn) m x.eui psk fit.eui (fit.psk psk role)) g e in
       let kept : Left (IsKept Coordinator) d.node.store.records (Some (plan a.memory).memory) = subst (λ o. Left (IsKept Coordinator) d.node.store.records o)
       a.leaves (subst (λ r. Left (IsKept r) d.node.store.records d.node.memory) (did.role ∙ first) did.node.kept) in
-      let there : node_at (told ciphers u number p) number ≡ Some p.node = told_here ciphers u number x p (other_there 0 number d x ne hx) in
-      let here : node_at (told ciphers u number p) 0
+      let there : node_at (world_after ciphers u number p) number ≡ Some p.node = told_here ciphers u number x p (other_there 0 number d x ne hx) in
+      let here : node_at (world_after ciphers u number p) 0
       ≡ Some d.node = told_other u number 0 p d.node (λ z. ne (sym z)) (told_here ciphers (set_up w) 0 cn d hc) in
       let eui : p.node.eui ≡ x.eui = acts_eui x (Ok tt) (λ m. meters.provision m g) in
       let address : books.address_of (plan a.memory).memory.book x.eui ≡ Some g.address = depot_address a.memory x.eui psk g a.is in
@@ -570,7 +570,7 @@ module _ (ciphers : Ciphers) (opens : OpensWhatItSeals ciphers) (fits : KeepsRan
       let one = set_told a x (offered_near x q cost w.clock) hx (read_as a x (λ _. tt) _
       (clean_at a x (Ok tt) (λ m. of_station m (calls.preset_near m.station q cost w.clock)) hx
       (λ m here r t. near_clean S (home a) m r t q cost w.clock (near_low q near.second) (omega arith)))) in
-      told_at ciphers opens S home L before (told ciphers (set_up w) a (offered_near x q cost w.clock)) b y (offered_near y p cost w.clock) one
+      told_at ciphers opens S home L before (world_after ciphers (set_up w) a (offered_near x q cost w.clock)) b y (offered_near y p cost w.clock) one
       (other_there a b (offered_near x q cost w.clock) y apart hy)
       (read_as b y (λ _. tt) _ (clean_at b y (Ok tt) (λ m. of_station m (calls.preset_near m.station p cost w.clock)) hy
       (λ m here r t. near_clean S (home b) m r t p cost w.clock (near_low p near.first) (omega arith))))
@@ -580,12 +580,12 @@ module _ (ciphers : Ciphers) (opens : OpensWhatItSeals ciphers) (fits : KeepsRan
       let did : DidClean S (home 0) cn d = subst (λ (z : NodeStep (Result Granted CoordinatorRefusal)). DidClean S (home 0) cn z) (sym same)
       (clean_at 0 cn (Err orders.Halted) (λ m. coordinator_rules.depot m x.eui psk) hc
       (λ m here r t. depot_clean S (home 0) m r t (own_of cn) 0 (owed.speaks cn hc m here 0) x.eui psk (eight_at number x hx))) in
-      told_at ciphers opens S home L before (told ciphers (set_up w) 0 d) number x (acts x (Ok tt) (λ m. meters.provision m g)) (set_told 0 cn d hc did)
+      told_at ciphers opens S home L before (world_after ciphers (set_up w) 0 d) number x (acts x (Ok tt) (λ m. meters.provision m g)) (set_told 0 cn d hc did)
       (other_there 0 number d x ne hx)
       (clean_at number x (Ok tt) (λ m. meters.provision m g) hx (λ m here r t. provision_clean S (home number) m r t g
       (grant_reads x cn psk g number hx hc role answered) (grant_home number x cn psk g ne hx hc role answered
       (subst (λ (z : NodeStep (Result Granted CoordinatorRefusal)). HomedAt home
-      (told ciphers (told ciphers (set_up w) 0 z) number (acts x (Ok tt) (λ m. meters.provision m g)))) same later))))
+      (world_after ciphers (world_after ciphers (set_up w) 0 z) number (acts x (Ok tt) (λ m. meters.provision m g)))) same later))))
   event_at event s (TurnsDown e number x octets reason d there says comes same is) silent later = absurd (silent (came_brought e number octets comes))
   event_at event s (Hears e number x octets cost got there says comes low is) silent later = absurd (silent (came_brought e number octets comes))
   event_at event s (Loses number f there) silent later = λ sent. lost_at number f (lost_place number f there)

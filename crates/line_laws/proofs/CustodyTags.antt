@@ -22,7 +22,7 @@ use Rattle.node_rules.specs.Frames.{arrived}
 use Rattle.node_rules.specs.Memory.{StationMemory, Memory, Meter, Node}
 use Rattle.node_rules.specs.Accepting.{accept}
 use Rattle.node_rules.specs.NodeSteps.{NodeStep, acts, of_station}
-use Rattle.line_rules.specs.Steps.{identity, hears, note_by, forged_by, arrives, heard, told, ran, trace_of, happened}
+use Rattle.line_rules.specs.Steps.{identity, hears, note_by, forged_by, arrives, heard, world_after, ran, trace_of, happened}
 use Rattle.line_rules.specs.Worlds.{Flight, Trace, World, is_forged_tag}
 use Rattle.line_events.specs.declared.happenings.Handed.{Handed}
 use Rattle.node_rules.specs.Ciphers.{OpensWhatItSeals}
@@ -93,7 +93,7 @@ module _ (ciphers : Ciphers) (opens : OpensWhatItSeals ciphers) (live : World �
     where
       after : Result Accepted FrameRefusal → World × Trace
       after (Ok a) = heard ciphers w number accepting.node octets a cost
-      after (Err reason) = (told ciphers (ran w) number accepting, trace_of (happened w (frame_word reason)))
+      after (Err reason) = (world_after ciphers (ran w) number accepting, trace_of (happened w (frame_word reason)))
 
       by_answer : (a : Result Accepted FrameRefusal) → a ≡ Ok got → (after a).1.happened.forged ≡ false → forged_by w octets got.path ≡ false
       by_answer (Ok g) is h = let same : g ≡ got = cc in subst (λ (k : Accepted). forged_by w octets k.path ≡ false) same (or_parts _ _ h).0
@@ -107,7 +107,7 @@ module _ (ciphers : Ciphers) (opens : OpensWhatItSeals ciphers) (live : World �
     where
       after : Result Accepted FrameRefusal → World × Trace
       after (Ok a) = heard ciphers w number accepting.node octets a cost
-      after (Err reason) = (told ciphers (ran w) number accepting, trace_of (happened w (frame_word reason)))
+      after (Err reason) = (world_after ciphers (ran w) number accepting, trace_of (happened w (frame_word reason)))
 
       by_answer : (a : Result Accepted FrameRefusal) → a ≡ Ok got → (after a).1.happened.forged ≡ false
           → list_any (is_forged_tag w.made) (hears ciphers accepting.node got cost (note_by w octets got.path) w.clock).opened ≡ false

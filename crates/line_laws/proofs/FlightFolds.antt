@@ -37,7 +37,7 @@ use Rattle.line_rules.specs.Forgery.{Comes, OfFlight, OfScript, accepting}
 use Rattle.line_rules.specs.Worlds.{World, Flight, node_at, flight_at}
 use Rattle.line_rules.specs.SafeRuns.{HasAddress}
 use Rattle.line_rules.specs.Nonces.{NonceParts, IsSpelled, HasSender}
-use Rattle.line_rules.specs.Steps.{Step, set_up, ran, told, made_node, ticked, flights_of, flight_by, acted, sending, sent_if, is_taken, tag_of, hears}
+use Rattle.line_rules.specs.Steps.{Step, set_up, ran, world_after, made_node, ticked, flights_of, flight_by, acted, sending, sent_if, is_taken, tag_of, hears}
 use Rattle.line_rules.specs.Steps.{offered_near, heard, note_by, identity, restarts}
 use Rattle.line_laws.specs.Stores.{IsReadable, IsKept}
 use Rattle.line_laws.specs.Owed.{AreOctets, KeepsRanges}
@@ -62,8 +62,8 @@ use Rattle.line_laws.proofs.StepKinds.{Sets, SetsTwo, Provides, TurnsDown, Hears
 
 module _ (ciphers : Ciphers) (P : Flight → Type 0) (sent : (number : ℕ) (f : Sent) → P (flight_by number (spelled ciphers f)))
     (lost : (f : Flight) → P f → P (record f { lost = true })) where
-  pub told_all : {A : Type 0} (u : World) (number : ℕ) (d : NodeStep A) → All P u.flights → All P (told ciphers u number d).flights
-  unfolding told
+  pub told_all : {A : Type 0} (u : World) (number : ℕ) (d : NodeStep A) → All P u.flights → All P (world_after ciphers u number d).flights
+  unfolding world_after
   told_all u number d all = All-append P u.flights (flights_of ciphers number d) all
       (All-map P (λ frame. flight_by number (spelled ciphers frame)) d.frames (λ k e lt. sent number _))
 
@@ -71,7 +71,7 @@ module _ (ciphers : Ciphers) (P : Flight → Type 0) (sent : (number : ℕ) (f :
       → All P (sending ciphers w from to datagram tag d).0.flights
   sending_all w from to datagram tag d all = by_taken (is_taken d.answer) (told_all (ran w) from d all)
     where
-      by_taken : (b : Bool) → All P (told ciphers (ran w) from d).flights → All P (sent_if w from to datagram tag b (acted ciphers w from d)).0.flights
+      by_taken : (b : Bool) → All P (world_after ciphers (ran w) from d).flights → All P (sent_if w from to datagram tag b (acted ciphers w from d)).0.flights
       by_taken true k = k
       by_taken false k = k
 
@@ -162,9 +162,9 @@ none_new w v e = subst (λ n. All (HasSender v) (drop n v.flights)) e (subst (Al
 module _ (ciphers : Ciphers) where
   -- one node told what it did
   pub told_senders : {A : Type 0} (w u v : World) (number : ℕ) (x : Node) (d : NodeStep A) → u.flights ≡ w.flights → u.nodes ≡ w.nodes
-      → v.nodes ≡ (told ciphers u number d).nodes → v.flights ≡ (told ciphers u number d).flights → node_at w number ≡ Some x
+      → v.nodes ≡ (world_after ciphers u number d).nodes → v.flights ≡ (world_after ciphers u number d).flights → node_at w number ≡ Some x
       → AreFrom (node_address d.node) d.frames → ((a : ℕ) → node_address d.node ≡ Some a → a < 0xFFFE) → NewSenders w v
-  unfolding told
+  unfolding world_after
   told_senders w u v number x d fs ns vn vf there from low =
       let here : node_at v number ≡ Some d.node = ap (λ nodes. slice_get nodes number) (vn ∙ ap (λ nodes. slice_set nodes number d.node) ns)
       ∙ slice_get-set w.nodes number d.node (place_within w.nodes number x there) in
@@ -174,8 +174,8 @@ module _ (ciphers : Ciphers) where
       (subst (All (HasSender v)) (sym (drop-append_seam w.flights (flights_of ciphers number d))) all)
 
   -- nothing was sent
-  pub told_silent : {A : Type 0} (u : World) (number : ℕ) (d : NodeStep A) → d.frames ≡ [] → (told ciphers u number d).flights ≡ u.flights
-  unfolding told
+  pub told_silent : {A : Type 0} (u : World) (number : ℕ) (d : NodeStep A) → d.frames ≡ [] → (world_after ciphers u number d).flights ≡ u.flights
+  unfolding world_after
   told_silent u number d none = ap (λ fs. u.flights ++ map (λ frame. flight_by number (spelled ciphers frame)) fs) none ∙ append-nil u.flights
 
 -- A node sent nothing, or it sent from the address that it has.
@@ -245,7 +245,7 @@ module _ (ciphers : Ciphers) (fits : KeepsRanges ciphers) (w : World) (ok : Worl
       order_sent number x _ first there (λ m sized. kick_ok ciphers fits (own_of x) m sized y.eui (given_at meter y at.there).eui)
 
   pub one_told : {A : Type 0} (u v : World) (number : ℕ) (x : Node) (d : NodeStep A) → u.flights ≡ w.flights → u.nodes ≡ w.nodes
-      → v.nodes ≡ (told ciphers u number d).nodes → v.flights ≡ (told ciphers u number d).flights → node_at w number ≡ Some x → IsSentFrom d → NewSenders w v
+      → v.nodes ≡ (world_after ciphers u number d).nodes → v.flights ≡ (world_after ciphers u number d).flights → node_at w number ≡ Some x → IsSentFrom d → NewSenders w v
   one_told u v number x d fs ns vn vf there (Silent none) = none_new w v (ap length (vf ∙ told_silent ciphers u number d none ∙ fs))
   one_told u v number x d fs ns vn vf there (Speaks from low) = told_senders ciphers w u v number x d fs ns vn vf there from low
 
@@ -256,9 +256,9 @@ module _ (ciphers : Ciphers) (fits : KeepsRanges ciphers) (w : World) (ok : Worl
   sending_senders : (from to : ℕ) (datagram : List ℕ) (x : Node) (d : NodeStep Answer) → node_at w from ≡ Some x → IsSentFrom d
       → NewSenders w (sending ciphers w from to datagram (tag_of x) d).0
   sending_senders from to datagram x d there sent =
-      by_taken (is_taken d.answer) (one_told (ran w) (told ciphers (ran w) from d) from x d refl refl refl refl there sent)
+      by_taken (is_taken d.answer) (one_told (ran w) (world_after ciphers (ran w) from d) from x d refl refl refl refl there sent)
     where
-      by_taken : (b : Bool) → NewSenders w (told ciphers (ran w) from d) → NewSenders w (sent_if w from to datagram (tag_of x) b (acted ciphers w from d)).0
+      by_taken : (b : Bool) → NewSenders w (world_after ciphers (ran w) from d) → NewSenders w (sent_if w from to datagram (tag_of x) b (acted ciphers w from d)).0
       by_taken true k = k
       by_taken false k = k
 
@@ -279,8 +279,8 @@ module _ (ciphers : Ciphers) (fits : KeepsRanges ciphers) (w : World) (ok : Worl
       (speaks y d (hears_ok ciphers fits w ok flown y got cost (note_by w octets got.path) w.clock did.node routes))
 
   told_one : {A : Type 0} (u : World) (number : ℕ) (x : Node) (d : NodeStep A) → u.flights ≡ w.flights → u.nodes ≡ w.nodes → node_at w number ≡ Some x
-      → IsSentFrom d → NewSenders w (told ciphers u number d)
-  told_one u number x d fs ns there sent = one_told u (told ciphers u number d) number x d fs ns refl refl there sent
+      → IsSentFrom d → NewSenders w (world_after ciphers u number d)
+  told_one u number x d fs ns there sent = one_told u (world_after ciphers u number d) number x d fs ns refl refl there sent
 
   answered : {A B : Type 0} (reads : A → B) (d : NodeStep A) → IsSentFrom d → IsSentFrom (answering reads d)
   answered reads d (Silent none) = Silent none
@@ -307,8 +307,8 @@ module _ (ciphers : Ciphers) (fits : KeepsRanges ciphers) (w : World) (ok : Worl
       told_one (set_up w) number x (acts x (Ok tt) (λ m. of_station m (plan m.station))) refl refl there
       (call_sent number x _ (Ok tt) (λ m. of_station m (plan m.station)) there (preset_call ciphers w number x plan open_is is))
   senders event s (SetsTwo e quiet a b cost x y p q hx hy apart open_is first second fresh near) =
-      let u = told ciphers (set_up w) a (offered_near x q cost w.clock) in
-      none_new w (told ciphers u b (offered_near y p cost w.clock))
+      let u = world_after ciphers (set_up w) a (offered_near x q cost w.clock) in
+      none_new w (world_after ciphers u b (offered_near y p cost w.clock))
       (ap length (told_silent ciphers u b (offered_near y p cost w.clock) (near_frames y p)
       ∙ told_silent ciphers (set_up w) a (offered_near x q cost w.clock) (near_frames x q)))
     where
@@ -317,15 +317,15 @@ module _ (ciphers : Ciphers) (fits : KeepsRanges ciphers) (w : World) (ok : Worl
   senders event s (Provides number x c psk g d ne open_is hx hc pair same is) =
       let quiet : d.frames ≡ [] = ap (λ (z : NodeStep (Result Granted CoordinatorRefusal)). z.frames) same
       ∙ acts_quiet c (Err orders.Halted) (λ m. coordinator_rules.depot m x.eui psk) (λ m. depot_quiet m x.eui psk) in
-      let u = told ciphers (set_up w) 0 d in
+      let u = world_after ciphers (set_up w) 0 d in
       let k = acts x (Ok tt) (λ m. meters.provision m g) in
-      none_new w (told ciphers u number k) (ap length (told_silent ciphers u number k
+      none_new w (world_after ciphers u number k) (ap length (told_silent ciphers u number k
       (acts_quiet x (Ok tt) (λ m. meters.provision m g) (λ m. install_quiet m.station g)) ∙ told_silent ciphers (set_up w) 0 d quiet))
   senders event s (TurnsDown e number x octets reason d there says comes same is) =
       let quiet : d.frames ≡ [] = ap (λ (z : NodeStep (Result Accepted FrameRefusal)). z.frames) same
       ∙ acts_quiet x (Err frames.Halted) (λ m. of_station m (accept m.station x.eui (arrived ciphers octets)))
       (λ m. accept_quiet m.station _ _ (accept_is m.station x.eui (arrived ciphers octets))) in
-      none_new w (told ciphers (ran w) number d) (ap length (told_silent ciphers (ran w) number d quiet))
+      none_new w (world_after ciphers (ran w) number d) (ap length (told_silent ciphers (ran w) number d quiet))
   senders event s (Hears e number x octets cost got there says comes low is) = heard_senders event number x octets cost got there says comes is
   senders event s (Loses number f there) = none_new w (record (ran w) { flights = slice_set w.flights (number - 1) (record f { lost = true }) })
       (length-set w.flights (number - 1) (record f { lost = true }))

@@ -29,7 +29,7 @@ use Rattle.line_rules.specs.Further.{acknowledging, adds_frames, asks_by, beside
 use Rattle.line_rules.specs.Further.{reaches, scans_by, sends_nothing, acknowledged}
 use Rattle.line_rules.specs.Nonces.{IsDiscoveryFrame, IsPlainFrame, IsSpelled}
 use Rattle.line_rules.specs.Runs.{Entry, IsRun, events_of}
-use Rattle.line_rules.specs.Steps.{Step, flight_by, identity, ran, told}
+use Rattle.line_rules.specs.Steps.{Step, flight_by, identity, ran, world_after}
 use Rattle.line_rules.specs.Worlds.{World, Flight, Trace, start}
 use Rattle.line_laws.specs.Laws.{AreFrames, EveryFlightIsAFrame, IsDiscoveryOctets, IsFrame}
 use Rattle.line_laws.proofs.FlightFolds.{AllOf, every_flight, told_all}
@@ -45,7 +45,7 @@ module _ (ciphers : Ciphers) (P : Flight → Type 0) (sent : (number : ℕ) (f :
   abbrev Stay : World → Type 0
   Stay v = All P v.flights
 
-  act_all : {A : Type 0} (v : World) (number : ℕ) (d : NodeStep A) → Stay v → Stay (told ciphers v number d)
+  act_all : {A : Type 0} (v : World) (number : ℕ) (d : NodeStep A) → Stay v → Stay (world_after ciphers v number d)
   act_all v number d all = told_all ciphers P sent lost v number d all
 
   finds_all : (v : World) (number : ℕ) (o : Option Discovery) → Stay v → All P (v.flights ++ discovery_flights number o)
@@ -93,7 +93,7 @@ module _ (ciphers : Ciphers) (P : Flight → Type 0) (sent : (number : ℕ) (f :
           r : World × Trace
           r = checks_so ciphers w number x octets got cost
 
-          by_memory : (b : Bool) → Stay (if b then adds_frames (told ciphers r.0 number a) r.1 a else sends_nothing w (told ciphers r.0 number a, r.1)).0
+          by_memory : (b : Bool) → Stay (if b then adds_frames (world_after ciphers r.0 number a) r.1 a else sends_nothing w (world_after ciphers r.0 number a, r.1)).0
           by_memory true = act_all r.0 number a plain_all
           by_memory false = all
 

@@ -40,7 +40,7 @@ use Rattle.line_events.specs.Events.{IsEvent}
 use Rattle.line_rules.specs.Forgery.{Comes, accepting}
 use Rattle.line_rules.specs.Further.{discovery_flight}
 use Rattle.line_rules.specs.Steps.{Step, acted, flight_by, flights_of, forged_by, heard, hears, is_taken, note_by, offered_near, ran, restarts, sent_if}
-use Rattle.line_rules.specs.Steps.{sending, set_up, tag_of, told}
+use Rattle.line_rules.specs.Steps.{sending, set_up, tag_of, world_after}
 use Rattle.line_rules.specs.Worlds.{World, Flight, flight_at, node_at}
 use Rattle.line_laws.specs.Letters.{IsLetter}
 use Rattle.line_laws.specs.Lines.{WorldOk}
@@ -109,12 +109,12 @@ module _ (P : ℕ → MeshUnit → Type 0) where
 
   -- one node told what it did
   pub told_says : {A : Type 0} (u : World) (number : ℕ) (d : NodeStep A) → All IsSent d.frames → All FrameSays d.frames → All FlightSays u.flights
-      → All FlightSays (told network u number d).flights
-  unfolding told
+      → All FlightSays (world_after network u number d).flights
+  unfolding world_after
   told_says u number d fits all before = All-append FlightSays u.flights (flights_of network number d) before (frames_fly number d.frames fits all)
 
   pub told_silently : {A : Type 0} (u : World) (number : ℕ) (d : NodeStep A) → d.frames ≡ [] → All FlightSays u.flights
-      → All FlightSays (told network u number d).flights
+      → All FlightSays (world_after network u number d).flights
   told_silently u number d none before = subst (All FlightSays) (sym (told_silent network u number d none)) before
 
   -- # Without further reach
@@ -126,7 +126,7 @@ module _ (P : ℕ → MeshUnit → Type 0) where
     old_says (Down from message) h = tt
 
     pub told_as_before : {A : Type 0} (u : World) (number : ℕ) (d : NodeStep A) → All IsSent d.frames → All IsOldFrame d.frames → All FlightSays u.flights
-        → All FlightSays (told network u number d).flights
+        → All FlightSays (world_after network u number d).flights
     told_as_before u number d fits all before = told_says u number d fits (All-weaker IsOldFrame FrameSays old_says d.frames all) before
 
     module _ (w : World) (ok : WorldOk w) (s : WorldSpeaks w) (r : WorldRanged w) where
@@ -144,11 +144,11 @@ module _ (P : ℕ → MeshUnit → Type 0) where
           (came_octets network network_ranges w ok s.flights event number octets says comes) is honest).frames
           (hears_old network w got cost (note_by w octets got.path) w.clock (accepting network x octets).node) before
 
-      sending_says : (from to : ℕ) (datagram : List ℕ) (x : Node) (d : NodeStep Answer) → All FlightSays (told network (ran w) from d).flights
+      sending_says : (from to : ℕ) (datagram : List ℕ) (x : Node) (d : NodeStep Answer) → All FlightSays (world_after network (ran w) from d).flights
           → All FlightSays (sending network w from to datagram (tag_of x) d).0.flights
       sending_says from to datagram x d h = by_taken (is_taken d.answer) h
         where
-          by_taken : (b : Bool) → All FlightSays (told network (ran w) from d).flights
+          by_taken : (b : Bool) → All FlightSays (world_after network (ran w) from d).flights
               → All FlightSays (sent_if w from to datagram (tag_of x) b (acted network w from d)).0.flights
           by_taken true k = k
           by_taken false k = k
@@ -187,7 +187,7 @@ module _ (P : ℕ → MeshUnit → Type 0) where
           (call_ranged w ok s r number x _ (Ok tt) (λ m. of_station m (plan m.station)) there call).frames
           (call_old network w number x _ (Ok tt) (λ m. of_station m (plan m.station)) call) before
       old_flights event st (SetsTwo e quiet a b cost x y p q hx hy apart open_is first second fresh far) = λ honest before.
-          told_silently (told network (set_up w) a (offered_near x q cost w.clock)) b (offered_near y p cost w.clock) (near_frames y p)
+          told_silently (world_after network (set_up w) a (offered_near x q cost w.clock)) b (offered_near y p cost w.clock) (near_frames y p)
           (told_silently (set_up w) a (offered_near x q cost w.clock) (near_frames x q) before)
         where
           near_frames : (z : Node) (to : ℕ) → (offered_near z to cost w.clock).frames ≡ []
@@ -195,7 +195,7 @@ module _ (P : ℕ → MeshUnit → Type 0) where
       old_flights event st (Provides number x c psk g d ne open_is hx hc pair same is) = λ honest before.
           let quiet : d.frames ≡ [] = ap (λ (z : NodeStep (Result Granted CoordinatorRefusal)). z.frames) same ∙ acts_quiet c (Err orders.Halted)
           (λ m. coordinator_rules.depot m x.eui psk) (λ m. depot_quiet m x.eui psk) in
-          told_silently (told network (set_up w) 0 d) number (acts x (Ok tt) (λ m. meters.provision m g))
+          told_silently (world_after network (set_up w) 0 d) number (acts x (Ok tt) (λ m. meters.provision m g))
           (acts_quiet x (Ok tt) (λ m. meters.provision m g) (λ m. install_quiet m.station g)) (told_silently (set_up w) 0 d quiet before)
       old_flights event st (TurnsDown e number x octets reason d there says comes same is) = λ honest before.
           let quiet : d.frames ≡ [] = ap (λ (z : NodeStep (Result Accepted FrameRefusal)). z.frames) same ∙ acts_quiet x (Err frames.Halted)

@@ -11,7 +11,7 @@ use Rattle.node_rules.specs.Ciphers.{Ciphers}
 use Rattle.node_rules.specs.Drafts.{Outgoing}
 use Rattle.node_rules.specs.Memory.{Node}
 use Rattle.node_rules.specs.NodeSteps.{NodeStep, acts}
-use Rattle.line_rules.specs.Steps.{told}
+use Rattle.line_rules.specs.Steps.{world_after}
 use Rattle.line_rules.specs.Worlds.{World, Issued, node_at}
 use Rattle.line_laws.specs.Keyed.{Keyed}
 use Rattle.line_laws.specs.Lines.{NodeOk, WorldOk}
@@ -35,13 +35,13 @@ use Rattle.line_laws.proofs.LiveRuns.{none_falls, some_book}
 use Rattle.line_laws.proofs.MarkSteps.{Follows, same_follows}
 use Rattle.line_laws.proofs.Worlds.{at_place}
 
-told_length : {A : Type 0} (ciphers : Ciphers) (v : World) (number : ℕ) (d : NodeStep A) → length (told ciphers v number d).nodes ≡ length v.nodes
-unfolding told
+told_length : {A : Type 0} (ciphers : Ciphers) (v : World) (number : ℕ) (d : NodeStep A) → length (world_after ciphers v number d).nodes ≡ length v.nodes
+unfolding world_after
 told_length ciphers v number d = length-set v.nodes number d.node
 
 told_other : {A : Type 0} (ciphers : Ciphers) (v : World) (number other : ℕ) (d : NodeStep A) → other ≢ number
-    → node_at (told ciphers v number d) other ≡ node_at v other
-unfolding told
+    → node_at (world_after ciphers v number d) other ≡ node_at v other
+unfolding world_after
 told_other ciphers v number other d ne = slice_get-set_other v.nodes number other d.node ne
 
 module _ (U : List Outgoing → Type 0) (D : Discovery → Type 0) (ciphers : Ciphers) (fits : KeepsRanges ciphers) where
@@ -72,10 +72,10 @@ module _ (U : List Outgoing → Type 0) (D : Discovery → Type 0) (ciphers : Ci
       let did : CoordinatorDid k.book given [] x (acts x halted does) = coordinator_acts k.book given x halted does [] good c (λ a. None) (λ m here said. refl)
       (λ m here kept. quiet_coordinator k.book None m (does m) (further_quietly m (does m) (is m here)) (c.ring m.station.ring kept.station.ring.stored)
       kept.station.range.ring) in
-      let stored = (l.coordinator (acts x halted does).node (ap (λ n. node_at (told ciphers v number (acts x halted does)) n) (sym e)
+      let stored = (l.coordinator (acts x halted does).node (ap (λ n. node_at (world_after ciphers v number (acts x halted does)) n) (sym e)
       ∙ told_here ciphers v number x (acts x halted does) there)).book_kept in
       subst (Grows k.book) (one_book did.book l.book (acts x halted does).node.store.records did.node.book_kept stored) did.grows)
-      (λ (ne : number ≢ 0). same_book v (told ciphers v number (acts x halted does)) given more k l some
+      (λ (ne : number ≢ 0). same_book v (world_after ciphers v number (acts x halted does)) given more k l some
       (told_other ciphers v number 0 (acts x halted does) (λ e. ne (sym e))))
       (cases_eq number 0)
   moved_grows v u (Flies z number x frame there known) ok runs given more k l some = same_book v _ given more k l some refl

@@ -21,7 +21,7 @@ use Rattle.line_rules.specs.Forgery.{accepting}
 use Rattle.line_rules.specs.Further.{beside_at, line_step, reaches, with_beside}
 use Rattle.line_rules.specs.Logs.{LogsKept}
 use Rattle.line_rules.specs.Runs.{one_of}
-use Rattle.line_rules.specs.Steps.{Step, identity, ran, told}
+use Rattle.line_rules.specs.Steps.{Step, identity, ran, world_after}
 use Rattle.line_rules.specs.Worlds.{World, Trace, Issued, Pairing, node_at}
 use Rattle.line_laws.specs.Agreed.{Confirmed, TagTaken}
 use Rattle.line_laws.specs.IssuedRight.{IsIssuedRight}
@@ -69,7 +69,7 @@ module _ (ciphers : Ciphers) (fits : KeepsRanges ciphers) (w : World) (ok : Worl
   agreed_then r (Happened z f) honest = f honest
 
   rests_confirmed : {A : Type 0} (answer : A) (number : ℕ) (x : Node) (octets : List ℕ) → node_at w number ≡ Some x
-      → Confirmed (told ciphers (ran w) number (stays (accepting ciphers x octets).node answer)) taken
+      → Confirmed (world_after ciphers (ran w) number (stays (accepting ciphers x octets).node answer)) taken
   rests_confirmed answer number x octets there =
       told_nothing ciphers (ran w) number x (stays (accepting ciphers x octets).node answer) there
       (acts_eui x (Err frames.Halted) (λ m. of_station m (accept m.station x.eui (arrived ciphers octets)))) taken c refl

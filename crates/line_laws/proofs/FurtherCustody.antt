@@ -38,7 +38,7 @@ use Rattle.line_rules.specs.Forgery.{accepting}
 use Rattle.line_rules.specs.Further.{beside_at, discovery_flight, line_step, of_memory, reaches, with_beside}
 use Rattle.line_rules.specs.Logs.{LogsKept}
 use Rattle.line_rules.specs.Runs.{Entry, issued}
-use Rattle.line_rules.specs.Steps.{Step, acted, flights_of, identity, made_node, offered_near, ran, sent_if, set_up, step, ticked, told}
+use Rattle.line_rules.specs.Steps.{Step, acted, flights_of, identity, made_node, offered_near, ran, sent_if, set_up, step, ticked, world_after}
 use Rattle.line_rules.specs.Traces.{ComesTo}
 use Rattle.line_rules.specs.Worlds.{World, Flight, Trace, Sending, node_at}
 use Rattle.line_laws.specs.InCustody.{Custody, FlightIsOf, StationIsTrue, SentUnder, sent_as}
@@ -87,8 +87,8 @@ Appends w v = (more : List Flight) × (v.flights ≡ w.flights ++ more)
 appends_both : (w v u : World) → Appends w v → Appends v u → Appends w u
 appends_both w v u one two = (one.0 ++ two.0, two.1 ∙ ap (λ fs. fs ++ two.0) one.1 ∙ append_assoc w.flights one.0 two.0)
 
-told_appends : {A : Type 0} (ciphers : Ciphers) (w : World) (number : ℕ) (d : NodeStep A) → Appends w (told ciphers w number d)
-unfolding told
+told_appends : {A : Type 0} (ciphers : Ciphers) (w : World) (number : ℕ) (d : NodeStep A) → Appends w (world_after ciphers w number d)
+unfolding world_after
 told_appends ciphers w number d = (flights_of ciphers number d, refl)
 
 same_appends : (w v : World) → v.flights ≡ w.flights → Appends w v
@@ -133,13 +133,13 @@ step_appends ciphers w event s (tellings.SendsFrom from to datagram x a there ca
 step_appends ciphers w event s (tellings.AllowsMeter number y c psk there call meter) kept = told_appends ciphers (ran w) 0 _
 step_appends ciphers w event s (tellings.Sets e quiet number x plan there open_is is) kept = told_appends ciphers (set_up w) number _
 step_appends ciphers w event s (tellings.SetsTwo e quiet a b cost x y p q hx hy apart open_is first second fresh near) kept =
-    let v : World = told ciphers (set_up w) a (offered_near x q cost w.clock) in
-    appends_both (set_up w) v (told ciphers v b (offered_near y p cost w.clock)) (told_appends ciphers (set_up w) a (offered_near x q cost w.clock))
+    let v : World = world_after ciphers (set_up w) a (offered_near x q cost w.clock) in
+    appends_both (set_up w) v (world_after ciphers v b (offered_near y p cost w.clock)) (told_appends ciphers (set_up w) a (offered_near x q cost w.clock))
     (told_appends ciphers v b (offered_near y p cost w.clock))
 step_appends ciphers w event s (tellings.Provides number x c psk g d ne open_is hx hc pair same is) kept =
-    let v : World = told ciphers (set_up w) 0 d in
+    let v : World = world_after ciphers (set_up w) 0 d in
     let p = acts x (Ok tt) (λ m. meters.provision m g) in
-    appends_both (set_up w) v (told ciphers v number p) (told_appends ciphers (set_up w) 0 d) (told_appends ciphers v number p)
+    appends_both (set_up w) v (world_after ciphers v number p) (told_appends ciphers (set_up w) 0 d) (told_appends ciphers v number p)
 step_appends ciphers w event s (tellings.TurnsDown e number x octets reason d there says comes same is) kept = told_appends ciphers (ran w) number d
 step_appends ciphers w event s (tellings.Hears e number x octets cost got there says comes low is) kept = told_appends ciphers (ran w) number _
 step_appends ciphers w event s (tellings.Loses number f there) kept = absurd (kept tt)
@@ -293,7 +293,7 @@ module _ (home : ℕ → ℕ) (apart : (i j : ℕ) → home i ≡ home j → i �
   }
 
   rests_held : {A : Type 0} (answer : A) (number : ℕ) (x : Node) (octets : List ℕ) → node_at w number ≡ Some x
-      → Custody network (λ _ f. live w f) S home (told network (ran w) number (stays (accepting network x octets).node answer)) before
+      → Custody network (λ _ f. live w f) S home (world_after network (ran w) number (stays (accepting network x octets).node answer)) before
   rests_held answer number x octets there =
       let plan : Memory → Plan Memory (Result Accepted FrameRefusal) = λ m. of_station m (accept m.station x.eui (arrived network octets)) in
       let did = acts_clean S (home number) x (Err frames.Halted) plan (at_place NodeRanged w.nodes number x there c.ranged) (c.nodes number x there)
@@ -310,7 +310,7 @@ module _ (home : ℕ → ℕ) (apart : (i j : ℕ) → home i ≡ home j → i �
 
   chosen_held : (number count : ℕ) (x : Node) (psk : Key) → node_at w number ≡ Some x
       → Custody network (λ _ f. live w f) S home
-      (told network (ran w) number (reaches x (beside_at w number) (Err choices.Halted) (λ y. choose_agent (identity network x psk) y count w.clock))) before
+      (world_after network (ran w) number (reaches x (beside_at w number) (Err choices.Halted) (λ y. choose_agent (identity network x psk) y count w.clock))) before
   chosen_held number count x psk there =
       told_at network network_opens_again S home (live w) before (ran w) number x
       (reaches x (beside_at w number) (Err choices.Halted) (λ y. choose_agent (identity network x psk) y count w.clock)) ran_held there
@@ -404,11 +404,11 @@ module _ (home : ℕ → ℕ) (apart : (i j : ℕ) → home i ≡ home j → i �
       }
   line_done_is event says kept st (Unbelieves e number x octets got there known comes is) = λ falls later up_at is_sent honest.
       silent event _ None refl (falls_on network live S home w _ before
-      (same_now S home (live w) before (told network (ran w) number (stays (accepting network x octets).node (only said.Blacklisted))) _ refl refl refl
+      (same_now S home (live w) before (world_after network (ran w) number (stays (accepting network x octets).node (only said.Blacklisted))) _ refl refl refl
       (rests_held (only said.Blacklisted) number x octets there)) falls)
   line_done_is event says kept st (Chooses number count x psk ne there pair) = λ falls later up_at is_sent honest.
       silent event _ None refl (falls_on network live S home w _ before
-      (same_now S home (live w) before (told network (ran w) number
+      (same_now S home (live w) before (world_after network (ran w) number
       (reaches x (beside_at w number) (Err choices.Halted) (λ y. choose_agent (identity network x psk) y count w.clock))) _ refl refl refl
       (chosen_held number count x psk there)) falls)
 

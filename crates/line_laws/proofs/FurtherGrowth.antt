@@ -28,7 +28,7 @@ use Rattle.line_events.specs.Events.{IsEvent}
 use Rattle.line_rules.specs.Forgery.{Comes, accepting}
 use Rattle.line_rules.specs.Further.{line_step, chooses_by, unbelieved, beside_at, reaches}
 use Rattle.line_rules.specs.Logs.{LogsKept}
-use Rattle.line_rules.specs.Steps.{Step, ran, told, identity}
+use Rattle.line_rules.specs.Steps.{Step, ran, world_after, identity}
 use Rattle.line_rules.specs.Worlds.{World, Trace, Issued, node_at}
 use Rattle.line_laws.specs.LineAccounts.{BooksIn, LineBooksGrow, LineStepsShut, ShutIn}
 use Rattle.line_laws.specs.Lines.{FlightFits, NodeOk, WorldOk}
@@ -97,8 +97,8 @@ module _ (V : books.Book → Type 0) where
       (cases_eq number 0)
 
   module _ (ciphers : Ciphers) (fits : KeepsRanges ciphers) (U : List Outgoing → Type 0) (D : Discovery → Type 0) where
-    told_nodes : {A : Type 0} (u : World) (number : ℕ) (d : NodeStep A) → (told ciphers u number d).nodes ≡ slice_set u.nodes number d.node
-    unfolding told
+    told_nodes : {A : Type 0} (u : World) (number : ℕ) (d : NodeStep A) → (world_after ciphers u number d).nodes ≡ slice_set u.nodes number d.node
+    unfolding world_after
     told_nodes u number d = refl
 
     first_acts : {A : Type 0} (u : World) → WorldOk u → FirstHas u → (number : ℕ) (x : Node) (halted : A) (plan : Memory → Plan Memory A)
@@ -111,7 +111,7 @@ module _ (V : books.Book → Type 0) where
     moved_has : (v u : World) → Moves U D ciphers v u → WorldOk v → v.running ≡ true → FirstHas v → FirstHas u
     moved_has v u (Stays z) ok runs has = has
     moved_has v u (Carries z number x A halted does there is) ok runs has =
-        told_has v (told ciphers v number (acts x halted does)) number x (acts x halted does) has (told_nodes v number (acts x halted does)) there
+        told_has v (world_after ciphers v number (acts x halted does)) number x (acts x halted does) has (told_nodes v number (acts x halted does)) there
         (first_acts v ok has number x halted does there (λ m here. (further_quietly m (does m) (is m here)).leads V))
     moved_has v u (Flies z number x frame there known) ok runs has = λ c at. has c at
     moved_has v u (Besides z on bs) ok runs has = λ c at. has c at

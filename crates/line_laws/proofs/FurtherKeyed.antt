@@ -28,7 +28,7 @@ use Rattle.line_events.specs.Events.{IsEvent}
 use Rattle.line_rules.specs.Forgery.{Comes, accepting}
 use Rattle.line_rules.specs.Further.{beside_at, line_step, of_memory, reaches, with_beside}
 use Rattle.line_rules.specs.Logs.{LogsKept}
-use Rattle.line_rules.specs.Steps.{Step, identity, ran, told}
+use Rattle.line_rules.specs.Steps.{Step, identity, ran, world_after}
 use Rattle.line_rules.specs.Worlds.{World, Trace, Issued, node_at}
 use Rattle.line_laws.specs.Keyed.{Each, Keyed, PeerIs, TagOk}
 use Rattle.line_laws.specs.Lines.{FlightFits, NodeOk, WorldOk}
@@ -159,20 +159,20 @@ module _ (ciphers : Ciphers) (fits : KeepsRanges ciphers) (w : World) (ok : Worl
 
   -- what a node is that accepted octets and does nothing more
   rests_keyed : {A : Type 0} (answer : A) (event : Event) (number : ℕ) (x : Node) (octets : List ℕ) → node_at w number ≡ Some x → IsEvent event
-      → Comes w event number octets → Keyed (told ciphers (ran w) number (stays (accepting ciphers x octets).node answer)) given
-  unfolding told
+      → Comes w event number octets → Keyed (world_after ciphers (ran w) number (stays (accepting ciphers x octets).node answer)) given
+  unfolding world_after
   rests_keyed answer event number x octets there says comes =
       let are : AreOctets octets = came_octets ciphers fits w ok flown event number octets says comes in
       let plan : Memory → Plan Memory (Result Accepted FrameRefusal) = λ m. of_station m (accept m.station x.eui (arrived ciphers octets)) in
       let none : (accepting ciphers x octets).made ≡ [] =
       acts_nothing x (Err frames.Halted) plan (λ m here. (accept_quietly ciphers fits octets are m x.eui).made) in
-      same_keyed (told ciphers (ran w) number (acts x (Err frames.Halted) plan)) (told ciphers (ran w) number (stays (accepting ciphers x octets).node answer))
+      same_keyed (world_after ciphers (ran w) number (acts x (Err frames.Halted) plan)) (world_after ciphers (ran w) number (stays (accepting ciphers x octets).node answer))
       given
       (quiet_told ciphers fits (ran w) given ran_keyed number x there (good_at number x there) (Err frames.Halted) plan
       (λ m sized. accept_quietly ciphers fits octets are m x.eui)) refl (ap (λ more. w.made ++ more) (sym none))
 
   chosen_keyed : (number k : ℕ) (x : Node) (psk : Key) → number ≢ 0 → node_at w number ≡ Some x
-      → Keyed (told ciphers (ran w) number (reaches x (beside_at w number) (Err choices.Halted) (λ y. choose_agent (identity ciphers x psk) y k w.clock))) given
+      → Keyed (world_after ciphers (ran w) number (reaches x (beside_at w number) (Err choices.Halted) (λ y. choose_agent (identity ciphers x psk) y k w.clock))) given
   chosen_keyed number k x psk ne there =
       own_told ciphers fits (ran w) given ran_keyed number x ne there (good_at number x there) (Err choices.Halted)
       (with_beside (beside_at w number) (λ y. choose_agent (identity ciphers x psk) y k w.clock))
@@ -195,10 +195,10 @@ module _ (ciphers : Ciphers) (fits : KeepsRanges ciphers) (w : World) (ok : Worl
         unsent_keyed w v _ (given ++ t.issued) (after_made U D ciphers w event r v old moves) refl refl
         (subst (λ more. Keyed v (given ++ more)) (sym tells.issued) (moved_keyed U D ciphers fits r.0 v moves good runs (given ++ r.1.issued) h)))
     line_keyed_is event says s (Unbelieves e number x octets got there known comes is) =
-        of_none _ refl (same_keyed (told ciphers (ran w) number (stays (accepting ciphers x octets).node (only said.Blacklisted))) _ given
+        of_none _ refl (same_keyed (world_after ciphers (ran w) number (stays (accepting ciphers x octets).node (only said.Blacklisted))) _ given
         (rests_keyed (only said.Blacklisted) event number x octets there known comes) refl refl)
     line_keyed_is event says s (Chooses number count x psk ne there pair) =
-        of_none _ refl (same_keyed (told ciphers (ran w) number
+        of_none _ refl (same_keyed (world_after ciphers (ran w) number
         (reaches x (beside_at w number) (Err choices.Halted) (λ y. choose_agent (identity ciphers x psk) y count w.clock))) _ given
         (chosen_keyed number count x psk ne there) refl refl)
 

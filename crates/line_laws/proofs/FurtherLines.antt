@@ -27,7 +27,7 @@ use Rattle.line_events.specs.declared.event.Answer.{Answer}
 use Rattle.line_rules.specs.Further.{beside_at, beside_after, commanded, has_reached, broadcasts_by, asks_by, scans_by, discovers_by, has_discovered}
 use Rattle.line_rules.specs.Further.{beacon_taken, scanning, discovery_flight, discovery_flights, reaches, with_beside}
 use Rattle.line_rules.specs.Nonces.{CounterRises, NonceParts, nonce_parts}
-use Rattle.line_rules.specs.Steps.{ran, told}
+use Rattle.line_rules.specs.Steps.{ran, world_after}
 use Rattle.line_rules.specs.Worlds.{World, Flight, Noticed, Trace, node_at}
 use Rattle.line_laws.specs.FurtherLines.{LineHolds, LogFits, CallsKeepTheLine, CommandsKeepTheLine, DiscoveryKeepsTheLine}
 use Rattle.line_laws.specs.Lines.{IsBelow, NodeOk, Rising, WorldOk, frontier}
@@ -58,9 +58,9 @@ module _ (w : World) (ok : WorldOk w) where
       did : DidOk x (reaches x b halted plan)
       did = acts_ok x halted (with_beside b plan) good (λ m here kept sized. further_ok AnyUnits x.role m sized (with_beside b plan m) (is m))
 
-      reached : (bs : List Beside) → WorldOk (record (told ciphers (ran w) number (reaches x b halted plan)) { beside = bs })
+      reached : (bs : List Beside) → WorldOk (record (world_after ciphers (ran w) number (reaches x b halted plan)) { beside = bs })
       reached bs =
-          let v : World = told ciphers (ran w) number (reaches x b halted plan) in
+          let v : World = world_after ciphers (ran w) number (reaches x b halted plan) in
           counts_ok v (record v { beside = bs }) (told_ok ciphers fits (ran w) number x (reaches x b halted plan) ran_ok there did (λ e. absurd (true_false e)))
           refl refl (λ e. e)
 
@@ -155,7 +155,7 @@ module _ (ciphers : Ciphers) (fits : KeepsRanges ciphers) (r : World × Trace) (
     command_holds =
         let did = heard_did in
         let few = did.few in (
-          counts_ok (told ciphers r.0 number (reaches x (beside_at r.0 number) (Err (reach_drops.Known drops.Store)) (λ y. hear_command in_memory y c))) _
+          counts_ok (world_after ciphers r.0 number (reaches x (beside_at r.0 number) (Err (reach_drops.Known drops.Store)) (λ y. hear_command in_memory y c))) _
               (told_ok ciphers fits r.0 number x (reaches x (beside_at r.0 number) (Err (reach_drops.Known drops.Store)) (λ y. hear_command in_memory y c)) ok
               there did (λ e. absurd (not_both e))) refl refl (λ e. e),
           omega arith,

@@ -31,7 +31,7 @@ use Rattle.line_rules.specs.Further.{line_step, delivers, injects, comes, discov
 use Rattle.line_rules.specs.Further.{sends_nothing, beside_at, with_beside}
 use Rattle.line_rules.specs.Logs.{LogsKept}
 use Rattle.line_rules.specs.Runs.{Entry}
-use Rattle.line_rules.specs.Steps.{on_flight, told}
+use Rattle.line_rules.specs.Steps.{on_flight, world_after}
 use Rattle.line_rules.specs.Worlds.{World, Flight, Trace, Issued, node_at}
 use Rattle.line_laws.specs.LineAccounts.{LineFlightsFall, LineNodesAcceptOnce}
 use Rattle.line_laws.specs.Keyed.{Keyed}
@@ -87,14 +87,14 @@ module _ (ciphers : Ciphers) (fits : KeepsRanges ciphers) (w : World) (ok : Worl
   did = heard_did ciphers fits w ok flown logs event number x octets cost got there says comes_so is
 
   now_there : node_at r.0 number ≡ Some d.node
-  unfolding told
+  unfolding world_after
   now_there = slice_get-set w.nodes number d.node (place_within w.nodes number x there)
 
   plainly : (u : World) → u.nodes ≡ r.0.nodes → Became u number y
   plainly u same = record { node = d.node; there = ap (λ ns. slice_get ns number) same ∙ now_there; role = did.role; eui = did.eui; raised = did.marked }
 
   commands_become : (c : NeighbourCommand) → command_of got ≡ Some c → Became (commanded ciphers number d.node c r).0 number y
-  unfolding told
+  unfolding world_after
   commands_become c e =
       let halted : Result CommandHeard ReachDropped = Err (reach_drops.Known drops.Store) in
       let does = with_beside (beside_at r.0 number) (λ z. hear_command in_memory z c) in
@@ -104,14 +104,14 @@ module _ (ciphers : Ciphers) (fits : KeepsRanges ciphers) (w : World) (ok : Worl
       did_become ciphers r.0 (commanded ciphers number d.node c r).0 number d.node y a now_there (did_on y d a did one) refl
 
   answers_become : (reply : Reply) → Became (acknowledged ciphers w number (acknowledging d.node reply) with_it).0 number y
-  unfolding told
+  unfolding world_after
   answers_become reply = by_memory (is_some a.node.memory)
     where
       a : NodeStep (Result (Unit {0}) LocalRefusal)
       a = acknowledging d.node reply
 
       v : World
-      v = told ciphers with_it.0 number a
+      v = world_after ciphers with_it.0 number a
 
       became : (u : World) → u.nodes ≡ slice_set r.0.nodes number a.node → Became u number y
       became u same = did_become ciphers r.0 u number d.node y a now_there (did_on y d a did (ack_did d.node reply did.node)) same
@@ -121,7 +121,7 @@ module _ (ciphers : Ciphers) (fits : KeepsRanges ciphers) (w : World) (ok : Worl
       by_memory false = became (sends_nothing w (v, with_it.1)).0 refl
 
   heard_becomes : (t : World × Trace) → IsHeard ciphers w number x octets got cost t → Became t.0 number y
-  unfolding told
+  unfolding world_after
   heard_becomes t IsUnbelieved = record {
     node = y;
     there = slice_get-set w.nodes number y

@@ -73,7 +73,7 @@ use Rattle.line_rules.specs.Forgery.{Comes, IsForged, accepting}
 use Rattle.line_rules.specs.Further.{line_step, agent_line, asks_by, beacon_taken, beside_at, broadcasts_by, choice_word, chooses_by, commanded, discovers_by}
 use Rattle.line_rules.specs.Further.{discovery_flights, due, due_of, has_discovered, is_reply_taken, acknowledged, acknowledging, adds_frames, bcast, of_memory}
 use Rattle.line_rules.specs.Further.{restarts_by, scanning, unbelieved, scans_by, sends_nothing, with_beside}
-use Rattle.line_rules.specs.Steps.{Step, acted, forged_by, happened, has_begun, identity, is_taken, note_by, ran, set_up, told, trace_of}
+use Rattle.line_rules.specs.Steps.{Step, acted, forged_by, happened, has_begun, identity, is_taken, note_by, ran, set_up, world_after, trace_of}
 use Rattle.line_rules.specs.Traces.{Adds, IsTracedRight, is_broadcast, is_done, is_issue, is_took, is_up}
 use Rattle.line_rules.specs.Worlds.{World, Trace, Further, Noticed, nothing_further, node_at}
 use Rattle.line_rules.specs.Runs.{Entry}
@@ -339,7 +339,7 @@ module _ (ciphers : Ciphers) (w : World) where
   }
 
   seeks_right : (n number to : ℕ) (x : Node) (target : Option ℕ) → Right ciphers w (entry n (events.Path number to) (asks_by ciphers w number x target))
-  unfolding told
+  unfolding world_after
   seeks_right n number to x None = still_right ciphers w n (events.Path number to) (ran w) said.NoAddress (refl, refl, refl, refl, refl)
       (unbrought ciphers w (events.Path number to) (λ b. b)) (ran_counted w) (omega arith) (sym (append-nil w.made))
   seeks_right n number to x (Some target) =
@@ -352,7 +352,7 @@ module _ (ciphers : Ciphers) (w : World) where
       (acted_right ciphers w n (events.Path number to) number e (ask_plain d.answer) none.1 (unbrought ciphers w (events.Path number to) (λ b. b)))
 
   picks_right : (n number k : ℕ) (x : Node) (psk : Option Key) → Right ciphers w (entry n (events.Choose number k) (chooses_by ciphers w number x k psk))
-  unfolding told
+  unfolding world_after
   picks_right n number k x None = still_right ciphers w n (events.Choose number k) (ran w) said.NoBeacon (refl, refl, refl, refl, refl)
       (unbrought ciphers w (events.Choose number k) (λ b. b)) (ran_counted w) (omega arith) (sym (append-nil w.made))
   picks_right n number k x (Some psk) =
@@ -438,13 +438,13 @@ module _ (ciphers : Ciphers) (w : World) (n : ℕ)
       (λ e. f.0 (either_left _ _ e), λ h. or_nothing _ (f.1 h))
 
   commands_right : (c : NeighbourCommand) → command_of got ≡ Some c → Right ciphers w (entry n event (commanded ciphers number d.node c r))
-  unfolding told
+  unfolding world_after
   commands_right c e =
       let halted : Result CommandHeard ReachDropped = Err (reach_drops.Known drops.Store) in
       let does = with_beside (beside_at r.0 number) (λ z. hear_command in_memory z c) in
       let a = acts d.node halted does in
       let none = acts_made d.node halted does (command_made (beside_at r.0 number) c) in
-      let more : length (told ciphers r.0 number a).flights ≡ length r.0.flights + length a.frames = told_flights ciphers r.0 number a in
+      let more : length (world_after ciphers r.0 number a).flights ≡ length r.0.flights + length a.frames = told_flights ciphers r.0 number a in
       let before : length r.0.flights ≡ length w.flights + r.1.happened.flights = plainly.adds.flights in
       let made : r.0.made ++ a.made ≡ w.made ++ r.1.made = ap (λ ts. r.0.made ++ ts) none ∙ append-nil r.0.made ∙ plainly.adds.made in
       let t : Trace = (commanded ciphers number d.node c r).1 in
@@ -457,7 +457,7 @@ module _ (ciphers : Ciphers) (w : World) (n : ℕ)
   checks_right = more_told ciphers w n event r.0 r.1 r.0.checks_on with_it.0.beside with_it.1.further r.1.happened.agent plainly
 
   answers_right : (reply : Reply) → Plain d.answer.answer → Right ciphers w (entry n event (acknowledged ciphers w number (acknowledging d.node reply) with_it))
-  unfolding told
+  unfolding world_after
   answers_right reply plain = by_memory (is_some a.node.memory)
     where
       does : Memory → Plan Memory (Result (Unit {0}) LocalRefusal)
@@ -467,7 +467,7 @@ module _ (ciphers : Ciphers) (w : World) (n : ℕ)
       a = acknowledging d.node reply
 
       v : World
-      v = told ciphers with_it.0 number a
+      v = world_after ciphers with_it.0 number a
 
       none : a.made ≡ []
       none = (untold AnyUnits d.node (Err locals.Store) does (λ m here. ack_is m reply)).0
@@ -517,14 +517,14 @@ module _ (ciphers : Ciphers) (w : World) where
   old_right n event (Err fault) h = tt
 
   spreads_right : (n number : ℕ) (x : Node) (datagram : List ℕ) → RightOn (entry n (events.Bcast number datagram) (broadcasts_by ciphers w number x datagram))
-  unfolding told
+  unfolding world_after
   spreads_right n number x datagram =
       let event : Event = events.Bcast number datagram in
       let does = with_beside (beside_at w number) (λ y. broadcast in_memory y datagram) in
       let b = acts x (Err broadcasts.Halted) does in
       let e = answering broadcast_word b in
       let none = untold AnyUnits x (Err broadcasts.Halted) does (λ m here. broadcast_is AnyUnits (beside_at w number) datagram m (λ own at fault. tt)) in
-      let v : World = told ciphers (ran w) number e in
+      let v : World = world_after ciphers (ran w) number e in
       let h : Happenings = record (happened w (broadcast_word b.answer)) { flights = length b.frames } in
       record {
         adds = more_adds ciphers w n event v (acted ciphers w number e).1 w.checks_on (broadcasts_by ciphers w number x datagram).0.beside
@@ -538,7 +538,7 @@ module _ (ciphers : Ciphers) (w : World) where
   -- of a restart that finds no log: its node is halted, and nothing is sent
   unread_right : (n number : ℕ) (x : Node) (bad : BadStore)
       → Right ciphers w (entry n (events.Restart number) (restarts_by ciphers w number x (Err bad)))
-  unfolding told
+  unfolding world_after
   unread_right n number x bad =
       let e = stays (record x { memory = None }) said.BadStore in
       more_told ciphers w n (events.Restart number) (acted ciphers w number e).0 (acted ciphers w number e).1 w.checks_on

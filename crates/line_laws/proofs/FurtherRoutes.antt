@@ -32,7 +32,7 @@ use Rattle.line_events.specs.Events.{IsEvent}
 use Rattle.line_rules.specs.Forgery.{accepting}
 use Rattle.line_rules.specs.Further.{beside_at, discovery_flight, line_step, of_memory, reaches, with_beside}
 use Rattle.line_rules.specs.Logs.{LogsKept}
-use Rattle.line_rules.specs.Steps.{Step, identity, ran, told}
+use Rattle.line_rules.specs.Steps.{Step, identity, ran, world_after}
 use Rattle.line_rules.specs.Worlds.{World, Issued, Trace, node_at}
 use Rattle.line_laws.specs.Keyed.{Keyed}
 use Rattle.line_laws.specs.Later.{flown as flown_world}
@@ -115,8 +115,8 @@ module _ (h : Homes) where
       by_memory (Some n) there is = by_address (address_of n.station) (f n there) is
 
   told_addressed : {A : Type 0} (v : World) (number : ℕ) (x : Node) (d : NodeStep A) → node_at v number ≡ Some x
-      → ((n : Memory) → d.node.memory ≡ Some n → IsAt (At h number) (address_of n.station)) → Addressed h v → Addressed h (told network v number d)
-  unfolding told
+      → ((n : Memory) → d.node.memory ≡ Some n → IsAt (At h number) (address_of n.station)) → Addressed h v → Addressed h (world_after network v number d)
+  unfolding world_after
   told_addressed v number x d there f addressed = record { home = home; apart = addressed.apart; low = addressed.low }
     where
       home : (i : ℕ) (y : Node) → slice_get (slice_set v.nodes number d.node) i ≡ Some y → (a : ℕ) → node_address y ≡ Some a → h i ≡ Some a
@@ -137,9 +137,9 @@ module _ (h : Homes) where
   -- what one node did
   told_keeps : {A : Type 0} (b v : World) (number : ℕ) (x : Node) (d : NodeStep A) → node_at v number ≡ Some x
       → NodeRanks (At h number) (Own h number) (IsNearer h v) x d.node d.frames → All IsSent d.frames → Reached network h b v
-      → Reached network h b (told network v number d)
+      → Reached network h b (world_after network v number d)
   told_keeps b v number x d there ranks sent r =
-      reach network h v (told network v number d) (told_step network h v number x d there ranks (All-weaker IsSent (FrameRead network) sent_read d.frames sent))
+      reach network h v (world_after network v number d) (told_step network h v number x d there ranks (All-weaker IsSent (FrameRead network) sent_read d.frames sent))
       r
 
   -- nodes and homes as before
@@ -232,7 +232,7 @@ module _ (h : Homes) (w : World) (ok : WorldOk w) (s : WorldSpeaks w) (r : World
 
   -- a node that accepted octets and does nothing more
   rests_reached : {A : Type 0} (answer : A) (number : ℕ) (x : Node) (octets : List ℕ) → node_at w number ≡ Some x
-      → Reached network h w (told network (ran w) number (stays (accepting network x octets).node answer))
+      → Reached network h w (world_after network (ran w) number (stays (accepting network x octets).node answer))
   rests_reached answer number x octets there =
       let plan : Memory → Plan Memory (Result Accepted FrameRefusal) = λ m. of_station m (accept m.station x.eui (arrived network octets)) in
       let ranks = acts_ranks (At h number) (Own h number) (IsNearer h (ran w)) x (Err frames.Halted) plan (good_at number x there)
@@ -247,7 +247,7 @@ module _ (h : Homes) (w : World) (ok : WorldOk w) (s : WorldSpeaks w) (r : World
       }) (All-nil IsSent) ran_reached
 
   chosen_reached : (number k : ℕ) (x : Node) (psk : _) → node_at w number ≡ Some x
-      → Reached network h w (told network (ran w) number
+      → Reached network h w (world_after network (ran w) number
       (reaches x (beside_at w number) (Err choices.Halted) (λ y. choose_agent (identity network x psk) y k w.clock)))
   chosen_reached number k x psk there =
       told_keeps h w (ran w) number x (reaches x (beside_at w number) (Err choices.Halted) (λ y. choose_agent (identity network x psk) y k w.clock)) there
@@ -324,10 +324,10 @@ module _ (h : Homes) (w : World) (ok : WorldOk w) (s : WorldSpeaks w) (r : World
       (old_keeps event says depot q old unforged (addressed_then event says depot q v _ old fine runs moves unforged refl are.0 are.1 are.2
       are.3))).reached)
   line_holds_is event says depot st (Unbelieves e number x octets got there known comes is) are = Taken _ (λ honest.
-      counts_hold network h (told network (ran w) number (stays (accepting network x octets).node (only said.Blacklisted))) _ refl refl
+      counts_hold network h (world_after network (ran w) number (stays (accepting network x octets).node (only said.Blacklisted))) _ refl refl
       (rests_reached (only said.Blacklisted) number x octets there))
   line_holds_is event says depot st (Chooses number count x psk ne there pair) are = Taken _ (λ honest.
-      counts_hold network h (told network (ran w) number
+      counts_hold network h (world_after network (ran w) number
       (reaches x (beside_at w number) (Err choices.Halted) (λ y. choose_agent (identity network x psk) y count w.clock))) _ refl refl
       (chosen_reached number count x psk there))
 

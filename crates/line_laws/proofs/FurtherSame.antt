@@ -13,7 +13,7 @@ use Rattle.line_events.specs.Events.{IsEvent}
 use Rattle.line_rules.specs.Further.{line_step}
 use Rattle.line_rules.specs.Laws.{GoesOn}
 use Rattle.line_rules.specs.Logs.{LogsKept}
-use Rattle.line_rules.specs.Steps.{Step, step, told}
+use Rattle.line_rules.specs.Steps.{Step, step, world_after}
 use Rattle.line_rules.specs.Worlds.{World, Trace}
 use Rattle.line_rules.proofs.StepsOn.{steps}
 use Rattle.line_laws.specs.Lines.{FlightFits, WorldOk}
@@ -62,8 +62,8 @@ KeepsMade w v = (more : List PairTag) × (v.made ≡ w.made ++ more)
 keeps_both : (w v u : World) → KeepsMade w v → KeepsMade v u → KeepsMade w u
 keeps_both w v u one two = (one.0 ++ two.0, two.1 ∙ ap (λ xs. xs ++ two.0) one.1 ∙ append_assoc w.made one.0 two.0)
 
-told_made : {A : Type 0} (ciphers : Ciphers) (w : World) (number : ℕ) (d : NodeStep A) → (told ciphers w number d).made ≡ w.made ++ d.made
-unfolding told
+told_made : {A : Type 0} (ciphers : Ciphers) (w : World) (number : ℕ) (d : NodeStep A) → (world_after ciphers w number d).made ≡ w.made ++ d.made
+unfolding world_after
 told_made ciphers w number d = refl
 
 pub moved_made : (U : List Outgoing → Type 0) (D : Discovery → Type 0) (ciphers : Ciphers) (v u : World) → Moves U D ciphers v u → KeepsMade v u

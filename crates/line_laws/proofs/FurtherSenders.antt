@@ -48,7 +48,7 @@ use Rattle.line_rules.specs.Further.{acknowledged, acknowledging, adds_frames, s
 use Rattle.line_rules.specs.Logs.{LogsKept}
 use Rattle.line_rules.specs.Nonces.{HasSender}
 use Rattle.line_rules.specs.SafeRuns.{HasAddress}
-use Rattle.line_rules.specs.Steps.{Step, ran, set_up, told, flights_of, flight_by, identity, note_by}
+use Rattle.line_rules.specs.Steps.{Step, ran, set_up, world_after, flights_of, flight_by, identity, note_by}
 use Rattle.line_rules.specs.Worlds.{World, Trace, node_at}
 use Rattle.line_laws.specs.LineAccounts.{LineSendersAreRight, SendersIn}
 use Rattle.line_laws.specs.Lines.{FlightFits, NodeOk, WorldOk}
@@ -198,15 +198,15 @@ module _ (ciphers : Ciphers) (fits : KeepsRanges ciphers) (w : World) (ok : Worl
     plainly low = senders ciphers fits w ok flown event (Ok r) (Hears event number x octets cost got there says comes_so low is)
 
     now_there : node_at r.0 number ≡ Some d.node
-    unfolding told
+    unfolding world_after
     now_there = slice_get-set w.nodes number d.node (place_within w.nodes number x there)
 
     heard_flights : r.0.flights ≡ w.flights ++ flights_of ciphers number d
-    unfolding told
+    unfolding world_after
     heard_flights = refl
 
     commands_senders : (c : NeighbourCommand) → command_of got ≡ Some c → NewSenders w (commanded ciphers number d.node c r).0
-    unfolding told
+    unfolding world_after
     commands_senders c e =
         let none : d.frames ≡ [] = command_silent ciphers y got cost (note_by w octets got.path) w.clock c e y.role in
         let halted : Result CommandHeard ReachDropped = Err (reach_drops.Known drops.Store) in
@@ -221,7 +221,7 @@ module _ (ciphers : Ciphers) (fits : KeepsRanges ciphers) (w : World) (ok : Worl
     with_it = checks_so ciphers w number x octets got cost
 
     answers_senders : (reply : Reply) → NewSenders w (acknowledged ciphers w number (acknowledging d.node reply) with_it).0
-    unfolding told
+    unfolding world_after
     answers_senders reply = by_memory a.node.memory refl
       where
         does : Memory → Plan Memory (Result (Unit {0}) LocalRefusal)
@@ -231,7 +231,7 @@ module _ (ciphers : Ciphers) (fits : KeepsRanges ciphers) (w : World) (ok : Worl
         a = acknowledging d.node reply
 
         v : World
-        v = told ciphers with_it.0 number a
+        v = world_after ciphers with_it.0 number a
 
         did : DidOk d.node a
         did = ack_did d.node reply heard_did.node

@@ -80,7 +80,7 @@ use Rattle.line_rules.specs.Further.{discovery_flights, commanded, checked, ackn
 use Rattle.line_rules.specs.Further.{unbelieved, heard_by, heard_further, is_dropped, accepted_further, comes, delivers, injects, ticks, after_ok, due}
 use Rattle.line_rules.specs.Further.{with_check, restarts_by, restarts_further, beside_at, reaches, with_beside, of_memory}
 use Rattle.line_rules.specs.Logs.{AreLogged, HaveShortTables, LogIn, LogsKept}
-use Rattle.line_rules.specs.Steps.{Step, set_up, ran, told, acted, ticked, flights_of, happened, trace_of, has_begun, takes_setup, once_begun, in_setup}
+use Rattle.line_rules.specs.Steps.{Step, set_up, ran, world_after, acted, ticked, flights_of, happened, trace_of, has_begun, takes_setup, once_begun, in_setup}
 use Rattle.line_rules.specs.Steps.{on_node, on_meter, psk_of, identity, on_flight, hears, heard, received, forged_by, note_by, restarts, tick, step}
 use Rattle.line_rules.specs.Worlds.{World, Flight, Trace, node_at, flight_at, is_forged_tag}
 use Rattle.line_rules.proofs.LogSteps.{logged_at}
@@ -153,7 +153,7 @@ pub data Moves (U : List Outgoing → Type 0) (D : Discovery → Type 0) (cipher
   Stays : (w : World) → Moves U D ciphers w w
   Carries : (w : World) (number : ℕ) (x : Node) (A : Type 0) (halted : A) (does : Memory → Plan Memory A) → node_at w number ≡ Some x
       → ((m : Memory) → x.memory ≡ Some m → IsFurther U m (does m))
-      → Moves U D ciphers w (told ciphers w number (acts x halted does))
+      → Moves U D ciphers w (world_after ciphers w number (acts x halted does))
   Flies : (w : World) (number : ℕ) (x : Node) (frame : Discovery) → node_at w number ≡ Some x → D frame → Moves U D ciphers w (flown_world number frame w)
   Besides : (w : World) (on : Bool) (bs : List Beside) → Moves U D ciphers w (record w { checks_on = on; beside = bs })
   Turns : (w v u : World) → Moves U D ciphers w v → Moves U D ciphers v u → Moves U D ciphers w u
@@ -311,7 +311,7 @@ module _ (U : List Outgoing → Type 0) (D : Discovery → Type 0) (ciphers : Ci
   bcast_step number datagram are = once _ _ (at_node _ number _ (λ x there.
       let is = λ (m : Memory) (e : x.memory ≡ Some m). speaks.broadcasts number x m datagram are there e in
       let n = untold U x (Err broadcasts.Halted) (with_beside (beside_at w number) (λ y. broadcast in_memory y datagram)) is in
-      let v : World = told ciphers (ran w) number (reaches x (beside_at w number) (Err broadcasts.Halted) (λ y. broadcast in_memory y datagram)) in
+      let v : World = world_after ciphers (ran w) number (reaches x (beside_at w number) (Err broadcasts.Halted) (λ y. broadcast in_memory y datagram)) in
       Anew _ (broadcasts_by ciphers w number x datagram).0 (broadcasts_by ciphers w number x datagram).1
       (Turns (ran w) v _ (Carries (ran w) number x _ (Err broadcasts.Halted) (with_beside (beside_at w number) (λ y. broadcast in_memory y datagram)) there is)
       (Besides v v.checks_on (broadcasts_by ciphers w number x datagram).0.beside))
@@ -322,7 +322,7 @@ module _ (U : List Outgoing → Type 0) (D : Discovery → Type 0) (ciphers : Ci
   asks_step from to x there (Some target) =
       let is = λ (m : Memory) (e : x.memory ≡ Some m). speaks.asks from x m target there e in
       let n = untold U x (Err asks.Halted) (with_beside (beside_at w from) (λ y. ask_path in_memory y target)) is in
-      let v : World = told ciphers (ran w) from (reaches x (beside_at w from) (Err asks.Halted) (λ y. ask_path in_memory y target)) in
+      let v : World = world_after ciphers (ran w) from (reaches x (beside_at w from) (Err asks.Halted) (λ y. ask_path in_memory y target)) in
       Anew _ (asks_by ciphers w from x (Some target)).0 (asks_by ciphers w from x (Some target)).1
       (Turns (ran w) v _ (Carries (ran w) from x _ (Err asks.Halted) (with_beside (beside_at w from) (λ y. ask_path in_memory y target)) there is)
       (Besides v v.checks_on (asks_by ciphers w from x (Some target)).0.beside))
@@ -389,7 +389,7 @@ module _ (U : List Outgoing → Type 0) (D : Discovery → Type 0) (ciphers : Ci
       ) else Err faults.Setup
 
       taken : (r : World × Trace) → StepGood w (Ok r) → WorldOk r.0
-      taken r (Taken q good few told) = good
+      taken r (Taken q good few world_after) = good
 
       by_start : (b : Bool) → StepGood w (as_before b) → Old (events.Tick seconds) (as_before b)
           → Is (events.Tick seconds) (after_ok (λ r. (record r.0 { beside = map (tick_beside (w.clock + seconds)) w.beside }, r.1)) (as_before b))
@@ -401,7 +401,7 @@ module _ (U : List Outgoing → Type 0) (D : Discovery → Type 0) (ciphers : Ci
   restarts_step : (number : ℕ) (x : Node) → node_at w number ≡ Some x → Old (events.Restart number) (Ok (acted ciphers w number (restarts x)))
       → (o : Result Beside BadStore) → restarted x.store.records ≡ o
       → Is (events.Restart number) (Ok (restarts_by ciphers w number x o))
-  unfolding told
+  unfolding world_after
   restarts_step number x there known (Err bad) e = absurd (restarts_read ciphers w logs number x there bad e)
   restarts_step number x there known (Ok b) e =
       let r : World × Trace = acted ciphers w number (restarts x) in
@@ -438,17 +438,17 @@ module _ (U : List Outgoing → Type 0) (D : Discovery → Type 0) (ciphers : Ci
     r = heard ciphers w number y octets got cost
 
     now_there : node_at r.0 number ≡ Some d.node
-    unfolding told
+    unfolding world_after
     now_there = slice_get-set w.nodes number d.node (place_within w.nodes number x there)
 
     goes_on : r.0.running ≡ true
-    unfolding told
+    unfolding world_after
     goes_on = refl
 
     commanded_step : (c : NeighbourCommand) → command_of got ≡ Some c → Is event (Ok (commanded ciphers number d.node c r))
-    unfolding told
+    unfolding world_after
     commanded_step c e =
-        let v : World = told ciphers r.0 number
+        let v : World = world_after ciphers r.0 number
         (reaches d.node (beside_at r.0 number) (Err (reach_drops.Known drops.Store)) (λ z. hear_neighbours in_memory z c)) in
         After event r (commanded ciphers number d.node c r).0 (commanded ciphers number d.node c r).1 before good goes_on
         (Turns r.0 v _ (Carries r.0 number d.node _ (Err (reach_drops.Known drops.Store))
@@ -471,7 +471,7 @@ module _ (U : List Outgoing → Type 0) (D : Discovery → Type 0) (ciphers : Ci
         a = acknowledging d.node reply
 
         v : World
-        v = told ciphers with_it.0 number a
+        v = world_after ciphers with_it.0 number a
 
         moves : Moves U D ciphers r.0 v
         moves = Turns r.0 with_it.0 v with_moves (Carries with_it.0 number d.node _ (Err locals.Store)
@@ -705,7 +705,7 @@ module _ (U : List Outgoing → Type 0) (D : Discovery → Type 0) (ciphers : Ci
 
   -- the line, which goes on running
   pub moved_ok : (v u : World) → Moves U D ciphers v u → WorldOk v → v.running ≡ true → WorldOk u × (u.running ≡ true)
-  unfolding told
+  unfolding world_after
   moved_ok v u (Stays z) ok runs = (ok, runs)
   moved_ok v u (Carries z number x A halted does there is) ok runs = (
     told_ok ciphers fits v number x (acts x halted does) ok there
@@ -724,7 +724,7 @@ module _ (U : List Outgoing → Type 0) (D : Discovery → Type 0) (ciphers : Ci
   -- no mark falls
   pub moved_follows : (w v u : World) → Follows w v → Moves U D ciphers v u → WorldOk v → v.running ≡ true → Follows w u
   moved_follows w v u f (Stays z) ok runs = f
-  moved_follows w v u f (Carries z number x A halted does there is) ok runs = told_follows w v (told ciphers v number (acts x halted does)) number x
+  moved_follows w v u f (Carries z number x A halted does there is) ok runs = told_follows w v (world_after ciphers v number (acts x halted does)) number x
       (acts x halted does) f there (told_nodes ciphers v number (acts x halted does))
       (of_did x (acts x halted does) (carried_did v ok number x halted does there is))
   moved_follows w v u f (Flies z number x frame there known) ok runs =

@@ -80,7 +80,7 @@ use Rattle.line_rules.specs.Further.{discovery_flights, commanded, checked, ackn
 use Rattle.line_rules.specs.Further.{unbelieved, heard_by, heard_further, is_dropped, accepted_further, comes, delivers, injects, ticks, after_ok, due}
 use Rattle.line_rules.specs.Further.{with_check, restarts_by, restarts_further, beside_at, reaches, with_beside, of_memory}
 use Rattle.line_rules.specs.Logs.{AreLogged, HaveShortTables, LogIn, LogsKept}
-use Rattle.line_rules.specs.Steps.{Step, set_up, ran, told, flights_of, happened, trace_of, has_begun, takes_setup, once_begun, in_setup, on_node, on_meter}
+use Rattle.line_rules.specs.Steps.{Step, set_up, ran, world_after, flights_of, happened, trace_of, has_begun, takes_setup, once_begun, in_setup, on_node, on_meter}
 use Rattle.line_rules.specs.Steps.{psk_of, identity, on_flight, hears, heard, received, forged_by, note_by, restarts, tick, step}
 use Rattle.line_rules.specs.Worlds.{World, Flight, Trace, node_at, flight_at, is_forged_tag}
 use Rattle.line_rules.proofs.LogSteps.{logged_at}
@@ -350,7 +350,7 @@ module _ (ciphers : Ciphers) (fits : KeepsRanges ciphers) (w : World) (ok : Worl
 
   -- nothing is done but that other things stand beside
   aside : (v : World) (t : Trace) (bs : List Beside) → StepGood w (Ok (v, t)) → StepGood w (Ok (record v { beside = bs }, t))
-  aside v t bs (Taken r good few told) = Taken _ (counts_ok v (record v { beside = bs }) good refl refl (λ e. e)) few told
+  aside v t bs (Taken r good few world_after) = Taken _ (counts_ok v (record v { beside = bs }) good refl refl (λ e. e)) few world_after
 
   checks_good : StepGood w (checks w)
   unfolding checks
@@ -405,7 +405,7 @@ module _ (ciphers : Ciphers) (fits : KeepsRanges ciphers) (w : World) (ok : Worl
       let did : DidOk x d = acts_ok x (Err choices.Halted) (with_beside (beside_at w number) (λ y. choose_agent (identity ciphers x psk) y k w.clock))
       (node_ok number x there)
       (λ m here kept sized. choice_ok x.role m sized ciphers fits (identity ciphers x psk) refl (beside_at w number) k w.clock) in
-      let v : World = told ciphers (ran w) number d in
+      let v : World = world_after ciphers (ran w) number d in
       Taken (chooses_by ciphers w number x k (Some psk)) (counts_ok v (chooses_by ciphers w number x k (Some psk)).0
       (told_ok ciphers fits (ran w) number x d ran_ok there did (λ e. absurd (true_false e))) refl refl (λ e. e)) did.few (told_more ciphers (ran w) number d)
 
@@ -443,22 +443,22 @@ module _ (ciphers : Ciphers) (fits : KeepsRanges ciphers) (w : World) (ok : Worl
       heard_did = and_then d (hears_ok ciphers fits w ok flown y got cost (note_by w octets got.path) w.clock good routes)
 
       pub heard_ok : WorldOk r.0
-      heard_ok = counts_ok (told ciphers (ran w) number d) r.0 (told_ok ciphers fits (ran w) number x d ran_ok there heard_did (λ e. absurd (true_false e)))
+      heard_ok = counts_ok (world_after ciphers (ran w) number d) r.0 (told_ok ciphers fits (ran w) number x d ran_ok there heard_did (λ e. absurd (true_false e)))
           refl refl (λ e. e)
 
       heard_good : StepGood w (Ok r)
       heard_good = Taken r heard_ok heard_did.few (told_more ciphers (ran w) number d)
 
       now_there : node_at r.0 number ≡ Some d.node
-      unfolding told
+      unfolding world_after
       now_there = slice_get-set w.nodes number d.node (place_within w.nodes number x there)
 
       goes_on : r.0.running ≡ true
-      unfolding told
+      unfolding world_after
       goes_on = refl
 
       fits_now : (m : Memory) → d.node.memory ≡ Some m → LogFits (beside_at r.0 number)
-      unfolding told
+      unfolding world_after
       fits_now m here = by_memory x.memory (from_y y.memory refl (hears_down ciphers y got cost (note_by w octets got.path) w.clock m y.role here))
           (logged_at w.beside w.nodes number x logs there)
         where
@@ -506,14 +506,14 @@ module _ (ciphers : Ciphers) (fits : KeepsRanges ciphers) (w : World) (ok : Worl
       first_more = told_more ciphers (ran w) number d
 
       acknowledged_good : (reply : Reply) → length d.frames ≤ 22 → StepGood w (Ok (acknowledged ciphers w number (acknowledging d.node reply) with_it))
-      unfolding told
+      unfolding world_after
       acknowledged_good reply few = by_memory (is_some a.node.memory)
         where
           a : NodeStep (Result (Unit {0}) LocalRefusal)
           a = acknowledging d.node reply
 
           v : World
-          v = told ciphers with_it.0 number a
+          v = world_after ciphers with_it.0 number a
 
           v_ok : WorldOk v
           v_ok = told_ok ciphers fits with_it.0 number d.node a with_ok now_there (ack_did d.node reply heard_did.node)
@@ -582,7 +582,7 @@ module _ (ciphers : Ciphers) (fits : KeepsRanges ciphers) (w : World) (ok : Worl
       by_answer : (r : Result Accepted FrameRefusal) → first.answer ≡ r → StepGood w (Ok (accepted_further ciphers w number octets cost first))
       by_answer (Err reason) e =
           let k : NodeStep (Result Accepted FrameRefusal) = record first { answer = Err reason } in
-          rw e (Taken (told ciphers (ran w) number k, trace_of (happened w (frame_word reason)))
+          rw e (Taken (world_after ciphers (ran w) number k, trace_of (happened w (frame_word reason)))
           (told_ok ciphers fits (ran w) number x k ran_ok there (record {
             node = did.node;
             role = did.role;
@@ -663,7 +663,7 @@ module _ (ciphers : Ciphers) (fits : KeepsRanges ciphers) (w : World) (ok : Worl
 
 step_holds : (w : World) (s : Step) → StepGood w s → StepHolds w s
 step_holds w s (Fails fault) = tt
-step_holds w s (Taken r good few told) = ((good, few), told)
+step_holds w s (Taken r good few world_after) = ((good, few), world_after)
 
 pub line_steps_hold : LineStepsHold
 line_steps_hold ciphers fits w ok flown logs event says = step_holds w (line_step ciphers w event) (line_good ciphers fits w ok flown logs event says)

@@ -27,7 +27,7 @@ use Rattle.line_events.specs.declared.event.Answer.TheVariants as said
 use Rattle.line_events.specs.declared.event.Event.{Event}
 use Rattle.line_rules.specs.Forgery.{accepting}
 use Rattle.line_rules.specs.Further.{line_step, chooses_by, sends_nothing, beside_at, of_memory, reaches, with_beside}
-use Rattle.line_rules.specs.Steps.{Step, ran, set_up, told, identity}
+use Rattle.line_rules.specs.Steps.{Step, ran, set_up, world_after, identity}
 use Rattle.line_rules.specs.Worlds.{World, Sending, node_at}
 use Rattle.line_laws.specs.LineAccounts.{LineTagsRise, TagsIn}
 use Rattle.line_laws.specs.Keyed.{Each}
@@ -93,8 +93,8 @@ same_kept : (v u : World) → u.nodes ≡ v.nodes → u.events ≡ v.events → 
 same_kept v u nodes events = record { at = λ n y here. (y, sym (ap (λ ns. slice_get ns n) nodes) ∙ here, λ t e. e); more = ap length nodes; events = events }
 
 told_kept : {A : Type 0} (ciphers : Ciphers) (v : World) (number : ℕ) (x : Node) (d : NodeStep A) → node_at v number ≡ Some x → TagStays x d.node
-    → TagsKept v (told ciphers v number d)
-unfolding told
+    → TagsKept v (world_after ciphers v number d)
+unfolding world_after
 told_kept ciphers v number x d there leaves = record { at = at; more = length-set v.nodes number d.node; events = refl }
   where
     at : (n : ℕ) (y : Node) → slice_get (slice_set v.nodes number d.node) n ≡ Some y → (z : Node) × (node_at v n ≡ Some z) × TagStays z y
@@ -176,15 +176,15 @@ module _ (U : List Outgoing → Type 0) (D : Discovery → Type 0) (ciphers : Ci
   }
 
   chooses_tags : (number k : ℕ) (x : Node) (own : meters.Identity) → node_at w number ≡ Some x
-      → StepTags w (told ciphers (ran w) number (reaches x (beside_at w number) (Err choices.Halted) (λ y. choose_agent own y k w.clock))) None
+      → StepTags w (world_after ciphers (ran w) number (reaches x (beside_at w number) (Err choices.Halted) (λ y. choose_agent own y k w.clock))) None
   chooses_tags number k x own there =
       let d : NodeStep (Result ChosenAgent ChooseRefusal) = reaches x (beside_at w number) (Err choices.Halted) (λ y. choose_agent own y k w.clock) in
       let leaves = acts_leave x (Err choices.Halted) (with_beside (beside_at w number) (λ y. choose_agent own y k w.clock))
       (λ m here. choice_away m own (beside_at w number) k w.clock) in
-      then_kept w (ran w) (told ciphers (ran w) number d) None None ran_tags (told_kept ciphers (ran w) number x d there leaves) refl
+      then_kept w (ran w) (world_after ciphers (ran w) number d) None None ran_tags (told_kept ciphers (ran w) number x d there leaves) refl
 
   pub line_tags : (event : Event) (s : Step) → IsLineStep U D ciphers w event s → Counts s
-  unfolding told
+  unfolding world_after
   line_tags event s (Known e t is) = old_tags e t is
   line_tags event s (Opens begun) =
       (record { nodes = same_moved ciphers w; more = omega arith; took = none_took w (record (set_up w) { checks_on = true }) }, refl)
@@ -203,11 +203,11 @@ module _ (U : List Outgoing → Type 0) (D : Discovery → Type 0) (ciphers : Ci
       let d = stays (accepting ciphers x octets).node (only said.Blacklisted) in
       let a = told_tags ciphers fits w ok (ran w) number x d (same_moved ciphers w) refl there
       (λ t q. Remains (accepts_stays ciphers fits w ok x octets t q)) in
-      (as_sent (told ciphers (ran w) number d) _ None a refl, refl)
+      (as_sent (world_after ciphers (ran w) number d) _ None a refl, refl)
   line_tags event s (Chooses number k x psk ne there e) =
       let own = identity ciphers x psk in
       let d : NodeStep (Result ChosenAgent ChooseRefusal) = reaches x (beside_at w number) (Err choices.Halted) (λ y. choose_agent own y k w.clock) in
-      (as_sent (told ciphers (ran w) number d) (chooses_by ciphers w number x k (Some psk)).0 None (chooses_tags number k x own there) refl, refl)
+      (as_sent (world_after ciphers (ran w) number d) (chooses_by ciphers w number x k (Some psk)).0 None (chooses_tags number k x own there) refl, refl)
 
   tags_in : (sent : List Sending) → TagsOk w sent → w.events < 50000 → (s : Step) → Counts s → TagsIn sent s
   tags_in sent tags few (Ok r) c = next_tags w r.0 sent tags few c.1 r.1.sent c.0

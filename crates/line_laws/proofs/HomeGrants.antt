@@ -16,7 +16,7 @@ use Rattle.group_keys.specs.KeyBook as books
 use Rattle.line_rules.specs.Answers.{Reception, meter_reception, coordinator_reception}
 use Rattle.line_rules.specs.Worlds.{World, Issued, node_at, same_tag, is_forged_tag}
 use Rattle.line_rules.specs.Forgery.{accepting}
-use Rattle.line_rules.specs.Steps.{Step, set_up, told, takes_setup, identity, hears, note_by, psk_of, provisioned, depot, depot_by, depot_at}
+use Rattle.line_rules.specs.Steps.{Step, set_up, world_after, takes_setup, identity, hears, note_by, psk_of, provisioned, depot, depot_by, depot_at}
 use Rattle.line_events.specs.declared.event.StepFault.TheVariants as faults
 use Rattle.node_rules.specs.declared.heard.Accepted.{Accepted}
 use Rattle.node_rules.specs.declared.refusal.CoordinatorRefusal.{CoordinatorRefusal}
@@ -176,8 +176,8 @@ module _ (ciphers : Ciphers) (w : World) (number : ℕ) (x c : Node) (psk : Key)
   LeftBy (Err fault) = Unit {0}
 
   told_left : (u : World) (d : NodeStep (Result Granted CoordinatorRefusal)) (g : Granted) → u.nodes ≡ w.nodes → d.node ≡ order.node → number ≢ 0
-      → WasLeft (provisioned ciphers (told ciphers u 0 d) number x g).0
-  unfolding told
+      → WasLeft (provisioned ciphers (world_after ciphers u 0 d) number x g).0
+  unfolding world_after
   told_left u d g same left ne = record {
     other = ne;
     node = d.node;

@@ -47,7 +47,7 @@ use Rattle.node_rules.specs.Drafts.{choose, empty_draft, with_ring}
 use Rattle.node_rules.specs.MemoryDrafts.{with_station}
 use Rattle.line_events.specs.Events.{IsEvent}
 use Rattle.line_rules.specs.Worlds.{World, Flight, Trace, node_at, flight_at, is_forged_tag}
-use Rattle.line_rules.specs.Steps.{Step, set_up, ran, told, acted, once_begun, in_setup, has_begun, takes_setup, on_node, on_meter, blank_node, identity, hears}
+use Rattle.line_rules.specs.Steps.{Step, set_up, ran, world_after, acted, once_begun, in_setup, has_begun, takes_setup, on_node, on_meter, blank_node, identity, hears}
 use Rattle.line_rules.specs.Steps.{restarts, memory_by, ticked, rand, join, joins_by, leave, send, sends_by, sent_if, breaks, breaks_by, lose, tick, restart}
 use Rattle.line_rules.specs.Steps.{cut, show, psk_of, trace_of, happened, coordinator, coordinator_node, meter, is_known, depot, depot_by, near, near_by}
 use Rattle.line_rules.specs.Steps.{keeps_rank, ranks_full, offered_near, preset, allow, allowed, deliver, inject, arrives, accepted_by, received}
@@ -105,8 +105,8 @@ pub data StepKeyed (w : World) (given : List Issued) : Step → Type 0 where
 
 -- the answer does not matter
 told_as : {A B : Type 0} (ciphers : Ciphers) (w : World) (number : ℕ) (reads : A → B) (d : NodeStep A) (given : List Issued)
-    → Keyed (told ciphers w number d) given → Keyed (told ciphers w number (answering reads d)) given
-unfolding told
+    → Keyed (world_after ciphers w number d) given → Keyed (world_after ciphers w number (answering reads d)) given
+unfolding world_after
 told_as ciphers w number reads d given k = same_keyed _ _ given k refl refl
 
 pub or_false : (a b : Bool) → (a || b) ≡ false → b ≡ false
@@ -120,7 +120,7 @@ module _ (ciphers : Ciphers) (fits : KeepsRanges ciphers) where
   -- a call that leaves the ring, the session and the book
   pub quiet_told_at : {A : Type 0} (w : World) (given : List Issued) (k : Keyed w given) (number : ℕ) (x : Node) → node_at w number ≡ Some x → NodeOk x
       → (halted : A) (plan : Memory → Plan Memory A)
-      → ((m : Memory) → x.memory ≡ Some m → IsMemorySized m → Quietly m (plan m)) → Keyed (told ciphers w number (acts x halted plan)) given
+      → ((m : Memory) → x.memory ≡ Some m → IsMemorySized m → Quietly m (plan m)) → Keyed (world_after ciphers w number (acts x halted plan)) given
   quiet_told_at w given k number x there ok halted plan q = ⊎_elim
       (λ (e : number ≡ 0). subst (Keyed _) (append-nil given)
       (told_coordinator ciphers w number x (acts x halted plan) there (quiet_did e).eui given [] k e (quiet_did e)))
@@ -147,14 +147,14 @@ module _ (ciphers : Ciphers) (fits : KeepsRanges ciphers) where
 
   pub quiet_told : {A : Type 0} (w : World) (given : List Issued) (k : Keyed w given) (number : ℕ) (x : Node) → node_at w number ≡ Some x → NodeOk x
       → (halted : A) (plan : Memory → Plan Memory A)
-      → ((m : Memory) → IsMemorySized m → Quietly m (plan m)) → Keyed (told ciphers w number (acts x halted plan)) given
+      → ((m : Memory) → IsMemorySized m → Quietly m (plan m)) → Keyed (world_after ciphers w number (acts x halted plan)) given
   quiet_told w given k number x there ok halted plan q = quiet_told_at w given k number x there ok halted plan (λ m here sized. q m sized)
 
   -- a call of a meter by itself
   pub own_told : {A : Type 0} (w : World) (given : List Issued) (k : Keyed w given) (number : ℕ) (x : Node) → number ≢ 0 → node_at w number ≡ Some x → NodeOk x
       → (halted : A) (plan : Memory → Plan Memory A)
       → ((m : Memory) → IfSome m.station.ring IsReadable → PeerIs x.eui m.session → MeterPlan x.eui m.station.ring None (plan m))
-      → ((m : Memory) → (plan m).opened ≡ []) → Keyed (told ciphers w number (acts x halted plan)) given
+      → ((m : Memory) → (plan m).opened ≡ []) → Keyed (world_after ciphers w number (acts x halted plan)) given
   own_told {A = A} w given k number x ne there ok halted plan f none =
       let h = k.meters number x ne there in
       let d : MeterDid k.book given x (acts x halted plan) = meter_acts k.book given x halted plan w.made ok h k.made (λ t among. absurd (no_tag t among))
@@ -288,7 +288,7 @@ module _ (ciphers : Ciphers) (fits : KeepsRanges ciphers) (w : World) (ok : Worl
       (λ m here kept. f m (sized_at ciphers fits c m good here) ran_keyed.book (h.ring m.station.ring kept.station.ring.stored) kept.station.range.ring)
 
   coordinator_told : {A : Type 0} (c : Node) (d : NodeStep A) → node_at w 0 ≡ Some c → CoordinatorDid ran_keyed.book given [] c d
-      → Keyed (told ciphers (ran w) 0 d) given
+      → Keyed (world_after ciphers (ran w) 0 d) given
   coordinator_told c d there did = subst (Keyed _) (append-nil given) (told_coordinator ciphers (ran w) 0 c d there did.eui given [] ran_keyed refl did)
 
   ordered_keyed : {A : Type 0} (c : Node) (answer : Answer) (order : Memory → Plan Memory (Result A CoordinatorRefusal)) → node_at w 0 ≡ Some c
@@ -348,7 +348,7 @@ module _ (ciphers : Ciphers) (fits : KeepsRanges ciphers) (w : World) (ok : Worl
 
   same_store : {A : Type 0} (number : ℕ) (x : Node) (d : NodeStep A) → node_at w number ≡ Some x → d.node.store.records ≡ x.store.records → d.node.role ≡ x.role
       → d.node.eui ≡ x.eui → d.made ≡ []
-      → (IsMeter x.role → IfSome d.node.memory (λ m. PeerIs d.node.eui m.session)) → Keyed (told ciphers (ran w) number d) given
+      → (IsMeter x.role → IfSome d.node.memory (λ m. PeerIs d.node.eui m.session)) → Keyed (world_after ciphers (ran w) number d) given
   same_store number x d there records role eui made peer = ⊎_elim
       (λ (e : number ≡ 0).
       let c = ran_keyed.coordinator x (ap (slice_get w.nodes) (sym e) ∙ there) in
@@ -509,24 +509,24 @@ module _ (ciphers : Ciphers) (fits : KeepsRanges ciphers) (w : World) (ok : Worl
         made = subst (Each (TagOk b given)) (sym t.made) tt;
       })
 
-  told_answer : {A : Type 0} (number : ℕ) (d : NodeStep A) (r : A) → Keyed (told ciphers (ran w) number d) given
-      → Keyed (told ciphers (ran w) number (record d { answer = r })) given
-  unfolding told
+  told_answer : {A : Type 0} (number : ℕ) (d : NodeStep A) (r : A) → Keyed (world_after ciphers (ran w) number d) given
+      → Keyed (world_after ciphers (ran w) number (record d { answer = r })) given
+  unfolding world_after
   told_answer number d r h = same_keyed _ _ given h refl refl
 
   received_keyed : (number : ℕ) (forged : Bool) (d : NodeStep Reception)
-      → (forged ≡ false → Keyed (told ciphers (ran w) number d) (given ++ issued_of d.answer.keyed)) → Good (Ok (received ciphers w number forged d))
-  received_keyed number forged d h = Taken _ (λ honest. same_keyed (told ciphers (ran w) number d) _ _ (h honest) refl refl)
+      → (forged ≡ false → Keyed (world_after ciphers (ran w) number d) (given ++ issued_of d.answer.keyed)) → Good (Ok (received ciphers w number forged d))
+  received_keyed number forged d h = Taken _ (λ honest. same_keyed (world_after ciphers (ran w) number d) _ _ (h honest) refl refl)
 
-  told_later : {A : Type 0} (number : ℕ) (reads : A → Reception) (d : NodeStep A) (more : List Issued) → Keyed (told ciphers (ran w) number d) (given ++ more)
-      → Keyed (told ciphers (ran w) number (answering reads d)) (given ++ more)
+  told_later : {A : Type 0} (number : ℕ) (reads : A → Reception) (d : NodeStep A) (more : List Issued) → Keyed (world_after ciphers (ran w) number d) (given ++ more)
+      → Keyed (world_after ciphers (ran w) number (answering reads d)) (given ++ more)
   told_later number reads d more h = told_as ciphers (ran w) number reads d (given ++ more) h
 
   hears_told : (number : ℕ) (x y : Node) (got : Accepted) (cost note now : ℕ) → node_at w number ≡ Some x → NodeOk y → y.role ≡ x.role → y.eui ≡ x.eui
       → RoutesFit got
       → (number ≡ 0 → CoordinatorDid ran_keyed.book given [] x (stays y (tt {0}))) → (number ≢ 0 → MeterOk ran_keyed.book given y)
       → list_any (is_forged_tag w.made) (hears ciphers y got cost note now).opened ≡ false
-      → Keyed (told ciphers (ran w) number (hears ciphers y got cost note now)) (given ++ issued_of (hears ciphers y got cost note now).answer.keyed)
+      → Keyed (world_after ciphers (ran w) number (hears ciphers y got cost note now)) (given ++ issued_of (hears ciphers y got cost note now).answer.keyed)
   hears_told number x y got cost note now there good role eui routes coordinator meter = by_role y.role refl
     where
       hears_as : Role → NodeStep Reception
@@ -541,7 +541,7 @@ module _ (ciphers : Ciphers) (fits : KeepsRanges ciphers) (w : World) (ok : Worl
       not_meter psk e = cc
 
       by_role : (r : Role) → y.role ≡ r → list_any (is_forged_tag w.made) (hears_as r).opened ≡ false
-          → Keyed (told ciphers (ran w) number (hears_as r)) (given ++ issued_of (hears_as r).answer.keyed)
+          → Keyed (world_after ciphers (ran w) number (hears_as r)) (given ++ issued_of (hears_as r).answer.keyed)
       by_role Coordinator is honest = ⊎_elim
           (λ (e : number ≡ 0).
           let c = coordinator e in
@@ -559,7 +559,7 @@ module _ (ciphers : Ciphers) (fits : KeepsRanges ciphers) (w : World) (ok : Worl
           let did = meter_hears_did y psk is got cost note now ran_keyed.book routes good (meter ne) ran_keyed.made honest in
           let d = acts y (Err drops.Store) (λ m. meters.hear_meter (identity ciphers y psk) m got cost note now) in
           let none : issued_of (meter_reception d.answer).keyed ≡ [] = ap issued_of (no_keys d.answer) in
-          told_later number meter_reception d _ (subst (Keyed (told ciphers (ran w) number d)) (sym (append-nil given) ∙ ap (λ more. given ++ more) (sym none))
+          told_later number meter_reception d _ (subst (Keyed (world_after ciphers (ran w) number d)) (sym (append-nil given) ∙ ap (λ more. given ++ more) (sym none))
           (told_meter ciphers (ran w) number x d there (did.eui ∙ eui) given ran_keyed ne
           (record { node = did.node; eui = did.eui ∙ eui; role = did.role ∙ role; made = did.made }))))
           (cases_eq number 0)
@@ -596,7 +596,7 @@ module _ (ciphers : Ciphers) (fits : KeepsRanges ciphers) (w : World) (ok : Worl
           → Good (Ok (accepted_by ciphers w number octets cost (acts x (Err frames.Halted) plan)))
       by_answer (Err reason) e =
           rw e (taken_none (
-            told ciphers (ran w) number (record (acts x (Err frames.Halted) plan) { answer = Err reason }),
+            world_after ciphers (ran w) number (record (acts x (Err frames.Halted) plan) { answer = Err reason }),
             trace_of (happened w (frame_word reason)),
           ) refl
           (told_answer number (acts x (Err frames.Halted) plan) (Err reason)
@@ -646,12 +646,12 @@ module _ (ciphers : Ciphers) (fits : KeepsRanges ciphers) (w : World) (ok : Worl
       by_memory None q e = absurd (no_some _ e)
       by_memory (Some m) q e = by_ring m.station.ring q.station.range.ring e
 
-  pub other_there : {A : Type 0} (a b : ℕ) (d : NodeStep A) (y : Node) → b ≢ a → node_at w b ≡ Some y → node_at (told ciphers (set_up w) a d) b ≡ Some y
-  unfolding told
+  pub other_there : {A : Type 0} (a b : ℕ) (d : NodeStep A) (y : Node) → b ≢ a → node_at w b ≡ Some y → node_at (world_after ciphers (set_up w) a d) b ≡ Some y
+  unfolding world_after
   other_there a b d y far there = slice_get-set_other w.nodes a b d.node far ∙ there
 
   offered_told : (v : World) → Keyed v given → (number : ℕ) (x : Node) → node_at v number ≡ Some x → NodeOk x → (to cost : ℕ) → to < 0xFFFE → cost ≤ 255
-      → Keyed (told ciphers v number (offered_near x to cost w.clock)) given
+      → Keyed (world_after ciphers v number (offered_near x to cost w.clock)) given
   offered_told v kv number x there good to cost short low =
       told_as ciphers v number (λ _. tt) (acts x (Ok tt) (λ m. of_station m (calls.preset_near m.station to cost w.clock))) given
       (quiet_told ciphers fits v given kv number x there good (Ok tt) (λ m. of_station m (calls.preset_near m.station to cost w.clock))
@@ -665,7 +665,7 @@ module _ (ciphers : Ciphers) (fits : KeepsRanges ciphers) (w : World) (ok : Worl
       branch ((a == b) || (keeps_rank x q || (ranks_full x || ranks_full y))) _ _ (λ _. Fails faults.Setup) (λ may.
       let far : b ≢ a = λ same. eqb-false _ _ (or_parts _ _ may).0 (sym same) in
       let first = offered_told (set_up w) set_up_keyed a x hx (node_ok a x hx) q cost (address_low y q (node_ok b y hy) eq) low in
-      taken_none _ refl (offered_told (told ciphers (set_up w) a (offered_near x q cost w.clock)) first b y
+      taken_none _ refl (offered_told (world_after ciphers (set_up w) a (offered_near x q cost w.clock)) first b y
       (other_there a b (offered_near x q cost w.clock) y far hy) (node_ok b y hy) p cost (address_low x p (node_ok a x hx) ep) low))
 
   near_keyed : (a b cost : ℕ) → cost ≤ 255 → Good (near ciphers w a b cost)
@@ -829,7 +829,7 @@ module _ (ciphers : Ciphers) (fits : KeepsRanges ciphers) (w : World) (ok : Worl
 
       provisioned_keyed : (g : Granted) (v : World) (kv : Keyed v (given ++ issued_by x.eui g)) → node_at v number ≡ Some x → IsReadable g
           → book.address_of kv.book x.eui ≡ Some g.address
-          → Keyed (told ciphers v number (acts x (Ok tt) (λ m. meters.provision m g))) (given ++ issued_by x.eui g)
+          → Keyed (world_after ciphers v number (acts x (Ok tt) (λ m. meters.provision m g))) (given ++ issued_by x.eui g)
       provisioned_keyed g v kv there reads at =
           let m = kv.meters number x ne there in
           let keys = issued_keys given x.eui g in
@@ -848,7 +848,7 @@ module _ (ciphers : Ciphers) (fits : KeepsRanges ciphers) (w : World) (ok : Worl
       by_answer (Err reason) e = rw e (Fails faults.Setup)
       by_answer (Ok g) e =
           let d : NodeStep (Result Granted CoordinatorRefusal) = record (acts c (Err orders.Halted) plan) { answer = Ok g } in
-          let v = told ciphers (set_up w) 0 d in
+          let v = world_after ciphers (set_up w) 0 d in
           let more = issued_by x.eui g in
           let all : CoordinatorDid set_up_keyed.book given [] c
           d = record { book = did.book; node = did.node; grows = did.grows; eui = did.eui; made = did.made } in

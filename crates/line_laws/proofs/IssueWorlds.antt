@@ -10,7 +10,7 @@ use Rattle.node_rules.specs.Ciphers.{Ciphers}
 use Rattle.node_rules.specs.Memory.{Node}
 use Rattle.line_rules.specs.Worlds.{World, Issued, node_at}
 use Rattle.node_rules.specs.NodeSteps.{NodeStep}
-use Rattle.line_rules.specs.Steps.{told}
+use Rattle.line_rules.specs.Steps.{world_after}
 use Rattle.line_events.specs.Events.{IsEui}
 use Rattle.line_laws.proofs.Worlds.{within as place_within}
 use Rattle.line_laws.proofs.IssueWords.{Each, each_append, each_weaker}
@@ -68,8 +68,8 @@ module _ {A : Type 0} (ciphers : Ciphers) (w : World) (number : ℕ) (x : Node) 
       let none : length (slice_set w.nodes number d.node) ≡ 0 = ap length e in
       omega arith
 
-  pub told_meter : (given : List Issued) (k : Keyed w given) → number ≢ 0 → MeterDid k.book given x d → Keyed (told ciphers w number d) given
-  unfolding told
+  pub told_meter : (given : List Issued) (k : Keyed w given) → number ≢ 0 → MeterDid k.book given x d → Keyed (world_after ciphers w number d) given
+  unfolding world_after
   told_meter given k other did = record {
     book = k.book;
     coordinator = λ c is. k.coordinator c (other_is 0 c (λ e. other (sym e)) is);
@@ -89,8 +89,8 @@ module _ {A : Type 0} (ciphers : Ciphers) (w : World) (number : ℕ) (x : Node) 
   }
 
   pub told_coordinator : (given more : List Issued) (k : Keyed w given) → number ≡ 0 → CoordinatorDid k.book given more x d
-      → Keyed (told ciphers w number d) (given ++ more)
-  unfolding told
+      → Keyed (world_after ciphers w number d) (given ++ more)
+  unfolding world_after
   told_coordinator given more k first did = record {
     book = did.book;
     coordinator = λ c is. subst (CoordinatorOk did.book) (here_is c (ap (slice_get (slice_set w.nodes number d.node)) first ∙ is)) did.node;
@@ -121,6 +121,6 @@ keyed_more w given more k = record {
 
 -- the node that is left stands where it was
 pub told_here : {A : Type 0} (ciphers : Ciphers) (w : World) (number : ℕ) (x : Node) (d : NodeStep A) → node_at w number ≡ Some x
-    → node_at (told ciphers w number d) number ≡ Some d.node
-unfolding told
+    → node_at (world_after ciphers w number d) number ≡ Some d.node
+unfolding world_after
 told_here ciphers w number x d there = slice_get-set w.nodes number d.node (place_within w.nodes number x there)

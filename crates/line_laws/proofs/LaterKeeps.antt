@@ -22,7 +22,7 @@ use Rattle.node_rules.specs.NodeSteps.{NodeStep}
 use Rattle.node_rules.specs.Plans.{Plan}
 use Rattle.line_rules.specs.Laws.{KeepsFlights}
 use Rattle.line_rules.specs.Nonces.{HasSender, IsSpelled}
-use Rattle.line_rules.specs.Steps.{flight_by, flights_of, ran, told}
+use Rattle.line_rules.specs.Steps.{flight_by, flights_of, ran, world_after}
 use Rattle.line_rules.specs.Worlds.{World, Flight, Issued, Pairing, Sending, node_at}
 use Rattle.line_events.specs.declared.happenings.Handed.{Handed}
 use Rattle.line_laws.specs.Agreed.{Confirmed}
@@ -115,7 +115,7 @@ module _ (given : List Issued) (sent : List Sending) (taken : List Pairing) (all
     clean : DidClean S (home number) x d
     octets : All SentOctets d.frames
     stays : TagStays x d.node
-    keyed : Keyed (told network w number d) given
+    keyed : Keyed (world_after network w number d) given
     made : d.made ≡ []
     book : number ≡ 0 → BookGrows network network_ranges w h.line h.octets given h.keyed d.node
     shut : (eui : Eui) → ShutAt eui w → number ≡ 0 → BookShut eui d.node
@@ -323,7 +323,7 @@ module _ (given : List Issued) (sent : List Sending) (taken : List Pairing) (all
 
   module _ {A : Type 0} (number : ℕ) (x : Node) (d : NodeStep A) (runs : w.running ≡ true) (there : node_at w number ≡ Some x) (f : SentBeside number x d) where
     abbrev v : World
-    v = told network w number d
+    v = world_after network w number d
 
     -- # The parts
 
@@ -331,7 +331,7 @@ module _ (given : List Issued) (sent : List Sending) (taken : List Pairing) (all
     nodes = told_nodes network w number d
 
     flights : v.flights ≡ w.flights ++ flights_of network number d
-    unfolding told
+    unfolding world_after
     flights = refl
 
     line : WorldOk v
@@ -414,7 +414,7 @@ module _ (given : List Issued) (sent : List Sending) (taken : List Pairing) (all
         (cases_eq n number)
 
     events : v.events ≡ w.events
-    unfolding told
+    unfolding world_after
     events = refl
 
     tags : TagsOk v sent
@@ -494,7 +494,7 @@ storing_keeps ps is w number x runs there given sent taken all home ups h =
 -- a node that carries out a plan of its further rules keeps all of it
 pub further_keeps : {A : Type 0} (halted : A) (does : Memory → Plan Memory A) → ((m : Memory) → IsFurther AnyUnits m (does m))
     → (w : World) (number : ℕ) (x : Node) → ((m : Memory) → x.memory ≡ Some m → IsFurther IsOne m (does m))
-    → w.running ≡ true → node_at w number ≡ Some x → Keeps w (told network w number (acts x halted does))
+    → w.running ≡ true → node_at w number ≡ Some x → Keeps w (world_after network w number (acts x halted does))
 further_keeps halted does is w number x one runs there given sent taken all home ups h =
     let f = further_beside given sent taken all home ups w h halted does is number x one there in (
       holds given sent taken all home ups w h number x (acts x halted does) runs there f,

@@ -36,7 +36,7 @@ use Rattle.line_events.specs.Events.{IsEvent}
 use Rattle.line_rules.specs.Forgery.{Comes, OfFlight, OfScript, accepting}
 use Rattle.line_rules.specs.Runs.{Entry}
 use Rattle.line_rules.specs.Worlds.{World, Flight, Trace, Issued, node_at, has_octets}
-use Rattle.line_rules.specs.Steps.{Step, memory_by, once_begun, has_begun, on_flight, ran, told, trace_of, happened, heard, hears, note_by, arrives, deliver}
+use Rattle.line_rules.specs.Steps.{Step, memory_by, once_begun, has_begun, on_flight, ran, world_after, trace_of, happened, heard, hears, note_by, arrives, deliver}
 use Rattle.line_rules.specs.Steps.{inject, step}
 use Rattle.line_laws.specs.Live.{holding, marks_of, admits, book_in, book_of, home_by, home, is_past, is_live, live, FlightsFall}
 use Rattle.line_laws.specs.Owed.{AreOctets, KeepsRanges}
@@ -334,12 +334,12 @@ module _ (ciphers : Ciphers) (w : World) where
 
   arrived_nodes : (number : ℕ) (x : Node) (octets : List ℕ) (cost : ℕ) (got : Accepted) → (accepting ciphers x octets).answer ≡ Ok got
       → (arrives ciphers w number x octets cost).0.nodes ≡ slice_set w.nodes number (hearer x octets got cost)
-  unfolding arrives told
+  unfolding arrives world_after
   arrived_nodes number x octets cost got e = subst (λ a. (after a).0.nodes ≡ slice_set w.nodes number (hearer x octets got cost)) (sym e) refl
     where
       after : Result Accepted FrameRefusal → World × Trace
       after (Ok g) = heard ciphers w number (accepting ciphers x octets).node octets g cost
-      after (Err reason) = (told ciphers (ran w) number (accepting ciphers x octets), trace_of (happened w (frame_word reason)))
+      after (Err reason) = (world_after ciphers (ran w) number (accepting ciphers x octets), trace_of (happened w (frame_word reason)))
 
   pub taken_begun : (s : Step) (r : World × Trace) → once_begun w s ≡ Ok r → s ≡ Ok r
   taken_begun s r e = by_test (has_begun w) e

@@ -35,7 +35,7 @@ use Rattle.line_events.specs.Events.{IsEvent}
 use Rattle.line_rules.specs.Forgery.{Comes, accepting}
 use Rattle.line_rules.specs.Runs.{Entry}
 use Rattle.line_rules.specs.Worlds.{World, node_at}
-use Rattle.line_rules.specs.Steps.{Step, set_up, ran, told, acted, sending, sent_if, is_taken, tag_of, hears, offered_near, note_by, identity, psk_of, restarts}
+use Rattle.line_rules.specs.Steps.{Step, set_up, ran, world_after, acted, sending, sent_if, is_taken, tag_of, hears, offered_near, note_by, identity, psk_of, restarts}
 use Rattle.line_rules.specs.Steps.{ticked, step}
 use Rattle.line_laws.specs.Live.{marks_of, MarksRise}
 use Rattle.line_laws.specs.Stores.{IsReadable, IsKept, HasEui, IsPair}
@@ -115,8 +115,8 @@ told_follows w u v number x d f there nodes did = record { at = at }
         (λ (ne : n ≢ number). record { node = l.node; there = other n ne ∙ l.there; role = l.role; eui = l.eui; raised = l.raised })
         (cases_eq n number)
 
-pub told_nodes : {A : Type 0} (ciphers : Ciphers) (u : World) (number : ℕ) (d : NodeStep A) → (told ciphers u number d).nodes ≡ slice_set u.nodes number d.node
-unfolding told
+pub told_nodes : {A : Type 0} (ciphers : Ciphers) (u : World) (number : ℕ) (d : NodeStep A) → (world_after ciphers u number d).nodes ≡ slice_set u.nodes number d.node
+unfolding world_after
 told_nodes ciphers u number d = refl
 
 -- time
@@ -285,7 +285,7 @@ module _ (ciphers : Ciphers) (fits : KeepsRanges ciphers) (w : World) (ok : Worl
   follows event s (SetsTwo e quiet a b cost x y p q hx hy apart open_is first second fresh low) =
       let d = offered_near x q cost w.clock in
       let k = offered_near y p cost w.clock in
-      let u = told ciphers (set_up w) a d in
+      let u = world_after ciphers (set_up w) a d in
       let one : Follows w u = one_follows (set_up w) u a x d refl (told_nodes ciphers (set_up w) a d) hx
       (answered x (λ _. tt) _ (call_marks a x _ (Ok tt) (λ m. of_station m (calls.preset_near m.station q cost w.clock)) hx first)) in
       let there : node_at u b ≡ Some y = ap (λ ns. slice_get ns b) (told_nodes ciphers (set_up w) a d) ∙ slice_get-set_other w.nodes a b d.node apart ∙ hy in
@@ -296,7 +296,7 @@ module _ (ciphers : Ciphers) (fits : KeepsRanges ciphers) (w : World) (ok : Worl
       let did : DidMark c d = subst (λ (z : NodeStep (Result Granted CoordinatorRefusal)). DidMark c z) (sym same)
       (order_marks 0 c plan refl hc (λ m sized. depot_ok ciphers fits (own_of c) m sized x.eui psk (given_at number x hx).eui
       (pair_at number x psk hx pair))) in
-      let u = told ciphers (set_up w) 0 d in
+      let u = world_after ciphers (set_up w) 0 d in
       let k = acts x (Ok tt) (λ m. meters.provision m g) in
       let answer : (workshop c x.eui psk).answer ≡ Ok g = ap (λ (z : NodeStep (Result Granted CoordinatorRefusal)). z.answer) (sym same) ∙ is in
       let one : Follows w u = one_follows (set_up w) u 0 c d refl (told_nodes ciphers (set_up w) 0 d) hc did in

@@ -59,7 +59,7 @@ use Rattle.line_rules.specs.Further.{chooses_by, commanded, discovers_by, due, r
 use Rattle.line_rules.specs.Logs.{AreLogged, HaveShortTables, LogsKept}
 use Rattle.line_rules.specs.Runs.{one_of}
 use Rattle.line_rules.specs.Steps.{Step, acted, blank_node, coordinator_node, happened, heard, hears, identity, is_taken, note_by, offered_near, ran, restarts}
-use Rattle.line_rules.specs.Steps.{sent_if, set_up, tag_of, ticked, told, trace_of}
+use Rattle.line_rules.specs.Steps.{sent_if, set_up, tag_of, ticked, world_after, trace_of}
 use Rattle.line_rules.specs.Worlds.{Trace, World, node_at}
 use Rattle.line_rules.proofs.LogPlans.{accept_short, acts_short, leave_leaves, random_leaves, tells_leave}
 use Rattle.line_rules.proofs.LogSteps.{Quiet, acts_quiet, quiet_on, quiet_same}
@@ -227,18 +227,18 @@ module _ (ciphers : Ciphers) (w : World) (short : HaveShortTables w) where
 
   module _ (ups : List BroadcastUp) (held : MarkedWorld ups w) (logs : LogsKept w) (earlier : All (λ (u : BroadcastUp). u.node < length w.nodes) ups) where
     one_quiet : {A : Type 0} (u : World) (number : ℕ) (x : Node) (d : NodeStep A) → u.nodes ≡ w.nodes → u.beside ≡ w.beside → node_at w number ≡ Some x
-        → Quiet x d.node → MarkedWorld ups (told ciphers u number d)
-    unfolding told
-    one_quiet u number x d nodes beside there q = at_quiet ups w held (told ciphers u number d) number x d.node there
+        → Quiet x d.node → MarkedWorld ups (world_after ciphers u number d)
+    unfolding world_after
+    one_quiet u number x d nodes beside there q = at_quiet ups w held (world_after ciphers u number d) number x d.node there
         (ap (λ ns. slice_set ns number d.node) nodes) (λ n. ap (λ bs. aside bs n) beside) q
 
     -- and then another one
     two_quiet : {A B : Type 0} (u : World) (a b : ℕ) (x y : Node) (d : NodeStep A) (e : NodeStep B) → u.nodes ≡ w.nodes → u.beside ≡ w.beside
         → node_at w a ≡ Some x → node_at w b ≡ Some y → b ≢ a → Quiet x d.node → Quiet y e.node
-        → MarkedWorld ups (told ciphers (told ciphers u a d) b e)
-    unfolding told
+        → MarkedWorld ups (world_after ciphers (world_after ciphers u a d) b e)
+    unfolding world_after
     two_quiet u a b x y d e nodes beside hx hy apart q r =
-        at_quiet ups (told ciphers u a d) (one_quiet u a x d nodes beside hx q) (told ciphers (told ciphers u a d) b e) b y e.node
+        at_quiet ups (world_after ciphers u a d) (one_quiet u a x d nodes beside hx q) (world_after ciphers (world_after ciphers u a d) b e) b y e.node
         (ap (λ ns. slice_get (slice_set ns a d.node) b) nodes ∙ slice_get-set_other w.nodes a b d.node apart ∙ hy) refl (λ n. refl) r
 
     made_marks : (event : Event) (x : Node) → old.IsMade w event x → MarkedIn ups (length w.nodes) nothing_beside.log x.store.records x.memory
@@ -286,7 +286,7 @@ module _ (ciphers : Ciphers) (w : World) (short : HaveShortTables w) where
             (ticked_marks n now (beside_at w n).log x (held n x there)))
 
     old_marks : (event : Event) (s : Step) → IsOther event → old.IsStep ciphers w event s → MarksIn s
-    unfolding told
+    unfolding world_after
     old_marks event s other (old.Fails e fault) = tt
     old_marks event s other (old.Makes e x is) = made
       where
@@ -454,7 +454,7 @@ module _ (w : World) (ok : WorldOk w) (flown_are : All FlightFits w.flights) (lo
     up_is (Err reason) = tt
 
     commanded_marks : (c : NeighbourCommand) → command_of got ≡ Some c → MarksOn ups (Ok (commanded network number left c h))
-    unfolding told
+    unfolding world_after
     commanded_marks c e =
         let d : NodeStep (Result CommandHeard ReachDropped) = reaches left (beside_at w number) (Err (reach_drops.Known drops.Store))
         (λ y. hear_command in_memory y c) in
@@ -480,17 +480,17 @@ module _ (w : World) (ok : WorldOk w) (flown_are : All FlightFits w.flights) (lo
     noted = with_check w number (reply_among (heard_node network w x octets got cost).frames) h
 
     checked_marks : MarksOn ups (Ok (checked network w number got (heard_node network w x octets got cost) h))
-    unfolding told
+    unfolding world_after
     checked_marks = by_due (due got.path (message_of got) (heard_node network w x octets got cost).answer.answer)
       where
-        by_memory : (reply : Reply) (t : Bool) → MarksOn ups (Ok (if t then adds_frames (told network noted.0 number (acknowledging left reply)) noted.1
-            (acknowledging left reply) else sends_nothing w (told network noted.0 number (acknowledging left reply), noted.1)))
-        by_memory reply true = at_one ups w held (told network noted.0 number (acknowledging left reply)) number x (acknowledging left reply).node b None
+        by_memory : (reply : Reply) (t : Bool) → MarksOn ups (Ok (if t then adds_frames (world_after network noted.0 number (acknowledging left reply)) noted.1
+            (acknowledging left reply) else sends_nothing w (world_after network noted.0 number (acknowledging left reply), noted.1)))
+        by_memory reply true = at_one ups w held (world_after network noted.0 number (acknowledging left reply)) number x (acknowledging left reply).node b None
             a.there (within number x a.there) (slice_set-twice w.nodes number left (acknowledging left reply).node) refl tt
             (nothing_in (acknowledging left reply).node (quiet_marks ups number (beside_at w number).log x (acknowledging left reply).node (acked_quiet reply)
             (held number x a.there)))
-        by_memory reply false = none (sends_nothing w (told network noted.0 number (acknowledging left reply), noted.1)) refl
-            (at_quiet ups w held (sends_nothing w (told network noted.0 number (acknowledging left reply), noted.1)).0 number x (acknowledging left reply).node
+        by_memory reply false = none (sends_nothing w (world_after network noted.0 number (acknowledging left reply), noted.1)) refl
+            (at_quiet ups w held (sends_nothing w (world_after network noted.0 number (acknowledging left reply), noted.1)).0 number x (acknowledging left reply).node
             a.there (slice_set-twice w.nodes number left (acknowledging left reply).node) (λ n. refl) (acked_quiet reply))
 
         by_due : (o : Option Reply) → MarksOn ups (Ok (acknowledged_if network w number left o noted))
@@ -498,7 +498,7 @@ module _ (w : World) (ok : WorldOk w) (flown_are : All FlightFits w.flights) (lo
         by_due (Some reply) = by_memory reply (is_some (acknowledging left reply).node.memory)
 
   pub marks_on : (event : Event) (s : Step) → IsReachStep network w event s → MarksOn ups s
-  unfolding told
+  unfolding world_after
   marks_on event s (Fails e fault) = tt
   marks_on event s (Known e t other is nothing) = known_marks event s other is
   marks_on event s (Rests e answer idle other nothing) = none (ran w, trace_of (happened w answer)) refl (at_none ups w held (ran w) refl (λ n. refl))

@@ -32,7 +32,7 @@ use Rattle.node_rules.specs.StoreReading.{first_grant}
 use Rattle.line_events.specs.Events.{IsEvent}
 use Rattle.line_rules.specs.Forgery.{Comes, accepting}
 use Rattle.line_rules.specs.Worlds.{World, Flight, node_at, flight_at, start}
-use Rattle.line_rules.specs.Steps.{Step, set_up, ran, told, blank_node, ticked, flights_of, flight_by, acted, sending, sent_if, is_taken, tag_of, hears}
+use Rattle.line_rules.specs.Steps.{Step, set_up, ran, world_after, blank_node, ticked, flights_of, flight_by, acted, sending, sent_if, is_taken, tag_of, hears}
 use Rattle.line_rules.specs.Steps.{offered_near, heard, note_by, identity, restarts, psk_of}
 use Rattle.line_laws.specs.Stores.{IsReadable, HasEui}
 use Rattle.line_laws.specs.Owed.{AreOctets}
@@ -62,8 +62,8 @@ pub record WorldSpeaks (w : World) : Type 0 where
   pub flights : All FlightFits w.flights
 
 -- what a node did is told
-pub told_speaks : {A : Type 0} (u : World) (number : ℕ) (d : NodeStep A) → WorldSpeaks u → DidSpeak d → WorldSpeaks (told network u number d)
-unfolding told
+pub told_speaks : {A : Type 0} (u : World) (number : ℕ) (d : NodeStep A) → WorldSpeaks u → DidSpeak d → WorldSpeaks (world_after network u number d)
+unfolding world_after
 told_speaks u number d s did = record {
   nodes = All-set NodeSpeaks u.nodes number d.node did.node s.nodes;
   flights = All-append FlightFits u.flights (flights_of network number d) s.flights
@@ -194,7 +194,7 @@ module _ (w : World) (ok : WorldOk w) (s : WorldSpeaks w) where
   sending_is : (from to : ℕ) (datagram : List ℕ) (x : Node) (d : NodeStep Answer) → DidSpeak d → WorldSpeaks (sending network w from to datagram (tag_of x) d).0
   sending_is from to datagram x d did = by_taken (is_taken d.answer) (told_speaks (ran w) from d ran_speaks did)
     where
-      by_taken : (b : Bool) → WorldSpeaks (told network (ran w) from d) → WorldSpeaks (sent_if w from to datagram (tag_of x) b (acted network w from d)).0
+      by_taken : (b : Bool) → WorldSpeaks (world_after network (ran w) from d) → WorldSpeaks (sent_if w from to datagram (tag_of x) b (acted network w from d)).0
       by_taken true k = record { nodes = k.nodes; flights = k.flights }
       by_taken false k = k
 
@@ -235,13 +235,13 @@ module _ (w : World) (ok : WorldOk w) (s : WorldSpeaks w) where
   event_speaks event st (SetsTwo e quiet a b cost x y p q hx hy apart open_is first second fresh near) =
       let one = told_speaks (set_up w) a (offered_near x q cost w.clock) set_up_speaks
       (answering_speaks (λ _. tt) _ (call_speaks a x _ (Ok tt) (λ m. of_station m (calls.preset_near m.station q cost w.clock)) hx first)) in
-      told_speaks (told network (set_up w) a (offered_near x q cost w.clock)) b (offered_near y p cost w.clock) one
+      told_speaks (world_after network (set_up w) a (offered_near x q cost w.clock)) b (offered_near y p cost w.clock) one
       (answering_speaks (λ _. tt) _ (call_speaks b y _ (Ok tt) (λ m. of_station m (calls.preset_near m.station p cost w.clock)) hy second))
   event_speaks event st (Provides number x c psk g d ne open_is hx hc pair same is) =
       let did : DidSpeak d = subst (λ (z : NodeStep (Result Granted CoordinatorRefusal)). DidSpeak z) (sym same)
       (order_speaks 0 c (Err orders.Halted) (λ m. coordinator_rules.depot m x.eui psk) refl hc
       (λ m h reads here role. depot_speaks c.eui (given_at 0 c hc).eui m h reads (booked c m (good_at 0 c hc) role here) w.clock x.eui psk)) in
-      told_speaks (told network (set_up w) 0 d) number (acts x (Ok tt) (λ m. meters.provision m g)) (told_speaks (set_up w) 0 d set_up_speaks did)
+      told_speaks (world_after network (set_up w) 0 d) number (acts x (Ok tt) (λ m. meters.provision m g)) (told_speaks (set_up w) 0 d set_up_speaks did)
       (acts_speaks x (Ok tt) (λ m. meters.provision m g) (speaks_at number x hx) (λ m here h. install_speaks m h g))
   event_speaks event st (TurnsDown e number x octets reason d there says comes same is) =
       let did : DidSpeak d = subst (λ (z : NodeStep (Result Accepted FrameRefusal)). DidSpeak z) (sym same)

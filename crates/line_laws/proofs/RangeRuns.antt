@@ -14,7 +14,7 @@ use Rattle.line_events.specs.declared.event.Answer.TheVariants as said
 use Rattle.line_events.specs.declared.event.Event.{Event}
 use Rattle.line_rules.specs.Forgery.{accepting}
 use Rattle.line_rules.specs.Worlds.{World, Flight, node_at, flight_at, start}
-use Rattle.line_rules.specs.Steps.{Step, set_up, ran, told, acted, sending, sent_if, is_taken, tag_of, hears, heard, note_by, forged_by, identity, psk_of}
+use Rattle.line_rules.specs.Steps.{Step, set_up, ran, world_after, acted, sending, sent_if, is_taken, tag_of, hears, heard, note_by, forged_by, identity, psk_of}
 use Rattle.line_rules.specs.Steps.{flights_of, offered_near, blank_node, restarts, memory_by, ticked}
 use Rattle.node_rules.specs.declared.heard.Accepted.{Accepted}
 use Rattle.node_rules.specs.declared.heard.SentHow.{SentHow}
@@ -76,8 +76,8 @@ pub use Rattle.line_laws.specs.Ranges.{WorldRanged}
 pub start_ranged : WorldRanged start
 start_ranged = record { nodes = All-nil NodeRanged; flights = All-nil (IsFlight network) }
 
-pub told_ranged : {A : Type 0} (u : World) (number : ℕ) (d : NodeStep A) → WorldRanged u → DidRanged d → WorldRanged (told network u number d)
-unfolding told
+pub told_ranged : {A : Type 0} (u : World) (number : ℕ) (d : NodeStep A) → WorldRanged u → DidRanged d → WorldRanged (world_after network u number d)
+unfolding world_after
 told_ranged u number d r did = record {
   nodes = All-set NodeRanged u.nodes number d.node did.station r.nodes;
   flights = All-append (IsFlight network) u.flights (flights_of network number d) r.flights (did_flights network number d did);
@@ -335,7 +335,7 @@ module _ (w : World) (ok : WorldOk w) (s : WorldSpeaks w) (r : WorldRanged w) wh
       → WorldRanged (sending network w from to datagram (tag_of x) d).0
   sending_is from to datagram x d did = by_taken (is_taken d.answer) (told_ranged (ran w) from d ran_ranged did)
     where
-      by_taken : (b : Bool) → WorldRanged (told network (ran w) from d) → WorldRanged (sent_if w from to datagram (tag_of x) b (acted network w from d)).0
+      by_taken : (b : Bool) → WorldRanged (world_after network (ran w) from d) → WorldRanged (sent_if w from to datagram (tag_of x) b (acted network w from d)).0
       by_taken true k = record { nodes = k.nodes; flights = k.flights }
       by_taken false k = k
 
@@ -376,7 +376,7 @@ module _ (w : World) (ok : WorldOk w) (s : WorldSpeaks w) (r : WorldRanged w) wh
   event_ranged event st (SetsTwo e quiet a b cost x y p q hx hy apart open_is first second fresh far) = λ honest.
       let one = told_ranged (set_up w) a (offered_near x q cost w.clock) set_up_ranged
       (answering_ranged (λ _. tt) _ (call_ranged a x _ (Ok tt) (λ m. of_station m (calls.preset_near m.station q cost w.clock)) hx first)) in
-      told_ranged (told network (set_up w) a (offered_near x q cost w.clock)) b (offered_near y p cost w.clock) one
+      told_ranged (world_after network (set_up w) a (offered_near x q cost w.clock)) b (offered_near y p cost w.clock) one
       (answering_ranged (λ _. tt) _ (call_ranged b y _ (Ok tt) (λ m. of_station m (calls.preset_near m.station p cost w.clock)) hy second))
   event_ranged event st (Provides number x c psk g d ne open_is hx hc pair same is) = λ honest.
       let made = acts c (Err orders.Halted) (λ m. coordinator_rules.depot m x.eui psk) in
@@ -385,7 +385,7 @@ module _ (w : World) (ok : WorldOk w) (s : WorldSpeaks w) (r : WorldRanged w) wh
       (Depots number x psk refl open_is (record { other = ne; there = hx }) pair)) in
       let granted : IsReadable g = workshop_grants number x c psk g hx hc pair
       (ap (λ (z : NodeStep (Result Granted CoordinatorRefusal)). z.answer) (sym same) ∙ is) in
-      told_ranged (told network (set_up w) 0 d) number (acts x (Ok tt) (λ m. meters.provision m g)) (told_ranged (set_up w) 0 d set_up_ranged did)
+      told_ranged (world_after network (set_up w) 0 d) number (acts x (Ok tt) (λ m. meters.provision m g)) (told_ranged (set_up w) 0 d set_up_ranged did)
       (acts_ranged x (Ok tt) (λ m. meters.provision m g) (ranged_at number x hx) (λ m here h. provision_ranged m h g granted))
   event_ranged event st (TurnsDown e number x octets reason d there says comes same is) = λ honest.
       let did : DidRanged d = subst (λ (z : NodeStep (Result Accepted FrameRefusal)). DidRanged z) (sym same)

@@ -75,7 +75,7 @@ use Rattle.line_rules.specs.Further.{line_step, reaches, replied, restarts_by, s
 use Rattle.line_rules.specs.FurtherRuns.{AreOfHistoryAfter, IsOfHistory, check_history, check_step, checked_by, scan_history, scan_step, scanned_by}
 use Rattle.line_rules.specs.Logs.{AreLogged, LogsKept}
 use Rattle.line_rules.specs.Runs.{Entry, IsRun, events_of}
-use Rattle.line_rules.specs.Steps.{Step, acted, heard, identity, is_taken, sent_if, tag_of, told}
+use Rattle.line_rules.specs.Steps.{Step, acted, heard, identity, is_taken, sent_if, tag_of, world_after}
 use Rattle.line_rules.specs.Worlds.{Acknowledged, Further, Noticed, Replied, Scans, Trace, World, node_at, nothing_further, start}
 use Rattle.line_rules.specs.Worlds.{Heard as HeardOf}
 use Rattle.line_laws.specs.FurtherLines.{HoldsAfter}
@@ -515,7 +515,7 @@ module _ (ciphers : Ciphers) (w : World) where
   sent_untouched from to datagram tag false r e f = same _ _ e f
 
   pub untouched : (event : Event) (s : Step) → old.IsStep ciphers w event s → UntouchedIn w s
-  unfolding told
+  unfolding world_after
   untouched event s (old.Fails e fault) = tt
   untouched event s (old.Makes e x is) = record { beside = aside_more w.beside; further = refl }
   untouched event s (old.Rests e quiet) = same _ _ refl refl
@@ -556,7 +556,7 @@ module _ (ciphers : Ciphers) (w : World) (logs : LogsKept w) where
     with_it = with_check w number (reply_among d.frames) r
 
     checked_follows : (n : ℕ) → LeadsAt n w (entry event (checked ciphers w number got d r).0 (checked ciphers w number got d r).1)
-    unfolding told
+    unfolding world_after
     checked_follows = by_due (due got.path (message_of got) d.answer.answer)
       where
         sent : Option Reply → Beside
@@ -566,13 +566,13 @@ module _ (ciphers : Ciphers) (w : World) (logs : LogsKept w) where
         notes None = same_notes number w.clock (beside_at w number) (sent None) refl refl
         notes (Some reply) = reply_notes number w.clock (beside_at w number) reply
 
-        by_memory : (reply : Reply) (t : Bool) → let v : World = told ciphers with_it.0 number (acknowledging d.node reply) in let q : World × Trace = if t then
+        by_memory : (reply : Reply) (t : Bool) → let v : World = world_after ciphers with_it.0 number (acknowledging d.node reply) in let q : World × Trace = if t then
             adds_frames v with_it.1 (acknowledging d.node reply) else sends_nothing w (v, with_it.1) in (n : ℕ) → LeadsAt n w (entry event q.0 q.1)
-        by_memory reply true = at_one w (entry event (told ciphers with_it.0 number (acknowledging d.node reply))
-            (adds_frames (told ciphers with_it.0 number (acknowledging d.node reply)) with_it.1 (acknowledging d.node reply)).1) a.other number
+        by_memory reply true = at_one w (entry event (world_after ciphers with_it.0 number (acknowledging d.node reply))
+            (adds_frames (world_after ciphers with_it.0 number (acknowledging d.node reply)) with_it.1 (acknowledging d.node reply)).1) a.other number
             (sent (reply_among d.frames)) (within number x a.there) refl (notes (reply_among d.frames))
         by_memory reply false =
-            let q : World × Trace = sends_nothing w (told ciphers with_it.0 number (acknowledging d.node reply), with_it.1) in
+            let q : World × Trace = sends_nothing w (world_after ciphers with_it.0 number (acknowledging d.node reply), with_it.1) in
             still w (entry event q.0 q.1) a.other (λ n. refl) refl
 
         by_due : (o : Option Reply) → let q : World × Trace = acknowledged_if ciphers w number d.node o with_it in (n : ℕ) → LeadsAt n w (entry event q.0 q.1)
@@ -581,7 +581,7 @@ module _ (ciphers : Ciphers) (w : World) (logs : LogsKept w) where
         by_due (Some reply) = by_memory reply (is_some (acknowledging d.node reply).node.memory)
 
   pub follows_history : (event : Event) (s : Step) → IsReachStep ciphers w event s → FollowsHistory w event s
-  unfolding told
+  unfolding world_after
   follows_history event s (Fails e fault) = tt
   follows_history event s (Known e t other is none) = untouched_follows event s other (untouched ciphers w event s is)
   follows_history event s (Rests e answer idle other none) = still w (entry event _ _) other (λ n. refl) refl

@@ -65,7 +65,7 @@ use Rattle.line_rules.specs.Further.{broadcasts_by, checked, commanded, discover
 use Rattle.line_rules.specs.Further.{scans_by, sends_nothing, with_beside, with_check}
 use Rattle.line_rules.specs.Logs.{LogsKept}
 use Rattle.line_rules.specs.Runs.{Entry, IsRun, events_of, one_of}
-use Rattle.line_rules.specs.Steps.{Step, acted, flight_by, flights_of, happened, heard, identity, is_taken, note_by, ran, sent_if, tag_of, told, trace_of}
+use Rattle.line_rules.specs.Steps.{Step, acted, flight_by, flights_of, happened, heard, identity, is_taken, note_by, ran, sent_if, tag_of, world_after, trace_of}
 use Rattle.line_rules.specs.Forgery.{Comes}
 use Rattle.line_rules.specs.FurtherRuns.{broadcasts}
 use Rattle.line_rules.specs.Worlds.{Acknowledged, Broadcasting, Flight, Noticed, Trace, World, start}
@@ -600,23 +600,23 @@ module _ (w : World) (logs : LogsKept w) (n : ℕ) where
           no_beacon (Some q) = refl
 
       checked_told : IsReachReported w (entry n event (checked network w number got d r))
-      unfolding told
+      unfolding world_after
       checked_told = by_due (due got.path (message_of got) d.answer.answer)
         where
           sent_alone : IsReachReported w (entry n event with_it)
           sent_alone = replied_told with_it.0 with_it.1 quiet refl refl refl refl
               (reply_flew (entry n event with_it) [] (ap (λ fs. w.flights ++ fs) (sym (append-nil (map flight_of d.frames)))))
 
-          by_memory : (reply : Reply) (t : Bool) → let v : World = told network with_it.0 number (acknowledging d.node reply) in
+          by_memory : (reply : Reply) (t : Bool) → let v : World = world_after network with_it.0 number (acknowledging d.node reply) in
               let q : World × Trace = if t then adds_frames v with_it.1 (acknowledging d.node reply) else sends_nothing w (v, with_it.1) in
               IsReachReported w (entry n event q)
           by_memory reply true =
               let k = acknowledging d.node reply in
-              let q : World × Trace = adds_frames (told network with_it.0 number k) with_it.1 k in
+              let q : World × Trace = adds_frames (world_after network with_it.0 number k) with_it.1 k in
               replied_told q.0 q.1 quiet refl refl refl refl
               (reply_flew (entry n event q) (flights_of network number k) (append_assoc w.flights (map flight_of d.frames) (flights_of network number k)))
           by_memory reply false =
-              let q : World × Trace = sends_nothing w (told network with_it.0 number (acknowledging d.node reply), with_it.1) in
+              let q : World × Trace = sends_nothing w (world_after network with_it.0 number (acknowledging d.node reply), with_it.1) in
               untold_told event q.0 q.1 (silent event q.1 refl refl refl refl refl refl)
 
           by_due : (o : Option Reply) → IsReachReported w (entry n event (acknowledged_if network w number d.node o with_it))
@@ -671,15 +671,15 @@ every_told entries r = told_from start tt entries r.events r.run (every_run_hold
 -- # The list of broadcasts
 
 list_from : (w : World) (entries : List Entry) → AreReachReported w entries → ListsBroadcasts entries
-list_from w [] told = refl
-list_from w (x ∷ xs) told = map-append to_all_of (one_of x.trace.further.broadcast) (broadcasts xs) ∙ (λ i. first i ++ list_from x.after xs told.1 i)
+list_from w [] world_after = refl
+list_from w (x ∷ xs) world_after = map-append to_all_of (one_of x.trace.further.broadcast) (broadcasts xs) ∙ (λ i. first i ++ list_from x.after xs world_after.1 i)
   where
     by_one : (o : Option Broadcasting) → map to_all_of (one_of o) ≡ one_of (option_map to_all_of o)
     by_one None = refl
     by_one (Some b) = refl
 
     first : map to_all_of (one_of x.trace.further.broadcast) ≡ one_of (sent_to_all x.event x.trace.happened.answer)
-    first = by_one x.trace.further.broadcast ∙ ap one_of told.0.broadcast
+    first = by_one x.trace.further.broadcast ∙ ap one_of world_after.0.broadcast
 
 pub every_list : EveryBroadcastIsListed
 every_list entries r = list_from start entries (every_told entries r)

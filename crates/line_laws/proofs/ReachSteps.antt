@@ -31,7 +31,7 @@ use Rattle.line_rules.specs.Further.{discovers_by, heard_by, heard_further, inje
 use Rattle.line_rules.specs.Further.{ticks, unbelieved}
 use Rattle.line_rules.specs.Logs.{LogsKept}
 use Rattle.line_rules.specs.Steps.{Step, happened, has_begun, heard, hears, in_setup, note_by, on_flight, on_meter, on_node, once_begun, psk_of, ran, set_up}
-use Rattle.line_rules.specs.Steps.{takes_setup, tick, ticked, told, trace_of}
+use Rattle.line_rules.specs.Steps.{takes_setup, tick, ticked, world_after, trace_of}
 use Rattle.line_rules.specs.Worlds.{World, Trace, Flight, flight_at, node_at}
 use Rattle.line_laws.specs.ReachTraces.{link_of}
 use Rattle.line_laws.proofs.FurtherSteps.{restarts_read}

@@ -13,7 +13,7 @@ use Rattle.node_rules.specs.Frames.{Sent, Sealed, Up, Down, spelled}
 use Rattle.node_rules.specs.Memory.{Node}
 use Rattle.line_rules.specs.Worlds.{World, Flight, node_at}
 use Rattle.node_rules.specs.NodeSteps.{NodeStep}
-use Rattle.line_rules.specs.Steps.{told, flights_of, flight_by}
+use Rattle.line_rules.specs.Steps.{world_after, flights_of, flight_by}
 use Rattle.line_laws.proofs.RankOrder.{at_least_trans, beats_at_least}
 use Rattle.line_laws.proofs.RankSaid.{unit_rises, FrameBacked}
 use Rattle.line_laws.proofs.RankPlans.{NodeCause, Stood, Came, NodeRanks, same_ranks}
@@ -103,8 +103,8 @@ module _ (ciphers : Ciphers) (h : Homes) where
 
   pub told_step : {A : Type 0} (w : World) (number : ℕ) (x : Node) (d : NodeStep A) → node_at w number ≡ Some x
       → NodeRanks (At h number) (Own h number) (IsNearer h w) x d.node d.frames → All (FrameRead ciphers) d.frames
-      → StationStep ciphers h w (told ciphers w number d)
-  unfolding told
+      → StationStep ciphers h w (world_after ciphers w number d)
+  unfolding world_after
   told_step {A = A} w number x d there r reads = record {
     forward = forward;
     back = λ i y e. back_by i y e (cases_eq i number);

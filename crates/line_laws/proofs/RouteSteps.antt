@@ -43,7 +43,7 @@ use Rattle.line_rules.specs.Answers.{Reception, meter_reception, coordinator_rec
 use Rattle.node_rules.specs.MemoryDrafts.{with_station, give_random}
 use Rattle.line_events.specs.Events.{IsEvent, IsLineOctets}
 use Rattle.line_rules.specs.Worlds.{World, Flight, Trace, node_at, flight_at, is_forged_tag}
-use Rattle.line_rules.specs.Steps.{Step, set_up, ran, told, acted, once_begun, in_setup, has_begun, takes_setup, on_node, on_meter, made_node, blank_node}
+use Rattle.line_rules.specs.Steps.{Step, set_up, ran, world_after, acted, once_begun, in_setup, has_begun, takes_setup, on_node, on_meter, made_node, blank_node}
 use Rattle.line_rules.specs.Steps.{identity, hears, restarts, ticked, rand, join, joins_by, leave, send, sends_by, sent_if, breaks, breaks_by, lose, tick}
 use Rattle.line_rules.specs.Steps.{restart, cut, show, psk_of, trace_of, happened, coordinator, coordinator_node, meter, is_known, depot, depot_by, provisioned}
 use Rattle.line_rules.specs.Steps.{near, near_by, keeps_rank, ranks_full, offered_near, preset, allow, allowed, deliver, inject, arrives, accepted_by, received}
@@ -145,9 +145,9 @@ module _ (ciphers : Ciphers) (h : Homes) where
   CallHolds u number x d = NodeRanks (At h number) (Own h number) (IsNearer h u) x d.node d.frames × All (FrameRead ciphers) d.frames
 
   told_holds : {A : Type 0} {b : World} (u : World) (number : ℕ) (x : Node) (d : NodeStep A) → node_at u number ≡ Some x → CallHolds u number x d
-      → Reached ciphers h b u → Reached ciphers h b (told ciphers u number d)
+      → Reached ciphers h b u → Reached ciphers h b (world_after ciphers u number d)
   unfolding CallHolds
-  told_holds u number x d there c good = reach ciphers h u (told ciphers u number d) (told_step ciphers h u number x d there c.0 c.1) good
+  told_holds u number x d there c good = reach ciphers h u (world_after ciphers u number d) (told_step ciphers h u number x d there c.0 c.1) good
 
   answering_holds : {A B : Type 0} (u : World) (number : ℕ) (x : Node) (reads : A → B) (d : NodeStep A) → CallHolds u number x d
       → CallHolds u number x (answering reads d)
@@ -478,8 +478,8 @@ module _ (ciphers : Ciphers) (fits : KeepsRanges ciphers) (h : Homes) (w : World
       by_memory (Some m) k e = by_ring m.station.ring k.station.range.ring e
 
   -- another node is there still
-  other_there : {A : Type 0} (a b : ℕ) (d : NodeStep A) (y : Node) → b ≢ a → node_at w b ≡ Some y → node_at (told ciphers (set_up w) a d) b ≡ Some y
-  unfolding told
+  other_there : {A : Type 0} (a b : ℕ) (d : NodeStep A) (y : Node) → b ≢ a → node_at w b ≡ Some y → node_at (world_after ciphers (set_up w) a d) b ≡ Some y
+  unfolding world_after
   other_there a b d y apart there = slice_get-set_other w.nodes a b d.node apart ∙ there
 
   -- the address of another node is not the own one
@@ -506,7 +506,7 @@ module _ (ciphers : Ciphers) (fits : KeepsRanges ciphers) (h : Homes) (w : World
       let back : b ≢ a = λ same. apart (sym same) in
       let mine = homes.addressed.home a x hx p ep in
       let other = homes.addressed.home b y hy q eq in
-      let u = told ciphers (set_up w) a (offered_near x q cost w.clock) in
+      let u = world_after ciphers (set_up w) a (offered_near x q cost w.clock) in
       let first = told_holds ciphers h (set_up w) a x _ hx
       (near_call (set_up w) a b cost x y p q low hx hy eq apart mine other (address_low y q (node_ok b y hy) eq)) set_up_holds in
       Taken _ (λ honest. told_holds ciphers h u b y _ (other_there a b (offered_near x q cost w.clock) y back hy)
@@ -526,7 +526,7 @@ module _ (ciphers : Ciphers) (fits : KeepsRanges ciphers) (h : Homes) (w : World
       by_answer (Err reason) e = rw e (Fails faults.Setup)
       by_answer (Ok g) e =
           let d2 : NodeStep (Result Granted CoordinatorRefusal) = record d { answer = Ok g } in
-          let u = told ciphers (set_up w) 0 d2 in
+          let u = world_after ciphers (set_up w) 0 d2 in
           let first = told_holds ciphers h (set_up w) 0 c d2 hc (answering_holds ciphers h (set_up w) 0 c (λ _. Ok g) d k) set_up_holds in
           let second = call u number x (Ok tt) (λ m. meters.provision m g) hx
           (λ m here kept sized. provision_ranks (At h number) (Own h number) (IsNearer h u) m here g (home g e))
@@ -638,7 +638,7 @@ module _ (ciphers : Ciphers) (fits : KeepsRanges ciphers) (h : Homes) (w : World
           → Holds (Ok (accepted_by ciphers w number octets cost (acts x (Err frames.Halted) plan)))
       by_answer (Err reason) e =
           let k : NodeStep (Result Accepted FrameRefusal) = record (acts x (Err frames.Halted) plan) { answer = Err reason } in
-          rw e (Taken (told ciphers (ran w) number k, trace_of (happened w (frame_word reason)))
+          rw e (Taken (world_after ciphers (ran w) number k, trace_of (happened w (frame_word reason)))
           (λ honest. told_holds ciphers h (ran w) number x k there accepts ran_holds))
       by_answer (Ok got) e =
           let y = (acts x (Err frames.Halted) plan).node in
@@ -649,7 +649,7 @@ module _ (ciphers : Ciphers) (fits : KeepsRanges ciphers) (h : Homes) (w : World
           (homes.took number x octets cost there are got e (or_parts _ _ honest).1)
           (λ m at. reads.coordinator_hears number x octets cost got m there are e (or_parts _ _ honest).0 at)
           (λ psk is m at. reads.meter_hears number x octets cost got psk m there are e (or_parts _ _ honest).0 is at) here_after in
-          counts_hold ciphers h (told ciphers (ran w) number d) _ refl refl
+          counts_hold ciphers h (world_after ciphers (ran w) number d) _ refl refl
           (told_holds ciphers h (ran w) number x d there
           (ranks_trans (At h number) (Own h number) (IsNearer h (ran w)) x y d.node _ d.frames accepts.0 second.0, second.1) ran_holds)))
 

@@ -12,7 +12,7 @@ use Rattle.line_rules.specs.Agreement.{is_allow_of}
 use Rattle.line_rules.specs.Answers.{Reception, coordinator_reception, meter_reception, ordered_word, order_word, sent_word}
 use Rattle.line_events.specs.Events.{IsEvent}
 use Rattle.line_rules.specs.Forgery.{Comes, accepting}
-use Rattle.line_rules.specs.Steps.{Step, ran, told, acted, allow, kick, by_coordinator, takes_setup, has_begun, sending, sent_if, is_taken, tag_of, hears}
+use Rattle.line_rules.specs.Steps.{Step, ran, world_after, acted, allow, kick, by_coordinator, takes_setup, has_begun, sending, sent_if, is_taken, tag_of, hears}
 use Rattle.line_rules.specs.Steps.{heard, note_by, identity, psk_of, restarts, ticked, step}
 use Rattle.line_rules.specs.Worlds.{World, Trace, node_at}
 use Rattle.line_events.specs.declared.event.Answer.{Answer}
@@ -138,8 +138,8 @@ module _ (eui : Eui) where
     asked_shut number x A halted plan there (AskKick meter y zero_is at) first = acts_shut eui x _ _ (good_at number x there) (first_role number x first there)
         (first_shut number x first there) (λ m sized. kick_shut eui (own_of x) m sized y.eui (given_at meter y at.there).eui)
 
-    told_nodes : {A : Type 0} (u : World) (number : ℕ) (d : NodeStep A) → (told ciphers u number d).nodes ≡ slice_set u.nodes number d.node
-    unfolding told
+    told_nodes : {A : Type 0} (u : World) (number : ℕ) (d : NodeStep A) → (world_after ciphers u number d).nodes ≡ slice_set u.nodes number d.node
+    unfolding world_after
     told_nodes u number d = refl
 
     -- # A frame
@@ -184,10 +184,10 @@ module _ (eui : Eui) where
     -- # Events
 
     sent_nodes : (from to : ℕ) (datagram : List ℕ) (tag : ℕ) (d : NodeStep Answer)
-        → (sending ciphers w from to datagram tag d).0.nodes ≡ (told ciphers (ran w) from d).nodes
+        → (sending ciphers w from to datagram tag d).0.nodes ≡ (world_after ciphers (ran w) from d).nodes
     sent_nodes from to datagram tag d = by_taken (is_taken d.answer)
       where
-        by_taken : (b : Bool) → (sent_if w from to datagram tag b (acted ciphers w from d)).0.nodes ≡ (told ciphers (ran w) from d).nodes
+        by_taken : (b : Bool) → (sent_if w from to datagram tag b (acted ciphers w from d)).0.nodes ≡ (world_after ciphers (ran w) from d).nodes
         by_taken true = refl
         by_taken false = refl
 
@@ -201,7 +201,7 @@ module _ (eui : Eui) where
         (λ y hy. found_one ShutBy shut_failed (node_at w 0) _ (λ c hc. found_one ShutBy shut_failed (psk_of y) _ (λ psk pair.
         let d = acts c (Err orders.Halted) (λ m. coordinator_rules.allow m y.eui psk) in
         let fit = given_at n y hy in
-        told_shut (ran w) (told ciphers (ran w) 0 d) 0 c d (same_shut w (ran w) refl shut) (told_nodes (ran w) 0 d) hc
+        told_shut (ran w) (world_after ciphers (ran w) 0 d) 0 c d (same_shut w (ran w) refl shut) (told_nodes (ran w) 0 d) hc
         (λ first. acts_shut eui c (Err orders.Halted) (λ m. coordinator_rules.allow m y.eui psk) (good_at 0 c hc) (first_role 0 c refl hc)
         (first_shut 0 c refl hc)
         (λ m sized. allow_shut eui (own_of c) m sized y.eui psk fit.eui
@@ -225,12 +225,12 @@ module _ (eui : Eui) where
       stays_shut event s (Rests e quiet) e_is other running some = same_shut w (ran w) refl shut
       stays_shut event s (Shows number x) e_is other running some = same_shut w (ran w) refl shut
       stays_shut event s (Acts e number x A halted plan reads there call word asked) e_is other running some =
-          told_shut (ran w) (told ciphers (ran w) number (answering reads (acts x halted plan))) number x (answering reads (acts x halted plan))
+          told_shut (ran w) (world_after ciphers (ran w) number (answering reads (acts x halted plan))) number x (answering reads (acts x halted plan))
           (same_shut w (ran w) refl shut) (told_nodes (ran w) number (answering reads (acts x halted plan))) there
           (asked_shut number x A halted plan there asked)
       stays_shut event s (BreaksLink number next x a there call) e_is other running some =
           let plan : Memory → Plan Memory Answer = λ m. changing said.Broken (with_station (calls.broke a m.station) m) in
-          told_shut (ran w) (told ciphers (ran w) number (acts x said.Halted plan)) number x (acts x said.Halted plan) (same_shut w (ran w) refl shut)
+          told_shut (ran w) (world_after ciphers (ran w) number (acts x said.Halted plan)) number x (acts x said.Halted plan) (same_shut w (ran w) refl shut)
           (told_nodes (ran w) number (acts x said.Halted plan)) there
           (quiet_shut number x said.Halted plan there (λ m sized. broke_quietly m sized a said.Broken))
       stays_shut event s (SendsFrom from to datagram x a there call target) e_is other running some =
@@ -245,7 +245,7 @@ module _ (eui : Eui) where
       stays_shut event s (SetsTwo e quiet a b cost x y p q hx hy apart open_is first second fresh near) e_is other running some = absurd (over running open_is)
       stays_shut event s (Provides number x c psk g d ne open_is hx hc pair same is) e_is other running some = absurd (over running open_is)
       stays_shut event s (TurnsDown e number x octets reason d there says comes same is) e_is other running some =
-          told_shut (ran w) (told ciphers (ran w) number d) number x d (same_shut w (ran w) refl shut) (told_nodes (ran w) number d) there
+          told_shut (ran w) (world_after ciphers (ran w) number d) number x d (same_shut w (ran w) refl shut) (told_nodes (ran w) number d) there
           (λ first. subst (λ (z : NodeStep _). BookShut eui z.node) (sym same) (accepted_shut e number x octets there says comes first))
       stays_shut event s (Hears e number x octets cost got there says comes low is) e_is other running some =
           heard_shut e number x octets cost got there says comes is
@@ -257,11 +257,11 @@ module _ (eui : Eui) where
           ticked_shut : (c : Node) (o : Option Node) → slice_get w.nodes 0 ≡ o → option_map (ticked (w.clock + seconds)) o ≡ Some c → BookShut eui c
           ticked_shut c None at e = absurd (cc)
           ticked_shut c (Some x) at e = λ b kept. shut x at b (subst (λ (z : Node). IsBookKept b z.store.records) (sym (same_Some _ _ e)) kept)
-      stays_shut event s (Restarts number x there) e_is other running some = told_shut (ran w) (told ciphers (ran w) number (restarts x)) number x (restarts x)
+      stays_shut event s (Restarts number x there) e_is other running some = told_shut (ran w) (world_after ciphers (ran w) number (restarts x)) number x (restarts x)
           (same_shut w (ran w) refl shut) (told_nodes (ran w) number (restarts x)) there (λ first. first_shut number x first there)
       stays_shut event s (Cuts number nth keeps_new x there) e_is other running some =
           let d : NodeStep Answer = stays (record x { store = record x.store { cut = Some (record { nth = nth; keeps_new = keeps_new }) } }) said.Set in
-          told_shut (ran w) (told ciphers (ran w) number d) number x d (same_shut w (ran w) refl shut) (told_nodes (ran w) number d) there
+          told_shut (ran w) (world_after ciphers (ran w) number d) number x d (same_shut w (ran w) refl shut) (told_nodes (ran w) number d) there
           (λ first. first_shut number x first there)
 
     -- every event but one that allows the meter
@@ -328,7 +328,7 @@ module _ (ciphers : Ciphers) (w : World) (ok : WorldOk w) where
 
   told_running : (c : Node) (plan : Memory → Plan Memory (Result (Unit {0}) CoordinatorRefusal))
       → (by_coordinator ciphers w c said.Kicked plan).0.running ≡ true
-  unfolding told
+  unfolding world_after
   told_running c plan = refl
 
   kick_shuts : (number : ℕ) → IsShutOut number ciphers w (kick ciphers w number)

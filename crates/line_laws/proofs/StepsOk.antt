@@ -58,7 +58,7 @@ use Rattle.node_rules.specs.MemoryDrafts.{with_station}
 use Rattle.node_rules.specs.Laws.{IsShort}
 use Rattle.line_events.specs.Events.{IsEvent}
 use Rattle.line_rules.specs.Worlds.{World, Flight, Trace, node_at, flight_at, is_forged_tag}
-use Rattle.line_rules.specs.Steps.{Step, set_up, ran, told, flights_of, acted, once_begun, in_setup, has_begun, takes_setup, on_node, on_meter, made_node}
+use Rattle.line_rules.specs.Steps.{Step, set_up, ran, world_after, flights_of, acted, once_begun, in_setup, has_begun, takes_setup, on_node, on_meter, made_node}
 use Rattle.line_rules.specs.Steps.{blank_node, identity, hears, restarts, memory_by, ticked, rand, join, joins_by, leave, send, sends_by, sent_if, breaks}
 use Rattle.line_rules.specs.Steps.{breaks_by, lose, tick, restart, cut, show, psk_of, trace_of, happened, coordinator, coordinator_node, meter, is_known, depot}
 use Rattle.line_rules.specs.Steps.{depot_by, provisioned, near, near_by, keeps_rank, ranks_full, offered_near, preset, allow, allowed, deliver, inject, arrives}
@@ -287,13 +287,13 @@ pub data StepGood (w : World) : Step → Type 0 where
 
 -- a node's frames are flights more
 pub told_more : {A : Type 0} (ciphers : Ciphers) (w : World) (number : ℕ) (d : NodeStep A)
-    → length (told ciphers w number d).flights ≡ length w.flights + length d.frames
-unfolding told
+    → length (world_after ciphers w number d).flights ≡ length w.flights + length d.frames
+unfolding world_after
 told_more ciphers w number d = let both = length-append w.flights (flights_of ciphers number d) in
     let same : length (flights_of ciphers number d) ≡ length d.frames = length-map d.frames _ in omega arith
 
 pub told_none : {A : Type 0} (ciphers : Ciphers) (w : World) (number : ℕ) (d : NodeStep A) → d.frames ≡ []
-    → length (told ciphers w number d).flights ≡ length w.flights + 0
+    → length (world_after ciphers w number d).flights ≡ length w.flights + 0
 told_none ciphers w number d none = told_more ciphers w number d ∙ ap (λ fs. length w.flights + length fs) none
 
 pub none_more : (w v : World) → v.flights ≡ w.flights → length v.flights ≡ length w.flights + 0
@@ -534,8 +534,8 @@ module _ (ciphers : Ciphers) (fits : KeepsRanges ciphers) (w : World) (ok : Worl
   show_good number = once _ (at_node number _ (λ x there. Taken _ ran_ok (omega arith) (none_more w (ran w) refl)))
 
   -- another node is there still
-  other_there : {A : Type 0} (a b : ℕ) (d : NodeStep A) (y : Node) → b ≢ a → node_at w b ≡ Some y → node_at (told ciphers (set_up w) a d) b ≡ Some y
-  unfolding told
+  other_there : {A : Type 0} (a b : ℕ) (d : NodeStep A) (y : Node) → b ≢ a → node_at w b ≡ Some y → node_at (world_after ciphers (set_up w) a d) b ≡ Some y
+  unfolding world_after
   other_there a b d y apart there = slice_get-set_other w.nodes a b d.node apart ∙ there
 
   -- # deliver, inject
@@ -558,7 +558,7 @@ module _ (ciphers : Ciphers) (fits : KeepsRanges ciphers) (w : World) (ok : Worl
 
   pub received_good : (number : ℕ) (x : Node) (forged : Bool) (d : NodeStep Reception) → node_at w number ≡ Some x → DidOk x d
       → StepGood w (Ok (received ciphers w number forged d))
-  received_good number x forged d there did = Taken _ (counts_ok (told ciphers (ran w) number d) _
+  received_good number x forged d there did = Taken _ (counts_ok (world_after ciphers (ran w) number d) _
       (told_ok ciphers fits (ran w) number x d ran_ok there did (λ e. absurd (true_false e))) refl refl (λ e. e)) did.few (told_more ciphers (ran w) number d)
 
   arrives_good : (number : ℕ) (x : Node) (octets : List ℕ) (cost : ℕ) → node_at w number ≡ Some x → AreOctets octets
@@ -583,7 +583,7 @@ module _ (ciphers : Ciphers) (fits : KeepsRanges ciphers) (w : World) (ok : Worl
           → StepGood w (Ok (accepted_by ciphers w number octets cost (acts x (Err frames.Halted) plan)))
       by_answer (Err reason) e =
           let k : NodeStep (Result Accepted FrameRefusal) = record (acts x (Err frames.Halted) plan) { answer = Err reason } in
-          rw e (Taken (told ciphers (ran w) number k, trace_of (happened w (frame_word reason)))
+          rw e (Taken (world_after ciphers (ran w) number k, trace_of (happened w (frame_word reason)))
           (told_ok ciphers fits (ran w) number x k ran_ok there (record {
             node = did.node;
             role = did.role;
@@ -768,11 +768,11 @@ module _ (ciphers : Ciphers) (fits : KeepsRanges ciphers) (w : World) (ok : Worl
       let apart : b ≢ a = λ same. eqb-false _ _ parts.0 (sym same) in
       let first = offered x q (node_ok a x hx) (address_low y q (node_ok b y hy) eq) in
       let second = offered y p (node_ok b y hy) (address_low x p (node_ok a x hx) ep) in
-      Taken _ (told_ok ciphers fits (told ciphers (set_up w) a (offered_near x q cost w.clock)) b y _
+      Taken _ (told_ok ciphers fits (world_after ciphers (set_up w) a (offered_near x q cost w.clock)) b y _
       (told_ok ciphers fits (set_up w) a x _ set_up_ok hx first (λ e. offered_quiet x q)) (other_there a b (offered_near x q cost w.clock) y apart hy) second
       (λ e. offered_quiet y p)) (omega arith)
       (let one = told_none ciphers (set_up w) a (offered_near x q cost w.clock) (offered_quiet x q) in
-      let two = told_none ciphers (told ciphers (set_up w) a (offered_near x q cost w.clock)) b (offered_near y p cost w.clock) (offered_quiet y p) in
+      let two = told_none ciphers (world_after ciphers (set_up w) a (offered_near x q cost w.clock)) b (offered_near y p cost w.clock) (offered_quiet y p) in
       omega arith))
     where
       offered_quiet : (z : Node) (to : ℕ) → (offered_near z to cost w.clock).frames ≡ []
@@ -799,11 +799,11 @@ module _ (ciphers : Ciphers) (fits : KeepsRanges ciphers) (w : World) (ok : Worl
           (record { node = did.node; role = did.role; eui = did.eui; few = did.few; rises = did.rises; from = did.from; marked = did.marked }) (λ e. quiet) in
           let second = acts_ok x (Ok tt) (λ m. meters.provision m g) (node_ok number x hx)
           (λ m here kept sized. provision_ok x.role m sized g (readable g e)) in
-          rw e (Taken (provisioned ciphers (told ciphers (set_up w) 0 k) number x g)
-          (told_ok ciphers fits (told ciphers (set_up w) 0 k) number x _ first (other_there 0 number k x (λ same. apart (sym same)) hx) second
+          rw e (Taken (provisioned ciphers (world_after ciphers (set_up w) 0 k) number x g)
+          (told_ok ciphers fits (world_after ciphers (set_up w) 0 k) number x _ first (other_there 0 number k x (λ same. apart (sym same)) hx) second
           (λ e. acts_quiet x (Ok tt) (λ m. meters.provision m g) (λ m. install_quiet m.station g))) (omega arith)
           (let one = told_none ciphers (set_up w) 0 k quiet in
-          let two = told_none ciphers (told ciphers (set_up w) 0 k) number (acts x (Ok tt) (λ m. meters.provision m g))
+          let two = told_none ciphers (world_after ciphers (set_up w) 0 k) number (acts x (Ok tt) (λ m. meters.provision m g))
           (acts_quiet x (Ok tt) (λ m. meters.provision m g) (λ m. install_quiet m.station g)) in omega arith))
 
   depot_good : (number : ℕ) → StepGood w (depot ciphers w number)

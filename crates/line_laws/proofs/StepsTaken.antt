@@ -54,7 +54,7 @@ use Rattle.line_rules.specs.Further.{acknowledged_if, acknowledging, adds_frames
 use Rattle.line_rules.specs.Further.{reaches, sends_nothing, step_by, with_beside, with_check}
 use Rattle.line_rules.specs.Logs.{LogsKept}
 use Rattle.line_rules.specs.Runs.{Entry, IsRun, events_of}
-use Rattle.line_rules.specs.Steps.{Step, heard, ran, told}
+use Rattle.line_rules.specs.Steps.{Step, heard, ran, world_after}
 use Rattle.line_rules.specs.Worlds.{Further, Stepping, Trace, World, node_at, nothing_further, start}
 use Rattle.line_laws.specs.FurtherLines.{HoldsAfter}
 use Rattle.line_laws.specs.ReachTraces.{FrameCame}
@@ -388,12 +388,12 @@ module _ (w : World) (n : ℕ) where
         with_it : World × Trace
         with_it = with_check w number (reply_among d.frames) r
 
-        by_memory : (reply : Reply) (t : Bool) → let v : World = told network with_it.0 number (acknowledging d.node reply) in
+        by_memory : (reply : Reply) (t : Bool) → let v : World = world_after network with_it.0 number (acknowledging d.node reply) in
             let q : World × Trace = if t then adds_frames v with_it.1 (acknowledging d.node reply) else sends_nothing w (v, with_it.1) in TakenIn event (Ok q)
         by_memory reply true =
             let k = acknowledging d.node reply in
-            none_taken event (adds_frames (told network with_it.0 number k) with_it.1 k) refl
-        by_memory reply false = none_taken event (sends_nothing w (told network with_it.0 number (acknowledging d.node reply), with_it.1)) refl
+            none_taken event (adds_frames (world_after network with_it.0 number k) with_it.1 k) refl
+        by_memory reply false = none_taken event (sends_nothing w (world_after network with_it.0 number (acknowledging d.node reply), with_it.1)) refl
 
         by_due : (o : Option Reply) → TakenIn event (Ok (acknowledged_if network w number d.node o with_it))
         by_due None = none_taken event with_it refl

@@ -47,7 +47,7 @@ use Rattle.node_rules.specs.StoreReading.{blank_station, first_grant, rememberin
 use Rattle.line_rules.specs.Answers.{Reception, sent_word, meter_reception, coordinator_reception}
 use Rattle.line_rules.specs.Forgery.{accepting}
 use Rattle.line_rules.specs.Runs.{one_of}
-use Rattle.line_rules.specs.Steps.{Step, set_up, ran, told, made_node, blank_node, ticked, acted, sending, sent_if, is_taken, tag_of, hears, heard}
+use Rattle.line_rules.specs.Steps.{Step, set_up, ran, world_after, made_node, blank_node, ticked, acted, sending, sent_if, is_taken, tag_of, hears, heard}
 use Rattle.line_rules.specs.Steps.{offered_near, identity, note_by, restarts}
 use Rattle.line_rules.specs.Worlds.{World, Sending, node_at, start}
 use Rattle.line_laws.specs.Owed.{KeepsRanges}
@@ -258,8 +258,8 @@ Tagged w (Ok r) = StepTags w r.0 r.1.sent
 Tagged w (Err fault) = Unit {0}
 
 module _ (ciphers : Ciphers) (w : World) where
-  told_moved : {A : Type 0} (u : World) (number : ℕ) (d : NodeStep A) → AllMoved w u → Moved w number d.node → AllMoved w (told ciphers u number d)
-  unfolding told
+  told_moved : {A : Type 0} (u : World) (number : ℕ) (d : NodeStep A) → AllMoved w u → Moved w number d.node → AllMoved w (world_after ciphers u number d)
+  unfolding world_after
   told_moved u number d all here k y is = ⊎_elim
       (λ (e : k ≡ number).
       let inside : k < length (slice_set u.nodes number d.node) = within (slice_set u.nodes number d.node) k y is in
@@ -270,8 +270,8 @@ module _ (ciphers : Ciphers) (w : World) where
       (λ (ne : k ≢ number). all k y (sym (slice_get-set_other u.nodes number k d.node ne) ∙ is))
       (cases_eq k number)
 
-  told_more : {A : Type 0} (u : World) (number : ℕ) (d : NodeStep A) → length (told ciphers u number d).nodes ≡ length u.nodes
-  unfolding told
+  told_more : {A : Type 0} (u : World) (number : ℕ) (d : NodeStep A) → length (world_after ciphers u number d).nodes ≡ length u.nodes
+  unfolding world_after
   told_more u number d = length-set u.nodes number d.node
 
   pub same_moved : AllMoved w w
@@ -283,11 +283,11 @@ module _ (ciphers : Ciphers) (fits : KeepsRanges ciphers) (w : World) (ok : Worl
 
   -- one node did something, and nothing was sent as a datagram
   pub told_tags : {A : Type 0} (u : World) (number : ℕ) (x : Node) (d : NodeStep A) → AllMoved w u → length u.nodes ≡ length w.nodes → node_at w number ≡ Some x
-      → TagMoves x d.node → StepTags w (told ciphers u number d) None
+      → TagMoves x d.node → StepTags w (world_after ciphers u number d) None
   told_tags u number x d all same there moves = record {
     nodes = told_moved ciphers w u number d all (Was x there moves);
     more = let m = told_more ciphers w u number d in omega arith;
-    took = none_took w (told ciphers u number d);
+    took = none_took w (world_after ciphers u number d);
   }
 
   no_key : Key
@@ -386,14 +386,14 @@ module _ (ciphers : Ciphers) (fits : KeepsRanges ciphers) (w : World) (ok : Worl
       d : NodeStep (Result SentHow SendRefusal)
       d = acts x (Err sends.Halted) (λ m. of_station m (calls.send m.station a datagram (w.sends + 1) w.clock))
 
-      told_so : StepTags w (told ciphers (ran w) from (answering sent_word d)) None
+      told_so : StepTags w (world_after ciphers (ran w) from (answering sent_word d)) None
       told_so = told_tags (ran w) from x (answering sent_word d) (same_moved ciphers w) refl there moves
 
       By : Answer → Type 0
       By answer = Tagged w (Ok (sent_if w from to datagram (tag_of x) (is_taken answer) (acted ciphers w from (answering sent_word d))))
 
       v : World
-      v = record (told ciphers (ran w) from (answering sent_word d)) { sends = (told ciphers (ran w) from (answering sent_word d)).sends + 1 }
+      v = record (world_after ciphers (ran w) from (answering sent_word d)) { sends = (world_after ciphers (ran w) from (answering sent_word d)).sends + 1 }
 
       sent_so : (h : SentHow) → d.answer ≡ Ok h → Tagged w (Ok (sent_if w from to datagram (tag_of x) true (acted ciphers w from (answering sent_word d))))
       sent_so h e = record {
@@ -407,7 +407,7 @@ module _ (ciphers : Ciphers) (fits : KeepsRanges ciphers) (w : World) (ok : Worl
         });
       }
         where
-          node_is : (y : Node) → node_at (told ciphers (ran w) from (answering sent_word d)) from ≡ Some y → d.node ≡ y
+          node_is : (y : Node) → node_at (world_after ciphers (ran w) from (answering sent_word d)) from ≡ Some y → d.node ≡ y
           node_is y here = same_Some _ _ (sym (told_here ciphers (ran w) from x (answering sent_word d) there) ∙ here)
 
       by_answer : (r : Result SentHow SendRefusal) → d.answer ≡ r → By (sent_word d.answer)
@@ -441,7 +441,7 @@ module _ (ciphers : Ciphers) (fits : KeepsRanges ciphers) (w : World) (ok : Worl
   event_tags event s (SetsTwo e quiet a b cost x y p q hx hy apart open_is first second fresh near) =
       let one = told_tags (set_up w) a x (offered_near x q cost w.clock) (same_moved ciphers w) refl hx
       (call_moves a x _ (Ok tt) (λ m. of_station m (calls.preset_near m.station q cost w.clock)) hx first) in
-      told_tags (told ciphers (set_up w) a (offered_near x q cost w.clock)) b y (offered_near y p cost w.clock) one.nodes
+      told_tags (world_after ciphers (set_up w) a (offered_near x q cost w.clock)) b y (offered_near y p cost w.clock) one.nodes
       (told_more ciphers w (set_up w) a (offered_near x q cost w.clock)) hy
       (call_moves b y _ (Ok tt) (λ m. of_station m (calls.preset_near m.station p cost w.clock)) hy second)
   event_tags event s (Provides number x c psk g d ne open_is hx hc pair same is) =
@@ -449,7 +449,7 @@ module _ (ciphers : Ciphers) (fits : KeepsRanges ciphers) (w : World) (ok : Worl
       (λ t e. Stays (acts_stays c (Err orders.Halted) (λ m. coordinator_rules.depot m x.eui psk)
       (λ m. depot_away m (record { eui = c.eui; ciphers = ciphers }) 0 x.eui psk) t e)) in
       let one = told_tags (set_up w) 0 c d (same_moved ciphers w) refl hc did in
-      told_tags (told ciphers (set_up w) 0 d) number x (acts x (Ok tt) (λ m. meters.provision m g)) one.nodes (told_more ciphers w (set_up w) 0 d) hx
+      told_tags (world_after ciphers (set_up w) 0 d) number x (acts x (Ok tt) (λ m. meters.provision m g)) one.nodes (told_more ciphers w (set_up w) 0 d) hx
       (λ t e. Stays (acts_stays x (Ok tt) (λ m. meters.provision m g) (λ m. provision_away m g) t e))
   event_tags event s (TurnsDown e number x octets reason d there says comes same is) =
       told_tags (ran w) number x d (same_moved ciphers w) refl there

@@ -54,7 +54,7 @@ use Rattle.node_rules.specs.StoreReading.{memory_of}
 use Rattle.line_rules.specs.Answers.{Reception, Up, SentGrant, drop_word, send_word, order_word, frame_word, random_word, join_word, leave_word, sent_word}
 use Rattle.line_rules.specs.Answers.{ordered_word, station_reception, meter_reception, coordinator_reception}
 use Rattle.line_rules.specs.Worlds.{World, Flight, Trace, Pairing, node_at, flight_at, is_forged_tag, nothing_further}
-use Rattle.line_rules.specs.Steps.{Step, is_taken, set_up, ran, told, flights_of, acted, trace_of, happened, sending, sent_if, tag_of, offered_near, hears}
+use Rattle.line_rules.specs.Steps.{Step, is_taken, set_up, ran, world_after, flights_of, acted, trace_of, happened, sending, sent_if, tag_of, offered_near, hears}
 use Rattle.line_rules.specs.Steps.{received, forged_by, note_by, number_if, handed_by, issued_of, identity, restart_word, restarts, made_node}
 use Rattle.line_rules.specs.Runs.{Entry, one_of}
 use Rattle.line_rules.specs.Forgery.{Comes, OfFlight, OfScript, accepting, AcceptsSealed, NoneFlew, IsForged, ByFrame, ByTag}
@@ -316,17 +316,17 @@ ran_counted w = record { events = refl; sends = refl; ups = refl; forged = refl;
 set_up_counted : (w : World) → Counted w (set_up w)
 set_up_counted w = record { events = refl; sends = refl; ups = refl; forged = refl; done = refl }
 
-pub told_counted : {A : Type 0} (ciphers : Ciphers) (w u : World) (number : ℕ) (d : NodeStep A) → Counted w u → Counted w (told ciphers u number d)
-unfolding told
+pub told_counted : {A : Type 0} (ciphers : Ciphers) (w u : World) (number : ℕ) (d : NodeStep A) → Counted w u → Counted w (world_after ciphers u number d)
+unfolding world_after
 told_counted ciphers w u number d c = record { events = c.events; sends = c.sends; ups = c.ups; forged = c.forged; done = c.done }
 
 pub told_flights : {A : Type 0} (ciphers : Ciphers) (u : World) (number : ℕ) (d : NodeStep A)
-    → length (told ciphers u number d).flights ≡ length u.flights + length d.frames
-unfolding told
+    → length (world_after ciphers u number d).flights ≡ length u.flights + length d.frames
+unfolding world_after
 told_flights ciphers u number d = length-append u.flights (flights_of ciphers number d) ∙ ap (λ n. length u.flights + n) (length-map d.frames _)
 
-pub told_made : {A : Type 0} (ciphers : Ciphers) (u : World) (number : ℕ) (d : NodeStep A) → (told ciphers u number d).made ≡ u.made ++ d.made
-unfolding told
+pub told_made : {A : Type 0} (ciphers : Ciphers) (u : World) (number : ℕ) (d : NodeStep A) → (world_after ciphers u number d).made ≡ u.made ++ d.made
+unfolding world_after
 told_made ciphers u number d = refl
 
 pub false_true : false ≡ true → ⊥
@@ -407,20 +407,20 @@ module _ (ciphers : Ciphers) (w : World) where
 
   pub acted_right : (n : ℕ) (event : Event) (number : ℕ) (d : NodeStep Answer) → Plain d.answer → d.opened ≡ [] → NoneCame event
       → Right ciphers w (entry n event (acted ciphers w number d))
-  acted_right n event number d p none came = quiet_right n event (told ciphers (ran w) number d) (record (happened w d.answer) { flights = length d.frames })
+  acted_right n event number d p none came = quiet_right n event (world_after ciphers (ran w) number d) (record (happened w d.answer) { flights = length d.frames })
       d.made d.opened p refl refl refl refl none came
       (told_counted ciphers w (ran w) number d (ran_counted w)) refl (told_flights ciphers (ran w) number d) (told_made ciphers (ran w) number d)
 
   none_told : {A : Type 0} (u : World) (number : ℕ) (d : NodeStep A) → d.frames ≡ [] → d.made ≡ []
-      → (length (told ciphers u number d).flights ≡ length u.flights + 0) × ((told ciphers u number d).made ≡ u.made ++ [])
+      → (length (world_after ciphers u number d).flights ≡ length u.flights + 0) × ((world_after ciphers u number d).made ≡ u.made ++ [])
   none_told u number d frames made =
       (told_flights ciphers u number d ∙ ap (λ fs. length u.flights + length fs) frames, told_made ciphers u number d ∙ ap (λ ts. u.made ++ ts) made)
 
   none_twice : {A B : Type 0} (u : World) (a b : ℕ) (d : NodeStep A) (e : NodeStep B) → d.frames ≡ [] → d.made ≡ [] → e.frames ≡ [] → e.made ≡ []
-      → (length (told ciphers (told ciphers u a d) b e).flights ≡ length u.flights + 0) × ((told ciphers (told ciphers u a d) b e).made ≡ u.made ++ [])
+      → (length (world_after ciphers (world_after ciphers u a d) b e).flights ≡ length u.flights + 0) × ((world_after ciphers (world_after ciphers u a d) b e).made ≡ u.made ++ [])
   none_twice u a b d e f m g k =
       let one = none_told u a d f m in
-      let two = none_told (told ciphers u a d) b e g k in (
+      let two = none_told (world_after ciphers u a d) b e g k in (
         two.0 ∙ ap (λ n. n + 0) one.0 ∙ omega arith,
         two.1 ∙ append-nil _ ∙ one.1,
       )
@@ -656,13 +656,13 @@ module _ (ciphers : Ciphers) (w : World) where
       let d = acts c (Err orders.Halted) (λ m. coordinator_rules.allow m y.eui psk) in
       let none = none_told (ran w) 0 d (acts_quiet c (Err orders.Halted) _ (λ m. allow_quiet m y.eui psk))
       (acts_untagged c (Err orders.Halted) _ (λ m. allow_untagged m y.eui psk)).0 in
-      quiet_right n (events.Allow number) (told ciphers (ran w) 0 d) _ [] [] (allowed_plain d.answer) refl refl refl refl refl
+      quiet_right n (events.Allow number) (world_after ciphers (ran w) 0 d) _ [] [] (allowed_plain d.answer) refl refl refl refl refl
       (unbrought (events.Allow number) (λ b. b)) (told_counted ciphers w (ran w) 0 d (ran_counted w)) refl none.0 none.1
   right event s (Sets e quiet number x plan there open_is is) n =
       let d = acts x (Ok tt) (λ m. of_station m (plan m.station)) in
       let p = preset_none x plan is in
       let none = none_told (set_up w) number d p.0 p.1 in
-      still_right n event (told ciphers (set_up w) number d) said.Set (refl, refl, refl, refl, refl) (unbrought event quiet)
+      still_right n event (world_after ciphers (set_up w) number d) said.Set (refl, refl, refl, refl, refl) (unbrought event quiet)
       (told_counted ciphers w (set_up w) number d (set_up_counted w)) none.0 none.1
   right event s (SetsTwo e quiet a b cost x y p q hx hy apart open_is first second fresh near) n =
       let d = offered_near x q cost w.clock in
@@ -715,7 +715,7 @@ module _ (ciphers : Ciphers) (w : World) where
       let bare : d.made ≡ [] = ap (λ (z : NodeStep _). z.made) same
       ∙ (acts_untagged x (Err frames.Halted) _ (λ m. accept_untagged m x.eui (arrived ciphers octets))).0 in
       let none = none_told (ran w) number d quiet bare in
-      still_right n event (told ciphers (ran w) number d) (frame_word reason) (frame_plain reason) turned
+      still_right n event (world_after ciphers (ran w) number d) (frame_word reason) (frame_plain reason) turned
       (told_counted ciphers w (ran w) number d (ran_counted w)) none.0 none.1
     where
       not_ok : (r : FrameRefusal) (got : Accepted) → Err r ≡ Ok got → ⊥

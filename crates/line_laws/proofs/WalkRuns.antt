@@ -77,7 +77,7 @@ use Rattle.line_rules.specs.Further.{goes_toward, has_discovered, line_step, pat
 use Rattle.line_rules.specs.FurtherRuns.{AreWalked, AreWalkedAfter, Nothing, Passes, StandIn, Takes, WasWalked, last_of, steps_taken, steps_toward}
 use Rattle.line_rules.specs.Logs.{LogsKept}
 use Rattle.line_rules.specs.Runs.{Entry, IsRun, events_of, one_of}
-use Rattle.line_rules.specs.Steps.{Step, acted, forged_by, heard, identity, is_taken, ran, restarts, sent_if, tag_of, told}
+use Rattle.line_rules.specs.Steps.{Step, acted, forged_by, heard, identity, is_taken, ran, restarts, sent_if, tag_of, world_after}
 use Rattle.line_rules.specs.Worlds.{Flight, Noticed, Stepping, Trace, World, node_at, start}
 use Rattle.line_laws.specs.FurtherLines.{HoldsAfter}
 use Rattle.line_laws.specs.Lines.{NodeOk, WorldOk}
@@ -466,7 +466,7 @@ module _ (walked : List Stepping) (number : ℕ) (x : Node) (b : Beside) (m : Me
 
 -- What an event reports was walked before, and what flies after it has walked, with the step of the event.
 pub record WalksOn (walked : List Stepping) (v : World) (t : Trace) : Type 0 where
-  pub line : IfSome t.happened.path (λ (told : PathLine). WasWalked told.walk walked)
+  pub line : IfSome t.happened.path (λ (world_after : PathLine). WasWalked world_after.walk walked)
   pub flights : All (FlightSays (UnitWalks (walked ++ one_of t.further.stepping))) v.flights
 
 abbrev WalksIn : List Stepping → Step → Type 0
@@ -623,7 +623,7 @@ module _ (w : World) (ok : WorldOk w) (s : WorldSpeaks w) (r : IsInRange w) (wal
 
     commanded_walks : (c : NeighbourCommand) → command_of got ≡ Some c → h.1.happened.forged ≡ false
         → let q : World × Trace = commanded network number left c h in WalksOn walked q.0 q.1
-    unfolding told
+    unfolding world_after
     commanded_walks c e honest = record { line = by.0; flights = flown }
       where
         unforged : forged_by w octets got.path ≡ false
@@ -658,14 +658,14 @@ module _ (w : World) (ok : WorldOk w) (s : WorldSpeaks w) (r : IsInRange w) (wal
             (with_beside (beside_at w number) (λ y. hear_command in_memory y c)) (still walked)
             (λ m here. command_walks walked number left (beside_at w number) m here c (low m here) (comes m here))
 
-        flown : All (FlightSays (UnitWalks (walked ++ one_of (step_by left c d.answer)))) (told network h.0 number d).flights
+        flown : All (FlightSays (UnitWalks (walked ++ one_of (step_by left c d.answer)))) (world_after network h.0 number d).flights
         flown = told_says (UnitWalks (walked ++ one_of (step_by left c d.answer))) h.0 number d
             (r.sends.commands event number x octets got cost c (is_heard unforged) e) by.1
             (wider walked (one_of (step_by left c d.answer)) h.0.flights (heard_flights unforged))
 
     checked_walks : h.1.happened.forged ≡ false → let q : World × Trace = checked network w number got (heard_node network w x octets got cost) h in WalksOn
         walked q.0 q.1
-    unfolding told
+    unfolding world_after
     checked_walks honest = by_due (due got.path (message_of got) (heard_node network w x octets got cost).answer.answer) refl
       where
         unforged : forged_by w octets got.path ≡ false
@@ -675,8 +675,8 @@ module _ (w : World) (ok : WorldOk w) (s : WorldSpeaks w) (r : IsInRange w) (wal
         noted = with_check w number (reply_among (heard_node network w x octets got cost).frames) h
 
         by_memory : (reply : Reply) → due got.path (message_of got) (heard_node network w x octets got cost).answer.answer ≡ Some reply → (t : Bool)
-            → let q : World × Trace = (if t then adds_frames (told network noted.0 number (acknowledging left reply)) noted.1 (acknowledging left reply) else
-            sends_nothing w (told network noted.0 number (acknowledging left reply), noted.1)) in WalksOn walked q.0 q.1
+            → let q : World × Trace = (if t then adds_frames (world_after network noted.0 number (acknowledging left reply)) noted.1 (acknowledging left reply) else
+            sends_nothing w (world_after network noted.0 number (acknowledging left reply), noted.1)) in WalksOn walked q.0 q.1
         by_memory reply e true = silent _ _ (record { path = refl; stepping = refl })
             (told_says P noted.0 number (acknowledging left reply) (r.sends.acknowledges event number x octets got cost reply (is_heard unforged) e)
             (ack_walks_at left reply) (heard_flights unforged))
@@ -734,9 +734,9 @@ module _ (w : World) (ok : WorldOk w) (s : WorldSpeaks w) (r : IsInRange w) (wal
               (heard network w number (after_accepting network x octets) octets got cost)
 
           by_memory : (reply : Reply) (t : Bool) → (if t then adds_frames
-              (told network noted.0 number (acknowledging (heard_node network w x octets got cost).node reply)) noted.1
+              (world_after network noted.0 number (acknowledging (heard_node network w x octets got cost).node reply)) noted.1
               (acknowledging (heard_node network w x octets got cost).node reply) else sends_nothing w
-              (told network noted.0 number (acknowledging (heard_node network w x octets got cost).node reply), noted.1)).1.happened.forged ≡ false
+              (world_after network noted.0 number (acknowledging (heard_node network w x octets got cost).node reply), noted.1)).1.happened.forged ≡ false
               → noted.1.happened.forged ≡ false
           by_memory reply true e = e
           by_memory reply false e = e

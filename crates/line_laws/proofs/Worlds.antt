@@ -12,7 +12,7 @@ use Rattle.node_rules.specs.Frames.{spelled}
 use Rattle.node_rules.specs.Memory.{Memory, Coordinator, Node}
 use Rattle.line_rules.specs.Worlds.{World, Flight, node_at}
 use Rattle.node_rules.specs.NodeSteps.{NodeStep}
-use Rattle.line_rules.specs.Steps.{told, flights_of, flight_by}
+use Rattle.line_rules.specs.Steps.{world_after, flights_of, flight_by}
 use Rattle.line_rules.specs.Nonces.{CounterRises}
 use Rattle.frame_counters.proofs.Limits.{stored_limit-kept}
 use Rattle.line_laws.proofs.Frontiers.{next_of, frontier}
@@ -34,15 +34,15 @@ within (y ∷ ys) zero x e = omega arith
 within (y ∷ ys) (suc k) x e = let less = within ys k x e in omega arith
 
 flights_none : {A : Type 0} (ciphers : Ciphers) (w : World) (number : ℕ) (d : NodeStep A) → w.flights ≡ [] → d.frames ≡ []
-    → (told ciphers w number d).flights ≡ []
-unfolding told
+    → (world_after ciphers w number d).flights ≡ []
+unfolding world_after
 flights_none ciphers w number d e f =
     ap (λ fs. fs ++ flights_of ciphers number d) e ∙ ap (λ frames. map (λ frame. flight_by number (spelled ciphers frame)) frames) f
 
 -- what a node did is told
 pub told_with : {A : Type 0} (ciphers : Ciphers) (w : World) (number : ℕ) (x : Node) (d : NodeStep A) → WorldOk w → node_at w number ≡ Some x → DidFits x d
-    → Rising (told ciphers w number d) → (w.running ≡ false → d.frames ≡ []) → WorldOk (told ciphers w number d)
-unfolding told
+    → Rising (world_after ciphers w number d) → (w.running ≡ false → d.frames ≡ []) → WorldOk (world_after ciphers w number d)
+unfolding world_after
 told_with ciphers w number x d ok there did rising still = record {
   nodes = All-set NodeOk w.nodes number d.node did.node ok.nodes;
   fits = All-set NodeFits w.nodes number d.node same_fits ok.fits;
@@ -82,11 +82,11 @@ none_rising w e = record {
 
 -- in the setup, where nothing flies yet
 pub told_fits : {A : Type 0} (ciphers : Ciphers) (w : World) (number : ℕ) (x : Node) (d : NodeStep A) → WorldOk w → node_at w number ≡ Some x → DidFits x d
-    → w.flights ≡ [] → d.frames ≡ [] → WorldOk (told ciphers w number d)
+    → w.flights ≡ [] → d.frames ≡ [] → WorldOk (world_after ciphers w number d)
 told_fits ciphers w number x d ok there did none still =
-    told_with ciphers w number x d ok there did (none_rising (told ciphers w number d) (flies none still)) (λ e. still)
+    told_with ciphers w number x d ok there did (none_rising (world_after ciphers w number d) (flies none still)) (λ e. still)
   where
-    flies : w.flights ≡ [] → d.frames ≡ [] → (told ciphers w number d).flights ≡ []
+    flies : w.flights ≡ [] → d.frames ≡ [] → (world_after ciphers w number d).flights ≡ []
     flies e f = flights_none ciphers w number d e f
 
 frontier_cap : (x : Node) → NodeOk x → frontier x ≤ 4294967295
@@ -98,8 +98,8 @@ frontier_cap x ok = by_memory x.memory ok.kept
     by_memory (Some m) k = let fits = k.station.range.counter in let below = k.station.counter.below in omega arith
 
 told_rising : {A : Type 0} (ciphers : Ciphers) → KeepsRanges ciphers → (w : World) (number : ℕ) (x : Node) (d : NodeStep A) → WorldOk w
-    → node_at w number ≡ Some x → DidOk x d → Rising (told ciphers w number d)
-unfolding told
+    → node_at w number ≡ Some x → DidOk x d → Rising (world_after ciphers w number d)
+unfolding world_after
 told_rising ciphers fits w number x d ok there did = record {
   below = below;
   pairs = grown.pairs;
@@ -137,7 +137,7 @@ told_rising ciphers fits w number x d ok there did = record {
         (ok.rising.below n y (sym (slice_get-set_other w.nodes number n d.node e) ∙ is)) (others n e (frontier y))) (cases_eq n number)
 
 pub told_ok : {A : Type 0} (ciphers : Ciphers) → KeepsRanges ciphers → (w : World) (number : ℕ) (x : Node) (d : NodeStep A) → WorldOk w
-    → node_at w number ≡ Some x → DidOk x d → (w.running ≡ false → d.frames ≡ []) → WorldOk (told ciphers w number d)
+    → node_at w number ≡ Some x → DidOk x d → (w.running ≡ false → d.frames ≡ []) → WorldOk (world_after ciphers w number d)
 told_ok ciphers fits w number x d ok there did still =
     told_with ciphers w number x d ok there (record { node = did.node; role = did.role; eui = did.eui; few = did.few; marked = did.marked })
     (told_rising ciphers fits w number x d ok there did) still

@@ -15,7 +15,7 @@ use Rattle.reach_rules.specs.declared.refusal.AskRefusal.TheVariants as asks_of
 use Rattle.reach_rules.specs.Broadcasts.{broadcast}
 use Rattle.reach_rules.specs.PathAsking.{ask_path}
 use Rattle.line_rules.specs.Further.{reaches}
-use Rattle.line_rules.specs.Steps.{Step, told}
+use Rattle.line_rules.specs.Steps.{Step, world_after}
 use Rattle.line_laws.specs.Later.{IsOfLog}
 use Rattle.node_rules.specs.Ciphers.{Ciphers}
 use Rattle.node_rules.specs.Memory.{Memory, Node}
@@ -156,5 +156,5 @@ abbrev pub CallsKeepAll : Type 0
 CallsKeepAll =
     (w : World) (number : ℕ) (x : Node) (b : Beside) → w.running ≡ true → node_at w number ≡ Some x
     → ((datagram : List ℕ) → AreOctets datagram
-    → Keeps w (told network w number (reaches x b (Err broadcasts_by.Halted) (λ y. broadcast in_memory y datagram))))
-    × ((target : ℕ) → Keeps w (told network w number (reaches x b (Err asks_of.Halted) (λ y. ask_path in_memory y target))))
+    → Keeps w (world_after network w number (reaches x b (Err broadcasts_by.Halted) (λ y. broadcast in_memory y datagram))))
+    × ((target : ℕ) → Keeps w (world_after network w number (reaches x b (Err asks_of.Halted) (λ y. ask_path in_memory y target))))

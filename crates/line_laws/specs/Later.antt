@@ -23,7 +23,7 @@ use Rattle.node_rules.specs.Composing.{behind}
 use Rattle.node_rules.specs.Plans.{Plan}
 use Rattle.reach_rules.specs.ReachingNodes.{Beside}
 use Rattle.line_rules.specs.Nonces.{HasSender, IsSpelled}
-use Rattle.line_rules.specs.Steps.{ran, told}
+use Rattle.line_rules.specs.Steps.{ran, world_after}
 use Rattle.line_rules.specs.Worlds.{World, Flight, Issued, Pairing, Sending, node_at, start}
 use Rattle.line_rules.specs.Further.{discovery_flight}
 use Rattle.line_events.specs.declared.happenings.Handed.{Handed}
@@ -112,14 +112,14 @@ RunningKeeps = (w : World) → Keeps w (ran w)
 abbrev pub SealingKeeps : Type 0 → Type 0
 SealingKeeps E =
     (ends : Ends E) (halted : E) (to : ℕ) (unit : MeshUnit) → IsTarget to → MayBeSealed unit → (w : World) (number : ℕ) (x : Node)
-    → w.running ≡ true → node_at w number ≡ Some x → Keeps w (told network w number (seals_at ends halted to unit x))
+    → w.running ≡ true → node_at w number ≡ Some x → Keeps w (world_after network w number (seals_at ends halted to unit x))
 
 -- and a node that sends a plain frame of octets, of whatever joining message: which grants are right is known by the pair tags that were
 -- made, and it makes none
 abbrev pub PlainKeeps : Type 0
 PlainKeeps =
     (frame : Sent) → IsPlainFrame frame → AreOctets (spelled network frame).octets → (w : World) (number : ℕ) (x : Node)
-    → w.running ≡ true → node_at w number ≡ Some x → Keeps w (told network w number (sends_plain frame x))
+    → w.running ≡ true → node_at w number ≡ Some x → Keeps w (world_after network w number (sends_plain frame x))
 
 -- # What is stored beside
 
@@ -139,7 +139,7 @@ stores_at ps x = acts x tt (λ m. stores tt tt ps m)
 abbrev pub StoringKeeps : Type 0
 StoringKeeps =
     (ps : List Write) → Each IsOfLog ps → (w : World) (number : ℕ) (x : Node)
-    → w.running ≡ true → node_at w number ≡ Some x → Keeps w (told network w number (stores_at ps x))
+    → w.running ≡ true → node_at w number ≡ Some x → Keeps w (world_after network w number (stores_at ps x))
 
 -- what a node did is what it did in two steps, of which the first sent nothing and made no tag
 pub record IsSplit {A B : Type 0} (whole : NodeStep A) (first : NodeStep B) (rest : NodeStep A) : Type 0 where

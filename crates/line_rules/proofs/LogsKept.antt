@@ -56,7 +56,7 @@ use Rattle.node_rules.specs.MemoryDrafts.{in_memory}
 use Rattle.line_rules.specs.Answers.{Reception, only, coordinator_reception, meter_reception}
 use Rattle.line_rules.specs.Forgery.{Comes, OfFlight, OfScript, accepting}
 use Rattle.line_rules.specs.Worlds.{World, Flight, Trace, node_at, flight_at, is_forged_tag}
-use Rattle.line_rules.specs.Steps.{Step, set_up, ran, told, acted, has_begun, takes_setup, once_begun, in_setup, on_node, on_meter, made_node, blank_node}
+use Rattle.line_rules.specs.Steps.{Step, set_up, ran, world_after, acted, has_begun, takes_setup, once_begun, in_setup, on_node, on_meter, made_node, blank_node}
 use Rattle.line_rules.specs.Steps.{coordinator_node, is_known, coordinator, meter, depot, depot_by, provisioned, psk_of, near, near_by, keeps_rank, ranks_full}
 use Rattle.line_rules.specs.Steps.{offered_near, preset, allow, allowed, rand, join, joins_by, leave, send, sends_by, sent_if, breaks, breaks_by, received}
 use Rattle.line_rules.specs.Steps.{on_flight, lose, tick, ticked, restart, cut, show, rekey, challenge, activate, activate_at, kick, step, hears, heard}
@@ -99,18 +99,18 @@ module _ (ciphers : Ciphers) (w : World) (short : HaveShortTables w) (h : LogsKe
   here : (number : ℕ) (x : Node) → node_at w number ≡ Some x → NodeIn (beside_at w number).log x
   here number x there = logged_at w.beside w.nodes number x h there
 
-  told_in : {A : Type 0} (v : World) (number : ℕ) (d : NodeStep A) → LogsKept v → NodeIn (beside_at v number).log d.node → LogsKept (told ciphers v number d)
-  unfolding told
+  told_in : {A : Type 0} (v : World) (number : ℕ) (d : NodeStep A) → LogsKept v → NodeIn (beside_at v number).log d.node → LogsKept (world_after ciphers v number d)
+  unfolding world_after
   told_in v number d k l = set_node v.beside v.nodes number d.node k l
 
   told_both : {A : Type 0} (v : World) (number : ℕ) (d : NodeStep A) (b : Beside) → LogsKept v → NodeIn b.log d.node
-      → LogsKept (set_beside number b (told ciphers v number d))
-  unfolding told
+      → LogsKept (set_beside number b (world_after ciphers v number d))
+  unfolding world_after
   told_both v number d b k l = set_both v.beside v.nodes number b d.node k l
 
   -- one node acts, in this world or after another one has acted in it
   quiet_told : {A : Type 0} (v : World) → v.beside ≡ w.beside → LogsKept v → (number : ℕ) (x : Node) → node_at w number ≡ Some x → (d : NodeStep A)
-      → Quiet x d.node → LogsKept (told ciphers v number d)
+      → Quiet x d.node → LogsKept (world_after ciphers v number d)
   quiet_told v same k number x there d q = told_in v number d k
       (quiet_in _ x d.node q (subst (λ (bs : List Beside). NodeIn (unwrap_or (slice_get bs number) nothing_beside).log x) (sym same) (here number x there)))
 
@@ -140,11 +140,11 @@ module _ (ciphers : Ciphers) (w : World) (short : HaveShortTables w) (h : LogsKe
 
   depot_by_in : (number : ℕ) (x c : Node) → node_at w number ≡ Some x → node_at w 0 ≡ Some c → (d : NodeStep (Result Granted CoordinatorRefusal))
       → Quiet c d.node → Kept (depot_by ciphers w number x d)
-  unfolding told
+  unfolding world_after
   depot_by_in number x c hx hc d q = by_answer d.answer refl
     where
-      provides : (g : Granted) → LogsKept (provisioned ciphers (told ciphers (set_up w) 0 (record d { answer = Ok g })) number x g).0
-      provides g = quiet_told (told ciphers (set_up w) 0 (record d { answer = Ok g })) refl (quiet_told (set_up w) refl h 0 c hc (record d { answer = Ok g }) q)
+      provides : (g : Granted) → LogsKept (provisioned ciphers (world_after ciphers (set_up w) 0 (record d { answer = Ok g })) number x g).0
+      provides g = quiet_told (world_after ciphers (set_up w) 0 (record d { answer = Ok g })) refl (quiet_told (set_up w) refl h 0 c hc (record d { answer = Ok g }) q)
           number x hx (acts x (Ok tt) (λ m. meters.provision m g)) (acts_quiet x (Ok tt) (λ m. meters.provision m g)
           (λ m e. (stations_leave_log m.station (shorts number x hx m e)).installs g))
 
@@ -164,12 +164,12 @@ module _ (ciphers : Ciphers) (w : World) (short : HaveShortTables w) (h : LogsKe
       (λ m e. (stations_leave_log m.station (shorts number x there m e)).near to cost now)
 
   near_by_in : (a b cost : ℕ) (x y : Node) → node_at w a ≡ Some x → node_at w b ≡ Some y → (p q : Option ℕ) → Kept (near_by ciphers w a b cost x y p q)
-  unfolding told
+  unfolding world_after
   near_by_in a b cost x y hx hy None q = tt
   near_by_in a b cost x y hx hy (Some p) None = tt
   near_by_in a b cost x y hx hy (Some p) (Some q) = branch ((a == b) || (keeps_rank x q || (ranks_full x || ranks_full y))) (Err faults.Setup)
-      (Ok (told ciphers (told ciphers (set_up w) a (offered_near x q cost w.clock)) b (offered_near y p cost w.clock), trace_of (happened w said.Set))) (tt {0})
-      (quiet_told (told ciphers (set_up w) a (offered_near x q cost w.clock)) refl
+      (Ok (world_after ciphers (world_after ciphers (set_up w) a (offered_near x q cost w.clock)) b (offered_near y p cost w.clock), trace_of (happened w said.Set))) (tt {0})
+      (quiet_told (world_after ciphers (set_up w) a (offered_near x q cost w.clock)) refl
       (quiet_told (set_up w) refl h a x hx (offered_near x q cost w.clock) (near_quiet a x hx q cost w.clock)) b y hy (offered_near y p cost w.clock)
       (near_quiet b y hy p cost w.clock))
 
@@ -388,7 +388,7 @@ module _ (ciphers : Ciphers) (w : World) (short : HaveShortTables w) (h : LogsKe
 
     commanded_in : (got : Accepted) (cost : ℕ) (c : NeighbourCommand) → AreOctets c.body
         → LogsKept (commanded ciphers number (hears ciphers y got cost (note_by w octets got.path) w.clock).node c (heard ciphers w number y octets got cost)).0
-    unfolding told
+    unfolding world_after
     commanded_in got cost c are =
         let z : Node = (hears ciphers y got cost (note_by w octets got.path) w.clock).node in
         let q : Quiet x z = quiet_on x y z first (hears_quiet y has got cost (note_by w octets got.path) w.clock) in
@@ -399,7 +399,7 @@ module _ (ciphers : Ciphers) (w : World) (short : HaveShortTables w) (h : LogsKe
 
     checked_in : (got : Accepted) (cost : ℕ)
         → LogsKept (checked ciphers w number got (hears ciphers y got cost (note_by w octets got.path) w.clock) (heard ciphers w number y octets got cost)).0
-    unfolding told
+    unfolding world_after
     checked_in got cost = by_due (due got.path (message_of got) (hears ciphers y got cost (note_by w octets got.path) w.clock).answer.answer)
       where
         z : Node
@@ -444,7 +444,7 @@ module _ (ciphers : Ciphers) (w : World) (short : HaveShortTables w) (h : LogsKe
   comes_in : (number : ℕ) (x : Node) (octets : List ℕ) (cost : ℕ) → node_at w number ≡ Some x
       → ((got : Accepted) (c : NeighbourCommand) → (accepting ciphers x octets).answer ≡ Ok got → command_of got ≡ Some c → AreOctets c.body)
       → LogsKept (comes ciphers w number x octets cost).0
-  unfolding comes told
+  unfolding comes world_after
   comes_in number x octets cost there are =
       either_in (is_discovery octets) _ _ (discovers_in number x octets cost x.memory) (accepted_in (accepting ciphers x octets) quiet has are)
     where

@@ -31,7 +31,7 @@ use Rattle.reach_rules.specs.Beacons.{is_discovery}
 use Rattle.reach_rules.specs.Receiving.{NeighbourCommand, command_of}
 use Rattle.line_rules.specs.Answers.{Reception}
 use Rattle.line_rules.specs.Worlds.{World, Flight, Trace, node_at, flight_at}
-use Rattle.line_rules.specs.Steps.{provisioned, ticked, Step, set_up, ran, told, acted, has_begun, takes_setup, once_begun, in_setup, on_node, on_meter}
+use Rattle.line_rules.specs.Steps.{provisioned, ticked, Step, set_up, ran, world_after, acted, has_begun, takes_setup, once_begun, in_setup, on_node, on_meter}
 use Rattle.line_rules.specs.Steps.{made_node, is_known, coordinator, meter, depot, depot_by, psk_of, near, near_by, preset, allow, allowed, rand, join}
 use Rattle.line_rules.specs.Steps.{joins_by, leave, send, sends_by, sent_if, breaks, breaks_by, deliver, inject, arrives, accepted_by, received, on_flight}
 use Rattle.line_rules.specs.Steps.{lose, tick, restart, cut, show, rekey, challenge, activate, activate_at, kick, step, spoken, hears, heard, forged_by}
@@ -84,8 +84,8 @@ ran_goes w = record {
   made = ([], sym (append-nil w.made));
 }
 
-told_goes : {A : Type 0} (ciphers : Ciphers) (w v : World) (number : ℕ) (d : NodeStep A) → GoesOn w v → GoesOn w (told ciphers v number d)
-unfolding told
+told_goes : {A : Type 0} (ciphers : Ciphers) (w v : World) (number : ℕ) (d : NodeStep A) → GoesOn w v → GoesOn w (world_after ciphers v number d)
+unfolding world_after
 told_goes ciphers w v number d g = record {
   events = g.events;
   clock = g.clock;
@@ -156,7 +156,7 @@ module _ (ciphers : Ciphers) (w : World) where
   depot_by_shape number x d = by_answer d.answer refl
     where
       by_answer : (r : Result Granted CoordinatorRefusal) → d.answer ≡ r → StepShape w (depot_by ciphers w number x d)
-      by_answer (Ok g) e = rw e (Taken (provisioned ciphers (told ciphers (set_up w) 0 (record d { answer = Ok g })) number x g)
+      by_answer (Ok g) e = rw e (Taken (provisioned ciphers (world_after ciphers (set_up w) 0 (record d { answer = Ok g })) number x g)
           (told_goes ciphers w _ number _ (told_goes ciphers w _ 0 _ (set_up_goes w))))
       by_answer (Err reason) e = rw e (Fails faults.Setup)
 

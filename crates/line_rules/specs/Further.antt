@@ -62,7 +62,7 @@ use Rattle.line_events.specs.declared.happenings.AgentLine.{AgentLine}
 use Rattle.line_events.specs.declared.happenings.BroadcastUp.{BroadcastUp}
 use Rattle.line_events.specs.declared.happenings.PathLine.{PathLine}
 use Rattle.line_rules.specs.Answers.{Reception, only, frame_word, command_word, discovery_word, broadcast_word, ask_word, scan_word}
-use Rattle.line_rules.specs.Steps.{Step, set_up, ran, told, spoken, happened, trace_of, once_begun, in_setup, on_node, on_meter, on_flight, acted, psk_of}
+use Rattle.line_rules.specs.Steps.{Step, set_up, ran, world_after, spoken, happened, trace_of, once_begun, in_setup, on_node, on_meter, on_flight, acted, psk_of}
 use Rattle.line_rules.specs.Steps.{identity, hears, heard, received, forged_by, note_by, restarts, restart, tick, step}
 use Rattle.line_rules.specs.Worlds.{World, Flight, Trace, Broadcasting, Stepping, Noticed, Replied, Acknowledged, Scans, Heard, Further, nothing_further}
 use Rattle.line_rules.specs.Worlds.{node_at}
@@ -102,7 +102,7 @@ beside_after x b plan left =
 -- the node of a number has carried it out
 abbrev pub has_reached : {A : Type 0} → Ciphers → World → ℕ → Node → A → (Reaching Memory → Plan (Reaching Memory) A) → NodeStep A → World
 has_reached ciphers w number x halted plan d =
-    set_beside number (beside_after x (beside_at w number) plan d.node) (told ciphers w number d)
+    set_beside number (beside_after x (beside_at w number) plan d.node) (world_after ciphers w number d)
 
 -- # checks
 
@@ -347,8 +347,8 @@ acknowledging x r = acts x (Err locals.Store) (λ m. acknowledges in_memory r.to
 
 abbrev pub acknowledged : Ciphers → World → ℕ → NodeStep (Result (Unit {0}) LocalRefusal) → World × Trace → World × Trace
 acknowledged ciphers w number a r =
-    if is_some a.node.memory then adds_frames (told ciphers r.0 number a) r.1 a
-    else sends_nothing w (told ciphers r.0 number a, r.1)
+    if is_some a.node.memory then adds_frames (world_after ciphers r.0 number a) r.1 a
+    else sends_nothing w (world_after ciphers r.0 number a, r.1)
 
 abbrev pub acknowledged_if : Ciphers → World → ℕ → Node → Option Reply → World × Trace → World × Trace
 acknowledged_if ciphers w number x None r = r
@@ -392,7 +392,7 @@ accepted_further ciphers w number octets cost d = by_answer d.answer
   where
     by_answer : Result Accepted FrameRefusal → World × Trace
     by_answer (Ok got) = heard_further ciphers w number d.node octets got cost
-    by_answer (Err reason) = (told ciphers (ran w) number d, trace_of (happened w (frame_word reason)))
+    by_answer (Err reason) = (world_after ciphers (ran w) number d, trace_of (happened w (frame_word reason)))
 
 -- octets come to a node
 unfoldable pub comes : Ciphers → World → ℕ → Node → List ℕ → (cost : ℕ) → World × Trace

@@ -69,8 +69,8 @@ abbrev pub flights_of : {A : Type 0} → Ciphers → ℕ → NodeStep A → List
 flights_of ciphers number d = map (λ frame. flight_by number (spelled ciphers frame)) d.frames
 
 -- the node is the one that is left, its frames fly, and its pair tags are made
-unfoldable pub told : {A : Type 0} → Ciphers → World → ℕ → NodeStep A → World
-told ciphers w number d = record w {
+unfoldable pub world_after : {A : Type 0} → Ciphers → World → ℕ → NodeStep A → World
+world_after ciphers w number d = record w {
   nodes = slice_set w.nodes number d.node;
   flights = w.flights ++ flights_of ciphers number d;
   made = w.made ++ d.made;
@@ -115,7 +115,7 @@ spoken w d =
 
 -- what a node did goes into the world and into the report
 abbrev pub acted : Ciphers → World → ℕ → NodeStep Answer → World × Trace
-acted ciphers w number d = (told ciphers (ran w) number d, spoken w d)
+acted ciphers w number d = (world_after ciphers (ran w) number d, spoken w d)
 
 -- # Which events are taken
 
@@ -207,7 +207,7 @@ psk_of x = psk_by x.role
 -- the meter gets the grant that the coordinator has for it
 abbrev pub provisioned : Ciphers → World → ℕ → Node → Granted → World × Trace
 provisioned ciphers w number x g = (
-  told ciphers w number (acts x (Ok tt) (λ m. meters.provision m g)),
+  world_after ciphers w number (acts x (Ok tt) (λ m. meters.provision m g)),
   record (trace_of (happened w said.Joined)) { issued = issued_by x.eui g },
 )
 
@@ -216,7 +216,7 @@ abbrev pub depot_by : Ciphers → World → ℕ → Node → NodeStep (Result Gr
 depot_by ciphers w number x d = by_answer d.answer
   where
     by_answer : Result Granted CoordinatorRefusal → Step
-    by_answer (Ok g) = Ok (provisioned ciphers (told ciphers (set_up w) 0 d) number x g)
+    by_answer (Ok g) = Ok (provisioned ciphers (world_after ciphers (set_up w) 0 d) number x g)
     by_answer (Err reason) = Err faults.Setup
 
 -- of a meter that has no address yet
@@ -252,7 +252,7 @@ near_by ciphers w a b cost x y (Some p) None = Err faults.Setup
 near_by ciphers w a b cost x y (Some p) (Some q) =
     if (a == b) || (keeps_rank x q || (ranks_full x || ranks_full y)) then Err faults.Setup
     else Ok (
-      told ciphers (told ciphers (set_up w) a (offered_near x q cost w.clock)) b
+      world_after ciphers (world_after ciphers (set_up w) a (offered_near x q cost w.clock)) b
           (offered_near y p cost w.clock),
       trace_of (happened w said.Set),
     )
@@ -269,7 +269,7 @@ abbrev pub preset : Ciphers → World → ℕ → (StationMemory → calls.Prese
 preset ciphers w number plan =
     in_setup w (on_node w number
     (λ x. Ok (
-      told ciphers (set_up w) number (acts x (Ok tt) (λ m. of_station m (plan m.station))),
+      world_after ciphers (set_up w) number (acts x (Ok tt) (λ m. of_station m (plan m.station))),
       trace_of
           (happened w said.Set),
     )))
@@ -288,7 +288,7 @@ admission_by number (Err reason) = None
 -- the coordinator has allowed a meter
 abbrev pub allowed : Ciphers → World → ℕ → NodeStep (Result ℕ CoordinatorRefusal) → World × Trace
 allowed ciphers w number d = (
-  told ciphers (ran w) 0 d,
+  world_after ciphers (ran w) 0 d,
   trace_of (record (happened w (allowed_word d.answer)) { grant = admission_by number d.answer }),
 )
 
@@ -449,8 +449,8 @@ reception_trace w number forged d = record {
 -- what a frame led to, in the world
 abbrev pub received : Ciphers → World → ℕ → Bool → NodeStep Reception → World × Trace
 received ciphers w number forged d =
-    let told_world = told ciphers (ran w) number d in (
-      record told_world {
+    let after_world = world_after ciphers (ran w) number d in (
+      record after_world {
         ups = number_if (is_some d.answer.up) w.ups;
         forged = number_if forged w.forged;
         done = number_if (is_some d.answer.done) w.done;
@@ -471,7 +471,7 @@ accepted_by ciphers w number octets cost d = by_answer d.answer
   where
     by_answer : Result Accepted FrameRefusal → World × Trace
     by_answer (Ok got) = heard ciphers w number d.node octets got cost
-    by_answer (Err reason) = (told ciphers (ran w) number d, trace_of (happened w (frame_word reason)))
+    by_answer (Err reason) = (world_after ciphers (ran w) number d, trace_of (happened w (frame_word reason)))
 
 -- octets come to a node over a link of a cost
 unfoldable pub arrives : Ciphers → World → ℕ → Node → List ℕ → ℕ → World × Trace

@@ -61,7 +61,7 @@ use Rattle.line_rules.specs.Logs.{AreLogged, LogsKept}
 use Rattle.line_rules.proofs.LogSteps.{Quiet, acts_quiet, log_at, logged_at, quiet_in, set_node}
 use Rattle.line_rules.specs.Worlds.{Flight, Pairing, Trace, World, flight_at, is_forged_tag, node_at}
 use Rattle.line_rules.specs.Steps.{Step, done_by, forged_by, handed_by, happened, heard, has_begun, hears, identity, note_by, number_if, number_of, on_flight}
-use Rattle.line_rules.specs.Steps.{ran, received, reception_trace, told, trace_of}
+use Rattle.line_rules.specs.Steps.{ran, received, reception_trace, world_after, trace_of}
 use Rattle.line_world.specs.Arrivals.{checked_so, comes_so, done_in, forged_in, handed_in, heard_further_so, hears_so, in_run, left_of, note_in, received_so}
 use Rattle.line_world.specs.Arrivals.{said_of, taker_in, unbelieved_so}
 use Rattle.line_world.specs.Arrivals.{heard_so as heard_by_command}
@@ -150,7 +150,7 @@ at_some (x ∷ xs) (suc n) less = let below : n < length xs = omega (arith, less
 
 -- what is told of the node of a number
 pub at_node_told : (nodes : List Node) (number : ℕ) (x : Node) (P : Node → Type 0) → slice_get nodes number ≡ Some x → IfSome (slice_get nodes number) P → P x
-at_node_told nodes number x P at told = subst (λ (o : Option Node). IfSome o P) at told
+at_node_told nodes number x P at world_after = subst (λ (o : Option Node). IfSome o P) at world_after
 
 -- # The bounds while octets come
 
@@ -325,9 +325,9 @@ looks x octets = acts x (Err frame_refusals.Halted) (λ m. of_station m (accept 
 
 -- two steps of one node leave what the second leaves
 told_twice : {A : Type 0} (w : World) (number : ℕ) (y : Node) (d : NodeStep A)
-    → told network (record w { nodes = slice_set w.nodes number y }) number d ≡ told network w number d
-unfolding told
-told_twice w number y d = λ i. record (told network w number d) { nodes = set-set w.nodes number y d.node i }
+    → world_after network (record w { nodes = slice_set w.nodes number y }) number d ≡ world_after network w number d
+unfolding world_after
+told_twice w number y d = λ i. record (world_after network w number d) { nodes = set-set w.nodes number y d.node i }
 
 -- a frame is heard after its node was looked at as it is before
 received_as : (w : World) (number : ℕ) (x y : Node) (forged : Bool) (d : NodeStep Reception) → slice_get w.nodes number ≡ Some x → y.eui ≡ x.eui
@@ -411,7 +411,7 @@ comes_as w number x octets cost accepted origin nodes plain at did forged note =
   where
     by_answer : Result Accepted FrameRefusal → World × Trace
     by_answer (Ok got) = heard_further network w number (looks x octets).node octets got cost
-    by_answer (Err reason) = (told network (ran w) number (looks x octets), trace_of (happened w (frame_word reason)))
+    by_answer (Err reason) = (world_after network (ran w) number (looks x octets), trace_of (happened w (frame_word reason)))
 
     by : (a : Result Accepted FrameRefusal) → IfOk a (λ got. origin.is_forged ≡ forged_in w.flights octets got.path)
         → IfOk a (λ got. origin.note ≡ note_in w.flights octets got.path)
@@ -422,7 +422,7 @@ comes_as w number x octets cost accepted origin nodes plain at did forged note =
         ∙ heard_further_as w number x y octets got origin cost at (acts_eui x (Err frame_refusals.Halted) _) (forged ∙ forged_as w octets got.path)
         (note ∙ note_as w octets got.path)
     by (Err reason) forged note =
-        let left : told network (ran w) number (looks x octets) ≡ record (ran w) { nodes = nodes } =
+        let left : world_after network (ran w) number (looks x octets) ≡ record (ran w) { nodes = nodes } =
         told_as (ran w) number (looks x octets) nodes nothing did.out_is did.nodes_are
         ∙ (λ i. record (ran w) { nodes = nodes; flights = append-nil w.flights i; made = append-nil w.made i }) in
         λ i. (sym left i, trace_of (happened w (frame_word reason)))

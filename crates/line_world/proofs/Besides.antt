@@ -18,7 +18,7 @@ use Rattle.line_events.specs.declared.event.StepFault.{StepFault}
 use Rattle.line_events.specs.declared.event.TheConstants.{MAX_EVENTS}
 use Rattle.line_rules.specs.Further.{after_ok, beside_after, beside_at, has_reached, reaches, restarts_by, set_beside}
 use Rattle.line_rules.specs.Logs.{AreLogged, LogsKept}
-use Rattle.line_rules.specs.Steps.{acted, happened, ran, restarts, spoken, told}
+use Rattle.line_rules.specs.Steps.{acted, happened, ran, restarts, spoken, world_after}
 use Rattle.line_rules.specs.Worlds.{Further, World, Trace}
 use Rattle.line_rules.proofs.LogSteps.{halted_in, log_at, logged_at}
 use Rattle.line_world.specs.Bounds.{IsBounded}
@@ -70,7 +70,7 @@ module _ {w : World} {number found : ℕ} (there : IsThere w number found) (kept
         record (acted network w number (restarts there.node)).0 { beside = slice_set w.beside number (record { checks = nobody; log = log; scan = ended }) },
         (acted network w number (restarts there.node)).1,
       )
-  unfolding told
+  unfolding world_after
   restart_is log e = ap (restarts_by network w number there.node) (restarted_so log e)
 
 -- # An event at which one node carried out a plan of its further rules
@@ -104,7 +104,7 @@ module _ {A : Type 0} {w : World} {number found : ℕ} (there : IsThere w number
         has_reached network (ran w) number there.node halted plan (reaches there.node (beside_at w number) halted plan),
         record (spoken w (answering word (reaches there.node (beside_at w number) halted plan))) { further = more },
       ))
-  unfolding told
+  unfolding world_after
   node_reached new answer out nodes c h b room frames tags did said is =
       let x = there.node in
       let at : slice_get w.nodes found ≡ Some x = ap (λ n. slice_get w.nodes n) there.same ∙ there.at in
@@ -120,9 +120,9 @@ module _ {A : Type 0} {w : World} {number found : ℕ} (there : IsThere w number
       ))) (sym is)
       (steps_as _ _ ((λ i. Ok (
         set_beside (sym there.same i) (beside_after x (beside_at w (sym there.same i)) plan (reaches x (beside_at w (sym there.same i)) halted plan).node)
-            (told network (ran w) number (reaches x (beside_at w (sym there.same i)) halted plan)),
+            (world_after network (ran w) number (reaches x (beside_at w (sym there.same i)) halted plan)),
         record (spoken w (answering word (reaches x (beside_at w (sym there.same i)) halted plan))) { further = more },
       )) ∙ ap (λ (d : Beside). Ok (
-        set_beside found d (told network (ran w) number (reached_by x)),
+        set_beside found d (world_after network (ran w) number (reached_by x)),
         record (spoken w (answering word (reached_by x))) { further = more },
       )) (sym r.beside)) s)

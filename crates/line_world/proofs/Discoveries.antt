@@ -51,7 +51,7 @@ use Rattle.line_events.specs.declared.happenings.Happenings.{Happenings}
 use Rattle.line_rules.specs.Answers.{discovery_word, join_word}
 use Rattle.line_rules.specs.Further.{agent_line, beacon_taken, beside_after, beside_at, choice_word, choose, chooses_by, discovery_flight, discovery_flights}
 use Rattle.line_rules.specs.Further.{has_discovered, has_reached, reaches, scan, scanning, scans_by, set_beside, with_beside, without_log}
-use Rattle.line_rules.specs.Steps.{flight_by, happened, identity, psk_of, ran, spoken, told}
+use Rattle.line_rules.specs.Steps.{flight_by, happened, identity, psk_of, ran, spoken, world_after}
 use Rattle.line_rules.specs.Worlds.{Noticed, Trace, World}
 use Rattle.line_world.specs.Bounds.{IsBounded}
 use Rattle.line_world.specs.Discovering.{HearsBeacon, TakesBeacon, flies_in, joins_in, taken_by}
@@ -441,7 +441,7 @@ module _ (w : World) (number : ℕ) (x : Node) (k : ℕ) (psk : Key) (m : Memory
   pub choice_refused : (new : World) (h : Happenings) (reason : ChooseRefusal) → IsBounded w → w.events < MAX_EVENTS
       → plan held ≡ refused choosing_ends held reason
       → h ≡ happened w (choice_word (Err reason)) → new ≡ ran w → Steps true w (Ok h) new (Ok chosen_so)
-  unfolding told resting
+  unfolding world_after resting
   choice_refused new h reason bounds room is said left =
       let same : does ≡ stays x (Err reason) =
       node_stays x (Err choices.Halted) (with_beside b plan) m (Err reason) (Err choices.Halted) there
@@ -449,7 +449,7 @@ module _ (w : World) (number : ℕ) (x : Node) (k : ℕ) (psk : Key) (m : Memory
       let keeps : (plan held).memory.beside ≡ b = ap (λ (p : Plan (Reaching Memory) (Result ChosenAgent ChooseRefusal)). p.memory.beside) is in
       let world : chosen_so.0 ≡ ran w =
       ap (λ (d : NodeStep (Result ChosenAgent ChooseRefusal)). has_reached network (ran w) number x (Err choices.Halted) plan d) same
-      ∙ ap (λ (c : Beside). set_beside number c (told network (ran w) number (stays x (refusal reason)))) (chooses_beside x keeps (ap is_some there))
+      ∙ ap (λ (c : Beside). set_beside number c (world_after network (ran w) number (stays x (refusal reason)))) (chooses_beside x keeps (ap is_some there))
       ∙ (λ i. record (ran w) {
         nodes = set_same w.nodes number x at i;
         flights = append-nil w.flights i;
@@ -480,7 +480,7 @@ module _ (w : World) (number : ℕ) (x : Node) (k : ℕ) (psk : Key) (m : Memory
   pub choice_joins : (address total : ℕ) → meters.is_joined m ≡ false → Some (address, total) ≡ kth_of b.scan.agents k
       → m.station.counter.next ≤ m.station.counter.limit
       → joins_in w number x psk address total ≡ chosen_so
-  unfolding told
+  unfolding world_after
   choice_joins address total apart some below =
       let own : meters.Identity = identity network x psk in
       let agent : ChosenAgent = record { address = address; total = total } in
@@ -495,10 +495,10 @@ module _ (w : World) (number : ℕ) (x : Node) (k : ℕ) (psk : Key) (m : Memory
       ap (λ (d : NodeStep (Result ChosenAgent ChooseRefusal)). is_some d.node.memory) same
       ∙ node_goes_on x (Err joins.Halted) join m there (joining_stores_nothing own m address w.clock apart below) in
       let d : NodeStep (Result (Unit {0}) JoinRefusal) = acts x (Err joins.Halted) join in
-      let world : told network (ran w) number d ≡ chosen_so.0 =
-      (λ i. record (told network (ran w) number d) { beside = sym (beside_same w.beside number) i })
-      ∙ ap (λ (c : Beside). set_beside number c (told network (ran w) number d)) (sym (chooses_beside does.node keeps up))
-      ∙ ap (λ (e : NodeStep (Result ChosenAgent ChooseRefusal)). set_beside number (beside_after x b plan does.node) (told network (ran w) number e))
+      let world : world_after network (ran w) number d ≡ chosen_so.0 =
+      (λ i. record (world_after network (ran w) number d) { beside = sym (beside_same w.beside number) i })
+      ∙ ap (λ (c : Beside). set_beside number c (world_after network (ran w) number d)) (sym (chooses_beside does.node keeps up))
+      ∙ ap (λ (e : NodeStep (Result ChosenAgent ChooseRefusal)). set_beside number (beside_after x b plan does.node) (world_after network (ran w) number e))
       (sym same) in
       (λ i. (
         world i,
@@ -514,7 +514,7 @@ module _ (w : World) (number : ℕ) (x : Node) (k : ℕ) (psk : Key) (m : Memory
 pub choice_halted : (w new : World) (number : ℕ) (x : Node) (k : ℕ) (psk : Key) (h : Happenings) → slice_get w.nodes number ≡ Some x → x.memory ≡ None
     → IsBounded w → w.events < MAX_EVENTS
     → h ≡ happened w said.Halted → new ≡ ran w → Steps true w (Ok h) new (Ok (chooses_by network w number x k (Some psk)))
-unfolding acts told beside_after
+unfolding acts world_after beside_after
 choice_halted w new number x k psk h at none bounds room is left =
     let b : Beside = beside_at w number in
     let plan : Reaching Memory → Plan (Reaching Memory) (Result ChosenAgent ChooseRefusal) = λ y. choose_agent (identity network x psk) y k w.clock in
@@ -526,7 +526,7 @@ choice_halted w new number x k psk h at none bounds room is left =
     (λ (n : Memory). if is_some x.memory then (plan (record { memory = n; beside = b })).memory.beside else without_log b) o b) none in
     let world : (chooses_by network w number x k (Some psk)).0 ≡ ran w =
     ap (λ (d : NodeStep (Result ChosenAgent ChooseRefusal)). has_reached network (ran w) number x (Err choices.Halted) plan d) same
-    ∙ ap (λ (c : Beside). set_beside number c (told network (ran w) number (stays x (refusal choices.Halted)))) keeps
+    ∙ ap (λ (c : Beside). set_beside number c (world_after network (ran w) number (stays x (refusal choices.Halted)))) keeps
     ∙ (λ i. record (ran w) {
       nodes = set_same w.nodes number x at i;
       flights = append-nil w.flights i;
@@ -575,7 +575,7 @@ pub joins_told : (w new : World) (number : ℕ) (x : Node) (psk : Key) (address 
     → agent ≡ agent_line number (chosen (record { address = address; total = total }) asked)
     → h ≡ record (happened w (join_word asked)) { flights = length out.frames } → new ≡ after (ran w) number nodes out
     → Steps true w (Ok (with_agent h agent)) new (Ok (joins_in w number x psk address total))
-unfolding told
+unfolding world_after
 joins_told w new number x psk address total asked out nodes agent h at key did bounds room frames tags agent_is is left =
     let step : Node → NodeStep (Result (Unit {0}) JoinRefusal) = λ y. acts y (Err joins.Halted) (λ k. meters.join (identity network y psk) k address w.clock) in
     let there : IsThere w number number = record { node = x; at = at; same = refl; within = slice_get_within w.nodes number x at } in
@@ -588,7 +588,7 @@ joins_told w new number x psk address total asked out nodes agent h at key did b
     (λ key. Did (acts x (Err joins.Halted) (λ k. meters.join (identity network x key) k address w.clock)) w.nodes number asked out nodes)) key by_all in
     let s = node_acted true w new there step join_word asked out nodes h bounds room frames tags
     (subst (λ (o : Option Node). IfSome o (λ y. Did (step y) w.nodes number asked out nodes)) (sym at) own) is left in
-    let world : told network (ran w) number (step x) ≡ new = ap (world_in w) s.gives.taken in
+    let world : world_after network (ran w) number (step x) ≡ new = ap (world_in w) s.gives.taken in
     let said_so : h ≡ (spoken w (answering join_word (step x))).happened = s.gives.told ∙ sym (ap (said_in h) s.gives.taken) in
     let agent_so : agent ≡ agent_line number (chosen (record { address = address; total = total }) (step x).answer) =
     agent_is ∙ ap (λ (r : Result (Unit {0}) JoinRefusal). agent_line number (chosen (record { address = address; total = total }) r)) own.answer_is in

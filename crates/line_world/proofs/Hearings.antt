@@ -70,7 +70,7 @@ use Rattle.line_rules.specs.Answers.{CompletedJoining, Reception, command_word, 
 use Rattle.line_rules.specs.Further.{acknowledged, acknowledged_if, acknowledging, adds_frames, beside_after, beside_at, broadcast_up, command_trace, due}
 use Rattle.line_rules.specs.Further.{due_of, has_reached, is_dropped, is_reply_taken, path_line, reaches, sends_nothing, set_beside, with_check}
 use Rattle.line_rules.specs.Logs.{LogIn}
-use Rattle.line_rules.specs.Steps.{done_by, flight_by, handed_by, happened, hears, identity, number_if, number_of, received, told}
+use Rattle.line_rules.specs.Steps.{done_by, flight_by, handed_by, happened, hears, identity, number_if, number_of, received, world_after}
 use Rattle.line_rules.specs.Worlds.{Pairing, Trace, World, is_forged_tag}
 use Rattle.line_rules.proofs.LogSteps.{NodeIn, Quiet, acts_quiet}
 use Rattle.line_world.specs.declared.nodes.command.Commanded.{Commanded}
@@ -287,7 +287,7 @@ pub was_commanded : (w new : World) (number : ℕ) (x : Node) (got : Accepted) (
     { answer = commanded.answer; bup = commanded.bup; path = commanded.path }
     → new ≡ left_of (record w { nodes = left; beside = slice_set w.beside number after_b }) number out forged r
     → Steps true w (Ok h) new (Ok (heard_by_command network w number x got origin cost (Some c)))
-unfolding told
+unfolding world_after
 was_commanded w new number x got c origin cost r before out nodes left forged commanded b after_b h bounded room frames tags at command rec held reached
     is_forged said is =
     let d : NodeStep Reception = hears network x got cost origin.note w.clock in
@@ -705,7 +705,7 @@ module _ (w v2 new : World) (number : ℕ) (x : Node) (got : Accepted) (origin :
       → h ≡ said_of (record w { nodes = left o; beside = bs }) number out forged r
       → new ≡ left_of (record w { nodes = left o; beside = bs }) number out forged r
       → Steps true w (Ok h) new (Ok (acknowledged_if network w number z o noted))
-  unfolding told
+  unfolding world_after
   acknowledged_so None ack said is =
       let nodes_same : slice_set nodes number z ≡ nodes = set_same nodes number z at_heard in
       let world : noted.0 ≡ new =
@@ -718,12 +718,12 @@ module _ (w v2 new : World) (number : ℕ) (x : Node) (got : Accepted) (origin :
       let a = acknowledging z reply in
       let up : is_some a.node.memory ≡ true = sym ack.done_is in
       let all : out ≡ followed before (given_by a) = given_more a up ack.out_is in
-      let step : World × Trace = adds_frames (told network noted.0 number a) noted.1 a in
+      let step : World × Trace = adds_frames (world_after network noted.0 number a) noted.1 a in
       let by_up : acknowledged network w number a noted ≡ step =
-      ap (λ (b : Bool). if b then adds_frames (told network noted.0 number a) noted.1 a else sends_nothing w (told network noted.0 number a, noted.1)) up in
+      ap (λ (b : Bool). if b then adds_frames (world_after network noted.0 number a) noted.1 a else sends_nothing w (world_after network noted.0 number a, noted.1)) up in
       let ns : List Node = left (Some reply) in
-      let world : told network noted.0 number a ≡ new =
-      ap (λ (u : World). told network (set_beside number bb u) number a) first
+      let world : world_after network noted.0 number a ≡ new =
+      ap (λ (u : World). world_after network (set_beside number bb u) number a) first
       ∙ told_as (set_beside number bb v) number a ns (given_by a) refl refl
       ∙ (λ i. record (set_beside number bb v) {
         nodes = ns;
@@ -771,22 +771,22 @@ module _ (w v2 new : World) (number : ℕ) (x : Node) (got : Accepted) (origin :
   failed_so : (o : Option Reply) → due got.path (message_of got) d.answer.answer ≡ o → Acknowledges (record w { nodes = nodes }) number z o before false out v2
       → h ≡ said_of v2 number out forged unacknowledged → new ≡ left_of v2 number out forged unacknowledged
       → Steps true w (Ok h) new (Ok (acknowledged_if network w number z o noted))
-  unfolding told
+  unfolding world_after
   failed_so None e ack said is = let bad : false ≡ true = ack.done_is in absurd (cc (bad))
   failed_so (Some reply) e ack said is =
       let a = acknowledging z reply in
       let down : is_some a.node.memory ≡ false = sym ack.done_is in
       let none : out ≡ nothing = ack.out_is ∙ ap (λ (b : Bool). if b then followed before (given_by a) else nothing) down in
       let only_it = hears_only x got cost origin.note w.clock (is_due got.path (message_of got) d.answer.answer reply e).taken in
-      let step : World × Trace = sends_nothing w (told network noted.0 number a, noted.1) in
+      let step : World × Trace = sends_nothing w (world_after network noted.0 number a, noted.1) in
       let by_down : acknowledged network w number a noted ≡ step =
-      ap (λ (b : Bool). if b then adds_frames (told network noted.0 number a) noted.1 a else sends_nothing w (told network noted.0 number a, noted.1)) down in
+      ap (λ (b : Bool). if b then adds_frames (world_after network noted.0 number a) noted.1 a else sends_nothing w (world_after network noted.0 number a, noted.1)) down in
       let ns : List Node = left (Some reply) in
       let up = plain_up only_it in
       let done = plain_done only_it in
       let rest : World = left_of (record w { nodes = ns }) number nothing forged unacknowledged in
       let world : step.0 ≡ new =
-      ap (λ (u : World). record (told network (set_beside number bb u) number a) { flights = w.flights; made = w.made; beside = w.beside }) first
+      ap (λ (u : World). record (world_after network (set_beside number bb u) number a) { flights = w.flights; made = w.made; beside = w.beside }) first
       ∙ ap (λ (u : World). record u { flights = w.flights; made = w.made; beside = w.beside })
       (told_as (set_beside number bb v) number a ns (given_by a) refl refl)
       ∙ (λ i. record v {

@@ -22,7 +22,7 @@ use Rattle.line_events.specs.declared.happenings.Happenings.{Happenings}
 use Rattle.line_rules.specs.Answers.{ordered_word}
 use Rattle.line_rules.specs.Worlds.{World, Trace}
 use Rattle.line_rules.specs.Steps.{Step, admission_by, allowed, allowed_word, at_coordinator, by_coordinator, happened, has_begun, on_meter, on_node}
-use Rattle.line_rules.specs.Steps.{once_begun, ran, told, trace_of}
+use Rattle.line_rules.specs.Steps.{once_begun, ran, world_after, trace_of}
 use Rattle.line_world.specs.Bounds.{IsBounded}
 use Rattle.line_world.specs.Finding.{found, found_meter}
 use Rattle.line_world.specs.Steps.{HasMemory, Steps, is_memory}
@@ -214,7 +214,7 @@ has_allowed w new number there k answer nodes h b room did said is =
     let d : Did (k there.node) w.nodes 0 answer nothing nodes = of_found there (λ y. Did (k y) w.nodes 0 answer nothing nodes) did in
     let all : new ≡ after (ran w) 0 nodes nothing = is
     ∙ (λ i. record (ran w) { nodes = nodes; flights = sym (append-nil w.flights) i; made = sym (append-nil w.made) i }) in
-    let left : told network (ran w) 0 (k there.node) ≡ new = told_as (ran w) 0 (k there.node) nodes nothing d.out_is d.nodes_are ∙ sym all in
+    let left : world_after network (ran w) 0 (k there.node) ≡ new = told_as (ran w) 0 (k there.node) nodes nothing d.out_is d.nodes_are ∙ sym all in
     let same : length nodes ≡ length w.nodes = ap (λ (l : List Node). length l) d.nodes_are ∙ length-set w.nodes 0 (k there.node).node in
     let trace : Result ℕ CoordinatorRefusal → Trace = λ a. trace_of (record (happened w (allowed_word a)) { grant = admission_by number a }) in
     record {

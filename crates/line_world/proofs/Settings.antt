@@ -41,7 +41,7 @@ use Rattle.line_events.specs.declared.happenings.Happenings.{Happenings}
 use Rattle.line_rules.specs.Worlds.{World, Trace, node_at}
 use Rattle.line_rules.specs.Steps.{Step, at_coordinator, blank_node, coordinator, coordinator_node, depot, depot_at, depot_by, happened, has_begun, in_setup}
 use Rattle.line_rules.specs.Steps.{is_known, issued_by, keeps_rank, made_node, meter, near, near_by, offered_near, on_node, provisioned, psk_of, ranks_full}
-use Rattle.line_rules.specs.Steps.{set_up, takes_setup, told, trace_of}
+use Rattle.line_rules.specs.Steps.{set_up, takes_setup, world_after, trace_of}
 use Rattle.line_world.specs.Bounds.{IsBounded, IsUncut}
 use Rattle.line_world.specs.Finding.{found}
 use Rattle.line_world.specs.Steps.{HasMemory, Steps}
@@ -124,7 +124,7 @@ quietly f d old number answer out new did = record { answer_is = ap f did.answer
 
 -- a node that sent nothing is told to the world
 pub told_quiet : {A : Type 0} (w : World) (number : ℕ) (d : NodeStep A) (answer : A) (nodes : List Node) → Did d w.nodes number answer nothing nodes
-    → told network w number d ≡ record w { nodes = nodes }
+    → world_after network w number d ≡ record w { nodes = nodes }
 told_quiet w number d answer nodes did =
     told_as w number d nodes nothing did.out_is did.nodes_are ∙ (λ i. record w { nodes = nodes; flights = append-nil w.flights i; made = append-nil w.made i })
 
@@ -149,8 +149,8 @@ pub was_set : (takes : Bool) (w new : World) (step : Step) (trace : Trace) (h : 
     → length nodes ≤ 1000
     → (w.running ≡ false → All IsUncut nodes) → step ≡ Ok (record (set_up w) { nodes = nodes }, trace) → h ≡ trace.happened
     → new ≡ record (set_up w) { nodes = nodes } → Steps takes w (Ok h) new step
-was_set takes w new step trace h nodes b room few uncut taken told is = record {
-  gives = record { trace = trace; taken = taken ∙ (λ i. Ok (sym is i, trace)); told = told };
+was_set takes w new step trace h nodes b room few uncut taken world_after is = record {
+  gives = record { trace = trace; taken = taken ∙ (λ i. Ok (sym is i, trace)); told = world_after };
   memory = by takes;
   bounds = subst IsBounded (sym is) (bounded_setup w nodes b room few uncut);
 }
@@ -217,7 +217,7 @@ pub value_set : {A : Type 0} (w new : World) {number found : ℕ} (there : IsThe
     → w.events < MAX_EVENTS → true ≡ takes_setup w → ((x : Node) → IsUncut x → IsUncut (d x).node)
     → IfSome (slice_get w.nodes found) (λ x. Did (d x) w.nodes found answer nothing nodes)
     → h ≡ happened w said.Set → new ≡ record (set_up w) { nodes = nodes }
-    → Steps false w (Ok h) new (in_setup w (on_node w number (λ x. Ok (told network (set_up w) number (d x), trace_of (happened w said.Set)))))
+    → Steps false w (Ok h) new (in_setup w (on_node w number (λ x. Ok (world_after network (set_up w) number (d x), trace_of (happened w said.Set)))))
 value_set w new {number} {found} there d answer nodes h b room takes keeps did spoken is =
     let x = there.node in
     let own : Did (d x) w.nodes number answer nothing nodes =
@@ -291,7 +291,7 @@ module _ (w : World) (number : ℕ) (x c : Node) (psk : Key) (may : MayDepot w n
       → Did granting w.nodes 0 (Ok g) nothing between
       → IfSome (slice_get between number) (λ y. Did (acts y (Ok tt) (λ m. meters.provision m g)) between number answer nothing nodes)
       → h ≡ happened w said.Joined → new ≡ record (set_up w) { nodes = nodes } → Steps false w (Ok h) new (depot network w number)
-  unfolding acts told
+  unfolding acts world_after
   was_joined new g answer between nodes h b room first second spoken is =
       let other : number ≢ 0 = λ e. absurd (omega (arith, may.above, e)) in
       let at : slice_get between number
@@ -366,8 +366,8 @@ module _ (w : World) (a b cost : ℕ) (x y : Node) (p q : ℕ) (may : MayMeet w 
       was_set false w new _ trace h nodes b_holds room (let few = b_holds.nodes in omega (arith, few, same)) (λ running. left2)
       (met w a b cost x y may.takes may.first may.second ∙ (λ i. near_by network w a b cost x y (may.first_address i) (may.second_address i))
       ∙ (λ i. if apart i || may.room i then Err faults.Setup
-      else Ok (told network (told network (set_up w) a (offered_near x q cost w.clock)) b (offered_near y p cost w.clock), trace))
-      ∙ ap (λ (v : World). Ok (told network v b (offered_near y p cost w.clock), trace))
+      else Ok (world_after network (world_after network (set_up w) a (offered_near x q cost w.clock)) b (offered_near y p cost w.clock), trace))
+      ∙ ap (λ (v : World). Ok (world_after network v b (offered_near y p cost w.clock), trace))
       (told_quiet (set_up w) a (offered_near x q cost w.clock) tt between (quietly (λ _. tt) d1 w.nodes a one nothing between did1))
       ∙ ap (λ (v : World). Ok (v, trace)) (told_quiet (record (set_up w) { nodes = between }) b (offered_near y p cost w.clock) tt nodes
       (quietly (λ _. tt) d2 between b two nothing nodes did2))) spoken is
@@ -632,14 +632,14 @@ near_when : {w : World} {a b x y : ℕ} (there : IsThere w a x) (here : IsThere 
     → (a == b) ≡ same → (keeps_rank there.node q || (ranks_full there.node || ranks_full here.node)) ≡ full
     → near network w a b cost ≡ (if same || full then Err faults.Setup
     else Ok (
-      told network (told network (set_up w) a (offered_near there.node q cost w.clock)) b (offered_near here.node p cost w.clock),
+      world_after network (world_after network (set_up w) a (offered_near there.node q cost w.clock)) b (offered_near here.node p cost w.clock),
       trace_of (happened w said.Set),
     ))
 near_when {w} {a} {b} there here cost p q same full takes have s f =
     near_met there here cost takes ∙ (λ i. near_by network w a b cost there.node here.node (have.first i) (have.second i))
     ∙ (λ i. if s i || f i then Err faults.Setup
     else Ok (
-      told network (told network (set_up w) a (offered_near there.node q cost w.clock)) b (offered_near here.node p cost w.clock),
+      world_after network (world_after network (set_up w) a (offered_near there.node q cost w.clock)) b (offered_near here.node p cost w.clock),
       trace_of (happened w said.Set),
     ))
 
@@ -679,7 +679,7 @@ near_full {w} {a} {b} there here cost p q r takes have can is =
     near_when there here cost p q _ true takes have refl (full_is there here q r can ∙ ap (λ (t : Bool). not t) is)
     ∙ ap (λ (t : Bool). if t then Err faults.Setup
     else Ok (
-      told network (told network (set_up w) a (offered_near there.node q cost w.clock)) b (offered_near here.node p cost w.clock),
+      world_after network (world_after network (set_up w) a (offered_near there.node q cost w.clock)) b (offered_near here.node p cost w.clock),
       trace_of (happened w said.Set),
     ))
     (or_full (a == b))

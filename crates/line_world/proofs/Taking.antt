@@ -18,7 +18,7 @@ use Rattle.line_events.specs.declared.event.StepFault.TheVariants as faults
 use Rattle.line_events.specs.declared.event.TheConstants.{MAX_EVENTS}
 use Rattle.line_events.specs.declared.happenings.Happenings.{Happenings}
 use Rattle.line_rules.specs.Worlds.{World, Flight, Trace, node_at}
-use Rattle.line_rules.specs.Steps.{Step, acted, flight_by, flights_of, happened, has_begun, on_node, once_begun, ran, spoken, told}
+use Rattle.line_rules.specs.Steps.{Step, acted, flight_by, flights_of, happened, has_begun, on_node, once_begun, ran, spoken, world_after}
 use Rattle.line_world.specs.Bounds.{IsBounded}
 use Rattle.line_world.specs.Finding.{found}
 use Rattle.line_world.specs.Steps.{Gives, HasMemory, Steps, has_address, is_memory}
@@ -152,8 +152,8 @@ after w number nodes out =
 
 pub told_as : {A : Type 0} (w : World) (number : ℕ) (d : NodeStep A) (nodes : List Node) (out : Out) → out ≡ given_by d
     → nodes ≡ slice_set w.nodes number d.node
-    → told network w number d ≡ after w number nodes out
-unfolding told
+    → world_after network w number d ≡ after w number nodes out
+unfolding world_after
 told_as w number d nodes out o n =
     let frames : flights_of network number d
     ≡ map (flight_by number) out.frames = flown number d.frames ∙ ap (λ (x : Out). map (flight_by number) x.frames) (sym o) in
@@ -193,8 +193,8 @@ node_acted takes w new {number} {found} there k word answer out nodes h b room f
     let x = there.node in
     let at : slice_get w.nodes found ≡ Some x = ap (λ n. slice_get w.nodes n) there.same ∙ there.at in
     let d : Did (k x) w.nodes found answer out nodes = subst (λ o. IfSome o (λ y. Did (k y) w.nodes found answer out nodes)) at did in
-    let left : told network (ran w) number (answering word (k x)) ≡ new =
-    ap (λ n. told network (ran w) n (answering word (k x))) (sym there.same) ∙ told_as (ran w) found (answering word (k x)) nodes out d.out_is d.nodes_are
+    let left : world_after network (ran w) number (answering word (k x)) ≡ new =
+    ap (λ n. world_after network (ran w) n (answering word (k x))) (sym there.same) ∙ told_as (ran w) found (answering word (k x)) nodes out d.out_is d.nodes_are
     ∙ sym is in
     let count : length out.frames ≡ length (k x).frames = ap (λ (o : Out). length o.frames) d.out_is ∙ many_given (spelled network) (k x).frames in
     let same : length nodes ≡ length w.nodes = ap (λ (ns : List Node). length ns) d.nodes_are ∙ length-set w.nodes found (k x).node in

@@ -71,7 +71,7 @@ use Rattle.line_rules.specs.Forgery.{accepting}
 use Rattle.line_rules.specs.Steps.{Step, activate, activate_at, allow, allowed, breaks, breaks_by, challenge, coordinator, cut, depot, depot_by, happened}
 use Rattle.line_rules.specs.Steps.{has_begun, hears, heard, identity, in_setup, is_known, join, joins_by, keeps_rank, kick, leave, lose, meter, near, near_by}
 use Rattle.line_rules.specs.Steps.{note_by, on_flight, on_meter, on_node, once_begun, preset, psk_of, rand, ran, ranks_full, rekey, send, sends_by, sent_if}
-use Rattle.line_rules.specs.Steps.{set_up, show, takes_setup, tick, ticked, told, trace_of}
+use Rattle.line_rules.specs.Steps.{set_up, show, takes_setup, tick, ticked, world_after, trace_of}
 use Rattle.line_rules.specs.Worlds.{Flight, Trace, World, flight_at, node_at}
 use Rattle.line_world.specs.Bounds.{HasNoChecks, NoneChecked}
 use Rattle.line_world.specs.Steps.{Gives}
@@ -262,16 +262,16 @@ Kept (Ok r) = NoneChecked r.0
 Kept (Err fault) = Unit {0}
 
 module _ (ciphers : Ciphers) where
-  told_in : {A : Type 0} (v : World) (number : ℕ) (d : NodeStep A) → NoneChecked v → NoneChecked (told ciphers v number d)
-  unfolding told
+  told_in : {A : Type 0} (v : World) (number : ℕ) (d : NodeStep A) → NoneChecked v → NoneChecked (world_after ciphers v number d)
+  unfolding world_after
   told_in v number d k = k
 
   set_in : (v : World) (number : ℕ) (b : Beside) → NoneChecked v → (v.checks_on ≡ false → HasNoChecks b) → NoneChecked (set_beside number b v)
   set_in v number b k l = λ off. All-set HasNoChecks v.beside number b (l off) (k off)
 
   told_both : {A : Type 0} (v : World) (number : ℕ) (d : NodeStep A) (b : Beside) → NoneChecked v → (v.checks_on ≡ false → HasNoChecks b)
-      → NoneChecked (set_beside number b (told ciphers v number d))
-  unfolding told
+      → NoneChecked (set_beside number b (world_after ciphers v number d))
+  unfolding world_after
   told_both v number d b k l = set_in v number b k l
 
   reached_in : {A : Type 0} (v : World) (number : ℕ) (x : Node) (halted : A) (plan : Reaching Memory → Plan (Reaching Memory) A) (d : NodeStep A)
@@ -310,7 +310,7 @@ module _ (ciphers : Ciphers) (w : World) (h : NoneChecked w) where
       (λ x. branch x.lost (Err faults.Flight) (f x) tt (k x)) tt
 
   -- one node acts
-  acts_in : {A : Type 0} (number : ℕ) (d : NodeStep A) → NoneChecked (told ciphers (ran w) number d)
+  acts_in : {A : Type 0} (number : ℕ) (d : NodeStep A) → NoneChecked (world_after ciphers (ran w) number d)
   acts_in number d = told_in ciphers (ran w) number d h
 
   -- # Setup
@@ -327,11 +327,11 @@ module _ (ciphers : Ciphers) (w : World) (h : NoneChecked w) where
   meter_in eui psk = branch (not (takes_setup w) || (nat_lt 999 (length w.nodes) || is_known w eui)) _ _ tt made_in
 
   depot_by_in : (number : ℕ) (x : Node) (d : NodeStep (Result Granted CoordinatorRefusal)) → Kept (depot_by ciphers w number x d)
-  unfolding told
+  unfolding world_after
   depot_by_in number x d = by_answer d.answer refl
     where
       by_answer : (r : Result Granted CoordinatorRefusal) → d.answer ≡ r → Kept (depot_by ciphers w number x d)
-      by_answer (Ok g) e = rw e (told_in ciphers (told ciphers (set_up w) 0 d) number (acts x (Ok tt) (λ m. meters.provision m g))
+      by_answer (Ok g) e = rw e (told_in ciphers (world_after ciphers (set_up w) 0 d) number (acts x (Ok tt) (λ m. meters.provision m g))
           (told_in ciphers (set_up w) 0 d h))
       by_answer (Err reason) e = rw e tt
 
@@ -492,7 +492,7 @@ module _ (ciphers : Ciphers) (w : World) (h : NoneChecked w) where
     unasked v same on = λ off. absurd (true_false (sym on ∙ sym same ∙ off))
 
     checked_in : w.checks_on ≡ true → NoneChecked (checked ciphers w number got hearing plainly).0
-    unfolding told
+    unfolding world_after
     checked_in on = by_due (due got.path (message_of got) hearing.answer.answer)
       where
         r : World × Trace
@@ -502,8 +502,8 @@ module _ (ciphers : Ciphers) (w : World) (h : NoneChecked w) where
         by_due None = unasked r.0 refl on
         by_due (Some reply) =
             let a : NodeStep (Result (Unit {0}) LocalRefusal) = acknowledging hearing.node reply in
-            either_in (is_some a.node.memory) (adds_frames (told ciphers r.0 number a) r.1 a) (sends_nothing w (told ciphers r.0 number a, r.1))
-            (unasked (told ciphers r.0 number a) refl on) (unasked (sends_nothing w (told ciphers r.0 number a, r.1)).0 refl on)
+            either_in (is_some a.node.memory) (adds_frames (world_after ciphers r.0 number a) r.1 a) (sends_nothing w (world_after ciphers r.0 number a, r.1))
+            (unasked (world_after ciphers r.0 number a) refl on) (unasked (sends_nothing w (world_after ciphers r.0 number a, r.1)).0 refl on)
 
     heard_by_in : (o : Option NeighbourCommand) → NoneChecked (heard_by ciphers w number y octets got cost o).0
     heard_by_in (Some c) = commanded_in c
@@ -518,7 +518,7 @@ module _ (ciphers : Ciphers) (w : World) (h : NoneChecked w) where
 
   accepted_in : (number : ℕ) (octets : List ℕ) (cost : ℕ) (d : NodeStep (Result Accepted FrameRefusal))
       → NoneChecked (accepted_further ciphers w number octets cost d).0
-  unfolding told
+  unfolding world_after
   accepted_in number octets cost d = by_answer d.answer refl
     where
       by_answer : (r : Result Accepted FrameRefusal) → d.answer ≡ r → NoneChecked (accepted_further ciphers w number octets cost d).0

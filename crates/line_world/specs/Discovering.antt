@@ -15,7 +15,7 @@ use Rattle.line_events.specs.declared.event.Answer.{Answer}
 use Rattle.line_events.specs.declared.event.Answer.TheVariants as said
 use Rattle.line_rules.specs.Answers.{discovery_word, join_word}
 use Rattle.line_rules.specs.Further.{agent_line, beacon_taken, beside_at, discovery_flights, has_discovered, set_beside}
-use Rattle.line_rules.specs.Steps.{happened, identity, ran, spoken, told, trace_of}
+use Rattle.line_rules.specs.Steps.{happened, identity, ran, spoken, world_after, trace_of}
 use Rattle.line_rules.specs.Worlds.{World, Trace}
 
 -- a frame of discovery flies, and the event counts
@@ -56,7 +56,7 @@ abbrev pub joins_in : World → ℕ → Node → Key → (address total : ℕ) �
 joins_in w number x psk address total =
     let d = acts x (Err joins.Halted) (λ m. meters.join (identity network x psk) m address w.clock) in
     let trace = spoken w (answering join_word d) in (
-      told network (ran w) number d,
+      world_after network (ran w) number d,
       record trace {
         happened = record trace.happened { agent = agent_line number (chosen (record { address = address; total = total }) d.answer) };
       },

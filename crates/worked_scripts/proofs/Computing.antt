@@ -116,7 +116,7 @@ rules = tt
 
 -- events and the world
 unfoldable pub line : Unit {0}
-unfolding line_steps.told line_steps.coordinator line_steps.meter line_steps.depot line_steps.near line_steps.allow
+unfolding line_steps.world_after line_steps.coordinator line_steps.meter line_steps.depot line_steps.near line_steps.allow
     line_steps.rand line_steps.join line_steps.leave line_steps.send line_steps.breaks line_steps.arrives
     line_steps.deliver line_steps.inject line_steps.lose line_steps.tick line_steps.restart line_steps.cut
     line_steps.show line_steps.rekey line_steps.challenge line_steps.activate line_steps.kick line_worlds.note_of
