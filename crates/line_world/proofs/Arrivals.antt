@@ -47,7 +47,7 @@ use Rattle.line_flights.specs.declared.flights.Origin.{Origin}
 use Rattle.line_flights.specs.Flown.{Flown, not_lost}
 use Rattle.line_world.specs.declared.nodes.reception.Reception as telling
 use Rattle.line_world.specs.Doings.{Did}
-use Rattle.line_world.specs.Receiving.{Received, Tells, handed_up}
+use Rattle.line_world.specs.Receiving.{Received, ReportsReception, handed_up}
 use Rattle.line_events.specs.declared.event.StepFault.TheVariants as faults
 use Rattle.line_events.specs.declared.event.TheConstants.{MAX_EVENTS}
 use Rattle.line_events.specs.declared.happenings.Happenings.{Happenings}
@@ -236,10 +236,10 @@ module _ (w : World) (number : ℕ) (x : Node) (d : NodeStep Reception) (r : tel
     (at : slice_get w.nodes number ≡ Some x)
     (same : d.node.eui ≡ x.eui) (rec : Received d w.nodes number r out nodes) (forgery : forged ≡ right) where
   ups_as : is_some r.up ≡ is_some d.answer.up
-  ups_as = ap is_some rec.tells.up ∙ is_some_map _ d.answer.up
+  ups_as = ap is_some rec.reports.up ∙ is_some_map _ d.answer.up
 
   ends_as : is_some r.done ≡ is_some d.answer.done
-  ends_as = ap is_some rec.tells.done ∙ is_some_map _ d.answer.done
+  ends_as = ap is_some rec.reports.done ∙ is_some_map _ d.answer.done
 
   pub received_left : (received network w number right d).0 ≡ left_of (record w { nodes = nodes }) number out forged r
   received_left =
@@ -259,11 +259,11 @@ module _ (w : World) (number : ℕ) (x : Node) (d : NodeStep Reception) (r : tel
 
   pub received_said : said_of (record w { nodes = nodes }) number out forged r ≡ (reception_trace w number right d).happened
   received_said =
-      let up = ap (λ o. handed_in number o) rec.tells.up ∙ handed_as number d.answer.up in
-      let took = ap (λ t. taker_in number t) rec.tells.took ∙ took_as number d.answer.took in
-      let done = ap (λ o. done_in (record w { nodes = nodes }) o) rec.tells.done ∙ done_as (record w { nodes = nodes }) w d.answer.done numbers_as in
+      let up = ap (λ o. handed_in number o) rec.reports.up ∙ handed_as number d.answer.up in
+      let took = ap (λ t. taker_in number t) rec.reports.took ∙ took_as number d.answer.took in
+      let done = ap (λ o. done_in (record w { nodes = nodes }) o) rec.reports.done ∙ done_as (record w { nodes = nodes }) w d.answer.done numbers_as in
       let many : length out.frames ≡ length d.frames = ap (λ (o : Out). length o.frames) rec.did.out_is ∙ many_given (spelled network) d.frames in
-      λ i. record (happened w (rec.tells.answer i)) { forged = forgery i; up = up i; took = took i; done = done i; flights = many i }
+      λ i. record (happened w (rec.reports.answer i)) { forged = forgery i; up = up i; took = took i; done = done i; flights = many i }
 
   pub received_many : length nodes ≡ length w.nodes
   received_many = ap (λ (ns : List Node). length ns) rec.did.nodes_are ∙ length-set w.nodes number d.node

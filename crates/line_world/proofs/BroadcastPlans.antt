@@ -45,7 +45,7 @@ use Rattle.reach_rules.specs.Broadcasts.{hear_broadcast, hear_broadcast_in, hop_
 use Rattle.reach_rules.specs.ReachingNodes.{Beside, Reaching, in_reach, reach_ends, adds_local}
 use Rattle.line_events.specs.declared.event.Answer.TheVariants as said
 use Rattle.line_rules.specs.Further.{without_log}
-use Rattle.line_world.specs.Reaching.{Reaches, ReachesCommand, ReachesFirst, beside_left, handed_up, of_held, told_after}
+use Rattle.line_world.specs.Reaching.{Reaches, ReachesCommand, ReachesFirst, beside_left, handed_up, of_held, ended_by}
 use Rattle.line_world.proofs.FurtherPlans.{first_rests, rests_after, told_as}
 
 -- # A record first
@@ -264,13 +264,13 @@ module _ (l : StationMemory) (b : Beside) (y : Broadcast) where
 -- # What is answered
 
 -- how a command ended, in the words of the broadcast that it was
-pub own_told : (sent : Result (Unit {0}) LocalRefusal) → told_as broadcast_ends tt sent ≡ told_after refusals.CounterSpent refusals.Store sent
+pub own_told : (sent : Result (Unit {0}) LocalRefusal) → told_as broadcast_ends tt sent ≡ ended_by refusals.CounterSpent refusals.Store sent
 own_told (Ok u) = refl
 own_told (Err locals.CounterSpent) = refl
 own_told (Err locals.Store) = refl
 
 pub heard_told : (y : Broadcast) (sent : Result (Unit {0}) LocalRefusal)
-    → told_as reach_ends (heard.Broadcast y.origin y.number y.octets) sent ≡ handed_up y (told_after (Known CounterSpent) (Known PutFailed) sent)
+    → told_as reach_ends (heard.Broadcast y.origin y.number y.octets) sent ≡ handed_up y (ended_by (Known CounterSpent) (Known PutFailed) sent)
 heard_told y (Ok u) = refl
 heard_told y (Err locals.CounterSpent) = refl
 heard_told y (Err locals.Store) = refl
@@ -339,7 +339,7 @@ pub dropped_command : (s : State StationMemory) (b : Beside) (plan : Reaching St
     → ReachesCommand s b plan (record { answer = said.BadUnit; bup = None; path = None }) number before before s b
 dropped_command s b plan number l before running is = record {
   answer = Err (Known BadUnit);
-  tells = record { answer = refl; bup = refl; path = refl };
+  reports = record { answer = refl; bup = refl; path = refl };
   reaches = rests_after s b (Err (Known PutFailed)) plan l running before (Err (Known BadUnit)) (Err (Known PutFailed)) is;
 }
 

@@ -67,7 +67,7 @@ module _ (w : World) (nodes : List Node) (number : ℕ) (got : Accepted) (origin
   -- the acknowledgement that is due by what was told is the one of the rule
   told_due : due got.path (message_of got) d.answer.answer ≡ reply
   told_due =
-      sym (due_is ∙ ap (λ (m : Option Message). due got.path m r.answer) message_is ∙ ap (λ (a : Answer). due got.path (message_of got) a) rec.tells.answer)
+      sym (due_is ∙ ap (λ (m : Option Message). due got.path m r.answer) message_is ∙ ap (λ (a : Answer). due got.path (message_of got) a) rec.reports.answer)
 
   dues : IsSome reply → IsDue got.path (message_of got) d.answer.answer
   dues some = let one = some_reply reply some in is_due got.path (message_of got) d.answer.answer one.0 (told_due ∙ one.1)

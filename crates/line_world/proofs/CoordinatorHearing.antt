@@ -35,7 +35,7 @@ use Rattle.coordinator.specs.CoordinatorStates.{CoordinatorState, memory_in, nod
 use Rattle.line_world.specs.declared.nodes.reception.Reception.{Reception}
 use Rattle.line_world.specs.Doings.{Took}
 use Rattle.line_world.specs.Nodes.{of_coordinator, of_meter}
-use Rattle.line_world.specs.Receiving.{MayHear, CameTo, Tells}
+use Rattle.line_world.specs.Receiving.{MayHear, CameTo, ReportsReception}
 use Rattle.line_world.proofs.AcceptingSteps.{meter_may_hear}
 use Rattle.line_world.proofs.Acting.{at, not_none}
 use Rattle.line_world.proofs.CoordinatorActing.{IsSoundCoordinator, with_its, own_took, ringless_sound}
@@ -88,8 +88,8 @@ module _ (x y : CoordinatorState) (got : Accepted) (cost note now : ℕ) (r : Re
   heard carries = let t = acted carries in record { answer_is = refl; out_is = t.out_is; node_is = t.node_is }
 
   pub told : IfSome (node_of x).memory (λ m. Carries (node_of x) (plan m) r out (node_of y)) → (word : Reception)
-      → Tells word (rules.coordinator_reception r) → Tells word (hears network (of_coordinator x) got cost note now).answer
-  told carries word t = subst (λ (k : Result CoordinatorHeard Dropped). Tells word (rules.coordinator_reception k)) (acted carries).answer_is t
+      → ReportsReception word (rules.coordinator_reception r) → ReportsReception word (hears network (of_coordinator x) got cost note now).answer
+  told carries word t = subst (λ (k : Result CoordinatorHeard Dropped). ReportsReception word (rules.coordinator_reception k)) (acted carries).answer_is t
 
   pub heard_sound : IfSome (node_of x).memory (λ m. Carries (node_of x) (plan m) r out (node_of y)) → Holds (node_of y) → IsSoundCoordinator y
   heard_sound carries h =
@@ -109,5 +109,5 @@ module _ (x y : CoordinatorState) (got : Accepted) (cost note now : ℕ) (r : Re
       (messages_unread m.0.station cost note now got is)) same
 
 -- a grant that went out is told of nowhere
-pub told_beside : (word : Reception) (r : rules.Reception) (keyed : Option rules.SentGrant) → Tells word r → Tells word (record r { keyed = keyed })
+pub told_beside : (word : Reception) (r : rules.Reception) (keyed : Option rules.SentGrant) → ReportsReception word r → ReportsReception word (record r { keyed = keyed })
 told_beside word r keyed t = record { answer = t.answer; up = t.up; took = t.took; done = t.done }

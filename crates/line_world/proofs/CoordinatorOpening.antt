@@ -68,8 +68,8 @@ module _ (store : Store) (eui : Eui) (key : Key) (y : CoordinatorState) (new : s
       let reads = reads_blank m (subst (λ (s : Store). memory_of Coordinator s.records ≡ Ok m) new read) in
       λ i. node_in Coordinator (read_state (new i) eui (sym reads i))
 
-  tells : IsSome store.known_cut
-  tells = subst (λ (s : Store). IsSome s.known_cut) (sym new) (cc)
+  reports : IsSome store.known_cut
+  reports = subst (λ (s : Store). IsSome s.known_cut) (sym new) (cc)
 
   pub made : Begins store eui key (Ok tt) (node_of y) → of_coordinator y ≡ coordinator_node eui key
   made b =

@@ -24,7 +24,7 @@ use Rattle.node_rules.specs.MemoryDrafts.{in_memory}
 use Rattle.coordinator.specs.CoordinatorStates.{CoordinatorState, memory_in}
 use Rattle.line_world.specs.declared.nodes.command.Commanded.{Commanded}
 use Rattle.line_world.specs.Nodes.{of_coordinator}
-use Rattle.line_world.specs.Reaching.{IsLogOf, Reaches, ReachesCommand, ReachesFirst, TellsCommand, TookAfter, TookAlone, TookCommand, TookFirst}
+use Rattle.line_world.specs.Reaching.{IsLogOf, Reaches, ReachesCommand, ReachesFirst, ReportsCommand, TookAfter, TookAlone, TookCommand, TookFirst}
 use Rattle.line_world.proofs.CoordinatorActing.{IsSoundCoordinator, beside, with_its}
 use Rattle.line_world.proofs.LentFurther.{command_lent}
 use Rattle.line_world.proofs.LentReaches.{AreLent, Added, adds, after_sound, after_took, alone_took, first_sound, first_took, log_of_station, marks_short}
@@ -107,7 +107,7 @@ module _ (x : CoordinatorState) (old : Node) (s t : State StationMemory) (b d : 
   coordinator_commanded =
       let k = coordinator_after x old s t b d (Err (Known Store)) r.answer (λ y. hear_command in_memory y c) (λ y. hear_command alone y c) view same sound
       are_lent before out r.reaches in record {
-        tells = subst (λ (a : Result CommandHeard ReachDropped). TellsCommand told 0 a) k.answer_is r.tells;
+        reports = subst (λ (a : Result CommandHeard ReachDropped). ReportsCommand told 0 a) k.answer_is r.reports;
         took = record { answer_is = refl; out_is = k.out_is; node_is = k.node_is; beside = k.beside };
       }
 

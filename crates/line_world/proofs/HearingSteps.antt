@@ -26,7 +26,7 @@ use Rattle.meter_node.specs.MeterStates.{MeterState, memory_with, node_of, ident
 use Rattle.line_world.specs.declared.nodes.reception.Reception.{Reception}
 use Rattle.line_world.specs.Doings.{Took}
 use Rattle.line_world.specs.Nodes.{of_meter}
-use Rattle.line_world.specs.Receiving.{MayHear, CameTo, Tells}
+use Rattle.line_world.specs.Receiving.{MayHear, CameTo, ReportsReception}
 use Rattle.line_world.specs.Soundness.{IsSoundMeter}
 use Rattle.line_world.proofs.Acting.{at, not_none}
 use Rattle.line_world.proofs.MeterActing.{meter_took, meter_sound}
@@ -61,8 +61,8 @@ module _ (x y : MeterState) (got : Accepted) (cost note now : ℕ) (r : Result M
   heard psk carries = let t = acted psk carries in record { answer_is = refl; out_is = t.out_is; node_is = t.node_is }
 
   pub told : y.psk ≡ x.psk → IfSome (node_of x).memory (λ m. Carries (node_of x) (plan m) r out (node_of y)) → (word : Reception)
-      → Tells word (rules.meter_reception r) → Tells word (hears network (of_meter x) got cost note now).answer
-  told psk carries word t = subst (λ (k : Result MeterHeard Dropped). Tells word (rules.meter_reception k)) (acted psk carries).answer_is t
+      → ReportsReception word (rules.meter_reception r) → ReportsReception word (hears network (of_meter x) got cost note now).answer
+  told psk carries word t = subst (λ (k : Result MeterHeard Dropped). ReportsReception word (rules.meter_reception k)) (acted psk carries).answer_is t
 
   pub heard_sound : IfSome (node_of x).memory (λ m. Carries (node_of x) (plan m) r out (node_of y)) → Agrees y.station → IsSoundMeter y
   heard_sound carries agrees =

@@ -114,7 +114,7 @@ pub was_unbelieved : (w new : World) (number : ℕ) (x : Node) (origin : Origin)
 was_unbelieved w new number x origin out forged h b room frames tags at none is_forged said is =
     was_received w new number x origin (stays x (only answers.Blacklisted)) blacklisted out w.nodes forged h b room frames tags at refl
     (record {
-      tells = record { answer = refl; up = refl; took = refl; done = refl };
+      reports = record { answer = refl; up = refl; took = refl; done = refl };
       did = record { answer_is = refl; out_is = none; nodes_are = sym (set_same w.nodes number x at) };
     }) is_forged said is
 
@@ -340,9 +340,9 @@ was_commanded w new number x got c origin cost r before out nodes left forged co
     let told_is : h ≡ trace.happened =
     said
     ∙ (λ i. record s {
-      answer = rc.tells.answer i;
-      bup = rc.tells.bup i;
-      path = rc.tells.path i;
+      answer = rc.reports.answer i;
+      bup = rc.reports.bup i;
+      path = rc.reports.path i;
       done = done_pointwise (record w { nodes = left; beside = bs }) (record w { nodes = nodes }) numbers r.done i;
       flights = many i;
     })
@@ -763,10 +763,10 @@ module _ (w v2 new : World) (number : ℕ) (x : Node) (got : Accepted) (origin :
       (is ∙ ap (λ (u : World). left_of u number out forged r) v3_is))
 
   plain_up : IsOnly d.answer → r.up ≡ None
-  plain_up only_it = rec.tells.up ∙ ap (λ o. option_map handed_up o) only_it.0
+  plain_up only_it = rec.reports.up ∙ ap (λ o. option_map handed_up o) only_it.0
 
   plain_done : IsOnly d.answer → r.done ≡ None
-  plain_done only_it = rec.tells.done ∙ ap (λ (o : Option CompletedJoining). option_map (λ (c : CompletedJoining). c.eui) o) only_it.2
+  plain_done only_it = rec.reports.done ∙ ap (λ (o : Option CompletedJoining). option_map (λ (c : CompletedJoining). c.eui) o) only_it.2
 
   failed_so : (o : Option Reply) → due got.path (message_of got) d.answer.answer ≡ o → Acknowledges (record w { nodes = nodes }) number z o before false out v2
       → h ≡ said_of v2 number out forged unacknowledged → new ≡ left_of v2 number out forged unacknowledged

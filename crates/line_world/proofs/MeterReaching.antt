@@ -27,7 +27,7 @@ use Rattle.line_rules.specs.Further.{reaches}
 use Rattle.meter_node.specs.MeterStates.{MeterState, memory_with}
 use Rattle.line_world.specs.declared.nodes.command.Commanded.{Commanded}
 use Rattle.line_world.specs.Nodes.{of_meter}
-use Rattle.line_world.specs.Reaching.{DidAfter, IsLogOf, Reached, Reaches, ReachesCommand, ReachesFirst, ReachedFirst, TellsCommand, TookAfter, TookAlone}
+use Rattle.line_world.specs.Reaching.{DidAfter, IsLogOf, Reached, Reaches, ReachesCommand, ReachesFirst, ReachedFirst, ReportsCommand, TookAfter, TookAlone}
 use Rattle.line_world.specs.Soundness.{IsSoundMeter}
 use Rattle.line_world.proofs.LentFurther.{command_lent}
 use Rattle.line_world.proofs.LentReaches.{AreLent, Added, adds, after_sound, after_took, alone_took, first_sound, first_took, log_of_station, marks_short}
@@ -131,10 +131,10 @@ module _ (ms : List MeterState) (old : List Node) (place : ℕ) (x : MeterState)
     after = meter_after b d (Err (Known Store)) r.answer (λ y. hear_command in_memory y c) (λ y. hear_command alone y c) are_lent before out r.reaches
 
     pub meter_tells : IfSome (slice_get old place)
-        (λ n. TellsCommand told (place + 1) (reaches n b (Err (Known Store)) (λ y. hear_command in_memory y c)).answer)
+        (λ n. ReportsCommand told (place + 1) (reaches n b (Err (Known Store)) (λ y. hear_command in_memory y c)).answer)
     meter_tells =
-        found_at ms old place x (λ n. TellsCommand told (place + 1) (reaches n b (Err (Known Store)) (λ y. hear_command in_memory y c)).answer) view there here
-        (subst (λ (a : Result CommandHeard ReachDropped). TellsCommand told (place + 1) a) after.answer_is r.tells)
+        found_at ms old place x (λ n. ReportsCommand told (place + 1) (reaches n b (Err (Known Store)) (λ y. hear_command in_memory y c)).answer) view there here
+        (subst (λ (a : Result CommandHeard ReachDropped). ReportsCommand told (place + 1) a) after.answer_is r.reports)
 
     pub meter_reached : IfSome (slice_get old place) (λ n. Reached n b (Err (Known Store)) (λ y. hear_command in_memory y c) old place
         (reaches n b (Err (Known Store)) (λ y. hear_command in_memory y c)).answer before out meters_left d)

@@ -11,12 +11,12 @@ use Rattle.reach_rules.specs.Receiving.{NeighbourCommand, hear_command}
 use Rattle.line_rules.specs.Further.{reaches}
 use Rattle.line_world.specs.declared.nodes.command.Commanded.{Commanded}
 use Rattle.line_world.specs.Nodes.{nodes_in}
-use Rattle.line_world.specs.Reaching.{Reached, ReachedCommand, TellsCommand}
+use Rattle.line_world.specs.Reaching.{Reached, ReachedCommand, ReportsCommand}
 
 module _ (ms left : List Node) (b d : Beside) (c : NeighbourCommand) (told : Commanded) (before out : Out) where
   -- what is told of the meter at a place, under a number
   abbrev Told : ℕ → ℕ → Type 0
-  Told place number = IfSome (slice_get ms place) (λ x. TellsCommand told number (reaches x b (Err (Known Store)) (λ y. hear_command in_memory y c)).answer)
+  Told place number = IfSome (slice_get ms place) (λ x. ReportsCommand told number (reaches x b (Err (Known Store)) (λ y. hear_command in_memory y c)).answer)
 
   abbrev Done : ℕ → Type 0
   Done place = IfSome (slice_get ms place) (λ x. Reached x b (Err (Known Store)) (λ y. hear_command in_memory y c) ms place
@@ -26,13 +26,13 @@ module _ (ms left : List Node) (b d : Beside) (c : NeighbourCommand) (told : Com
       → IfSome (slice_get (n ∷ ms) (suc place)) (λ x. ReachedCommand x b c (n ∷ ms) (suc place) told before out (n ∷ left) d)
   after_it n place tells done = by (slice_get ms place) tells done
     where
-      by : (o : Option Node) → IfSome o (λ x. TellsCommand told (suc place) (reaches x b (Err (Known Store)) (λ y. hear_command in_memory y c)).answer)
+      by : (o : Option Node) → IfSome o (λ x. ReportsCommand told (suc place) (reaches x b (Err (Known Store)) (λ y. hear_command in_memory y c)).answer)
           → IfSome o (λ x. Reached x b (Err (Known Store)) (λ y. hear_command in_memory y c) ms place
           (reaches x b (Err (Known Store)) (λ y. hear_command in_memory y c)).answer before out left d)
           → IfSome o (λ x. ReachedCommand x b c (n ∷ ms) (suc place) told before out (n ∷ left) d)
       by None t r = tt
       by (Some x) t r = record {
-        tells = t;
+        reports = t;
         reached = record {
           did = record { answer_is = r.did.answer_is; out_is = r.did.out_is; nodes_are = ap (λ (nodes : List Node). n ∷ nodes) r.did.nodes_are };
           beside = r.beside;

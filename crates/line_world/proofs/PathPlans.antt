@@ -39,8 +39,8 @@ use Rattle.line_rules.specs.Answers.{reach_drop_word}
 use Rattle.line_rules.specs.Further.{without_log}
 use Rattle.line_world.specs.declared.nodes.command.Commanded.{Commanded}
 use Rattle.line_world.specs.declared.nodes.station_further.PathHeard.{PathHeard}
-use Rattle.line_world.specs.Reaching.{EndsCheck, Reaches, ReachesCommand, ReachesFirst, TellsCommand, answer_as, beside_left, check_ended, of_held, path_heard}
-use Rattle.line_world.specs.Reaching.{told_after}
+use Rattle.line_world.specs.Reaching.{EndsCheck, Reaches, ReachesCommand, ReachesFirst, ReportsCommand, answer_as, beside_left, check_ended, of_held, path_heard}
+use Rattle.line_world.specs.Reaching.{ended_by}
 use Rattle.line_world.proofs.FurtherPlans.{asks_hop, before_stays, checks_alone, ends_awaited, ends_unawaited, none_stayed, own_of, sealed_told, sent_after}
 use Rattle.line_world.proofs.FurtherPlans.{sent_first, some_is, told_as}
 
@@ -59,25 +59,25 @@ log_left running b log is = ap (λ (l : Log). record b { log = l }) is ∙ by ru
 
 -- a command that was sent, in the words of a command that was heard
 pub sent_told : (heard : PathHeard) (sent : Result (Unit {0}) LocalRefusal) (dropped : Result (Unit {0}) ReachDropped) (result : Result PathHeard ReachDropped)
-    → dropped ≡ told_after (Known CounterSpent) (Known Store) sent → result ≡ answer_as (λ _. heard) dropped
+    → dropped ≡ ended_by (Known CounterSpent) (Known Store) sent → result ≡ answer_as (λ _. heard) dropped
     → told_as reach_ends (path_heard heard) sent ≡ answer_as path_heard result
 sent_told heard sent dropped result is answers =
     by sent ∙ sym (ap (λ (r : Result (Unit {0}) ReachDropped). answer_as path_heard (answer_as (λ _. heard) r)) is) ∙ sym (ap (answer_as path_heard) answers)
   where
     by : (r : Result (Unit {0}) LocalRefusal)
-        → told_as reach_ends (path_heard heard) r ≡ answer_as path_heard (answer_as (λ _. heard) (told_after (Known CounterSpent) (Known Store) r))
+        → told_as reach_ends (path_heard heard) r ≡ answer_as path_heard (answer_as (λ _. heard) (ended_by (Known CounterSpent) (Known Store) r))
     by (Ok u) = refl
     by (Err locals.CounterSpent) = refl
     by (Err locals.Store) = refl
 
-pub ask_told : (sent : Result (Unit {0}) LocalRefusal) → told_as ask_ends tt sent ≡ told_after asks.CounterSpent asks.Store sent
+pub ask_told : (sent : Result (Unit {0}) LocalRefusal) → told_as ask_ends tt sent ≡ ended_by asks.CounterSpent asks.Store sent
 ask_told (Ok u) = refl
 ask_told (Err locals.CounterSpent) = refl
 ask_told (Err locals.Store) = refl
 
 -- nothing but a word is told of a command that is dropped
 pub only_dropped : (told : Commanded) (number : ℕ) (reason : ReachDropped) → told ≡ record { answer = reach_drop_word reason; bup = None; path = None }
-    → TellsCommand told number (Err reason)
+    → ReportsCommand told number (Err reason)
 only_dropped told number reason is =
     record { answer = ap (λ (t : Commanded). t.answer) is; bup = ap (λ (t : Commanded). t.bup) is; path = ap (λ (t : Commanded). t.path) is }
 
@@ -115,7 +115,7 @@ pub command_as : {s t : State StationMemory} {b c : Beside} {told : Commanded} {
     (p q : Reaching StationMemory → Plan (Reaching StationMemory) (Result CommandHeard ReachDropped))
     → ((l : StationMemory) → s.memory ≡ Some l → p (record { memory = l; beside = b }) ≡ q (record { memory = l; beside = b }))
     → ReachesCommand s b p told number before out t c → ReachesCommand s b q told number before out t c
-command_as p q same r = record { answer = r.answer; tells = r.tells; reaches = reaches_as p q same r.reaches }
+command_as p q same r = record { answer = r.answer; reports = r.reports; reaches = reaches_as p q same r.reaches }
 
 -- nothing is stored or sent, and this then stands beside the station
 pub remembers_after : {A : Type 0} (s : State StationMemory) (b c : Beside) (halted : A) (plan : Reaching StationMemory → Plan (Reaching StationMemory) A)
@@ -144,7 +144,7 @@ pub dropped_after : (s : State StationMemory) (b : Beside) (plan : Reaching Stat
     → told ≡ record { answer = reach_drop_word reason; bup = None; path = None } → ReachesCommand s b plan told number before before s b
 dropped_after s b plan l reason told number before running is only = record {
   answer = Err reason;
-  tells = only_dropped told number reason only;
+  reports = only_dropped told number reason only;
   reaches = remembers_after s b b (Err (Known Store)) plan l (Err reason) (Err (Known Store)) before running is;
 }
 
@@ -196,7 +196,7 @@ pub asked : (s t : State StationMemory) (b : Beside) (target own hop : ℕ) (l :
     → s.memory ≡ Some l → address_of l ≡ Some own → target ≢ own → station_route l target ≡ Some hop → before ≡ nothing → message ≡ Ask target (own ∷ [])
     → IfSome s.memory (λ k. CarriesAfter s (send_local k 5 (Some hop) (path_spelling message)) sent before out t)
     → log ≡ (if is_some t.memory then b.log else empty_log)
-    → result ≡ told_after asks.CounterSpent asks.Store sent
+    → result ≡ ended_by asks.CounterSpent asks.Store sent
     → ReachesFirst s b (Err asks.Halted) (λ y. ask_path alone y target) result out t (record b { log = log })
 asked s t b target own hop l message sent result before out log running is apart some empty begins carried left told =
     let goes : Carries s (send_local l 5 (Some hop) (path_spelling message)) sent out t =
@@ -342,11 +342,11 @@ module _ (l : StationMemory) (b : Beside) (c : NeighbourCommand) where
 -- an acknowledgement that was heard changes the checks alone
 pub ended_command : (s : State StationMemory) (b : Beside) (c : NeighbourCommand) (own number : ℕ) (l : StationMemory) (told : Commanded)
     (r : Result (Unit {0}) ReachDropped) (checks : Neighbours) (before : Out)
-    → s.memory ≡ Some l → c.code ≡ 3 → EndsCheck b.checks c r checks → TellsCommand told number (answer_as (λ _. commands.Acked) r)
+    → s.memory ≡ Some l → c.code ≡ 3 → EndsCheck b.checks c r checks → ReportsCommand told number (answer_as (λ _. commands.Acked) r)
     → ReachesCommand s b (λ y. hear_command_at alone y own c) told number before before s (record b { checks = checks })
 ended_command s b c own number l told r checks before running is ends tells = record {
   answer = answer_as (λ _. commands.Acked) r;
-  tells = tells;
+  reports = tells;
   reaches =
       remembers_after s b (record b { checks = checks }) (Err (Known Store)) (λ y. hear_command_at alone y own c) l (answer_as (λ _. commands.Acked) r)
       (Err (Known Store)) before running
@@ -357,11 +357,11 @@ ended_command s b c own number l told r checks before running is ends tells = re
 -- a path message that was heard
 pub path_command : (s t : State StationMemory) (b d : Beside) (c : NeighbourCommand) (own number : ℕ) (told : Commanded) (r : Result CommandHeard ReachDropped)
     (before out : Out)
-    → c.code ≡ 5 → Reaches s b (Err (Known Store)) (λ y. hear_path alone y own c.from c.to_all c.body) r before out t d → TellsCommand told number r
+    → c.code ≡ 5 → Reaches s b (Err (Known Store)) (λ y. hear_path alone y own c.from c.to_all c.body) r before out t d → ReportsCommand told number r
     → ReachesCommand s b (λ y. hear_command_at alone y own c) told number before out t d
 path_command s t b d c own number told r before out is reached tells = record {
   answer = r;
-  tells = tells;
+  reports = tells;
   reaches = reaches_as (λ y. hear_path alone y own c.from c.to_all c.body) (λ y. hear_command_at alone y own c)
       (λ l _. sym (by_5 (record { memory = l; beside = b }) own c is)) reached;
 }

@@ -26,7 +26,7 @@ use Rattle.node_rules.proofs.OwnAnswers.{Own, ByAnswer, IsOwn, message_in_own}
 use Rattle.reach_rules.specs.CheckedReplies.{message_of}
 use Rattle.line_rules.specs.Answers as rules
 use Rattle.line_world.specs.declared.nodes.reception.Reception.{Reception}
-use Rattle.line_world.specs.Receiving.{Tells}
+use Rattle.line_world.specs.Receiving.{ReportsReception}
 use Rattle.store_tables.specs.Writes.{Written, write}
 
 -- # A route message is not handed on
@@ -127,5 +127,5 @@ told_reply x halted p m left last told there after is same =
     same_reply told last same ∙ is ∙ ap (λ (o : Option Memory). reply_sent (p m) o) after ∙ acts_reply x halted p m there
 
 -- what is told beside the reply
-pub tells_with : (word told : Reception) (replied : Option Reply) (r : rules.Reception) → told ≡ record word { replied = replied } → Tells word r → Tells told r
-tells_with word told replied r is t = subst (λ (k : Reception). Tells k r) (sym is) (record { answer = t.answer; up = t.up; took = t.took; done = t.done })
+pub tells_with : (word told : Reception) (replied : Option Reply) (r : rules.Reception) → told ≡ record word { replied = replied } → ReportsReception word r → ReportsReception told r
+tells_with word told replied r is t = subst (λ (k : Reception). ReportsReception k r) (sym is) (record { answer = t.answer; up = t.up; took = t.took; done = t.done })

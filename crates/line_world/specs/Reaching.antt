@@ -48,7 +48,7 @@ abbrev pub broadcast_of : BroadcastRef → Broadcast
 broadcast_of b = record { hops = b.hops; origin = b.origin; number = b.number; octets = b.octets }
 
 -- What is reported of a command is what its rule says.
-pub record TellsCommand (told : Commanded) (number : ℕ) (r : Result CommandHeard ReachDropped) : Type 0 where
+pub record ReportsCommand (told : Commanded) (number : ℕ) (r : Result CommandHeard ReachDropped) : Type 0 where
   pub answer : told.answer ≡ command_word r
   pub bup : told.bup ≡ broadcast_up number r
   pub path : told.path ≡ path_line number r
@@ -65,10 +65,10 @@ handed_up b (Ok u) = Ok (commands.Broadcast b.origin b.number b.octets)
 handed_up b (Err reason) = Err reason
 
 -- the answer to a command that was sent, in the words of another rule
-abbrev pub told_after : {E : Type 0} → (spent store : E) → Result (Unit {0}) LocalRefusal → Result (Unit {0}) E
-told_after spent store (Ok u) = Ok u
-told_after spent store (Err locals.CounterSpent) = Err spent
-told_after spent store (Err locals.Store) = Err store
+abbrev pub ended_by : {E : Type 0} → (spent store : E) → Result (Unit {0}) LocalRefusal → Result (Unit {0}) E
+ended_by spent store (Ok u) = Ok u
+ended_by spent store (Err locals.CounterSpent) = Err spent
+ended_by spent store (Err locals.Store) = Err store
 
 -- the answer to an acknowledgement, and the checks that are left
 abbrev pub check_ended : Neighbours → NeighbourCommand → Result CommandHeard ReachDropped × Neighbours
@@ -116,7 +116,7 @@ pub record ReachesCommand (old : State StationMemory) (b : Beside)
     (plan : Reaching StationMemory → Plan (Reaching StationMemory) (Result CommandHeard ReachDropped)) (told : Commanded)
     (number : ℕ) (before out : Out) (new : State StationMemory) (c : Beside) : Type 0 where
   pub answer : Result CommandHeard ReachDropped
-  pub tells : TellsCommand told number answer
+  pub reports : ReportsCommand told number answer
   pub reaches : Reaches old b (Err (Known Store)) plan answer before out new c
 
 -- # Nodes
@@ -162,14 +162,14 @@ pub record TookAfter {A : Type 0} (x : Node) (b : Beside) (halted : A)
 -- A node heard a command, and this is reported of it.
 pub record ReachedCommand (x : Node) (b : Beside) (c : NeighbourCommand) (old : List Node) (number : ℕ) (told : Commanded)
     (before out : Out) (new : List Node) (left : Beside) : Type 0 where
-  pub tells : TellsCommand told number (reaches x b (Err (Known Store)) (λ y. hear_command in_memory y c)).answer
+  pub reports : ReportsCommand told number (reaches x b (Err (Known Store)) (λ y. hear_command in_memory y c)).answer
   pub reached : Reached x b (Err (Known Store)) (λ y. hear_command in_memory y c) old number
       (reaches x b (Err (Known Store)) (λ y. hear_command in_memory y c)).answer before out new left
 
 -- The coordinator did.
 pub record TookCommand (x : Node) (b : Beside) (c : NeighbourCommand) (told : Commanded) (before out : Out) (node : Node)
     (left : Beside) : Type 0 where
-  pub tells : TellsCommand told 0 (reaches x b (Err (Known Store)) (λ y. hear_command in_memory y c)).answer
+  pub reports : ReportsCommand told 0 (reaches x b (Err (Known Store)) (λ y. hear_command in_memory y c)).answer
   pub took : TookAfter x b (Err (Known Store)) (λ y. hear_command in_memory y c)
       (reaches x b (Err (Known Store)) (λ y. hear_command in_memory y c)).answer before out node left
 

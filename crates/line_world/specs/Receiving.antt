@@ -30,7 +30,7 @@ abbrev pub handed_up : rules.Up → HandedUp
 handed_up u = record { note = u.note; octets = u.octets }
 
 -- The word and what is reported beside it are those of the reception.
-pub record Tells (told : Reception) (r : rules.Reception) : Type 0 where
+pub record ReportsReception (told : Reception) (r : rules.Reception) : Type 0 where
   pub answer : told.answer ≡ r.answer
   pub up : told.up ≡ option_map handed_up r.up
   pub took : told.took ≡ is_some r.took
@@ -39,5 +39,5 @@ pub record Tells (told : Reception) (r : rules.Reception) : Type 0 where
 -- The node of this number heard a frame.
 pub record Received (step : NodeStep rules.Reception) (old : List Node) (number : ℕ) (told : Reception)
     (out : Out) (new : List Node) : Type 0 where
-  pub tells : Tells told step.answer
+  pub reports : ReportsReception told step.answer
   pub did : Did step old number step.answer out new

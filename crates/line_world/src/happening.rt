@@ -84,7 +84,7 @@ impl Line {
     }
 
     /// The frames that a node gave out fly, and its pair tags are made. Answers how many frames there are.
-    pub(crate) fn tell(&mut self, node: usize) -> u8
+    pub(crate) fn fly(&mut self, node: usize) -> u8
         requires room { HasRoom self.old }
         requires node { node < 1000 }
         requires flights { length self.old.flights.flights + MOST_FRAMES ≤ u32.MAX }
@@ -122,7 +122,7 @@ impl Line {
         ensures tags { length self.old.out.tags.made ≤ 2 }
     {
         let mut happened = self.answered(answer);
-        happened.flights = self.tell(node);
+        happened.flights = self.fly(node);
         happened
     }
 

@@ -24,7 +24,7 @@ mod station_calls;
 mod station_further;
 mod station_steps;
 mod tables;
-mod telling;
+mod node_receptions;
 mod time;
 
 use crate::nodes::line_coordinator::LineCoordinator;

@@ -8,7 +8,7 @@ ghost use Rattle.reach_rules.specs.Beacons.{cost_home};
 ghost use Rattle.reach_rules.specs.Broadcasts as broadcast_rules;
 ghost use Rattle.reach_rules.specs.CheckedReplies.{acknowledges};
 ghost use Rattle.reach_rules.specs.PathAsking.{ask_path};
-ghost use Rattle.line_world.specs.Reaching.{DidAfter, IsLogOf, Reached, ReachedCommand, ReachedFirst, TellsCommand, TookAlone, TookCommand, TookFirst};
+ghost use Rattle.line_world.specs.Reaching.{DidAfter, IsLogOf, Reached, ReachedCommand, ReachedFirst, ReportsCommand, TookAlone, TookCommand, TookFirst};
 ghost use Rattle.line_world.specs.Reaching.{command_of};
 ghost use Rattle.line_rules.specs.Further.{reaches};
 ghost use Rattle.node_rules.specs.declared.refusal.Dropped.TheVariants.{Store};
@@ -235,7 +235,7 @@ impl Meters {
         requires few { place < 999 }
         requires log { IfSome (slice_get self.old place) (λ x. IsLogOf beside.old x) }
         requires room { length out.old.frames < MOST_FRAMES }
-        ensures tells { IfSome (slice_get self.old place) (λ x. TellsCommand result (place + 1) (reaches x beside.old (Err (Known Store))
+        ensures reports { IfSome (slice_get self.old place) (λ x. ReportsCommand result (place + 1) (reaches x beside.old (Err (Known Store))
             (λ y. hear_command in_memory y (command_of command.now))).answer) }
         ensures reached { IfSome (slice_get self.old place) (λ x. Reached x beside.old (Err (Known Store))
             (λ y. hear_command in_memory y (command_of command.now)) self.old place

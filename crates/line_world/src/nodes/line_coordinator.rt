@@ -1,7 +1,7 @@
 //! The coordinator of a line, and what it does.
 ghost use Rattle.std.specs.Prelude.{◌≡◌, ◌≤◌, Ok, Err, IfOk, IsSome, Some};
 ghost use Rattle.line_world.specs.Doings.{Took};
-ghost use Rattle.line_world.specs.Receiving.{MayHear, Tells};
+ghost use Rattle.line_world.specs.Receiving.{MayHear, ReportsReception};
 ghost use Rattle.line_rules.specs.Steps.{coordinator_node, hears, keeps_rank, ranks_full, restarts, ticked};
 ghost use Rattle.line_events.specs.declared.event.Answer.TheVariants as said;
 ghost use Rattle.node_rules.specs.Accepting as accepting;
@@ -22,7 +22,7 @@ use crate::nodes::station_further::reply_of;
 use crate::nodes::station_steps::{
     break_at, has_rank, is_full, offer_near, restart_word, set_counter, set_number,
 };
-use crate::nodes::telling::coordinator_told;
+use crate::nodes::node_receptions::reception_of_coordinator;
 use coordinator::Coordinator;
 use line_events::Answer;
 use node_rules::{
@@ -293,7 +293,7 @@ impl LineCoordinator {
         out: &mut Out,
     ) -> Reception<'a>
         requires accepted { MayHear self.old got.now }
-        ensures tells { Tells result
+        ensures reports { ReportsReception result
             (hears network self.old got.now cost note now).answer }
         ensures took { Took (hears network self.old got.now cost note now)
             (hears network self.old got.now cost note now).answer
@@ -303,6 +303,6 @@ impl LineCoordinator {
     {
         let heard = self.coordinator.hear(got, cost, note, now, datagram, out);
         let replied = reply_of(self.coordinator.last_reply());
-        coordinator_told(&heard).with_reply(replied)
+        reception_of_coordinator(&heard).with_reply(replied)
     }
 }

@@ -25,7 +25,7 @@ use crate::nodes::station_further::reply_of;
 use crate::nodes::station_steps::{
     break_at, has_rank, is_full, offer_near, restart_word, set_counter, set_number,
 };
-use crate::nodes::telling::meter_told;
+use crate::nodes::node_receptions::reception_of_meter;
 use group_keys::RingFault;
 use line_events::Answer;
 use meter_node::Meter;
@@ -367,6 +367,6 @@ impl Meters {
         let meter = &mut self.meters[place];
         let heard = meter.hear(got, cost, note, now, datagram, out);
         let replied = reply_of(meter.last_reply());
-        meter_told(&heard).with_reply(replied)
+        reception_of_meter(&heard).with_reply(replied)
     }
 }

@@ -14,11 +14,11 @@ ghost use Rattle.node_rules.specs.Memory.{address_of};
 ghost use Rattle.plc_base.specs.Keeper.{Stores};
 ghost use Rattle.reach_rules.specs.declared.refusal.ReachDropped.TheVariants.{Known};
 ghost use Rattle.reach_rules.specs.Broadcasts as broadcast_rules;
-ghost use Rattle.line_world.specs.Reaching.{Reaches, ReachesCommand, ReachesFirst, TellsCommand, broadcast_of, handed_up, told_after};
+ghost use Rattle.line_world.specs.Reaching.{Reaches, ReachesCommand, ReachesFirst, ReportsCommand, broadcast_of, handed_up, ended_by};
 
 use crate::beside::Beside;
 use crate::nodes::command::{CommandRef, Commanded};
-use crate::nodes::station_further::{dropped_word, only, sent_on, tell};
+use crate::nodes::station_further::{dropped_word, only, sent_on, send_local};
 use broadcast_log::{BroadcastLog, LogFault, read_broadcast};
 use line_events::{Answer, BroadcastUp};
 use node_rules::{Dropped, LocalRefusal};
@@ -67,7 +67,7 @@ fn take_number(station: &mut Station<MemKeeper>, log: &mut BroadcastLog) -> Opti
 
 // How an own broadcast ended.
 fn broadcast_sent(sent: Result<(), LocalRefusal>) -> Result<(), BroadcastRefusal>
-    ensures { result ≡ told_after BroadcastRefusal.CounterSpent BroadcastRefusal.Store sent }
+    ensures { result ≡ ended_by BroadcastRefusal.CounterSpent BroadcastRefusal.Store sent }
 {
     match sent {
         Ok(()) => Ok(()),
@@ -115,7 +115,7 @@ fn broadcast_from(
         return Err(BroadcastRefusal::Store);
     };
     write_broadcast(14, own, number, datagram, room);
-    let sent = tell(station, &mut beside.log, 4, None, room.octets(), out);
+    let sent = send_local(station, &mut beside.log, 4, None, room.octets(), out);
     broadcast_sent(sent)
 }
 
@@ -258,7 +258,7 @@ fn admit_broadcast(
         broadcast.octets.octets(),
         room,
     );
-    let sent = tell(station, &mut beside.log, 4, None, room.octets(), out);
+    let sent = send_local(station, &mut beside.log, 4, None, room.octets(), out);
     sent_on(sent)
 }
 
@@ -289,12 +289,12 @@ fn hear_broadcast(
 }
 
 // What the report says of a broadcast, at the node of this number.
-fn broadcast_told<'a>(
+fn broadcast_reported<'a>(
     heard: Result<(), ReachDropped>,
     number: u16,
     broadcast: &BroadcastRef<'a>,
 ) -> Commanded<'a>
-    ensures { TellsCommand result number (handed_up (broadcast_of broadcast.now) heard) }
+    ensures { ReportsCommand result number (handed_up (broadcast_of broadcast.now) heard) }
 {
     match heard {
         Ok(()) => Commanded {
@@ -338,5 +338,5 @@ pub(crate) fn broadcast_command<'a>(
         return only(Answer::BadUnit);
     };
     let heard = hear_broadcast(own, station, beside, &broadcast, room, out);
-    broadcast_told(heard, number, &broadcast)
+    broadcast_reported(heard, number, &broadcast)
 }

@@ -17,13 +17,13 @@ ghost use Rattle.reach_rules.specs.CheckedReplies as reply_rules;
 ghost use Rattle.reach_rules.specs.PathAsking as path_rules;
 ghost use Rattle.reach_rules.specs.Receiving as command_rules;
 ghost use Rattle.line_rules.specs.Answers.{reach_drop_word};
-ghost use Rattle.line_world.specs.Reaching.{EndsCheck, Reaches, ReachesCommand, ReachesFirst, TellsCommand, answer_as, command_of, path_heard, told_after};
+ghost use Rattle.line_world.specs.Reaching.{EndsCheck, Reaches, ReachesCommand, ReachesFirst, ReportsCommand, answer_as, command_of, path_heard, ended_by};
 ghost use Rattle.plc_base.specs.declared.limits.TheConstants.{MOST_FRAMES};
 
 use crate::beside::Beside;
 use crate::nodes::command::{CommandRef, Commanded};
 use crate::nodes::station_broadcasts::broadcast_command;
-use crate::nodes::telling::drop_word;
+use crate::nodes::node_receptions::drop_word;
 use broadcast_log::BroadcastLog;
 use line_events::{Answer, PathLine};
 use neighbour_checks::{Checks, read_ack, write_ack};
@@ -45,7 +45,7 @@ fn forget_if_halted(station: &Station<MemKeeper>, log: &mut BroadcastLog)
 }
 
 // A command goes to a neighbour, or to all where `to` is None, after the frames that `out` has.
-pub(crate) fn tell(
+pub(crate) fn send_local(
     station: &mut Station<MemKeeper>,
     log: &mut BroadcastLog,
     code: u8,
@@ -95,7 +95,7 @@ fn path_goes(
 {
     room.clear();
     write_path(message, room);
-    tell(station, log, 5, Some(to), room.octets(), out)
+    send_local(station, log, 5, Some(to), room.octets(), out)
 }
 
 // The walk of one node.
@@ -121,7 +121,7 @@ fn ask_of(own: Short, target: Short) -> PathMessage
 
 // How an ask ended.
 fn ask_sent(sent: Result<(), LocalRefusal>) -> Result<(), AskRefusal>
-    ensures { result ≡ told_after AskRefusal.CounterSpent AskRefusal.Store sent }
+    ensures { result ≡ ended_by AskRefusal.CounterSpent AskRefusal.Store sent }
 {
     match sent {
         Ok(()) => Ok(()),
@@ -226,7 +226,7 @@ fn hear_acknowledgement(checks: &mut Checks, command: &CommandRef<'_>) -> Result
 
 // How a command that was heard ended.
 pub(crate) fn sent_on(sent: Result<(), LocalRefusal>) -> Result<(), ReachDropped>
-    ensures { result ≡ told_after (Known drops.CounterSpent) (Known drops.Store) sent }
+    ensures { result ≡ ended_by (Known drops.CounterSpent) (Known drops.Store) sent }
 {
     match sent {
         Ok(()) => Ok(()),
@@ -397,8 +397,8 @@ pub(crate) fn dropped_word(reason: ReachDropped) -> Answer
 }
 
 // What the report says of an acknowledgement.
-fn acknowledgement_told(heard: Result<(), ReachDropped>, number: u16) -> Commanded<'static>
-    ensures { TellsCommand result number (answer_as (λ _. commands.Acked) heard) }
+fn acknowledgement_reported(heard: Result<(), ReachDropped>, number: u16) -> Commanded<'static>
+    ensures { ReportsCommand result number (answer_as (λ _. commands.Acked) heard) }
 {
     match heard {
         Ok(()) => only(Answer::Acked),
@@ -408,7 +408,7 @@ fn acknowledgement_told(heard: Result<(), ReachDropped>, number: u16) -> Command
 
 // What the report says of a path message that was taken.
 fn path_words(heard: PathHeard, number: u16) -> Commanded<'static>
-    ensures { TellsCommand result number (Ok (path_heard heard)) }
+    ensures { ReportsCommand result number (Ok (path_heard heard)) }
 {
     match heard {
         PathHeard::Relayed => only(Answer::Relayed),
@@ -422,8 +422,8 @@ fn path_words(heard: PathHeard, number: u16) -> Commanded<'static>
 }
 
 // What the report says of a path message, at the node of this number.
-fn path_told(heard: Result<PathHeard, ReachDropped>, number: u16) -> Commanded<'static>
-    ensures { TellsCommand result number (answer_as path_heard heard) }
+fn path_reported(heard: Result<PathHeard, ReachDropped>, number: u16) -> Commanded<'static>
+    ensures { ReportsCommand result number (answer_as path_heard heard) }
 {
     match heard {
         Ok(heard) => path_words(heard, number),
@@ -453,14 +453,14 @@ fn hear_command<'a>(
 {
     if command.code == 3 {
         let heard = hear_acknowledgement(&mut beside.checks, command);
-        return acknowledgement_told(heard, number);
+        return acknowledgement_reported(heard, number);
     }
     if command.code == 4 {
         return broadcast_command(number, own, station, beside, command, room, out);
     }
     if command.code == 5 {
         let heard = hear_path(own, station, beside, command, room, out);
-        return path_told(heard, number);
+        return path_reported(heard, number);
     }
     only(Answer::BadUnit)
 }

@@ -9,4 +9,4 @@ returns-then-number-gt0 c =
     commanded_on c.self.inside.meters c.hear_command.new.self c.args.beside.now c.hear_command.new.beside (command_of c.args.command.now) c.hear_command.result
     c.args.out.now c.hear_command.new.out
     c.self.inside.coordinator _ (c.args.number - 1) c.args.number c.self.view_is c.requires.there (omega (arith, c.if-number-gt0.true))
-    c.hear_command.ensures.tells c.hear_command.ensures.reached
+    c.hear_command.ensures.reports c.hear_command.ensures.reached

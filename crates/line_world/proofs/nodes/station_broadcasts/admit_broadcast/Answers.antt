@@ -96,7 +96,7 @@ returns-clause-reaches c =
     let b : Beside = record { checks = c.beside.inside.checks; log = c.beside.inside.log; scan = c.beside.inside.scan } in
     let y = broadcast_of c.args.broadcast.now in
     let m = c.keep_mark-2.new.station in
-    let t = c.tell-sent.new.station in
+    let t = c.send_local-sent.new.station in
     let h = held_by s.memory c.requires.running in
     let goes = admits_on h.0 b y (is_not_last y.hops c.if-broadcast-lt2.false)
     (left_at h.0 c.counters_left.result (at_some s.memory (λ l. c.counters_left.result + l.counter.next ≡ 4294967295) h.0 h.1 c.counters_left.ensures)
@@ -105,15 +105,15 @@ returns-clause-reaches c =
     m = record { stores = c.if-not-keep_mark.ensures.stores; state = c.if-not-keep_mark.ensures.station } in
     let body : List ℕ = spelling (hop_less y) in
     rw (← c.beside.view_is) (subst (λ (r : Result CommandHeard ReachDropped). Reaches s b (Err (Known drops.Store)) (λ x. admits_broadcast alone x y) r
-    c.args.out.now c.tell-sent.new.out t (record b { log = c.tell-sent.new.log }))
-    (heard_told y c.tell-sent.result ∙ ap (handed_up y) (sym c.sent_on.ensures))
+    c.args.out.now c.send_local-sent.new.out t (record b { log = c.send_local-sent.new.log }))
+    (heard_told y c.send_local-sent.result ∙ ap (handed_up y) (sym c.sent_on.ensures))
     (recorded reach_ends s b (Err (Known drops.Store)) (λ x. admits_broadcast alone x y) h.0 h.1 (keep_write b.log.marks y.origin y.number)
     (admitted_log b.log y.origin y.number)
-    (heard.Broadcast y.origin y.number y.octets) 4 None body goes c.args.out.now c.tell-sent.new.out m t c.tell-sent.result
-    (record b { log = c.tell-sent.new.log }) put
-    (sent_as m t h.0 4 None c.octets-2.result.now body c.tell-sent.result c.args.out.now c.tell-sent.new.out
+    (heard.Broadcast y.origin y.number y.octets) 4 None body goes c.args.out.now c.send_local-sent.new.out m t c.send_local-sent.result
+    (record b { log = c.send_local-sent.new.log }) put
+    (sent_as m t h.0 4 None c.octets-2.result.now body c.send_local-sent.result c.args.out.now c.send_local-sent.new.out
     (still_held s m (keep_write b.log.marks y.origin y.number) h.0 put h.1)
     (c.octets-2.ensures.value ∙ c.write_broadcast.ensures ∙ ap (λ (xs : List ℕ). spelling (record (hop_less y) { octets = xs })) c.octets.ensures)
-    c.tell-sent.ensures.carries)
-    (log_left b (admitted_log b.log y.origin y.number) c.keep_mark-2.new.log c.tell-sent.new.log (is_some t.memory) c.tell-sent.ensures.log
+    c.send_local-sent.ensures.carries)
+    (log_left b (admitted_log b.log y.origin y.number) c.keep_mark-2.new.log c.send_local-sent.new.log (is_some t.memory) c.send_local-sent.ensures.log
     c.if-not-keep_mark.ensures.log)))

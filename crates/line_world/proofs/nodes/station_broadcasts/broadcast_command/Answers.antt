@@ -37,7 +37,7 @@ returns-clause-reaches c =
     let h = held_by s.memory c.requires.running in
     record {
       answer = handed_up y c.hear_broadcast-heard.result;
-      tells = c.broadcast_told.ensures;
+      reports = c.broadcast_reported.ensures;
       reaches = same_after s c.hear_broadcast-heard.new.station b c.hear_broadcast-heard.new.beside (Err (Known drops.Store))
           (handed_up y c.hear_broadcast-heard.result) (λ x. hear_broadcast_in alone x c.args.own (Some y))
           (λ x. hear_broadcast alone x c.args.own c.args.command.now.to_all c.args.command.now.body) h.0 h.1

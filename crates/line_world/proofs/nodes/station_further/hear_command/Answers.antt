@@ -15,9 +15,9 @@ returns-then-command-eq3-clause-reaches c =
     let m = held_by s.memory c.requires.running in
     let b : Beside = record { checks = c.beside.inside.checks; log = c.beside.inside.log; scan = c.beside.inside.scan } in
     rw (← c.beside.view_is)
-    (ended_command s b (command_of c.args.command.now) c.args.own c.args.number m.0 c.acknowledgement_told.result c.hear_acknowledgement-heard.result
+    (ended_command s b (command_of c.args.command.now) c.args.own c.args.number m.0 c.acknowledgement_reported.result c.hear_acknowledgement-heard.result
     c.hear_acknowledgement-heard.new.checks c.args.out.now m.1
-    c.if-command-eq3.true c.hear_acknowledgement-heard.ensures c.acknowledgement_told.ensures)
+    c.if-command-eq3.true c.hear_acknowledgement-heard.ensures c.acknowledgement_reported.ensures)
 
 pub returns-then-command-eq4-clause-reaches : goal.returns-then-command-eq4-clause-reaches
 returns-then-command-eq4-clause-reaches c =
@@ -28,8 +28,8 @@ returns-then-command-eq4-clause-reaches c =
 pub returns-then-command-eq5-clause-reaches : goal.returns-then-command-eq5-clause-reaches
 returns-then-command-eq5-clause-reaches c =
     path_command c.args.station.now c.hear_path-heard.new.station c.args.beside.now c.hear_path-heard.new.beside (command_of c.args.command.now) c.args.own
-    c.args.number c.path_told.result (answer_as path_heard c.hear_path-heard.result) c.args.out.now c.hear_path-heard.new.out
-    c.if-command-eq5.true c.hear_path-heard.ensures.reaches c.path_told.ensures
+    c.args.number c.path_reported.result (answer_as path_heard c.hear_path-heard.result) c.args.out.now c.hear_path-heard.new.out
+    c.if-command-eq5.true c.hear_path-heard.ensures.reaches c.path_reported.ensures
 
 pub returns-clause-reaches : goal.returns-clause-reaches
 returns-clause-reaches c =

@@ -18,7 +18,7 @@ returns-then-halted-clause-reaches c =
     let b = c.args.beside.now in
     record {
       answer = Err (Known Store);
-      tells = only_dropped c.only.result c.args.number (Known Store) c.only.ensures;
+      reports = only_dropped c.only.result c.args.number (Known Store) c.only.ensures;
       reaches =
           subst (λ (o : Out). Reaches s b (Err (Known Store)) (λ y. hear_command alone y (command_of c.args.command.now)) (Err (Known Store)) c.args.out.now o s
           b) (sym c.clear.ensures)

@@ -5,7 +5,7 @@ use Rattle.node_rules.specs.Memory.{Node}
 use Rattle.node_rules.specs.Replies.{reply_among}
 use Rattle.line_rules.specs.Steps.{hears}
 use Rattle.line_world.specs.declared.nodes.reception.Reception.{Reception}
-use Rattle.line_world.specs.Receiving.{MayHear, Tells}
+use Rattle.line_world.specs.Receiving.{MayHear, ReportsReception}
 use Rattle.line_world.proofs.CoordinatorActing.{holds}
 use Rattle.line_world.proofs.CoordinatorHearing.{told, heard, heard_sound, told_replied}
 use Rattle.line_world.proofs.Places.{seen_answering}
@@ -21,14 +21,14 @@ hear-heard-requires-clause-holds c = holds c.self.inside.coordinator c.self.inva
 pub hear-heard-requires-clause-fits : goal.hear-heard-requires-clause-fits
 hear-heard-requires-clause-fits c = c.requires.accepted.fits
 
-pub returns-clause-tells : goal.returns-clause-tells
-returns-clause-tells c =
+pub returns-clause-reports : goal.returns-clause-reports
+returns-clause-reports c =
     let may = subst (λ (n : Node). MayHear n c.args.got.now) (sym c.self.view_is) c.requires.accepted in
-    subst (λ (n : Node). Tells c.with_reply.result (hears network n c.args.got.now c.args.cost c.args.note c.args.now).answer) c.self.view_is
+    subst (λ (n : Node). ReportsReception c.with_reply.result (hears network n c.args.got.now c.args.cost c.args.note c.args.now).answer) c.self.view_is
     (told c.self.inside.coordinator c.hear-heard.new.self c.args.got.now c.args.cost c.args.note c.args.now c.hear-heard.result c.hear-heard.new.out
     c.self.invariant may
     c.hear-heard.ensures.carries c.with_reply.result
-    (tells_with c.coordinator_told.result c.with_reply.result c.reply_of-replied.result _ c.with_reply.ensures c.coordinator_told.ensures))
+    (tells_with c.reception_of_coordinator.result c.with_reply.result c.reply_of-replied.result _ c.with_reply.ensures c.reception_of_coordinator.ensures))
 
 pub returns-clause-took : goal.returns-clause-took
 returns-clause-took c =

@@ -36,9 +36,9 @@ returns-clause-received c =
     let may = at_place c.self.inside.meters.items _ c.args.place c.index_mut-meter.result.now (λ n. MayHear n c.args.got.now) c.self.view_is c.requires.there
     c.index_mut-meter.ensures.value c.requires.accepted in
     found_at c.self.inside.meters.items _ c.args.place c.index_mut-meter.result.now _ c.self.view_is c.requires.there c.index_mut-meter.ensures.value (record {
-      tells = told x y c.args.got.now c.args.cost c.args.note c.args.now c.hear-heard.result c.hear-heard.new.out sound may c.hear-heard.ensures.psk
+      reports = told x y c.args.got.now c.args.cost c.args.note c.args.now c.hear-heard.result c.hear-heard.new.out sound may c.hear-heard.ensures.psk
           c.hear-heard.ensures.carries
-          c.with_reply.result (tells_with c.meter_told.result c.with_reply.result c.reply_of-replied.result _ c.with_reply.ensures c.meter_told.ensures);
+          c.with_reply.result (tells_with c.reception_of_meter.result c.with_reply.result c.reply_of-replied.result _ c.with_reply.ensures c.reception_of_meter.ensures);
       did = did _ c.self.inside.meters.items _ c.args.place y _ _ c.self.view_is
           (heard x y c.args.got.now c.args.cost c.args.note c.args.now c.hear-heard.result c.hear-heard.new.out sound may c.hear-heard.ensures.psk
           c.hear-heard.ensures.carries);

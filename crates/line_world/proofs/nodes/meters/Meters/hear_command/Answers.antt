@@ -12,8 +12,8 @@ pub hear_command_at-requires-clause-kept : goal.hear_command_at-requires-clause-
 hear_command_at-requires-clause-kept c = log_lent_at c.self.inside.meters.items _ c.args.place c.index_mut.result.now c.station.result.now c.args.beside.now
     c.self.view_is c.requires.there c.index_mut.ensures.value c.station.ensures.value c.requires.log
 
-pub returns-clause-tells : goal.returns-clause-tells
-returns-clause-tells c =
+pub returns-clause-reports : goal.returns-clause-reports
+returns-clause-reports c =
     meter_tells c.self.inside.meters.items _ c.args.place c.index_mut.result.now c.station.result.now c.hear_command_at.new.station c.self.view_is
     c.requires.there c.index_mut.ensures.value c.self.invariant c.station.ensures.value
     c.args.beside.now c.hear_command_at.new.beside (command_of c.args.command.now) c.hear_command_at.result c.args.out.now c.hear_command_at.new.out

@@ -2,7 +2,7 @@
 use Rattle.line_rules.specs.Answers as rules
 use Rattle.line_events.specs.declared.event.Answer.TheVariants as said
 use Rattle.line_world.proofs.CoordinatorHearing.{told_beside}
-use Rattle.line_world.proofs.nodes.telling.coordinator_words.Goals as goal
+use Rattle.line_world.proofs.nodes.node_receptions.coordinator_words.Goals as goal
 
 pub returns-in-Challenged : goal.returns-in-Challenged
 returns-in-Challenged c = rw c.in-Challenged.is c.only.ensures

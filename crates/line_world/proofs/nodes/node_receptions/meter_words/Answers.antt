@@ -1,5 +1,5 @@
 -- What a meter made of a frame that it did not drop is told.
-use Rattle.line_world.proofs.nodes.telling.meter_words.Goals as goal
+use Rattle.line_world.proofs.nodes.node_receptions.meter_words.Goals as goal
 
 pub returns-in-Carried : goal.returns-in-Carried
 returns-in-Carried c = rw c.in-Carried.is c.only.ensures

@@ -2,12 +2,12 @@
 use Rattle.std.proofs.Common.{subst}
 use Rattle.line_rules.specs.Answers as rules
 use Rattle.line_events.specs.declared.event.Answer.{Answer}
-use Rattle.line_world.specs.Receiving.{Tells}
-use Rattle.line_world.proofs.nodes.telling.coordinator_told.Goals as goal
+use Rattle.line_world.specs.Receiving.{ReportsReception}
+use Rattle.line_world.proofs.nodes.node_receptions.reception_of_coordinator.Goals as goal
 
 pub returns-in-Ok : goal.returns-in-Ok
 returns-in-Ok c = rw c.in-Ok.is c.coordinator_words.ensures
 
 pub returns-in-Err : goal.returns-in-Err
 returns-in-Err c =
-    rw c.in-Err.is (subst (λ (w : Answer). Tells c.only.result (rules.only w)) c.drop_word.ensures c.only.ensures)
+    rw c.in-Err.is (subst (λ (w : Answer). ReportsReception c.only.result (rules.only w)) c.drop_word.ensures c.only.ensures)

@@ -1,7 +1,7 @@
 //! Receptions of what a node heard: a word, and what came up with it.
 ghost use Rattle.std.specs.Prelude.{◌≡◌, ℕ, List, Ok};
 ghost use Rattle.line_rules.specs.Answers as rules;
-ghost use Rattle.line_world.specs.Receiving.{Tells};
+ghost use Rattle.line_world.specs.Receiving.{ReportsReception};
 
 use crate::nodes::reception::{HandedUp, Reception};
 use line_events::Answer;
@@ -10,7 +10,7 @@ use plc_base::OctetRef;
 
 // A word and nothing beside it.
 fn only(answer: Answer) -> Reception<'static>
-    ensures { Tells result (rules.only answer) }
+    ensures { ReportsReception result (rules.only answer) }
 {
     Reception {
         answer,
@@ -50,8 +50,8 @@ pub(crate) fn drop_word(reason: Dropped) -> Answer
 }
 
 // What a station made of a frame.
-fn station_told<'a>(heard: &Heard<'a>) -> Reception<'a>
-    ensures { Tells result (rules.station_reception heard.now) }
+fn reception_of_station<'a>(heard: &Heard<'a>) -> Reception<'a>
+    ensures { ReportsReception result (rules.station_reception heard.now) }
 {
     match heard {
         Heard::Up { note, octets, .. } => Reception {
@@ -78,10 +78,10 @@ fn station_told<'a>(heard: &Heard<'a>) -> Reception<'a>
 
 // What a meter made of a frame that it did not drop.
 fn meter_words<'a>(heard: &MeterHeard<'a>) -> Reception<'a>
-    ensures { Tells result (rules.meter_reception (Ok heard.now)) }
+    ensures { ReportsReception result (rules.meter_reception (Ok heard.now)) }
 {
     match heard {
-        MeterHeard::Station(heard) => station_told(heard),
+        MeterHeard::Station(heard) => reception_of_station(heard),
         MeterHeard::Carried => only(Answer::Carried),
         MeterHeard::Replied => only(Answer::Replied),
         MeterHeard::Took(_) => Reception {
@@ -99,8 +99,8 @@ fn meter_words<'a>(heard: &MeterHeard<'a>) -> Reception<'a>
 }
 
 // What a meter made of a frame.
-pub(crate) fn meter_told<'a>(heard: &Result<MeterHeard<'a>, Dropped>) -> Reception<'a>
-    ensures { Tells result (rules.meter_reception heard.now) }
+pub(crate) fn reception_of_meter<'a>(heard: &Result<MeterHeard<'a>, Dropped>) -> Reception<'a>
+    ensures { ReportsReception result (rules.meter_reception heard.now) }
 {
     match heard {
         Ok(heard) => meter_words(heard),
@@ -110,10 +110,10 @@ pub(crate) fn meter_told<'a>(heard: &Result<MeterHeard<'a>, Dropped>) -> Recepti
 
 // What the coordinator made of a frame that it did not drop.
 fn coordinator_words<'a>(heard: &CoordinatorHeard<'a>) -> Reception<'a>
-    ensures { Tells result (rules.coordinator_reception (Ok heard.now)) }
+    ensures { ReportsReception result (rules.coordinator_reception (Ok heard.now)) }
 {
     match heard {
-        CoordinatorHeard::Station(heard) => station_told(heard),
+        CoordinatorHeard::Station(heard) => reception_of_station(heard),
         CoordinatorHeard::Challenged => only(Answer::Challenged),
         CoordinatorHeard::Keyed { .. } => only(Answer::Keyed),
         CoordinatorHeard::Done { eui, .. } => Reception {
@@ -128,8 +128,8 @@ fn coordinator_words<'a>(heard: &CoordinatorHeard<'a>) -> Reception<'a>
 }
 
 // What the coordinator made of a frame.
-pub(crate) fn coordinator_told<'a>(heard: &Result<CoordinatorHeard<'a>, Dropped>) -> Reception<'a>
-    ensures { Tells result (rules.coordinator_reception heard.now) }
+pub(crate) fn reception_of_coordinator<'a>(heard: &Result<CoordinatorHeard<'a>, Dropped>) -> Reception<'a>
+    ensures { ReportsReception result (rules.coordinator_reception heard.now) }
 {
     match heard {
         Ok(heard) => coordinator_words(heard),

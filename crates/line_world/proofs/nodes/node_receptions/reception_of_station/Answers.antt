@@ -1,5 +1,5 @@
 -- What a station made of a frame is told.
-use Rattle.line_world.proofs.nodes.telling.station_told.Goals as goal
+use Rattle.line_world.proofs.nodes.node_receptions.reception_of_station.Goals as goal
 
 pub returns-in-Held : goal.returns-in-Held
 returns-in-Held c = rw c.in-Held.is c.only.ensures
