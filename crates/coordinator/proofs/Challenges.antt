@@ -28,7 +28,7 @@ use Rattle.node_rules.proofs.Composing.{command_plan, command_units, room_seals,
 use Rattle.coordinator.specs.CoordinatorStates.{memory_in, state_in}
 use Rattle.coordinator.specs.CoordinatorAgreement.{HoldsWith, Holds}
 use Rattle.coordinator.specs.Tables.{placed}
-use Rattle.coordinator.specs.Telling.{telling, lacks, RoomFor}
+use Rattle.coordinator.specs.MeshCommands.{sent_command, lacks, RoomFor}
 use Rattle.coordinator.proofs.Storing.{carried_by}
 
 -- # The plan, by what is tested
@@ -72,7 +72,7 @@ module _ (own : Eui) (m : Memory) (to now : ℕ) (server : Server) where
   long home = ap (λ o. length (from_address o).units) home ∙ command_units 0 to (command_of first) now [] opened [] [] []
 
   pub ordered_plan : address_of m.station ≡ Some 0 → RoomFor m to (message server.eui (Challenge (first_packet server)))
-      → telling (with_session (record { server = server; way = Mesh to; since = now }) (without_oldest m)) to
+      → sent_command (with_session (record { server = server; way = Mesh to; since = now }) (without_oldest m)) to
       (message server.eui (Challenge (first_packet server))) now
       ≡ challenge_by own m to now server
   unfolding from_address begins opened first is_commanded with_memory_by empty_draft
@@ -90,15 +90,15 @@ module _ (own : Eui) (m : Memory) (to now : ℕ) (server : Server) where
   first_done : (s mid t : State Memory) (answer : Result (Unit {0}) CoordinatorRefusal) (out : Out) → HoldsWith m s.store.records
       → RoomFor m to (message server.eui (Challenge (first_packet server)))
       → mid ≡ record s { memory = Some (with_session (record { server = server; way = Mesh to; since = now }) (without_oldest m)) }
-      → IfSome mid.memory (λ n. Carries mid (telling n to (message server.eui (Challenge (first_packet server))) now) answer out t)
+      → IfSome mid.memory (λ n. Carries mid (sent_command n to (message server.eui (Challenge (first_packet server))) now) answer out t)
       → Carries s (challenge_by own m to now server) answer out t
   unfolding first opened
   first_done s mid t answer out h room is goes =
       let held : mid.memory ≡ Some opened = ap (λ (x : State Memory). x.memory) is in
-      carried_by s t (telling opened to first now) (challenge_by own m to now server) answer out (ordered_plan h.home room)
-      (carries_behind s mid t [] (telling opened to first now) answer out
+      carried_by s t (sent_command opened to first now) (challenge_by own m to now server) answer out (ordered_plan h.home room)
+      (carries_behind s mid t [] (sent_command opened to first now) answer out
       (subst (λ (k : Store). Wrote s.store [] true k) (sym (ap (λ (x : State Memory). x.store) is)) (wrote_none s.store))
-      (sym (ap (λ (x : State Memory). x.eui) is)) (subst (λ (o : Option Memory). IfSome o (λ n. Carries mid (telling n to first now) answer out t)) held goes))
+      (sym (ap (λ (x : State Memory). x.eui) is)) (subst (λ (o : Option Memory). IfSome o (λ n. Carries mid (sent_command n to first now) answer out t)) held goes))
 
   -- the same of a message that is this one
   pub lacking_plan : (join : JoinMessage) (reason : CoordinatorRefusal) → join ≡ message server.eui (Challenge (first_packet server))
@@ -110,10 +110,10 @@ module _ (own : Eui) (m : Memory) (to now : ℕ) (server : Server) where
       → join ≡ message server.eui (Challenge (first_packet server))
       → HoldsWith m s.store.records → RoomFor m to join
       → mid ≡ record s { memory = Some (with_session (record { server = server; way = Mesh to; since = now }) (without_oldest m)) }
-      → IfSome mid.memory (λ n. Carries mid (telling n to join now) answer out t) → Carries s (challenge_by own m to now server) answer out t
+      → IfSome mid.memory (λ n. Carries mid (sent_command n to join now) answer out t) → Carries s (challenge_by own m to now server) answer out t
   ordered_done join s mid t answer out same h room is goes =
       first_done s mid t answer out h (subst (λ (j : JoinMessage). RoomFor m to j) same room) is
-      (subst (λ (j : JoinMessage). IfSome mid.memory (λ n. Carries mid (telling n to j now) answer out t)) same goes)
+      (subst (λ (j : JoinMessage). IfSome mid.memory (λ n. Carries mid (sent_command n to j now) answer out t)) same goes)
 
 -- # The session in the memory
 

@@ -25,7 +25,7 @@ use Rattle.node_rules.proofs.Composing.{command_plan, carries_behind, carries_st
 use Rattle.plc_station.proofs.Carrying.{at_some}
 use Rattle.coordinator.specs.CoordinatorAgreement.{HoldsWith}
 use Rattle.coordinator.specs.Doings.{Does}
-use Rattle.coordinator.specs.Telling.{telling, reaches, RoomFor}
+use Rattle.coordinator.specs.MeshCommands.{sent_command, reaches, RoomFor}
 use Rattle.coordinator.specs.Kicking.{shut_out, silently}
 use Rattle.coordinator.proofs.Storing.{stored, unstored, carried_by}
 use Rattle.coordinator.proofs.Entering.{IsQuiet, below_limit}
@@ -86,7 +86,7 @@ module _ (m : Memory) (e : BookEntry) (to : ℕ) where
   from_address o = option_map_or (λ own. on_station (commands own to (command_of (message e.eui Kick)) 0) (shut_out m e)) o (shut_out m e)
 
   pub ordered_plan : address_of m.station ≡ Some 0 → reaches m to ≡ true
-      → behind (shut_out m e).puts (telling (shut_out m e).memory to (message e.eui Kick) 0) ≡ kick_by m e to
+      → behind (shut_out m e).puts (sent_command (shut_out m e).memory to (message e.eui Kick) 0) ≡ kick_by m e to
   unfolding goes_by from_address is_commanded with_memory_by with_book_entry empty_draft
   ordered_plan home reached =
       command_plan orders (shut_out m e).puts (shut_out m e).memory [] [] [] 0 to (Command (command_of (message e.eui Kick))) 0 tt
@@ -120,7 +120,7 @@ module _ (s : State Memory) (m : Memory) (e : BookEntry) where
       → Carries s (kick_by m e to) (Err Failed) out t
   ordered_stopped t to out h reached empty does =
       carried_by s t _ (kick_by m e to) (Err Failed) out (ordered_plan m e to h.home reached)
-      (carries_stopped s t (shut_out m e).puts _ (behind (shut_out m e).puts (telling (shut_out m e).memory to (message e.eui Kick) 0)) out does.wrote refl
+      (carries_stopped s t (shut_out m e).puts _ (behind (shut_out m e).puts (sent_command (shut_out m e).memory to (message e.eui Kick) 0)) out does.wrote refl
       (empty ∙ (λ i. record {
         frames = [];
         tags = record { made = []; opened = sym (alone_opened (shut_out m e).memory.station 0 to (Command (command_of (message e.eui Kick))) 0) i };
@@ -129,13 +129,13 @@ module _ (s : State Memory) (m : Memory) (e : BookEntry) where
 
   pub ordered_done : (mid t : State Memory) (to : ℕ) (answer : Result (Unit {0}) CoordinatorRefusal) (out : Out) → HoldsWith m s.store.records
       → reaches m to ≡ true
-      → Does s (shut_out m e) true mid → IfSome mid.memory (λ n. Carries mid (telling n to (message e.eui Kick) 0) answer out t)
+      → Does s (shut_out m e) true mid → IfSome mid.memory (λ n. Carries mid (sent_command n to (message e.eui Kick) 0) answer out t)
       → Carries s (kick_by m e to) answer out t
   ordered_done mid t to answer out h reached does tells =
       carried_by s t _ (kick_by m e to) answer out (ordered_plan m e to h.home reached)
-      (carries_behind s mid t (shut_out m e).puts (telling (shut_out m e).memory to (message e.eui Kick) 0) answer out does.wrote
+      (carries_behind s mid t (shut_out m e).puts (sent_command (shut_out m e).memory to (message e.eui Kick) 0) answer out does.wrote
       (sym (ap (λ (x : State Memory). x.eui) does.state))
-      (at_some mid.memory (λ n. Carries mid (telling n to (message e.eui Kick) 0) answer out t) (shut_out m e).memory
+      (at_some mid.memory (λ n. Carries mid (sent_command n to (message e.eui Kick) 0) answer out t) (shut_out m e).memory
       (ap (λ (x : State Memory). x.memory) does.state) tells))
 
   pub room_left : (mid : State Memory) (to : ℕ) → reaches m to ≡ true → Does s (shut_out m e) true mid

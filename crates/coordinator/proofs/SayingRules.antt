@@ -39,7 +39,7 @@ use Rattle.node_rules.proofs.Composing.{room_fault_as, room_seals, room_refuses,
 use Rattle.plc_station.specs.Rooms.{room_answer}
 use Rattle.plc_station.proofs.Carrying.{at_some}
 use Rattle.coordinator.specs.CoordinatorAgreement.{HoldsWith}
-use Rattle.coordinator.specs.Telling.{telling}
+use Rattle.coordinator.specs.MeshCommands.{sent_command}
 use Rattle.coordinator.specs.Saying.{RoomToSay, say_fault, done_by, saying, said_after}
 use Rattle.coordinator.proofs.Reaching.{at_home, is_some_of}
 use Rattle.coordinator.proofs.Storing.{carried_by}
@@ -104,10 +104,10 @@ module _ (m : Memory) (to : ℕ) (join : JoinMessage) (now : ℕ) where
 
   module _ (s t : State Memory) (tags : TagList) (out more : Out) (home : address_of m.station ≡ Some 0) where
     -- it went out or waits
-    pub mesh_said : (u : Unit {0}) → Carries s (telling m to join now) (Ok u) out t → more ≡ record out { tags = tags }
+    pub mesh_said : (u : Unit {0}) → Carries s (sent_command m to join now) (Ok u) out t → more ≡ record out { tags = tags }
         → Carries s (saying m (Mesh to) join tags now) (Ok tt) more t
     mesh_said u c is =
-        let w = carried_whole s t (telling m to join now) u Failed out refl c in
+        let w = carried_whole s t (sent_command m to join now) u Failed out refl c in
         subst (λ (p : Plan Memory (Result (Unit {0}) Dropped)). Carries s p (Ok tt) more t) (command_is [] tags tt home) (record {
           done = true;
           wrote = w.wrote;
@@ -123,11 +123,11 @@ module _ (m : Memory) (to : ℕ) (join : JoinMessage) (now : ℕ) where
         })
 
     -- one of its puts failed
-    pub mesh_unsaid : (e : CoordinatorRefusal) → Carries s (telling m to join now) (Err e) out t
+    pub mesh_unsaid : (e : CoordinatorRefusal) → Carries s (sent_command m to join now) (Err e) out t
         → more ≡ record out { tags = record { made = []; opened = tags.opened } }
         → Carries s (saying m (Mesh to) join tags now) (Err dropped.store) more t
     mesh_unsaid e c is =
-        let w = carried_cut s t (telling m to join now) tt e out refl c in
+        let w = carried_cut s t (sent_command m to join now) tt e out refl c in
         subst (λ (p : Plan Memory (Result (Unit {0}) Dropped)). Carries s p (Err dropped.store) more t) (command_is [] tags tt home) (record {
           done = false;
           wrote = w.wrote;

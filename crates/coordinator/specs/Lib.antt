@@ -6,7 +6,7 @@ pub mod CoordinatorAgreement
 pub mod Opening
 pub mod Doings
 pub mod Ordering
-pub mod Telling
+pub mod MeshCommands
 pub mod Kicking
 pub mod Saying
 pub mod Answering

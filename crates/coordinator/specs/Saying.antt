@@ -16,7 +16,7 @@ use Rattle.node_rules.specs.Hearing.{dropped, dropped_for}
 use Rattle.node_rules.specs.Calls.{command_fault}
 use Rattle.node_rules.specs.Composing.{begun}
 use Rattle.node_rules.specs.Coordinators.{Hearing, says, say_lack, ends}
-use Rattle.coordinator.specs.Telling.{RoomFor}
+use Rattle.coordinator.specs.MeshCommands.{RoomFor}
 
 -- there is room for what is said: only a command needs any
 abbrev pub RoomToSay : Memory → Way → JoinMessage → Type 0

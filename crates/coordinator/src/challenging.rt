@@ -9,7 +9,7 @@ ghost use Rattle.node_rules.specs.Coordinators as rules;
 ghost use Rattle.node_rules.specs.Carrying.{Carries, nothing};
 ghost use Rattle.coordinator.specs.CoordinatorStates.{node_of};
 ghost use Rattle.coordinator.specs.CoordinatorAgreement.{Holds};
-ghost use Rattle.coordinator.specs.Telling as telling;
+ghost use Rattle.coordinator.specs.MeshCommands as mesh_plans;
 
 use crate::coordinator::Coordinator;
 use crate::sessions::ServerSession;
@@ -49,9 +49,9 @@ impl<K: Keeper + Drop> Coordinator<K> {
         requires running { IsSome (node_of self.now).memory }
         requires holds { Holds (node_of self.now) }
         requires message { IsMessage message.now }
-        ensures room { IfOk result (λ _. IfSome (node_of self.now).memory (λ m. telling.RoomFor m to message.now)) }
+        ensures room { IfOk result (λ _. IfSome (node_of self.now).memory (λ m. mesh_plans.RoomFor m to message.now)) }
         ensures refused { IfErr result (λ reason. IfSome (node_of self.now).memory (λ m.
-            telling.lacks m to (length (command_of message.now)) ≡ Some reason)) }
+            mesh_plans.lacks m to (length (command_of message.now)) ≡ Some reason)) }
     {
         let mut octets = CommandBuf::new();
         write_command(message, &mut octets);
@@ -98,7 +98,7 @@ impl<K: Keeper + Drop> Coordinator<K> {
             way: Way::Mesh(to),
             since: now,
         });
-        self.tell(to, message, now, out)
+        self.send_join_message(to, message, now, out)
     }
 
     // The first packet goes to a meter over the mesh, and its session begins with this random value, the oldest.

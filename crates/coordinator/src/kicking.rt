@@ -7,7 +7,7 @@ ghost use Rattle.node_rules.specs.Carrying.{Carries, nothing};
 ghost use Rattle.coordinator.specs.CoordinatorStates.{node_of};
 ghost use Rattle.coordinator.specs.CoordinatorAgreement.{Holds};
 ghost use Rattle.coordinator.specs.Doings.{Does};
-ghost use Rattle.coordinator.specs.Telling as telling;
+ghost use Rattle.coordinator.specs.MeshCommands as mesh_plans;
 ghost use Rattle.coordinator.specs.Kicking as kicking;
 
 use crate::coordinator::Coordinator;
@@ -50,7 +50,7 @@ impl<K: Keeper + Drop> Coordinator<K> {
     }
 
     // A meter with a route to it is shut out, and the command Kick goes to it.
-    fn kick_told(
+    fn kick_by_command(
         &mut self,
         entry: BookEntry,
         to: Short,
@@ -59,7 +59,7 @@ impl<K: Keeper + Drop> Coordinator<K> {
         requires running { IsSome (node_of self.old).memory }
         requires holds { Holds (node_of self.old) }
         requires room { IfSome (node_of self.old).memory (λ m. book.has_room m.book entry.eui ≡ true) }
-        requires reached { IfSome (node_of self.old).memory (λ m. telling.reaches m to ≡ true) }
+        requires reached { IfSome (node_of self.old).memory (λ m. mesh_plans.reaches m to ≡ true) }
         requires empty { out.old ≡ nothing }
         ensures carries { IfSome (node_of self.old).memory (λ m.
             Carries (node_of self.old) (rules.kick_by m entry to) result out.new (node_of self.new)) }
@@ -72,7 +72,7 @@ impl<K: Keeper + Drop> Coordinator<K> {
             eui: entry.eui,
             body: JoinBody::Kick,
         };
-        self.tell(to, &message, 0, out)
+        self.send_join_message(to, &message, 0, out)
     }
 
     /// Shuts a meter out: it may not join any more, the keys that were issued to it are cleared, and its session ends. Where there is
@@ -100,6 +100,6 @@ impl<K: Keeper + Drop> Coordinator<K> {
         if !self.reaches(to) {
             return self.kick_silently(&entry);
         }
-        self.kick_told(entry, to, out)
+        self.kick_by_command(entry, to, out)
     }
 }

@@ -48,6 +48,6 @@ mod opening;
 mod orders;
 mod saying;
 mod sessions;
-mod telling;
+mod mesh_commands;
 
 pub use coordinator::Coordinator;

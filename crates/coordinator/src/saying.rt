@@ -9,7 +9,7 @@ ghost use Rattle.node_rules.specs.Carrying.{Carries, nothing};
 ghost use Rattle.node_rules.specs.Composing.{HasRoom};
 ghost use Rattle.coordinator.specs.CoordinatorStates.{node_of};
 ghost use Rattle.coordinator.specs.CoordinatorAgreement.{Holds};
-ghost use Rattle.coordinator.specs.Telling as telling;
+ghost use Rattle.coordinator.specs.MeshCommands as mesh_plans;
 ghost use Rattle.coordinator.specs.Saying as saying;
 ghost use Rattle.waiting_bodies.specs.declared.bodies.TheConstants.{LONGEST_COMMAND};
 
@@ -47,7 +47,7 @@ impl<K: Keeper + Drop> Coordinator<K> {
         requires running { IsSome (node_of self.now).memory }
         requires holds { Holds (node_of self.now) }
         requires message { IsMessage message.now }
-        ensures room { IfOk result (λ _. IfSome (node_of self.now).memory (λ m. telling.RoomFor m to message.now)) }
+        ensures room { IfOk result (λ _. IfSome (node_of self.now).memory (λ m. mesh_plans.RoomFor m to message.now)) }
         ensures refused { IfErr result (λ reason. IfSome (node_of self.now).memory (λ m.
             command_fault dropped dropped_for m.station to (length (command_of message.now)) ≡ Some reason)) }
     {
@@ -84,12 +84,12 @@ impl<K: Keeper + Drop> Coordinator<K> {
         requires running { IsSome (node_of self.old).memory }
         requires holds { Holds (node_of self.old) }
         requires message { IsMessage message.now }
-        requires room { IfSome (node_of self.old).memory (λ m. telling.RoomFor m to message.now) }
+        requires room { IfSome (node_of self.old).memory (λ m. mesh_plans.RoomFor m to message.now) }
         ensures carries { IfSome (node_of self.old).memory (λ m. Carries (node_of self.old)
             (saying.saying m (ways.Mesh to) message.now tags now) result out.new (node_of self.new)) }
         ensures holds { Holds (node_of self.new) }
     {
-        let Ok(()) = self.tell(to, message, now, out) else {
+        let Ok(()) = self.send_join_message(to, message, now, out) else {
             tags.made.clear();
             out.tags = tags;
             return Err(Dropped::Store);

@@ -25,8 +25,8 @@ kick_silently-requires-clause-room g c =
     if_some (node_of c.args.self.now).memory _
     (λ m running. room_of m.book c.args.eui _ (at_some (node_of c.args.self.now).memory _ m running c.in-Some.ensures.entry))
 
-pub kick_told-requires-clause-room : goal.kick_told-requires-clause-room
-kick_told-requires-clause-room g c =
+pub kick_by_command-requires-clause-room : goal.kick_by_command-requires-clause-room
+kick_by_command-requires-clause-room g c =
     if_some (node_of c.args.self.now).memory _
     (λ m running. room_of m.book c.args.eui _ (at_some (node_of c.args.self.now).memory _ m running c.in-Some.ensures.entry))
 
@@ -46,4 +46,4 @@ returns-clause-carries g c =
     if_some (node_of c.args.self.now).memory _ (λ m running. carried_by _ _ _ _ _ _
     (kicks m c.args.eui c.in-Some.entry c.in-Some-known_address.to (at_some (node_of c.args.self.now).memory _ m running c.in-Some.ensures.entry)
     (at_some (node_of c.args.self.now).memory _ m running c.in-Some-known_address.ensures))
-    (at_some (node_of c.args.self.now).memory _ m running c.kick_told.ensures.carries))
+    (at_some (node_of c.args.self.now).memory _ m running c.kick_by_command.ensures.carries))

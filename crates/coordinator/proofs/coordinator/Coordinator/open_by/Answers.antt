@@ -16,13 +16,13 @@ returns-in_err-message_room-clause-carries g c =
     (at_some (node_of c.args.self.now).memory _ m running c.requires.holds).home
     (at_some (node_of c.args.self.now).memory _ m running c.in_err-message_room.ensures.refused ∙ ap Some (sym p.2))) c.requires.empty))
 
-pub tell-requires-clause-running : goal.tell-requires-clause-running
-tell-requires-clause-running g c =
+pub send_join_message-requires-clause-running : goal.send_join_message-requires-clause-running
+send_join_message-requires-clause-running g c =
     by_some (node_of c.args.self.now).memory _ c.requires.running
     (λ m running. session_runs (node_of c.args.self.now) _ _ (at_some (node_of c.args.self.now).memory _ m running c.begin_session.ensures.state))
 
-pub tell-requires-clause-room : goal.tell-requires-clause-room
-tell-requires-clause-room g c =
+pub send_join_message-requires-clause-room : goal.send_join_message-requires-clause-room
+send_join_message-requires-clause-room g c =
     by_some (node_of c.args.self.now).memory _ c.requires.running (λ m running. session_room (node_of c.args.self.now) _ m
     (record { server = c.args.server; way = Mesh c.args.to; since = c.args.now }) c.args.to c.args.message.now
     (at_some (node_of c.args.self.now).memory _ m running c.in_ok-message_room.ensures.room)
@@ -33,4 +33,4 @@ returns-clause-carries g c =
     if_some (node_of c.args.self.now).memory _ (λ m running. ordered_done c.args.self.now.station.eui m c.args.to c.args.now c.args.server c.args.message.now
     (node_of c.args.self.now) _ _ _ _ c.requires.packet (at_some (node_of c.args.self.now).memory _ m running c.requires.holds)
     (at_some (node_of c.args.self.now).memory _ m running c.in_ok-message_room.ensures.room)
-    (at_some (node_of c.args.self.now).memory _ m running c.begin_session.ensures.state) c.tell.ensures.carries)
+    (at_some (node_of c.args.self.now).memory _ m running c.begin_session.ensures.state) c.send_join_message.ensures.carries)

@@ -20,8 +20,8 @@ abbrev pub lacks : Memory → ℕ → ℕ → Option CoordinatorRefusal
 lacks m to octets = command_fault orders lacking m.station to octets
 
 -- the command goes, from the coordinator's address
-abbrev pub telling : Memory → ℕ → JoinMessage → ℕ → Ordering (Unit {0})
-telling m to join now =
+abbrev pub sent_command : Memory → ℕ → JoinMessage → ℕ → Ordering (Unit {0})
+sent_command m to join now =
     within (λ l. with_station l m) (answer_if_sent orders tt) (command_alone m.station 0 to (Command (command_of join)) now)
 
 -- whether there is a route to an address, and a counter for a frame

@@ -4,7 +4,7 @@ use Rattle.coordinator.specs.Kicking.{shut_out}
 use Rattle.coordinator.proofs.Storing.{by_some}
 use Rattle.coordinator.proofs.Depoting.{runs}
 use Rattle.coordinator.proofs.Kicks.{ordered_done, ordered_stopped, room_left}
-use Rattle.coordinator.proofs.coordinator.Coordinator.kick_told.Goals as goal
+use Rattle.coordinator.proofs.coordinator.Coordinator.kick_by_command.Goals as goal
 
 pub returns-in_default-clause-carries : goal.returns-in_default-clause-carries
 returns-in_default-clause-carries g c =
@@ -12,13 +12,13 @@ returns-in_default-clause-carries g c =
     (at_some (node_of c.args.self.now).memory _ m running c.requires.holds) (at_some (node_of c.args.self.now).memory _ m running c.requires.reached)
     c.requires.empty (at_some (node_of c.args.self.now).memory _ m running c.in_default.ensures.does))
 
-pub tell-requires-clause-running : goal.tell-requires-clause-running
-tell-requires-clause-running g c =
+pub send_join_message-requires-clause-running : goal.send_join_message-requires-clause-running
+send_join_message-requires-clause-running g c =
     by_some (node_of c.args.self.now).memory _ c.requires.running
     (λ m running. runs (node_of c.args.self.now) _ (shut_out m c.args.entry) (at_some (node_of c.args.self.now).memory _ m running c.in-Ok.ensures.does))
 
-pub tell-requires-clause-room : goal.tell-requires-clause-room
-tell-requires-clause-room g c =
+pub send_join_message-requires-clause-room : goal.send_join_message-requires-clause-room
+send_join_message-requires-clause-room g c =
     by_some (node_of c.args.self.now).memory _ c.requires.running (λ m running. room_left (node_of c.args.self.now) m c.args.entry _ c.args.to
     (at_some (node_of c.args.self.now).memory _ m running c.requires.reached) (at_some (node_of c.args.self.now).memory _ m running c.in-Ok.ensures.does))
 
@@ -26,4 +26,4 @@ pub returns-clause-carries : goal.returns-clause-carries
 returns-clause-carries g c =
     if_some (node_of c.args.self.now).memory _ (λ m running. ordered_done (node_of c.args.self.now) m c.args.entry _ _ c.args.to _ _
     (at_some (node_of c.args.self.now).memory _ m running c.requires.holds) (at_some (node_of c.args.self.now).memory _ m running c.requires.reached)
-    (at_some (node_of c.args.self.now).memory _ m running c.in-Ok.ensures.does) c.tell.ensures.carries)
+    (at_some (node_of c.args.self.now).memory _ m running c.in-Ok.ensures.does) c.send_join_message.ensures.carries)

@@ -5,7 +5,7 @@ ghost use Rattle.node_rules.specs.Carrying.{Carries};
 ghost use Rattle.node_rules.specs.Composing.{HasRoom};
 ghost use Rattle.coordinator.specs.CoordinatorStates.{node_of};
 ghost use Rattle.coordinator.specs.CoordinatorAgreement.{Holds};
-ghost use Rattle.coordinator.specs.Telling as telling;
+ghost use Rattle.coordinator.specs.MeshCommands as mesh_plans;
 ghost use Rattle.waiting_bodies.specs.declared.bodies.TheConstants.{LONGEST_COMMAND};
 
 use crate::coordinator::Coordinator;
@@ -23,7 +23,7 @@ impl<K: Keeper + Drop> Coordinator<K> {
         requires fits { octets ≤ LONGEST_COMMAND }
         ensures room { IfOk result (λ _. IfSome (node_of self.now).memory (λ m. HasRoom m.station to octets)) }
         ensures refused { IfErr result (λ reason.
-            IfSome (node_of self.now).memory (λ m. telling.lacks m to octets ≡ Some reason)) }
+            IfSome (node_of self.now).memory (λ m. mesh_plans.lacks m to octets ≡ Some reason)) }
     {
         match self.station.room(to, octets) {
             Ok(()) => Ok(()),
@@ -35,7 +35,7 @@ impl<K: Keeper + Drop> Coordinator<K> {
     pub(crate) fn reaches(&self, to: Short) -> bool
         requires running { IsSome (node_of self.now).memory }
         requires holds { Holds (node_of self.now) }
-        ensures { IfSome (node_of self.now).memory (λ m. result ≡ telling.reaches m to) }
+        ensures { IfSome (node_of self.now).memory (λ m. result ≡ mesh_plans.reaches m to) }
     {
         let Some(_) = self.station.valid(to) else {
             return false;
@@ -47,7 +47,7 @@ impl<K: Keeper + Drop> Coordinator<K> {
     }
 
     // Sends a message in a command that has room.
-    pub(crate) fn tell(
+    pub(crate) fn send_join_message(
         &mut self,
         to: Short,
         message: &JoinMessage,
@@ -57,9 +57,9 @@ impl<K: Keeper + Drop> Coordinator<K> {
         requires running { IsSome (node_of self.old).memory }
         requires holds { Holds (node_of self.old) }
         requires message { IsMessage message.now }
-        requires room { IfSome (node_of self.old).memory (λ m. telling.RoomFor m to message.now) }
+        requires room { IfSome (node_of self.old).memory (λ m. mesh_plans.RoomFor m to message.now) }
         ensures carries { IfSome (node_of self.old).memory (λ m.
-            Carries (node_of self.old) (telling.telling m to message.now now) result out.new (node_of self.new)) }
+            Carries (node_of self.old) (mesh_plans.sent_command m to message.now now) result out.new (node_of self.new)) }
         ensures holds { Holds (node_of self.new) }
     {
         let mut octets = CommandBuf::new();

@@ -11,7 +11,7 @@ use Rattle.coordinator.proofs.Storing.{on_parts, by_some}
 use Rattle.coordinator.proofs.Parts.{part_runs, part_agrees, part_home, part_book}
 use Rattle.coordinator.proofs.Within.{within_carried, home_holds}
 use Rattle.coordinator.proofs.CommandOrders.{command_keeps}
-use Rattle.coordinator.proofs.coordinator.Coordinator.tell.Goals as goal
+use Rattle.coordinator.proofs.coordinator.Coordinator.send_join_message.Goals as goal
 
 pub send_command-requires-clause-agrees : goal.send_command-requires-clause-agrees
 send_command-requires-clause-agrees g c =
