@@ -14,7 +14,7 @@ use Rattle.node_rules.specs.Coordinators.{with_book_entry}
 use Rattle.node_rules.specs.States.{State}
 use Rattle.coordinator.specs.CoordinatorStates.{memory_in, state_in}
 use Rattle.coordinator.specs.CoordinatorAgreement.{HoldsWith, Holds}
-use Rattle.coordinator.specs.Doings.{Does}
+use Rattle.coordinator.specs.DraftsCarriedOut.{Does}
 use Rattle.coordinator.proofs.Agreeing.{agrees_booked}
 
 module _ (s : State StationMemory) (randoms : List Rand) (sessions : List CoordinatorSession) (b after : book.Book) (e : BookEntry) (before now : Store)

@@ -20,7 +20,7 @@ use Rattle.node_rules.specs.Carrying.{Carries, nothing}
 use Rattle.node_rules.proofs.Composing.{state_is}
 use Rattle.plc_station.proofs.Carrying.{at_some}
 use Rattle.coordinator.specs.CoordinatorAgreement.{HoldsWith}
-use Rattle.coordinator.specs.Doings.{Does}
+use Rattle.coordinator.specs.DraftsCarriedOut.{Does}
 use Rattle.coordinator.proofs.Storing.{stored, unstored, carried_by}
 use Rattle.coordinator.proofs.Entering.{IsQuiet, changed_quiet, below_limit, allowed_eui}
 

@@ -24,7 +24,7 @@ use Rattle.node_rules.specs.Composing.{behind, command_alone}
 use Rattle.node_rules.proofs.Composing.{command_plan, carries_behind, carries_stopped}
 use Rattle.plc_station.proofs.Carrying.{at_some}
 use Rattle.coordinator.specs.CoordinatorAgreement.{HoldsWith}
-use Rattle.coordinator.specs.Doings.{Does}
+use Rattle.coordinator.specs.DraftsCarriedOut.{Does}
 use Rattle.coordinator.specs.MeshCommands.{sent_command, reaches, RoomFor}
 use Rattle.coordinator.specs.Kicking.{shut_out, silently}
 use Rattle.coordinator.proofs.Storing.{stored, unstored, carried_by}

@@ -13,9 +13,9 @@ pub mod Booking
 pub mod Reaching
 pub mod Kicks
 pub mod Challenges
-pub mod SayingRules
-pub mod AskingRules
-pub mod AnsweringRules
+pub mod ReplyRules
+pub mod RequestRules
+pub mod PacketRules
 pub mod LineRules
 pub mod HearingRules
 pub mod Rereading

@@ -14,7 +14,7 @@ use Rattle.node_rules.specs.Carrying.{Carries, nothing}
 use Rattle.node_rules.specs.Composing.{begun}
 use Rattle.node_rules.proofs.Composing.{carries_quiet, carries_unsealed}
 use Rattle.plc_station.proofs.Carrying.{resting_carried}
-use Rattle.coordinator.specs.Doings.{Does}
+use Rattle.coordinator.specs.DraftsCarriedOut.{Does}
 
 -- what holds of the memory of a station's coordinator
 pub on_parts : {L M : Type 0} (o : Option L) (f : L → M) (P : M → Type 0) → ((l : L) → o ≡ Some l → P (f l)) → IfSome (option_map f o) P

@@ -4,9 +4,9 @@ pub mod Tables
 pub mod CoordinatorReading
 pub mod CoordinatorAgreement
 pub mod Opening
-pub mod Doings
+pub mod DraftsCarriedOut
 pub mod Ordering
 pub mod MeshCommands
 pub mod Kicking
-pub mod Saying
-pub mod Answering
+pub mod JoiningReplies
+pub mod Packets

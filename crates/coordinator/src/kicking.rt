@@ -6,7 +6,7 @@ ghost use Rattle.node_rules.specs.Coordinators as rules;
 ghost use Rattle.node_rules.specs.Carrying.{Carries, nothing};
 ghost use Rattle.coordinator.specs.CoordinatorStates.{node_of};
 ghost use Rattle.coordinator.specs.CoordinatorAgreement.{Holds};
-ghost use Rattle.coordinator.specs.Doings.{Does};
+ghost use Rattle.coordinator.specs.DraftsCarriedOut.{Does};
 ghost use Rattle.coordinator.specs.MeshCommands as mesh_plans;
 ghost use Rattle.coordinator.specs.Kicking as kicking;
 

@@ -35,8 +35,8 @@
 //! and the session has ended (`Done`), with the random values that both ends hold. A meter that is not allowed is `Declined`.
 #![tactic(auto)]
 
-mod answering;
-mod asking;
+mod packets;
+mod joining_requests;
 mod challenging;
 mod coordinator;
 mod enrolling;
@@ -46,7 +46,7 @@ mod keys;
 mod kicking;
 mod opening;
 mod orders;
-mod saying;
+mod joining_replies;
 mod sessions;
 mod mesh_commands;
 

@@ -17,7 +17,7 @@ use Rattle.node_rules.proofs.Tables.{writes_keep_tables}
 use Rattle.line_events.specs.declared.event.Answer.{Answer}
 use Rattle.line_events.specs.declared.event.Answer.TheVariants as said
 use Rattle.line_world.specs.Nodes.{cut_ahead, node_in}
-use Rattle.line_world.specs.Doings.{Took}
+use Rattle.line_world.specs.NodeOutcomes.{Took}
 use Rattle.line_world.specs.Soundness.{AgreesAs, IsSound}
 
 -- # What is there

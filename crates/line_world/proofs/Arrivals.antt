@@ -46,7 +46,7 @@ use Rattle.reach_rules.specs.Receiving.{NeighbourCommand, command_of, command_on
 use Rattle.line_flights.specs.declared.flights.Origin.{Origin}
 use Rattle.line_flights.specs.Flown.{Flown, not_lost}
 use Rattle.line_world.specs.declared.nodes.reception.Reception as telling
-use Rattle.line_world.specs.Doings.{Did}
+use Rattle.line_world.specs.NodeOutcomes.{Did}
 use Rattle.line_world.specs.Receiving.{Received, ReportsReception, handed_up}
 use Rattle.line_events.specs.declared.event.StepFault.TheVariants as faults
 use Rattle.line_events.specs.declared.event.TheConstants.{MAX_EVENTS}

@@ -22,7 +22,7 @@ use Rattle.line_rules.specs.Steps.{acted, happened, ran, restarts, spoken, world
 use Rattle.line_rules.specs.Worlds.{Further, World, Trace}
 use Rattle.line_rules.proofs.LogSteps.{halted_in, log_at, logged_at}
 use Rattle.line_world.specs.Bounds.{IsBounded}
-use Rattle.line_world.specs.Doings.{Did}
+use Rattle.line_world.specs.NodeOutcomes.{Did}
 use Rattle.line_world.specs.Reaching.{ReachedFirst}
 use Rattle.line_world.specs.Steps.{Steps}
 use Rattle.line_world.proofs.Settings.{bounded_beside}

@@ -35,7 +35,7 @@ use Rattle.coordinator.specs.CoordinatorStates.{CoordinatorState, memory_in, nod
 use Rattle.line_rules.specs.Steps.{memory_by, restart_word, restarts, ticked}
 use Rattle.line_events.specs.declared.event.Answer.{Answer}
 use Rattle.line_world.specs.Nodes.{node_in, stored_in, of_coordinator}
-use Rattle.line_world.specs.Doings.{Took}
+use Rattle.line_world.specs.NodeOutcomes.{Took}
 use Rattle.line_world.specs.Soundness.{AgreesAs, IsSound}
 use Rattle.line_world.proofs.Acting.{took, told_after, tables_after, StayedHalted, Places, IsRestartWord}
 use Rattle.line_world.proofs.LentStations.{StationPlan, StationStayed, StationCarries, IsOwnPlan, lent, lent_took, lent_sound, node_says, same_home}

@@ -33,7 +33,7 @@ use Rattle.meter_node.specs.MeterStates.{MeterState, memory_with}
 use Rattle.coordinator.specs.CoordinatorAgreement.{Holds}
 use Rattle.coordinator.specs.CoordinatorStates.{CoordinatorState, memory_in, node_of, identity_of}
 use Rattle.line_world.specs.declared.nodes.reception.Reception.{Reception}
-use Rattle.line_world.specs.Doings.{Took}
+use Rattle.line_world.specs.NodeOutcomes.{Took}
 use Rattle.line_world.specs.Nodes.{of_coordinator, of_meter}
 use Rattle.line_world.specs.Receiving.{MayHear, CameTo, ReportsReception}
 use Rattle.line_world.proofs.AcceptingSteps.{meter_may_hear}

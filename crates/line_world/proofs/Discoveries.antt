@@ -55,7 +55,7 @@ use Rattle.line_rules.specs.Steps.{flight_by, happened, identity, psk_of, ran, s
 use Rattle.line_rules.specs.Worlds.{Noticed, Trace, World}
 use Rattle.line_world.specs.Bounds.{IsBounded}
 use Rattle.line_world.specs.Discovering.{HearsBeacon, TakesBeacon, flies_in, joins_in, taken_by}
-use Rattle.line_world.specs.Doings.{Did}
+use Rattle.line_world.specs.NodeOutcomes.{Did}
 use Rattle.line_world.specs.Soundness.{AreBelow, IsBelow}
 use Rattle.line_world.specs.Steps.{Steps}
 use Rattle.line_world.proofs.Hearings.{beside_same, set_same}

@@ -24,7 +24,7 @@ use Rattle.line_rules.specs.Steps.{hears}
 use Rattle.meter_node.specs.Hearing.{CameUp}
 use Rattle.meter_node.specs.MeterStates.{MeterState, memory_with, node_of, identity_of}
 use Rattle.line_world.specs.declared.nodes.reception.Reception.{Reception}
-use Rattle.line_world.specs.Doings.{Took}
+use Rattle.line_world.specs.NodeOutcomes.{Took}
 use Rattle.line_world.specs.Nodes.{of_meter}
 use Rattle.line_world.specs.Receiving.{MayHear, CameTo, ReportsReception}
 use Rattle.line_world.specs.Soundness.{IsSoundMeter}

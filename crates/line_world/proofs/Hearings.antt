@@ -78,7 +78,7 @@ use Rattle.line_world.specs.declared.nodes.reception.Reception as telling
 use Rattle.line_world.specs.Arrivals.{Acknowledges, acknowledging_if, checked_so, done_in, in_run, left_of, said_of, unbelieved_so, with_check_of}
 use Rattle.line_world.specs.Arrivals.{heard_so as heard_by_command}
 use Rattle.line_world.specs.Bounds.{IsBounded}
-use Rattle.line_world.specs.Doings.{given_by}
+use Rattle.line_world.specs.NodeOutcomes.{given_by}
 use Rattle.line_world.specs.Reaching.{DidAfter, IsLogOf, ReachedCommand, given_after}
 use Rattle.line_world.specs.Receiving.{Received, handed_up}
 use Rattle.line_world.specs.Steps.{Steps}

@@ -35,7 +35,7 @@ use Rattle.coordinator.specs.CoordinatorAgreement.{HasHome}
 use Rattle.line_events.specs.declared.event.Answer.{Answer}
 use Rattle.line_events.specs.declared.event.Answer.TheVariants as said
 use Rattle.line_world.specs.Nodes.{node_in, stored_in}
-use Rattle.line_world.specs.Doings.{Took}
+use Rattle.line_world.specs.NodeOutcomes.{Took}
 use Rattle.line_world.specs.Soundness.{AgreesAs, IsSound}
 use Rattle.line_world.proofs.Acting.{took, told_after, tables_after, short_tables, StayedHalted}
 

@@ -21,7 +21,7 @@ use Rattle.meter_node.specs.Reading.{read_answer}
 use Rattle.line_rules.specs.Steps.{memory_by, restart_word, restarts, ticked}
 use Rattle.line_events.specs.declared.event.Answer.{Answer}
 use Rattle.line_world.specs.Nodes.{stored_in, node_in, of_meter}
-use Rattle.line_world.specs.Doings.{Took}
+use Rattle.line_world.specs.NodeOutcomes.{Took}
 use Rattle.line_world.specs.Soundness.{AgreesAs, IsSoundMeter}
 use Rattle.line_world.proofs.Acting.{took, told_after, tables_after, StayedHalted, Places, not_some, IsRestartWord}
 use Rattle.line_world.proofs.LentStations.{StationPlan, StationStayed, StationCarries, IsOwnPlan, lent, lent_took, lent_sound, node_says}

@@ -20,7 +20,7 @@ use Rattle.node_rules.specs.NodeSteps.{NodeStep, acts}
 use Rattle.node_rules.specs.States.{State}
 use Rattle.meter_node.specs.MeterStates.{MeterState, memory_with}
 use Rattle.line_world.specs.Nodes.{of_meter}
-use Rattle.line_world.specs.Doings.{Did, Took}
+use Rattle.line_world.specs.NodeOutcomes.{Did, Took}
 use Rattle.line_world.specs.Receiving.{MayHear}
 use Rattle.line_world.specs.Soundness.{IsSoundMeter}
 use Rattle.line_world.proofs.LentStations.{StationPlan, StationStayed, StationCarries, IsOwnPlan, lent}

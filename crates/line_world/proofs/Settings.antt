@@ -31,7 +31,7 @@ use Rattle.node_rules.specs.Meters as meters
 use Rattle.node_rules.specs.NodeSteps.{NodeStep, acts, answering, left_by, of_station, stays}
 use Rattle.node_rules.specs.Plans.{Plan, carry_out, finished, halted}
 use Rattle.node_rules.proofs.Refusals.{orders_refused}
-use Rattle.line_world.specs.Doings.{Did}
+use Rattle.line_world.specs.NodeOutcomes.{Did}
 use Rattle.reach_rules.specs.ReachingNodes.{Beside, nothing_beside}
 use Rattle.line_events.specs.declared.event.Answer.TheVariants as said
 use Rattle.line_events.specs.declared.event.StepFault.{StepFault}

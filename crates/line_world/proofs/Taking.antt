@@ -11,7 +11,7 @@ use Rattle.node_rules.specs.Ciphers.{network}
 use Rattle.node_rules.specs.Frames.{Sent, spelled}
 use Rattle.node_rules.specs.Memory.{Node, node_address}
 use Rattle.node_rules.specs.NodeSteps.{NodeStep, answering}
-use Rattle.line_world.specs.Doings.{Did, given_by}
+use Rattle.line_world.specs.NodeOutcomes.{Did, given_by}
 use Rattle.line_events.specs.declared.event.Answer.{Answer}
 use Rattle.line_events.specs.declared.event.StepFault.{StepFault}
 use Rattle.line_events.specs.declared.event.StepFault.TheVariants as faults

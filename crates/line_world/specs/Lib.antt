@@ -1,7 +1,7 @@
 pub mod NodeCodes
 pub mod Nodes
 pub mod Soundness
-pub mod Doings
+pub mod NodeOutcomes
 pub mod Receiving
 pub mod Lines
 pub mod Steps

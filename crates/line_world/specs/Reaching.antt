@@ -28,7 +28,7 @@ use Rattle.line_world.specs.declared.nodes.command.Commanded.{Commanded}
 use Rattle.line_world.specs.declared.nodes.station_broadcasts.BroadcastRef.{BroadcastRef}
 use Rattle.line_world.specs.declared.nodes.station_further.PathHeard.{PathHeard}
 use Rattle.line_world.specs.declared.nodes.station_further.PathHeard.TheVariants as paths
-use Rattle.line_world.specs.Doings.{Did, Took, given_by}
+use Rattle.line_world.specs.NodeOutcomes.{Did, Took, given_by}
 
 -- # Answers
 

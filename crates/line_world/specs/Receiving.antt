@@ -11,7 +11,7 @@ use Rattle.plc_station.specs.Heard.{Fits}
 use Rattle.meter_node.specs.Hearing.{CameUp}
 use Rattle.line_world.specs.declared.nodes.reception.HandedUp.{HandedUp}
 use Rattle.line_world.specs.declared.nodes.reception.Reception.{Reception}
-use Rattle.line_world.specs.Doings.{Did}
+use Rattle.line_world.specs.NodeOutcomes.{Did}
 
 -- a frame came to a meter as its station accepts them
 abbrev pub CameTo : Role → Accepted → Memory → Type 0

@@ -39,10 +39,10 @@
 #![tactic(auto)]
 
 mod commands;
-mod endings;
+mod expiry;
 mod frames;
 mod hearing;
-mod learns;
+mod own_replies;
 mod mesh;
 mod neighbours;
 mod parts;
@@ -50,7 +50,7 @@ mod pieces;
 mod presets;
 mod relays;
 mod replies;
-mod ringing;
+mod ring_changes;
 mod route_errors;
 mod route_requests;
 mod sealing;

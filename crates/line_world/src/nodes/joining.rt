@@ -6,7 +6,7 @@ ghost use Rattle.node_rules.specs.MemoryDrafts as drafts;
 ghost use Rattle.node_rules.specs.Meters as meters;
 ghost use Rattle.node_rules.specs.NodeSteps.{acts};
 ghost use Rattle.line_rules.specs.Steps.{identity, psk_of};
-ghost use Rattle.line_world.specs.Doings.{Did};
+ghost use Rattle.line_world.specs.NodeOutcomes.{Did};
 
 use crate::nodes::Nodes;
 use group_keys::RingFault;

@@ -1,6 +1,6 @@
 //! The coordinator of a line, and what it does.
 ghost use Rattle.std.specs.Prelude.{◌≡◌, ◌≤◌, Ok, Err, IfOk, IsSome, Some};
-ghost use Rattle.line_world.specs.Doings.{Took};
+ghost use Rattle.line_world.specs.NodeOutcomes.{Took};
 ghost use Rattle.line_world.specs.Receiving.{MayHear, ReportsReception};
 ghost use Rattle.line_rules.specs.Steps.{coordinator_node, hears, keeps_rank, ranks_full, restarts, ticked};
 ghost use Rattle.line_events.specs.declared.event.Answer.TheVariants as said;

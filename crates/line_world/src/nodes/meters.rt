@@ -16,7 +16,7 @@ ghost use Rattle.node_rules.specs.Showing.{shown_of};
 ghost use Rattle.reach_rules.specs.CheckedReplies.{message_of};
 ghost use Rattle.node_rules.specs.Accepting.{same_eui};
 ghost use Rattle.line_events.specs.declared.event.Answer.TheVariants as said;
-ghost use Rattle.line_world.specs.Doings.{Did};
+ghost use Rattle.line_world.specs.NodeOutcomes.{Did};
 ghost use Rattle.line_world.specs.Nodes.{has_eui};
 ghost use Rattle.line_world.specs.Receiving.{MayHear, Received};
 

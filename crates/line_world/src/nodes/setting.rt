@@ -4,7 +4,7 @@ ghost use Rattle.node_rules.specs.Calls as calls;
 ghost use Rattle.node_rules.specs.Carrying.{nothing};
 ghost use Rattle.node_rules.specs.NodeSteps.{acts, of_station};
 ghost use Rattle.line_rules.specs.Steps.{keeps_rank, ranks_full};
-ghost use Rattle.line_world.specs.Doings.{Did};
+ghost use Rattle.line_world.specs.NodeOutcomes.{Did};
 
 use crate::nodes::Nodes;
 use node_rules::PresetFault;

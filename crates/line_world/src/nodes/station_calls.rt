@@ -9,7 +9,7 @@ ghost use Rattle.node_rules.specs.MemoryDrafts.{with_station};
 ghost use Rattle.node_rules.specs.NodeSteps.{acts, of_station, changing};
 ghost use Rattle.node_rules.specs.Showing.{shown_of};
 ghost use Rattle.line_events.specs.declared.event.Answer.TheVariants as said;
-ghost use Rattle.line_world.specs.Doings.{Did};
+ghost use Rattle.line_world.specs.NodeOutcomes.{Did};
 ghost use Rattle.line_world.specs.Receiving.{MayHear};
 
 use crate::nodes::Nodes;

@@ -4,7 +4,7 @@ ghost use Rattle.node_rules.specs.Carrying.{nothing};
 ghost use Rattle.node_rules.specs.NodeSteps.{stays};
 ghost use Rattle.line_rules.specs.Steps.{ticked, restarts};
 ghost use Rattle.line_events.specs.declared.event.Answer.TheVariants as said;
-ghost use Rattle.line_world.specs.Doings.{Did};
+ghost use Rattle.line_world.specs.NodeOutcomes.{Did};
 
 use crate::nodes::Nodes;
 use line_events::Answer;

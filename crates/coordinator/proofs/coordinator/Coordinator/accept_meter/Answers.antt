@@ -4,7 +4,7 @@ use Rattle.coordinator.specs.CoordinatorStates.{node_of}
 use Rattle.node_rules.specs.Hearing.{dropped}
 use Rattle.coordinator.proofs.Storing.{refusal, by_some}
 use Rattle.std.proofs.Common.{Ok, Err}
-use Rattle.coordinator.proofs.AnsweringRules.{accept_lacks, ended_runs, ended_room, accepted}
+use Rattle.coordinator.proofs.PacketRules.{accept_lacks, ended_runs, ended_room, accepted}
 use Rattle.coordinator.proofs.coordinator.Coordinator.accept_meter.Goals as goal
 
 pub returns-in-Err-clause-carries : goal.returns-in-Err-clause-carries

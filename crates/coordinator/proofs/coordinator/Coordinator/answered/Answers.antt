@@ -3,7 +3,7 @@ use Rattle.coordinator.specs.CoordinatorStates.{node_of, identity_of}
 use Rattle.node_rules.specs.Hearing.{dropped}
 use Rattle.coordinator.proofs.Storing.{refusal, carried_by}
 use Rattle.node_rules.specs.declared.refusal.Dropped.TheVariants.{NotAllowed, NoSession}
-use Rattle.coordinator.proofs.AnsweringRules.{not_allowed, no_session, answers, served}
+use Rattle.coordinator.proofs.PacketRules.{not_allowed, no_session, answers, served}
 use Rattle.coordinator.proofs.coordinator.Coordinator.answered.Goals as goal
 
 pub returns-in_default-clause-carries : goal.returns-in_default-clause-carries

@@ -1,7 +1,7 @@
 use Rattle.plc_station.proofs.Carrying.{if_some, at_some}
 use Rattle.coordinator.specs.CoordinatorStates.{node_of, identity_of}
 use Rattle.coordinator.proofs.Storing.{carried_by}
-use Rattle.coordinator.proofs.AskingRules.{let_in, kept_out}
+use Rattle.coordinator.proofs.RequestRules.{let_in, kept_out}
 use Rattle.coordinator.proofs.coordinator.Coordinator.asked.Goals as goal
 
 pub returns-then-not-is_allowed-clause-carries : goal.returns-then-not-is_allowed-clause-carries

@@ -2,7 +2,7 @@ use Rattle.plc_station.proofs.Carrying.{at_some}
 use Rattle.coordinator.proofs.Storing.{on_parts}
 use Rattle.coordinator.proofs.Parts.{part_home}
 use Rattle.coordinator.proofs.Reaching as reaching
-use Rattle.coordinator.proofs.SayingRules.{drop_lacks}
+use Rattle.coordinator.proofs.ReplyRules.{drop_lacks}
 use Rattle.coordinator.proofs.coordinator.Coordinator.command_room.Goals as goal
 
 pub returns-in-Ok-clause-room : goal.returns-in-Ok-clause-room

@@ -3,7 +3,7 @@ use Rattle.coordinator.specs.CoordinatorStates.{node_of}
 use Rattle.node_rules.specs.Hearing.{dropped}
 use Rattle.coordinator.proofs.Storing.{refusal}
 use Rattle.std.proofs.Common.{Ok, Err}
-use Rattle.coordinator.proofs.AskingRules.{decline_lacks, declined}
+use Rattle.coordinator.proofs.RequestRules.{decline_lacks, declined}
 use Rattle.coordinator.proofs.coordinator.Coordinator.decline.Goals as goal
 
 pub returns-in-Err-clause-carries : goal.returns-in-Err-clause-carries

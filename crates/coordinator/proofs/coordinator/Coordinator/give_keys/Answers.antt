@@ -4,9 +4,9 @@ use Rattle.coordinator.specs.CoordinatorStates.{node_of}
 use Rattle.node_rules.specs.Hearing.{dropped}
 use Rattle.coordinator.proofs.Storing.{refusal, by_some}
 use Rattle.std.proofs.Common.{Ok, Err, sym, ◌∙◌}
-use Rattle.coordinator.specs.Answering.{noting}
+use Rattle.coordinator.specs.Packets.{noting}
 use Rattle.coordinator.proofs.Depoting.{runs}
-use Rattle.coordinator.proofs.AnsweringRules.{keys_lack, keys_stopped, keys_room_by, keys_given_by}
+use Rattle.coordinator.proofs.PacketRules.{keys_lack, keys_stopped, keys_room_by, keys_given_by}
 use Rattle.coordinator.proofs.coordinator.Coordinator.give_keys.Goals as goal
 
 pub returns-in-Err-clause-carries : goal.returns-in-Err-clause-carries

@@ -3,7 +3,7 @@ use Rattle.coordinator.specs.CoordinatorStates.{node_of}
 use Rattle.std.proofs.Common.{true, false}
 use Rattle.coordinator.proofs.Storing.{by_some}
 use Rattle.coordinator.proofs.Challenges.{session_runs}
-use Rattle.coordinator.proofs.AnsweringRules.{noted_by, entry_room}
+use Rattle.coordinator.proofs.PacketRules.{noted_by, entry_room}
 use Rattle.coordinator.proofs.coordinator.Coordinator.note_keys.Goals as goal
 
 pub keep_entry-requires-clause-running : goal.keep_entry-requires-clause-running

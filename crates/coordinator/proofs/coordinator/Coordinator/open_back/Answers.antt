@@ -5,7 +5,7 @@ use Rattle.node_rules.specs.Hearing.{dropped}
 use Rattle.coordinator.proofs.Storing.{refusal, by_some}
 use Rattle.std.proofs.Common.{Ok, Err, sym, ◌∙◌}
 use Rattle.coordinator.proofs.Challenges.{session_runs}
-use Rattle.coordinator.proofs.AskingRules.{challenge_lacks, opened_room_by, challenged_by}
+use Rattle.coordinator.proofs.RequestRules.{challenge_lacks, opened_room_by, challenged_by}
 use Rattle.coordinator.proofs.coordinator.Coordinator.open_back.Goals as goal
 
 pub returns-in-Err-clause-carries : goal.returns-in-Err-clause-carries

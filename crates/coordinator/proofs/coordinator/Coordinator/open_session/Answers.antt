@@ -3,7 +3,7 @@ use Rattle.coordinator.specs.CoordinatorStates.{node_of, identity_of}
 use Rattle.node_rules.specs.Hearing.{dropped}
 use Rattle.coordinator.proofs.Storing.{refusal, carried_by}
 use Rattle.node_rules.specs.declared.refusal.Dropped.TheVariants.{SessionsFull, NoRandom}
-use Rattle.coordinator.proofs.AskingRules.{full, no_random, opens}
+use Rattle.coordinator.proofs.RequestRules.{full, no_random, opens}
 use Rattle.coordinator.proofs.coordinator.Coordinator.open_session.Goals as goal
 
 pub returns-then-sessions_full-clause-carries : goal.returns-then-sessions_full-clause-carries

@@ -1,7 +1,7 @@
 use Rattle.coordinator.proofs.Storing.{on_parts, by_some}
 use Rattle.coordinator.proofs.Parts.{part_runs, part_says}
 use Rattle.coordinator.proofs.Challenges.{beside_holds}
-use Rattle.coordinator.proofs.AnsweringRules.{went_on}
+use Rattle.coordinator.proofs.PacketRules.{went_on}
 use Rattle.coordinator.proofs.coordinator.Coordinator.put_session.Goals as goal
 
 pub put-requires : goal.put-requires

@@ -5,9 +5,9 @@ use Rattle.std.specs.Prelude.{IfSome}
 use Rattle.plc_base.specs.declared.out_frame.Out.{Out}
 use Rattle.node_rules.specs.Ciphers.{network}
 use Rattle.node_rules.specs.Frames.{Down, spelled}
-use Rattle.coordinator.specs.Saying.{RoomToSay, saying}
+use Rattle.coordinator.specs.JoiningReplies.{RoomToSay, saying}
 use Rattle.coordinator.proofs.Storing.{carried_by}
-use Rattle.coordinator.proofs.SayingRules.{air_said, near_said}
+use Rattle.coordinator.proofs.ReplyRules.{air_said, near_said}
 use Rattle.coordinator.proofs.coordinator.Coordinator.say.Goals as goal
 
 pub returns-in-Air-clause-carries : goal.returns-in-Air-clause-carries

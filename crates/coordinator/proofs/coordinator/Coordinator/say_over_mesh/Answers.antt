@@ -1,7 +1,7 @@
 use Rattle.plc_station.proofs.Carrying.{if_some, at_some}
 use Rattle.coordinator.specs.CoordinatorStates.{node_of}
 use Rattle.std.proofs.Common.{refl}
-use Rattle.coordinator.proofs.SayingRules.{mesh_said, mesh_unsaid}
+use Rattle.coordinator.proofs.ReplyRules.{mesh_said, mesh_unsaid}
 use Rattle.coordinator.proofs.coordinator.Coordinator.say_over_mesh.Goals as goal
 
 pub returns-in_default-clause-carries : goal.returns-in_default-clause-carries

@@ -2,7 +2,7 @@ use Rattle.std.proofs.Common.{Some, sym, subst}
 use Rattle.std.specs.Prelude.{◌≡◌, IfSome, IfOk, IfErr}
 use Rattle.plc_station.proofs.Carrying.{if_some}
 use Rattle.coordinator.specs.CoordinatorStates.{node_of}
-use Rattle.coordinator.specs.Saying.{RoomToSay, say_fault}
+use Rattle.coordinator.specs.JoiningReplies.{RoomToSay, say_fault}
 use Rattle.coordinator.proofs.coordinator.Coordinator.say_room.Goals as goal
 
 pub returns-in-Air-clause-room : goal.returns-in-Air-clause-room

@@ -7,7 +7,7 @@ use Rattle.std.proofs.Common.{sym, ap, ◌∙◌}
 use Rattle.eap_psk.specs.Faults.{fourth_fault}
 use Rattle.node_rules.specs.declared.heard.CoordinatorHeard.{CoordinatorHeard}
 use Rattle.node_rules.specs.Drafts.{refused}
-use Rattle.coordinator.proofs.AnsweringRules.{fourth_refused, fourth_taken, agreed_is, agreed_tags}
+use Rattle.coordinator.proofs.PacketRules.{fourth_refused, fourth_taken, agreed_is, agreed_tags}
 use Rattle.coordinator.proofs.coordinator.Coordinator.take_fourth.Goals as goal
 
 pub returns-in-Err-clause-carries : goal.returns-in-Err-clause-carries

@@ -3,7 +3,7 @@ use Rattle.node_rules.specs.Memory.{CoordinatorSession}
 use Rattle.coordinator.specs.CoordinatorStates.{node_of, identity_of}
 use Rattle.std.proofs.Common.{sym}
 use Rattle.coordinator.proofs.Storing.{carried_by}
-use Rattle.coordinator.proofs.AnsweringRules.{second_awaited, fourth_awaited}
+use Rattle.coordinator.proofs.PacketRules.{second_awaited, fourth_awaited}
 use Rattle.coordinator.proofs.coordinator.Coordinator.take_packet.Goals as goal
 
 pub returns-in_default-clause-carries : goal.returns-in_default-clause-carries

@@ -12,7 +12,7 @@ use Rattle.group_keys.specs.KeyBook.{has_room}
 use Rattle.node_rules.specs.declared.heard.CoordinatorHeard.{CoordinatorHeard}
 use Rattle.node_rules.specs.Drafts.{refused}
 use Rattle.node_rules.specs.Coordinators.{sessions_full}
-use Rattle.coordinator.proofs.AnsweringRules.{second_refused, second_taken, keys_plan, third_some}
+use Rattle.coordinator.proofs.PacketRules.{second_refused, second_taken, keys_plan, third_some}
 use Rattle.coordinator.proofs.coordinator.Coordinator.take_second.Goals as goal
 
 pub returns-in-Err-clause-carries : goal.returns-in-Err-clause-carries

@@ -9,7 +9,7 @@ use Rattle.node_rules.specs.Carrying.{nothing}
 use Rattle.node_rules.specs.Ciphers.{network}
 use Rattle.node_rules.specs.Memory.{Node}
 use Rattle.node_rules.specs.NodeSteps.{NodeStep, acts, of_station}
-use Rattle.line_world.specs.Doings.{Did}
+use Rattle.line_world.specs.NodeOutcomes.{Did}
 use Rattle.line_events.specs.declared.event.StepFault.TheVariants as faults
 use Rattle.line_events.specs.declared.event.Answer.TheVariants as said
 use Rattle.line_rules.specs.Steps.{near, happened, set_up}

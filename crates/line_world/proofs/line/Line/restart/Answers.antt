@@ -12,7 +12,7 @@ use Rattle.line_events.specs.declared.event.StepFault.{StepFault}
 use Rattle.line_rules.specs.Further.{restarts_further}
 use Rattle.line_rules.specs.Steps.{acted, happened, ran, restarts}
 use Rattle.line_rules.specs.Worlds.{World, Trace}
-use Rattle.line_world.specs.Doings.{Did}
+use Rattle.line_world.specs.NodeOutcomes.{Did}
 use Rattle.line_world.specs.Lines.{world_of}
 use Rattle.line_world.specs.Steps.{Steps}
 use Rattle.line_world.proofs.Besides.{log_opened, restart_is, steps_beside}

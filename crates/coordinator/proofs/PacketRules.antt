@@ -42,13 +42,13 @@ use Rattle.node_rules.specs.Carrying.{Carries}
 use Rattle.plc_station.proofs.Carrying.{at_some}
 use Rattle.coordinator.specs.CoordinatorAgreement.{HoldsWith}
 use Rattle.coordinator.specs.CoordinatorStates.{memory_in, state_in}
-use Rattle.coordinator.specs.Doings.{Does}
+use Rattle.coordinator.specs.DraftsCarriedOut.{Does}
 use Rattle.coordinator.specs.Tables.{placed}
-use Rattle.coordinator.specs.Saying.{RoomToSay, say_fault, done_by, saying, said_after}
-use Rattle.coordinator.specs.Answering.{IsServed, noting, noted, keying, accepting}
+use Rattle.coordinator.specs.JoiningReplies.{RoomToSay, say_fault, done_by, saying, said_after}
+use Rattle.coordinator.specs.Packets.{IsServed, noting, noted, keying, accepting}
 use Rattle.coordinator.proofs.Storing.{carried_by}
 use Rattle.coordinator.proofs.Depoting.{no_grant}
-use Rattle.coordinator.proofs.SayingRules as sayings
+use Rattle.coordinator.proofs.ReplyRules as sayings
 
 -- # A session and an entry that are found
 

@@ -8,8 +8,8 @@ ghost use Rattle.node_rules.specs.Coordinators as rules;
 ghost use Rattle.node_rules.specs.Carrying.{Carries, nothing};
 ghost use Rattle.coordinator.specs.CoordinatorStates.{node_of, identity_of};
 ghost use Rattle.coordinator.specs.CoordinatorAgreement.{Holds};
-ghost use Rattle.coordinator.specs.Doings.{Does};
-ghost use Rattle.coordinator.specs.Answering as answering;
+ghost use Rattle.coordinator.specs.DraftsCarriedOut.{Does};
+ghost use Rattle.coordinator.specs.Packets as answering;
 
 use crate::coordinator::Coordinator;
 use crate::entries::issued;

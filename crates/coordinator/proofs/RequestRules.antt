@@ -27,9 +27,9 @@ use Rattle.node_rules.specs.Coordinators.{CoordinatorIdentity, with_session, ses
 use Rattle.node_rules.specs.States.{State}
 use Rattle.node_rules.specs.Carrying.{Carries}
 use Rattle.coordinator.specs.CoordinatorAgreement.{HoldsWith}
-use Rattle.coordinator.specs.Saying.{RoomToSay, say_fault, done_by, saying, said_after}
+use Rattle.coordinator.specs.JoiningReplies.{RoomToSay, say_fault, done_by, saying, said_after}
 use Rattle.coordinator.proofs.Storing.{carried_by}
-use Rattle.coordinator.proofs.SayingRules.{answered, said, lacks_plan, room_held}
+use Rattle.coordinator.proofs.ReplyRules.{answered, said, lacks_plan, room_held}
 
 -- # The plan, by what is tested
 

@@ -10,7 +10,7 @@ ghost use Rattle.node_rules.specs.Composing.{HasRoom};
 ghost use Rattle.coordinator.specs.CoordinatorStates.{node_of};
 ghost use Rattle.coordinator.specs.CoordinatorAgreement.{Holds};
 ghost use Rattle.coordinator.specs.MeshCommands as mesh_plans;
-ghost use Rattle.coordinator.specs.Saying as saying;
+ghost use Rattle.coordinator.specs.JoiningReplies as saying;
 ghost use Rattle.waiting_bodies.specs.declared.bodies.TheConstants.{LONGEST_COMMAND};
 
 use crate::coordinator::Coordinator;

@@ -14,7 +14,7 @@ use Rattle.node_rules.specs.Memory.{Memory, CoordinatorSession}
 use Rattle.node_rules.specs.Drafts.{Draft, empty_draft}
 use Rattle.node_rules.specs.Joining.{message}
 use Rattle.node_rules.specs.Coordinators.{Hearing, sessions_full, grant_for, with_session, without_session, with_book_entry}
-use Rattle.coordinator.specs.Saying.{done_by, said_after}
+use Rattle.coordinator.specs.JoiningReplies.{done_by, said_after}
 
 -- A meter whose session is open: its next state and its entry have a place, and there is a grant for it.
 pub record IsServed (m : Memory) (eui : Eui) : Type 0 where

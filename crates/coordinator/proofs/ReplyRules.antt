@@ -40,7 +40,7 @@ use Rattle.plc_station.specs.Rooms.{room_answer}
 use Rattle.plc_station.proofs.Carrying.{at_some}
 use Rattle.coordinator.specs.CoordinatorAgreement.{HoldsWith}
 use Rattle.coordinator.specs.MeshCommands.{sent_command}
-use Rattle.coordinator.specs.Saying.{RoomToSay, say_fault, done_by, saying, said_after}
+use Rattle.coordinator.specs.JoiningReplies.{RoomToSay, say_fault, done_by, saying, said_after}
 use Rattle.coordinator.proofs.Reaching.{at_home, is_some_of}
 use Rattle.coordinator.proofs.Storing.{carried_by}
 
