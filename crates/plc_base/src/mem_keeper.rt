@@ -11,10 +11,10 @@ use std::marker::Model;
 /// A keeper over memory that is reserved once. The loss of power that is to come is known.
 ///
 /// A contract sees its records as a finite map from slot to octets. A get takes the same time at each slot, and so does a put, but for the cells
-/// below its slot, which are made once.
+/// before that of its slot, which are made once.
 #[derive(Drop)]
 pub struct MemKeeper {
-    // Up to the highest slot that was written: all were reserved, and memory that is not used yet costs nothing.
+    // Up to the last place that was written: all were reserved, and memory that is not used yet costs nothing.
     cells: Vec<Option<Record>>,
     faults: u64,
     cut: Option<Cut>,
@@ -37,7 +37,7 @@ impl Model for MemKeeper {
 /// How many slots there are.
 const SLOTS: usize = 1165;
 
-// The place of a slot among all slots.
+// The place of a slot among all slots. A node has a mark and a rank for each neighbour: the two stand side by side, so that few cells are made.
 fn place_of(slot: u32) -> usize
     requires { IsSlot slot }
     ensures value { result ≡ place_of slot }
@@ -45,8 +45,8 @@ fn place_of(slot: u32) -> usize
 {
     let place = match slot {
         0..=0x00FF => slot - 1,
-        0x0100..=0x01FF => slot - 0x0100 + 6,
-        0x0200..=0x02FF => slot - 0x0200 + 70,
+        0x0100..=0x01FF => 2 * (slot - 0x0100) + 6,
+        0x0200..=0x02FF => 2 * (slot - 0x0200) + 7,
         0x0300..=0x0FFF => slot - 0x0300 + 134,
         _ => slot - 0x1000 + 166,
     };
