@@ -33,7 +33,7 @@ has_blocks p pool =
     let chains : chain_blocks (state_of p) (length p.table.items) ≡ sum_by blocks_in p.table.items
     = sum_range (λ c. div_ceil (length (chain_octets (state_of p) c)) 64) p.table.items 0 (λ k lt. let e : 0 + k ≡ k = omega arith in ap (λ c. div_ceil (length (chain_octets (state_of p) c)) 64) e ∙ ap (λ n. div_ceil n 64) (octets_long p k)) in
     record {
-      total = ap (λ n. p.free + n) chains ∙ pool.total;
+      total = ap (λ n. p.free.linked + p.free.fresh + n) chains ∙ pool.total;
       numbers = λ c is. (found p (state_of p) c c refl refl is).within;
     }
 

@@ -1,18 +1,16 @@
 -- What a write to one block does to the region. Only this file, `specs/Region.antt` and the answers of `Blocks` know what a place is.
-use Rattle.std.proofs.Common.{◌≡◌, ℕ, zero, suc, ◌+◌, ◌<◌, ◌≤◌, ◌⊎◌, inl, inr, true, false, List, length, replicate, get_or, set, get_or-set_same, get_or-set_other, refl, sym, ap, subst, ◌∙◌, arith}
+use Rattle.std.proofs.Common.{◌≡◌, ℕ, ◌+◌, ◌<◌, ◌≤◌, ◌⊎◌, inl, inr, Bool, true, false, List, length, replicate, get_or, set, nat_eq, get_or-set_same, get_or-set_other, refl, sym, ap, subst, ◌∙◌, arith}
 use denote.RawPtr.{Ptr, block_of, count_of}
 use Rattle.core.specs.Mem.Slots.Ownership.{bytes_of}
 use Rattle.core.proofs.slice.Lists.{any-default}
 use Rattle.std.proofs.lemmas.Bool.{cases_eq}
 use Rattle.std.proofs.lemmas.List.{get_or-replicate}
 use Rattle.block_pool.specs.Cells.{IsSome, place_of, index_of, LiesIn, with_item}
-use Rattle.block_pool.specs.Hops.{hop}
-use Rattle.block_pool.specs.Region.{Spot, no_block, block_in, IsSpot, next_of, octet_of, IsStrung, IsWhole, SameLinks, Links, WritesPart, Clears}
+use Rattle.block_pool.specs.Region.{Spot, no_block, block_in, IsSpot, next_of, octet_of, IsFresh, IsBare, Adds, SameLinks, Links, WritesPart, Clears}
 use Rattle.block_pool.specs.declared.cells.Cells.{Cells}
 use Rattle.block_pool.specs.declared.region.Block.{Block}
 use Rattle.block_pool.specs.declared.region.Blocks.{Blocks}
 use Rattle.block_pool.specs.contracts.region.Block.{the_row as block_row}
-use Rattle.block_pool.proofs.Hops.{hop-zero, hop-suc}
 
 -- the index of the block at x
 abbrev pub index_in : Cells Block → Spot → ℕ
@@ -72,8 +70,16 @@ module _ (old new : Blocks) (x : Spot) (b : Block) (is : IsSpot old x) (e : new.
     | inr ne ↦ inr (λ same. ne (ap (index_in old.cells) same))
   ]
 
+  -- the places that were never used stay so
+  fresh_kept : (n : ℕ) → IsFresh old n → IsFresh new n
+  unfolding IsFresh
+  fresh_kept n f =
+      let base = ap (λ c. c.base) e in let count = ap (λ c. c.count) e in
+      (omega (arith, f.0, count), λ y isy. let le = f.1 y (kept_back y isy) in omega (arith, le, ap (λ p. index_of block_row p y) base))
+
   pub same_links_by : b.next ≡ next_of old x → SameLinks old new
   same_links_by same = record {
+    fresh = fresh_kept;
     spots = kept;
     back = kept_back;
     next = λ y isy. elim (either y isy) as (λ _. next_of new y ≡ next_of old y) [
@@ -84,6 +90,7 @@ module _ (old new : Blocks) (x : Spot) (b : Block) (is : IsSpot old x) (e : new.
 
   pub links_by : ((j : ℕ) → get_or b.octets j 0 ≡ octet_of old x j) → Links old new x b.next
   links_by same = record {
+    fresh = fresh_kept;
     spots = kept;
     back = kept_back;
     here = next_here;
@@ -112,37 +119,15 @@ module _ (old new : Blocks) (x : Spot) (b : Block) (is : IsSpot old x) (e : new.
     ];
   }
 
--- `new` fills the places from the last one down, each with the place of the one after it
-pub record Fills (c : Cells Block) (next : Spot) (n index : ℕ) : Type 0 where
-  pub long : c.count ≡ n
-  pub room : index ≤ n
-  pub full : (k : ℕ) → index ≤ k → k < n → get_or c.filled k false ≡ true
-  pub leads : (k : ℕ) → index ≤ k → k + 1 < n → (get_or c.items k no_block).next ≡ place_of block_row c.base (k + 1)
-  pub here : index < n → (next ≡ place_of block_row c.base index) × IsSome c.base
-
-pub filled_none : (c : Cells Block) (next : Spot) (n : ℕ) → c.count ≡ n → Fills c next n n
-filled_none c next n long = record { long = long; room = omega arith; full = λ k le lt. absurd (omega arith); leads = λ k le lt. absurd (omega arith); here = λ lt. absurd (omega arith) }
-
-pub filled_more : (c c' : Cells Block) (next next' : Spot) (n index i : ℕ) (b : Block) → Fills c next n index → suc i ≡ index → c'.items ≡ set c.items i b → c'.filled ≡ set c.filled i true
-    → (c'.base ≡ c.base) × (c'.count ≡ c.count) → b.next ≡ next → (next' ≡ place_of block_row c'.base i) × IsSome c'.base → Fills c' next' n i
-filled_more c c' next next' n index i b f e items filled same to here =
-    let within : i < length c.items = omega (arith, f.long, f.room, c.ok.0) in
-    let within' : i < length c.filled = omega (arith, f.long, f.room, c.ok.1) in
-    record {
-      long = same.1 ∙ f.long;
-      room = omega (arith, f.room);
-      full = λ k le lt. elim (cases_eq k i) as (λ _. get_or c'.filled k false ≡ true) [
-        | inl is ↦ ap (λ fs. get_or fs k false) filled ∙ ap (λ j. get_or (set c.filled i true) j false) is ∙ get_or-set_same c.filled i true false within'
-        | inr ne ↦ ap (λ fs. get_or fs k false) filled ∙ get_or-set_other c.filled i k true false ne ∙ f.full k (omega arith) lt
-      ];
-      leads = λ k le lt. elim (cases_eq k i) as (λ _. (get_or c'.items k no_block).next ≡ place_of block_row c'.base (k + 1)) [
-        | inl is ↦
-            ap (λ bs. (get_or bs k no_block).next) items ∙ ap (λ j. (get_or (set c.items i b) j no_block).next) is ∙ ap (λ x. x.next) (get_or-set_same c.items i b no_block within)
-            ∙ to ∙ (f.here (omega arith)).0 ∙ ap (λ p. place_of block_row p index) (sym same.0) ∙ ap (place_of block_row c'.base) (omega arith)
-        | inr ne ↦ ap (λ bs. (get_or bs k no_block).next) items ∙ ap (λ x. x.next) (get_or-set_other c.items i k b no_block ne) ∙ f.leads k (omega arith) lt ∙ ap (λ p. place_of block_row p (k + 1)) (sym same.0)
-      ];
-      here = λ _. here;
-    }
+-- no block lies where nothing was filled
+pub bare : (r : Blocks) (n : ℕ) (b : Block) → (r.cells.count ≡ n) × (r.cells.filled ≡ replicate n false) → IsBare r n
+unfolding IsSpot IsFresh
+bare r n b e =
+    let none : (x : Spot) → LiesIn block_row r.cells x → ⊥ = λ x is.
+    let k : ℕ = index_in r.cells x in
+    let no : get_or r.cells.filled k false ≡ false = ap (λ fs. get_or fs k false) e.1 ∙ get_or-replicate n k false false (omega (arith, e.0, is.1)) in
+    cc (sym no ∙ is.2) in
+    record { fresh = (omega (arith, e.0), λ x is. absurd (none x is)); none = none }
 
 index_is : (p : Ptr) (i : ℕ) → IsSome p → index_of block_row p (place_of block_row p i) ≡ i
 index_is p i e =
@@ -152,33 +137,98 @@ index_is p i e =
 place_is_some : (p : Ptr) (i : ℕ) → IsSome p → IsSome (place_of block_row p i)
 place_is_some p i e = subst (λ q. IsSome (place_of block_row q i)) (sym e) refl
 
-reaches : (r : Blocks) (next : Spot) (n : ℕ) → Fills r.cells next n 0 → (i : ℕ) → i < n → hop (next_of r) next i ≡ place_of block_row r.cells.base i
-unfolding next_of
-reaches r next n f zero lt = hop-zero (next_of r) next ∙ (f.here lt).0
-reaches r next n f (suc i) lt =
-    hop-suc (next_of r) next (suc i) i refl ∙ ap (next_of r) (reaches r next n f i (omega arith))
-    ∙ ap (λ k. (get_or r.cells.items k no_block).next) (index_is r.cells.base i (f.here (omega arith)).1) ∙ f.leads i (omega arith) (omega arith) ∙ ap (place_of block_row r.cells.base) (omega arith)
+same_number : (k : ℕ) → nat_eq k k ≡ true
+same_number k = grind arith
 
-pub strung_filled : (r : Blocks) (next : Spot) (n : ℕ) → Fills r.cells next n 0 → IsStrung r next n
-unfolding IsSpot
-strung_filled r next n f =
-    let base : Ptr = r.cells.base in (
-      index_of block_row base,
-      λ i lt.
-          let some = (f.here (omega arith)).1 in
-          let index : index_of block_row base (place_of block_row base i) ≡ i = index_is base i some in
-          let there : hop (next_of r) next i ≡ place_of block_row base i = reaches r next n f i lt in
-          let lies : LiesIn block_row r.cells (place_of block_row base i)
-          = (sym (ap (place_of block_row base) index), subst (λ k. k < r.cells.count) (sym index) (omega (arith, f.long)), ap (λ k. get_or r.cells.filled k false) index ∙ f.full i (omega arith) lt, place_is_some base i some) in
-          (subst (LiesIn block_row r.cells) (sym there) lies, ap (index_of block_row base) there ∙ index),
+no_number : (k i : ℕ) → i + 1 ≤ k → nat_eq k i ≡ false
+no_number k i lt = grind arith
+
+-- the last place that was never used is one of the region, and holds a block once it was written
+pub within : (r : Blocks) (i : ℕ) → IsFresh r (i + 1) → i < r.cells.count
+unfolding IsFresh
+within r i f = omega (arith, f.0)
+
+pub filled_at : (c : Cells Block) (fs : List Bool) (i n : ℕ) → i < c.count → fs ≡ set c.filled i true → n ≡ c.count → (i < n) × (get_or fs i false ≡ true)
+filled_at c fs i n lt e count = (omega (arith, lt, count), ap (λ l. get_or l i false) e ∙ get_or-set_same c.filled i true false (omega (arith, lt, c.ok.1)))
+
+-- what a write to the last place that was never used adds
+module _ (old new : Blocks) (x at : Spot) (i : ℕ) (b : Block) (f : IsFresh old (i + 1)) (items : new.cells.items ≡ set old.cells.items i b) (filled : new.cells.filled ≡ set old.cells.filled i true)
+    (same : (new.cells.base ≡ old.cells.base) × (new.cells.count ≡ old.cells.count)) (to : b.next ≡ x) (lies : (at ≡ place_of block_row new.cells.base i) × IsSome new.cells.base) where
+  index_same : (y : Spot) → index_in new.cells y ≡ index_in old.cells y
+  index_same y = ap (λ p. index_of block_row p y) same.0
+
+  index_at : index_in new.cells at ≡ i
+  index_at = ap (index_of block_row new.cells.base) lies.0 ∙ index_is new.cells.base i lies.1
+
+  room : i < old.cells.count
+  unfolding IsFresh
+  room = omega (arith, f.0)
+
+  apart_from : (y : Spot) → IsSpot old y → i + 1 ≤ index_in old.cells y
+  unfolding IsFresh
+  apart_from y is = f.1 y is
+
+  not_same : (y : Spot) → IsSpot old y → index_in old.cells y ≡ i → ⊥
+  not_same y is e = let le = apart_from y is in omega (arith, e, le)
+
+  more : (y : Spot) → IsSpot old y → IsSpot new y
+  unfolding IsSpot
+  more y is = (
+    is.0 ∙ ap (λ p. place_of block_row p (index_of block_row p y)) (sym same.0),
+    omega (arith, is.1, index_same y, same.1),
+    ap (λ fs. get_or fs (index_in new.cells y) false) filled ∙ ap (λ k. get_or (set old.cells.filled i true) k false) (index_same y) ∙ get_or-set_other old.cells.filled i (index_in old.cells y) true false (not_same y is) ∙ is.2,
+    is.3,
+  )
+
+  less : (y : Spot) → IsSpot new y → IsSpot old y ⊎ (y ≡ at)
+  unfolding IsSpot
+  less y is = elim (cases_eq (index_in old.cells y) i) as (λ _. LiesIn block_row old.cells y ⊎ (y ≡ at)) [
+    | inl e ↦ inr (is.0 ∙ ap (place_of block_row new.cells.base) (index_same y ∙ e) ∙ sym lies.0)
+    | inr ne ↦ inl (
+      is.0 ∙ ap (λ p. place_of block_row p (index_of block_row p y)) same.0,
+      omega (arith, is.1, index_same y, same.1),
+      sym (ap (λ fs. get_or fs (index_in new.cells y) false) filled ∙ ap (λ k. get_or (set old.cells.filled i true) k false) (index_same y) ∙ get_or-set_other old.cells.filled i (index_in old.cells y) true false ne) ∙ is.2,
+      is.3,
     )
+  ]
 
-pub whole_filled : (r : Blocks) (next : Spot) (n : ℕ) → Fills r.cells next n 0 → IsWhole r next n
-unfolding IsSpot
-whole_filled r next n f = (
-  strung_filled r next n f,
-  λ y isy.
-      let i : ℕ = index_in r.cells y in
-      let lt : i < n = omega (arith, f.long, isy.1) in
-      (i, lt, isy.0 ∙ sym (reaches r next n f i lt)),
-)
+  there_now : IsSpot new at
+  unfolding IsSpot
+  there_now = (
+    lies.0 ∙ ap (place_of block_row new.cells.base) (sym index_at),
+    omega (arith, index_at, room, same.1),
+    ap (λ fs. get_or fs (index_in new.cells at) false) filled ∙ ap (λ k. get_or (set old.cells.filled i true) k false) index_at ∙ get_or-set_same old.cells.filled i true false (omega (arith, room, old.cells.ok.1)),
+    subst IsSome (sym lies.0) (place_is_some new.cells.base i lies.1),
+  )
+
+  block_at : block_in new.cells at ≡ b
+  block_at = ap (λ bs. get_or bs (index_in new.cells at) no_block) items ∙ ap (λ k. get_or (set old.cells.items i b) k no_block) index_at ∙ get_or-set_same old.cells.items i b no_block (omega (arith, room, old.cells.ok.0))
+
+  block_kept : (y : Spot) → IsSpot old y → block_in new.cells y ≡ block_in old.cells y
+  block_kept y is =
+      ap (λ bs. get_or bs (index_in new.cells y) no_block) items ∙ ap (λ k. get_or (set old.cells.items i b) k no_block) (index_same y) ∙ get_or-set_other old.cells.items i (index_in old.cells y) b no_block (not_same y is)
+
+  fresh_left : IsFresh new i
+  unfolding IsFresh
+  fresh_left = (
+    omega (arith, room, same.1),
+    λ y is. elim (less y is) as (λ _. i ≤ index_in new.cells y) [
+      | inl was ↦ let le = apart_from y was in omega (arith, le, index_same y)
+      | inr e ↦ omega (arith, ap (index_in new.cells) e, index_at)
+    ],
+  )
+
+  pub adds_by : Adds old new i x at
+  unfolding next_of octet_of
+  adds_by = record {
+    spots = more;
+    back = less;
+    there = there_now;
+    is_it = λ y. nat_eq (index_in new.cells y) i;
+    it = ap (λ k. nat_eq k i) index_at ∙ same_number i;
+    not_it = λ y is. ap (λ k. nat_eq k i) (index_same y) ∙ no_number (index_in old.cells y) i (apart_from y is);
+    here = ap (λ k. k.next) block_at ∙ to;
+    next = λ y is. ap (λ k. k.next) (block_kept y is);
+    octets = λ y j is. ap (λ k. get_or k.octets j 0) (block_kept y is);
+    fresh = fresh_left;
+  }

@@ -6,6 +6,7 @@ ghost use Rattle.block_pool.specs.Pool.{IsChain, HasBlocks, HasChain, OthersStay
 
 use crate::blocks::BLOCK;
 use crate::cells::Place;
+use crate::free_blocks::{FreeBlocks, link_fresh};
 use crate::numbers::{slot_of, unused_number};
 use crate::region::{Block, Blocks};
 use std::alloc::{AllocError, Global};
@@ -46,8 +47,7 @@ pub struct Slot {
 pub struct Pool {
     blocks: Blocks,
     table: Vec<Slot>,
-    first_free: Place<Block>,
-    free: u16,
+    free: FreeBlocks,
 }
 
 impl Model for Pool {
@@ -71,17 +71,20 @@ impl Pool {
         ensures empty { IfOk result (λ p. (p.free ≡ blocks) × (p.chains ≡ map.empty)) }
         ensures blocks { IfOk result (λ p. HasBlocks p blocks) }
     {
-        let (region, first_free) = Blocks::new(alloc, blocks)?;
+        let region = Blocks::new(alloc, blocks)?;
         let unused = Slot {
-            first: first_free,
+            first: Place::none(),
             octets: 0,
         };
         let table = Vec::from_elem(alloc, unused, blocks as usize)?;
         Ok(Pool {
             blocks: region,
             table,
-            first_free,
-            free: blocks,
+            free: FreeBlocks {
+                first: Place::none(),
+                linked: 0,
+                fresh: blocks,
+            },
         })
     }
 
@@ -89,7 +92,7 @@ impl Pool {
     pub fn free_blocks(&self) -> u16
         ensures { result ≡ self.now.free }
     {
-        self.free
+        self.free.linked + self.free.fresh
     }
 
     /// How many blocks there are: the free ones, and those that the lengths of the chains take, together.
@@ -114,13 +117,18 @@ impl Pool {
         ensures blocks { SameBlocks self.old self.new }
     {
         let needed = octets.div_ceil(BLOCK);
-        if self.free < needed {
+        if self.free.linked + self.free.fresh < needed {
             return Err(PoolFull);
         }
         let number = unused_number(&self.table);
-        let first = self.first_free;
-        self.first_free = self.blocks.clear_run(first, needed);
-        self.free -= needed;
+        let free = link_fresh(&mut self.blocks, self.free, needed);
+        let first = free.first;
+        let next = self.blocks.clear_run(first, needed);
+        self.free = FreeBlocks {
+            first: next,
+            linked: free.linked - needed,
+            fresh: free.fresh,
+        };
         self.table[number as usize] = Slot { first, octets };
         Ok(Chain { number })
     }
@@ -163,9 +171,12 @@ impl Pool {
         let slot = slot_of(&self.table, number);
         let freed = slot.octets.div_ceil(BLOCK);
         let last = self.blocks.walk(slot.first, freed - 1);
-        self.blocks.link(last, self.first_free);
-        self.first_free = slot.first;
-        self.free += freed;
+        self.blocks.link(last, self.free.first);
+        self.free = FreeBlocks {
+            first: slot.first,
+            linked: self.free.linked + freed,
+            fresh: self.free.fresh,
+        };
         self.table[number as usize] = Slot {
             first: slot.first,
             octets: 0,
