@@ -35,19 +35,19 @@
 //! and the session has ended (`Done`), with the random values that both ends hold. A meter that is not allowed is `Declined`.
 #![tactic(auto)]
 
-mod packets;
-mod joining_requests;
 mod challenging;
 mod coordinator;
 mod enrolling;
 mod entries;
 mod hearing;
+mod joining_replies;
+mod joining_requests;
 mod keys;
 mod kicking;
+mod mesh_commands;
 mod opening;
 mod orders;
-mod joining_replies;
+mod packets;
 mod sessions;
-mod mesh_commands;
 
 pub use coordinator::Coordinator;

@@ -16,5 +16,5 @@ mod window;
 pub use input::{LineKind, MAX_INPUT};
 pub use laws::lines_of_a_script;
 pub use machine::{Exit, LineMachine, run};
-pub use text_output::{StopReason, stop, write_text, write_made};
+pub use text_output::{StopReason, stop, write_made, write_text};
 pub use window::{MAX_LINE, WINDOW};

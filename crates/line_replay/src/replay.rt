@@ -8,7 +8,7 @@ ghost use Rattle.line_replay.specs.Texts.{sent_text};
 ghost use Rattle.line_replay.specs.Replay.{Playing, is_forged, event_taking, turn_by, turn_of, end_of, stops_at_too_much};
 
 use crate::report::{push_sent, refuse, totals};
-use line_driver::{LineKind, LineMachine, StopReason, write_text, write_made};
+use line_driver::{LineKind, LineMachine, StopReason, write_made, write_text};
 use line_events::{Event, Happenings, MAX_EVENTS, StepFault};
 use line_script::{LINE_OCTETS, Reading, Reason, end_text, push_happened, read_line};
 use line_world::{Space, World};

@@ -16,6 +16,7 @@ mod hearing;
 mod joining;
 mod line_coordinator;
 mod meters;
+mod node_receptions;
 mod ordering;
 mod reception;
 mod setting;
@@ -24,7 +25,6 @@ mod station_calls;
 mod station_further;
 mod station_steps;
 mod tables;
-mod node_receptions;
 mod time;
 
 use crate::nodes::line_coordinator::LineCoordinator;

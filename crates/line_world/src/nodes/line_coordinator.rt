@@ -17,12 +17,12 @@ ghost use Rattle.node_rules.specs.Replies.{reply_among};
 ghost use Rattle.node_rules.specs.Showing.{shown_of};
 ghost use Rattle.reach_rules.specs.CheckedReplies.{message_of};
 
+use crate::nodes::node_receptions::reception_of_coordinator;
 use crate::nodes::reception::Reception;
 use crate::nodes::station_further::reply_of;
 use crate::nodes::station_steps::{
     break_at, has_rank, is_full, offer_near, restart_word, set_counter, set_number,
 };
-use crate::nodes::node_receptions::reception_of_coordinator;
 use coordinator::Coordinator;
 use line_events::Answer;
 use node_rules::{

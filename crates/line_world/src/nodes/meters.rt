@@ -20,12 +20,12 @@ ghost use Rattle.line_world.specs.NodeOutcomes.{Did};
 ghost use Rattle.line_world.specs.Nodes.{has_eui};
 ghost use Rattle.line_world.specs.Receiving.{MayHear, Received};
 
+use crate::nodes::node_receptions::reception_of_meter;
 use crate::nodes::reception::Reception;
 use crate::nodes::station_further::reply_of;
 use crate::nodes::station_steps::{
     break_at, has_rank, is_full, offer_near, restart_word, set_counter, set_number,
 };
-use crate::nodes::node_receptions::reception_of_meter;
 use group_keys::RingFault;
 use line_events::Answer;
 use meter_node::Meter;

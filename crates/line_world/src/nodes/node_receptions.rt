@@ -128,7 +128,9 @@ fn coordinator_words<'a>(heard: &CoordinatorHeard<'a>) -> Reception<'a>
 }
 
 // What the coordinator made of a frame.
-pub(crate) fn reception_of_coordinator<'a>(heard: &Result<CoordinatorHeard<'a>, Dropped>) -> Reception<'a>
+pub(crate) fn reception_of_coordinator<'a>(
+    heard: &Result<CoordinatorHeard<'a>, Dropped>,
+) -> Reception<'a>
     ensures { ReportsReception result (rules.coordinator_reception heard.now) }
 {
     match heard {

@@ -18,7 +18,7 @@ ghost use Rattle.line_world.specs.Reaching.{Reaches, ReachesCommand, ReachesFirs
 
 use crate::beside::Beside;
 use crate::nodes::command::{CommandRef, Commanded};
-use crate::nodes::station_further::{dropped_word, only, sent_on, send_local};
+use crate::nodes::station_further::{dropped_word, only, send_local, sent_on};
 use broadcast_log::{BroadcastLog, LogFault, read_broadcast};
 use line_events::{Answer, BroadcastUp};
 use node_rules::{Dropped, LocalRefusal};

@@ -22,8 +22,8 @@ ghost use Rattle.plc_base.specs.declared.limits.TheConstants.{MOST_FRAMES};
 
 use crate::beside::Beside;
 use crate::nodes::command::{CommandRef, Commanded};
-use crate::nodes::station_broadcasts::broadcast_command;
 use crate::nodes::node_receptions::drop_word;
+use crate::nodes::station_broadcasts::broadcast_command;
 use broadcast_log::BroadcastLog;
 use line_events::{Answer, PathLine};
 use neighbour_checks::{Checks, read_ack, write_ack};
