@@ -1,8 +1,10 @@
 -- The blocks under a tag of CCM.
-use Rattle.std.proofs.Common.{◌≡◌, ℕ, zero, suc, ◌+◌, ◌-◌, ◌%◌, ◌<◌, ◌≤◌, eqb, List, [], ◌∷◌, ◌++◌, length, take, drop, replicate, refl, sym, ap, ◌∙◌, ◌⊎◌, inl, inr, arith}
+use Rattle.std.proofs.Common.{◌≡◌, ℕ, zero, suc, ◌+◌, ◌-◌, ◌%◌, ◌<◌, ◌≤◌, eqb, List, [], ◌∷◌, ◌++◌, length, take, drop, replicate, refl, sym, ap, ◌∙◌, ◌⊎◌, inl}
+use Rattle.std.proofs.Common.{inr, arith}
 use Rattle.std.specs.Int.{w16, to_be_bytes}
 use Rattle.std.proofs.lemmas.Bool.{cond-true, cond-false, eq-eqb, ne_eqb, cases_eq}
-use Rattle.std.proofs.lemmas.List.{append-nil, append_assoc, take_all, drop_all, length-append, length-drop, length-replicate, length-take-le, take-append-drop, drop-replicate}
+use Rattle.std.proofs.lemmas.List.{append-nil, append_assoc, take_all, drop_all, length-append, length-drop, length-replicate, length-take-le, take-append-drop}
+use Rattle.std.proofs.lemmas.List.{drop-replicate}
 use Rattle.aes_modes.specs.Cipher.{xor_bytes, encrypted}
 use Rattle.aes_modes.specs.Chains.{zero_block, padded, chained_all}
 use Rattle.aes_modes.specs.Ccm.{ccm_first_block, ccm_header_blocks, ccm_mac}

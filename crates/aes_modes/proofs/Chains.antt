@@ -1,8 +1,10 @@
 -- How chains of blocks grow.
-use Rattle.std.proofs.Common.{◌≡◌, ℕ, zero, suc, ◌+◌, ◌-◌, ◌*◌, ◌/◌, ◌%◌, ◌<◌, ◌≤◌, ◌≢◌, List, [], ◌∷◌, ◌++◌, length, take, drop, set, replicate, eqb, refl, sym, ap, ◌∙◌, arith, add-one}
+use Rattle.std.proofs.Common.{◌≡◌, ℕ, zero, suc, ◌+◌, ◌-◌, ◌*◌, ◌/◌, ◌%◌, ◌<◌, ◌≤◌, ◌≢◌, List, [], ◌∷◌, ◌++◌, length, take, drop, set, replicate, eqb, refl}
+use Rattle.std.proofs.Common.{sym, ap, ◌∙◌, arith, add-one}
 use Rattle.std.specs.Int.{w128, to_be_bytes}
 use Rattle.std.proofs.lemmas.Bool.{cond-true, cond-false, eq-eqb, ne_eqb}
-use Rattle.std.proofs.lemmas.List.{append-nil, take-append-le, drop-append-le, take_all, drop_at, drop-drop, length-append, length-drop, length-replicate, set_at}
+use Rattle.std.proofs.lemmas.List.{append-nil, take-append-le, drop-append-le, take_all, drop_at, drop-drop, length-append, length-drop, length-replicate}
+use Rattle.std.proofs.lemmas.List.{set_at}
 use Rattle.aes_modes.specs.Cipher.{xor_bytes, encrypted, round_key, next_round_key, last_round}
 use Rattle.aes_modes.specs.Chains.{chained, zero_block, padded, chained_all}
 use Rattle.aes_modes.specs.Cmac.{last_block, first_subkey, doubled, cmac, blocks_before}

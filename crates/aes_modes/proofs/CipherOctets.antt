@@ -32,14 +32,16 @@ xor_octets (x ∷ xs) (y ∷ ys) low high =
     (xor_octets xs ys (All-tail IsOctet x xs low) (All-tail IsOctet y ys high))
 
 four : (a b c d : ℕ) → a < 256 → b < 256 → c < 256 → d < 256 → AreOctets (a ∷ b ∷ c ∷ d ∷ [])
-four a b c d x y z w = All-cons IsOctet a (b ∷ c ∷ d ∷ []) x (All-cons IsOctet b (c ∷ d ∷ []) y (All-cons IsOctet c (d ∷ []) z (All-cons IsOctet d [] w (All-nil IsOctet))))
+four a b c d x y z w =
+    All-cons IsOctet a (b ∷ c ∷ d ∷ []) x (All-cons IsOctet b (c ∷ d ∷ []) y (All-cons IsOctet c (d ∷ []) z (All-cons IsOctet d [] w (All-nil IsOctet))))
 
 -- # The S-box
 
 one_bit : (b i : ℕ) → affine_bit b i < 2
 one_bit b i = omega arith
 
-eight_bits : (a b c d e f g h : ℕ) → a < 2 → b < 2 → c < 2 → d < 2 → e < 2 → f < 2 → g < 2 → h < 2 → 0 + a * 1 + b * 2 + c * 4 + d * 8 + e * 16 + f * 32 + g * 64 + h * 128 < 256
+eight_bits : (a b c d e f g h : ℕ) → a < 2 → b < 2 → c < 2 → d < 2 → e < 2 → f < 2 → g < 2 → h < 2
+    → 0 + a * 1 + b * 2 + c * 4 + d * 8 + e * 16 + f * 32 + g * 64 + h * 128 < 256
 eight_bits a b c d e f g h la lb lc ld le lf lg lh = omega arith
 
 affine_octet : (b : ℕ) → affine_bits 8 b < 256
@@ -55,19 +57,22 @@ boxes_octets : (s : List ℕ) → AreOctets (sub_bytes s)
 boxes_octets s = All-map IsOctet s_box s (λ i d lt. box_octet (get_or s i d))
 
 rows_octets : (s : List ℕ) → AreOctets s → AreOctets (shift_rows s)
-rows_octets s all = All-map IsOctet (λ k. slice_index s ((k + 4 * (k % 4)) % 16)) (range_with_len 0 16) (λ i d lt. below s all ((get_or (range_with_len 0 16) i d + 4 * (get_or (range_with_len 0 16) i d % 4)) % 16))
+rows_octets s all = All-map IsOctet (λ k. slice_index s ((k + 4 * (k % 4)) % 16)) (range_with_len 0 16)
+    (λ i d lt. below s all ((get_or (range_with_len 0 16) i d + 4 * (get_or (range_with_len 0 16) i d % 4)) % 16))
 
 -- # Round keys
 
 word_octets : (k : List ℕ) (i : ℕ) → AreOctets k → AreOctets (word k i)
-word_octets k i all = four (slice_index k i) (slice_index k (i + 1)) (slice_index k (i + 2)) (slice_index k (i + 3)) (below k all i) (below k all (i + 1)) (below k all (i + 2)) (below k all (i + 3))
+word_octets k i all = four (slice_index k i) (slice_index k (i + 1)) (slice_index k (i + 2)) (slice_index k (i + 3)) (below k all i) (below k all (i + 1))
+    (below k all (i + 2)) (below k all (i + 3))
 
 next_octets : (c : ℕ) (k : List ℕ) → c < 256 → AreOctets k → AreOctets (next_round_key c k)
 unfolding next_round_key
 next_octets c k low all =
     let temp : List ℕ = bit_xor (s_box (slice_index k 13)) c ∷ s_box (slice_index k 14) ∷ s_box (slice_index k 15) ∷ s_box (slice_index k 12) ∷ [] in
     let t : AreOctets temp = four (bit_xor (s_box (slice_index k 13)) c) (s_box (slice_index k 14)) (s_box (slice_index k 15)) (s_box (slice_index k 12))
-    (octet_xor (s_box (slice_index k 13)) c (box_octet (slice_index k 13)) low) (box_octet (slice_index k 14)) (box_octet (slice_index k 15)) (box_octet (slice_index k 12)) in
+    (octet_xor (s_box (slice_index k 13)) c (box_octet (slice_index k 13)) low) (box_octet (slice_index k 14)) (box_octet (slice_index k 15))
+    (box_octet (slice_index k 12)) in
     let a : List ℕ = xor_bytes (word k 0) temp in
     let b : List ℕ = xor_bytes (word k 4) a in
     let d : List ℕ = xor_bytes (word k 8) b in
@@ -119,7 +124,8 @@ masked_octets f m blocks all = xor_octets m (stream_blocks f (length m / 16 + 1)
 
 pub ccm_octets : CcmTextsAreOctets
 unfolding ccm_text
-ccm_octets key nonce m fits all = masked_octets (λ i. ccm_stream_block key nonce (i + 1)) m (λ i. encrypted_octets key (ccm_counter_block nonce (i + 1)) fits) all
+ccm_octets key nonce m fits all =
+    masked_octets (λ i. ccm_stream_block key nonce (i + 1)) m (λ i. encrypted_octets key (ccm_counter_block nonce (i + 1)) fits) all
 
 pub eax_octets : EaxTextsAreOctets
 unfolding eax_text
@@ -158,4 +164,5 @@ pub ccm_tag_octets : CcmTagsAreOctets
 unfolding ccm_tag
 ccm_tag_octets n key nonce header m fits =
     All-take IsOctet n (xor_bytes (ccm_mac n key nonce header m) (ccm_stream_block key nonce 0))
-    (xor_octets (ccm_mac n key nonce header m) (ccm_stream_block key nonce 0) (ccm_mac_octets n key nonce header m fits) (encrypted_octets key (ccm_counter_block nonce 0) fits))
+    (xor_octets (ccm_mac n key nonce header m) (ccm_stream_block key nonce 0) (ccm_mac_octets n key nonce header m fits)
+    (encrypted_octets key (ccm_counter_block nonce 0) fits))

@@ -1,5 +1,6 @@
 -- What a look-up of lanes is, and that the S-box is look-ups, in all 256 cases.
-use Rattle.std.proofs.Common.{◌≡◌, ℕ, zero, suc, ◌+◌, ◌*◌, ◌/◌, ◌<◌, ◌≤◌, List, [], ◌∷◌, map, get_or, length, replicate, true, false, Bool, bit_xor, bit_and, refl, sym, ap, ◌∙◌, arith, w8}
+use Rattle.std.proofs.Common.{◌≡◌, ℕ, zero, suc, ◌+◌, ◌*◌, ◌/◌, ◌<◌, ◌≤◌, List, [], ◌∷◌, map, get_or, length, replicate, true, false, Bool, bit_xor, bit_and}
+use Rattle.std.proofs.Common.{refl, sym, ap, ◌∙◌, arith, w8}
 use Rattle.std.specs.List.{range_with_len}
 use Rattle.std.proofs.lemmas.Simd.{swz_l}
 use Rattle.std.proofs.lemmas.Float.{T_from_true}

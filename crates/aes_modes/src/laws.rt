@@ -4,7 +4,8 @@
 ghost use Rattle.std.specs.Prelude.{◌≡◌, ◌<◌, ◌⊎◌, length, IsOk};
 ghost use Rattle.aes_modes.specs.Eax.{eax_text, eax_tag};
 ghost use Rattle.aes_modes.specs.Ccm.{ccm_tag};
-ghost use Rattle.aes_modes.specs.Laws.{BlocksAreOctets, CcmLengths, CcmTagsAreOctets, CcmTextsAreOctets, CcmTextsComeBack, CcmTextsDiffer, CmacsAreOctets, EaxLengths, EaxTagsAreOctets, EaxTextsAreOctets, EaxTextsComeBack, EaxTextsDiffer};
+ghost use Rattle.aes_modes.specs.Laws.{BlocksAreOctets, CcmLengths, CcmTagsAreOctets, CcmTextsAreOctets, CcmTextsComeBack, CcmTextsDiffer, CmacsAreOctets};
+ghost use Rattle.aes_modes.specs.Laws.{EaxLengths, EaxTagsAreOctets, EaxTextsAreOctets, EaxTextsComeBack, EaxTextsDiffer};
 
 use crate::BadTag;
 use crate::ccm::{ccm_open, ccm_seal};

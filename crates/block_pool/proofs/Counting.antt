@@ -20,18 +20,21 @@ octets_long p k = elim (cases_lt 0 (slot_at p.table.items k).octets) [
       ap length (ap octets_or_none (get-chains p.blocks p.table.items k ∙ contents_none p.blocks p.table.items k none)) ∙ sym none
 ]
 
-sum_range : (g : ℕ → ℕ) (t : List Slot) (a : ℕ) → ((k : ℕ) → k < length t → g (a + k) ≡ blocks_in (slot_at t k)) → sum_by g (range_with_len a (length t)) ≡ sum_by blocks_in t
+sum_range : (g : ℕ → ℕ) (t : List Slot) (a : ℕ) → ((k : ℕ) → k < length t → g (a + k) ≡ blocks_in (slot_at t k))
+    → sum_by g (range_with_len a (length t)) ≡ sum_by blocks_in t
 sum_range g [] a h = refl
 sum_range g (s ∷ t) a h =
     let here : a ≡ a + 0 = omega arith in
     let first : g a ≡ blocks_in s = ap g here ∙ h 0 (omega arith) in
     let more = sum_range g t (a + 1) (λ k lt. let e : a + 1 + k ≡ a + suc k = omega arith in ap g e ∙ h (suc k) (omega arith)) in
-    sum_by-cons g a (range_with_len (a + 1) (length t)) ∙ ap (λ n. n + sum_by g (range_with_len (a + 1) (length t))) first ∙ ap (λ n. blocks_in s + n) more ∙ sym (sum_by-cons blocks_in s t)
+    sum_by-cons g a (range_with_len (a + 1) (length t)) ∙ ap (λ n. n + sum_by g (range_with_len (a + 1) (length t))) first ∙ ap (λ n. blocks_in s + n) more
+    ∙ sym (sum_by-cons blocks_in s t)
 
 pub has_blocks : (p : Inside) → IsPool p → HasBlocks (state_of p) (length p.table.items)
 has_blocks p pool =
     let chains : chain_blocks (state_of p) (length p.table.items) ≡ sum_by blocks_in p.table.items
-    = sum_range (λ c. div_ceil (length (chain_octets (state_of p) c)) 64) p.table.items 0 (λ k lt. let e : 0 + k ≡ k = omega arith in ap (λ c. div_ceil (length (chain_octets (state_of p) c)) 64) e ∙ ap (λ n. div_ceil n 64) (octets_long p k)) in
+    = sum_range (λ c. div_ceil (length (chain_octets (state_of p) c)) 64) p.table.items 0
+    (λ k lt. let e : 0 + k ≡ k = omega arith in ap (λ c. div_ceil (length (chain_octets (state_of p) c)) 64) e ∙ ap (λ n. div_ceil n 64) (octets_long p k)) in
     record {
       total = ap (λ n. p.free.linked + p.free.fresh + n) chains ∙ pool.total;
       numbers = λ c is. (found p (state_of p) c c refl refl is).within;
@@ -53,7 +56,8 @@ sum_two g (suc n) d a =
 
 sum_of_none : (g : ℕ → ℕ) (d a : ℕ) → ((k : ℕ) → a ≤ k → g k ≡ 0) → sum_by g (range_with_len a d) ≡ 0
 sum_of_none g zero a none = refl
-sum_of_none g (suc d) a none = omega (arith, sum_by-cons g a (range_with_len (a + 1) d), none a (omega arith), sum_of_none g d (a + 1) (λ k le. none k (omega arith)))
+sum_of_none g (suc d) a none =
+    omega (arith, sum_by-cons g a (range_with_len (a + 1) d), none a (omega arith), sum_of_none g d (a + 1) (λ k le. none k (omega arith)))
 
 no_blocks : (p : PoolState) (n c : ℕ) → ((d : ℕ) → IsChain p d → d < n) → n ≤ c → div_ceil (length (chain_octets p c)) 64 ≡ 0
 no_blocks p n c numbers le = elim (cases_lt 0 (length (chain_octets p c))) [
@@ -75,7 +79,8 @@ at_most p n m has other = elim (cases_lt n m) [
 one_count : (p : PoolState) (n m : ℕ) → HasBlocks p n → HasBlocks p m → n ≡ m
 one_count p n m has other = omega (arith, at_most p n m has other, at_most p m n other has)
 
-pub same_blocks : (p q : Inside) (old : PoolState) → state_of p ≡ old → IsPool p → IsPool q → length q.table.items ≡ length p.table.items → SameBlocks old (state_of q)
+pub same_blocks : (p q : Inside) (old : PoolState) → state_of p ≡ old → IsPool p → IsPool q → length q.table.items ≡ length p.table.items
+    → SameBlocks old (state_of q)
 same_blocks p q old e pool pool' long blocks has =
     let count : length p.table.items ≡ blocks = one_count (state_of p) _ _ (has_blocks p pool) (subst (λ (st : PoolState). HasBlocks st blocks) (sym e) has) in
     subst (HasBlocks (state_of q)) (long ∙ count) (has_blocks q pool')

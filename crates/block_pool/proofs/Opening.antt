@@ -9,7 +9,8 @@ use base.Logic.{id⊢, ent, never, sep}
 use base.Stored.{Gv}
 use mir.Syntax.{w64}
 use mir.Val.{Val, vint, vptr, vstruct, vcons, vnil, of_list}
-use types.Kit.{Goal, Soaks, Step, step, Seq, Item, ‵, ◌⊛◌, ◌$◌, ◌∵◌, !, qed, move, keep, drop, use1, split, rewrite, fsplit, fjoin, fpick, fpack, feq_l, feq_i, flt_l, flt_i, done}
+use types.Kit.{Goal, Soaks, Step, step, Seq, Item, ‵, ◌⊛◌, ◌$◌, ◌∵◌, !, qed, move, keep, drop, use1, split, rewrite, fsplit, fjoin, fpick, fpack, feq_l, feq_i}
+use types.Kit.{flt_l, flt_i, done}
 use types.Logic.{Logic, sem}
 use types.SemTy.{Body}
 use denote.Builtin.{usize}
@@ -52,7 +53,8 @@ module _ (E : El) where
 
 module _ (E : El) {M : Type 1} {𝓤 : Ura M} {𝓛 : Logic 𝓤} {K : Type 0} {Γ : List (Item 𝓤)} {G : Goal 𝓤 𝓛.H} where
   -- a place is its pointer
-  pub place_had : K → (p : Place (el_x E)) (vs : List Val) → (vs ≡ vstruct (vcons (ptr_val p.ptr) vnil) ∷ [] → Seq K 𝓛 Γ G) → Seq K 𝓛 (‵ ((PlaceOf E).own_val p vs) ∷ Γ) G
+  pub place_had : K → (p : Place (el_x E)) (vs : List Val) → (vs ≡ vstruct (vcons (ptr_val p.ptr) vnil) ∷ [] → Seq K 𝓛 Γ G)
+      → Seq K 𝓛 (‵ ((PlaceOf E).own_val p vs) ∷ Γ) G
   place_had t p vs k =
       fpick t (λ vss. fsplit t $ feq_l t (λ all. fsplit t $ feq_l t (λ e. drop t $ k (all ∙ (λ i. vstruct (of_list (e i ++ [])) ∷ [])))))
 
@@ -63,10 +65,12 @@ module _ (E : El) {M : Type 1} {𝓤 : Ura M} {𝓛 : Logic 𝓤} {K : Type 0} {
       fpack t (Valss (RawPtr ∷ [])) (within (Declared.shape (place.the_type (R E))) (block_ptr b o, tt) w) (vptr b o ∷ [], tt) $ s)
 
   pub cells_had : K → (c : Cells (el_x E)) (vs : List Val)
-      → ((b o : ℕ) → c.base ≡ block_ptr b o → vs ≡ words (block_ptr b o) c.count ∷ [] → c.count < 2 ^ 64 → c.count * sz E < 2 ^ 63 → Seq K 𝓛 (‵ (row_at E c b o) ∷ Γ) G)
+      → ((b o : ℕ) → c.base ≡ block_ptr b o → vs ≡ words (block_ptr b o) c.count ∷ [] → c.count < 2 ^ 64 → c.count * sz E < 2 ^ 63
+      → Seq K 𝓛 (‵ (row_at E c b o) ∷ Γ) G)
       → Seq K 𝓛 (‵ ((CellsOf E).own_val c vs) ∷ Γ) G
   cells_had t c vs k =
-      fsplit t $ fpick t (λ vss. fsplit t $ feq_l t (λ all. fsplit t $ feq_l t (λ e₀. fsplit t $ fsplit t $ feq_l t (λ e₁. flt_l t (λ word. drop t $ fsplit t $ flt_l t (λ fits.
+      fsplit t $ fpick t (λ vss. fsplit t
+      $ feq_l t (λ all. fsplit t $ feq_l t (λ e₀. fsplit t $ fsplit t $ feq_l t (λ e₁. flt_l t (λ word. drop t $ fsplit t $ flt_l t (λ fits.
       in_a_block t c.base (λ p. in_block p (slots (R E) p c.items c.filled)) (id⊢ 𝓤 (never 𝓤)) (λ b o e.
       k b o e (all ∙ ((λ i. vstruct (of_list (e₀ i ++ (e₁ i ++ []))) ∷ []) ∙ ap (λ (p : Ptr). words p c.count ∷ []) e)) word fits)))))))
 
@@ -77,23 +81,29 @@ module _ (E : El) {M : Type 1} {𝓤 : Ura M} {𝓛 : Logic 𝓤} {K : Type 0} {
       flt_i t (c.count * sz E) (2 ^ 63) fits $ fjoin t $
       nothing t $ flt_i t c.count (2 ^ 64) word $ feq_i t (List Val) (vint w64 c.count ∷ []) (vint w64 c.count ∷ []) refl $ fjoin t $ fjoin t $
       feq_i t (List Val) (vptr b o ∷ []) (vptr b o ∷ []) refl $ fjoin t $ feq_i t (List Val) w w refl $ fjoin t $
-      fpack t (Valss (shape (type_of E)).fields) (within (shape (type_of E)) (block_ptr b o, (c.count, tt)) w) (vptr b o ∷ [], (vint w64 c.count ∷ [], tt)) $ fjoin t $
-      rewrite t 0 (λ (p : Ptr). ‵ (fsep ((WordsOf E).own_val (p, (c.count, tt)) w) (fsep (flt (c.count * sz E) (2 ^ 63)) (in_block p (slots (R E) p c.items c.filled))))) (sym at) refl $ s)
+      fpack t (Valss (shape (type_of E)).fields) (within (shape (type_of E)) (block_ptr b o, (c.count, tt)) w) (vptr b o ∷ [], (vint w64 c.count ∷ [], tt))
+      $ fjoin t $
+      rewrite t 0 (λ (p : Ptr). ‵ (fsep ((WordsOf E).own_val (p, (c.count, tt)) w)
+      (fsep (flt (c.count * sz E) (2 ^ 63)) (in_block p (slots (R E) p c.items c.filled))))) (sym at) refl $ s)
 
 module _ (E : El) {M : Type 1} {𝓤 : Ura M} {𝓛 : Logic 𝓤} {K : Type 0} {Γ : List (Item 𝓤)} {G : Goal 𝓤 𝓛.H} where
   -- a `&mut` is opened: [the row; the two words; the open borrow; its two halves of the ghost value]
   pub cells_open : K → Soaks G → {κ : Lft} {q : Share} {γ : GName} (c : Cells (el_x E)) (rb ro : ℕ)
       → ((b o : ℕ) → c.base ≡ block_ptr b o → c.count < 2 ^ 64 → c.count * sz E < 2 ^ 63
-      → Seq K 𝓛 (‵ (row_at E c b o) ∷ ‵ (cell_at full_share (CellsOf E).mir (words (block_ptr b o) c.count ∷ []) rb ro) ∷ ‵ (fobor κ q (Body (mem (CellsOf E)) rb ro γ)) ∷ ‵ (fobs γ ((CellsOf E).coded.code c)) ∷ ‵ (fauth γ ((CellsOf E).coded.code c)) ∷ Γ) G)
+      → Seq K 𝓛 (‵ (row_at E c b o) ∷ ‵ (cell_at full_share (CellsOf E).mir (words (block_ptr b o) c.count ∷ []) rb ro)
+      ∷ ‵ (fobor κ q (Body (mem (CellsOf E)) rb ro γ)) ∷ ‵ (fobs γ ((CellsOf E).coded.code c)) ∷ ‵ (fauth γ ((CellsOf E).coded.code c)) ∷ Γ) G)
       → Seq K 𝓛 (‵ (fobs γ ((CellsOf E).coded.code c)) ∷ ‵ (fbor κ (Body (mem (CellsOf E)) rb ro γ)) ∷ ‵ (flft κ q) ∷ Γ) G
   cells_open t z c rb ro k =
       opens t z (CellsOf E) {h = c} rb ro (λ vs. move t (1 ∷ []) $ cells_had E t c vs (λ b o e is word fits.
       rewrite t 1 (λ (ws : List Val). ‵ (cell_at full_share (CellsOf E).mir ws rb ro)) is refl $ k b o e word fits))
 
-  pub cells_close : K → Soaks G → {κ : Lft} {q : Share} {u v : Gv} {γ : GName} (c : Cells (el_x E)) (b o rb ro : ℕ) → c.base ≡ block_ptr b o → c.count < 2 ^ 64 → c.count * sz E < 2 ^ 63
+  pub cells_close : K → Soaks G → {κ : Lft} {q : Share} {u v : Gv} {γ : GName} (c : Cells (el_x E)) (b o rb ro : ℕ) → c.base ≡ block_ptr b o → c.count < 2 ^ 64
+      → c.count * sz E < 2 ^ 63
       → Step K 𝓛 (‵ (fobs γ ((CellsOf E).coded.code c)) ∷ ‵ (fbor κ (Body (mem (CellsOf E)) rb ro γ)) ∷ ‵ (flft κ q) ∷ Γ) G
-      (‵ (row_at E c b o) ∷ ‵ (cell_at full_share (CellsOf E).mir (words (block_ptr b o) c.count ∷ []) rb ro) ∷ ‵ (fobor κ q (Body (mem (CellsOf E)) rb ro γ)) ∷ ‵ (fobs γ u) ∷ ‵ (fauth γ v) ∷ Γ) G
-  cells_close t z c b o rb ro at word fits = step (λ s. cells_made E t c b o at word fits $ move t (1 ∷ 0 ∷ []) $ closes t z (CellsOf E) c (words (block_ptr b o) c.count ∷ []) rb ro $ s)
+      (‵ (row_at E c b o) ∷ ‵ (cell_at full_share (CellsOf E).mir (words (block_ptr b o) c.count ∷ []) rb ro) ∷ ‵ (fobor κ q (Body (mem (CellsOf E)) rb ro γ))
+      ∷ ‵ (fobs γ u) ∷ ‵ (fauth γ v) ∷ Γ) G
+  cells_close t z c b o rb ro at word fits =
+      step (λ s. cells_made E t c b o at word fits $ move t (1 ∷ 0 ∷ []) $ closes t z (CellsOf E) c (words (block_ptr b o) c.count ∷ []) rb ro $ s)
 
 -- what a `&` shows: the two words, the bound on the size, and a `&` to each value that lies there
 pub cells_shown : (E : El) {M : Type 1} {𝓤 : Ura M} (𝓛 : Logic 𝓤) (κ : Lft) (c : Cells (el_x E)) (b o : ℕ)

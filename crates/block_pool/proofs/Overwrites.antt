@@ -6,12 +6,15 @@ use Rattle.block_pool.specs.Pool.{overwrite}
 pub overwrite_before : (os : List ℕ) (at p : ℕ) (piece : List ℕ) (d : ℕ) → p < at → at ≤ length os → get_or (overwrite os at piece) p d ≡ get_or os p d
 overwrite_before os at p piece d lt le = get_or_append_left (take at os) _ d p (omega (arith, length-take at os)) ∙ get_or-take at os p d lt
 
-pub overwrite_within : (os : List ℕ) (at k : ℕ) (piece : List ℕ) (d : ℕ) → k < length piece → at ≤ length os → get_or (overwrite os at piece) (at + k) d ≡ get_or piece k d
+pub overwrite_within : (os : List ℕ) (at k : ℕ) (piece : List ℕ) (d : ℕ) → k < length piece → at ≤ length os
+    → get_or (overwrite os at piece) (at + k) d ≡ get_or piece k d
 overwrite_within os at k piece d lt le =
     let i : at + k - at ≡ k = omega arith in
-    get_or-append_right (take at os) _ at (at + k) d (omega (arith, length-take at os)) (omega arith) ∙ ap (λ j. get_or (piece ++ drop (at + length piece) os) j d) i ∙ get_or_append_left piece _ d k lt
+    get_or-append_right (take at os) _ at (at + k) d (omega (arith, length-take at os)) (omega arith)
+    ∙ ap (λ j. get_or (piece ++ drop (at + length piece) os) j d) i ∙ get_or_append_left piece _ d k lt
 
-pub overwrite_after : (os : List ℕ) (at p : ℕ) (piece : List ℕ) (d : ℕ) → at + length piece ≤ p → at ≤ length os → get_or (overwrite os at piece) p d ≡ get_or os p d
+pub overwrite_after : (os : List ℕ) (at p : ℕ) (piece : List ℕ) (d : ℕ) → at + length piece ≤ p → at ≤ length os
+    → get_or (overwrite os at piece) p d ≡ get_or os p d
 overwrite_after os at p piece d le fits =
     let i : at + length piece + (p - at - length piece) ≡ p = omega arith in
     get_or-append_right (take at os) _ at p d (omega (arith, length-take at os)) (omega arith)
@@ -21,4 +24,10 @@ overwrite_after os at p piece d le fits =
 -- a piece that lies within the octets leaves their length
 pub length-overwrite : (os : List ℕ) (at : ℕ) (piece : List ℕ) → at + length piece ≤ length os → length (overwrite os at piece) ≡ length os
 length-overwrite os at piece le =
-    omega (arith, length-append (take at os) (piece ++ drop (at + length piece) os), length-append piece (drop (at + length piece) os), length-take at os, length-drop (at + length piece) os)
+    omega (
+      arith,
+      length-append (take at os) (piece ++ drop (at + length piece) os),
+      length-append piece (drop (at + length piece) os),
+      length-take at os,
+      length-drop (at + length piece) os,
+    )

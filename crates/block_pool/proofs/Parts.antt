@@ -17,7 +17,8 @@ module _ {X : Type 0} where
     pub get_or-put_mid : (i : ℕ) → i < n → get_or (put_mid a n xs ys) (a + i) d ≡ get_or ys i d
     get_or-put_mid i lt =
         let j : a + i - a ≡ i = omega arith in
-        get_or-append_right (take a xs) (ys ++ drop n (drop a xs)) a (a + i) d (omega (arith, length-take a xs)) (omega arith) ∙ ap (λ k. get_or (ys ++ drop n (drop a xs)) k d) j ∙ get_or_append_left ys (drop n (drop a xs)) d i (omega (arith, long))
+        get_or-append_right (take a xs) (ys ++ drop n (drop a xs)) a (a + i) d (omega (arith, length-take a xs)) (omega arith)
+        ∙ ap (λ k. get_or (ys ++ drop n (drop a xs)) k d) j ∙ get_or_append_left ys (drop n (drop a xs)) d i (omega (arith, long))
 
     -- and nothing else
     pub get_or-put_mid_other : (j : ℕ) → (a ≤ j → j < a + n → ⊥) → get_or (put_mid a n xs ys) j d ≡ get_or xs j d

@@ -1,5 +1,6 @@
 -- What a write to one block does to the region. Only this file, `specs/Region.antt` and the answers of `Blocks` know what a place is.
-use Rattle.std.proofs.Common.{◌≡◌, ℕ, ◌+◌, ◌<◌, ◌≤◌, ◌⊎◌, inl, inr, Bool, true, false, List, length, replicate, get_or, set, nat_eq, get_or-set_same, get_or-set_other, refl, sym, ap, subst, ◌∙◌, arith}
+use Rattle.std.proofs.Common.{◌≡◌, ℕ, ◌+◌, ◌<◌, ◌≤◌, ◌⊎◌, inl, inr, Bool, true, false, List, length, replicate, get_or, set, nat_eq, get_or-set_same}
+use Rattle.std.proofs.Common.{get_or-set_other, refl, sym, ap, subst, ◌∙◌, arith}
 use denote.RawPtr.{Ptr, block_of, count_of}
 use Rattle.core.specs.Mem.Slots.Ownership.{bytes_of}
 use Rattle.core.proofs.slice.Lists.{any-default}
@@ -152,8 +153,10 @@ pub filled_at : (c : Cells Block) (fs : List Bool) (i n : ℕ) → i < c.count �
 filled_at c fs i n lt e count = (omega (arith, lt, count), ap (λ l. get_or l i false) e ∙ get_or-set_same c.filled i true false (omega (arith, lt, c.ok.1)))
 
 -- what a write to the last place that was never used adds
-module _ (old new : Blocks) (x at : Spot) (i : ℕ) (b : Block) (f : IsFresh old (i + 1)) (items : new.cells.items ≡ set old.cells.items i b) (filled : new.cells.filled ≡ set old.cells.filled i true)
-    (same : (new.cells.base ≡ old.cells.base) × (new.cells.count ≡ old.cells.count)) (to : b.next ≡ x) (lies : (at ≡ place_of block_row new.cells.base i) × IsSome new.cells.base) where
+module _ (old new : Blocks) (x at : Spot) (i : ℕ) (b : Block) (f : IsFresh old (i + 1)) (items : new.cells.items ≡ set old.cells.items i b)
+    (filled : new.cells.filled ≡ set old.cells.filled i true)
+    (same : (new.cells.base ≡ old.cells.base) × (new.cells.count ≡ old.cells.count)) (to : b.next ≡ x)
+    (lies : (at ≡ place_of block_row new.cells.base i) × IsSome new.cells.base) where
   index_same : (y : Spot) → index_in new.cells y ≡ index_in old.cells y
   index_same y = ap (λ p. index_of block_row p y) same.0
 
@@ -176,7 +179,8 @@ module _ (old new : Blocks) (x at : Spot) (i : ℕ) (b : Block) (f : IsFresh old
   more y is = (
     is.0 ∙ ap (λ p. place_of block_row p (index_of block_row p y)) (sym same.0),
     omega (arith, is.1, index_same y, same.1),
-    ap (λ fs. get_or fs (index_in new.cells y) false) filled ∙ ap (λ k. get_or (set old.cells.filled i true) k false) (index_same y) ∙ get_or-set_other old.cells.filled i (index_in old.cells y) true false (not_same y is) ∙ is.2,
+    ap (λ fs. get_or fs (index_in new.cells y) false) filled ∙ ap (λ k. get_or (set old.cells.filled i true) k false) (index_same y)
+        ∙ get_or-set_other old.cells.filled i (index_in old.cells y) true false (not_same y is) ∙ is.2,
     is.3,
   )
 
@@ -187,7 +191,8 @@ module _ (old new : Blocks) (x at : Spot) (i : ℕ) (b : Block) (f : IsFresh old
     | inr ne ↦ inl (
       is.0 ∙ ap (λ p. place_of block_row p (index_of block_row p y)) same.0,
       omega (arith, is.1, index_same y, same.1),
-      sym (ap (λ fs. get_or fs (index_in new.cells y) false) filled ∙ ap (λ k. get_or (set old.cells.filled i true) k false) (index_same y) ∙ get_or-set_other old.cells.filled i (index_in old.cells y) true false ne) ∙ is.2,
+      sym (ap (λ fs. get_or fs (index_in new.cells y) false) filled ∙ ap (λ k. get_or (set old.cells.filled i true) k false) (index_same y)
+          ∙ get_or-set_other old.cells.filled i (index_in old.cells y) true false ne) ∙ is.2,
       is.3,
     )
   ]
@@ -197,16 +202,19 @@ module _ (old new : Blocks) (x at : Spot) (i : ℕ) (b : Block) (f : IsFresh old
   there_now = (
     lies.0 ∙ ap (place_of block_row new.cells.base) (sym index_at),
     omega (arith, index_at, room, same.1),
-    ap (λ fs. get_or fs (index_in new.cells at) false) filled ∙ ap (λ k. get_or (set old.cells.filled i true) k false) index_at ∙ get_or-set_same old.cells.filled i true false (omega (arith, room, old.cells.ok.1)),
+    ap (λ fs. get_or fs (index_in new.cells at) false) filled ∙ ap (λ k. get_or (set old.cells.filled i true) k false) index_at
+        ∙ get_or-set_same old.cells.filled i true false (omega (arith, room, old.cells.ok.1)),
     subst IsSome (sym lies.0) (place_is_some new.cells.base i lies.1),
   )
 
   block_at : block_in new.cells at ≡ b
-  block_at = ap (λ bs. get_or bs (index_in new.cells at) no_block) items ∙ ap (λ k. get_or (set old.cells.items i b) k no_block) index_at ∙ get_or-set_same old.cells.items i b no_block (omega (arith, room, old.cells.ok.0))
+  block_at = ap (λ bs. get_or bs (index_in new.cells at) no_block) items ∙ ap (λ k. get_or (set old.cells.items i b) k no_block) index_at
+      ∙ get_or-set_same old.cells.items i b no_block (omega (arith, room, old.cells.ok.0))
 
   block_kept : (y : Spot) → IsSpot old y → block_in new.cells y ≡ block_in old.cells y
   block_kept y is =
-      ap (λ bs. get_or bs (index_in new.cells y) no_block) items ∙ ap (λ k. get_or (set old.cells.items i b) k no_block) (index_same y) ∙ get_or-set_other old.cells.items i (index_in old.cells y) b no_block (not_same y is)
+      ap (λ bs. get_or bs (index_in new.cells y) no_block) items ∙ ap (λ k. get_or (set old.cells.items i b) k no_block) (index_same y)
+      ∙ get_or-set_other old.cells.items i (index_in old.cells y) b no_block (not_same y is)
 
   fresh_left : IsFresh new i
   unfolding IsFresh

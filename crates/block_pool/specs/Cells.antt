@@ -32,7 +32,14 @@ module _ (R : RattleType) where
 module _ {X : Type 0} where
   -- the cells with w for the value at the index
   abbrev pub with_item : Cells X → ℕ → X → Cells X
-  with_item c i w = record { base = c.base; count = c.count; items = slice_set c.items i w; filled = c.filled; ok = (c.ok.0 ∙ sym (length-set c.items i w), c.ok.1); small = c.small }
+  with_item c i w = record {
+    base = c.base;
+    count = c.count;
+    items = slice_set c.items i w;
+    filled = c.filled;
+    ok = (c.ok.0 ∙ sym (length-set c.items i w), c.ok.1);
+    small = c.small;
+  }
 
 -- r is `c.get_mut(at)`: when the borrow ends, the value at that place is what was written through r
 abbrev pub follows_at : (R : RattleType) → MutBor (Cells R.Denot) → Ptr → MutBor R.Denot → Fml

@@ -35,7 +35,10 @@ marks_part log r k = record { kept = k.kept.marks; sound = k.sound }
 -- the marks stay where the limit is put
 marks_beside : (t : Marks) (r : Records) (octets : List ℕ) → AreMarksIn 0x0300 32 t r → AreMarksIn 0x0300 32 t (insert r limit_slot octets)
 marks_beside t r octets h = record {
-  kept = record { short = h.kept.short; each = λ place within. rw (get-insert_other r limit_slot (slot_of marks place) octets (omega arith)) (h.kept.each place within) };
+  kept = record {
+    short = h.kept.short;
+    each = λ place within. rw (get-insert_other r limit_slot (slot_of marks place) octets (omega arith)) (h.kept.each place within);
+  };
   sound = h.sound;
 }
 
@@ -52,7 +55,8 @@ left_below n r k left = let other = eqb-false n.next 4294967295 left in let belo
 
 pub number_leads : NumbersLead
 number_leads log left = leads_when IsLogIn log (numbered_log log) (puts_of (number_put log.numbering)) (λ r k.
-    leads_part (IsCountingIn limit_at) (AreMarksIn 0x0300 32 log.marks) IsLogIn (λ n. record log { numbering = n }) (λ n s q p. both (record log { numbering = n }) s q p)
+    leads_part (IsCountingIn limit_at) (AreMarksIn 0x0300 32 log.marks) IsLogIn (λ n. record log { numbering = n })
+    (λ n s q p. both (record log { numbering = n }) s q p)
     (λ n s h. (numbering_part (record log { numbering = n }) s h, marks_part (record log { numbering = n }) s h))
     log.numbering (numbered log.numbering) (puts_of (number_put log.numbering)) (number_leaves log.marks log.numbering)
     (reservations_lead limit_at 32 log.numbering 1 (omega arith) (left_below log.numbering r (numbering_part log r k) left)))
@@ -60,18 +64,26 @@ number_leads log left = leads_when IsLogIn log (numbered_log log) (puts_of (numb
 -- # The marks
 
 -- the limit stays where another slot is put
-limit_beside : (n : Numbering) (r : Records) (slot : ℕ) (octets : List ℕ) → limit_slot < slot → IsCountingIn limit_at n r → IsCountingIn limit_at n (insert r slot octets)
+limit_beside : (n : Numbering) (r : Records) (slot : ℕ) (octets : List ℕ) → limit_slot < slot → IsCountingIn limit_at n r
+    → IsCountingIn limit_at n (insert r slot octets)
 limit_beside n r slot octets apart h =
-    record { kept = record { limit = ap limit_in (get-insert_other r slot limit_slot octets (omega arith)) ∙ h.kept.limit; below = h.kept.below }; fits = h.fits; low = h.low }
+    record {
+      kept = record { limit = ap limit_in (get-insert_other r slot limit_slot octets (omega arith)) ∙ h.kept.limit; below = h.kept.below };
+      fits = h.fits;
+      low = h.low;
+    }
 
-mark_leaves : (n : Numbering) (write : Option Write) → IfSome write (λ w. (0x0300 ≤ w.slot) × (w.slot ≤ 0x031F)) → Leaves (IsCountingIn limit_at n) (puts_of write)
+mark_leaves : (n : Numbering) (write : Option Write) → IfSome write (λ w. (0x0300 ≤ w.slot) × (w.slot ≤ 0x031F))
+    → Leaves (IsCountingIn limit_at n) (puts_of write)
 mark_leaves n None within = tt
 mark_leaves n (Some w) within = (λ r h. limit_beside n r w.slot w.octets (omega (arith, within.0)) h, tt)
 
 pub admission_leads : AdmissionsLead
-admission_leads log origin number room address fits = leads_when IsLogIn log (admitted_log log origin number) (puts_of (keep_write log.marks origin number)) (λ r k.
+admission_leads log origin number room address fits =
+    leads_when IsLogIn log (admitted_log log origin number) (puts_of (keep_write log.marks origin number)) (λ r k.
     let free : has_room 0x0300 32 log.marks origin number ≡ true = room_has 0x0300 32 Old OriginsFull log.marks origin number k.sound.short room in
-    leads_part (AreMarksIn 0x0300 32) (IsCountingIn limit_at log.numbering) IsLogIn (λ m. record log { marks = m }) (λ m s q p. both (record log { marks = m }) s p q)
+    leads_part (AreMarksIn 0x0300 32) (IsCountingIn limit_at log.numbering) IsLogIn (λ m. record log { marks = m })
+    (λ m s q p. both (record log { marks = m }) s p q)
     (λ m s h. (marks_part (record log { marks = m }) s h, numbering_part (record log { marks = m }) s h))
     log.marks (kept_after log.marks origin number) (puts_of (keep_write log.marks origin number))
     (mark_leaves log.numbering (keep_write log.marks origin number) (keep_write-within 0x0300 32 log.marks origin number k.sound free))

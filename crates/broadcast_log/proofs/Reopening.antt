@@ -18,12 +18,14 @@ from_limit None limit n e is = absurd (cc)
 pub opened_in : (was log : Log) (records : Records) → IsLogIn was records → opened records ≡ Ok log → IsLogIn log records
 opened_in was log records h e =
     let o = both_opened log records e in
-    let n : counting_at was.numbering.limit ≡ log.numbering = from_limit (limit_in (get records limit_slot)) was.numbering.limit log.numbering h.kept.numbering.limit o.numbering in
+    let n : counting_at was.numbering.limit
+    ≡ log.numbering = from_limit (limit_in (get records limit_slot)) was.numbering.limit log.numbering h.kept.numbering.limit o.numbering in
     let limit = h.kept.numbering.limit in
     record {
       kept = record {
         numbering = subst (λ (c : Numbering). IsLimitKept c records) n (record { limit = limit; below = omega arith });
-        marks = opened_kept marks records (Ok log.marks) (λ _ octets entry r. mark_in-rests 0x0300 32 octets entry r) (sym o.marks) (stored_gapless marks was.marks records h.kept.marks);
+        marks = opened_kept marks records (Ok log.marks) (λ _ octets entry r. mark_in-rests 0x0300 32 octets entry r) (sym o.marks)
+            (stored_gapless marks was.marks records h.kept.marks);
       };
       fits = subst (λ (c : Numbering). c.limit < 4294967296) n h.fits;
       sound = (opened_reads marks records (Ok log.marks) (sym o.marks)).sound;

@@ -6,7 +6,8 @@ ghost use Rattle.store_tables.specs.SlotTables.{IsTable, IsGapless};
 ghost use Rattle.store_tables.specs.Numberings.{AllBelow};
 ghost use Rattle.store_tables.specs.AdmittedNumbers.{Admitted, AllEarlier};
 ghost use Rattle.broadcast_log.specs.OriginMarks.{marks, IsCovered, mark_of, room_for};
-ghost use Rattle.broadcast_log.specs.Log.{Log, empty_log, IsKept, IsBad, Reopens, opened, next_result, next_write, next_after, numbered_log, admit_result, admit_write, admit_after, admitted_log, is_stored};
+ghost use Rattle.broadcast_log.specs.Log.{Log, empty_log, IsKept, IsBad, Reopens, opened, next_result, next_write, next_after, numbered_log, admit_result};
+ghost use Rattle.broadcast_log.specs.Log.{admit_write, admit_after, admitted_log, is_stored};
 ghost use Rattle.broadcast_log.specs.Runs.{Runs};
 ghost use Rattle.plc_base.specs.declared.limits.TheConstants.{GREATEST_COUNTER};
 

@@ -98,7 +98,8 @@ module _ (own : Eui) (m : Memory) (to now : ℕ) (server : Server) where
       carried_by s t (sent_command opened to first now) (challenge_by own m to now server) answer out (ordered_plan h.home room)
       (carries_behind s mid t [] (sent_command opened to first now) answer out
       (subst (λ (k : Store). Wrote s.store [] true k) (sym (ap (λ (x : State Memory). x.store) is)) (wrote_none s.store))
-      (sym (ap (λ (x : State Memory). x.eui) is)) (subst (λ (o : Option Memory). IfSome o (λ n. Carries mid (sent_command n to first now) answer out t)) held goes))
+      (sym (ap (λ (x : State Memory). x.eui) is))
+      (subst (λ (o : Option Memory). IfSome o (λ n. Carries mid (sent_command n to first now) answer out t)) held goes))
 
   -- the same of a message that is this one
   pub lacking_plan : (join : JoinMessage) (reason : CoordinatorRefusal) → join ≡ message server.eui (Challenge (first_packet server))

@@ -116,7 +116,8 @@ module _ (s : State Memory) (m : Memory) (e : BookEntry) where
   pub silent_stopped : (t : State Memory) → Does s (shut_out m e) false t → Carries s (silently m e) (Err Failed) nothing t
   silent_stopped t does = unstored orders s t (shut_out m e) tt nothing does (shut_quiet m e).out_failed
 
-  pub ordered_stopped : (t : State Memory) (to : ℕ) (out : Out) → HoldsWith m s.store.records → reaches m to ≡ true → out ≡ nothing → Does s (shut_out m e) false t
+  pub ordered_stopped : (t : State Memory) (to : ℕ) (out : Out) → HoldsWith m s.store.records → reaches m to ≡ true → out ≡ nothing
+      → Does s (shut_out m e) false t
       → Carries s (kick_by m e to) (Err Failed) out t
   ordered_stopped t to out h reached empty does =
       carried_by s t _ (kick_by m e to) (Err Failed) out (ordered_plan m e to h.home reached)

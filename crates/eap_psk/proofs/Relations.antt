@@ -23,10 +23,12 @@ length-after at octets = length-drop at octets
 
 pub third_read : (ak tek header packet text rand_s rand_p id_s mac tag : List ℕ) (identifier : ℕ)
     → packet ≡ head 1 identifier (length packet) 2 rand_s ++ (mac ++ (big_bytes 4 0 ++ (tag ++ after 58 packet))) → 58 ≤ length packet
-    → header ≡ head 1 identifier (length packet) 2 rand_s → mac ≡ mac_s ak id_s rand_p → tag ≡ channel_tag tek 0 header (after 58 packet) → text ≡ channel_text tek 0 (after 58 packet)
+    → header ≡ head 1 identifier (length packet) 2 rand_s → mac ≡ mac_s ak id_s rand_p → tag ≡ channel_tag tek 0 header (after 58 packet)
+    → text ≡ channel_text tek 0 (after 58 packet)
     → Third ak tek identifier rand_s rand_p id_s text packet
 third_read ak tek header packet text rand_s rand_p id_s mac tag identifier is long header_is mac_is tag_is text_is =
-    let len : length text ≡ length packet - 58 = ap (λ (xs : List ℕ). length xs) text_is ∙ length-eax_text tek (nonce_block 0) (after 58 packet) ∙ length-after 58 packet in
+    let len : length text ≡ length packet - 58 = ap (λ (xs : List ℕ). length xs) text_is ∙ length-eax_text tek (nonce_block 0) (after 58 packet)
+    ∙ length-after 58 packet in
     let count : length packet ≡ 58 + length text = omega arith in
     let named : head 1 identifier (length packet) 2 rand_s ≡ third_head identifier rand_s (length text) = ap (λ (n : ℕ). head 1 identifier n 2 rand_s) count in
     let front : header ≡ third_head identifier rand_s (length text) = header_is ∙ named in
@@ -41,8 +43,10 @@ pub fourth_read : (tek header packet text rand_s tag : List ℕ)
     → header ≡ head 2 2 43 3 rand_s → tag ≡ channel_tag tek 1 header (after 42 packet) → text ≡ channel_text tek 1 (after 42 packet) → slice_index text 0 ≡ 0x80
     → Fourth tek 2 rand_s packet
 fourth_read tek header packet text rand_s tag is long header_is tag_is text_is success =
-    let len : length text ≡ 1 = ap (λ (xs : List ℕ). length xs) text_is ∙ length-eax_text tek (nonce_block 1) (after 42 packet) ∙ length-after 42 packet ∙ omega arith in
+    let len : length text ≡ 1 = ap (λ (xs : List ℕ). length xs) text_is ∙ length-eax_text tek (nonce_block 1) (after 42 packet) ∙ length-after 42 packet
+    ∙ omega arith in
     let said : text ≡ success_text = one_is text len ∙ ap (λ (x : ℕ). x ∷ []) success in
     let sealed : big_bytes 4 1 ++ (tag ++ after 42 packet) ≡ channel tek 1 (fourth_head 2 rand_s) success_text =
-    channel_read tek 1 header (after 42 packet) text tag tag_is text_is ∙ ap (λ (h : List ℕ). channel tek 1 h text) header_is ∙ ap (λ (t : List ℕ). channel tek 1 (fourth_head 2 rand_s) t) said in
+    channel_read tek 1 header (after 42 packet) text tag tag_is text_is ∙ ap (λ (h : List ℕ). channel tek 1 h text) header_is
+    ∙ ap (λ (t : List ℕ). channel tek 1 (fourth_head 2 rand_s) t) said in
     is ∙ ap (λ (xs : List ℕ). fourth_head 2 rand_s ++ xs) sealed

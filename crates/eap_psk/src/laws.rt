@@ -6,7 +6,9 @@
 //!
 //! [`Server`]: crate::Server
 //! [`Peer`]: crate::Peer
-ghost use Rattle.eap_psk.specs.Laws.{FirstIsTaken, FirstNamesTheSession, SecondIsTaken, ThirdIsTaken, ThirdGrantsOneThing, FourthIsTaken, GrantingTagsAgree, SuccessTagsAgree, FirstPacketsAreOctets, SecondPacketsAreOctets, ThirdPacketsAreOctets, FourthPacketsAreOctets, FirstPacketsFit, SecondPacketsFit, ThirdPacketsFit, FourthPacketsFit};
+ghost use Rattle.eap_psk.specs.Laws.{FirstIsTaken, FirstNamesTheSession, SecondIsTaken, ThirdIsTaken, ThirdGrantsOneThing, FourthIsTaken, GrantingTagsAgree};
+ghost use Rattle.eap_psk.specs.Laws.{SuccessTagsAgree, FirstPacketsAreOctets, SecondPacketsAreOctets, ThirdPacketsAreOctets, FourthPacketsAreOctets};
+ghost use Rattle.eap_psk.specs.Laws.{FirstPacketsFit, SecondPacketsFit, ThirdPacketsFit, FourthPacketsFit};
 
 /// A first message is taken, and is of one session.
 pub fn first_is_taken()

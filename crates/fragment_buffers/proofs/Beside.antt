@@ -19,5 +19,6 @@ beside_kept p q es c bounded keeps beside = record {
     octets : (i : ℕ) → i < length es → chain_octets q (entry_at es i).chain ≡ chain_octets p (entry_at es i).chain
     octets i lt = (beside.others (entry_at es i).chain (kept_chain p es i keeps bounded.some lt) (beside.own i lt)).octets
 
-pub new_other : (p : PoolState) (es : List Entry) (c : ℕ) → IsBounded es → Keeps p es → (IsChain p c → ⊥) → (i : ℕ) → i < length es → (entry_at es i).chain ≡ c → ⊥
+pub new_other : (p : PoolState) (es : List Entry) (c : ℕ) → IsBounded es → Keeps p es → (IsChain p c → ⊥) → (i : ℕ) → i < length es → (entry_at es i).chain ≡ c
+    → ⊥
 new_other p es c bounded keeps new i lt same = new (subst (IsChain p) same (kept_chain p es i keeps bounded.some lt))

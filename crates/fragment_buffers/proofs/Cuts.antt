@@ -15,7 +15,8 @@ cut_octets d s m e =
     ap (λ xs. take m xs) rest ∙ ap (λ n. take n (drop s d)) (e ∙ ap (λ xs. min 368 (length xs)) rest) ∙ take_min 368 (drop s d)
 
 -- the k-th of the pieces
-pub kth_of_cut : (d : List ℕ) (tag k : ℕ) (piece : Placed) → 376 ≤ length d → k < pieces_of (length d) → piece ≡ piece_of d tag k → slice_get (cut d tag) k ≡ Some piece
+pub kth_of_cut : (d : List ℕ) (tag k : ℕ) (piece : Placed) → 376 ≤ length d → k < pieces_of (length d) → piece ≡ piece_of d tag k
+    → slice_get (cut d tag) k ≡ Some piece
 unfolding cut
 kth_of_cut d tag k piece long lt is =
     let all : List Placed = map (piece_of d tag) (range_with_len 0 (pieces_of (length d))) in

@@ -1,5 +1,6 @@
 -- Dropping what has expired, one after another.
-use Rattle.std.proofs.Common.{◌≡◌, ℕ, zero, suc, ◌+◌, ◌<◌, ◌≤◌, List, [], ◌∷◌, ◌++◌, length, get_or, take, drop, refl, sym, ap, ◌∙◌, arith, append_assoc, add-one}
+use Rattle.std.proofs.Common.{◌≡◌, ℕ, zero, suc, ◌+◌, ◌<◌, ◌≤◌, List, [], ◌∷◌, ◌++◌, length, get_or, take, drop, refl, sym, ap, ◌∙◌, arith, append_assoc}
+use Rattle.std.proofs.Common.{add-one}
 use Rattle.std.proofs.lemmas.Bool.{cond-true, cond-false, lt-ltb, le-ltb}
 use Rattle.std.proofs.lemmas.List.{take_more, drop_more, take_all}
 use Rattle.std.specs.List.{remove}
@@ -22,7 +23,8 @@ drop_remove (x ∷ xs) (suc i) lt = drop_remove xs i (omega arith)
 abbrev pub kept_so_far : List Reassembly → ℕ → ℕ → List Reassembly
 kept_so_far held i now = take i held ++ unexpired (drop i held) now
 
-pub expired_at : (held : List Reassembly) (i now : ℕ) → i < length held → (get_or held i nothing).since + 60 ≤ now → kept_so_far held i now ≡ kept_so_far (remove held i) i now
+pub expired_at : (held : List Reassembly) (i now : ℕ) → i < length held → (get_or held i nothing).since + 60 ≤ now
+    → kept_so_far held i now ≡ kept_so_far (remove held i) i now
 unfolding unexpired
 expired_at held i now lt old =
     ap (λ rs. take i held ++ unexpired rs now) (drop_more held i nothing lt)
@@ -30,7 +32,8 @@ expired_at held i now lt old =
     ∙ ap (λ rs. take i held ++ unexpired rs now) (ap (λ n. drop n held) (add-one i) ∙ sym (drop_remove held i lt))
     ∙ ap (λ rs. rs ++ unexpired (drop i (remove held i)) now) (sym (take_remove held i))
 
-pub unexpired_at : (held : List Reassembly) (i now : ℕ) → i < length held → now < (get_or held i nothing).since + 60 → kept_so_far held i now ≡ kept_so_far held (i + 1) now
+pub unexpired_at : (held : List Reassembly) (i now : ℕ) → i < length held → now < (get_or held i nothing).since + 60
+    → kept_so_far held i now ≡ kept_so_far held (i + 1) now
 unfolding unexpired
 unexpired_at held i now lt young =
     ap (λ rs. take i held ++ unexpired rs now) (drop_more held i nothing lt)

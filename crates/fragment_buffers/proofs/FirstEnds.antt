@@ -17,7 +17,8 @@ pub still : (pool : PoolState) (entries : List Entry) → IsStill (first_end ent
 unfolding first_end
 still pool entries =
     All-map (λ (r : Reassembly). fold end_by 18446744073709551615 entries ≤ r.since + 60) (reassembly_in pool) entries
-    (all_last end_by (λ (time : ℕ) (e : Entry). time ≤ e.since + 60) (λ time e. earlier time (e.since + 60)) (λ sooner later e le lasts. omega (arith, le, lasts)) entries 18446744073709551615).1
+    (all_last end_by (λ (time : ℕ) (e : Entry). time ≤ e.since + 60) (λ time e. earlier time (e.since + 60))
+    (λ sooner later e le lasts. omega (arith, le, lasts)) entries 18446744073709551615).1
 
 pub still_sooner : (a b : ℕ) (held : List Reassembly) → a ≤ b → IsStill b held → IsStill a held
 still_sooner a b held le h = λ k d lt. omega (arith, le, h k d lt)
@@ -40,7 +41,8 @@ still_unexpired held time now h = All-filter (λ (r : Reassembly). is_within 60 
 more : (time : ℕ) (r : Reassembly) (rest : List Reassembly) → time ≤ r.since + 60 → IsStill time rest → IsStill time (r ∷ rest)
 more time r rest one h = All-cons (λ (x : Reassembly). time ≤ x.since + 60) r rest one h
 
-still_settled : (o : Option (List ℕ)) (r : Reassembly) (rest : List Reassembly) (time : ℕ) → time ≤ r.since + 60 → IsStill time rest → IsStill time (settled o r rest).held
+still_settled : (o : Option (List ℕ)) (r : Reassembly) (rest : List Reassembly) (time : ℕ) → time ≤ r.since + 60 → IsStill time rest
+    → IsStill time (settled o r rest).held
 still_settled None r rest time one h = more time r rest one h
 still_settled (Some octets) r rest time one h = h
 
@@ -49,18 +51,21 @@ grown_lasts : (b : Bool) (r anew : Reassembly) (p : PlacedPiece) (time : ℕ) �
 grown_lasts true r anew p time old new = new
 grown_lasts false r anew p time old new = old
 
-still_joined : (b : Bool) (r anew : Reassembly) (p : PlacedPiece) (rest : List Reassembly) (time : ℕ) → time ≤ r.since + 60 → time ≤ anew.since + 60 → IsStill time rest
+still_joined : (b : Bool) (r anew : Reassembly) (p : PlacedPiece) (rest : List Reassembly) (time : ℕ) → time ≤ r.since + 60 → time ≤ anew.since + 60
+    → IsStill time rest
     → IsStill time (cond b (record { held = r ∷ rest; outcome = Held }) (settled (datagram_of (grown r anew p)) (grown r anew p) rest)).held
 still_joined true r anew p rest time old new h = more time r rest old h
 still_joined false r anew p rest time old new h =
     still_settled (datagram_of (grown r anew p)) (grown r anew p) rest time (grown_lasts (overlaps r.pieces p) r anew p time old new) h
 
-still_named : (b : Bool) (r anew : Reassembly) (p : PlacedPiece) (rest : List Reassembly) (time : ℕ) → time ≤ r.since + 60 → time ≤ anew.since + 60 → IsStill time rest
+still_named : (b : Bool) (r anew : Reassembly) (p : PlacedPiece) (rest : List Reassembly) (time : ℕ) → time ≤ r.since + 60 → time ≤ anew.since + 60
+    → IsStill time rest
     → IsStill time (taken_in rest anew p).held → IsStill time (cond b (joined r anew p rest) (behind r (taken_in rest anew p))).held
 still_named true r anew p rest time old new h then = still_joined (repeats r.pieces p) r anew p rest time old new h
 still_named false r anew p rest time old new h then = more time r (taken_in rest anew p).held old then
 
-still_in : (held : List Reassembly) (anew : Reassembly) (p : PlacedPiece) (time : ℕ) → time ≤ anew.since + 60 → IsStill time held → IsStill time (taken_in held anew p).held
+still_in : (held : List Reassembly) (anew : Reassembly) (p : PlacedPiece) (time : ℕ) → time ≤ anew.since + 60 → IsStill time held
+    → IsStill time (taken_in held anew p).held
 unfolding taken_in
 still_in [] anew p time new h = still_settled (datagram_of anew) anew [] time new h
 still_in (r ∷ rest) anew p time new h =
@@ -68,13 +73,15 @@ still_in (r ∷ rest) anew p time new h =
     let others = All-tail (λ (x : Reassembly). time ≤ x.since + 60) r rest h in
     still_named (same_name anew r) r anew p rest time old new others (still_in rest anew p time new others)
 
-still_roomy : (b : Bool) (held : List Reassembly) (anew : Reassembly) (p : PlacedPiece) (time : ℕ) → IsStill time held → IsStill time (taken_in held anew p).held
+still_roomy : (b : Bool) (held : List Reassembly) (anew : Reassembly) (p : PlacedPiece) (time : ℕ) → IsStill time held
+    → IsStill time (taken_in held anew p).held
     → IsStill time (cond b (taken_in held anew p) (record { held = held; outcome = Full })).held
 still_roomy true held anew p time h then = then
 still_roomy false held anew p time h then = h
 
 -- a piece begins no reassembly that expires within 60 seconds
-pub still_taken : (held : List Reassembly) (origin : ℕ) (piece : Placed) (note now time : ℕ) → time ≤ now + 60 → IsStill time held → IsStill time (taken held origin piece note now).held
+pub still_taken : (held : List Reassembly) (origin : ℕ) (piece : Placed) (note now time : ℕ) → time ≤ now + 60 → IsStill time held
+    → IsStill time (taken held origin piece note now).held
 unfolding taken
 still_taken held origin piece note now time new h =
     let anew = begun origin piece note now in

@@ -1,5 +1,6 @@
 -- What a pool owes to the entries, over the calls that change both.
-use Rattle.std.proofs.Common.{◌≡◌, ℕ, zero, suc, ◌+◌, ◌<◌, ◌⊎◌, inl, inr, List, [], ◌∷◌, ◌++◌, length, map, get_or, set, take, drop, nat_lt, if◌then◌else◌, refl, sym, ap, subst, ◌∙◌, arith, length-append, length-set}
+use Rattle.std.proofs.Common.{◌≡◌, ℕ, zero, suc, ◌+◌, ◌<◌, ◌⊎◌, inl, inr, List, [], ◌∷◌, ◌++◌, length, map, get_or, set, take, drop, nat_lt, if◌then◌else◌}
+use Rattle.std.proofs.Common.{refl, sym, ap, subst, ◌∙◌, arith, length-append, length-set}
 use Rattle.std.proofs.lemmas.Bool.{cases_lt, cases_eq}
 use Rattle.std.proofs.lemmas.List.{get_or_append_left, get_or_push, get_or-set_same, get_or-set_other, map-append, length-map, get_or-map, same_lists}
 use Rattle.std.proofs.lemmas.List.Sums.{sum_by_push, sum_by-remove, sum_by-set, sum_by-cons}
@@ -24,18 +25,23 @@ kept_chain p es i k some lt = is_chain_if_long p _ (omega (arith, k.lengths i lt
 -- # What the entries tell
 
 gathered_entry_same : (p q : PoolState) (e : Entry) → chain_octets q e.chain ≡ chain_octets p e.chain → reassembly_in q e ≡ reassembly_in p e
-gathered_entry_same p q e same = ap (λ os. record { origin = e.origin; size = e.size; tag = e.tag; note = e.note; since = e.since; pieces = map (piece_in os) e.places }) same
+gathered_entry_same p q e same =
+    ap (λ os. record { origin = e.origin; size = e.size; tag = e.tag; note = e.note; since = e.since; pieces = map (piece_in os) e.places }) same
 
-pub gathered_same : (p q : PoolState) (es : List Entry) → ((i : ℕ) → i < length es → chain_octets q (entry_at es i).chain ≡ chain_octets p (entry_at es i).chain) → reassemblies_in q es ≡ reassemblies_in p es
+pub gathered_same : (p q : PoolState) (es : List Entry)
+    → ((i : ℕ) → i < length es → chain_octets q (entry_at es i).chain ≡ chain_octets p (entry_at es i).chain) → reassemblies_in q es ≡ reassemblies_in p es
 gathered_same p q es same =
-    map_same (reassembly_in q) (reassembly_in p) es (All-from_get_or (λ e. reassembly_in q e ≡ reassembly_in p e) es no_entry (λ i lt. gathered_entry_same p q (entry_at es i) (same i lt)))
+    map_same (reassembly_in q) (reassembly_in p) es
+    (All-from_get_or (λ e. reassembly_in q e ≡ reassembly_in p e) es no_entry (λ i lt. gathered_entry_same p q (entry_at es i) (same i lt)))
 
-pub gathered_at : (p : PoolState) (es : List Entry) (i : ℕ) (d : Reassembly) → i < length es → get_or (reassemblies_in p es) i d ≡ reassembly_in p (entry_at es i)
+pub gathered_at : (p : PoolState) (es : List Entry) (i : ℕ) (d : Reassembly) → i < length es
+    → get_or (reassemblies_in p es) i d ≡ reassembly_in p (entry_at es i)
 gathered_at p es i d lt = get_or-map (reassembly_in p) es i no_entry d lt
 
 pub blocks_gathered : (p : PoolState) (es : List Entry) → blocks_held (reassemblies_in p es) ≡ blocks_used es
 blocks_gathered p [] = refl
-blocks_gathered p (e ∷ es) = sum_by-cons (λ r. blocks r.size) (reassembly_in p e) (reassemblies_in p es) ∙ ap (λ n. blocks e.size + n) (blocks_gathered p es) ∙ sym (sum_by-cons (λ e. blocks e.size) e es)
+blocks_gathered p (e ∷ es) = sum_by-cons (λ r. blocks r.size) (reassembly_in p e) (reassemblies_in p es) ∙ ap (λ n. blocks e.size + n) (blocks_gathered p es)
+    ∙ sym (sum_by-cons (λ e. blocks e.size) e es)
 
 -- # An entry more
 
@@ -55,9 +61,11 @@ pub record Begins (p q : PoolState) (e : Entry) : Type 0 where
   pub free : q.free + blocks e.size ≡ p.free
   pub others : (c : ℕ) → IsChain p c → Stays p q c
 
-pub gathered_push : (p q : PoolState) (es : List Entry) (e : Entry) → Keeps p es → AreSome es → Begins p q e → reassemblies_in q (es ++ e ∷ []) ≡ reassemblies_in p es ++ reassembly_in q e ∷ []
+pub gathered_push : (p q : PoolState) (es : List Entry) (e : Entry) → Keeps p es → AreSome es → Begins p q e
+    → reassemblies_in q (es ++ e ∷ []) ≡ reassemblies_in p es ++ reassembly_in q e ∷ []
 gathered_push p q es e k some b =
-    map-append (reassembly_in q) es (e ∷ []) ∙ ap (λ rs. rs ++ reassembly_in q e ∷ []) (gathered_same p q es (λ i lt. (b.others _ (kept_chain p es i k some lt)).1))
+    map-append (reassembly_in q) es (e ∷ [])
+    ∙ ap (λ rs. rs ++ reassembly_in q e ∷ []) (gathered_same p q es (λ i lt. (b.others _ (kept_chain p es i k some lt)).1))
 
 pub keeps_push : (p q : PoolState) (es : List Entry) (e : Entry) → Keeps p es → AreSome es → Begins p q e → Keeps q (es ++ e ∷ [])
 keeps_push p q es e k some b =
@@ -66,16 +74,20 @@ keeps_push p q es e k some b =
     let other : (i : ℕ) → i < length es → (entry_at es i).chain ≡ e.chain → ⊥ = λ i lt bad. b.new (subst (IsChain p) bad (kept_chain p es i k some lt)) in
     record {
       lengths = λ i lt. elim (before_or_last es e i lt) as (λ _. length (chain_octets q (entry_at more i).chain) ≡ (entry_at more i).size) [
-        | inl less ↦ subst (λ (w : Entry). length (chain_octets q w.chain) ≡ w.size) (sym (entry_before es e i less)) (ap length (b.others _ (kept_chain p es i k some less)).1 ∙ k.lengths i less)
+        | inl less ↦ subst (λ (w : Entry). length (chain_octets q w.chain) ≡ w.size) (sym (entry_before es e i less))
+            (ap length (b.others _ (kept_chain p es i k some less)).1 ∙ k.lengths i less)
         | inr last ↦ subst (λ (w : Entry). length (chain_octets q w.chain) ≡ w.size) (sym (entry_last es e i last)) b.long
       ];
       distinct = λ i j li lj same. elim (before_or_last es e i li) as (λ _. i ≡ j) [
         | inl less ↦ elim (before_or_last es e j lj) as (λ _. i ≡ j) [
-          | inl less' ↦ k.distinct i j less less' (ap (λ (w : Entry). w.chain) (sym (entry_before es e i less)) ∙ same ∙ ap (λ (w : Entry). w.chain) (entry_before es e j less'))
-          | inr last ↦ absurd (other i less (ap (λ (w : Entry). w.chain) (sym (entry_before es e i less)) ∙ same ∙ ap (λ (w : Entry). w.chain) (entry_last es e j last)))
+          | inl less' ↦ k.distinct i j less less'
+              (ap (λ (w : Entry). w.chain) (sym (entry_before es e i less)) ∙ same ∙ ap (λ (w : Entry). w.chain) (entry_before es e j less'))
+          | inr last ↦ absurd (other i less
+              (ap (λ (w : Entry). w.chain) (sym (entry_before es e i less)) ∙ same ∙ ap (λ (w : Entry). w.chain) (entry_last es e j last)))
         ]
         | inr last ↦ elim (before_or_last es e j lj) as (λ _. i ≡ j) [
-          | inl less' ↦ absurd (other j less' (ap (λ (w : Entry). w.chain) (sym (entry_before es e j less')) ∙ sym same ∙ ap (λ (w : Entry). w.chain) (entry_last es e i last)))
+          | inl less' ↦ absurd (other j less'
+              (ap (λ (w : Entry). w.chain) (sym (entry_before es e j less')) ∙ sym same ∙ ap (λ (w : Entry). w.chain) (entry_last es e i last)))
           | inr last' ↦ last ∙ sym last'
         ]
       ];
@@ -109,7 +121,8 @@ pub record Changes (p q : PoolState) (es : List Entry) (i : ℕ) (e : Entry) : T
   pub free : q.free ≡ p.free
   pub others : (c : ℕ) → (c ≡ (entry_at es i).chain → ⊥) → IsChain p c → Stays p q c
 
-entry_set : (es : List Entry) (i : ℕ) (e : Entry) (j : ℕ) → i < length es → ((j ≡ i) × (entry_at (set es i e) j ≡ e)) ⊎ ((j ≡ i → ⊥) × (entry_at (set es i e) j ≡ entry_at es j))
+entry_set : (es : List Entry) (i : ℕ) (e : Entry) (j : ℕ) → i < length es
+    → ((j ≡ i) × (entry_at (set es i e) j ≡ e)) ⊎ ((j ≡ i → ⊥) × (entry_at (set es i e) j ≡ entry_at es j))
 entry_set es i e j lt = elim (cases_eq j i) [
   | inl same ↦ inl (same, ap (entry_at (set es i e)) same ∙ get_or-set_same es i e no_entry lt)
   | inr ne ↦ inr (ne, get_or-set_other es i j e no_entry ne)
@@ -121,24 +134,28 @@ chain_set p q es i e j c = elim (entry_set es i e j c.there) [
   | inr other ↦ ap (λ (w : Entry). w.chain) other.1
 ]
 
-apart_from : (p : PoolState) (es : List Entry) (i j : ℕ) → Keeps p es → i < length es → j < length es → (j ≡ i → ⊥) → (entry_at es j).chain ≡ (entry_at es i).chain → ⊥
+apart_from : (p : PoolState) (es : List Entry) (i j : ℕ) → Keeps p es → i < length es → j < length es → (j ≡ i → ⊥)
+    → (entry_at es j).chain ≡ (entry_at es i).chain → ⊥
 apart_from p es i j k li lj ne same = ne (k.distinct j i lj li same)
 
 pub keeps_set : (p q : PoolState) (es : List Entry) (i : ℕ) (e : Entry) → Keeps p es → AreSome es → Changes p q es i e → Keeps q (set es i e)
 keeps_set p q es i e k some c =
-    let sum : blocks_used (set es i e) + blocks (entry_at es i).size ≡ blocks_used es + blocks e.size = sum_by-set (λ e. blocks e.size) es i e no_entry c.there in
+    let sum : blocks_used (set es i e) + blocks (entry_at es i).size
+    ≡ blocks_used es + blocks e.size = sum_by-set (λ e. blocks e.size) es i e no_entry c.there in
     let n : length (set es i e) ≡ length es = length-set es i e in
     record {
       lengths = λ j lj. elim (entry_set es i e j c.there) as (λ _. length (chain_octets q (entry_at (set es i e) j).chain) ≡ (entry_at (set es i e) j).size) [
         | inl here ↦ subst (λ (w : Entry). length (chain_octets q w.chain) ≡ w.size) (sym here.1) c.long
         | inr other ↦ subst (λ (w : Entry). length (chain_octets q w.chain) ≡ w.size) (sym other.1)
-            (ap length (c.others _ (apart_from p es i j k c.there (omega (arith, n)) other.0) (kept_chain p es j k some (omega (arith, n)))).1 ∙ k.lengths j (omega (arith, n)))
+            (ap length (c.others _ (apart_from p es i j k c.there (omega (arith, n)) other.0) (kept_chain p es j k some (omega (arith, n)))).1
+            ∙ k.lengths j (omega (arith, n)))
       ];
       distinct = λ j m lj lm same. k.distinct j m (omega (arith, n)) (omega (arith, n)) (sym (chain_set p q es i e j c) ∙ same ∙ chain_set p q es i e m c);
       room = omega (arith, sum, ap (λ n. blocks n) c.size_is, c.free, k.room);
     }
 
-pub gathered_set : (p q : PoolState) (es : List Entry) (i : ℕ) (e : Entry) → Keeps p es → AreSome es → Changes p q es i e → reassemblies_in q (set es i e) ≡ set (reassemblies_in p es) i (reassembly_in q e)
+pub gathered_set : (p q : PoolState) (es : List Entry) (i : ℕ) (e : Entry) → Keeps p es → AreSome es → Changes p q es i e
+    → reassemblies_in q (set es i e) ≡ set (reassemblies_in p es) i (reassembly_in q e)
 gathered_set p q es i e k some c =
     let n : length (set es i e) ≡ length es = length-set es i e in
     let new : length (reassemblies_in q (set es i e)) ≡ length es = length-map (set es i e) (reassembly_in q) ∙ n in
@@ -146,7 +163,9 @@ gathered_set p q es i e k some c =
     same_lists _ _ (new ∙ sym (length-set (reassemblies_in p es) i (reassembly_in q e) ∙ old)) (λ j d lj.
     let within : j < length es = omega (arith, new) in
     gathered_at q (set es i e) j d (omega (arith, n)) ∙ elim (entry_set es i e j c.there) [
-      | inl here ↦ ap (reassembly_in q) here.1 ∙ sym (ap (λ m. get_or (set (reassemblies_in p es) i (reassembly_in q e)) m d) here.0 ∙ get_or-set_same (reassemblies_in p es) i (reassembly_in q e) d (omega (arith, old, c.there)))
+      | inl here ↦ ap (reassembly_in q) here.1
+          ∙ sym (ap (λ m. get_or (set (reassemblies_in p es) i (reassembly_in q e)) m d) here.0
+          ∙ get_or-set_same (reassemblies_in p es) i (reassembly_in q e) d (omega (arith, old, c.there)))
       | inr other ↦
           ap (reassembly_in q) other.1
           ∙ gathered_entry_same p q (entry_at es j) (c.others _ (apart_from p es i j k c.there within other.0) (kept_chain p es j k some within)).1
@@ -198,16 +217,19 @@ keeps_remove p q es i k some e =
     let sum : blocks_used (remove es i) + blocks (entry_at es i).size ≡ blocks_used es = sum_by-remove (λ e. blocks e.size) es i no_entry e.there in
     record {
       lengths = λ j lj. subst (λ (w : Entry). length (chain_octets q w.chain) ≡ w.size) (sym (entry_remove es i j e.there))
-          (ap length (e.others _ (apart_from p es i (later i j) k e.there (old j lj) (later_apart i j)) (kept_chain p es (later i j) k some (old j lj))).1 ∙ k.lengths (later i j) (old j lj));
+          (ap length (e.others _ (apart_from p es i (later i j) k e.there (old j lj) (later_apart i j)) (kept_chain p es (later i j) k some (old j lj))).1
+          ∙ k.lengths (later i j) (old j lj));
       distinct = λ j m lj lm same. later_same i j m (k.distinct (later i j) (later i m) (old j lj) (old m lm)
           (ap (λ (w : Entry). w.chain) (sym (entry_remove es i j e.there)) ∙ same ∙ ap (λ (w : Entry). w.chain) (entry_remove es i m e.there)));
       room = omega (arith, sum, e.free, k.room);
     }
 
 map_remove : {X Y : Type 0} (f : X → Y) (xs : List X) (i : ℕ) → map f (remove xs i) ≡ remove (map f xs) i
-map_remove f xs i = map-append f (take i xs) (drop (suc i) xs) ∙ ap (λ ys. ys ++ map f (drop (suc i) xs)) (sym (take-map f i xs)) ∙ ap (λ ys. take i (map f xs) ++ ys) (sym (drop-map f (suc i) xs))
+map_remove f xs i = map-append f (take i xs) (drop (suc i) xs) ∙ ap (λ ys. ys ++ map f (drop (suc i) xs)) (sym (take-map f i xs))
+    ∙ ap (λ ys. take i (map f xs) ++ ys) (sym (drop-map f (suc i) xs))
 
-pub gathered_remove : (p q : PoolState) (es : List Entry) (i : ℕ) → Keeps p es → AreSome es → Ends p q es i → reassemblies_in q (remove es i) ≡ remove (reassemblies_in p es) i
+pub gathered_remove : (p q : PoolState) (es : List Entry) (i : ℕ) → Keeps p es → AreSome es → Ends p q es i
+    → reassemblies_in q (remove es i) ≡ remove (reassemblies_in p es) i
 gathered_remove p q es i k some e =
     let long : length (remove es i) + 1 ≡ length es = length-remove es i e.there in
     let old : (j : ℕ) → j < length (remove es i) → later i j < length es = λ j lj. later_within i j (length es) e.there (omega (arith, long)) in
@@ -222,8 +244,14 @@ moves_remove p q es i e =
     record {
       free = omega (arith, sum_by-remove (λ (e : Entry). blocks e.size) es i no_entry e.there, e.free);
       others = λ d is.
-          let stays = e.others d (λ bad. is.1 i e.there (sym bad)) is.0 in
-          ((stays.0, λ j lj same. is.1 (later i j) (later_within i j (length es) e.there (omega (arith, long))) (ap (λ (w : Entry). w.chain) (sym (entry_remove es i j e.there)) ∙ same)), stays.1);
+          let stays = e.others d (λ bad. is.1 i e.there (sym bad)) is.0 in (
+            (
+              stays.0,
+              λ j lj same. is.1 (later i j) (later_within i j (length es) e.there (omega (arith, long)))
+                  (ap (λ (w : Entry). w.chain) (sym (entry_remove es i j e.there)) ∙ same),
+            ),
+            stays.1,
+          );
     }
 
 -- # One after another
@@ -246,7 +274,8 @@ bounded_remove : (es : List Entry) (i : ℕ) → i < length es → IsBounded es 
 bounded_remove es i lt b = record {
   count = omega (arith, length-remove es i lt, b.count);
   blocks = omega (arith, sum_by-remove (λ (e : Entry). blocks e.size) es i no_entry lt, b.blocks);
-  some = All-append (λ (e : Entry). 0 < e.size) (take i es) (drop (suc i) es) (All-take (λ (e : Entry). 0 < e.size) i es b.some) (All-drop (λ (e : Entry). 0 < e.size) (suc i) es b.some);
+  some = All-append (λ (e : Entry). 0 < e.size) (take i es) (drop (suc i) es) (All-take (λ (e : Entry). 0 < e.size) i es b.some)
+      (All-drop (λ (e : Entry). 0 < e.size) (suc i) es b.some);
 }
 
 pub bounded_set : (es : List Entry) (i : ℕ) (e : Entry) → i < length es → e.size ≡ (entry_at es i).size → 0 < e.size → IsBounded es → IsBounded (set es i e)

@@ -24,7 +24,8 @@ none_gathered p es origin piece note now none k lt =
     let within : k < length es = omega (arith, length-gathered p es) in
     name_gathered p es origin piece note now k within ∙ none k within
 
-pub full_gathered : (p : PoolState) (es : List Entry) (origin : ℕ) (piece : Placed) (note now : ℕ) → NoneIsNamed es origin piece → (8 ≤ length es) ⊎ (80 < blocks_used es + blocks piece.size)
+pub full_gathered : (p : PoolState) (es : List Entry) (origin : ℕ) (piece : Placed) (note now : ℕ) → NoneIsNamed es origin piece
+    → (8 ≤ length es) ⊎ (80 < blocks_used es + blocks piece.size)
     → taken (reassemblies_in p es) origin piece note now ≡ record { held = reassemblies_in p es; outcome = Full }
 full_gathered p es origin piece note now none full =
     taken_full (reassemblies_in p es) origin piece note now (none_gathered p es origin piece note now none) (elim full [
@@ -32,15 +33,19 @@ full_gathered p es origin piece note now none full =
       | inr more ↦ inr (omega (arith, blocks_gathered p es))
     ])
 
-pub new_gathered : (p q : PoolState) (es fs : List Entry) (origin : ℕ) (piece : Placed) (note now i : ℕ) → NoneIsNamed es origin piece → length es < 8 → blocks_used es + blocks piece.size ≤ 80
-    → reassemblies_in q fs ≡ reassemblies_in p es ++ begun origin piece note now ∷ [] → i ≡ length es → taken (reassemblies_in p es) origin piece note now ≡ settled_at (reassemblies_in q fs) i
+pub new_gathered : (p q : PoolState) (es fs : List Entry) (origin : ℕ) (piece : Placed) (note now i : ℕ) → NoneIsNamed es origin piece → length es < 8
+    → blocks_used es + blocks piece.size ≤ 80
+    → reassemblies_in q fs ≡ reassemblies_in p es ++ begun origin piece note now ∷ [] → i ≡ length es
+    → taken (reassemblies_in p es) origin piece note now ≡ settled_at (reassemblies_in q fs) i
 new_gathered p q es fs origin piece note now i none few fits pushed is =
-    taken_new (reassemblies_in p es) origin piece note now (none_gathered p es origin piece note now none) (omega (arith, length-gathered p es)) (omega (arith, blocks_gathered p es))
+    taken_new (reassemblies_in p es) origin piece note now (none_gathered p es origin piece note now none) (omega (arith, length-gathered p es))
+    (omega (arith, blocks_gathered p es))
     ∙ ap (λ held. settled_at held (length (reassemblies_in p es))) (sym pushed) ∙ ap (settled_at (reassemblies_in q fs)) (length-gathered p es ∙ sym is)
 
 pub found_gathered : (p : PoolState) (es : List Entry) (origin : ℕ) (piece : Placed) (note now i : ℕ) → i < length es
     → (origin ≡ (entry_at es i).origin) × (piece.size ≡ (entry_at es i).size) × (piece.tag ≡ (entry_at es i).tag)
-    → ((k : ℕ) → k < i → has_name origin piece.size piece.tag (entry_at es k) ≡ false) → taken (reassemblies_in p es) origin piece note now ≡ joined_at (reassemblies_in p es) i piece note now
+    → ((k : ℕ) → k < i → has_name origin piece.size piece.tag (entry_at es k) ≡ false)
+    → taken (reassemblies_in p es) origin piece note now ≡ joined_at (reassemblies_in p es) i piece note now
 found_gathered p es origin piece note now i lt same first =
     taken_found (reassemblies_in p es) origin piece note now i (omega (arith, length-gathered p es))
     (same.0 ∙ sym (ap (λ (r : Reassembly). r.origin) (gathered_at p es i nothing lt)))

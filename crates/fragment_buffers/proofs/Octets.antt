@@ -1,5 +1,6 @@
 -- Parts of lists of octets, and tests over mapped lists.
-use Rattle.std.proofs.Common.{◌≡◌, ℕ, ◌+◌, ◌-◌, ◌<◌, ◌≤◌, ◌⊎◌, inl, inr, Bool, ◌||◌, List, [], ◌∷◌, length, map, get_or, drop, Some, None, refl, sym, ap, ◌∙◌, arith, length-take, length-drop}
+use Rattle.std.proofs.Common.{◌≡◌, ℕ, ◌+◌, ◌-◌, ◌<◌, ◌≤◌, ◌⊎◌, inl, inr, Bool, ◌||◌, List, [], ◌∷◌, length, map, get_or, drop, Some, None, refl, sym, ap, ◌∙◌}
+use Rattle.std.proofs.Common.{arith, length-take, length-drop}
 use Rattle.std.proofs.lemmas.List.{get_or-take, get_or-drop, same_lists}
 use Rattle.std.proofs.lemmas.Option.{slice_get-get_or, slice_get_past}
 use Rattle.std.proofs.lemmas.List.Elements.{All-head, All-tail}
@@ -44,7 +45,8 @@ slice_written os at piece fits =
 pub get-slice : (os : List ℕ) (i a n : ℕ) → a ≤ i → i < a + n → a + n ≤ length os → slice_get (slice_range os a (a + n)) (i - a) ≡ slice_get os i
 get-slice os i a n le lt fits =
     let back : a + (i - a) ≡ i = omega arith in
-    slice_get-get_or _ (i - a) 0 (omega (arith, length-slice os a n fits)) ∙ ap Some (get_or-slice os a n (i - a) 0 (omega arith) ∙ ap (λ k. get_or os k 0) back) ∙ sym (slice_get-get_or os i 0 (omega arith))
+    slice_get-get_or _ (i - a) 0 (omega (arith, length-slice os a n fits))
+    ∙ ap Some (get_or-slice os a n (i - a) 0 (omega arith) ∙ ap (λ k. get_or os k 0) back) ∙ sym (slice_get-get_or os i 0 (omega arith))
 
 pub get-past : (os : List ℕ) (a n j : ℕ) → n ≤ j → slice_get (slice_range os a (a + n)) j ≡ None
 get-past os a n j le = slice_get_past _ j (omega (arith, length-take (a + n - a) (drop a os)))
@@ -55,7 +57,8 @@ module _ {X Y : Type 0} where
   pub list_any-map : (t : Y → Bool) (u : X → Bool) (f : X → Y) (xs : List X) → All (λ x. t (f x) ≡ u x) xs → list_any t (map f xs) ≡ list_any u xs
   list_any-map t u f [] h = refl
   list_any-map t u f (x ∷ xs) h =
-      ap (λ b. b || list_any t (map f xs)) (All-head (λ x. t (f x) ≡ u x) x xs h) ∙ ap (λ b. u x || b) (list_any-map t u f xs (All-tail (λ x. t (f x) ≡ u x) x xs h))
+      ap (λ b. b || list_any t (map f xs)) (All-head (λ x. t (f x) ≡ u x) x xs h)
+      ∙ ap (λ b. u x || b) (list_any-map t u f xs (All-tail (λ x. t (f x) ≡ u x) x xs h))
 
   pub map_same : (f g : X → Y) (xs : List X) → All (λ x. f x ≡ g x) xs → map f xs ≡ map g xs
   map_same f g [] h = refl

@@ -1,5 +1,6 @@
 -- The pieces that an entry has in its chain.
-use Rattle.std.proofs.Common.{◌≡◌, ℕ, zero, suc, ◌+◌, ◌-◌, ◌*◌, ◌<◌, ◌≤◌, inl, inr, Bool, true, false, ◌&&◌, ◌||◌, ◌==◌, nat_lt, nat_le, cond, List, [], ◌∷◌, ◌++◌, length, map, get_or, take, drop, Option, Some, None, refl, sym, ap, subst, ◌∙◌, arith, drop-cons}
+use Rattle.std.proofs.Common.{◌≡◌, ℕ, zero, suc, ◌+◌, ◌-◌, ◌*◌, ◌<◌, ◌≤◌, inl, inr, Bool, true, false, ◌&&◌, ◌||◌, ◌==◌, nat_lt, nat_le, cond, List, [], ◌∷◌}
+use Rattle.std.proofs.Common.{◌++◌, length, map, get_or, take, drop, Option, Some, None, refl, sym, ap, subst, ◌∙◌, arith, drop-cons}
 use Rattle.std.proofs.lemmas.Bool.{cases_Bool, cases_eq, or_parts, and_parts, cond-true, leb-true, ltb-true, ltb-false}
 use Rattle.std.proofs.lemmas.Bool.Decides.{nat_tests}
 use Rattle.std.proofs.lemmas.Option.{slice_get-get_or}
@@ -16,24 +17,29 @@ use Rattle.fragment_buffers.proofs.Places.{none_passes, apart_parts}
 
 -- # Tests on places are tests on pieces
 
-pub overlaps_in : (os : List ℕ) (ps : List PieceSpan) (piece : Placed) → All (IsPlace (length os)) ps → overlaps (map (piece_in os) ps) (placed piece) ≡ list_any (meet (place_of piece)) ps
+pub overlaps_in : (os : List ℕ) (ps : List PieceSpan) (piece : Placed) → All (IsPlace (length os)) ps
+    → overlaps (map (piece_in os) ps) (placed piece) ≡ list_any (meet (place_of piece)) ps
 overlaps_in os ps piece places =
     list_any-map (overlap (placed piece)) (meet (place_of piece)) (piece_in os) ps (λ k d lt.
     let q : PieceSpan = get_or ps k d in
-    ap (λ n. nat_lt (q.offset * 8) (piece.offset * 8 + length piece.octets) && nat_lt (piece.offset * 8) (q.offset * 8 + n)) (length-slice os (q.offset * 8) q.length (places k d lt).within))
+    ap (λ n. nat_lt (q.offset * 8) (piece.offset * 8 + length piece.octets) && nat_lt (piece.offset * 8) (q.offset * 8 + n))
+    (length-slice os (q.offset * 8) q.length (places k d lt).within))
 
 same_units : (a b m n : ℕ) → ((a * 8 == b * 8) && (m == n)) ≡ ((a == b) && (m == n))
 same_units a b m n = grind (arith, nat_tests)
 
-pub repeats_in : (os : List ℕ) (ps : List PieceSpan) (piece : Placed) → All (IsPlace (length os)) ps → repeats (map (piece_in os) ps) (placed piece) ≡ list_any (same_place (place_of piece)) ps
+pub repeats_in : (os : List ℕ) (ps : List PieceSpan) (piece : Placed) → All (IsPlace (length os)) ps
+    → repeats (map (piece_in os) ps) (placed piece) ≡ list_any (same_place (place_of piece)) ps
 repeats_in os ps piece places =
     list_any-map (λ q. (q.start == piece.offset * 8) && (length q.octets == length piece.octets)) (same_place (place_of piece)) (piece_in os) ps (λ k d lt.
     let q : PieceSpan = get_or ps k d in
-    ap (λ n. (q.offset * 8 == piece.offset * 8) && (n == length piece.octets)) (length-slice os (q.offset * 8) q.length (places k d lt).within) ∙ same_units q.offset piece.offset q.length (length piece.octets))
+    ap (λ n. (q.offset * 8 == piece.offset * 8) && (n == length piece.octets)) (length-slice os (q.offset * 8) q.length (places k d lt).within)
+    ∙ same_units q.offset piece.offset q.length (length piece.octets))
 
 -- # A piece that is written
 
-pub written_in : (os : List ℕ) (ps : List PieceSpan) (piece : Placed) → IsPiece piece → length os ≡ piece.size → All (IsPlace (length os)) ps → list_any (meet (place_of piece)) ps ≡ false
+pub written_in : (os : List ℕ) (ps : List PieceSpan) (piece : Placed) → IsPiece piece → length os ≡ piece.size → All (IsPlace (length os)) ps
+    → list_any (meet (place_of piece)) ps ≡ false
     → map (piece_in (overwrite os (piece.offset * 8) piece.octets)) (ps ++ place_of piece ∷ []) ≡ map (piece_in os) ps ++ placed piece ∷ []
 written_in os ps piece rule long places none =
     let new : List ℕ = overwrite os (piece.offset * 8) piece.octets in
@@ -41,7 +47,8 @@ written_in os ps piece rule long places none =
     let old : map (piece_in new) ps ≡ map (piece_in os) ps = map_same (piece_in new) (piece_in os) ps (λ k d lt.
     let q : PieceSpan = get_or ps k d in
     ap (λ octets. record { start = q.offset * 8; octets = octets })
-    (slice_apart os (piece.offset * 8) piece.octets (q.offset * 8) q.length (places k d lt).within fits (apart_parts (place_of piece) q (none_passes (meet (place_of piece)) ps none k d lt) rule.some (places k d lt).some))) in
+    (slice_apart os (piece.offset * 8) piece.octets (q.offset * 8) q.length (places k d lt).within fits
+    (apart_parts (place_of piece) q (none_passes (meet (place_of piece)) ps none k d lt) rule.some (places k d lt).some))) in
     map-append (piece_in new) ps (place_of piece ∷ []) ∙ ap (λ xs. xs ++ piece_in new (place_of piece) ∷ []) old
     ∙ ap (λ octets. map (piece_in os) ps ++ record { start = piece.offset * 8; octets = octets } ∷ []) (slice_written os (piece.offset * 8) piece.octets fits)
 
@@ -52,7 +59,8 @@ octet_in os q i place h =
     let parts = and_parts _ _ h in
     cond-true (nat_le (q.offset * 8) i) _ _ parts.0 ∙ get-slice os i (q.offset * 8) q.length (leb-true _ _ parts.0) (ltb-true _ _ parts.1) place.within
 
-late_out : (os : List ℕ) (a n i : ℕ) (b : Bool) → nat_le a i ≡ b → (b && nat_lt i (a + n)) ≡ false → cond b (slice_get (slice_range os a (a + n)) (i - a)) None ≡ None
+late_out : (os : List ℕ) (a n i : ℕ) (b : Bool) → nat_le a i ≡ b → (b && nat_lt i (a + n)) ≡ false
+    → cond b (slice_get (slice_range os a (a + n)) (i - a)) None ≡ None
 late_out os a n i false e h = refl
 late_out os a n i true e h = get-past os a n (i - a) (omega (arith, ltb-false _ _ h, leb-true _ _ e))
 
@@ -67,7 +75,8 @@ pub first_none : (o rest : Option ℕ) → o ≡ None → first_of o rest ≡ re
 first_none None rest e = refl
 first_none (Some y) rest e = cc
 
-octet_covered : (os : List ℕ) (ps : List PieceSpan) (i : ℕ) → All (IsPlace (length os)) ps → i < length os → list_any (covers i) ps ≡ true → octet_at (map (piece_in os) ps) i ≡ slice_get os i
+octet_covered : (os : List ℕ) (ps : List PieceSpan) (i : ℕ) → All (IsPlace (length os)) ps → i < length os → list_any (covers i) ps ≡ true
+    → octet_at (map (piece_in os) ps) i ≡ slice_get os i
 octet_covered os [] i places lt h = cc
 octet_covered os (q ∷ qs) i places lt h =
     let rest : Option ℕ = octet_at (map (piece_in os) qs) i in
@@ -88,13 +97,16 @@ octet_uncovered os (q ∷ qs) i h =
 
 -- # The datagram
 
-pub gathered_all : (os : List ℕ) (ps : List PlacedPiece) (from count : ℕ) → from + count ≤ length os → ((i : ℕ) → from ≤ i → i < from + count → octet_at ps i ≡ slice_get os i)
+pub gathered_all : (os : List ℕ) (ps : List PlacedPiece) (from count : ℕ) → from + count ≤ length os
+    → ((i : ℕ) → from ≤ i → i < from + count → octet_at ps i ≡ slice_get os i)
     → gathered ps from count ≡ Some (take count (drop from os))
 gathered_all os ps from zero le reads = refl
 gathered_all os ps from (suc count) le reads =
     let here : octet_at ps from ≡ Some (get_or os from 0) = reads from (omega arith) (omega arith) ∙ slice_get-get_or os from 0 (omega arith) in
-    let rest : gathered ps (suc from) count ≡ Some (take count (drop (suc from) os)) = gathered_all os ps (suc from) count (omega arith) (λ i li lt. reads i (omega arith) (omega arith)) in
-    ap (λ o. before_all o (gathered ps (suc from) count)) here ∙ ap (λ o. before_all (Some (get_or os from 0)) o) rest ∙ ap (λ xs. Some (take (suc count) xs)) (sym (drop-cons os from 0 (omega arith)))
+    let rest : gathered ps (suc from) count
+    ≡ Some (take count (drop (suc from) os)) = gathered_all os ps (suc from) count (omega arith) (λ i li lt. reads i (omega arith) (omega arith)) in
+    ap (λ o. before_all o (gathered ps (suc from) count)) here ∙ ap (λ o. before_all (Some (get_or os from 0)) o) rest
+    ∙ ap (λ xs. Some (take (suc count) xs)) (sym (drop-cons os from 0 (omega arith)))
 
 before_none : (o : Option ℕ) → before_all o None ≡ None
 before_none None = refl
@@ -108,12 +120,14 @@ gathered_gap ps from (suc count) i le lt none = elim (cases_eq i from) [
 ]
 
 -- an entry with no gap is the octets of its chain
-pub datagram_covered : (pool : PoolState) (e : Entry) → IsEntry e → length (chain_octets pool e.chain) ≡ e.size → IsCovered e → datagram_of (reassembly_in pool e) ≡ Some (chain_octets pool e.chain)
+pub datagram_covered : (pool : PoolState) (e : Entry) → IsEntry e → length (chain_octets pool e.chain) ≡ e.size → IsCovered e
+    → datagram_of (reassembly_in pool e) ≡ Some (chain_octets pool e.chain)
 unfolding datagram_of
 datagram_covered pool e rule long covered =
     let os : List ℕ = chain_octets pool e.chain in
     let places : All (IsPlace (length os)) e.places = subst (λ n. All (IsPlace n) e.places) (sym long) rule.places in
-    gathered_all os (map (piece_in os) e.places) 0 e.size (omega (arith, long)) (λ i le lt. octet_covered os e.places i places (omega (arith, long)) (covered i (omega arith)))
+    gathered_all os (map (piece_in os) e.places) 0 e.size (omega (arith, long))
+    (λ i le lt. octet_covered os e.places i places (omega (arith, long)) (covered i (omega arith)))
     ∙ ap Some (take_all e.size os (omega (arith, long)))
 
 pub datagram_gap : (pool : PoolState) (e : Entry) → HasGap e → datagram_of (reassembly_in pool e) ≡ None

@@ -1,5 +1,6 @@
 -- Places of pieces: how many there can be, and what writing one makes of the pieces.
-use Rattle.std.proofs.Common.{◌≡◌, ◌≢◌, ℕ, zero, suc, ◌+◌, ◌*◌, ◌/◌, ◌%◌, ◌<◌, ◌≤◌, ◌⊎◌, inl, inr, Bool, true, false, ◌&&◌, nat_lt, eqb, List, [], ◌∷◌, ◌++◌, length, map, get_or, sym, ◌∙◌, arith, length-append}
+use Rattle.std.proofs.Common.{◌≡◌, ◌≢◌, ℕ, zero, suc, ◌+◌, ◌*◌, ◌/◌, ◌%◌, ◌<◌, ◌≤◌, ◌⊎◌, inl, inr, Bool, true, false, ◌&&◌, nat_lt, eqb, List, [], ◌∷◌, ◌++◌}
+use Rattle.std.proofs.Common.{length, map, get_or, sym, ◌∙◌, arith, length-append}
 use Rattle.std.proofs.lemmas.Bool.{cases_lt, or_parts, eqb-true, ltb-true, leb-true, and_parts, and_from, or_cases, or_left, or_right, lt-ltb, le-leb}
 use Rattle.std.proofs.lemmas.Bool.Decides.{nat_tests, Decides-eqb}
 use Rattle.std.proofs.lemmas.List.{length-map, get_or-map}
@@ -29,7 +30,8 @@ meet_flips p q h = grind (arith, nat_tests)
 meet_parts : (a m b n : ℕ) → (nat_lt b (a + m) && nat_lt a (b + n)) ≡ false → 0 < m → 0 < n → (b + n ≤ a) ⊎ (a + m ≤ b)
 meet_parts a m b n h pm pn = grind (arith, nat_tests)
 
-pub apart_parts : (p q : PieceSpan) → meet p q ≡ false → 0 < p.length → 0 < q.length → (q.offset * 8 + q.length ≤ p.offset * 8) ⊎ (p.offset * 8 + p.length ≤ q.offset * 8)
+pub apart_parts : (p q : PieceSpan) → meet p q ≡ false → 0 < p.length → 0 < q.length
+    → (q.offset * 8 + q.length ≤ p.offset * 8) ⊎ (p.offset * 8 + p.length ≤ q.offset * 8)
 apart_parts p q h pm pn = meet_parts (p.offset * 8) p.length (q.offset * 8) q.length h pm pn
 
 apart_offsets : (size : ℕ) (p q : PieceSpan) → IsPlace size p → IsPlace size q → meet p q ≡ false → p.offset ≢ q.offset
@@ -38,7 +40,8 @@ apart_offsets size p q ip iq h = λ e. elim (apart_parts p q h ip.some iq.some) 
   | inr after ↦ omega (arith, ip.some)
 ]
 
-pub apart_push : (ps : List PieceSpan) (p : PieceSpan) → AllPairs (λ p q. meet p q ≡ false) ps → list_any (meet p) ps ≡ false → AllPairs (λ p q. meet p q ≡ false) (ps ++ p ∷ [])
+pub apart_push : (ps : List PieceSpan) (p : PieceSpan) → AllPairs (λ p q. meet p q ≡ false) ps → list_any (meet p) ps ≡ false
+    → AllPairs (λ p q. meet p q ≡ false) (ps ++ p ∷ [])
 apart_push ps p apart none = all_pairs_push (λ p q. meet p q ≡ false) ps p apart (λ k d lt. meet_flips p (get_or ps k d) (none_passes (meet p) ps none k d lt))
 
 -- all places of pieces begin at units of their own
@@ -49,17 +52,21 @@ at_most size ps le places apart =
     let differ : AllPairs (λ x y. x ≢ y) offsets = λ i j d lt lj.
     let p : PieceSpan = get_or ps i (record { offset = d; length = 0 }) in
     let q : PieceSpan = get_or ps j (record { offset = d; length = 0 }) in
-    let ne : p.offset ≢ q.offset = apart_offsets size p q (places i _ (omega (arith, long))) (places j _ (omega (arith, long))) (apart i j _ lt (omega (arith, long))) in
-    λ e. ne (sym (get_or-map (λ p. p.offset) ps i (record { offset = d; length = 0 }) d (omega (arith, long))) ∙ e ∙ get_or-map (λ p. p.offset) ps j (record { offset = d; length = 0 }) d (omega (arith, long))) in
+    let ne : p.offset ≢ q.offset = apart_offsets size p q (places i _ (omega (arith, long))) (places j _ (omega (arith, long)))
+    (apart i j _ lt (omega (arith, long))) in
+    λ e. ne (sym (get_or-map (λ p. p.offset) ps i (record { offset = d; length = 0 }) d (omega (arith, long))) ∙ e
+    ∙ get_or-map (λ p. p.offset) ps j (record { offset = d; length = 0 }) d (omega (arith, long))) in
     let below : (q : ℕ) → list_any (eqb q) offsets ≡ true → q < 160 = λ q found.
     let any = Any-from_list_any (eqb q) offsets found in
     let p : PieceSpan = get_or ps any.0 (record { offset = any.1; length = 0 }) in
-    let is : p.offset ≡ get_or offsets any.0 any.1 = sym (get_or-map (λ p. p.offset) ps any.0 (record { offset = any.1; length = 0 }) any.1 (omega (arith, long, any.2))) in
+    let is : p.offset ≡ get_or offsets any.0 any.1 = sym
+    (get_or-map (λ p. p.offset) ps any.0 (record { offset = any.1; length = 0 }) any.1 (omega (arith, long, any.2))) in
     let place : IsPlace size p = places any.0 _ (omega (arith, long, any.2)) in
     omega (arith, is, any.3, eqb-true q any.1 any.4, place.some, place.within) in
     omega (arith, long, length-le_from_distinct_below offsets 160 (IsDistinct-from_AllPairs Decides-eqb offsets differ) below)
 
-pub room_for_one : (size : ℕ) (ps : List PieceSpan) (p : PieceSpan) → size ≤ 1280 → All (IsPlace size) ps → AllPairs (λ p q. meet p q ≡ false) ps → IsPlace size p → list_any (meet p) ps ≡ false → length ps < 160
+pub room_for_one : (size : ℕ) (ps : List PieceSpan) (p : PieceSpan) → size ≤ 1280 → All (IsPlace size) ps → AllPairs (λ p q. meet p q ≡ false) ps
+    → IsPlace size p → list_any (meet p) ps ≡ false → length ps < 160
 room_for_one size ps p le places apart place none =
     omega (arith, length-append ps (p ∷ []), at_most size (ps ++ p ∷ []) le (All-push (IsPlace size) ps p places place) (apart_push ps p apart none))
 
@@ -89,4 +96,5 @@ any_weaker t u (x ∷ xs) all h = elim (or_cases (t x) (list_any t xs) h) [
 -- where each unit begins in a piece, each position lies in one
 pub covered_by_units : (e : Entry) (n : ℕ) → IsEntry e → e.size ≤ n * 8 → ((k : ℕ) → k < n → list_any (covers (k * 8)) e.places ≡ true) → IsCovered e
 covered_by_units e n rule long units = λ i lt.
-    any_weaker (covers (i / 8 * 8)) (covers i) e.places (λ k d lk. covers_rest e.size i (get_or e.places k d) (rule.places k d lk) lt) (units (i / 8) (omega arith))
+    any_weaker (covers (i / 8 * 8)) (covers i) e.places (λ k d lk. covers_rest e.size i (get_or e.places k d) (rule.places k d lk) lt)
+    (units (i / 8) (omega arith))

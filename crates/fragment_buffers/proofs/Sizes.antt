@@ -30,7 +30,8 @@ length-all_go hop note us = length-map us _
 -- # What waits
 
 -- the units of those that leave
-pub leaving_units : (own dest hop : ℕ) (bodies : List Body) → length (flat_map (λ b. all_go hop b.note (units_of own b.to b.load)) (filter (waits_for dest) bodies)) ≤ pending_in bodies
+pub leaving_units : (own dest hop : ℕ) (bodies : List Body)
+    → length (flat_map (λ b. all_go hop b.note (units_of own b.to b.load)) (filter (waits_for dest) bodies)) ≤ pending_in bodies
 leaving_units own dest hop bodies =
     let f : Body → List Outgoing = λ b. all_go hop b.note (units_of own b.to b.load) in
     let long : (b : Body) → length (f b) ≡ units_in b.load = λ b. length-all_go hop b.note _ ∙ length-units_of own b.to b.load in
@@ -56,15 +57,18 @@ pub load_bound : (load : Load) → IsShort load → (6 * units_in load ≤ block
 load_bound (Datagram octets tag) short = units_bound (length octets) short
 load_bound (Command octets) short = (omega arith, omega arith)
 
-bodies_bound : (bodies : List Body) → All (λ (b : Body). IsShort b.load) bodies → 6 * pending_in bodies ≤ sum_by (λ (b : Body). blocks (length (load_octets b.load))) bodies + 6 * length bodies
+bodies_bound : (bodies : List Body) → All (λ (b : Body). IsShort b.load) bodies
+    → 6 * pending_in bodies ≤ sum_by (λ (b : Body). blocks (length (load_octets b.load))) bodies + 6 * length bodies
 bodies_bound [] short = omega arith
 bodies_bound (b ∷ rest) short =
     let first : 6 * units_in b.load ≤ blocks (length (load_octets b.load)) + 6 = (load_bound b.load (short 0 b (omega arith))).0 in
-    let more : 6 * pending_in rest ≤ sum_by (λ (b : Body). blocks (length (load_octets b.load))) rest + 6 * length rest = bodies_bound rest (λ k d lt. short (suc k) d (omega arith)) in
+    let more : 6 * pending_in rest ≤ sum_by (λ (b : Body). blocks (length (load_octets b.load))) rest + 6
+    * length rest = bodies_bound rest (λ k d lt. short (suc k) d (omega arith)) in
     rw (sum_by-cons (λ (b : Body). units_in b.load) b rest, sum_by-cons (λ (b : Body). blocks (length (load_octets b.load))) b rest) (omega arith)
 
 -- bodies that are within their sizes: at most 8 of at most 80 blocks
-pub few_pending : (bodies : List Body) → length bodies ≤ 8 → sum_by (λ (b : Body). blocks (length (load_octets b.load))) bodies ≤ 80 → All (λ (b : Body). IsShort b.load) bodies → pending_in bodies ≤ 21
+pub few_pending : (bodies : List Body) → length bodies ≤ 8 → sum_by (λ (b : Body). blocks (length (load_octets b.load))) bodies ≤ 80
+    → All (λ (b : Body). IsShort b.load) bodies → pending_in bodies ≤ 21
 few_pending bodies count room short =
     let sum = bodies_bound bodies short in
     omega arith

@@ -29,10 +29,13 @@ pub record Fits (p : PoolState) (e : Entry) (piece : Placed) : Type 0 where
   pub entry : IsEntry e
   pub none : list_any (meet (place_of piece)) e.places ≡ false
 
-pub room_for_write : (e : Entry) (piece : Placed) → IsEntry e → IsPiece piece → e.size ≡ piece.size → list_any (meet (place_of piece)) e.places ≡ false → length e.places < 160
-room_for_write e piece rule is size none = room_for_one e.size e.places (place_of piece) rule.size rule.places rule.apart (subst (λ n. IsPlace n (place_of piece)) (sym size) (piece_place piece is)) none
+pub room_for_write : (e : Entry) (piece : Placed) → IsEntry e → IsPiece piece → e.size ≡ piece.size → list_any (meet (place_of piece)) e.places ≡ false
+    → length e.places < 160
+room_for_write e piece rule is size none = room_for_one e.size e.places (place_of piece) rule.size rule.places rule.apart
+    (subst (λ n. IsPlace n (place_of piece)) (sym size) (piece_place piece is)) none
 
-pub entry_written : (e : Entry) (piece : Placed) → IsEntry e → IsPiece piece → e.size ≡ piece.size → list_any (meet (place_of piece)) e.places ≡ false → IsEntry (record e { places = e.places ++ place_of piece ∷ [] })
+pub entry_written : (e : Entry) (piece : Placed) → IsEntry e → IsPiece piece → e.size ≡ piece.size → list_any (meet (place_of piece)) e.places ≡ false
+    → IsEntry (record e { places = e.places ++ place_of piece ∷ [] })
 entry_written e piece rule is size none = record {
   size = rule.size;
   places = All-push (IsPlace e.size) e.places (place_of piece) rule.places (subst (λ n. IsPlace n (place_of piece)) (sym size) (piece_place piece is));
@@ -79,7 +82,8 @@ pub data Before (e e' : Entry) (piece : Placed) (note now : ℕ) : Type 0 where
 empty_entry : (e : Entry) (note now : ℕ) → IsEntry e → IsEntry (record e { note = note; since = now; places = [] })
 empty_entry e note now rule = record { size = rule.size; places = All-nil (IsPlace e.size); apart = λ i j d li lj. absurd (omega arith) }
 
-pub before_fits : (p : PoolState) (e e' : Entry) (piece : Placed) (note now : ℕ) → Before e e' piece note now → IsEntry e → IsPiece piece → e.size ≡ piece.size → length (chain_octets p e.chain) ≡ e.size → Fits p e' piece
+pub before_fits : (p : PoolState) (e e' : Entry) (piece : Placed) (note now : ℕ) → Before e e' piece note now → IsEntry e → IsPiece piece → e.size ≡ piece.size
+    → length (chain_octets p e.chain) ≡ e.size → Fits p e' piece
 before_fits p e e' piece note now (anew h is) rule ok size long =
     subst (λ g. Fits p g piece) (sym is) (record { rule = ok; size_is = size; long = long; entry = empty_entry e note now rule; none = refl })
 before_fits p e e' piece note now (same h is) rule ok size long =
@@ -93,17 +97,20 @@ pub before_size : (e e' : Entry) (piece : Placed) (note now : ℕ) → Before e 
 before_size e e' piece note now (anew h is) = ap (λ g. g.size) is
 before_size e e' piece note now (same h is) = ap (λ g. g.size) is
 
-pub gathered_grown : (p q : PoolState) (e e' f : Entry) (piece : Placed) (note now : ℕ) → Before e e' piece note now → IsEntry e → IsPiece piece → e.size ≡ piece.size → e.tag ≡ piece.tag
+pub gathered_grown : (p q : PoolState) (e e' f : Entry) (piece : Placed) (note now : ℕ) → Before e e' piece note now → IsEntry e → IsPiece piece
+    → e.size ≡ piece.size → e.tag ≡ piece.tag
     → length (chain_octets p e.chain) ≡ e.size → Writes p q e' f piece
     → reassembly_in q f ≡ grown (reassembly_in p e) (begun e.origin piece note now) (placed piece)
 gathered_grown p q e e' f piece note now before rule ok size tag long w =
     let fits : Fits p e' piece = before_fits p e e' piece note now before rule ok size long in
     let places : All (IsPlace (length (chain_octets p e.chain))) e.places = subst (λ n. All (IsPlace n) e.places) (sym long) rule.places in
-    let test : overlaps (reassembly_in p e).pieces (placed piece) ≡ list_any (meet (place_of piece)) e.places = overlaps_in (chain_octets p e.chain) e.places piece places in
+    let test : overlaps (reassembly_in p e).pieces (placed piece)
+    ≡ list_any (meet (place_of piece)) e.places = overlaps_in (chain_octets p e.chain) e.places piece places in
     gathered_written p q e' f piece fits w ∙ gathered_before p e e' piece note now before size tag test where
       gathered_before : (p : PoolState) (e e' : Entry) (piece : Placed) (note now : ℕ) → Before e e' piece note now → e.size ≡ piece.size → e.tag ≡ piece.tag
           → overlaps (reassembly_in p e).pieces (placed piece) ≡ list_any (meet (place_of piece)) e.places
-          → record (reassembly_in p e') { pieces = (reassembly_in p e').pieces ++ placed piece ∷ [] } ≡ grown (reassembly_in p e) (begun e.origin piece note now) (placed piece)
+          → record (reassembly_in p e') { pieces = (reassembly_in p e').pieces ++ placed piece ∷ [] }
+          ≡ grown (reassembly_in p e) (begun e.origin piece note now) (placed piece)
       gathered_before p e e' piece note now (anew h is) size tag test =
           ap (λ g. record (reassembly_in p g) { pieces = (reassembly_in p g).pieces ++ placed piece ∷ [] }) is
           ∙ ap (λ n. record { origin = e.origin; size = n; tag = e.tag; note = note; since = now; pieces = placed piece ∷ [] }) size
@@ -116,9 +123,11 @@ gathered_grown p q e e' f piece note now before rule ok size tag long w =
 -- # Beginning
 
 abbrev pub entry_begun : (origin : ℕ) → Placed → (note now chain : ℕ) → List PieceSpan → Entry
-entry_begun origin piece note now chain places = record { origin = origin; size = piece.size; tag = piece.tag; note = note; since = now; chain = chain; places = places }
+entry_begun origin piece note now chain places =
+    record { origin = origin; size = piece.size; tag = piece.tag; note = note; since = now; chain = chain; places = places }
 
-pub begun_fits : (p : PoolState) (piece : Placed) (origin note now chain : ℕ) → IsPiece piece → length (chain_octets p chain) ≡ piece.size → Fits p (entry_begun origin piece note now chain []) piece
+pub begun_fits : (p : PoolState) (piece : Placed) (origin note now chain : ℕ) → IsPiece piece → length (chain_octets p chain) ≡ piece.size
+    → Fits p (entry_begun origin piece note now chain []) piece
 begun_fits p piece origin note now chain rule long = record {
   rule = rule;
   size_is = refl;
@@ -129,13 +138,16 @@ begun_fits p piece origin note now chain rule long = record {
 
 pub gathered_begun : (p q : PoolState) (f : Entry) (piece : Placed) (origin note now chain : ℕ) → IsPiece piece → length (chain_octets p chain) ≡ piece.size
     → Writes p q (entry_begun origin piece note now chain []) f piece → reassembly_in q f ≡ begun origin piece note now
-gathered_begun p q f piece origin note now chain rule long w = gathered_written p q (entry_begun origin piece note now chain []) f piece (begun_fits p piece origin note now chain rule long) w
+gathered_begun p q f piece origin note now chain rule long w =
+    gathered_written p q (entry_begun origin piece note now chain []) f piece (begun_fits p piece origin note now chain rule long) w
 
 abbrev entry_of_parts : (origin note now chain size tag : ℕ) → List PieceSpan → Placed → Entry
-entry_of_parts origin note now chain size tag ps piece = record { origin = origin; size = size; tag = tag; note = note; since = now; chain = chain; places = ps ++ place_of piece ∷ [] }
+entry_of_parts origin note now chain size tag ps piece =
+    record { origin = origin; size = size; tag = tag; note = note; since = now; chain = chain; places = ps ++ place_of piece ∷ [] }
 
 -- an entry whose parts were read one by one
-pub same_parts : (e : Entry) (origin note now chain size tag : ℕ) (ps : List PieceSpan) (piece : Placed) → e ≡ entry_of_parts origin note now chain size tag ps piece → size ≡ piece.size → tag ≡ piece.tag → ps ≡ []
+pub same_parts : (e : Entry) (origin note now chain size tag : ℕ) (ps : List PieceSpan) (piece : Placed)
+    → e ≡ entry_of_parts origin note now chain size tag ps piece → size ≡ piece.size → tag ≡ piece.tag → ps ≡ []
     → e ≡ entry_of_parts origin note now chain piece.size piece.tag [] piece
 same_parts e origin note now chain size tag ps piece is is_size is_tag none =
     is ∙ ap (λ n. entry_of_parts origin note now chain n tag ps piece) is_size ∙ ap (λ t. entry_of_parts origin note now chain piece.size t ps piece) is_tag

@@ -1,5 +1,6 @@
 //! Laws of cutting and reassembly. A function here does nothing: its contract is the law.
-ghost use Rattle.fragment_buffers.specs.Laws.{OverlapBeginsAnew, WholeIsOfItsPieces, GapIsInNoPiece, PiecesStayApart, PiecesComeTogether, OtherChainsKeepReassemblies, NewChainsAreOthers, LoadsSpellOctets};
+ghost use Rattle.fragment_buffers.specs.Laws.{OverlapBeginsAnew, WholeIsOfItsPieces, GapIsInNoPiece, PiecesStayApart, PiecesComeTogether};
+ghost use Rattle.fragment_buffers.specs.Laws.{OtherChainsKeepReassemblies, NewChainsAreOthers, LoadsSpellOctets};
 
 /// A whole reassembly has, at each position, the octet that one of its pieces has there; in one that is not whole some position
 /// lies in no piece.

@@ -13,7 +13,8 @@ abbrev Holds : List Admitted → Option Table → Records → Type 0
 Holds before was records = numbers.HoldsAdmitted 0x0100 64 before was records
 
 -- where there is no fault, there is room
-room_by : (before : List Admitted) (table : Table) (records : Records) (from counter : ℕ) → Holds before (Some table) records → room_for table from counter ≡ Ok (tt {0})
+room_by : (before : List Admitted) (table : Table) (records : Records) (from counter : ℕ) → Holds before (Some table) records
+    → room_for table from counter ≡ Ok (tt {0})
     → has_room 0x0100 64 table from counter ≡ true
 room_by before table records from counter h room =
     let sound = numbers.admitted_sound 0x0100 64 before table records h in
@@ -31,7 +32,8 @@ holds before was records (restarts b w table r earlier e) = numbers.admitted_res
 holds before was records (elsewhere b w old new earlier same) = numbers.admitted_elsewhere 0x0100 64 b w old new (holds b w old earlier) same
 
 -- where there is room for a counter, it is above all that was admitted of its sender
-pub room_is_fresh : (before : List Admitted) (table : Table) (records : Records) (from counter : ℕ) → Admits before (Some table) records → from < 0xFFFE → counter < 2 ^ 32
+pub room_is_fresh : (before : List Admitted) (table : Table) (records : Records) (from counter : ℕ) → Admits before (Some table) records → from < 0xFFFE
+    → counter < 2 ^ 32
     → room_for table from counter ≡ Ok (tt {0}) → AllEarlier from counter before
 room_is_fresh before table records from counter history short fits room =
     let h = holds before (Some table) records history in

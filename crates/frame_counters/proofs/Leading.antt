@@ -37,7 +37,8 @@ room_answers t from counter = by_place (marks.place_of t from)
     by_length true e = absurd (cc)
     by_length false e = absurd (cc)
 
-    by_place : (o : Option ℕ) → option_map_or (λ place. if nat_le counter (marks.peer_at t place).mark then Err Replayed else Ok (tt {0})) o (if length t == 64 then Err PeersFull else Ok (tt {0})) ≢ Err Store
+    by_place : (o : Option ℕ) → option_map_or (λ place. if nat_le counter (marks.peer_at t place).mark then Err Replayed else Ok (tt {0})) o
+        (if length t == 64 then Err PeersFull else Ok (tt {0})) ≢ Err Store
     by_place None = by_length (length t == 64)
     by_place (Some place) = by_mark (nat_le counter (marks.peer_at t place).mark)
 

@@ -15,5 +15,6 @@ pub stored_limit-kept : (counting : Counting) (records : Records) → IsKept cou
 stored_limit-kept = limits.stored_limit-kept limit_at
 
 -- what is stored of the counter stays where other slots are put
-pub kept_elsewhere : (counting : Counting) (old new : Records) (first last : ℕ) → IsKept counting old → SameOutside first last old new → (limit_slot < first) ⊎ (last < limit_slot) → IsKept counting new
+pub kept_elsewhere : (counting : Counting) (old new : Records) (first last : ℕ) → IsKept counting old → SameOutside first last old new
+    → (limit_slot < first) ⊎ (last < limit_slot) → IsKept counting new
 kept_elsewhere = limits.kept_elsewhere limit_at

@@ -9,5 +9,7 @@ pub peer_in-octets_of : (peer : Peer) → peer.address < 0xFFFE → peer.stored 
 peer_in-octets_of = entries.mark_in-octets_of 0x0100 64
 
 -- where there is room for a new sender, not all slots are taken
-pub room_new : (table : Table) (from counter : ℕ) → length table ≤ 64 → place_of table from ≡ None → room_for table from counter ≡ Ok (tt {0}) → length table < 64
-room_new table from counter short new room = entries.room_new 0x0100 64 table from counter new (entries.room_has 0x0100 64 Replayed PeersFull table from counter short room)
+pub room_new : (table : Table) (from counter : ℕ) → length table ≤ 64 → place_of table from ≡ None → room_for table from counter ≡ Ok (tt {0})
+    → length table < 64
+room_new table from counter short new room =
+    entries.room_new 0x0100 64 table from counter new (entries.room_has 0x0100 64 Replayed PeersFull table from counter short room)

@@ -6,7 +6,8 @@ ghost use Rattle.plc_base.specs.Keeper.{Stores, OutsideStays, IsOldOrNew};
 ghost use Rattle.store_tables.specs.SlotTables.{IsTable, IsGapless, IsReading, IsBad, Reopens, opened};
 ghost use Rattle.store_tables.specs.AdmittedNumbers.{Admitted, AllEarlier};
 ghost use Rattle.frame_counters.specs.Admitted.{Admits};
-ghost use Rattle.frame_counters.specs.PeerMarks.{Table, peers, IsKept, IsCovered, mark_of, room_for, keep_write, kept_after, admit_result, admit_write, admit_after, is_stored};
+ghost use Rattle.frame_counters.specs.PeerMarks.{Table, peers, IsKept, IsCovered, mark_of, room_for, keep_write, kept_after, admit_result, admit_write};
+ghost use Rattle.frame_counters.specs.PeerMarks.{admit_after, is_stored};
 
 use crate::PeerFault;
 use arrayvec::ArrayVec;

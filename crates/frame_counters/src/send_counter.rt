@@ -2,7 +2,8 @@
 ghost use Rattle.std.specs.Prelude.{◌≡◌, ◌+◌, ◌<◌, ◌≤◌, IfOk, OnOk, OnErr, is_ok, List, ℕ};
 ghost use Rattle.std.specs.Bool.{OnTrue};
 ghost use Rattle.plc_base.specs.Keeper.{Stores, OutsideStays, IsOldOrNew};
-ghost use Rattle.frame_counters.specs.SendCounter.{IsKept, IsOldLimitOrKept, stored_limit, opened, reserve_write, reserved, limit_write, counting_at, take_result, take_write, take_after, is_stored, preset_result};
+ghost use Rattle.frame_counters.specs.SendCounter.{IsKept, IsOldLimitOrKept, stored_limit, opened, reserve_write, reserved, limit_write, counting_at};
+ghost use Rattle.frame_counters.specs.SendCounter.{take_result, take_write, take_after, is_stored, preset_result};
 ghost use Rattle.store_tables.specs.Numberings.{AllBelow};
 ghost use Rattle.frame_counters.specs.Given.{Gives};
 ghost use Rattle.plc_base.specs.declared.limits.TheConstants.{GREATEST_COUNTER};

@@ -1,5 +1,6 @@
 -- A record of an entry is read back, and what a change of an entry puts and leaves.
-use Rattle.std.proofs.Common.{◌≡◌, ℕ, ◌+◌, ◌^◌, ◌<◌, Bool, true, false, cond, List, [], ◌∷◌, ◌++◌, length, take, drop, set, zero, suc, Option, Some, None, Result, Ok, Err, refl, ap, ◌∙◌, arith, length-append}
+use Rattle.std.proofs.Common.{◌≡◌, ℕ, ◌+◌, ◌^◌, ◌<◌, Bool, true, false, cond, List, [], ◌∷◌, ◌++◌, length, take, drop, set, zero, suc, Option, Some, None}
+use Rattle.std.proofs.Common.{Result, Ok, Err, refl, ap, ◌∙◌, arith, length-append}
 use Rattle.std.specs.Prelude.{◌==◌, ◌&&◌, nat_eq, slice_get}
 use Rattle.std.specs.Cmp.Lexicographic.{pointwise}
 use mathlib.Core.Bool.{beq}
@@ -15,7 +16,8 @@ use Rattle.byteorder.specs.Numbers.{big_number-reads_back}
 use Rattle.plc_base.specs.declared.key.Key.{Key}
 use Rattle.group_keys.specs.Fields.{held_in, held_octets, flag_in, flag_octet}
 use Rattle.group_keys.specs.declared.key_book.BookEntry.{BookEntry}
-use Rattle.group_keys.specs.KeyBook.{Book, entries, entry_in, entry_of, entry_behind, entry_octets, eui_number, place_of, address_of, changing_after, same_entry, same_key, change_write, with_entry}
+use Rattle.group_keys.specs.KeyBook.{Book, entries, entry_in, entry_of, entry_behind, entry_octets, eui_number, place_of, address_of, changing_after}
+use Rattle.group_keys.specs.KeyBook.{same_entry, same_key, change_write, with_entry}
 use Rattle.group_keys.proofs.Rings.{take_front, drop_front, held_in-held_octets}
 
 flag_in-flag_octet : (b : Bool) → flag_in (flag_octet b) ≡ Some b
@@ -26,12 +28,16 @@ flag_in-flag_octet false = refl
 abbrev tail_of : ℕ → BookEntry → List ℕ
 tail_of place e = big_bytes 2 (place + 1) ++ (flag_octet e.allowed ∷ (held_octets e.issued0 ++ held_octets e.issued1))
 
-entry_behind-tail_of : (place : ℕ) (e : BookEntry) → place + 1 < 2 ^ 16 → length (held_octets e.issued0) ≡ 17 → entry_behind place e.eui.0 e.psk.0 (tail_of place e) ≡ Some e
+entry_behind-tail_of : (place : ℕ) (e : BookEntry) → place + 1 < 2 ^ 16 → length (held_octets e.issued0) ≡ 17
+    → entry_behind place e.eui.0 e.psk.0 (tail_of place e) ≡ Some e
 entry_behind-tail_of place e fits e0 =
-    let address : big_number 2 (tail_of place e) ≡ place + 1 = big_number-reads_back 2 (place + 1) (flag_octet e.allowed ∷ (held_octets e.issued0 ++ held_octets e.issued1)) (omega arith) in
+    let address : big_number 2 (tail_of place e)
+    ≡ place + 1 = big_number-reads_back 2 (place + 1) (flag_octet e.allowed ∷ (held_octets e.issued0 ++ held_octets e.issued1)) (omega arith) in
     let here : (big_number 2 (tail_of place e) == place + 1) ≡ true = grind (arith, nat_tests) in
-    let first : held_in (take 17 (held_octets e.issued0 ++ held_octets e.issued1)) ≡ Some e.issued0 = ap held_in (take_front 17 (held_octets e.issued0) (held_octets e.issued1) e0) ∙ held_in-held_octets e.issued0 in
-    let last : held_in (drop 17 (held_octets e.issued0 ++ held_octets e.issued1)) ≡ Some e.issued1 = ap held_in (drop_front 17 (held_octets e.issued0) (held_octets e.issued1) e0) ∙ held_in-held_octets e.issued1 in
+    let first : held_in (take 17 (held_octets e.issued0 ++ held_octets e.issued1))
+    ≡ Some e.issued0 = ap held_in (take_front 17 (held_octets e.issued0) (held_octets e.issued1) e0) ∙ held_in-held_octets e.issued0 in
+    let last : held_in (drop 17 (held_octets e.issued0 ++ held_octets e.issued1))
+    ≡ Some e.issued1 = ap held_in (drop_front 17 (held_octets e.issued0) (held_octets e.issued1) e0) ∙ held_in-held_octets e.issued1 in
     ap (λ (b : Bool). cond b (entry_of e.eui.0 e.psk.0 (flag_in (flag_octet e.allowed)) (held_in (take 17 (held_octets e.issued0 ++ held_octets e.issued1)))
     (held_in (drop 17 (held_octets e.issued0 ++ held_octets e.issued1)))) None) here
     ∙ ap (λ k. entry_of e.eui.0 e.psk.0 (flag_in (flag_octet e.allowed)) k (held_in (drop 17 (held_octets e.issued0 ++ held_octets e.issued1)))) first
@@ -43,13 +49,15 @@ pub entry_in-entry_octets : (place : ℕ) (e : BookEntry) → place < 999 → le
 entry_in-entry_octets place e within e8 e16 e0 e1 =
     let tail : List ℕ = tail_of place e in
     let tail_long : length (tail_of place e) ≡ 37 = omega (arith, length-append (held_octets e.issued0) (held_octets e.issued1)) in
-    let all_long : length (entry_octets place e) ≡ 61 = omega (arith, length-append e.eui.0 (e.psk.0 ++ tail_of place e), length-append e.psk.0 (tail_of place e)) in
+    let all_long : length (entry_octets place e)
+    ≡ 61 = omega (arith, length-append e.eui.0 (e.psk.0 ++ tail_of place e), length-append e.psk.0 (tail_of place e)) in
     let long : (length (entry_octets place e) == 61) ≡ true = grind (arith, nat_tests) in
     let eui : take 8 (entry_octets place e) ≡ e.eui.0 = take_front 8 e.eui.0 (e.psk.0 ++ tail_of place e) e8 in
     let rest : drop 8 (entry_octets place e) ≡ e.psk.0 ++ tail_of place e = drop_front 8 e.eui.0 (e.psk.0 ++ tail_of place e) e8 in
     let psk : take 16 (drop 8 (entry_octets place e)) ≡ e.psk.0 = ap (take 16) rest ∙ take_front 16 e.psk.0 (tail_of place e) e16 in
     let behind : drop 16 (drop 8 (entry_octets place e)) ≡ tail_of place e = ap (drop 16) rest ∙ drop_front 16 e.psk.0 (tail_of place e) e16 in
-    ap (λ (b : Bool). cond b (entry_behind place (take 8 (entry_octets place e)) (take 16 (drop 8 (entry_octets place e))) (drop 16 (drop 8 (entry_octets place e)))) None) long
+    ap (λ (b : Bool). cond b (entry_behind place (take 8 (entry_octets place e)) (take 16 (drop 8 (entry_octets place e)))
+    (drop 16 (drop 8 (entry_octets place e)))) None) long
     ∙ ap (λ xs. entry_behind place xs (take 16 (drop 8 (entry_octets place e))) (drop 16 (drop 8 (entry_octets place e)))) eui
     ∙ ap (λ xs. entry_behind place e.eui.0 xs (drop 16 (drop 8 (entry_octets place e)))) psk
     ∙ ap (entry_behind place e.eui.0 e.psk.0) behind
@@ -117,7 +125,8 @@ entry_same book entry before place e got same =
 -- # Addresses for good
 
 -- a meter that has an address keeps it, whatever entry is written
-pub address_kept : (book : Book) (entry : BookEntry) (meter : Eui) (address : ℕ) → address_of book meter ≡ Some address → address_of (with_entry book entry) meter ≡ Some address
+pub address_kept : (book : Book) (entry : BookEntry) (meter : Eui) (address : ℕ) → address_of book meter ≡ Some address
+    → address_of (with_entry book entry) meter ≡ Some address
 address_kept book entry meter address e = by_place (place_of book meter) refl e
   where
     stays : (place : ℕ) → place_of book meter ≡ Some place → (o : Option ℕ) → place_of book entry.eui ≡ o
@@ -125,7 +134,8 @@ address_kept book entry meter address e = by_place (place_of book meter) refl e
     stays place there None is = place_of-push entries book entry (eui_number meter) place there
     stays place there (Some at) is = place_of-set entries book entry at (eui_number meter) place is there
 
-    by_place : (o : Option ℕ) → place_of book meter ≡ o → option_map (λ place. place + 1) o ≡ Some address → address_of (with_entry book entry) meter ≡ Some address
+    by_place : (o : Option ℕ) → place_of book meter ≡ o → option_map (λ place. place + 1) o ≡ Some address
+        → address_of (with_entry book entry) meter ≡ Some address
     by_place None is h = cc
     by_place (Some place) is h = ap (option_map (λ place. place + 1)) (stays place is (place_of book entry.eui) refl) ∙ h
 

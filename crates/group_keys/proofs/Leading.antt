@@ -27,18 +27,21 @@ ring_reads None h = refl
 ring_reads (Some g) h = ring_in-ring_octets g h.grant h.address h.key0 h.key1
 
 pub ring_leads : (before after : rings.Ring) → IfSome after IsReadable → PutsLead rings.IsKept before (puts_of (rings.ring_write after)) after
-ring_leads before after h = leads_one rings.IsKept before after _ (λ r k. record { stored = ap rings.ring_at (get-insert_same r 1 1 (rings.ring_octets after) refl) ∙ ring_reads after h })
+ring_leads before after h = leads_one rings.IsKept before after _
+    (λ r k. record { stored = ap rings.ring_at (get-insert_same r 1 1 (rings.ring_octets after) refl) ∙ ring_reads after h })
 
 -- # Looking up
 
 pub no_change : (b : books.Book) (e : BookEntry) → books.holds b e ≡ true → IsNoChange b e
 no_change b e = by_place (books.place_of b e.eui) refl
   where
-    by_entry : (place : ℕ) (o : Option BookEntry) → books.place_of b e.eui ≡ Some place → slice_get b place ≡ o → option_map_or (λ before. books.same_entry before e) o false ≡ true → IsNoChange b e
+    by_entry : (place : ℕ) (o : Option BookEntry) → books.place_of b e.eui ≡ Some place → slice_get b place ≡ o
+        → option_map_or (λ before. books.same_entry before e) o false ≡ true → IsNoChange b e
     by_entry place None is got same = absurd (cc)
     by_entry place (Some before) is got same = record { same = entry_same b e before place is got same; write = write_same b e before place is got same }
 
-    by_place : (o : Option ℕ) → books.place_of b e.eui ≡ o → option_map_or (λ before. books.same_entry before e) (option_and_then (slice_get b) o) false ≡ true → IsNoChange b e
+    by_place : (o : Option ℕ) → books.place_of b e.eui ≡ o → option_map_or (λ before. books.same_entry before e) (option_and_then (slice_get b) o) false ≡ true
+        → IsNoChange b e
     by_place None is same = absurd (cc)
     by_place (Some place) is same = by_entry place (slice_get b place) is refl same
 
@@ -66,7 +69,8 @@ has_entry b e = record {
 
 -- # The book
 
-reads_entry : (place : ℕ) (e : BookEntry) → place < 999 → IsReadableEntry e → books.entries.read place (books.entries.octets place e) ≡ Some (books.entries.rest e)
+reads_entry : (place : ℕ) (e : BookEntry) → place < 999 → IsReadableEntry e
+    → books.entries.read place (books.entries.octets place e) ≡ Some (books.entries.rest e)
 reads_entry place e within h = entry_in-entry_octets place e within h.eui h.psk h.key0 h.key1
 
 -- the book with an entry is what the records with its record give

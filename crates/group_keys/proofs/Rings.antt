@@ -1,5 +1,6 @@
 -- A record of a ring is read back, and what is stored of it stays.
-use Rattle.std.proofs.Common.{◌≡◌, ◌⊎◌, ℕ, zero, suc, ◌<◌, Bool, true, cond, List, [], ◌∷◌, ◌++◌, length, take, drop, Option, Some, None, Result, Ok, Err, inl, inr, refl, ap, ◌∙◌, arith, length-append}
+use Rattle.std.proofs.Common.{◌≡◌, ◌⊎◌, ℕ, zero, suc, ◌<◌, Bool, true, cond, List, [], ◌∷◌, ◌++◌, length, take, drop, Option, Some, None, Result, Ok, Err, inl}
+use Rattle.std.proofs.Common.{inr, refl, ap, ◌∙◌, arith, length-append}
 use Rattle.std.specs.Prelude.{nat_lt, nat_le, ◌==◌, ◌&&◌, is_ok, OnOk}
 use Rattle.std.specs.Option.{option_map, option_map_or}
 use Rattle.std.proofs.lemmas.Bool.Decides.{nat_tests}
@@ -50,9 +51,12 @@ keys_of g k0 k1 address = option_map_or (λ key0. option_map_or (λ key1. grant_
 grant_in-rest_of : (g : Granted) → IsGrant g → g.address < 0xFFFE → length (held_octets g.key0) ≡ 17 → grant_in (rest_of g) ≡ Some g
 unfolding keys_of
 grant_in-rest_of g grant short e0 =
-    let address : big_number 2 (rest_of g) ≡ g.address = big_number-reads_back 2 g.address (g.active ∷ (held_octets g.key0 ++ held_octets g.key1)) (omega arith) in
-    let first : held_in (take 17 (held_octets g.key0 ++ held_octets g.key1)) ≡ Some g.key0 = ap held_in (take_front 17 (held_octets g.key0) (held_octets g.key1) e0) ∙ held_in-held_octets g.key0 in
-    let last : held_in (drop 17 (held_octets g.key0 ++ held_octets g.key1)) ≡ Some g.key1 = ap held_in (drop_front 17 (held_octets g.key0) (held_octets g.key1) e0) ∙ held_in-held_octets g.key1 in
+    let address : big_number 2 (rest_of g)
+    ≡ g.address = big_number-reads_back 2 g.address (g.active ∷ (held_octets g.key0 ++ held_octets g.key1)) (omega arith) in
+    let first : held_in (take 17 (held_octets g.key0 ++ held_octets g.key1))
+    ≡ Some g.key0 = ap held_in (take_front 17 (held_octets g.key0) (held_octets g.key1) e0) ∙ held_in-held_octets g.key0 in
+    let last : held_in (drop 17 (held_octets g.key0 ++ held_octets g.key1))
+    ≡ Some g.key1 = ap held_in (drop_front 17 (held_octets g.key0) (held_octets g.key1) e0) ∙ held_in-held_octets g.key1 in
     ap (λ k. keys_of g k (held_in (drop 17 (held_octets g.key0 ++ held_octets g.key1))) (big_number 2 (rest_of g))) first
     ∙ ap (λ k. keys_of g (Some g.key0) k (big_number 2 (rest_of g))) last
     ∙ ap (keys_of g (Some g.key0) (Some g.key1)) address
@@ -69,7 +73,8 @@ ring_in-ring_octets g grant short e0 e1 =
 -- # The store
 
 -- a put of a ring that succeeded is read back
-pub ring_stored : {T E : Type 0} (r : Result T E) (old new : Store) (ring : Ring) → ring_in (ring_octets ring) ≡ Some ring → Stores old (ring_write ring) (is_ok r) new
+pub ring_stored : {T E : Type 0} (r : Result T E) (old new : Store) (ring : Ring) → ring_in (ring_octets ring) ≡ Some ring
+    → Stores old (ring_write ring) (is_ok r) new
     → OnOk r (ring_at (get new.records ring_slot) ≡ Some ring)
 ring_stored (Ok done) old new ring reads stores =
     ap (λ m. ring_at (get m ring_slot)) stores.stored ∙ ap ring_at (get-insert_same old.records ring_slot ring_slot (ring_octets ring) refl) ∙ reads
@@ -83,5 +88,6 @@ ring_either old new ring reads (inr written) =
     inr (ap (λ m. ring_at (get m ring_slot)) written ∙ ap ring_at (get-insert_same old ring_slot ring_slot (ring_octets ring) refl) ∙ reads)
 
 -- what is stored of the ring stays where other slots are put
-pub kept_elsewhere : (ring : Ring) (old new : Records) (first last : ℕ) → IsKept ring old → SameOutside first last old new → (ring_slot < first) ⊎ (last < ring_slot) → IsKept ring new
+pub kept_elsewhere : (ring : Ring) (old new : Records) (first last : ℕ) → IsKept ring old → SameOutside first last old new
+    → (ring_slot < first) ⊎ (last < ring_slot) → IsKept ring new
 kept_elsewhere ring old new first last kept same apart = record { stored = ap ring_at (same ring_slot apart) ∙ kept.stored }

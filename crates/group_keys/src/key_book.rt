@@ -5,7 +5,9 @@ ghost use Rattle.std.specs.Option.{option_map, option_and_then};
 ghost use Rattle.plc_base.specs.Keeper.{Stores, OutsideStays, IsOldOrNew};
 ghost use Rattle.store_tables.specs.SlotTables.{IsTable, IsGapless, IsReading, IsBad, Reopens, ReopensInto, opened, read_into};
 ghost use Rattle.plc_base.specs.declared.address.Eui.{Eui};
-ghost use Rattle.group_keys.specs.KeyBook.{Book, entries, IsKept, AddressesStay, entry_for, holds, address_of, is_allowed, issued_at, has_room, place_for, with_entry, change_write, allowed_one, allow_result, allow_after, allow_write, kick_result, kick_after, kick_write, issue_result, issue_after, issue_write, is_stored};
+ghost use Rattle.group_keys.specs.KeyBook.{Book, entries, IsKept, AddressesStay, entry_for, holds, address_of, is_allowed, issued_at, has_room, place_for};
+ghost use Rattle.group_keys.specs.KeyBook.{with_entry, change_write, allowed_one, allow_result, allow_after, allow_write, kick_result, kick_after, kick_write};
+ghost use Rattle.group_keys.specs.KeyBook.{issue_result, issue_after, issue_write, is_stored};
 
 use crate::BookFault;
 use crate::fields::{HELD, flag_in, held_in, key_in, push_held};

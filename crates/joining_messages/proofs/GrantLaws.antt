@@ -8,7 +8,8 @@ use Rattle.plc_base.specs.Addresses.{IsAddress}
 use Rattle.plc_base.proofs.Places.{fronts_same, octet_past, two_behind, two_same}
 use Rattle.plc_base.specs.Grant.{Granted, IsGrant}
 use Rattle.plc_base.specs.declared.key.Key.{Key}
-use Rattle.joining_messages.specs.Grants.{IsGranted, IsPlace, SpellsGrant, grant_spelling, key_then, stands, address_stands, index_stands, sixteen_stand, head_stands, key_stands, keys_stand, is_parameter_list}
+use Rattle.joining_messages.specs.Grants.{IsGranted, IsPlace, SpellsGrant, grant_spelling, key_then, stands, address_stands, index_stands, sixteen_stand}
+use Rattle.joining_messages.specs.Grants.{head_stands, key_stands, keys_stand, is_parameter_list}
 
 key_from : List ℕ → Key
 key_from octets = record { 0 = octets }
@@ -26,7 +27,8 @@ second_same (Some k) (Some l) ha hb e =
     let tails : k.0 ++ [] ≡ l.0 ++ [] = cc in
     ap Some (key_same k l ((fronts_same k.0 l.0 [] [] (ha ∙ sym hb) tails).0))
 
-places_same : (a b c d : Option Key) → IsPlace a → IsPlace b → IsPlace c → IsPlace d → key_then 0 a (key_then 1 b []) ≡ key_then 0 c (key_then 1 d []) → (a ≡ c) × (b ≡ d)
+places_same : (a b c d : Option Key) → IsPlace a → IsPlace b → IsPlace c → IsPlace d → key_then 0 a (key_then 1 b []) ≡ key_then 0 c (key_then 1 d [])
+    → (a ≡ c) × (b ≡ d)
 places_same None b None d ha hb hc hd e = (refl, second_same b d hb hd e)
 places_same (Some k) b (Some l) d ha hb hc hd e =
     let tails : k.0 ++ key_then 1 b [] ≡ l.0 ++ key_then 1 d [] = cc in
@@ -80,19 +82,22 @@ head_true address active rest fits low =
     let octets : List ℕ = 1 ∷ 2 ∷ big_bytes 2 address ++ (2 ∷ 1 ∷ active ∷ rest) in
     let f0 : stands 0 1 octets ≡ true = stands_true 0 1 octets (omega arith) refl in
     let f1 : stands 1 2 octets ≡ true = stands_true 1 2 octets (omega arith) refl in
-    let f2 : address_stands 2 octets ≡ true = address_true 2 address octets (omega arith) (two_behind (1 ∷ 2 ∷ []) address (2 ∷ 1 ∷ active ∷ rest) (omega arith)) fits in
+    let f2 : address_stands 2 octets
+    ≡ true = address_true 2 address octets (omega arith) (two_behind (1 ∷ 2 ∷ []) address (2 ∷ 1 ∷ active ∷ rest) (omega arith)) fits in
     let f3 : stands 4 2 octets ≡ true = stands_true 4 2 octets (omega arith) refl in
     let f4 : stands 5 1 octets ≡ true = stands_true 5 1 octets (omega arith) refl in
     let f5 : index_stands 6 octets ≡ true = index_true 6 octets (omega arith) low in
     rw (f0, f1, f2, f3, f4, f5) refl
 
-key_true : (front : List ℕ) (index : ℕ) (key rest : List ℕ) → length key ≡ 16 → key_stands (length front) index (front ++ (3 ∷ 0x11 ∷ index ∷ key ++ rest)) ≡ true
+key_true : (front : List ℕ) (index : ℕ) (key rest : List ℕ) → length key ≡ 16
+    → key_stands (length front) index (front ++ (3 ∷ 0x11 ∷ index ∷ key ++ rest)) ≡ true
 unfolding key_stands octet
 key_true front index key rest sixteen =
     let field : List ℕ = 3 ∷ 0x11 ∷ index ∷ key ++ rest in
     let octets : List ℕ = front ++ field in
     let len : length octets ≡ length front + (19 + length rest) = omega (arith, length-append front field, length-append key rest) in
-    let at0 : octet (length front) octets ≡ 3 = ap (λ (n : ℕ). octet n octets) (let same : length front ≡ length front + 0 = omega arith in same) ∙ octet_past front field 0 in
+    let at0 : octet (length front) octets
+    ≡ 3 = ap (λ (n : ℕ). octet n octets) (let same : length front ≡ length front + 0 = omega arith in same) ∙ octet_past front field 0 in
     let f0 : stands (length front) 3 octets ≡ true = stands_true (length front) 3 octets (omega arith) at0 in
     let f1 : stands (length front + 1) 0x11 octets ≡ true = stands_true (length front + 1) 0x11 octets (omega arith) (octet_past front field 1) in
     let f2 : stands (length front + 2) index octets ≡ true = stands_true (length front + 2) index octets (omega arith) (octet_past front field 2) in
@@ -124,7 +129,8 @@ two_true address active first second h k =
     let g : key_stands 26 1 octets ≡ true = ap (λ (n : ℕ). key_stands n 1 octets) (sym before) ∙ key_true front 1 second.0 [] k in
     rw (len, f, g) refl
 
-keys_true : (address active : ℕ) (first second : Option Key) → IsGrant (record { address = address; active = active; key0 = first; key1 = second }) → IsPlace first → IsPlace second
+keys_true : (address active : ℕ) (first second : Option Key) → IsGrant (record { address = address; active = active; key0 = first; key1 = second })
+    → IsPlace first → IsPlace second
     → keys_stand (head_of address active ++ key_then 0 first (key_then 1 second [])) ≡ true
 unfolding head_of
 keys_true address active None None h a b = let held = h.held in absurd (grind (arith, common_steps))
@@ -144,7 +150,8 @@ spelled_true g h =
     let keys : keys_stand (grant_spelling g) ≡ true = keys_true g.address g.active g.key0 g.key1 h.active h.first h.second in
     rw (head, keys) refl
 
-pub only_granted : (octets : List ℕ) (r : Option Granted) → IfSome r (λ g. SpellsGrant g octets) → MatchOption r (is_parameter_list octets ≡ false) (λ g. is_parameter_list octets ≡ true)
+pub only_granted : (octets : List ℕ) (r : Option Granted) → IfSome r (λ g. SpellsGrant g octets)
+    → MatchOption r (is_parameter_list octets ≡ false) (λ g. is_parameter_list octets ≡ true)
     → (g : Granted) → SpellsGrant g octets → r ≡ Some g
 only_granted octets (Some x) found exact g spells = ap Some (one_grant x g found.0 spells.0 (sym found.1 ∙ spells.1))
 only_granted octets None found exact g spells = let passes = spelled_true g spells.0 in let same = ap is_parameter_list spells.1 in absurd cc

@@ -1,5 +1,6 @@
 -- What is read out of octets is the grant that they spell, and the other way round.
-use Rattle.std.proofs.Common.{◌≡◌, ◌≢◌, ℕ, ◌+◌, ◌<◌, ◌≤◌, ◌==◌, Bool, true, false, List, [], ◌∷◌, ◌++◌, length, take, drop, Option, Some, None, if◌then◌else◌, refl, sym, ap, subst, ◌∙◌, arith}
+use Rattle.std.proofs.Common.{◌≡◌, ◌≢◌, ℕ, ◌+◌, ◌<◌, ◌≤◌, ◌==◌, Bool, true, false, List, [], ◌∷◌, ◌++◌, length, take, drop, Option, Some, None, if◌then◌else◌}
+use Rattle.std.proofs.Common.{refl, sym, ap, subst, ◌∙◌, arith}
 use Rattle.std.specs.Prelude.{IfSome, MatchOption, ◌&&◌, is_some, nat_lt}
 use Rattle.std.proofs.Math.Seq.{drop-append_seam, take-append_seam}
 use Rattle.std.proofs.lemmas.Bool.{eqb-true, eqb-false, ltb-true, and_parts}
@@ -12,7 +13,8 @@ use Rattle.plc_base.specs.Fields.{AreOctets, after, octet, part, two}
 use Rattle.plc_base.specs.Grant.{Granted}
 use Rattle.plc_base.specs.declared.key.Key.{Key}
 use Rattle.plc_base.proofs.Places.{after_all, after_none, length-part, one_then, part_then, two_behind, two_then}
-use Rattle.joining_messages.specs.Grants.{IsGranted, SpellsGrant, grant_spelling, key_then, stands, address_stands, index_stands, sixteen_stand, head_stands, key_stands, keys_stand, is_parameter_list}
+use Rattle.joining_messages.specs.Grants.{IsGranted, SpellsGrant, grant_spelling, key_then, stands, address_stands, index_stands, sixteen_stand, head_stands}
+use Rattle.joining_messages.specs.Grants.{key_stands, keys_stand, is_parameter_list}
 use Rattle.joining_messages.specs.Reading.{granted_in, grant_in, key_at}
 use Rattle.joining_messages.specs.Laws.{GrantsAreRead, ReadGrantsAreSpelled}
 use Rattle.joining_messages.proofs.GrantLaws.{spelled_true}
@@ -32,7 +34,8 @@ key_past front k a b rest long other =
     ∙ ap (λ n. drop (n + k) (a.0 ++ rest)) (sym long) ∙ sym (drop-drop k (length a.0) (a.0 ++ rest)) ∙ ap (drop k) (drop-append_seam a.0 rest))
 
 granted_is : (address active address' active' : ℕ) (k l k' l' : Option Key) → address ≡ address' → active ≡ active' → k ≡ k' → l ≡ l'
-    → let v : Granted = record { address = address; active = active; key0 = k; key1 = l } in v ≡ record { address = address'; active = active'; key0 = k'; key1 = l' }
+    → let v : Granted = record { address = address; active = active; key0 = k; key1 = l } in
+    v ≡ record { address = address'; active = active'; key0 = k'; key1 = l' }
 granted_is address active address' active' k l k' l' a b c d = rw (a, b, c, d) refl
 
 chosen_long : (n : ℕ) (a b : Granted) → n ≡ 45 → (if n == 45 then a else b) ≡ a
@@ -93,8 +96,10 @@ IsRead address active k l = granted_in (grant_spelling (granted address active k
 
 by_keys : (address active : ℕ) (k l : Option Key) → IsGranted (granted address active k l) → IsRead address active k l
 by_keys address active (Some k) (Some l) h = both_read address active k l h.address h.first h.second
-by_keys address active (Some k) None h = subst (λ n. IsRead address n (Some k) None) (sym (zero_if active k h.active.held)) (first_read address k h.address h.first)
-by_keys address active None (Some l) h = subst (λ n. IsRead address n None (Some l)) (sym (one_if active l h.active.index h.active.held)) (second_read address l h.address h.second)
+by_keys address active (Some k) None h =
+    subst (λ n. IsRead address n (Some k) None) (sym (zero_if active k h.active.held)) (first_read address k h.address h.first)
+by_keys address active None (Some l) h =
+    subst (λ n. IsRead address n None (Some l)) (sym (one_if active l h.active.index h.active.held)) (second_read address l h.address h.second)
 by_keys address active None None h = absurd (none_if (active == 0) h.active.held)
 
 grant_by : (b : Bool) (g : Granted) → b ≡ true → (if b then Some g else None) ≡ Some g
@@ -184,7 +189,8 @@ fields_granted octets fits e = by_length (length octets == 45) (length octets ==
     by_length : (long short : Bool) → (length octets == 45) ≡ long → (length octets == 26) ≡ short → IsHead octets
         → (if short then key_stands 7 (octet 6 octets) octets else (if long then key_stands 7 0 octets && key_stands 26 1 octets else false)) ≡ true
         → SpellsGrant (if long then granted (two 2 octets) (octet 6 octets) (key_at 10 octets) (key_at 29 octets)
-        else (if octet 6 octets == 0 then granted (two 2 octets) 0 (key_at 10 octets) None else granted (two 2 octets) (octet 6 octets) None (key_at 10 octets))) octets
+        else (if octet 6 octets == 0 then granted (two 2 octets) 0 (key_at 10 octets) None
+        else granted (two 2 octets) (octet 6 octets) None (key_at 10 octets))) octets
     by_length true true el es h k =
         let n : length octets ≡ 45 = eqb-true _ _ el in
         let m : length octets ≡ 26 = eqb-true _ _ es in
@@ -196,8 +202,14 @@ fields_granted octets fits e = by_length (length octets == 45) (length octets ==
         let second = key_is 26 1 octets both.1 in
         let end : after 45 octets ≡ [] = after_all 45 octets (omega arith) in
         let keys : after 7 octets ≡ key_then 0 (key_at 10 octets) (key_then 1 (key_at 29 octets) []) =
-        first.spelled ∙ ap (λ (xs : List ℕ). 3 ∷ 0x11 ∷ 0 ∷ part 10 16 octets ++ xs) (second.spelled ∙ ap (λ (xs : List ℕ). 3 ∷ 0x11 ∷ 1 ∷ part 29 16 octets ++ xs) end) in (
-          record { address = h.address; active = record { index = h.index; held = either_held (octet 6 octets == 0) }; first = first.sixteen; second = second.sixteen },
+        first.spelled ∙ ap (λ (xs : List ℕ). 3 ∷ 0x11 ∷ 0 ∷ part 10 16 octets ++ xs)
+        (second.spelled ∙ ap (λ (xs : List ℕ). 3 ∷ 0x11 ∷ 1 ∷ part 29 16 octets ++ xs) end) in (
+          record {
+            address = h.address;
+            active = record { index = h.index; held = either_held (octet 6 octets == 0) };
+            first = first.sixteen;
+            second = second.sixteen;
+          },
           spelled_by octets _ _ (key_at 10 octets) (key_at 29 octets) h.spelled keys,
         )
       where
@@ -209,11 +221,14 @@ fields_granted octets fits e = by_length (length octets == 45) (length octets ==
         let n : length octets ≡ 26 = eqb-true _ _ es in
         let key = key_is 7 (octet 6 octets) octets k in
         let end : after 26 octets ≡ [] = after_all 26 octets (omega arith) in
-        let rest : after 7 octets ≡ 3 ∷ 0x11 ∷ octet 6 octets ∷ part 10 16 octets ++ [] = key.spelled ∙ ap (λ (xs : List ℕ). 3 ∷ 0x11 ∷ octet 6 octets ∷ part 10 16 octets ++ xs) end in
+        let rest : after 7 octets ≡ 3 ∷ 0x11 ∷ octet 6 octets ∷ part 10 16 octets ++ [] = key.spelled
+        ∙ ap (λ (xs : List ℕ). 3 ∷ 0x11 ∷ octet 6 octets ∷ part 10 16 octets ++ xs) end in
         by_active key.sixteen rest (octet 6 octets == 0) refl
       where
-        by_active : length (part 10 16 octets) ≡ 16 → after 7 octets ≡ 3 ∷ 0x11 ∷ octet 6 octets ∷ part 10 16 octets ++ [] → (b : Bool) → (octet 6 octets == 0) ≡ b
-            → SpellsGrant (if b then granted (two 2 octets) 0 (key_at 10 octets) None else granted (two 2 octets) (octet 6 octets) None (key_at 10 octets)) octets
+        by_active : length (part 10 16 octets) ≡ 16 → after 7 octets ≡ 3 ∷ 0x11 ∷ octet 6 octets ∷ part 10 16 octets ++ [] → (b : Bool)
+            → (octet 6 octets == 0) ≡ b
+            → SpellsGrant (if b then granted (two 2 octets) 0 (key_at 10 octets) None else granted (two 2 octets) (octet 6 octets) None (key_at 10 octets))
+            octets
         by_active sixteen rest true is =
             let zero_is : octet 6 octets ≡ 0 = eqb-true _ _ is in (
               record { address = h.address; active = record { index = omega arith; held = refl }; first = sixteen; second = tt },

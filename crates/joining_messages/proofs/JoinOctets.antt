@@ -43,21 +43,27 @@ read_octets m octets are is =
 
 -- # Grants
 
-key_octets : (index : ℕ) (key : Option Key) (rest : List ℕ) → index < 256 → IfSome key (λ k. AreOctets k.0) → AreOctets rest → AreOctets (key_then index key rest)
+key_octets : (index : ℕ) (key : Option Key) (rest : List ℕ) → index < 256 → IfSome key (λ k. AreOctets k.0) → AreOctets rest
+    → AreOctets (key_then index key rest)
 key_octets index None rest low held all = all
-key_octets index (Some key) rest low held all = (puts {x = 3} (omega arith) (puts {x = 0x11} (omega arith) (puts low (joins (record { are = held }) (record { are = all }))))).are
+key_octets index (Some key) rest low held all =
+    (puts {x = 3} (omega arith) (puts {x = 0x11} (omega arith) (puts low (joins (record { are = held }) (record { are = all }))))).are
 
 pub grant_octets : GrantSpellingsAreOctets
 grant_octets g h =
-    let keys : Spelt (key_then 0 g.key0 (key_then 1 g.key1 [])) = record { are = key_octets 0 g.key0 (key_then 1 g.key1 []) (omega arith) h.key0 (key_octets 1 g.key1 [] (omega arith) h.key1 none) } in
-    (puts {x = 1} (omega arith) (puts {x = 2} (omega arith) (joins (big_spelt 2 g.address) (puts {x = 2} (omega arith) (puts {x = 1} (omega arith) (puts h.active keys)))))).are
+    let keys : Spelt (key_then 0 g.key0 (key_then 1 g.key1 [])) =
+    record { are = key_octets 0 g.key0 (key_then 1 g.key1 []) (omega arith) h.key0 (key_octets 1 g.key1 [] (omega arith) h.key1 none) } in
+    (puts {x = 1} (omega arith) (puts {x = 2} (omega arith)
+    (joins (big_spelt 2 g.address) (puts {x = 2} (omega arith) (puts {x = 1} (omega arith) (puts h.active keys)))))).are
 
 pub read_grant_octets : ReadGrantsHaveOctets
 unfolding grant_in
 read_grant_octets g octets are = by_list (is_parameter_list octets)
   where
-    by_keys : (both first : Bool) → GrantHasOctets (if both then record { address = two 2 octets; active = octet 6 octets; key0 = key_at 10 octets; key1 = key_at 29 octets }
-        else (if first then record { address = two 2 octets; active = 0; key0 = key_at 10 octets; key1 = None } else record { address = two 2 octets; active = octet 6 octets; key0 = None; key1 = key_at 10 octets }))
+    by_keys : (both first : Bool) → GrantHasOctets
+        (if both then record { address = two 2 octets; active = octet 6 octets; key0 = key_at 10 octets; key1 = key_at 29 octets }
+        else (if first then record { address = two 2 octets; active = 0; key0 = key_at 10 octets; key1 = None }
+        else record { address = two 2 octets; active = octet 6 octets; key0 = None; key1 = key_at 10 octets }))
     by_keys true first = record { active = octet_low 6 octets are; key0 = part_octets 10 16 octets are; key1 = part_octets 29 16 octets are }
     by_keys false true = record { active = omega arith; key0 = part_octets 10 16 octets are; key1 = tt }
     by_keys false false = record { active = octet_low 6 octets are; key0 = tt; key1 = part_octets 10 16 octets are }

@@ -1,5 +1,6 @@
 -- What is read out of octets is the joining message that they spell, and the other way round.
-use Rattle.std.proofs.Common.{◌≡◌, ◌≢◌, ℕ, zero, suc, ◌+◌, ◌<◌, ◌≤◌, Bool, true, false, List, [], ◌∷◌, ◌++◌, length, take, Some, None, Result, Ok, Err, slice_index, refl, sym, ap, subst, ◌∙◌, arith}
+use Rattle.std.proofs.Common.{◌≡◌, ◌≢◌, ℕ, zero, suc, ◌+◌, ◌<◌, ◌≤◌, Bool, true, false, List, [], ◌∷◌, ◌++◌, length, take, Some, None, Result, Ok, Err}
+use Rattle.std.proofs.Common.{slice_index, refl, sym, ap, subst, ◌∙◌, arith}
 use Rattle.std.specs.Prelude.{IfOk, MatchResult, ◌==◌, if◌then◌else◌}
 use Rattle.std.specs.Result.{result_ok}
 use Rattle.std.proofs.Math.Seq.{take-append_seam}
@@ -16,7 +17,8 @@ use Rattle.joining_messages.specs.declared.message.JoinMessage.{JoinMessage}
 use Rattle.joining_messages.specs.declared.message.JoinBody.{JoinBody}
 use Rattle.joining_messages.specs.declared.message.JoinBody.TheVariants.{Join, Accept, Challenge, Decline, Kick, Activate}
 use Rattle.joining_messages.specs.Messages.{IsBody, Spells, code_of, rest_of, spelling}
-use Rattle.joining_messages.specs.Faults.{code_fault, eui_fault, join_rest_fault, challenge_rest_fault, is_success, accept_rest_fault, is_index, activate_rest_fault, no_rest_fault, rest_fault, join_fault}
+use Rattle.joining_messages.specs.Faults.{code_fault, eui_fault, join_rest_fault, challenge_rest_fault, is_success, accept_rest_fault, is_index}
+use Rattle.joining_messages.specs.Faults.{activate_rest_fault, no_rest_fault, rest_fault, join_fault}
 use Rattle.joining_messages.specs.Reading.{body_in, join_in}
 use Rattle.joining_messages.specs.Laws.{JoinsAreRead, ReadJoinsAreSpelled}
 use Rattle.joining_messages.proofs.Rests.{one_is, four_are}
@@ -45,8 +47,10 @@ join_body eui Decline long = refl
 join_body eui Kick long = refl
 join_body eui (Activate index) long = ap Activate (join_octet 6 eui (index ∷ []) 0 long)
 
-join_is : (a b : List ℕ) (x y : JoinBody) → a ≡ b → x ≡ y → let v : JoinMessage = record { eui = record { 0 = a }; body = x } in v ≡ record { eui = record { 0 = b }; body = y }
-join_is a b x y e f = ap (λ o. let v : JoinMessage = record { eui = record { 0 = o }; body = x } in v) e ∙ ap (λ z. let v : JoinMessage = record { eui = record { 0 = b }; body = z } in v) f
+join_is : (a b : List ℕ) (x y : JoinBody) → a ≡ b → x ≡ y → let v : JoinMessage = record { eui = record { 0 = a }; body = x } in
+    v ≡ record { eui = record { 0 = b }; body = y }
+join_is a b x y e f = ap (λ o. let v : JoinMessage = record { eui = record { 0 = o }; body = x } in v) e
+    ∙ ap (λ z. let v : JoinMessage = record { eui = record { 0 = b }; body = z } in v) f
 
 pub join_read : JoinsAreRead
 unfolding join_in octet
@@ -167,4 +171,5 @@ pub value_read : (octets : List ℕ) (r : Result JoinMessage (Fault JoinFaultKin
     → MatchResult r (λ m. join_fault octets ≡ None) (λ e. join_fault octets ≡ Some e) → join_in octets ≡ result_ok r
 unfolding join_in
 value_read octets (Ok m) found exact = join_read m octets found
-value_read octets (Err e) found exact = not_read (join_fault octets) e (record { eui = record { 0 = part 1 8 octets }; body = body_in (octet 0 octets) octets }) exact
+value_read octets (Err e) found exact =
+    not_read (join_fault octets) e (record { eui = record { 0 = part 1 8 octets }; body = body_in (octet 0 octets) octets }) exact

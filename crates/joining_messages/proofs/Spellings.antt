@@ -11,7 +11,8 @@ use Rattle.joining_messages.specs.declared.message.JoinMessage.{JoinMessage}
 use Rattle.joining_messages.specs.declared.message.JoinBody.{JoinBody}
 use Rattle.joining_messages.specs.declared.message.JoinBody.TheVariants.{Join, Accept, Challenge, Decline, Kick, Activate}
 use Rattle.joining_messages.specs.Messages.{IsBody, IsMessage, Spells, code_of, rest_of, rest_length, spelling}
-use Rattle.joining_messages.specs.Faults.{code_fault, eui_fault, join_rest_fault, challenge_rest_fault, accept_rest_fault, activate_rest_fault, no_rest_fault, rest_fault, join_fault}
+use Rattle.joining_messages.specs.Faults.{code_fault, eui_fault, join_rest_fault, challenge_rest_fault, accept_rest_fault, activate_rest_fault, no_rest_fault}
+use Rattle.joining_messages.specs.Faults.{rest_fault, join_fault}
 
 code_low : (body : JoinBody) → (0 < code_of body) × (code_of body ≤ 6)
 code_low (Join eap) = (omega arith, omega arith)
@@ -38,7 +39,8 @@ eui_none : (octets : List ℕ) → 9 ≤ length octets → eui_fault octets ≡ 
 unfolding eui_fault cut_off
 eui_none octets long = grind (arith, common_steps)
 
-rest_none : (body : JoinBody) (octets : List ℕ) → IsBody body → length octets ≡ 9 + rest_length body → after 9 octets ≡ rest_of body → rest_fault (code_of body) octets ≡ None
+rest_none : (body : JoinBody) (octets : List ℕ) → IsBody body → length octets ≡ 9 + rest_length body → after 9 octets ≡ rest_of body
+    → rest_fault (code_of body) octets ≡ None
 unfolding join_rest_fault challenge_rest_fault accept_rest_fault activate_rest_fault no_rest_fault
 rest_none (Join eap) octets h len is = grind (arith, common_steps)
 rest_none (Accept identifier) octets h len is = rw is refl
@@ -53,7 +55,8 @@ no_fault message h =
     let code : ℕ = code_of message.body in
     let octets : List ℕ = code ∷ message.eui.0 ++ rest_of message.body in
     let low = code_low message.body in
-    let len : length octets ≡ 9 + rest_length message.body = omega (arith, length-append message.eui.0 (rest_of message.body), length-rest_of message.body, h.0) in
+    let len : length octets ≡ 9 + rest_length message.body = omega
+    (arith, length-append message.eui.0 (rest_of message.body), length-rest_of message.body, h.0) in
     let first : octet 0 octets ≡ code = octet_behind [] code (message.eui.0 ++ rest_of message.body) in
     let nine : length (code ∷ message.eui.0) ≡ 9 = omega (arith, h.0) in
     let rest : after 9 octets ≡ rest_of message.body = ap (λ (n : ℕ). after n octets) (sym nine) ∙ after_behind (code ∷ message.eui.0) (rest_of message.body) in
@@ -84,7 +87,8 @@ one_value a b ha hb e =
     let body : a.body ≡ b.body = body_same a.body b.body code parts.1 in
     ap (λ (xs : List ℕ). message_from xs a.body) parts.0 ∙ ap (λ (x : JoinBody). message_from b.eui.0 x) body
 
-pub only_read : (octets : List ℕ) (r : Result JoinMessage (Fault JoinFaultKind)) → IfOk r (λ m. Spells m octets) → MatchResult r (λ m. join_fault octets ≡ None) (λ e. join_fault octets ≡ Some e)
+pub only_read : (octets : List ℕ) (r : Result JoinMessage (Fault JoinFaultKind)) → IfOk r (λ m. Spells m octets)
+    → MatchResult r (λ m. join_fault octets ≡ None) (λ e. join_fault octets ≡ Some e)
     → (message : JoinMessage) → Spells message octets → r ≡ Ok message
 only_read octets (Ok m) found exact message spells = ap Ok (one_value m message found.0 spells.0 (sym found.1 ∙ spells.1))
 only_read octets (Err e) found exact message spells = let none = no_fault message spells.0 in let same = ap join_fault spells.1 in absurd cc

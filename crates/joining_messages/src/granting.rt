@@ -6,7 +6,8 @@ ghost use Rattle.plc_base.specs.Faults.{ReadsWhen};
 ghost use Rattle.plc_base.specs.Fields.{octet, after};
 ghost use Rattle.plc_base.specs.Grant.{Granted};
 ghost use Rattle.joining_messages.specs.Reading.{grant_in};
-ghost use Rattle.joining_messages.specs.Grants.{IsGranted, IsPlace, SpellsGrant, grant_spelling, key_then, stands, address_stands, index_stands, sixteen_stand, head_stands, key_stands, is_parameter_list};
+ghost use Rattle.joining_messages.specs.Grants.{IsGranted, IsPlace, SpellsGrant, grant_spelling, key_then, stands, address_stands, index_stands, sixteen_stand};
+ghost use Rattle.joining_messages.specs.Grants.{head_stands, key_stands, is_parameter_list};
 
 use plc_base::{EapBuf, Grant, Key, KeyIndex, Short, octet_at, octets_at, two_at};
 

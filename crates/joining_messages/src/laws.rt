@@ -1,6 +1,7 @@
 //! Laws of joining messages and grants, over their definitions alone: each stands as the contract of a function that does
 //! nothing.
-ghost use Rattle.joining_messages.specs.Laws.{JoinsAreRead, ReadJoinsAreSpelled, GrantsAreRead, ReadGrantsAreSpelled, JoinSpellingsAreOctets, ReadJoinsFit, ReadJoinsHaveOctets, GrantSpellingsAreOctets, ReadGrantsHaveOctets};
+ghost use Rattle.joining_messages.specs.Laws.{JoinsAreRead, ReadJoinsAreSpelled, GrantsAreRead, ReadGrantsAreSpelled, JoinSpellingsAreOctets, ReadJoinsFit};
+ghost use Rattle.joining_messages.specs.Laws.{ReadJoinsHaveOctets, GrantSpellingsAreOctets, ReadGrantsHaveOctets};
 
 /// The joining message that octets spell is read out of them.
 pub fn joins_are_read()

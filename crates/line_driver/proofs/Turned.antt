@@ -6,7 +6,8 @@ use Rattle.line_driver.specs.declared.text_output.StopReason.TheVariants as reas
 use Rattle.line_driver.specs.Outcomes.{Takes, Stops}
 use Rattle.line_driver.specs.Clauses.{IsWritten, IsWrittenBy, StopsBy, StopsWith, Turned, TurnedBy}
 
-stopped_by : {M : Type 0} (old new : SinkState) (text w : List ℕ) (m : M) (r : Result (Unit {0}) StopReason) → StopsBy w text old new r → TurnedBy w m m (Stops text) old new r
+stopped_by : {M : Type 0} (old new : SinkState) (text w : List ℕ) (m : M) (r : Result (Unit {0}) StopReason) → StopsBy w text old new r
+    → TurnedBy w m m (Stops text) old new r
 stopped_by old new text w m (Ok u) h = absurd h
 stopped_by old new text w m (Err reasons.Memory) h = h
 stopped_by old new text w m (Err reasons.WriteFault) h = h
@@ -17,7 +18,8 @@ stops_short old new text w reasons.Memory h = h
 stops_short old new text w reasons.WriteFault h = h
 stops_short old new text w reasons.BadLine h = absurd h
 
-taken_by : {M : Type 0} (old new : SinkState) (text w : List ℕ) (m next : M) (r : Result (Unit {0}) StopReason) → IsWrittenBy w text old new r → TurnedBy w m next (Takes next text) old new r
+taken_by : {M : Type 0} (old new : SinkState) (text w : List ℕ) (m next : M) (r : Result (Unit {0}) StopReason) → IsWrittenBy w text old new r
+    → TurnedBy w m next (Takes next text) old new r
 taken_by old new text w m next (Ok u) h = (refl, h)
 taken_by old new text w m next (Err reasons.Memory) h = h
 taken_by old new text w m next (Err reasons.WriteFault) h = h
@@ -31,9 +33,11 @@ pub written_short : {old new : SinkState} (text : List ℕ) (reason : StopReason
 written_short {old} {new} text reason t = record { w = t.w; wrote = t.wrote; by = stops_short old new text t.w reason t.is_written; faults = t.faults }
 
 -- a bad line stops any machine
-pub stopped : {M : Type 0} {old new : SinkState} (text : List ℕ) (r : Result (Unit {0}) StopReason) → StopsWith old new text r → (m : M) → Turned old new m m (Stops text) r
+pub stopped : {M : Type 0} {old new : SinkState} (text : List ℕ) (r : Result (Unit {0}) StopReason) → StopsWith old new text r → (m : M)
+    → Turned old new m m (Stops text) r
 stopped {M} {old} {new} text r t m = record { w = t.w; wrote = t.wrote; turned = stopped_by old new text t.w m r t.by; faults = t.faults }
 
 -- a line was taken, and its report written
-pub taken : {M : Type 0} {old new : SinkState} (text : List ℕ) (r : Result (Unit {0}) StopReason) → IsWritten old new text r → (m next : M) → Turned old new m next (Takes next text) r
+pub taken : {M : Type 0} {old new : SinkState} (text : List ℕ) (r : Result (Unit {0}) StopReason) → IsWritten old new text r → (m next : M)
+    → Turned old new m next (Takes next text) r
 taken {M} {old} {new} text r t m next = record { w = t.w; wrote = t.wrote; turned = taken_by old new text t.w m next r t.is_written; faults = t.faults }

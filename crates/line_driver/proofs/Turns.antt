@@ -12,17 +12,20 @@ line_at number what behind = record { number = number; content = what; behind = 
 
 module _ {M : Type 0} where
   -- a line that stops the run does so whatever stands after it
-  stop_outcome : (m : M) (line : Line) (turn : Turn M) (rest rest' : M → Outcome M) → IsStop turn → outcome_turn m line turn rest ≡ outcome_turn m line turn rest'
+  stop_outcome : (m : M) (line : Line) (turn : Turn M) (rest rest' : M → Outcome M) → IsStop turn
+      → outcome_turn m line turn rest ≡ outcome_turn m line turn rest'
   stop_outcome m line Skips rest rest' stops = absurd stops
   stop_outcome m line (Takes next text) rest rest' stops = absurd stops
   stop_outcome m line (Stops text) rest rest' stops = refl
 
-  pub goes_text : (m0 m1 : M) (line : Line) (w : List ℕ) (turn : Turn M) (rest : M → Outcome M) → GoesOn w m0 m1 turn → (outcome_turn m0 line turn rest).text ≡ w ++ (rest m1).text
+  pub goes_text : (m0 m1 : M) (line : Line) (w : List ℕ) (turn : Turn M) (rest : M → Outcome M) → GoesOn w m0 m1 turn
+      → (outcome_turn m0 line turn rest).text ≡ w ++ (rest m1).text
   goes_text m0 m1 line w Skips rest on = rw (on.0, on.1) refl
   goes_text m0 m1 line w (Takes next text) rest on = rw (on.0, on.1) refl
   goes_text m0 m1 line w (Stops text) rest on = absurd on
 
-  pub goes_ending : (m0 m1 : M) (line : Line) (w : List ℕ) (turn : Turn M) (rest : M → Outcome M) → GoesOn w m0 m1 turn → (outcome_turn m0 line turn rest).ending ≡ (rest m1).ending
+  pub goes_ending : (m0 m1 : M) (line : Line) (w : List ℕ) (turn : Turn M) (rest : M → Outcome M) → GoesOn w m0 m1 turn
+      → (outcome_turn m0 line turn rest).ending ≡ (rest m1).ending
   goes_ending m0 m1 line w Skips rest on = rw on.0 refl
   goes_ending m0 m1 line w (Takes next text) rest on = rw on.0 refl
   goes_ending m0 m1 line w (Stops text) rest on = absurd on
@@ -32,7 +35,8 @@ module _ {M : Type 0} where
   stops_text m0 line (Takes next text) rest is = absurd is
   stops_text m0 line (Stops text) rest is = refl
 
-  pub stops_ending : (ahead : ℕ) (m0 : M) (line : Line) (turn : Turn M) (rest : M → Outcome M) → IsStop turn → length line.behind ≤ ahead → StopsShortOf ahead (outcome_turn m0 line turn rest).ending
+  pub stops_ending : (ahead : ℕ) (m0 : M) (line : Line) (turn : Turn M) (rest : M → Outcome M) → IsStop turn → length line.behind ≤ ahead
+      → StopsShortOf ahead (outcome_turn m0 line turn rest).ending
   stops_ending ahead m0 line Skips rest is short = absurd is
   stops_ending ahead m0 line (Takes next text) rest is short = absurd is
   stops_ending ahead m0 line (Stops text) rest is short = short
@@ -50,11 +54,15 @@ module _ {M : Type 0} where
 
 module _ {M : Type 0} (turn : M → ℕ → Content → Turn M) (end_text : M → List ℕ) where
   -- what a line and those after it do
-  pub line_outcome : ((m : M) (number : ℕ) → IsStop (turn m number TooMuch)) → (m : M) (number : ℕ) (what : Content) (behind : List ℕ) (rest : List Line) (ended : Bool) → outcome_from turn end_text m (lines_with number what behind rest) ended ≡ outcome_turn m (line_at number what behind) (turn m number what) (λ next. outcome_from turn end_text next rest ended)
+  pub line_outcome : ((m : M) (number : ℕ) → IsStop (turn m number TooMuch))
+      → (m : M) (number : ℕ) (what : Content) (behind : List ℕ) (rest : List Line) (ended : Bool)
+      → outcome_from turn end_text m (lines_with number what behind rest) ended
+      ≡ outcome_turn m (line_at number what behind) (turn m number what) (λ next. outcome_from turn end_text next rest ended)
   unfolding outcome_from
   line_outcome stops m number (Text octets) behind rest ended = refl
   line_outcome stops m number Long behind rest ended = refl
-  line_outcome stops m number TooMuch behind rest ended = stop_outcome m (line_at number TooMuch behind) (turn m number TooMuch) (λ next. outcome_from turn end_text next [] ended) (λ next. outcome_from turn end_text next rest ended) (stops m number)
+  line_outcome stops m number TooMuch behind rest ended = stop_outcome m (line_at number TooMuch behind) (turn m number TooMuch)
+      (λ next. outcome_from turn end_text next [] ended) (λ next. outcome_from turn end_text next rest ended) (stops m number)
 
   pub no_lines : (m : M) → outcome_from turn end_text m [] true ≡ record { text = end_text m; ending = Ended m }
   unfolding outcome_from

@@ -1,5 +1,6 @@
 -- What a reader of lines takes from its source.
-use Rattle.std.specs.Prelude.{◌≡◌, ◌⊎◌, ℕ, ◌+◌, ◌<◌, ◌≤◌, Bool, false, List, [], ◌∷◌, ◌++◌, length, take, slice_index, if◌then◌else◌, nat_lt, nat_le, true, Result, None, Some, IsTrue, OnErr, IfOk}
+use Rattle.std.specs.Prelude.{◌≡◌, ◌⊎◌, ℕ, ◌+◌, ◌<◌, ◌≤◌, Bool, false, List, [], ◌∷◌, ◌++◌, length, take, slice_index, if◌then◌else◌, nat_lt, nat_le, true}
+use Rattle.std.specs.Prelude.{Result, None, Some, IsTrue, OnErr, IfOk}
 use Rattle.std.specs.declared.option.Option.{Option}
 use Rattle.std.specs.Io.KnownBytes.{Consumes, Keeps, IsAtEnd}
 use Rattle.plc_base.specs.declared.streams.Failed.{Failed}

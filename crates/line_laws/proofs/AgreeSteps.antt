@@ -39,7 +39,8 @@ use Rattle.node_rules.specs.Coordinators as coordinator_rules
 use Rattle.line_rules.specs.Answers.{Reception, meter_reception, coordinator_reception, random_word, join_word, leave_word, sent_word, ordered_word, frame_word}
 use Rattle.line_events.specs.Events.{IsEvent}
 use Rattle.line_rules.specs.Worlds.{World, Trace, node_at, flight_at, is_forged_tag}
-use Rattle.line_rules.specs.Steps.{Step, set_up, ran, world_after, acted, once_begun, in_setup, has_begun, takes_setup, on_node, on_meter, made_node, blank_node}
+use Rattle.line_rules.specs.Steps.{Step, set_up, ran, world_after, acted, once_begun, in_setup, has_begun, takes_setup, on_node, on_meter, made_node}
+use Rattle.line_rules.specs.Steps.{blank_node}
 use Rattle.line_rules.specs.Steps.{identity, hears, restarts, ticked, rand, join, joins_by, leave, send, sends_by, sent_if, breaks, breaks_by, lose, tick}
 use Rattle.line_rules.specs.Steps.{restart, cut, show, psk_of, trace_of, happened, coordinator, coordinator_node, meter, is_known, depot, depot_by, provisioned}
 use Rattle.line_rules.specs.Steps.{near, near_by, keeps_rank, ranks_full, offered_near, preset, allow, allowed, deliver, inject, arrives, accepted_by, received}
@@ -462,7 +463,8 @@ module _ (ciphers : Ciphers) (fits : KeepsRanges ciphers) (w : World) (ok : Worl
       by_answer (Err reason) e = rw e (Refused faults.Setup)
       by_answer (Ok g) e =
           let d : NodeStep (Result Granted CoordinatorRefusal) = record (acts y (Err orders.Halted) plan) { answer = Ok g } in
-          let first : Confirmed (world_after ciphers (set_up w) 0 d) taken = told_nothing ciphers (set_up w) 0 y d hy (acts_eui y (Err orders.Halted) plan) taken c
+          let first : Confirmed (world_after ciphers (set_up w) 0 d) taken = told_nothing ciphers (set_up w) 0 y d hy (acts_eui y (Err orders.Halted) plan)
+          taken c
           (acts_nothing y (Err orders.Halted) plan (λ m here. (depot_untagged m x.eui psk).0)) in
           rw e (quiet (provisioned ciphers (world_after ciphers (set_up w) 0 d) number x g) refl refl
           (plain_acts (world_after ciphers (set_up w) 0 d) first number x (other_there ciphers fits w ok flown given k 0 number d x ne hx) (Ok tt)

@@ -36,7 +36,8 @@ use Rattle.line_rules.specs.Answers.{coordinator_reception, meter_reception, Rec
 use Rattle.line_events.specs.Events.{IsEvent}
 use Rattle.line_rules.specs.Forgery.{Comes, accepting}
 use Rattle.line_rules.specs.Worlds.{World, Issued, node_at}
-use Rattle.line_rules.specs.Steps.{Step, set_up, ran, world_after, acted, sending, sent_if, is_taken, tag_of, hears, offered_near, heard, note_by, identity, issued_of}
+use Rattle.line_rules.specs.Steps.{Step, set_up, ran, world_after, acted, sending, sent_if, is_taken, tag_of, hears, offered_near, heard, note_by, identity}
+use Rattle.line_rules.specs.Steps.{issued_of}
 use Rattle.line_rules.specs.Steps.{psk_of, restarts, ticked}
 use Rattle.line_laws.specs.Stores.{IsReadable, IsBookKept}
 use Rattle.line_laws.specs.Sizes.{IsMemorySized}
@@ -245,7 +246,8 @@ module _ (ciphers : Ciphers) (fits : KeepsRanges ciphers) (w : World) (ok : Worl
 
   -- a call of one node
   called : (u v : World) (number : ℕ) (x : Node) (A B : Type 0) (reads : A → B) (halted : A) (plan : Memory → Plan Memory A) → u.nodes ≡ w.nodes
-      → v.nodes ≡ (world_after ciphers u number (answering reads (acts x halted plan))).nodes → node_at w number ≡ Some x → IsCall ciphers w number x A halted plan
+      → v.nodes ≡ (world_after ciphers u number (answering reads (acts x halted plan))).nodes → node_at w number ≡ Some x
+      → IsCall ciphers w number x A halted plan
       → Goes v
   called u v number x A B reads halted plan e f there call =
       told_goes u v number x (answering reads (acts x halted plan)) (same_goes w u e self_goes) (f ∙ told_nodes u number (answering reads (acts x halted plan)))

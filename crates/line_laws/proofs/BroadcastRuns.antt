@@ -595,7 +595,8 @@ module _ (w : World) (ok : WorldOk w) (s : WorldSpeaks w) (logs : LogsKept w) (r
         unforged = (or_parts _ _ honest).0
 
         by_memory : (reply : Reply) → due got.path (message_of got) (heard_node network w x octets got cost).answer.answer ≡ Some reply → (t : Bool)
-            → let q : World × Trace = (if t then adds_frames (world_after network noted.0 number (acknowledging left reply)) noted.1 (acknowledging left reply) else
+            → let q : World × Trace = (if t then adds_frames (world_after network noted.0 number (acknowledging left reply)) noted.1 (acknowledging left reply)
+            else
             sends_nothing w (world_after network noted.0 number (acknowledging left reply), noted.1)) in CastsOn sent ups home q.0 q.1
         by_memory reply e true = silent _ _ (record { bup = refl; broadcast = refl })
             (told_says P noted.0 number (acknowledging left reply) (r.sends.acknowledges event number x octets got cost reply (is_heard unforged) e)

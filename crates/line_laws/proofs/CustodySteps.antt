@@ -74,7 +74,8 @@ use Rattle.line_laws.proofs.RangePlans.{DidRanged, acts_ranged}
 use Rattle.line_laws.proofs.Readings.{held, none_held}
 use Rattle.line_laws.proofs.StepsOk.{coordinator_acts, read_again}
 use Rattle.line_laws.proofs.TagRuns.{at_end}
-use Rattle.line_laws.proofs.StepKinds.{IsAddressed, IsAddressedAt, workshop, IsAsked, AskRandom, AskJoin, AskLeave, AskRekey, AskTurn, AskChallenge, AskActivate}
+use Rattle.line_laws.proofs.StepKinds.{IsAddressed, IsAddressedAt, workshop, IsAsked, AskRandom, AskJoin, AskLeave, AskRekey, AskTurn, AskChallenge}
+use Rattle.line_laws.proofs.StepKinds.{AskActivate}
 use Rattle.line_laws.proofs.StepKinds.{AskKick, IsMade, OfCoordinator, OfMeter, IsPreset, OfCounter, OfNumber, IsBrought, IsStep, Fails, Makes, Rests, Shows}
 use Rattle.line_laws.proofs.StepKinds.{Acts, BreaksLink, SendsFrom, AllowsMeter, Sets, SetsTwo, Provides, TurnsDown, Hears, Loses, Ticks, Restarts, Cuts}
 use Rattle.line_laws.proofs.Worlds.{NodeFits, WorldOk, at_place, within}
@@ -168,7 +169,8 @@ module _ (ciphers : Ciphers) (opens : OpensWhatItSeals ciphers) (S : ℕ → Sen
 
     pub told_at : {A : Type 0} (u : World) (number : ℕ) (x : Node) (d : NodeStep A) → At u → slice_get u.nodes number ≡ Some x → DidClean S (home number) x d
         → At (world_after ciphers u number d)
-    told_at u number x d c here did = at_of (world_after ciphers u number d) (told_rest u number x d (rest_of u c) here did.ranged did.fits did.station did.frames)
+    told_at u number x d c here did =
+        at_of (world_after ciphers u number d) (told_rest u number x d (rest_of u c) here did.ranged did.fits did.station did.frames)
         (told_places u number x d c.places here did)
 
 -- what was live may be live no more

@@ -245,7 +245,8 @@ module _ (ciphers : Ciphers) (fits : KeepsRanges ciphers) (w : World) (ok : Worl
       order_sent number x _ first there (λ m sized. kick_ok ciphers fits (own_of x) m sized y.eui (given_at meter y at.there).eui)
 
   pub one_told : {A : Type 0} (u v : World) (number : ℕ) (x : Node) (d : NodeStep A) → u.flights ≡ w.flights → u.nodes ≡ w.nodes
-      → v.nodes ≡ (world_after ciphers u number d).nodes → v.flights ≡ (world_after ciphers u number d).flights → node_at w number ≡ Some x → IsSentFrom d → NewSenders w v
+      → v.nodes ≡ (world_after ciphers u number d).nodes → v.flights ≡ (world_after ciphers u number d).flights → node_at w number ≡ Some x → IsSentFrom d
+      → NewSenders w v
   one_told u v number x d fs ns vn vf there (Silent none) = none_new w v (ap length (vf ∙ told_silent ciphers u number d none ∙ fs))
   one_told u v number x d fs ns vn vf there (Speaks from low) = told_senders ciphers w u v number x d fs ns vn vf there from low
 
@@ -258,7 +259,8 @@ module _ (ciphers : Ciphers) (fits : KeepsRanges ciphers) (w : World) (ok : Worl
   sending_senders from to datagram x d there sent =
       by_taken (is_taken d.answer) (one_told (ran w) (world_after ciphers (ran w) from d) from x d refl refl refl refl there sent)
     where
-      by_taken : (b : Bool) → NewSenders w (world_after ciphers (ran w) from d) → NewSenders w (sent_if w from to datagram (tag_of x) b (acted ciphers w from d)).0
+      by_taken : (b : Bool) → NewSenders w (world_after ciphers (ran w) from d)
+          → NewSenders w (sent_if w from to datagram (tag_of x) b (acted ciphers w from d)).0
       by_taken true k = k
       by_taken false k = k
 

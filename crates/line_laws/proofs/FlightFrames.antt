@@ -93,7 +93,8 @@ module _ (ciphers : Ciphers) (P : Flight → Type 0) (sent : (number : ℕ) (f :
           r : World × Trace
           r = checks_so ciphers w number x octets got cost
 
-          by_memory : (b : Bool) → Stay (if b then adds_frames (world_after ciphers r.0 number a) r.1 a else sends_nothing w (world_after ciphers r.0 number a, r.1)).0
+          by_memory : (b : Bool) → Stay (if b then adds_frames (world_after ciphers r.0 number a) r.1 a
+              else sends_nothing w (world_after ciphers r.0 number a, r.1)).0
           by_memory true = act_all r.0 number a plain_all
           by_memory false = all
 

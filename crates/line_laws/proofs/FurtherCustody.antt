@@ -310,7 +310,8 @@ module _ (home : ℕ → ℕ) (apart : (i j : ℕ) → home i ≡ home j → i �
 
   chosen_held : (number count : ℕ) (x : Node) (psk : Key) → node_at w number ≡ Some x
       → Custody network (λ _ f. live w f) S home
-      (world_after network (ran w) number (reaches x (beside_at w number) (Err choices.Halted) (λ y. choose_agent (identity network x psk) y count w.clock))) before
+      (world_after network (ran w) number (reaches x (beside_at w number) (Err choices.Halted) (λ y. choose_agent (identity network x psk) y count w.clock)))
+      before
   chosen_held number count x psk there =
       told_at network network_opens_again S home (live w) before (ran w) number x
       (reaches x (beside_at w number) (Err choices.Halted) (λ y. choose_agent (identity network x psk) y count w.clock)) ran_held there

@@ -166,13 +166,15 @@ module _ (ciphers : Ciphers) (fits : KeepsRanges ciphers) (w : World) (ok : Worl
       let plan : Memory → Plan Memory (Result Accepted FrameRefusal) = λ m. of_station m (accept m.station x.eui (arrived ciphers octets)) in
       let none : (accepting ciphers x octets).made ≡ [] =
       acts_nothing x (Err frames.Halted) plan (λ m here. (accept_quietly ciphers fits octets are m x.eui).made) in
-      same_keyed (world_after ciphers (ran w) number (acts x (Err frames.Halted) plan)) (world_after ciphers (ran w) number (stays (accepting ciphers x octets).node answer))
+      same_keyed (world_after ciphers (ran w) number (acts x (Err frames.Halted) plan))
+      (world_after ciphers (ran w) number (stays (accepting ciphers x octets).node answer))
       given
       (quiet_told ciphers fits (ran w) given ran_keyed number x there (good_at number x there) (Err frames.Halted) plan
       (λ m sized. accept_quietly ciphers fits octets are m x.eui)) refl (ap (λ more. w.made ++ more) (sym none))
 
   chosen_keyed : (number k : ℕ) (x : Node) (psk : Key) → number ≢ 0 → node_at w number ≡ Some x
-      → Keyed (world_after ciphers (ran w) number (reaches x (beside_at w number) (Err choices.Halted) (λ y. choose_agent (identity ciphers x psk) y k w.clock))) given
+      → Keyed (world_after ciphers (ran w) number
+      (reaches x (beside_at w number) (Err choices.Halted) (λ y. choose_agent (identity ciphers x psk) y k w.clock))) given
   chosen_keyed number k x psk ne there =
       own_told ciphers fits (ran w) given ran_keyed number x ne there (good_at number x there) (Err choices.Halted)
       (with_beside (beside_at w number) (λ y. choose_agent (identity ciphers x psk) y k w.clock))

@@ -155,7 +155,8 @@ module _ (ciphers : Ciphers) (fits : KeepsRanges ciphers) (r : World × Trace) (
     command_holds =
         let did = heard_did in
         let few = did.few in (
-          counts_ok (world_after ciphers r.0 number (reaches x (beside_at r.0 number) (Err (reach_drops.Known drops.Store)) (λ y. hear_command in_memory y c))) _
+          counts_ok (world_after ciphers r.0 number (reaches x (beside_at r.0 number) (Err (reach_drops.Known drops.Store)) (λ y. hear_command in_memory y c)))
+              _
               (told_ok ciphers fits r.0 number x (reaches x (beside_at r.0 number) (Err (reach_drops.Known drops.Store)) (λ y. hear_command in_memory y c)) ok
               there did (λ e. absurd (not_both e))) refl refl (λ e. e),
           omega arith,

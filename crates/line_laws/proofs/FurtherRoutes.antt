@@ -139,7 +139,8 @@ module _ (h : Homes) where
       → NodeRanks (At h number) (Own h number) (IsNearer h v) x d.node d.frames → All IsSent d.frames → Reached network h b v
       → Reached network h b (world_after network v number d)
   told_keeps b v number x d there ranks sent r =
-      reach network h v (world_after network v number d) (told_step network h v number x d there ranks (All-weaker IsSent (FrameRead network) sent_read d.frames sent))
+      reach network h v (world_after network v number d)
+      (told_step network h v number x d there ranks (All-weaker IsSent (FrameRead network) sent_read d.frames sent))
       r
 
   -- nodes and homes as before

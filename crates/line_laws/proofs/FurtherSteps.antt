@@ -80,7 +80,8 @@ use Rattle.line_rules.specs.Further.{discovery_flights, commanded, checked, ackn
 use Rattle.line_rules.specs.Further.{unbelieved, heard_by, heard_further, is_dropped, accepted_further, comes, delivers, injects, ticks, after_ok, due}
 use Rattle.line_rules.specs.Further.{with_check, restarts_by, restarts_further, beside_at, reaches, with_beside, of_memory}
 use Rattle.line_rules.specs.Logs.{AreLogged, HaveShortTables, LogIn, LogsKept}
-use Rattle.line_rules.specs.Steps.{Step, set_up, ran, world_after, flights_of, happened, trace_of, has_begun, takes_setup, once_begun, in_setup, on_node, on_meter}
+use Rattle.line_rules.specs.Steps.{Step, set_up, ran, world_after, flights_of, happened, trace_of, has_begun, takes_setup, once_begun, in_setup, on_node}
+use Rattle.line_rules.specs.Steps.{on_meter}
 use Rattle.line_rules.specs.Steps.{psk_of, identity, on_flight, hears, heard, received, forged_by, note_by, restarts, tick, step}
 use Rattle.line_rules.specs.Worlds.{World, Flight, Trace, node_at, flight_at, is_forged_tag}
 use Rattle.line_rules.proofs.LogSteps.{logged_at}
@@ -443,7 +444,8 @@ module _ (ciphers : Ciphers) (fits : KeepsRanges ciphers) (w : World) (ok : Worl
       heard_did = and_then d (hears_ok ciphers fits w ok flown y got cost (note_by w octets got.path) w.clock good routes)
 
       pub heard_ok : WorldOk r.0
-      heard_ok = counts_ok (world_after ciphers (ran w) number d) r.0 (told_ok ciphers fits (ran w) number x d ran_ok there heard_did (λ e. absurd (true_false e)))
+      heard_ok =
+          counts_ok (world_after ciphers (ran w) number d) r.0 (told_ok ciphers fits (ran w) number x d ran_ok there heard_did (λ e. absurd (true_false e)))
           refl refl (λ e. e)
 
       heard_good : StepGood w (Ok r)

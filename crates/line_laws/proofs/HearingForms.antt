@@ -194,7 +194,8 @@ module _ (W : RingWord → Type 0) (g : Given) (l : StationMemory) where
   pass_error_on_made : (lost to by : ℕ) (hop : Option ℕ) → IsTold g by false (Rerr lost to)
       → ((h : ℕ) → hop ≡ Some h → next_hop (loses lost by l).memory to ≡ Some h) → Made W g (empty_draft l) (pass_error_on lost to hop (loses lost by l))
   pass_error_on_made lost to by None told there = loses_made lost by
-  pass_error_on_made lost to by (Some hop) told there = Goes hop _ 0 _ (loses_made lost by) (Tells hop lost to to (ByError by lost to told) (there hop refl)) Unnoted
+  pass_error_on_made lost to by (Some hop) told there =
+      Goes hop _ 0 _ (loses_made lost by) (Tells hop lost to to (ByError by lost to told) (there hop refl)) Unnoted
 
   -- the hop that is left
   hop_left : (b : Bool) (lost to by h : ℕ) → (if b then None else next_hop (loses lost by l).memory to) ≡ Some h → next_hop (loses lost by l).memory to ≡ Some h
@@ -206,7 +207,8 @@ module _ (W : RingWord → Type 0) (g : Given) (l : StationMemory) where
   pass_error_on_done lost to by (Some hop) = error_on_done l hop _ 0 (λ r. routing.without_next_to r lost by)
 
   error_is : (own by lost to : ℕ) → IsTold g by false (Rerr lost to) → Is (hear_error l own by lost to)
-  error_is own by lost to told = sealed_planned _ _ (pass_error_on_made lost to by _ told (hop_left (to == own) lost to by), pass_error_on_done lost to by _, tt)
+  error_is own by lost to told =
+      sealed_planned _ _ (pass_error_on_made lost to by _ told (hop_left (to == own) lost to by), pass_error_on_done lost to by _, tt)
 
   message_is : (own by : ℕ) (all : Bool) (message : Message) → address_of l ≡ Some own → IsTold g by all message
       → Is (hear_message l own by all g.cost g.now message)

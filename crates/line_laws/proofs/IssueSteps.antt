@@ -47,7 +47,8 @@ use Rattle.node_rules.specs.Drafts.{choose, empty_draft, with_ring}
 use Rattle.node_rules.specs.MemoryDrafts.{with_station}
 use Rattle.line_events.specs.Events.{IsEvent}
 use Rattle.line_rules.specs.Worlds.{World, Flight, Trace, node_at, flight_at, is_forged_tag}
-use Rattle.line_rules.specs.Steps.{Step, set_up, ran, world_after, acted, once_begun, in_setup, has_begun, takes_setup, on_node, on_meter, blank_node, identity, hears}
+use Rattle.line_rules.specs.Steps.{Step, set_up, ran, world_after, acted, once_begun, in_setup, has_begun, takes_setup, on_node, on_meter, blank_node, identity}
+use Rattle.line_rules.specs.Steps.{hears}
 use Rattle.line_rules.specs.Steps.{restarts, memory_by, ticked, rand, join, joins_by, leave, send, sends_by, sent_if, breaks, breaks_by, lose, tick, restart}
 use Rattle.line_rules.specs.Steps.{cut, show, psk_of, trace_of, happened, coordinator, coordinator_node, meter, is_known, depot, depot_by, near, near_by}
 use Rattle.line_rules.specs.Steps.{keeps_rank, ranks_full, offered_near, preset, allow, allowed, deliver, inject, arrives, accepted_by, received}
@@ -518,7 +519,8 @@ module _ (ciphers : Ciphers) (fits : KeepsRanges ciphers) (w : World) (ok : Worl
       → (forged ≡ false → Keyed (world_after ciphers (ran w) number d) (given ++ issued_of d.answer.keyed)) → Good (Ok (received ciphers w number forged d))
   received_keyed number forged d h = Taken _ (λ honest. same_keyed (world_after ciphers (ran w) number d) _ _ (h honest) refl refl)
 
-  told_later : {A : Type 0} (number : ℕ) (reads : A → Reception) (d : NodeStep A) (more : List Issued) → Keyed (world_after ciphers (ran w) number d) (given ++ more)
+  told_later : {A : Type 0} (number : ℕ) (reads : A → Reception) (d : NodeStep A) (more : List Issued)
+      → Keyed (world_after ciphers (ran w) number d) (given ++ more)
       → Keyed (world_after ciphers (ran w) number (answering reads d)) (given ++ more)
   told_later number reads d more h = told_as ciphers (ran w) number reads d (given ++ more) h
 
@@ -559,7 +561,8 @@ module _ (ciphers : Ciphers) (fits : KeepsRanges ciphers) (w : World) (ok : Worl
           let did = meter_hears_did y psk is got cost note now ran_keyed.book routes good (meter ne) ran_keyed.made honest in
           let d = acts y (Err drops.Store) (λ m. meters.hear_meter (identity ciphers y psk) m got cost note now) in
           let none : issued_of (meter_reception d.answer).keyed ≡ [] = ap issued_of (no_keys d.answer) in
-          told_later number meter_reception d _ (subst (Keyed (world_after ciphers (ran w) number d)) (sym (append-nil given) ∙ ap (λ more. given ++ more) (sym none))
+          told_later number meter_reception d _
+          (subst (Keyed (world_after ciphers (ran w) number d)) (sym (append-nil given) ∙ ap (λ more. given ++ more) (sym none))
           (told_meter ciphers (ran w) number x d there (did.eui ∙ eui) given ran_keyed ne
           (record { node = did.node; eui = did.eui ∙ eui; role = did.role ∙ role; made = did.made }))))
           (cases_eq number 0)

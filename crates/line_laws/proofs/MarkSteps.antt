@@ -35,7 +35,8 @@ use Rattle.line_events.specs.Events.{IsEvent}
 use Rattle.line_rules.specs.Forgery.{Comes, accepting}
 use Rattle.line_rules.specs.Runs.{Entry}
 use Rattle.line_rules.specs.Worlds.{World, node_at}
-use Rattle.line_rules.specs.Steps.{Step, set_up, ran, world_after, acted, sending, sent_if, is_taken, tag_of, hears, offered_near, note_by, identity, psk_of, restarts}
+use Rattle.line_rules.specs.Steps.{Step, set_up, ran, world_after, acted, sending, sent_if, is_taken, tag_of, hears, offered_near, note_by, identity, psk_of}
+use Rattle.line_rules.specs.Steps.{restarts}
 use Rattle.line_rules.specs.Steps.{ticked, step}
 use Rattle.line_laws.specs.Live.{marks_of, MarksRise}
 use Rattle.line_laws.specs.Stores.{IsReadable, IsKept, HasEui, IsPair}
@@ -115,7 +116,8 @@ told_follows w u v number x d f there nodes did = record { at = at }
         (λ (ne : n ≢ number). record { node = l.node; there = other n ne ∙ l.there; role = l.role; eui = l.eui; raised = l.raised })
         (cases_eq n number)
 
-pub told_nodes : {A : Type 0} (ciphers : Ciphers) (u : World) (number : ℕ) (d : NodeStep A) → (world_after ciphers u number d).nodes ≡ slice_set u.nodes number d.node
+pub told_nodes : {A : Type 0} (ciphers : Ciphers) (u : World) (number : ℕ) (d : NodeStep A)
+    → (world_after ciphers u number d).nodes ≡ slice_set u.nodes number d.node
 unfolding world_after
 told_nodes ciphers u number d = refl
 

@@ -490,7 +490,8 @@ module _ (w : World) (ok : WorldOk w) (flown_are : All FlightFits w.flights) (lo
             (nothing_in (acknowledging left reply).node (quiet_marks ups number (beside_at w number).log x (acknowledging left reply).node (acked_quiet reply)
             (held number x a.there)))
         by_memory reply false = none (sends_nothing w (world_after network noted.0 number (acknowledging left reply), noted.1)) refl
-            (at_quiet ups w held (sends_nothing w (world_after network noted.0 number (acknowledging left reply), noted.1)).0 number x (acknowledging left reply).node
+            (at_quiet ups w held (sends_nothing w (world_after network noted.0 number (acknowledging left reply), noted.1)).0 number x
+            (acknowledging left reply).node
             a.there (slice_set-twice w.nodes number left (acknowledging left reply).node) (λ n. refl) (acked_quiet reply))
 
         by_due : (o : Option Reply) → MarksOn ups (Ok (acknowledged_if network w number left o noted))

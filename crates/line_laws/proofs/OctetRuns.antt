@@ -194,7 +194,8 @@ module _ (w : World) (ok : WorldOk w) (s : WorldSpeaks w) where
   sending_is : (from to : ℕ) (datagram : List ℕ) (x : Node) (d : NodeStep Answer) → DidSpeak d → WorldSpeaks (sending network w from to datagram (tag_of x) d).0
   sending_is from to datagram x d did = by_taken (is_taken d.answer) (told_speaks (ran w) from d ran_speaks did)
     where
-      by_taken : (b : Bool) → WorldSpeaks (world_after network (ran w) from d) → WorldSpeaks (sent_if w from to datagram (tag_of x) b (acted network w from d)).0
+      by_taken : (b : Bool) → WorldSpeaks (world_after network (ran w) from d)
+          → WorldSpeaks (sent_if w from to datagram (tag_of x) b (acted network w from d)).0
       by_taken true k = record { nodes = k.nodes; flights = k.flights }
       by_taken false k = k
 

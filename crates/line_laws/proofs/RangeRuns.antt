@@ -14,7 +14,8 @@ use Rattle.line_events.specs.declared.event.Answer.TheVariants as said
 use Rattle.line_events.specs.declared.event.Event.{Event}
 use Rattle.line_rules.specs.Forgery.{accepting}
 use Rattle.line_rules.specs.Worlds.{World, Flight, node_at, flight_at, start}
-use Rattle.line_rules.specs.Steps.{Step, set_up, ran, world_after, acted, sending, sent_if, is_taken, tag_of, hears, heard, note_by, forged_by, identity, psk_of}
+use Rattle.line_rules.specs.Steps.{Step, set_up, ran, world_after, acted, sending, sent_if, is_taken, tag_of, hears, heard, note_by, forged_by, identity}
+use Rattle.line_rules.specs.Steps.{psk_of}
 use Rattle.line_rules.specs.Steps.{flights_of, offered_near, blank_node, restarts, memory_by, ticked}
 use Rattle.node_rules.specs.declared.heard.Accepted.{Accepted}
 use Rattle.node_rules.specs.declared.heard.SentHow.{SentHow}
@@ -335,7 +336,8 @@ module _ (w : World) (ok : WorldOk w) (s : WorldSpeaks w) (r : WorldRanged w) wh
       → WorldRanged (sending network w from to datagram (tag_of x) d).0
   sending_is from to datagram x d did = by_taken (is_taken d.answer) (told_ranged (ran w) from d ran_ranged did)
     where
-      by_taken : (b : Bool) → WorldRanged (world_after network (ran w) from d) → WorldRanged (sent_if w from to datagram (tag_of x) b (acted network w from d)).0
+      by_taken : (b : Bool) → WorldRanged (world_after network (ran w) from d)
+          → WorldRanged (sent_if w from to datagram (tag_of x) b (acted network w from d)).0
       by_taken true k = record { nodes = k.nodes; flights = k.flights }
       by_taken false k = k
 

@@ -566,7 +566,8 @@ module _ (ciphers : Ciphers) (w : World) (logs : LogsKept w) where
         notes None = same_notes number w.clock (beside_at w number) (sent None) refl refl
         notes (Some reply) = reply_notes number w.clock (beside_at w number) reply
 
-        by_memory : (reply : Reply) (t : Bool) → let v : World = world_after ciphers with_it.0 number (acknowledging d.node reply) in let q : World × Trace = if t then
+        by_memory : (reply : Reply) (t : Bool) → let v : World = world_after ciphers with_it.0 number (acknowledging d.node reply) in
+            let q : World × Trace = if t then
             adds_frames v with_it.1 (acknowledging d.node reply) else sends_nothing w (v, with_it.1) in (n : ℕ) → LeadsAt n w (entry event q.0 q.1)
         by_memory reply true = at_one w (entry event (world_after ciphers with_it.0 number (acknowledging d.node reply))
             (adds_frames (world_after ciphers with_it.0 number (acknowledging d.node reply)) with_it.1 (acknowledging d.node reply)).1) a.other number

@@ -65,13 +65,15 @@ use Rattle.line_rules.specs.Further.{broadcasts_by, checked, commanded, discover
 use Rattle.line_rules.specs.Further.{scans_by, sends_nothing, with_beside, with_check}
 use Rattle.line_rules.specs.Logs.{LogsKept}
 use Rattle.line_rules.specs.Runs.{Entry, IsRun, events_of, one_of}
-use Rattle.line_rules.specs.Steps.{Step, acted, flight_by, flights_of, happened, heard, identity, is_taken, note_by, ran, sent_if, tag_of, world_after, trace_of}
+use Rattle.line_rules.specs.Steps.{Step, acted, flight_by, flights_of, happened, heard, identity, is_taken, note_by, ran, sent_if, tag_of, world_after}
+use Rattle.line_rules.specs.Steps.{trace_of}
 use Rattle.line_rules.specs.Forgery.{Comes}
 use Rattle.line_rules.specs.FurtherRuns.{broadcasts}
 use Rattle.line_rules.specs.Worlds.{Acknowledged, Broadcasting, Flight, Noticed, Trace, World, start}
 use Rattle.line_laws.specs.FurtherLines.{HoldsAfter}
 use Rattle.line_laws.specs.ReachTraces.{AckCame, AreReachReported, BeaconCame, BroadcastCame, FrameCame, EveryBroadcastIsListed, EveryEventIsReported, HasFrame}
-use Rattle.line_laws.specs.ReachTraces.{IsReachReported, ListsBroadcasts, ReplyFlew, WalkCame, as_bcast, is_acked, is_acknowledged, is_beacon, is_beaconed, is_bup}
+use Rattle.line_laws.specs.ReachTraces.{IsReachReported, ListsBroadcasts, ReplyFlew, WalkCame, as_bcast, is_acked, is_acknowledged, is_beacon, is_beaconed}
+use Rattle.line_laws.specs.ReachTraces.{is_bup}
 use Rattle.line_laws.specs.ReachTraces.{is_path, is_scan, is_scanning, is_sent, link_of, sent_to_all, to_all_of}
 use Rattle.line_laws.proofs.FurtherOctets.{every_run_holds}
 use Rattle.line_laws.proofs.ReachCame.{Says, acts_says, command_came, command_said}
@@ -672,7 +674,8 @@ every_told entries r = told_from start tt entries r.events r.run (every_run_hold
 
 list_from : (w : World) (entries : List Entry) → AreReachReported w entries → ListsBroadcasts entries
 list_from w [] world_after = refl
-list_from w (x ∷ xs) world_after = map-append to_all_of (one_of x.trace.further.broadcast) (broadcasts xs) ∙ (λ i. first i ++ list_from x.after xs world_after.1 i)
+list_from w (x ∷ xs) world_after =
+    map-append to_all_of (one_of x.trace.further.broadcast) (broadcasts xs) ∙ (λ i. first i ++ list_from x.after xs world_after.1 i)
   where
     by_one : (o : Option Broadcasting) → map to_all_of (one_of o) ≡ one_of (option_map to_all_of o)
     by_one None = refl

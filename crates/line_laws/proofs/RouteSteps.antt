@@ -43,7 +43,8 @@ use Rattle.line_rules.specs.Answers.{Reception, meter_reception, coordinator_rec
 use Rattle.node_rules.specs.MemoryDrafts.{with_station, give_random}
 use Rattle.line_events.specs.Events.{IsEvent, IsLineOctets}
 use Rattle.line_rules.specs.Worlds.{World, Flight, Trace, node_at, flight_at, is_forged_tag}
-use Rattle.line_rules.specs.Steps.{Step, set_up, ran, world_after, acted, once_begun, in_setup, has_begun, takes_setup, on_node, on_meter, made_node, blank_node}
+use Rattle.line_rules.specs.Steps.{Step, set_up, ran, world_after, acted, once_begun, in_setup, has_begun, takes_setup, on_node, on_meter, made_node}
+use Rattle.line_rules.specs.Steps.{blank_node}
 use Rattle.line_rules.specs.Steps.{identity, hears, restarts, ticked, rand, join, joins_by, leave, send, sends_by, sent_if, breaks, breaks_by, lose, tick}
 use Rattle.line_rules.specs.Steps.{restart, cut, show, psk_of, trace_of, happened, coordinator, coordinator_node, meter, is_known, depot, depot_by, provisioned}
 use Rattle.line_rules.specs.Steps.{near, near_by, keeps_rank, ranks_full, offered_near, preset, allow, allowed, deliver, inject, arrives, accepted_by, received}

@@ -12,7 +12,8 @@ use Rattle.line_rules.specs.Agreement.{is_allow_of}
 use Rattle.line_rules.specs.Answers.{Reception, coordinator_reception, meter_reception, ordered_word, order_word, sent_word}
 use Rattle.line_events.specs.Events.{IsEvent}
 use Rattle.line_rules.specs.Forgery.{Comes, accepting}
-use Rattle.line_rules.specs.Steps.{Step, ran, world_after, acted, allow, kick, by_coordinator, takes_setup, has_begun, sending, sent_if, is_taken, tag_of, hears}
+use Rattle.line_rules.specs.Steps.{Step, ran, world_after, acted, allow, kick, by_coordinator, takes_setup, has_begun, sending, sent_if, is_taken, tag_of}
+use Rattle.line_rules.specs.Steps.{hears}
 use Rattle.line_rules.specs.Steps.{heard, note_by, identity, psk_of, restarts, ticked, step}
 use Rattle.line_rules.specs.Worlds.{World, Trace, node_at}
 use Rattle.line_events.specs.declared.event.Answer.{Answer}
@@ -257,7 +258,8 @@ module _ (eui : Eui) where
           ticked_shut : (c : Node) (o : Option Node) → slice_get w.nodes 0 ≡ o → option_map (ticked (w.clock + seconds)) o ≡ Some c → BookShut eui c
           ticked_shut c None at e = absurd (cc)
           ticked_shut c (Some x) at e = λ b kept. shut x at b (subst (λ (z : Node). IsBookKept b z.store.records) (sym (same_Some _ _ e)) kept)
-      stays_shut event s (Restarts number x there) e_is other running some = told_shut (ran w) (world_after ciphers (ran w) number (restarts x)) number x (restarts x)
+      stays_shut event s (Restarts number x there) e_is other running some =
+          told_shut (ran w) (world_after ciphers (ran w) number (restarts x)) number x (restarts x)
           (same_shut w (ran w) refl shut) (told_nodes (ran w) number (restarts x)) there (λ first. first_shut number x first there)
       stays_shut event s (Cuts number nth keeps_new x there) e_is other running some =
           let d : NodeStep Answer = stays (record x { store = record x.store { cut = Some (record { nth = nth; keeps_new = keeps_new }) } }) said.Set in

@@ -38,7 +38,8 @@ use Rattle.line_rules.specs.Answers.{random_word, join_word, leave_word, sent_wo
 use Rattle.line_events.specs.Events.{AreOctets, IsEui, IsKey, IsLineOctets, IsEvent}
 use Rattle.line_rules.specs.Forgery.{Comes, OfFlight, OfScript, accepting}
 use Rattle.line_rules.specs.Worlds.{World, Flight, node_at, flight_at}
-use Rattle.line_rules.specs.Steps.{Step, set_up, ran, world_after, acted, sending, tag_of, once_begun, in_setup, has_begun, takes_setup, on_node, on_meter, made_node}
+use Rattle.line_rules.specs.Steps.{Step, set_up, ran, world_after, acted, sending, tag_of, once_begun, in_setup, has_begun, takes_setup, on_node, on_meter}
+use Rattle.line_rules.specs.Steps.{made_node}
 use Rattle.line_rules.specs.Steps.{blank_node, coordinator_node, identity, is_known, restarts, rand, join, joins_by, leave, send, sends_by, breaks, breaks_by}
 use Rattle.line_rules.specs.Steps.{lose, on_flight, tick, ticked, restart, cut, show, psk_of, trace_of, happened, coordinator, meter, depot, depot_by}
 use Rattle.line_rules.specs.Steps.{provisioned, near, near_by, keeps_rank, ranks_full, offered_near, preset, allow, allowed, deliver, inject, arrives}
@@ -183,7 +184,10 @@ pub data IsStep (ciphers : Ciphers) (w : World) : Event → Step → Type 1 wher
       → IsStep ciphers w (events.Allow number) (Ok (allowed ciphers w number (acts c (Err orders.Halted) (λ m. coordinator_rules.allow m y.eui psk))))
   Sets : (event : Event) → (IsBrought event → ⊥) → (number : ℕ) (x : Node) (plan : StationMemory → calls.Presetting) → node_at w number ≡ Some x
       → takes_setup w ≡ true → IsPreset plan
-      → IsStep ciphers w event (Ok (world_after ciphers (set_up w) number (acts x (Ok tt) (λ m. of_station m (plan m.station))), trace_of (happened w said.Set)))
+      → IsStep ciphers w event (Ok (
+        world_after ciphers (set_up w) number (acts x (Ok tt) (λ m. of_station m (plan m.station))),
+        trace_of (happened w said.Set),
+      ))
   -- two nodes act, one after the other
   SetsTwo : (event : Event) → (IsBrought event → ⊥) → (a b cost : ℕ) (x y : Node) (p q : ℕ) → node_at w a ≡ Some x → node_at w b ≡ Some y → b ≢ a
       → takes_setup w ≡ true
@@ -196,7 +200,8 @@ pub data IsStep (ciphers : Ciphers) (w : World) : Event → Step → Type 1 wher
       ))
   Provides : (number : ℕ) (x c : Node) (psk : Key) (g : Granted) (d : NodeStep (Result Granted CoordinatorRefusal)) → number ≢ 0 → takes_setup w ≡ true
       → node_at w number ≡ Some x → node_at w 0 ≡ Some c → psk_of x ≡ Some psk
-      → d ≡ workshop c x.eui psk → d.answer ≡ Ok g → IsStep ciphers w (events.Depot number) (Ok (provisioned ciphers (world_after ciphers (set_up w) 0 d) number x g))
+      → d ≡ workshop c x.eui psk → d.answer ≡ Ok g
+      → IsStep ciphers w (events.Depot number) (Ok (provisioned ciphers (world_after ciphers (set_up w) 0 d) number x g))
   -- octets are refused, or heard once they are accepted
   TurnsDown : (event : Event) (number : ℕ) (x : Node) (octets : List ℕ) (reason : FrameRefusal) (d : NodeStep (Result Accepted FrameRefusal))
       → node_at w number ≡ Some x → IsEvent event → Comes w event number octets

@@ -58,7 +58,8 @@ use Rattle.node_rules.specs.MemoryDrafts.{with_station}
 use Rattle.node_rules.specs.Laws.{IsShort}
 use Rattle.line_events.specs.Events.{IsEvent}
 use Rattle.line_rules.specs.Worlds.{World, Flight, Trace, node_at, flight_at, is_forged_tag}
-use Rattle.line_rules.specs.Steps.{Step, set_up, ran, world_after, flights_of, acted, once_begun, in_setup, has_begun, takes_setup, on_node, on_meter, made_node}
+use Rattle.line_rules.specs.Steps.{Step, set_up, ran, world_after, flights_of, acted, once_begun, in_setup, has_begun, takes_setup, on_node, on_meter}
+use Rattle.line_rules.specs.Steps.{made_node}
 use Rattle.line_rules.specs.Steps.{blank_node, identity, hears, restarts, memory_by, ticked, rand, join, joins_by, leave, send, sends_by, sent_if, breaks}
 use Rattle.line_rules.specs.Steps.{breaks_by, lose, tick, restart, cut, show, psk_of, trace_of, happened, coordinator, coordinator_node, meter, is_known, depot}
 use Rattle.line_rules.specs.Steps.{depot_by, provisioned, near, near_by, keeps_rank, ranks_full, offered_near, preset, allow, allowed, deliver, inject, arrives}

@@ -54,7 +54,8 @@ use Rattle.node_rules.specs.StoreReading.{memory_of}
 use Rattle.line_rules.specs.Answers.{Reception, Up, SentGrant, drop_word, send_word, order_word, frame_word, random_word, join_word, leave_word, sent_word}
 use Rattle.line_rules.specs.Answers.{ordered_word, station_reception, meter_reception, coordinator_reception}
 use Rattle.line_rules.specs.Worlds.{World, Flight, Trace, Pairing, node_at, flight_at, is_forged_tag, nothing_further}
-use Rattle.line_rules.specs.Steps.{Step, is_taken, set_up, ran, world_after, flights_of, acted, trace_of, happened, sending, sent_if, tag_of, offered_near, hears}
+use Rattle.line_rules.specs.Steps.{Step, is_taken, set_up, ran, world_after, flights_of, acted, trace_of, happened, sending, sent_if, tag_of, offered_near}
+use Rattle.line_rules.specs.Steps.{hears}
 use Rattle.line_rules.specs.Steps.{received, forged_by, note_by, number_if, handed_by, issued_of, identity, restart_word, restarts, made_node}
 use Rattle.line_rules.specs.Runs.{Entry, one_of}
 use Rattle.line_rules.specs.Forgery.{Comes, OfFlight, OfScript, accepting, AcceptsSealed, NoneFlew, IsForged, ByFrame, ByTag}
@@ -407,7 +408,8 @@ module _ (ciphers : Ciphers) (w : World) where
 
   pub acted_right : (n : ℕ) (event : Event) (number : ℕ) (d : NodeStep Answer) → Plain d.answer → d.opened ≡ [] → NoneCame event
       → Right ciphers w (entry n event (acted ciphers w number d))
-  acted_right n event number d p none came = quiet_right n event (world_after ciphers (ran w) number d) (record (happened w d.answer) { flights = length d.frames })
+  acted_right n event number d p none came =
+      quiet_right n event (world_after ciphers (ran w) number d) (record (happened w d.answer) { flights = length d.frames })
       d.made d.opened p refl refl refl refl none came
       (told_counted ciphers w (ran w) number d (ran_counted w)) refl (told_flights ciphers (ran w) number d) (told_made ciphers (ran w) number d)
 
@@ -417,7 +419,8 @@ module _ (ciphers : Ciphers) (w : World) where
       (told_flights ciphers u number d ∙ ap (λ fs. length u.flights + length fs) frames, told_made ciphers u number d ∙ ap (λ ts. u.made ++ ts) made)
 
   none_twice : {A B : Type 0} (u : World) (a b : ℕ) (d : NodeStep A) (e : NodeStep B) → d.frames ≡ [] → d.made ≡ [] → e.frames ≡ [] → e.made ≡ []
-      → (length (world_after ciphers (world_after ciphers u a d) b e).flights ≡ length u.flights + 0) × ((world_after ciphers (world_after ciphers u a d) b e).made ≡ u.made ++ [])
+      → (length (world_after ciphers (world_after ciphers u a d) b e).flights ≡ length u.flights + 0)
+      × ((world_after ciphers (world_after ciphers u a d) b e).made ≡ u.made ++ [])
   none_twice u a b d e f m g k =
       let one = none_told u a d f m in
       let two = none_told (world_after ciphers u a d) b e g k in (

@@ -56,7 +56,8 @@ use Rattle.node_rules.specs.MemoryDrafts.{in_memory}
 use Rattle.line_rules.specs.Answers.{Reception, only, coordinator_reception, meter_reception}
 use Rattle.line_rules.specs.Forgery.{Comes, OfFlight, OfScript, accepting}
 use Rattle.line_rules.specs.Worlds.{World, Flight, Trace, node_at, flight_at, is_forged_tag}
-use Rattle.line_rules.specs.Steps.{Step, set_up, ran, world_after, acted, has_begun, takes_setup, once_begun, in_setup, on_node, on_meter, made_node, blank_node}
+use Rattle.line_rules.specs.Steps.{Step, set_up, ran, world_after, acted, has_begun, takes_setup, once_begun, in_setup, on_node, on_meter, made_node}
+use Rattle.line_rules.specs.Steps.{blank_node}
 use Rattle.line_rules.specs.Steps.{coordinator_node, is_known, coordinator, meter, depot, depot_by, provisioned, psk_of, near, near_by, keeps_rank, ranks_full}
 use Rattle.line_rules.specs.Steps.{offered_near, preset, allow, allowed, rand, join, joins_by, leave, send, sends_by, sent_if, breaks, breaks_by, received}
 use Rattle.line_rules.specs.Steps.{on_flight, lose, tick, ticked, restart, cut, show, rekey, challenge, activate, activate_at, kick, step, hears, heard}
@@ -99,7 +100,8 @@ module _ (ciphers : Ciphers) (w : World) (short : HaveShortTables w) (h : LogsKe
   here : (number : ℕ) (x : Node) → node_at w number ≡ Some x → NodeIn (beside_at w number).log x
   here number x there = logged_at w.beside w.nodes number x h there
 
-  told_in : {A : Type 0} (v : World) (number : ℕ) (d : NodeStep A) → LogsKept v → NodeIn (beside_at v number).log d.node → LogsKept (world_after ciphers v number d)
+  told_in : {A : Type 0} (v : World) (number : ℕ) (d : NodeStep A) → LogsKept v → NodeIn (beside_at v number).log d.node
+      → LogsKept (world_after ciphers v number d)
   unfolding world_after
   told_in v number d k l = set_node v.beside v.nodes number d.node k l
 
@@ -144,7 +146,8 @@ module _ (ciphers : Ciphers) (w : World) (short : HaveShortTables w) (h : LogsKe
   depot_by_in number x c hx hc d q = by_answer d.answer refl
     where
       provides : (g : Granted) → LogsKept (provisioned ciphers (world_after ciphers (set_up w) 0 (record d { answer = Ok g })) number x g).0
-      provides g = quiet_told (world_after ciphers (set_up w) 0 (record d { answer = Ok g })) refl (quiet_told (set_up w) refl h 0 c hc (record d { answer = Ok g }) q)
+      provides g =
+          quiet_told (world_after ciphers (set_up w) 0 (record d { answer = Ok g })) refl (quiet_told (set_up w) refl h 0 c hc (record d { answer = Ok g }) q)
           number x hx (acts x (Ok tt) (λ m. meters.provision m g)) (acts_quiet x (Ok tt) (λ m. meters.provision m g)
           (λ m e. (stations_leave_log m.station (shorts number x hx m e)).installs g))
 
@@ -168,7 +171,10 @@ module _ (ciphers : Ciphers) (w : World) (short : HaveShortTables w) (h : LogsKe
   near_by_in a b cost x y hx hy None q = tt
   near_by_in a b cost x y hx hy (Some p) None = tt
   near_by_in a b cost x y hx hy (Some p) (Some q) = branch ((a == b) || (keeps_rank x q || (ranks_full x || ranks_full y))) (Err faults.Setup)
-      (Ok (world_after ciphers (world_after ciphers (set_up w) a (offered_near x q cost w.clock)) b (offered_near y p cost w.clock), trace_of (happened w said.Set))) (tt {0})
+      (Ok (
+        world_after ciphers (world_after ciphers (set_up w) a (offered_near x q cost w.clock)) b (offered_near y p cost w.clock),
+        trace_of (happened w said.Set),
+      )) (tt {0})
       (quiet_told (world_after ciphers (set_up w) a (offered_near x q cost w.clock)) refl
       (quiet_told (set_up w) refl h a x hx (offered_near x q cost w.clock) (near_quiet a x hx q cost w.clock)) b y hy (offered_near y p cost w.clock)
       (near_quiet b y hy p cost w.clock))

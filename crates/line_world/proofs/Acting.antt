@@ -60,7 +60,8 @@ by_cut {A} role x y p answer out cut told is same =
     subst (λ (k : Outcome Memory A). Took (left_by (node_in role x) k) answer out (node_in role y)) e t
 
 -- a plan that was carried out is the step that it gives
-pub took_plan : {A : Type 0} (role : Role) (x y : State Memory) (p : Plan Memory A) (answer : A) (out : Out) → IsSome x.store.known_cut → Carries x p answer out y
+pub took_plan : {A : Type 0} (role : Role) (x y : State Memory) (p : Plan Memory A) (answer : A) (out : Out) → IsSome x.store.known_cut
+    → Carries x p answer out y
     → Took (left_by (node_in role x) (carry_out x.store.records (cut_ahead x.store.known_cut) p)) answer out (node_in role y)
 took_plan role x y p answer out told c =
     let k = told_cut x.store.known_cut told in
@@ -117,7 +118,8 @@ pub told_after : {A : Type 0} (role : Role) (x y : State Memory) (halted : A) (p
     → StayedHalted x halted answer out y → IfSome x.memory (λ m. Carries x (p m) answer out y) → IsSome y.store.known_cut
 told_after {A} role x y halted p answer out sound stayed carries = by x.memory stayed carries
   where
-    by : (o : Option Memory) → IfNone o ((answer ≡ halted) × (out ≡ nothing) × (y ≡ x)) → IfSome o (λ m. Carries x (p m) answer out y) → IsSome y.store.known_cut
+    by : (o : Option Memory) → IfNone o ((answer ≡ halted) × (out ≡ nothing) × (y ≡ x)) → IfSome o (λ m. Carries x (p m) answer out y)
+        → IsSome y.store.known_cut
     by None s c = subst (λ (z : State Memory). IsSome z.store.known_cut) (sym s.2) sound.known_cut
     by (Some m) s c = tells_still x y (p m) answer out sound.known_cut c
 

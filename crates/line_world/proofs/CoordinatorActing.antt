@@ -65,7 +65,8 @@ agrees_as y h = by (node_of y).memory h
     by None h = tt
     by (Some m) h = record { station = h.station; book = h.book }
 
-pub sound_with : (y : CoordinatorState) → IsSome y.station.store.known_cut → HasGaplessTables Coordinator y.station.store.records → HasHome y.station.store.records
+pub sound_with : (y : CoordinatorState) → IsSome y.station.store.known_cut → HasGaplessTables Coordinator y.station.store.records
+    → HasHome y.station.store.records
     → Holds (node_of y)
     → IsSoundCoordinator y
 sound_with y known_cut tables home h = record { known_cut = known_cut; tables = tables; home = home; agrees = agrees_as y h }

@@ -109,5 +109,6 @@ module _ (x y : CoordinatorState) (got : Accepted) (cost note now : ℕ) (r : Re
       (messages_unread m.0.station cost note now got is)) same
 
 -- a grant that went out is told of nowhere
-pub told_beside : (word : Reception) (r : rules.Reception) (keyed : Option rules.SentGrant) → ReportsReception word r → ReportsReception word (record r { keyed = keyed })
+pub told_beside : (word : Reception) (r : rules.Reception) (keyed : Option rules.SentGrant) → ReportsReception word r
+    → ReportsReception word (record r { keyed = keyed })
 told_beside word r keyed t = record { answer = t.answer; up = t.up; took = t.took; done = t.done }

@@ -720,7 +720,8 @@ module _ (w v2 new : World) (number : ℕ) (x : Node) (got : Accepted) (origin :
       let all : out ≡ followed before (given_by a) = given_more a up ack.out_is in
       let step : World × Trace = adds_frames (world_after network noted.0 number a) noted.1 a in
       let by_up : acknowledged network w number a noted ≡ step =
-      ap (λ (b : Bool). if b then adds_frames (world_after network noted.0 number a) noted.1 a else sends_nothing w (world_after network noted.0 number a, noted.1)) up in
+      ap (λ (b : Bool). if b then adds_frames (world_after network noted.0 number a) noted.1 a
+      else sends_nothing w (world_after network noted.0 number a, noted.1)) up in
       let ns : List Node = left (Some reply) in
       let world : world_after network noted.0 number a ≡ new =
       ap (λ (u : World). world_after network (set_beside number bb u) number a) first
@@ -780,7 +781,8 @@ module _ (w v2 new : World) (number : ℕ) (x : Node) (got : Accepted) (origin :
       let only_it = hears_only x got cost origin.note w.clock (is_due got.path (message_of got) d.answer.answer reply e).taken in
       let step : World × Trace = sends_nothing w (world_after network noted.0 number a, noted.1) in
       let by_down : acknowledged network w number a noted ≡ step =
-      ap (λ (b : Bool). if b then adds_frames (world_after network noted.0 number a) noted.1 a else sends_nothing w (world_after network noted.0 number a, noted.1)) down in
+      ap (λ (b : Bool). if b then adds_frames (world_after network noted.0 number a) noted.1 a
+      else sends_nothing w (world_after network noted.0 number a, noted.1)) down in
       let ns : List Node = left (Some reply) in
       let up = plain_up only_it in
       let done = plain_done only_it in

@@ -38,7 +38,8 @@ agrees_of_meter psk y a = by y.station.memory a
     by None a = tt
     by (Some l) a = record { station = a; book = tt }
 
-pub sound_meter : (y : MeterState) → IsSome y.station.store.known_cut → HasGaplessTables (Meter y.psk) y.station.store.records → Agrees y.station → IsSoundMeter y
+pub sound_meter : (y : MeterState) → IsSome y.station.store.known_cut → HasGaplessTables (Meter y.psk) y.station.store.records → Agrees y.station
+    → IsSoundMeter y
 sound_meter y known_cut tables agrees = record { known_cut = known_cut; tables = tables; home = tt; agrees = agrees_of_meter y.psk y agrees }
 
 pub meter_took : {A : Type 0} (x y : MeterState) (halted : A) (p : Memory → Plan Memory A) (answer : A) (out : Out) → IsSoundMeter x → y.psk ≡ x.psk

@@ -133,7 +133,8 @@ module _ (ms : List MeterState) (old : List Node) (place : ℕ) (x : MeterState)
     pub meter_tells : IfSome (slice_get old place)
         (λ n. ReportsCommand told (place + 1) (reaches n b (Err (Known Store)) (λ y. hear_command in_memory y c)).answer)
     meter_tells =
-        found_at ms old place x (λ n. ReportsCommand told (place + 1) (reaches n b (Err (Known Store)) (λ y. hear_command in_memory y c)).answer) view there here
+        found_at ms old place x (λ n. ReportsCommand told (place + 1) (reaches n b (Err (Known Store)) (λ y. hear_command in_memory y c)).answer) view there
+        here
         (subst (λ (a : Result CommandHeard ReachDropped). ReportsCommand told (place + 1) a) after.answer_is r.reports)
 
     pub meter_reached : IfSome (slice_get old place) (λ n. Reached n b (Err (Known Store)) (λ y. hear_command in_memory y c) old place

@@ -194,7 +194,8 @@ node_acted takes w new {number} {found} there k word answer out nodes h b room f
     let at : slice_get w.nodes found ≡ Some x = ap (λ n. slice_get w.nodes n) there.same ∙ there.at in
     let d : Did (k x) w.nodes found answer out nodes = subst (λ o. IfSome o (λ y. Did (k y) w.nodes found answer out nodes)) at did in
     let left : world_after network (ran w) number (answering word (k x)) ≡ new =
-    ap (λ n. world_after network (ran w) n (answering word (k x))) (sym there.same) ∙ told_as (ran w) found (answering word (k x)) nodes out d.out_is d.nodes_are
+    ap (λ n. world_after network (ran w) n (answering word (k x))) (sym there.same)
+    ∙ told_as (ran w) found (answering word (k x)) nodes out d.out_is d.nodes_are
     ∙ sym is in
     let count : length out.frames ≡ length (k x).frames = ap (λ (o : Out). length o.frames) d.out_is ∙ many_given (spelled network) (k x).frames in
     let same : length nodes ≡ length w.nodes = ap (λ (ns : List Node). length ns) d.nodes_are ∙ length-set w.nodes found (k x).node in

@@ -127,5 +127,7 @@ told_reply x halted p m left last told there after is same =
     same_reply told last same ∙ is ∙ ap (λ (o : Option Memory). reply_sent (p m) o) after ∙ acts_reply x halted p m there
 
 -- what is told beside the reply
-pub tells_with : (word told : Reception) (replied : Option Reply) (r : rules.Reception) → told ≡ record word { replied = replied } → ReportsReception word r → ReportsReception told r
-tells_with word told replied r is t = subst (λ (k : Reception). ReportsReception k r) (sym is) (record { answer = t.answer; up = t.up; took = t.took; done = t.done })
+pub tells_with : (word told : Reception) (replied : Option Reply) (r : rules.Reception) → told ≡ record word { replied = replied } → ReportsReception word r
+    → ReportsReception told r
+tells_with word told replied r is t =
+    subst (λ (k : Reception). ReportsReception k r) (sym is) (record { answer = t.answer; up = t.up; took = t.took; done = t.done })

@@ -1,5 +1,6 @@
 -- What is read out of octets is the message that they spell, and the other way round.
-use Rattle.std.proofs.Common.{◌≡◌, ◌≢◌, ℕ, ◌+◌, ◌<◌, ◌≤◌, ◌^◌, Bool, true, false, List, [], ◌∷◌, ◌++◌, length, Some, None, Result, Ok, Err, refl, sym, ap, subst, ◌∙◌, arith}
+use Rattle.std.proofs.Common.{◌≡◌, ◌≢◌, ℕ, ◌+◌, ◌<◌, ◌≤◌, ◌^◌, Bool, true, false, List, [], ◌∷◌, ◌++◌, length, Some, None, Result, Ok, Err, refl, sym, ap}
+use Rattle.std.proofs.Common.{subst, ◌∙◌, arith}
 use Rattle.std.specs.Prelude.{IfOk, MatchResult, ◌==◌, if◌then◌else◌}
 use Rattle.std.specs.Result.{result_ok}
 use Rattle.std.proofs.lemmas.Bool.{eqb-true, eqb-false, ltb-false}
@@ -110,7 +111,8 @@ fields_spelled octets fits = by_kind (octet 0 octets == 1) (octet 0 octets == 2)
   where
     by_kind : (a b c : Bool) → (octet 0 octets == 1) ≡ a → (octet 0 octets == 2) ≡ b → (octet 0 octets == 3) ≡ c
         → (if a then route_fault octets else (if b then route_fault octets else (if c then error_fault octets else fault_at Kind 0))) ≡ None
-        → Spells (if a then Rreq (two 1 octets) (two 3 octets) (two 5 octets) (two 7 octets) else (if b then Rrep (two 1 octets) (two 3 octets) (two 5 octets) (two 7 octets) else Rerr (two 1 octets) (two 3 octets))) octets
+        → Spells (if a then Rreq (two 1 octets) (two 3 octets) (two 5 octets) (two 7 octets)
+        else (if b then Rrep (two 1 octets) (two 3 octets) (two 5 octets) (two 7 octets) else Rerr (two 1 octets) (two 3 octets))) octets
     by_kind true b c ea eb ec e =
         let r = route_is octets fits e in
         let kind : octet 0 octets ≡ 1 = eqb-true _ _ ea in

@@ -35,7 +35,8 @@ address_none front a rest h =
     address_fault-none Short Address (length front) a (front ++ (big_bytes 2 a ++ rest)) (two_within front a rest) (two_behind front a rest (omega arith)) h
 
 -- a request's or a reply's fields have no fault
-route_none : (kind n c o d : ℕ) → IsNumber n → IsAddress o → IsAddress d → route_fault (kind ∷ big_bytes 2 n ++ big_bytes 2 c ++ big_bytes 2 o ++ big_bytes 2 d) ≡ None
+route_none : (kind n c o d : ℕ) → IsNumber n → IsAddress o → IsAddress d
+    → route_fault (kind ∷ big_bytes 2 n ++ big_bytes 2 c ++ big_bytes 2 o ++ big_bytes 2 d) ≡ None
 route_none kind n c o d hn ho hd =
     let octets : List ℕ = kind ∷ big_bytes 2 n ++ big_bytes 2 c ++ big_bytes 2 o ++ big_bytes 2 d in
     rw (
@@ -48,8 +49,14 @@ route_none kind n c o d hn ho hd =
 
 -- what is spelled has no fault
 pub no_fault : (message : Message) → IsMessage message → message_fault (spelling message) ≡ None
-no_fault (Rreq n c o d) h = rw (short_none 1 (spelling (Rreq n c o d)) (omega arith), octet_behind [] 1 (big_bytes 2 n ++ big_bytes 2 c ++ big_bytes 2 o ++ big_bytes 2 d)) (route_none 1 n c o d h.0 h.2 h.3)
-no_fault (Rrep n c o t) h = rw (short_none 1 (spelling (Rrep n c o t)) (omega arith), octet_behind [] 2 (big_bytes 2 n ++ big_bytes 2 c ++ big_bytes 2 o ++ big_bytes 2 t)) (route_none 2 n c o t h.0 h.2 h.3)
+no_fault (Rreq n c o d) h = rw (
+  short_none 1 (spelling (Rreq n c o d)) (omega arith),
+  octet_behind [] 1 (big_bytes 2 n ++ big_bytes 2 c ++ big_bytes 2 o ++ big_bytes 2 d),
+) (route_none 1 n c o d h.0 h.2 h.3)
+no_fault (Rrep n c o t) h = rw (
+  short_none 1 (spelling (Rrep n c o t)) (omega arith),
+  octet_behind [] 2 (big_bytes 2 n ++ big_bytes 2 c ++ big_bytes 2 o ++ big_bytes 2 t),
+) (route_none 2 n c o t h.0 h.2 h.3)
 no_fault (Rerr l t) h =
     let octets : List ℕ = spelling (Rerr l t) in
     rw (
@@ -85,7 +92,8 @@ one_value (Rrep n c o d) (Rerr l t) h h' e = absurd cc
 one_value (Rerr l t) (Rreq n c o d) h h' e = absurd cc
 one_value (Rerr l t) (Rrep n c o d) h h' e = absurd cc
 
-pub only_read : (octets : List ℕ) (r : Result Message (Fault MessageFaultKind)) → IfOk r (λ m. Spells m octets) → MatchResult r (λ m. message_fault octets ≡ None) (λ e. message_fault octets ≡ Some e)
+pub only_read : (octets : List ℕ) (r : Result Message (Fault MessageFaultKind)) → IfOk r (λ m. Spells m octets)
+    → MatchResult r (λ m. message_fault octets ≡ None) (λ e. message_fault octets ≡ Some e)
     → (message : Message) → Spells message octets → r ≡ Ok message
 only_read octets (Ok m) found exact message spells = ap Ok (one_value m message found.0 spells.0 (sym found.1 ∙ spells.1))
 only_read octets (Err e) found exact message spells = let none = no_fault message spells.0 in let same = ap message_fault spells.1 in absurd cc

@@ -28,12 +28,15 @@ low_small false false = omega arith
 
 pub header_octets : HeadersAreOctets
 header_octets (Sealed ack seq pan to from counter index) rest h all =
-    (puts (low_small true ack) (puts {x = high_control 2 1 2} (omega arith) (puts h.0 (joins (little_spelt 2 pan) (joins (little_spelt 2 to) (joins (little_spelt 2 from)
+    (puts (low_small true ack) (puts {x = high_control 2 1 2} (omega arith)
+    (puts h.0 (joins (little_spelt 2 pan) (joins (little_spelt 2 to) (joins (little_spelt 2 from)
     (puts {x = 0x0D} (omega arith) (joins (little_spelt 4 counter) (puts h.1 (record { are = all })))))))))).are
 header_octets (Up ack version seq pan to from) rest h all =
-    (puts (low_small false ack) (puts {x = high_control 2 version 3} (let low = h.0 in omega arith) (puts h.1 (joins (little_spelt 2 pan) (joins (little_spelt 2 to) (joins (record { are = turned from.0 h.2 }) (record { are = all }))))))).are
+    (puts (low_small false ack) (puts {x = high_control 2 version 3} (let low = h.0 in omega arith)
+    (puts h.1 (joins (little_spelt 2 pan) (joins (little_spelt 2 to) (joins (record { are = turned from.0 h.2 }) (record { are = all }))))))).are
 header_octets (Down ack version seq pan to from) rest h all =
-    (puts (low_small false ack) (puts {x = high_control 3 version 2} (let low = h.0 in omega arith) (puts h.1 (joins (little_spelt 2 pan) (joins (record { are = turned to.0 h.2 }) (joins (little_spelt 2 from) (record { are = all }))))))).are
+    (puts (low_small false ack) (puts {x = high_control 3 version 2} (let low = h.0 in omega arith)
+    (puts h.1 (joins (little_spelt 2 pan) (joins (record { are = turned to.0 h.2 }) (joins (little_spelt 2 from) (record { are = all }))))))).are
 
 -- # What is sealed
 

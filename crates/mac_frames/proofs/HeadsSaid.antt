@@ -10,7 +10,8 @@ use Rattle.plc_base.proofs.NumbersOfOctets.{below}
 use Rattle.plc_base.proofs.Places.{little_two_behind, little_four_behind}
 use Rattle.mac_frames.specs.declared.fault.FrameFaultKind.TheVariants.{Short}
 use Rattle.mac_frames.specs.declared.head.MacHead.TheVariants.{Sealed, Up, Down}
-use Rattle.mac_frames.specs.Faults.{is_sealed, has_modes, low_fault, high_fault, target_fault, sender_fault, sealed_fault, up_fault, down_fault, fields_fault, frame_fault}
+use Rattle.mac_frames.specs.Faults.{is_sealed, has_modes, low_fault, high_fault, target_fault, sender_fault, sealed_fault, up_fault, down_fault, fields_fault}
+use Rattle.mac_frames.specs.Faults.{frame_fault}
 use Rattle.mac_frames.specs.Grammar.{low_control, high_control}
 use Rattle.mac_frames.specs.Laws.{SealedHeadsSayTheirNonces, PlainHeadsAreNotSealed, ReadNoncesAreInRange}
 use Rattle.mac_frames.specs.Reading.{head_by, head_in}
@@ -23,9 +24,12 @@ sealed_say ack seq pan to from counter index body =
     let low = low_control true ack in
     let high = high_control 2 1 2 in
     record {
-      sealed = (low_sealed ack (high ∷ seq ∷ little_bytes 2 pan ++ (little_bytes 2 to ++ (little_bytes 2 from ++ (0x0D ∷ little_bytes 4 counter ++ (index ∷ body)))))).0;
-      sender = λ fits. little_two_behind (low ∷ high ∷ seq ∷ little_bytes 2 pan ++ little_bytes 2 to) from (0x0D ∷ little_bytes 4 counter ++ (index ∷ body)) fits;
-      number = λ fits. little_four_behind (low ∷ high ∷ seq ∷ little_bytes 2 pan ++ little_bytes 2 to ++ little_bytes 2 from ++ 0x0D ∷ []) counter (index ∷ body) fits;
+      sealed = (low_sealed ack (high ∷ seq ∷ little_bytes 2 pan
+          ++ (little_bytes 2 to ++ (little_bytes 2 from ++ (0x0D ∷ little_bytes 4 counter ++ (index ∷ body)))))).0;
+      sender =
+          λ fits. little_two_behind (low ∷ high ∷ seq ∷ little_bytes 2 pan ++ little_bytes 2 to) from (0x0D ∷ little_bytes 4 counter ++ (index ∷ body)) fits;
+      number = λ fits. little_four_behind (low ∷ high ∷ seq ∷ little_bytes 2 pan ++ little_bytes 2 to ++ little_bytes 2 from ++ 0x0D ∷ []) counter
+          (index ∷ body) fits;
     }
 
 pub plain_say : PlainHeadsAreNotSealed
@@ -78,7 +82,8 @@ read_sealed : (octets : List ℕ) (ack : Bool) (seq pan to from counter index : 
 unfolding head_in
 read_sealed octets ack seq pan to from counter index = by_kind (is_sealed octets) (has_modes 2 3 (octet 1 octets)) refl
   where
-    by_kind : (a b : Bool) → is_sealed octets ≡ a → head_by a b octets ≡ Sealed ack seq pan to from counter index → (is_sealed octets ≡ true) × (little_two 7 octets ≡ from) × (little_four 10 octets ≡ counter)
+    by_kind : (a b : Bool) → is_sealed octets ≡ a → head_by a b octets ≡ Sealed ack seq pan to from counter index
+        → (is_sealed octets ≡ true) × (little_two 7 octets ≡ from) × (little_four 10 octets ≡ counter)
     by_kind true b is e = (is, cc, cc)
     by_kind false true is e = absurd (cc)
     by_kind false false is e = absurd (cc)

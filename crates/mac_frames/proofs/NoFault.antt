@@ -13,7 +13,8 @@ use Rattle.mac_frames.specs.declared.head.MacHead.{MacHead}
 use Rattle.mac_frames.specs.declared.head.MacHead.TheVariants.{Sealed, Up, Down}
 use Rattle.mac_frames.specs.Grammar.{Frame, IsHead, IsBody, header_then, high_control, low_control}
 use Rattle.mac_frames.specs.declared.fault.FrameFaultKind.TheVariants.{Short}
-use Rattle.mac_frames.specs.Faults.{type_fault, low_fault, is_sealed, version_fault, has_modes, high_fault, target_fault, sender_fault, level_fault, index_fault, sealed_fault, up_fault, down_fault, fields_fault, frame_fault}
+use Rattle.mac_frames.specs.Faults.{type_fault, low_fault, is_sealed, version_fault, has_modes, high_fault, target_fault, sender_fault, level_fault}
+use Rattle.mac_frames.specs.Faults.{index_fault, sealed_fault, up_fault, down_fault, fields_fault, frame_fault}
 
 -- a field that is as it should be has no fault
 short_none : (end : ℕ) (octets : List ℕ) → end ≤ length octets → cut_off Short end octets ≡ None
@@ -39,7 +40,8 @@ low_none : (x : ℕ) (octets : List ℕ) → 1 ≤ length octets → octet 0 oct
 unfolding low_fault
 low_none x octets h is none = rw (short_none 1 octets h) (ap type_fault is ∙ none)
 
-high_none : (sealed : Bool) (x : ℕ) (octets : List ℕ) → 2 ≤ length octets → is_sealed octets ≡ sealed → octet 1 octets ≡ x → version_fault sealed x ≡ None → high_fault octets ≡ None
+high_none : (sealed : Bool) (x : ℕ) (octets : List ℕ) → 2 ≤ length octets → is_sealed octets ≡ sealed → octet 1 octets ≡ x → version_fault sealed x ≡ None
+    → high_fault octets ≡ None
 unfolding high_fault
 high_none sealed x octets h kind is none =
     rw (short_none 2 octets h) (ap (λ (s : Bool). version_fault s (octet 1 octets)) kind ∙ ap (version_fault sealed) is ∙ none)

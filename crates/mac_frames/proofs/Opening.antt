@@ -86,11 +86,13 @@ pub opens_exactly : {E : Type 0} (r : Result (Unit {0}) E) (key : List ℕ) (hea
     → MatchResult r (λ _. opened_in key head front body ≡ Some out) (λ _. opened_in key head front body ≡ None)
 unfolding HasTag
 opens_exactly (Ok u) key head front body out tag right is =
-    let same : bytes_eq (sealed_tag body) (ccm_tag 4 key (nonce_of head) front (payload_in key head body)) ≡ true = (bytes_decides (sealed_tag body) (ccm_tag 4 key (nonce_of head) front (payload_in key head body))).1 (tag refl) in
+    let same : bytes_eq (sealed_tag body) (ccm_tag 4 key (nonce_of head) front (payload_in key head body))
+    ≡ true = (bytes_decides (sealed_tag body) (ccm_tag 4 key (nonce_of head) front (payload_in key head body))).1 (tag refl) in
     rw same (ap Some (sym is))
 opens_exactly (Err e) key head front body out tag right is =
     let other : bytes_eq (sealed_tag body) (ccm_tag 4 key (nonce_of head) front (payload_in key head body)) ≡ false =
-    false_from_ne_true _ (λ same. absurd (cc (right ((bytes_decides (sealed_tag body) (ccm_tag 4 key (nonce_of head) front (payload_in key head body))).0 same)))) in
+    false_from_ne_true _ (λ same. absurd
+    (cc (right ((bytes_decides (sealed_tag body) (ccm_tag 4 key (nonce_of head) front (payload_in key head body))).0 same)))) in
     rw other refl
 
 pub fits_tag : (head : MacHead) (body : List ℕ) → IsSealed head → 4 ≤ length body → IsBody head body

@@ -44,7 +44,8 @@ module _ (key : List ℕ) (head : MacHead) (payload : List ℕ) where
   unfolding payload_in text
   payload_is = ap (ccm_text key (nonce_of head)) text_is ∙ ccm_text-twice key (nonce_of head) payload
 
-  tag_right : bytes_eq (sealed_tag (sealed_body key head payload)) (ccm_tag 4 key (nonce_of head) (header head) (payload_in key head (sealed_body key head payload))) ≡ true
+  tag_right : bytes_eq (sealed_tag (sealed_body key head payload))
+      (ccm_tag 4 key (nonce_of head) (header head) (payload_in key head (sealed_body key head payload))) ≡ true
   unfolding tag
   tag_right = (bytes_eq-Decides _ _).1 (tag_is ∙ ap (ccm_tag 4 key (nonce_of head) (header head)) (sym payload_is))
 

@@ -3,7 +3,8 @@
 //! The functions without arguments do nothing: each states a law over the definitions as its contract.
 ghost use Rattle.std.specs.Prelude.{◌≡◌, ◌≤◌, length, IsOk};
 ghost use Rattle.mac_frames.specs.Grammar.{IsAllowed, IsSealed};
-ghost use Rattle.mac_frames.specs.Laws.{BodiesAreOctets, FramesAreRead, HeadersAreOctets, OpenedPayloadsAreOctets, PlainHeadsAreNotSealed, ReadNoncesAreInRange, SealedBodiesAreLonger, SealedBodiesAreOctets, SealedBodiesOpen, SealedHeadsSayTheirNonces};
+ghost use Rattle.mac_frames.specs.Laws.{BodiesAreOctets, FramesAreRead, HeadersAreOctets, OpenedPayloadsAreOctets, PlainHeadsAreNotSealed};
+ghost use Rattle.mac_frames.specs.Laws.{ReadNoncesAreInRange, SealedBodiesAreLonger, SealedBodiesAreOctets, SealedBodiesOpen, SealedHeadsSayTheirNonces};
 
 use crate::head::MacHead;
 use crate::reading::read_frame;

@@ -1,5 +1,6 @@
 //! Reads frames.
-ghost use Rattle.std.specs.Prelude.{◌≡◌, ◌≤◌, ◌<◌, ◌≢◌, ◌^◌, ◌+◌, ◌∷◌, ◌++◌, ℕ, List, [], true, false, length, take, reverse, IfOk, IsOkAnd, MatchResult, Some, None, Ok};
+ghost use Rattle.std.specs.Prelude.{◌≡◌, ◌≤◌, ◌<◌, ◌≢◌, ◌^◌, ◌+◌, ◌∷◌, ◌++◌, ℕ, List, [], true, false, length, take, reverse, IfOk, IsOkAnd, MatchResult, Some};
+ghost use Rattle.std.specs.Prelude.{None, Ok};
 ghost use Rattle.byteorder.specs.Endian.{little_bytes};
 ghost use Rattle.plc_base.specs.Fields.{after, little_two};
 ghost use Rattle.plc_base.specs.Addresses.{IsAddress};

@@ -1,5 +1,6 @@
 -- What is read out of octets is the unit that they spell, and the other way round; how many octets it has.
-use Rattle.std.proofs.Common.{◌≡◌, ◌≢◌, ℕ, ◌+◌, ◌-◌, ◌*◌, ◌/◌, ◌%◌, ◌^◌, ◌<◌, ◌≤◌, ◌==◌, List, [], ◌∷◌, ◌++◌, length, None, Some, Result, Ok, Err, if◌then◌else◌, refl, sym, ap, ◌∙◌, subst, inl, inr, arith, Bool, true, false}
+use Rattle.std.proofs.Common.{◌≡◌, ◌≢◌, ℕ, ◌+◌, ◌-◌, ◌*◌, ◌/◌, ◌%◌, ◌^◌, ◌<◌, ◌≤◌, ◌==◌, List, [], ◌∷◌, ◌++◌, length, None, Some, Result, Ok, Err}
+use Rattle.std.proofs.Common.{if◌then◌else◌, refl, sym, ap, ◌∙◌, subst, inl, inr, arith, Bool, true, false}
 use Rattle.std.specs.Prelude.{IfOk, MatchResult, nat_lt, ◌&&◌}
 use Rattle.std.specs.Result.{result_ok}
 use Rattle.std.proofs.lemmas.Bool.{cases_lt, eqb-true, eqb-false, ltb-true, ltb-false, lt-ltb, and_parts, or_parts}
@@ -9,7 +10,8 @@ use Rattle.plc_base.specs.Faults.{◌then◌, ◌when◌, fault_at, cut_off, add
 use Rattle.plc_base.specs.Fields.{AreOctets, octet, two, after}
 use Rattle.plc_base.specs.declared.fields.Fault.{Fault}
 use Rattle.plc_base.proofs.Faults.{then_none, when_none, is_whole, is_node, read_by, not_read, read_from}
-use Rattle.plc_base.proofs.Places.{octet_behind, octet_past, one_then, two_then, length-after, octet_low, two_behind, two_past, two_low, two_high, after_past, first_is}
+use Rattle.plc_base.proofs.Places.{octet_behind, octet_past, one_then, two_then, length-after, octet_low, two_behind, two_past, two_low, two_high, after_past}
+use Rattle.plc_base.proofs.Places.{first_is}
 use Rattle.mesh_header.specs.declared.fault.UnitFaultKind.{UnitFaultKind}
 use Rattle.mesh_header.specs.declared.fault.UnitFaultKind.TheVariants.{Empty, Dispatch, AddressKind, HopForm, Short, PieceForm, Address}
 use Rattle.mesh_header.specs.declared.unit.Mesh.{Mesh}
@@ -17,7 +19,8 @@ use Rattle.mesh_header.specs.declared.unit.Unit.{Unit}
 use Rattle.mesh_header.specs.declared.unit.Unit.TheVariants.{Whole, Part, Carried, Local}
 use Rattle.mesh_header.specs.Pieces.{Placed, IsPiece}
 use Rattle.mesh_header.specs.Grammar.{IsMesh, IsUnit, Spells, spelling, spelled_length, header_length, hops_then, mesh_then, piece_spelling}
-use Rattle.mesh_header.specs.Faults.{origin_at, hops_fault, header_fault, tag_fault, octet_fault, data_fault, size_fault, octets_fault, first_piece_fault, later_piece_fault, carried_fault, local_fault, load_fault, mesh_fault, unit_fault}
+use Rattle.mesh_header.specs.Faults.{origin_at, hops_fault, header_fault, tag_fault, octet_fault, data_fault, size_fault, octets_fault, first_piece_fault}
+use Rattle.mesh_header.specs.Faults.{later_piece_fault, carried_fault, local_fault, load_fault, mesh_fault, unit_fault}
 use Rattle.mesh_header.specs.Reading.{hops_in, mesh_in, first_piece_at, later_piece_at, part_in, load_in, fields_in, unit_in}
 use Rattle.mesh_header.specs.Laws.{UnitsAreRead, ReadUnitsAreSpelled, OneHopLessIsNoLonger}
 use Rattle.mesh_header.proofs.Spellings.{no_fault, few_then, many_then, zero_spelling, some_spelling}
@@ -48,7 +51,8 @@ later_chosen : (d : ℕ) (w c f l : Unit) → 0xE0 ≤ d → (if d == 0x41 then 
 later_chosen d w c f l low = grind (arith, common_steps)
 
 piece_is : (size tag offset size' tag' offset' : ℕ) (octets octets' : List ℕ) → size ≡ size' → tag ≡ tag' → offset ≡ offset' → octets ≡ octets'
-    → let v : Placed = record { size = size; tag = tag; offset = offset; octets = octets } in v ≡ record { size = size'; tag = tag'; offset = offset'; octets = octets' }
+    → let v : Placed = record { size = size; tag = tag; offset = offset; octets = octets } in
+    v ≡ record { size = size'; tag = tag'; offset = offset'; octets = octets' }
 piece_is size tag offset size' tag' offset' octets octets' a b c d = rw (a, b, c, d) refl
 
 first_load : (p : Placed) → IsPiece p → p.offset ≡ 0 → IsLoad (big_bytes 2 (0xC000 + p.size) ++ (big_bytes 2 p.tag ++ (0x41 ∷ p.octets))) (λ mesh. Part mesh p)
@@ -57,20 +61,23 @@ first_load p h none mesh front =
     let load : List ℕ = big_bytes 2 (0xC000 + p.size) ++ (big_bytes 2 p.tag ++ (0x41 ∷ p.octets)) in
     let d : ℕ = (0xC000 + p.size) / 256 % 256 in
     let at : octet (length front) (front ++ load) ≡ d = octet_behind front d ((0xC000 + p.size) % 256 ∷ (big_bytes 2 p.tag ++ (0x41 ∷ p.octets))) in
-    let size : two (length front) (front ++ load) ≡ 0xC000 + p.size = two_behind front (0xC000 + p.size) (big_bytes 2 p.tag ++ (0x41 ∷ p.octets)) (omega (arith, h.size)) in
+    let size : two (length front) (front ++ load)
+    ≡ 0xC000 + p.size = two_behind front (0xC000 + p.size) (big_bytes 2 p.tag ++ (0x41 ∷ p.octets)) (omega (arith, h.size)) in
     let tag : two (length front + 2) (front ++ load) ≡ p.tag = two_past front load 2 ∙ two_behind [] p.tag (0x41 ∷ p.octets) (omega (arith, h.tag)) in
     let octets : after (length front + 5) (front ++ load) ≡ p.octets = after_past front load 5 in
     ap (λ x. part_in x mesh (length front) (front ++ load)) at
     ∙ first_chosen d _ _ _ _ (omega (arith, h.size)) (omega (arith, h.size))
     ∙ ap (Part mesh) (piece_is _ _ _ _ _ _ _ _ (ap (λ x. x - 0xC000) size ∙ omega arith) tag (sym none) octets)
 
-later_load : (p : Placed) → IsPiece p → 0 < p.offset → IsLoad (big_bytes 2 (0xE000 + p.size) ++ (big_bytes 2 p.tag ++ (p.offset ∷ p.octets))) (λ mesh. Part mesh p)
+later_load : (p : Placed) → IsPiece p → 0 < p.offset
+    → IsLoad (big_bytes 2 (0xE000 + p.size) ++ (big_bytes 2 p.tag ++ (p.offset ∷ p.octets))) (λ mesh. Part mesh p)
 unfolding octet two after
 later_load p h some mesh front =
     let load : List ℕ = big_bytes 2 (0xE000 + p.size) ++ (big_bytes 2 p.tag ++ (p.offset ∷ p.octets)) in
     let d : ℕ = (0xE000 + p.size) / 256 % 256 in
     let at : octet (length front) (front ++ load) ≡ d = octet_behind front d ((0xE000 + p.size) % 256 ∷ (big_bytes 2 p.tag ++ (p.offset ∷ p.octets))) in
-    let size : two (length front) (front ++ load) ≡ 0xE000 + p.size = two_behind front (0xE000 + p.size) (big_bytes 2 p.tag ++ (p.offset ∷ p.octets)) (omega (arith, h.size)) in
+    let size : two (length front) (front ++ load)
+    ≡ 0xE000 + p.size = two_behind front (0xE000 + p.size) (big_bytes 2 p.tag ++ (p.offset ∷ p.octets)) (omega (arith, h.size)) in
     let tag : two (length front + 2) (front ++ load) ≡ p.tag = two_past front load 2 ∙ two_behind [] p.tag (p.offset ∷ p.octets) (omega (arith, h.tag)) in
     let offset : octet (length front + 4) (front ++ load) ≡ p.offset = octet_past front load 4 in
     let octets : after (length front + 5) (front ++ load) ≡ p.octets = after_past front load 5 in
@@ -109,7 +116,8 @@ short_read mesh load u h few loads =
     let at : origin_at octets ≡ 1 = short_origin octets (omega arith) in
     let origin : two 1 octets ≡ mesh.origin = two_behind ((0xB0 + mesh.hops) ∷ []) mesh.origin (big_bytes 2 mesh.to ++ load) (omega (arith, h.origin)) in
     let to : two 3 octets ≡ mesh.to = two_behind ((0xB0 + mesh.hops) ∷ big_bytes 2 mesh.origin) mesh.to load (omega (arith, h.to)) in
-    let header : mesh_in octets ≡ mesh = mesh_is _ _ _ _ _ _ (short_hops octets mesh.hops first few) (ap (λ n. two n octets) at ∙ origin) (ap (λ n. two (n + 2) octets) at ∙ to) in
+    let header : mesh_in octets ≡ mesh = mesh_is _ _ _ _ _ _ (short_hops octets mesh.hops first few) (ap (λ n. two n octets) at ∙ origin)
+    (ap (λ n. two (n + 2) octets) at ∙ to) in
     mesh_chosen (octet 0 octets) _ _ (omega arith)
     ∙ ap (λ n. load_in (mesh_in octets) (n + 4) octets) at
     ∙ ap (λ m. load_in m 5 octets) header
@@ -230,7 +238,8 @@ carried_load_is mesh at octets h is e =
     by_code false is e = absurd (cc)
 
 -- the size and the tag of a piece, and what follows them
-piece_front : (base at : ℕ) (octets : List ℕ) → AreOctets octets → base ≤ two at octets → at + 2 ≤ length octets → tag_fault (at + 2) octets ≡ None → octet_fault (at + 4) octets ≡ None
+piece_front : (base at : ℕ) (octets : List ℕ) → AreOctets octets → base ≤ two at octets → at + 2 ≤ length octets → tag_fault (at + 2) octets ≡ None
+    → octet_fault (at + 4) octets ≡ None
     → after at octets ≡ big_bytes 2 (base + (two at octets - base)) ++ (big_bytes 2 (two (at + 2) octets) ++ (octet (at + 4) octets ∷ after (at + 5) octets))
 unfolding tag_fault
 piece_front base at octets fits low whole tag next =
@@ -241,7 +250,8 @@ piece_front base at octets fits low whole tag next =
     let five : at + 4 + 1 ≡ at + 5 = omega arith in
     let size : two at octets ≡ base + (two at octets - base) = omega arith in
     e0 ∙ (λ i. big_bytes 2 (size i) ++ (e1 ∙ ap (λ (n : ℕ). big_bytes 2 (two (at + 2) octets) ++ after n octets) four) i)
-    ∙ ap (λ (xs : List ℕ). big_bytes 2 (base + (two at octets - base)) ++ (big_bytes 2 (two (at + 2) octets) ++ xs)) (e2 ∙ ap (λ (n : ℕ). octet (at + 4) octets ∷ after n octets) five)
+    ∙ ap (λ (xs : List ℕ). big_bytes 2 (base + (two at octets - base)) ++ (big_bytes 2 (two (at + 2) octets) ++ xs))
+    (e2 ∙ ap (λ (n : ℕ). octet (at + 4) octets ∷ after n octets) five)
 
 first_piece_is : (mesh : Mesh) (at : ℕ) (octets : List ℕ) → AreOctets octets → IsMesh mesh → 0xC0 ≤ octet at octets → first_piece_fault at octets ≡ None
     → IsLoadOf mesh at octets (Part mesh (first_piece_at at octets))
@@ -258,8 +268,11 @@ first_piece_is mesh at octets fits h low e =
     let kind : octet (at + 4) octets ≡ 0x41 = by_kind (octet (at + 4) octets == 0x41) refl d.0 in
     let is = piece_front 0xC000 at octets fits base size.0 b.0 c.0 in
     let spelled : after at octets ≡ piece_spelling (first_piece_at at octets) =
-    is ∙ ap (λ (x : ℕ). big_bytes 2 (0xC000 + (two at octets - 0xC000)) ++ (big_bytes 2 (two (at + 2) octets) ++ (x ∷ after (at + 5) octets))) kind ∙ sym (zero_spelling (first_piece_at at octets) refl) in
-    ((h, record { size = (size.1, size.2); tag = tag; offset = omega arith; some = parts.some; within = parts.within; eighths = parts.eighths }), ap (mesh_then mesh) spelled)
+    is ∙ ap (λ (x : ℕ). big_bytes 2 (0xC000 + (two at octets - 0xC000)) ++ (big_bytes 2 (two (at + 2) octets) ++ (x ∷ after (at + 5) octets))) kind
+    ∙ sym (zero_spelling (first_piece_at at octets) refl) in (
+      (h, record { size = (size.1, size.2); tag = tag; offset = omega arith; some = parts.some; within = parts.within; eighths = parts.eighths }),
+      ap (mesh_then mesh) spelled,
+    )
   where
     by_kind : (b : Bool) → (octet (at + 4) octets == 0x41) ≡ b → (if b then None else fault_at Dispatch (at + 4)) ≡ None → octet (at + 4) octets ≡ 0x41
     by_kind true is e = eqb-true _ _ is
@@ -280,32 +293,43 @@ later_piece_is mesh at octets fits h low e =
     let tag = two_low (at + 2) octets fits in
     let small = octet_low (at + 4) octets fits in
     let is = piece_front 0xE000 at octets fits base size.0 b.0 c.0 in
-    let spelled : after at octets ≡ piece_spelling (later_piece_at at octets) = is ∙ sym (some_spelling (later_piece_at at octets) (omega arith)) in
-    ((h, record { size = (size.1, size.2); tag = tag; offset = small; some = parts.some; within = parts.within; eighths = parts.eighths }), ap (mesh_then mesh) spelled)
+    let spelled : after at octets ≡ piece_spelling (later_piece_at at octets) = is ∙ sym (some_spelling (later_piece_at at octets) (omega arith)) in (
+      (h, record { size = (size.1, size.2); tag = tag; offset = small; some = parts.some; within = parts.within; eighths = parts.eighths }),
+      ap (mesh_then mesh) spelled,
+    )
 
-load_is : (mesh : Mesh) (at : ℕ) (octets : List ℕ) → AreOctets octets → IsMesh mesh → load_fault at octets ≡ None → IsLoadOf mesh at octets (load_in mesh at octets)
+load_is : (mesh : Mesh) (at : ℕ) (octets : List ℕ) → AreOctets octets → IsMesh mesh → load_fault at octets ≡ None
+    → IsLoadOf mesh at octets (load_in mesh at octets)
 unfolding load_fault
 load_is mesh at octets fits h e =
-    by_kind (octet at octets == 0x41) (octet at octets == 0x40) (nat_lt 0xBF (octet at octets)) (nat_lt (octet at octets) 0xC8) (nat_lt 0xDF (octet at octets) && nat_lt (octet at octets) 0xE8) refl refl refl refl refl (then_none (octet_fault at octets) _ e).1
+    by_kind (octet at octets == 0x41) (octet at octets == 0x40) (nat_lt 0xBF (octet at octets)) (nat_lt (octet at octets) 0xC8)
+    (nat_lt 0xDF (octet at octets) && nat_lt (octet at octets) 0xE8) refl refl refl refl refl (then_none (octet_fault at octets) _ e).1
   where
     is : after at octets ≡ octet at octets ∷ after (at + 1) octets
     is = (octet_then at octets (then_none (octet_fault at octets) _ e).0).1
 
-    by_kind : (a b c c' d : Bool) → (octet at octets == 0x41) ≡ a → (octet at octets == 0x40) ≡ b → nat_lt 0xBF (octet at octets) ≡ c → nat_lt (octet at octets) 0xC8 ≡ c'
+    by_kind : (a b c c' d : Bool) → (octet at octets == 0x41) ≡ a → (octet at octets == 0x40) ≡ b → nat_lt 0xBF (octet at octets) ≡ c
+        → nat_lt (octet at octets) 0xC8 ≡ c'
         → (nat_lt 0xDF (octet at octets) && nat_lt (octet at octets) 0xE8) ≡ d
-        → (if a then data_fault (at + 1) octets else (if b then carried_fault (at + 1) octets else (if c && c' then first_piece_fault at octets else (if d then later_piece_fault at octets else fault_at Dispatch at)))) ≡ None
-        → IsLoadOf mesh at octets (if a then Whole mesh (after (at + 1) octets) else (if b then Carried mesh (after (at + 2) octets) else (if c' then Part mesh (first_piece_at at octets) else Part mesh (later_piece_at at octets))))
+        → (if a then data_fault (at + 1) octets
+        else (if b then carried_fault (at + 1) octets
+        else (if c && c' then first_piece_fault at octets else (if d then later_piece_fault at octets else fault_at Dispatch at)))) ≡ None
+        → IsLoadOf mesh at octets (if a then Whole mesh (after (at + 1) octets)
+        else (if b then Carried mesh (after (at + 2) octets) else (if c' then Part mesh (first_piece_at at octets) else Part mesh (later_piece_at at octets))))
     by_kind true b c c' d ea eb ec ec' ed none = whole_load_is mesh at octets h (is ∙ ap (λ (x : ℕ). x ∷ after (at + 1) octets) (eqb-true _ _ ea)) none
     by_kind false true c c' d ea eb ec ec' ed none = carried_load_is mesh at octets h (is ∙ ap (λ (x : ℕ). x ∷ after (at + 1) octets) (eqb-true _ _ eb)) none
-    by_kind false false true true d ea eb ec ec' ed none = let low : 0xBF < octet at octets = ltb-true _ _ ec in first_piece_is mesh at octets fits h (omega arith) none
-    by_kind false false true false true ea eb ec ec' ed none = let low : 0xDF < octet at octets = ltb-true _ _ (and_parts _ _ ed).0 in later_piece_is mesh at octets fits h (omega arith) none
+    by_kind false false true true d ea eb ec ec' ed none =
+        let low : 0xBF < octet at octets = ltb-true _ _ ec in first_piece_is mesh at octets fits h (omega arith) none
+    by_kind false false true false true ea eb ec ec' ed none =
+        let low : 0xDF < octet at octets = ltb-true _ _ (and_parts _ _ ed).0 in later_piece_is mesh at octets fits h (omega arith) none
     by_kind false false true false false ea eb ec ec' ed none = absurd (cc)
     by_kind false false false true true ea eb ec ec' ed none =
         let low : 0xDF < octet at octets = ltb-true _ _ (and_parts _ _ ed).0 in
         let high : octet at octets ≤ 0xBF = ltb-false _ _ ec in
         absurd (omega arith)
     by_kind false false false true false ea eb ec ec' ed none = absurd (cc)
-    by_kind false false false false true ea eb ec ec' ed none = let low : 0xDF < octet at octets = ltb-true _ _ (and_parts _ _ ed).0 in later_piece_is mesh at octets fits h (omega arith) none
+    by_kind false false false false true ea eb ec ec' ed none =
+        let low : 0xDF < octet at octets = ltb-true _ _ (and_parts _ _ ed).0 in later_piece_is mesh at octets fits h (omega arith) none
     by_kind false false false false false ea eb ec ec' ed none = absurd (cc)
 
 -- the hops of a mesh header, and what follows them
@@ -320,7 +344,8 @@ hops_are octets fits some high e = by_form (octet 0 octets == 0xBF) refl (then_n
     short : 0xB0 ≤ octet 0 octets
     short = ltb-false _ _ (when_none _ _ (then_none (fault_at AddressKind 0 when nat_lt (octet 0 octets) 0xB0) _ e).0)
 
-    by_form : (b : Bool) → (octet 0 octets == 0xBF) ≡ b → (if b then cut_off Short 2 octets then fault_at HopForm 1 when nat_lt (octet 1 octets) 15 else None) ≡ None → AreHops octets
+    by_form : (b : Bool) → (octet 0 octets == 0xBF) ≡ b
+        → (if b then cut_off Short 2 octets then fault_at HopForm 1 when nat_lt (octet 1 octets) 15 else None) ≡ None → AreHops octets
     by_form true is none =
         let parts = then_none (cut_off Short 2 octets) _ none in
         let whole = is_whole Short 2 octets parts.0 in
@@ -358,7 +383,8 @@ mesh_is_spelled octets fits some high e =
     let e2 = two_then (at + 2) octets fits to.0 in
     let four : at + 2 + 2 ≡ at + 4 = omega arith in (
       record { hops = hops.low; origin = origin.1; to = to.1 },
-      hops.spelled ∙ ap (hops_then (hops_in octets)) (e1 ∙ ap (λ (xs : List ℕ). big_bytes 2 (two at octets) ++ xs) (e2 ∙ ap (λ (n : ℕ). big_bytes 2 (two (at + 2) octets) ++ after n octets) four)),
+      hops.spelled ∙ ap (hops_then (hops_in octets))
+          (e1 ∙ ap (λ (xs : List ℕ). big_bytes 2 (two at octets) ++ xs) (e2 ∙ ap (λ (n : ℕ). big_bytes 2 (two (at + 2) octets) ++ after n octets) four)),
     )
 
 local_is : (octets : List ℕ) → octets ≡ 0x40 ∷ after 1 octets → local_fault 1 octets ≡ None → Spells (Local (octet 1 octets) (after 2 octets)) octets
@@ -373,7 +399,8 @@ local_is octets is e =
 
 fields_spelled : (octets : List ℕ) → AreOctets octets → unit_fault octets ≡ None → Spells (fields_in octets) octets
 fields_spelled octets fits e =
-    by_kind (nat_lt 0x7F (octet 0 octets)) (nat_lt (octet 0 octets) 0xC0) (octet 0 octets == 0x40) refl refl refl (then_none (fault_at Empty 0 when length octets == 0) _ e).1
+    by_kind (nat_lt 0x7F (octet 0 octets)) (nat_lt (octet 0 octets) 0xC0) (octet 0 octets == 0x40) refl refl refl
+    (then_none (fault_at Empty 0 when length octets == 0) _ e).1
   where
     some : 0 < length octets
     some = let other : length octets ≢ 0 = eqb-false _ _ (when_none _ _ (then_none (fault_at Empty 0 when length octets == 0) _ e).0) in omega arith
@@ -408,7 +435,8 @@ length-mesh_then : (mesh : Mesh) (rest : List ℕ) → length (mesh_then mesh re
 unfolding hops_then
 length-mesh_then mesh rest = by_hops (nat_lt mesh.hops 15)
   where
-    by_hops : (b : Bool) → length (if b then (0xB0 + mesh.hops) ∷ (big_bytes 2 mesh.origin ++ (big_bytes 2 mesh.to ++ rest)) else 0xBF ∷ mesh.hops ∷ (big_bytes 2 mesh.origin ++ (big_bytes 2 mesh.to ++ rest)))
+    by_hops : (b : Bool) → length (if b then (0xB0 + mesh.hops) ∷ (big_bytes 2 mesh.origin ++ (big_bytes 2 mesh.to ++ rest))
+        else 0xBF ∷ mesh.hops ∷ (big_bytes 2 mesh.origin ++ (big_bytes 2 mesh.to ++ rest)))
         ≡ (if b then 5 else 6) + length rest
     by_hops true = omega arith
     by_hops false = omega arith
@@ -417,7 +445,8 @@ length-piece_spelling : (piece : Placed) → length (piece_spelling piece) ≡ 5
 unfolding piece_spelling
 length-piece_spelling piece = by_offset (piece.offset == 0)
   where
-    by_offset : (b : Bool) → length (if b then big_bytes 2 (0xC000 + piece.size) ++ (big_bytes 2 piece.tag ++ (0x41 ∷ piece.octets)) else big_bytes 2 (0xE000 + piece.size) ++ (big_bytes 2 piece.tag ++ (piece.offset ∷ piece.octets)))
+    by_offset : (b : Bool) → length (if b then big_bytes 2 (0xC000 + piece.size) ++ (big_bytes 2 piece.tag ++ (0x41 ∷ piece.octets))
+        else big_bytes 2 (0xE000 + piece.size) ++ (big_bytes 2 piece.tag ++ (piece.offset ∷ piece.octets)))
         ≡ 5 + length piece.octets
     by_offset true = omega arith
     by_offset false = omega arith

@@ -36,9 +36,11 @@ unfolding piece_spelling
 piece_octets p low all = by_offset (p.offset == 0)
   where
     behind : (x base : ℕ) → x < 256 → AreOctets (big_bytes 2 (base + p.size) ++ (big_bytes 2 p.tag ++ (x ∷ p.octets)))
-    behind x base small = both (big_bytes 2 (base + p.size)) (big_bytes 2 p.tag ++ (x ∷ p.octets)) (big_octets 2 (base + p.size)) (both (big_bytes 2 p.tag) (x ∷ p.octets) (big_octets 2 p.tag) (front x p.octets small all))
+    behind x base small = both (big_bytes 2 (base + p.size)) (big_bytes 2 p.tag ++ (x ∷ p.octets)) (big_octets 2 (base + p.size))
+        (both (big_bytes 2 p.tag) (x ∷ p.octets) (big_octets 2 p.tag) (front x p.octets small all))
 
-    by_offset : (b : Bool) → AreOctets (if b then big_bytes 2 (0xC000 + p.size) ++ (big_bytes 2 p.tag ++ (0x41 ∷ p.octets)) else big_bytes 2 (0xE000 + p.size) ++ (big_bytes 2 p.tag ++ (p.offset ∷ p.octets)))
+    by_offset : (b : Bool) → AreOctets (if b then big_bytes 2 (0xC000 + p.size) ++ (big_bytes 2 p.tag ++ (0x41 ∷ p.octets))
+        else big_bytes 2 (0xE000 + p.size) ++ (big_bytes 2 p.tag ++ (p.offset ∷ p.octets)))
     by_offset true = behind 0x41 0xC000 (omega arith)
     by_offset false = behind p.offset 0xE000 low
 
@@ -64,7 +66,8 @@ unit_octets payload unit are = by_fault (is_some (unit_fault payload))
     at : ℕ
     at = origin_at payload + 4
 
-    by_kind : (a b c : Bool) → UnitOctets (if a then units.Whole (mesh_in payload) (after (at + 1) payload) else (if b then units.Carried (mesh_in payload) (after (at + 2) payload)
+    by_kind : (a b c : Bool) → UnitOctets
+        (if a then units.Whole (mesh_in payload) (after (at + 1) payload) else (if b then units.Carried (mesh_in payload) (after (at + 2) payload)
         else (if c then units.Part (mesh_in payload) (first_piece_at at payload) else units.Part (mesh_in payload) (later_piece_at at payload))))
     by_kind true b c = after_octets (at + 1) payload are
     by_kind false true c = after_octets (at + 2) payload are

@@ -88,7 +88,8 @@ piece_eq p q s t o xs =
 
 -- the two forms of a piece, by base and the fifth octet
 form_same : (base s t d s' t' d' base' : ℕ) (xs ys : List ℕ) → base + s < 65536 → base' + s' < 65536 → t < 65536 → t' < 65536
-    → big_bytes 2 (base + s) ++ (big_bytes 2 t ++ (d ∷ xs)) ≡ big_bytes 2 (base' + s') ++ (big_bytes 2 t' ++ (d' ∷ ys)) → (base + s ≡ base' + s') × (t ≡ t') × (d ≡ d') × (xs ≡ ys)
+    → big_bytes 2 (base + s) ++ (big_bytes 2 t ++ (d ∷ xs)) ≡ big_bytes 2 (base' + s') ++ (big_bytes 2 t' ++ (d' ∷ ys))
+    → (base + s ≡ base' + s') × (t ≡ t') × (d ≡ d') × (xs ≡ ys)
 form_same base s t d s' t' d' base' xs ys h1 h2 h3 h4 e =
     let es = two_same (base + s) (base' + s') h1 h2 (cc) (cc) in
     let et = two_same t t' h3 h4 (cc) (cc) in
@@ -101,20 +102,24 @@ piece_same p q hp hq e =
     elim (cases_lt 0 p.offset) [
       | inl some ↦ elim (cases_lt 0 q.offset) [
         | inl some' ↦
-            let f = form_same 0xE000 p.size p.tag p.offset q.size q.tag q.offset 0xE000 p.octets q.octets (omega (arith, hp.size)) (omega (arith, hq.size)) hp.tag hq.tag (sym (some_spelling p some) ∙ e ∙ some_spelling q some') in
+            let f = form_same 0xE000 p.size p.tag p.offset q.size q.tag q.offset 0xE000 p.octets q.octets (omega (arith, hp.size)) (omega (arith, hq.size))
+            hp.tag hq.tag (sym (some_spelling p some) ∙ e ∙ some_spelling q some') in
             piece_eq p q (omega (arith, f.0)) f.1 f.2 f.3
         | inr none' ↦
             let z : q.offset ≡ 0 = omega arith in
-            let f = form_same 0xE000 p.size p.tag p.offset q.size q.tag 0x41 0xC000 p.octets q.octets (omega (arith, hp.size)) (omega (arith, hq.size)) hp.tag hq.tag (sym (some_spelling p some) ∙ e ∙ zero_spelling q z) in
+            let f = form_same 0xE000 p.size p.tag p.offset q.size q.tag 0x41 0xC000 p.octets q.octets (omega (arith, hp.size)) (omega (arith, hq.size)) hp.tag
+            hq.tag (sym (some_spelling p some) ∙ e ∙ zero_spelling q z) in
             absurd (omega (arith, f.0, hp.size, hq.size))
       ]
       | inr none ↦ let z : p.offset ≡ 0 = omega arith in elim (cases_lt 0 q.offset) [
         | inl some' ↦
-            let f = form_same 0xC000 p.size p.tag 0x41 q.size q.tag q.offset 0xE000 p.octets q.octets (omega (arith, hp.size)) (omega (arith, hq.size)) hp.tag hq.tag (sym (zero_spelling p z) ∙ e ∙ some_spelling q some') in
+            let f = form_same 0xC000 p.size p.tag 0x41 q.size q.tag q.offset 0xE000 p.octets q.octets (omega (arith, hp.size)) (omega (arith, hq.size)) hp.tag
+            hq.tag (sym (zero_spelling p z) ∙ e ∙ some_spelling q some') in
             absurd (omega (arith, f.0, hp.size, hq.size))
         | inr none' ↦
             let z' : q.offset ≡ 0 = omega arith in
-            let f = form_same 0xC000 p.size p.tag 0x41 q.size q.tag 0x41 0xC000 p.octets q.octets (omega (arith, hp.size)) (omega (arith, hq.size)) hp.tag hq.tag (sym (zero_spelling p z) ∙ e ∙ zero_spelling q z') in
+            let f = form_same 0xC000 p.size p.tag 0x41 q.size q.tag 0x41 0xC000 p.octets q.octets (omega (arith, hp.size)) (omega (arith, hq.size)) hp.tag
+            hq.tag (sym (zero_spelling p z) ∙ e ∙ zero_spelling q z') in
             piece_eq p q (omega (arith, f.0)) f.1 (omega arith) f.3
       ]
     ]
@@ -135,13 +140,17 @@ piece_head p d rest h e =
 
 pub one_value : (a b : Unit) → IsUnit a → IsUnit b → spelling a ≡ spelling b → a ≡ b
 one_value (Whole m xs) (Whole n ys) h k e = let s = mesh_same m n (0x41 ∷ xs) (0x41 ∷ ys) h.0 k.0 e in let same : xs ≡ ys = cc (s.1) in cc (s.0)
-one_value (Part m p) (Part n q) h k e = let s = mesh_same m n (piece_spelling p) (piece_spelling q) h.0 k.0 e in let same : p ≡ q = piece_same p q h.1 k.1 s.1 in cc (s.0)
+one_value (Part m p) (Part n q) h k e =
+    let s = mesh_same m n (piece_spelling p) (piece_spelling q) h.0 k.0 e in let same : p ≡ q = piece_same p q h.1 k.1 s.1 in cc (s.0)
 one_value (Carried m xs) (Carried n ys) h k e = let s = mesh_same m n (0x40 ∷ 2 ∷ xs) (0x40 ∷ 2 ∷ ys) h k e in let same : xs ≡ ys = cc (s.1) in cc (s.0)
 one_value (Local c xs) (Local d ys) h k e = cc
-one_value (Whole m xs) (Part n q) h k e = let s = mesh_same m n (0x41 ∷ xs) (piece_spelling q) h.0 k.0 e in absurd (omega (arith, piece_head q 0x41 xs k.1 (sym s.1)))
+one_value (Whole m xs) (Part n q) h k e =
+    let s = mesh_same m n (0x41 ∷ xs) (piece_spelling q) h.0 k.0 e in absurd (omega (arith, piece_head q 0x41 xs k.1 (sym s.1)))
 one_value (Part m p) (Whole n ys) h k e = let s = mesh_same m n (piece_spelling p) (0x41 ∷ ys) h.0 k.0 e in absurd (omega (arith, piece_head p 0x41 ys h.1 s.1))
-one_value (Carried m xs) (Part n q) h k e = let s = mesh_same m n (0x40 ∷ 2 ∷ xs) (piece_spelling q) h k.0 e in absurd (omega (arith, piece_head q 0x40 (2 ∷ xs) k.1 (sym s.1)))
-one_value (Part m p) (Carried n ys) h k e = let s = mesh_same m n (piece_spelling p) (0x40 ∷ 2 ∷ ys) h.0 k e in absurd (omega (arith, piece_head p 0x40 (2 ∷ ys) h.1 s.1))
+one_value (Carried m xs) (Part n q) h k e =
+    let s = mesh_same m n (0x40 ∷ 2 ∷ xs) (piece_spelling q) h k.0 e in absurd (omega (arith, piece_head q 0x40 (2 ∷ xs) k.1 (sym s.1)))
+one_value (Part m p) (Carried n ys) h k e =
+    let s = mesh_same m n (piece_spelling p) (0x40 ∷ 2 ∷ ys) h.0 k e in absurd (omega (arith, piece_head p 0x40 (2 ∷ ys) h.1 s.1))
 one_value (Whole m xs) (Carried n ys) h k e = let s = mesh_same m n (0x41 ∷ xs) (0x40 ∷ 2 ∷ ys) h.0 k e in absurd (data_is_no_command xs (2 ∷ ys) s.1)
 one_value (Carried m xs) (Whole n ys) h k e = let s = mesh_same m n (0x40 ∷ 2 ∷ xs) (0x41 ∷ ys) h k.0 e in absurd (data_is_no_command ys (2 ∷ xs) (sym s.1))
 one_value (Local c xs) (Whole n ys) h k e = absurd (omega (arith, hops_head n.hops 0x40 _ (c ∷ xs) (sym e)))
@@ -151,7 +160,8 @@ one_value (Whole m xs) (Local d ys) h k e = absurd (omega (arith, hops_head m.ho
 one_value (Part m p) (Local d ys) h k e = absurd (omega (arith, hops_head m.hops 0x40 _ (d ∷ ys) e))
 one_value (Carried m xs) (Local d ys) h k e = absurd (omega (arith, hops_head m.hops 0x40 _ (d ∷ ys) e))
 
-pub only_read : (octets : List ℕ) (r : Result Unit (Fault UnitFaultKind)) → IfOk r (λ u. Spells u octets) → MatchResult r (λ u. unit_fault octets ≡ None) (λ e. unit_fault octets ≡ Some e)
+pub only_read : (octets : List ℕ) (r : Result Unit (Fault UnitFaultKind)) → IfOk r (λ u. Spells u octets)
+    → MatchResult r (λ u. unit_fault octets ≡ None) (λ e. unit_fault octets ≡ Some e)
     → (unit : Unit) → Spells unit octets → r ≡ Ok unit
 only_read octets (Ok u) found exact unit spells = ap Ok (one_value u unit found.0 spells.0 (sym found.1 ∙ spells.1))
 only_read octets (Err e) found exact unit spells = let none = no_fault unit spells.0 in let same = ap unit_fault spells.1 in absurd cc

@@ -5,7 +5,8 @@ ghost use Rattle.plc_base.specs.Fields.{octet, two, after};
 ghost use Rattle.plc_base.specs.Faults.{ReadsUnless};
 ghost use Rattle.mesh_header.specs.Pieces.{IsPiece};
 ghost use Rattle.mesh_header.specs.Grammar.{IsMesh, IsUnit, mesh_then, piece_spelling, spelling};
-ghost use Rattle.mesh_header.specs.Faults.{size_fault, octets_fault, tag_fault, octet_fault, data_fault, first_piece_fault, later_piece_fault, carried_fault, local_fault, load_fault};
+ghost use Rattle.mesh_header.specs.Faults.{size_fault, octets_fault, tag_fault, octet_fault, data_fault, first_piece_fault, later_piece_fault, carried_fault};
+ghost use Rattle.mesh_header.specs.Faults.{local_fault, load_fault};
 ghost use Rattle.mesh_header.specs.declared.unit.TheConstants.{LONGEST_WHOLE};
 ghost use Rattle.plc_base.specs.declared.limits.TheConstants.{LONGEST_DATAGRAM, LONGEST_FRAME};
 

@@ -82,7 +82,8 @@ module _ (x y : MeterState) (t : State StationMemory) (l : StationMemory) (puts 
       subst (λ (p : Plan Memory (Result MeterHeard Dropped)). Carries (node_of x) p (answer_if_sent dropped answer r) more (node_of y))
       (command_plan dropped puts (memory_with y l) [] made opened own to (Command octets) now answer)
       (carries_adding [] made opened (node_of x) (node_of y) AnswerPlan (answer_if_sent dropped answer r) out more
-      (carries_behind (node_of x) (seen (memory_with y) t) (node_of y) puts (within (memory_with y) (answer_if_sent dropped answer) Sending) (answer_if_sent dropped answer r) out
+      (carries_behind (node_of x) (seen (memory_with y) t) (node_of y) puts (within (memory_with y) (answer_if_sent dropped answer) Sending)
+      (answer_if_sent dropped answer r) out
       wrote eui
       (carries_within (memory_with y) (answer_if_sent dropped answer) (seen (memory_with y) t) t y.station Sending r out refl refl c)) is)
 

@@ -1,5 +1,6 @@
 -- What is read out of octets is the acknowledgement that they spell, and the other way round.
-use Rattle.std.proofs.Common.{◌≡◌, ◌≢◌, ℕ, ◌<◌, ◌==◌, Bool, true, false, List, [], ◌∷◌, length, Option, Some, None, if◌then◌else◌, refl, sym, ap, subst, ◌∙◌, arith}
+use Rattle.std.proofs.Common.{◌≡◌, ◌≢◌, ℕ, ◌<◌, ◌==◌, Bool, true, false, List, [], ◌∷◌, length, Option, Some, None, if◌then◌else◌, refl, sym, ap, subst, ◌∙◌}
+use Rattle.std.proofs.Common.{arith}
 use Rattle.std.specs.Prelude.{IfSome, MatchOption, not}
 use Rattle.std.proofs.lemmas.Bool.{eqb-true, eqb-false, ltb-true, and_parts}
 use Rattle.std.proofs.lemmas.Option.{same_Some}
@@ -66,17 +67,21 @@ acks_spelled n a octets fits e =
 
 pub one_value : (octets : List ℕ) (m a n b : ℕ) → SpellsAck m a octets → SpellsAck n b octets → (m ≡ n) × (a ≡ b)
 one_value octets m a n b h k =
-    let same : ack_spelling m a ≡ ack_spelling n b = sym h.1 ∙ k.1 in
-    (sym (first_two m a h.0.1) ∙ ap (two 1) same ∙ first_two n b k.0.1, sym (last_two m a (omega (arith, h.0.2))) ∙ ap (two 3) same ∙ last_two n b (omega (arith, k.0.2)))
+    let same : ack_spelling m a ≡ ack_spelling n b = sym h.1 ∙ k.1 in (
+      sym (first_two m a h.0.1) ∙ ap (two 1) same ∙ first_two n b k.0.1,
+      sym (last_two m a (omega (arith, h.0.2))) ∙ ap (two 3) same ∙ last_two n b (omega (arith, k.0.2)),
+    )
 
 not_in : (octets : List ℕ) → is_ack octets ≡ false → ack_in octets ≡ None
 unfolding ack_in
 not_in octets is = rw is refl
 
-pub value_read : (octets : List ℕ) (r : Option (ℕ × ℕ)) → IfSome r (λ ack. SpellsAck ack.0 ack.1 octets) → MatchOption r (is_ack octets ≡ false) (λ _. is_ack octets ≡ true) → ack_in octets ≡ r
+pub value_read : (octets : List ℕ) (r : Option (ℕ × ℕ)) → IfSome r (λ ack. SpellsAck ack.0 ack.1 octets)
+    → MatchOption r (is_ack octets ≡ false) (λ _. is_ack octets ≡ true) → ack_in octets ≡ r
 value_read octets (Some ack) found exact = acks_read ack.0 ack.1 octets found
 value_read octets None found exact = not_in octets exact
 
-pub only_read : (octets : List ℕ) (r : Option (ℕ × ℕ)) → IfSome r (λ ack. SpellsAck ack.0 ack.1 octets) → MatchOption r (is_ack octets ≡ false) (λ _. is_ack octets ≡ true)
+pub only_read : (octets : List ℕ) (r : Option (ℕ × ℕ)) → IfSome r (λ ack. SpellsAck ack.0 ack.1 octets)
+    → MatchOption r (is_ack octets ≡ false) (λ _. is_ack octets ≡ true)
     → (n a : ℕ) → SpellsAck n a octets → r ≡ Some (n, a)
 only_read octets r found exact n a spells = sym (value_read octets r found exact) ∙ acks_read n a octets spells

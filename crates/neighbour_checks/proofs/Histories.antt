@@ -1,5 +1,6 @@
 -- What is open and listed after one more entry of a history.
-use Rattle.std.proofs.Common.{◌≡◌, ◌<◌, ◌≤◌, ℕ, ◌+◌, Bool, true, false, List, [], ◌∷◌, ◌++◌, length, take, drop, get_or, if◌then◌else◌, refl, sym, ap, subst, ◌∙◌, append-nil, take-append-drop, arith}
+use Rattle.std.proofs.Common.{◌≡◌, ◌<◌, ◌≤◌, ℕ, ◌+◌, Bool, true, false, List, [], ◌∷◌, ◌++◌, length, take, drop, get_or, if◌then◌else◌, refl, sym, ap, subst}
+use Rattle.std.proofs.Common.{◌∙◌, append-nil, take-append-drop, arith}
 use Rattle.std.specs.Prelude.{not, ◌||◌, cond}
 use Rattle.std.specs.List.{filter, list_any}
 use Rattle.std.proofs.lemmas.Bool.{ltb-true, and_parts}
@@ -9,8 +10,10 @@ use Rattle.std.proofs.lemmas.List.Filters.{length-filter_both}
 use Rattle.std.proofs.lemmas.List.Folds.{list_any-append}
 use Rattle.neighbour_checks.specs.declared.tables.OpenCheck.{OpenCheck}
 use Rattle.neighbour_checks.specs.declared.tables.ListedNeighbour.{ListedNeighbour}
-use Rattle.neighbour_checks.specs.Neighbours.{Neighbours, nobody, waits_for, has_check, is_listed, may_begin, is_open_at, is_listed_at, check_of, listed_from, newly_listed, is_awaited, acked_after}
-use Rattle.neighbour_checks.specs.History.{Entry, History, Reply, Acknowledgement, Tick, ends, lets_go, begun_by, still, together, open_or_listed, after_history, LeadsOn}
+use Rattle.neighbour_checks.specs.Neighbours.{Neighbours, nobody, waits_for, has_check, is_listed, may_begin, is_open_at, is_listed_at, check_of, listed_from}
+use Rattle.neighbour_checks.specs.Neighbours.{newly_listed, is_awaited, acked_after}
+use Rattle.neighbour_checks.specs.History.{Entry, History, Reply, Acknowledgement, Tick, ends, lets_go, begun_by, still, together, open_or_listed}
+use Rattle.neighbour_checks.specs.History.{after_history, LeadsOn}
 use Rattle.neighbour_checks.specs.Laws.{entry_after, OneMoreEntry, NobodyAtTheStart, AtMost64}
 
 filter_all : {X : Type 0} (test : X → Bool) → ((x : X) → test x ≡ true) → (xs : List X) → filter test xs ≡ xs
@@ -20,7 +23,8 @@ filter_all test all (x ∷ xs) = rw (all x) (ap (λ ys. x ∷ ys) (filter_all te
 -- what no entry of a list ends
 module _ {X : Type 0} (test : X → Entry → Bool) where
   kept_more : (later : List Entry) (e : Entry) (xs : List X)
-      → filter (λ x. not (list_any (test x) (later ++ e ∷ []))) xs ≡ filter (λ x. not (list_any (test x) (e ∷ []))) (filter (λ x. not (list_any (test x) later)) xs)
+      → filter (λ x. not (list_any (test x) (later ++ e ∷ []))) xs
+      ≡ filter (λ x. not (list_any (test x) (e ∷ []))) (filter (λ x. not (list_any (test x) later)) xs)
   kept_more later e [] = refl
   kept_more later e (x ∷ xs) =
       rw (list_any-append (test x) later (e ∷ [])) (by_tests (list_any (test x) later) (list_any (test x) (e ∷ [])) refl _ _ (kept_more later e xs))
@@ -72,12 +76,14 @@ entry_step s (Reply neighbour number origin time) = by_test (may_begin s neighbo
     listed_stay = filter_all _ (λ _. refl) s.listed
 
     by_test : (b : Bool)
-        → together (still (Reply neighbour number origin time ∷ []) s) (if b then record { checks = check_of neighbour number origin time ∷ []; listed = [] } else nobody)
+        → together (still (Reply neighbour number origin time ∷ []) s)
+        (if b then record { checks = check_of neighbour number origin time ∷ []; listed = [] } else nobody)
         ≡ (if b then record s { checks = s.checks ++ check_of neighbour number origin time ∷ [] } else s)
     by_test true = neighbours_are (ap (λ (cs : List OpenCheck). cs ++ check_of neighbour number origin time ∷ []) checks_stay) (append-nil _ ∙ listed_stay)
     by_test false = neighbours_are (append-nil _ ∙ checks_stay) (append-nil _ ∙ listed_stay)
 entry_step s (Acknowledgement neighbour number origin) =
-    neighbours_are (append-nil _ ∙ filter_agree _ _ (λ c. not_or (waits_for neighbour number origin c)) s.checks) (append-nil _ ∙ filter_all _ (λ _. refl) s.listed)
+    neighbours_are (append-nil _ ∙ filter_agree _ _ (λ c. not_or (waits_for neighbour number origin c)) s.checks)
+    (append-nil _ ∙ filter_all _ (λ _. refl) s.listed)
 entry_step s (Tick time) =
     neighbours_are (append-nil _ ∙ filter_agree _ _ (λ c. not_not_or (is_open_at time c)) s.checks)
     (ap (λ (ls : List ListedNeighbour). ls ++ newly_listed time s.checks) (filter_agree _ _ (λ l. not_not_or (is_listed_at time l)) s.listed))
@@ -122,10 +128,12 @@ pub newly_within : (now : ℕ) (checks : List OpenCheck) (i : ℕ) (x : OpenChec
 newly_within now checks i x within is =
     let rest : List OpenCheck = drop (i + 1) checks in
     let parts : checks ≡ take i checks ++ (x ∷ rest) =
-    sym (take-append-drop i checks) ∙ ap (λ (cs : List OpenCheck). take i checks ++ cs) (drop_more checks i x within ∙ ap (λ (c : OpenCheck). c ∷ rest) (sym is)) in
+    sym (take-append-drop i checks)
+    ∙ ap (λ (cs : List OpenCheck). take i checks ++ cs) (drop_more checks i x within ∙ ap (λ (c : OpenCheck). c ∷ rest) (sym is)) in
     let whole : length (newly_listed now checks) ≡ length (newly_listed now (take i checks)) + length (newly_listed now (x ∷ rest)) =
     ap (λ (cs : List OpenCheck). length (newly_listed now cs)) parts ∙ length-newly_append now (take i checks) (x ∷ rest) in
-    let first : length (newly_listed now (x ∷ rest)) ≡ length (newly_listed now (x ∷ [])) + length (newly_listed now rest) = length-newly_append now (x ∷ []) rest in
+    let first : length (newly_listed now (x ∷ rest))
+    ≡ length (newly_listed now (x ∷ [])) + length (newly_listed now rest) = length-newly_append now (x ∷ []) rest in
     omega (arith, whole, first)
 
 pub length-kept : {X : Type 0} (test : X → Bool) (xs : List X) → length (filter test xs) ≤ length xs
@@ -173,4 +181,5 @@ entry_fits s (Tick time) fits = tick_fits s.checks s.listed time fits
 pub at_most_64 : AtMost64
 at_most_64 [] = subst (λ (s : Neighbours). length s.checks + length s.listed ≤ 64) (sym nobody_at_the_start) (omega arith)
 at_most_64 (entry ∷ history) =
-    subst (λ (s : Neighbours). length s.checks + length s.listed ≤ 64) (sym (one_more_entry history entry)) (entry_fits (after_history history) entry (at_most_64 history))
+    subst (λ (s : Neighbours). length s.checks + length s.listed ≤ 64) (sym (one_more_entry history entry))
+    (entry_fits (after_history history) entry (at_most_64 history))

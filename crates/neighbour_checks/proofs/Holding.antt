@@ -7,7 +7,8 @@ use Rattle.std.proofs.lemmas.List.{length-append}
 use Rattle.std.proofs.lemmas.List.Elements.{filter-append}
 use Rattle.neighbour_checks.specs.declared.tables.OpenCheck.{OpenCheck}
 use Rattle.neighbour_checks.specs.declared.tables.ListedNeighbour.{ListedNeighbour}
-use Rattle.neighbour_checks.specs.Neighbours.{Neighbours, is_of, waits_for, has_check, is_listed, has_room, may_begin, is_open_at, is_listed_at, check_of, listed_from, newly_listed}
+use Rattle.neighbour_checks.specs.Neighbours.{Neighbours, is_of, waits_for, has_check, is_listed, has_room, may_begin, is_open_at, is_listed_at, check_of}
+use Rattle.neighbour_checks.specs.Neighbours.{listed_from, newly_listed}
 use Rattle.neighbour_checks.specs.History.{Entry, Reply, Acknowledgement, Tick, after_history}
 use Rattle.neighbour_checks.specs.Laws.{entry_after, times_held, HeldOnce}
 use Rattle.neighbour_checks.proofs.Histories.{nobody_at_the_start, one_more_entry}

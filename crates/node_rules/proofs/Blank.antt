@@ -28,7 +28,8 @@ unfolding station_of
 blank_on_line =
     let r : ring.opened empty ≡ Ok None = ap (λ o. ring.ring_from (ring.ring_at o)) (get-empty nat_cmp ring.ring_slot) in
     let c : counter.opened empty ≡ Ok (counter.counting_at 0) = ap (λ o. counter.counting_from (counter.limit_in o)) (get-empty nat_cmp counter.limit_slot) in
-    let n : own_number.opened empty ≡ Ok (own_number.numbering_at 1) = ap (λ o. own_number.numbering_from (own_number.limit_in o)) (get-empty nat_cmp own_number.limit_slot) in
+    let n : own_number.opened empty
+    ≡ Ok (own_number.numbering_at 1) = ap (λ o. own_number.numbering_from (own_number.limit_in o)) (get-empty nat_cmp own_number.limit_slot) in
     let t : tag_in (get empty 4) ≡ Ok 0 = ap tag_in (get-empty nat_cmp 4) in
     let e : slots.opened marks.peers empty ≡ Ok [] = no_entries marks.peers in
     rw (r, c, n, t, no_ranks, e) refl

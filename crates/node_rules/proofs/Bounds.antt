@@ -9,7 +9,8 @@ use Rattle.group_keys.specs.KeyRing as ring
 use Rattle.node_rules.specs.Memory.{StationMemory}
 use Rattle.node_rules.specs.Plans.{Plan, resting}
 use Rattle.node_rules.specs.Drafts.{StationPlace, Ends, Outgoing, letters, sealed_by, sealing_key}
-use Rattle.node_rules.specs.Laws.{IsBounded, HearingIsBounded, AMetersHearingIsBounded, ACoordinatorsHearingIsBounded, ASendIsBounded, AJoinIsBounded, AnOrderIsBounded}
+use Rattle.node_rules.specs.Laws.{IsBounded, HearingIsBounded, AMetersHearingIsBounded, ACoordinatorsHearingIsBounded, ASendIsBounded, AJoinIsBounded}
+use Rattle.node_rules.specs.Laws.{AnOrderIsBounded}
 use Rattle.node_rules.proofs.Sizes.{pending_bound}
 use Rattle.node_rules.proofs.Words.{InTurn-append, in_turn, counter_turn}
 use Rattle.node_rules.proofs.TablePuts.{Membership, AnyMembership, Does}
@@ -18,7 +19,8 @@ use Rattle.node_rules.proofs.HearingShapes.{hear_shape}
 use Rattle.node_rules.proofs.CallShapes.{send_shape, send_command_shape}
 use Rattle.node_rules.proofs.MeterShapes.{meter_shape, joins_shape, leaves_shape}
 use Rattle.node_rules.specs.Ciphers.{network}
-use Rattle.node_rules.proofs.CoordinatorShapes.{coordinator_shape, allow_shape, depot_shape, rekey_shape, activate_self_shape, challenge_shape, activate_shape, kick_shape}
+use Rattle.node_rules.proofs.CoordinatorShapes.{coordinator_shape, allow_shape, depot_shape, rekey_shape, activate_self_shape, challenge_shape, activate_shape}
+use Rattle.node_rules.proofs.CoordinatorShapes.{kick_shape}
 
 -- # Letters
 
@@ -60,7 +62,8 @@ pub coordinators_hear : ACoordinatorsHearingIsBounded
 coordinators_hear own m got cost note now = bounded _ _ m m.station _ (coordinator_shape own m got cost note now)
 
 pub sends_bounded : ASendIsBounded
-sends_bounded l to octets note now = (bounded _ _ l l _ (send_shape AnyMembership [] l to octets note now), bounded _ _ l l _ (send_command_shape AnyMembership [] l to octets now))
+sends_bounded l to octets note now =
+    (bounded _ _ l l _ (send_shape AnyMembership [] l to octets note now), bounded _ _ l l _ (send_command_shape AnyMembership [] l to octets now))
 
 pub joins_bounded : AJoinIsBounded
 joins_bounded x m agent now = (bounded _ _ m m.station _ (joins_shape x m agent now), bounded _ _ m m.station _ (leaves_shape x m))

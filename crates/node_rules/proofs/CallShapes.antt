@@ -46,7 +46,8 @@ pub data AcceptShape (l : StationMemory) : Accepting → Type 0 where
   Marks : (from counter : ℕ) (accepted : Accepted) → IsAdmitted (marks.room_for l.marks from counter) → AcceptShape l (marking l from counter accepted)
 
 module _ (l : StationMemory) where
-  admitted_shape : (from counter : ℕ) (accepted : Accepted) (room : Result (Unit {0}) PeerFault) → marks.room_for l.marks from counter ≡ room → AcceptShape l (admitted l from counter accepted room)
+  admitted_shape : (from counter : ℕ) (accepted : Accepted) (room : Result (Unit {0}) PeerFault) → marks.room_for l.marks from counter ≡ room
+      → AcceptShape l (admitted l from counter accepted room)
   admitted_shape from counter accepted (Ok u) e = Marks from counter accepted (subst IsAdmitted (sym e) tt)
   admitted_shape from counter accepted (Err fault) e = Stays _
 
@@ -78,11 +79,15 @@ module _ (l : StationMemory) where
 
   -- the write of a mark stands in the row of its slots
   kept_mark : (from counter : ℕ) (place : Option ℕ) → ((k : ℕ) → place ≡ Some k → k < length l.marks) → length l.marks ≤ 64
-      → IsAdmitted (option_map_or (λ k. if nat_le counter (marks.peer_at l.marks k).mark then Err peers.Replayed else Ok tt) place (if length l.marks == 64 then Err peers.PeersFull else Ok tt))
-      → MarksAtMost (puts_of (option_map_or (λ k. if nat_le counter (marks.peer_at l.marks k).stored then None else Some (slots.entry_write marks.peers k (marks.peer_ahead from counter))) place (Some (slots.entry_write marks.peers (length l.marks) (marks.peer_ahead from counter)))))
+      → IsAdmitted (option_map_or (λ k. if nat_le counter (marks.peer_at l.marks k).mark then Err peers.Replayed else Ok tt) place
+      (if length l.marks == 64 then Err peers.PeersFull else Ok tt))
+      → MarksAtMost (puts_of (option_map_or (λ k. if nat_le counter (marks.peer_at l.marks k).stored then None
+      else Some (slots.entry_write marks.peers k (marks.peer_ahead from counter))) place
+      (Some (slots.entry_write marks.peers (length l.marks) (marks.peer_ahead from counter)))))
   kept_mark from counter None inside few room = by_room (length l.marks == 64) refl room
     where
-      by_room : (b : Bool) → (length l.marks == 64) ≡ b → IsAdmitted (if b then Err peers.PeersFull else Ok tt) → IsMark (slots.entry_write marks.peers (length l.marks) (marks.peer_ahead from counter))
+      by_room : (b : Bool) → (length l.marks == 64) ≡ b → IsAdmitted (if b then Err peers.PeersFull else Ok tt)
+          → IsMark (slots.entry_write marks.peers (length l.marks) (marks.peer_ahead from counter))
       by_room true t h = absurd h
       by_room false t h = let other : length l.marks ≢ 64 = eqb-false _ _ t in let less : length l.marks < 64 = omega arith in (omega arith, omega arith)
   kept_mark from counter (Some k) inside few room = by_mark (nat_le counter (marks.peer_at l.marks k).stored)
@@ -95,7 +100,8 @@ module _ (l : StationMemory) where
   unfolding resting marking
   accepts_marks p few (Stays answer) = record { puts = tt; frames = refl; made = refl; opened = refl }
   accepts_marks p few (Marks from counter accepted room) = record {
-    puts = kept_mark from counter (marks.place_of l.marks from) (λ k e. (position-Some (λ peer. peer.address == from) l.marks k (record { address = 0; mark = 0; stored = 0 }) e).0) few room;
+    puts = kept_mark from counter (marks.place_of l.marks from)
+        (λ k e. (position-Some (λ peer. peer.address == from) l.marks k (record { address = 0; mark = 0; stored = 0 }) e).0) few room;
     frames = refl;
     made = refl;
     opened = refl;
@@ -140,14 +146,17 @@ module _ (R : Membership → Type 0) (listed : Book) (l : StationMemory) where
   short to datagram e = by_size ((length datagram == 0) || nat_lt 1280 (length datagram)) refl e
     where
       by_size : (b : Bool) → ((length datagram == 0) || nat_lt 1280 (length datagram)) ≡ b
-          → (Some sends.BadSize when b then Some sends.ToSelf when is_own l to then option_map lacking (lack l to (length datagram))) ≡ None → length datagram ≤ 1280
+          → (Some sends.BadSize when b then Some sends.ToSelf when is_own l to then option_map lacking (lack l to (length datagram))) ≡ None
+          → length datagram ≤ 1280
       by_size true t h = absurd (cc)
       by_size false t h = ltb-false _ _ (or_parts _ _ t).1
 
   from_shape : (own to : ℕ) (datagram : List ℕ) (note now : ℕ) → SendShape (send_from l own to datagram note now)
   from_shape own to datagram note now = checked_by _ _ _ _ (send_fault l to datagram) _ (λ e.
-      sealed_shape alone sending_ends l (Does R listed l) (sets_out own to note (Datagram datagram l.next_tag) now (tag_taken datagram (empty_draft l))) (how l to)
-      (sends_does _ (sets_out_fits alone_station 4 own to note (Datagram datagram l.next_tag) now (tag_taken datagram (empty_draft l)) (omega arith) (load_bound (Datagram datagram l.next_tag) (short to datagram e)).1 (tag_fits datagram))
+      sealed_shape alone sending_ends l (Does R listed l) (sets_out own to note (Datagram datagram l.next_tag) now (tag_taken datagram (empty_draft l)))
+      (how l to)
+      (sends_does _ (sets_out_fits alone_station 4 own to note (Datagram datagram l.next_tag) now (tag_taken datagram (empty_draft l)) (omega arith)
+      (load_bound (Datagram datagram l.next_tag) (short to datagram e)).1 (tag_fits datagram))
       (sets_out_puts R listed l own to note (Datagram datagram l.next_tag) now (tag_taken datagram (empty_draft l)) (tag_puts datagram))))
 
   pub send_shape : (to : ℕ) (datagram : List ℕ) (note now : ℕ) → SendShape (send l to datagram note now)
@@ -156,6 +165,7 @@ module _ (R : Membership → Type 0) (listed : Book) (l : StationMemory) where
 
   pub send_command_shape : (to : ℕ) (octets : List ℕ) (now : ℕ) → SendShape (send_command l to octets now)
   send_command_shape to octets now = option_shape _ _ _ _ (λ own. command_from l own to octets now) (address_of l) (refused sending_ends l sends.NotJoined)
-      (λ own. checked_shape _ _ _ _ _ _ (sealed_shape alone sending_ends l (Does R listed l) (sets_out own to 0 (Command octets) now (empty_draft l)) (how l to) (sends_does _ (sets_out_fits alone_station 4 own to 0 (Command octets) now (empty_draft l) (omega arith) (omega arith) (begun_fits alone_station 2 l))
+      (λ own. checked_shape _ _ _ _ _ _ (sealed_shape alone sending_ends l (Does R listed l) (sets_out own to 0 (Command octets) now (empty_draft l)) (how l to)
+      (sends_does _ (sets_out_fits alone_station 4 own to 0 (Command octets) now (empty_draft l) (omega arith) (omega arith) (begun_fits alone_station 2 l))
       (sets_out_puts R listed l own to 0 (Command octets) now (empty_draft l) (begun_puts R listed l l)))))
       (Rests _)

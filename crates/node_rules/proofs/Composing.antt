@@ -1,5 +1,6 @@
 -- Laws of plans that are carried out, for those who make their plans of what a station does.
-use Rattle.std.proofs.Common.{◌≡◌, ℕ, ◌+◌, ◌≤◌, Bool, true, false, List, [], ◌∷◌, ◌++◌, length, map, Option, Some, None, Result, Ok, Err, refl, sym, ap, subst, ◌∙◌, arith, add-zero}
+use Rattle.std.proofs.Common.{◌≡◌, ℕ, ◌+◌, ◌≤◌, Bool, true, false, List, [], ◌∷◌, ◌++◌, length, map, Option, Some, None, Result, Ok, Err, refl, sym, ap, subst}
+use Rattle.std.proofs.Common.{◌∙◌, arith, add-zero}
 use Rattle.std.specs.Prelude.{if◌then◌else◌, is_some, nat_lt}
 use Rattle.std.specs.Option.{option_map}
 use Rattle.std.proofs.lemmas.Bool.Decides.{nat_tests}
@@ -24,7 +25,8 @@ use Rattle.loadng_messages.specs.Grammar.{spelling as message_spelling}
 use Rattle.node_rules.specs.Memory.{StationMemory, Memory, Load, Command, next_hop, address_of}
 use Rattle.node_rules.specs.Frames.{to_all}
 use Rattle.node_rules.specs.Plans.{resting}
-use Rattle.node_rules.specs.Drafts.{Draft, Ends, empty_draft, sealing, sealed, sealed_by, sealing_key, letters, counters_left, sets_out, body_goes, waits, seeks_once, goes, with_own_number, is_awaited, all_go, units_of, Lack, lack, checked, refused, with_ring}
+use Rattle.node_rules.specs.Drafts.{Draft, Ends, empty_draft, sealing, sealed, sealed_by, sealing_key, letters, counters_left, sets_out, body_goes, waits}
+use Rattle.node_rules.specs.Drafts.{seeks_once, goes, with_own_number, is_awaited, all_go, units_of, Lack, lack, checked, refused, with_ring}
 use Rattle.node_rules.specs.Calls.{Ringing, sending_ends, lacking, room_fault, command_frames, command_from, send_command, ring_ends, install, command_fault}
 use Rattle.node_rules.specs.MemoryDrafts.{with_station, in_memory, on_station}
 use Rattle.node_rules.specs.declared.refusal.SendRefusal.{SendRefusal}
@@ -88,7 +90,8 @@ carries_stopped {M} {A} s t ws vs p out wrote puts is eui memory = record {
 
 -- # What more is given out
 
-given_adding : {M A : Type 0} (frames : List Sent) (made opened : List PairTag) (p : Plan M A) (done : Bool) → out_with frames made opened done (given p done) ≡ given (adding frames made opened p) done
+given_adding : {M A : Type 0} (frames : List Sent) (made opened : List PairTag) (p : Plan M A) (done : Bool)
+    → out_with frames made opened done (given p done) ≡ given (adding frames made opened p) done
 given_adding frames made opened p true =
     λ i. record { frames = sym (map-append (spelled network) frames p.frames) i; tags = record { made = made ++ p.made; opened = opened ++ p.opened } }
 given_adding frames made opened p false = refl
@@ -105,7 +108,8 @@ carries_adding {M} {A} frames made opened s t p answer out more c is =
       done = c.done;
       wrote = c.wrote;
       answer_is = c.answer_is;
-      out_is = is ∙ ap (λ d. out_with frames made opened d out) known ∙ ap (out_with frames made opened c.done) c.out_is ∙ given_adding frames made opened p c.done;
+      out_is =
+          is ∙ ap (λ d. out_with frames made opened d out) known ∙ ap (out_with frames made opened c.done) c.out_is ∙ given_adding frames made opened p c.done;
       new_is = c.new_is;
     }
 
@@ -138,7 +142,8 @@ sealed_none (Some g) first = by_key (sealing_key g)
     by_key (Some key) = refl
 
 -- the words before the sealing, with what is given out and stored by then
-pub quiet_plan : {H E : Type 0} (ends : Ends E) (puts : List Write) (m : Memory) (plain : List Sent) (made opened : List PairTag) (answer : H) → m.station.counter.next ≤ m.station.counter.limit
+pub quiet_plan : {H E : Type 0} (ends : Ends E) (puts : List Write) (m : Memory) (plain : List Sent) (made opened : List PairTag) (answer : H)
+    → m.station.counter.next ≤ m.station.counter.limit
     → adding plain made opened (behind puts (resting m (Ok answer) (Err ends.store))) ≡ sealing in_memory ends (begun puts m plain made opened) answer
 unfolding resting
 quiet_plan {H} {E} ends puts m plain made opened answer below = λ i. record {
@@ -152,7 +157,8 @@ quiet_plan {H} {E} ends puts m plain made opened answer below = λ i. record {
 }
 
 -- all puts were done, and nothing is sealed
-pub carries_quiet : {H E : Type 0} (ends : Ends E) (s t : State Memory) (puts : List Write) (m : Memory) (plain : List Sent) (made opened : List PairTag) (answer : H) (out : Out)
+pub carries_quiet : {H E : Type 0} (ends : Ends E) (s t : State Memory) (puts : List Write) (m : Memory) (plain : List Sent) (made opened : List PairTag)
+    (answer : H) (out : Out)
     → m.station.counter.next ≤ m.station.counter.limit → Wrote s.store puts true t.store
     → out ≡ record { frames = map (spelled network) plain; tags = record { made = made; opened = opened } } → t.eui ≡ s.eui → t.memory ≡ Some m
     → Carries s (sealing in_memory ends (begun puts m plain made opened) answer) (Ok answer) out t
@@ -168,14 +174,16 @@ carries_quiet {H} {E} ends s t puts m plain made opened answer out below wrote i
 
 -- one of the first puts failed
 pub carries_unsealed : {H E : Type 0} (ends : Ends E) (s t : State Memory) (d : Draft Memory) (ws vs : List Write) (answer : H) (out : Out)
-    → Wrote s.store ws false t.store → d.puts ≡ ws ++ vs → out ≡ record { frames = []; tags = record { made = []; opened = d.opened } } → t.eui ≡ s.eui → t.memory ≡ None
+    → Wrote s.store ws false t.store → d.puts ≡ ws ++ vs → out ≡ record { frames = []; tags = record { made = []; opened = d.opened } } → t.eui ≡ s.eui
+    → t.memory ≡ None
     → Carries s (sealing in_memory ends d answer) (Err ends.store) out t
 carries_unsealed {H} {E} ends s t d ws vs answer out wrote puts is eui memory =
     carries_stopped s t ws (vs ++ puts_of (reserve_write d.memory.station.counter (length d.units))) (sealing in_memory ends d answer) out wrote
     (ap (λ (k : List Write). k ++ puts_of (reserve_write d.memory.station.counter (length d.units))) puts ∙ append_assoc ws vs _) is eui memory
 
 -- a doing without units is never too long for the counters
-pub sealed_quiet : {H E : Type 0} (ends : Ends E) (m : Memory) (d : Draft Memory) (answer : H) → d.units ≡ [] → sealing in_memory ends d answer ≡ sealed in_memory ends m d answer
+pub sealed_quiet : {H E : Type 0} (ends : Ends E) (m : Memory) (d : Draft Memory) (answer : H) → d.units ≡ []
+    → sealing in_memory ends d answer ≡ sealed in_memory ends m d answer
 unfolding sealed
 sealed_quiet {H} {E} ends m d answer none = rw (none, never_less (counters_left m.station)) refl
   where
@@ -184,7 +192,8 @@ sealed_quiet {H} {E} ends m d answer none = rw (none, never_less (counters_left 
 
 -- # A command
 
-module _ {H E : Type 0} (ends : Ends E) (puts : List Write) (m : Memory) (plain : List Sent) (made opened : List PairTag) (own to : ℕ) (load : Load) (now : ℕ) (answer : H) where
+module _ {H E : Type 0} (ends : Ends E) (puts : List Write) (m : Memory) (plain : List Sent) (made opened : List PairTag) (own to : ℕ) (load : Load) (now : ℕ)
+    (answer : H) where
   abbrev CommandPlan : Type 0
   CommandPlan =
       adding plain made opened (behind puts (within (λ l. with_station l m) (answer_if_sent ends answer) (command_alone m.station own to load now)))
@@ -208,7 +217,10 @@ module _ {H E : Type 0} (ends : Ends E) (puts : List Write) (m : Memory) (plain 
     answer = Ok answer;
     failed = Err ends.store;
     puts = puts ++ puts_of (reserve_write m.station.counter 0);
-    memory = record m { station = record m.station { counter = reserved m.station.counter 0; waiting = m.station.waiting ++ record { to = to; note = 0; since = now; load = load } ∷ [] } };
+    memory = record m {
+      station = record m.station
+          { counter = reserved m.station.counter 0; waiting = m.station.waiting ++ record { to = to; note = 0; since = now; load = load } ∷ [] };
+    };
     frames = plain ++ sealed_by m.station.ring m.station.counter.next [];
     made = append-nil made i;
     opened = append-nil opened i;
@@ -252,32 +264,39 @@ unfolding lack next_hop
 room_kept l r to octets h = record { lacks = h.lacks; left = h.left }
 
 module _ (to octets : ℕ) where
-  by_tests : {E : Type 0} (ends : Ends E) (word : Lack → E) (f : SendRefusal → E) (x : Option Lack) (b : Bool) → ((x : Lack) → f (lacking x) ≡ word x) → f CounterSpent ≡ ends.spent
+  by_tests : {E : Type 0} (ends : Ends E) (word : Lack → E) (f : SendRefusal → E) (x : Option Lack) (b : Bool) → ((x : Lack) → f (lacking x) ≡ word x)
+      → f CounterSpent ≡ ends.spent
       → option_map f (option_map lacking x then Some CounterSpent when b) ≡ (option_map word x then Some ends.spent when b)
   by_tests ends word f (Some x) b lacks spent = ap Some (lacks x)
   by_tests ends word f None true lacks spent = ap Some spent
   by_tests ends word f None false lacks spent = refl
 
   -- what the station says of the room, in other words
-  pub room_fault_as : {E : Type 0} (ends : Ends E) (word : Lack → E) (f : SendRefusal → E) (l : StationMemory) → ((x : Lack) → f (lacking x) ≡ word x) → f CounterSpent ≡ ends.spent
+  pub room_fault_as : {E : Type 0} (ends : Ends E) (word : Lack → E) (f : SendRefusal → E) (l : StationMemory) → ((x : Lack) → f (lacking x) ≡ word x)
+      → f CounterSpent ≡ ends.spent
       → option_map f (room_fault l to octets) ≡ command_fault ends word l to octets
   room_fault_as ends word f l lacks spent = by_tests ends word f (lack l to octets) (nat_lt (counters_left l) (command_frames l to)) lacks spent
 
   pub has_room : (l : StationMemory) → room_fault l to octets ≡ None → HasRoom l to octets
   has_room l free = by (lack l to octets) (nat_lt (counters_left l) (command_frames l to)) refl refl free
     where
-      by : (x : Option Lack) (b : Bool) → lack l to octets ≡ x → nat_lt (counters_left l) (command_frames l to) ≡ b → (option_map lacking x then Some CounterSpent when b) ≡ None → HasRoom l to octets
+      by : (x : Option Lack) (b : Bool) → lack l to octets ≡ x → nat_lt (counters_left l) (command_frames l to) ≡ b
+          → (option_map lacking x then Some CounterSpent when b) ≡ None → HasRoom l to octets
       by (Some x) b e t h = absurd (cc)
       by None true e t h = absurd (cc)
       by None false e t h = record { lacks = e; left = t }
 
   -- a command without room is refused
-  pub room_refuses : {H E : Type 0} (ends : Ends E) (word : Lack → E) (m : Memory) (d : Draft Memory) (answer : H) (reason : E) → command_fault ends word m.station to octets ≡ Some reason
-      → length d.units ≡ command_frames m.station to → refused ends m reason ≡ checked ends m (option_map word (lack m.station to octets)) (sealed in_memory ends m d answer)
+  pub room_refuses : {H E : Type 0} (ends : Ends E) (word : Lack → E) (m : Memory) (d : Draft Memory) (answer : H) (reason : E)
+      → command_fault ends word m.station to octets ≡ Some reason
+      → length d.units ≡ command_frames m.station to
+      → refused ends m reason ≡ checked ends m (option_map word (lack m.station to octets)) (sealed in_memory ends m d answer)
   unfolding checked sealed
-  room_refuses {H} {E} ends word m d answer reason fault long = by (lack m.station to octets) (nat_lt (counters_left m.station) (command_frames m.station to)) refl refl fault
+  room_refuses {H} {E} ends word m d answer reason fault long =
+      by (lack m.station to octets) (nat_lt (counters_left m.station) (command_frames m.station to)) refl refl fault
     where
-      by : (x : Option Lack) (b : Bool) → lack m.station to octets ≡ x → nat_lt (counters_left m.station) (command_frames m.station to) ≡ b → (option_map word x then Some ends.spent when b) ≡ Some reason
+      by : (x : Option Lack) (b : Bool) → lack m.station to octets ≡ x → nat_lt (counters_left m.station) (command_frames m.station to) ≡ b
+          → (option_map word x then Some ends.spent when b) ≡ Some reason
           → refused ends m reason ≡ checked ends m (option_map word (lack m.station to octets)) (sealed in_memory ends m d answer)
       by (Some x) b e t h = rw e (ap (λ r. refused {H = H} ends m r) (sym (some_same h)))
         where
@@ -290,13 +309,15 @@ module _ (to octets : ℕ) where
       by None false e t h = absurd (cc)
 
   -- and one with room goes
-  pub room_seals : {H E : Type 0} (ends : Ends E) (word : Lack → E) (m : Memory) (d : Draft Memory) (answer : H) → HasRoom m.station to octets → length d.units ≡ command_frames m.station to
+  pub room_seals : {H E : Type 0} (ends : Ends E) (word : Lack → E) (m : Memory) (d : Draft Memory) (answer : H) → HasRoom m.station to octets
+      → length d.units ≡ command_frames m.station to
       → sealing in_memory ends d answer ≡ checked ends m (option_map word (lack m.station to octets)) (sealed in_memory ends m d answer)
   unfolding checked sealed
   room_seals {H} {E} ends word m d answer h long = rw (h.lacks, long, h.left) refl
 
 module _ (own to : ℕ) (octets : List ℕ) (now : ℕ) where
-  by_hops : (l : StationMemory) (hop : Option ℕ) (b : Bool) → next_hop l to ≡ hop → is_awaited l to ≡ b → length (sets_out own to 0 (Command octets) now (empty_draft l)).units ≡ command_frames l to
+  by_hops : (l : StationMemory) (hop : Option ℕ) (b : Bool) → next_hop l to ≡ hop → is_awaited l to ≡ b
+      → length (sets_out own to 0 (Command octets) now (empty_draft l)).units ≡ command_frames l to
   unfolding empty_draft body_goes waits seeks_once goes with_own_number
   by_hops l (Some hop) b e a = rw e refl
   by_hops l None true e a = rw (e, a) refl
@@ -307,11 +328,13 @@ module _ (own to : ℕ) (octets : List ℕ) (now : ℕ) where
   sent_from l h = rw (h.lacks, by_hops l (next_hop l to) (is_awaited l to) refl refl, h.left) refl
 
   -- a command with room is sent as it is
-  pub command_sent : (l : StationMemory) → address_of l ≡ Some own → HasRoom l to (length octets) → command_alone l own to (Command octets) now ≡ send_command l to octets now
+  pub command_sent : (l : StationMemory) → address_of l ≡ Some own → HasRoom l to (length octets)
+      → command_alone l own to (Command octets) now ≡ send_command l to octets now
   command_sent l address h =
       sent_from l h ∙ ap (λ (a : Option ℕ). option_map_or (λ from. command_from l from to octets now) a (refused sending_ends l NotJoined)) (sym address)
 
-  by_ways : (puts : List Write) (m : Memory) (plain : List Sent) (made opened : List PairTag) (hop : Option ℕ) (b : Bool) → next_hop m.station to ≡ hop → is_awaited m.station to ≡ b
+  by_ways : (puts : List Write) (m : Memory) (plain : List Sent) (made opened : List PairTag) (hop : Option ℕ) (b : Bool) → next_hop m.station to ≡ hop
+      → is_awaited m.station to ≡ b
       → length (on_station (sets_out own to 0 (Command octets) now) (begun puts m plain made opened)).units ≡ command_frames m.station to
   unfolding on_station body_goes waits seeks_once goes with_own_number
   by_ways puts m plain made opened (Some hop) b e a = rw e refl
@@ -340,7 +363,8 @@ pub record CutOff {M A : Type 0} (s : State M) (p : Plan M A) (out : Out) (t : S
   pub eui : t.eui ≡ s.eui
   pub out_is : out ≡ given p false
 
-pub carried_whole : {M H E : Type 0} (s t : State M) (p : Plan M (Result H E)) (x : H) (reason : E) (out : Out) → p.failed ≡ Err reason → Carries s p (Ok x) out t → Whole s p (Ok x) out t
+pub carried_whole : {M H E : Type 0} (s t : State M) (p : Plan M (Result H E)) (x : H) (reason : E) (out : Out) → p.failed ≡ Err reason
+    → Carries s p (Ok x) out t → Whole s p (Ok x) out t
 carried_whole {M} {H} {E} s t p x reason out failed c = by c.done refl
   where
     by : (d : Bool) → c.done ≡ d → Whole s p (Ok x) out t
@@ -356,7 +380,8 @@ carried_whole {M} {H} {E} s t p x reason out failed c = by c.done refl
         differ : ◌≡◌ {A = Result H E} (Ok x) (Err reason) → ⊥
         differ h = cc
 
-pub carried_cut : {M H E : Type 0} (s t : State M) (p : Plan M (Result H E)) (x : H) (reason : E) (out : Out) → p.answer ≡ Ok x → Carries s p (Err reason) out t → CutOff s p out t
+pub carried_cut : {M H E : Type 0} (s t : State M) (p : Plan M (Result H E)) (x : H) (reason : E) (out : Out) → p.answer ≡ Ok x → Carries s p (Err reason) out t
+    → CutOff s p out t
 carried_cut {M} {H} {E} s t p x reason out answer c = by c.done refl
   where
     by : (d : Bool) → c.done ≡ d → CutOff s p out t
@@ -375,7 +400,8 @@ carried_cut {M} {H} {E} s t p x reason out answer c = by c.done refl
 
 -- the ring alone, and what a put of it leaves
 abbrev pub ring_alone : StationMemory → Ring → Ringing
-ring_alone l r = record { answer = Ok tt; failed = Err RingStore; puts = puts_of (ring_write r); memory = record l { ring = r }; frames = []; made = []; opened = [] }
+ring_alone l r =
+    record { answer = Ok tt; failed = Err RingStore; puts = puts_of (ring_write r); memory = record l { ring = r }; frames = []; made = []; opened = [] }
 
 pub ring_plan : (l : StationMemory) (r : Ring) → l.counter.next ≤ l.counter.limit → ring_ends (with_ring r (empty_draft l)) ≡ ring_alone l r
 unfolding with_ring empty_draft
@@ -390,8 +416,12 @@ ring_plan l r below = λ i. record {
 }
 
 -- a grant is installed, or its put failed
-pub installed : (s t : State StationMemory) (l : StationMemory) (g : Granted) (u : Unit {0}) (out : Out) → l.counter.next ≤ l.counter.limit → Carries s (install l g) (Ok u) out t → Whole s (ring_alone l (Some g)) (Ok u) out t
-installed s t l g u out below c = carried_whole s t (ring_alone l (Some g)) u RingStore out refl (subst (λ (p : Ringing). Carries s p (Ok u) out t) (ring_plan l (Some g) below) c)
+pub installed : (s t : State StationMemory) (l : StationMemory) (g : Granted) (u : Unit {0}) (out : Out) → l.counter.next ≤ l.counter.limit
+    → Carries s (install l g) (Ok u) out t → Whole s (ring_alone l (Some g)) (Ok u) out t
+installed s t l g u out below c =
+    carried_whole s t (ring_alone l (Some g)) u RingStore out refl (subst (λ (p : Ringing). Carries s p (Ok u) out t) (ring_plan l (Some g) below) c)
 
-pub not_installed : (s t : State StationMemory) (l : StationMemory) (g : Granted) (reason : RingFault) (out : Out) → l.counter.next ≤ l.counter.limit → Carries s (install l g) (Err reason) out t → CutOff s (ring_alone l (Some g)) out t
-not_installed s t l g reason out below c = carried_cut s t (ring_alone l (Some g)) tt reason out refl (subst (λ (p : Ringing). Carries s p (Err reason) out t) (ring_plan l (Some g) below) c)
+pub not_installed : (s t : State StationMemory) (l : StationMemory) (g : Granted) (reason : RingFault) (out : Out) → l.counter.next ≤ l.counter.limit
+    → Carries s (install l g) (Err reason) out t → CutOff s (ring_alone l (Some g)) out t
+not_installed s t l g reason out below c =
+    carried_cut s t (ring_alone l (Some g)) tt reason out refl (subst (λ (p : Ringing). Carries s p (Err reason) out t) (ring_plan l (Some g) below) c)

@@ -31,9 +31,14 @@ use Rattle.node_rules.specs.Hearing.{dropped}
 use Rattle.node_rules.specs.Joining.{message, server_for}
 use Rattle.eap_psk.specs.Sessions.{rand_p_in}
 use Rattle.node_rules.specs.MemoryDrafts.{with_memory_by, is_commanded, in_memory, oldest, Unread, unread}
-use Rattle.node_rules.specs.Coordinators.{CoordinatorIdentity, Hearing, drop_it, ends, session_of, allowed_entry, grant_for, declines, challenges, open_session, asked, keys_for, take_second, accepts, take_fourth, take_packet, answered, hear_join, hear_join_in, heard_by, hear_coordinator, with_book_entry, changed, Ordering, orders, allow, depot_by, depot, rekey, activate_self, challenge_by, challenge_at, challenge, allowed_address, activate_by, activate, kick_by, kick, changes, kick_goes, without_session}
+use Rattle.node_rules.specs.Coordinators.{CoordinatorIdentity, Hearing, drop_it, ends, session_of, allowed_entry, grant_for, declines, challenges, open_session}
+use Rattle.node_rules.specs.Coordinators.{asked, keys_for, take_second, accepts, take_fourth, take_packet, answered, hear_join, hear_join_in, heard_by}
+use Rattle.node_rules.specs.Coordinators.{hear_coordinator, with_book_entry, changed, Ordering, orders, allow, depot_by, depot, rekey, activate_self}
+use Rattle.node_rules.specs.Coordinators.{challenge_by, challenge_at, challenge, allowed_address, activate_by, activate, kick_by, kick, changes, kick_goes}
+use Rattle.node_rules.specs.Coordinators.{without_session}
 use Rattle.node_rules.proofs.Shapes.{Rests, rests_shape, checked_shape, choose_shape, sealed_shape, sealing_shape, option_shape}
-use Rattle.node_rules.proofs.TablePuts.{Membership, RingOf, EntryOf, Does, Began, SameHome, key_home, active_home, memory_does, begins, rings, commands_does, remembers, enters, enters_first, enters_session, place_for_again, place_for_small, quiet_does}
+use Rattle.node_rules.proofs.TablePuts.{Membership, RingOf, EntryOf, Does, Began, SameHome, key_home, active_home, memory_does, begins, rings, commands_does}
+use Rattle.node_rules.proofs.TablePuts.{remembers, enters, enters_first, enters_session, place_for_again, place_for_small, quiet_does}
 use Rattle.node_rules.proofs.HearingShapes.{StationShape, hear_shape}
 use Rattle.node_rules.proofs.MemoryDraftShapes.{MemoryShape, within_shape}
 
@@ -70,7 +75,8 @@ module _ (Home : Membership → Type 0) (entered : (e : BookEntry) → Home (Ent
 
   open_shape : (way : Way) (eui : Eui) (now : ℕ) → IsRule (open_session own m way eui now)
   open_shape way eui now = passed _ _
-      (by_option (λ value. challenges m way (server_for eui own.eui value) now) (oldest m) (drop_it m drops.NoRandom) (λ value. challenges_shape way (server_for eui own.eui value) now) (Rests _))
+      (by_option (λ value. challenges m way (server_for eui own.eui value) now) (oldest m) (drop_it m drops.NoRandom)
+      (λ value. challenges_shape way (server_for eui own.eui value) now) (Rests _))
 
   asked_shape : (way : Way) (eui : Eui) (now : ℕ) → IsRule (asked own m way eui now)
   asked_shape way eui now = chosen _ _ _ (open_shape way eui now) (declines_shape way _ now)
@@ -97,10 +103,12 @@ module _ (Home : Membership → Type 0) (entered : (e : BookEntry) → Home (Ent
       by_way (Mesh origin) is = rw is (search (words, entered) depth 16)
 
   packet_shape : (e : BookEntry) (packet : List ℕ) (now : ℕ) (s : CoordinatorSession) → IsRule (take_packet own m e packet now s)
-  packet_shape e packet now s = by_option (λ rand_p. take_fourth own m s e packet rand_p now) s.server.rand_p (take_second own m s e packet now) (λ rand_p. fourth_shape s e packet rand_p now) (second_shape s e packet now)
+  packet_shape e packet now s = by_option (λ rand_p. take_fourth own m s e packet rand_p now) s.server.rand_p (take_second own m s e packet now)
+      (λ rand_p. fourth_shape s e packet rand_p now) (second_shape s e packet now)
 
   answered_shape : (eui : Eui) (packet : List ℕ) (now : ℕ) → IsRule (answered own m eui packet now)
-  answered_shape eui packet now = by_option (λ e. option_map_or (take_packet own m e packet now) (session_of m eui) (drop_it m drops.NoSession)) (allowed_entry m eui) (drop_it m drops.NotAllowed)
+  answered_shape eui packet now = by_option (λ e. option_map_or (take_packet own m e packet now) (session_of m eui) (drop_it m drops.NoSession))
+      (allowed_entry m eui) (drop_it m drops.NotAllowed)
       (λ e. by_option (take_packet own m e packet now) (session_of m eui) (drop_it m drops.NoSession) (λ s. packet_shape e packet now s) (Rests _)) (Rests _)
 
   join_shape : (way : Way) (eui : Eui) (b : JoinBody) (now : ℕ) → IsRule (hear_join own m way eui b now)
@@ -112,7 +120,8 @@ module _ (Home : Membership → Type 0) (entered : (e : BookEntry) → Home (Ent
   join_in_shape way None now = Rests _
   join_in_shape way (Some join) now = chosen _ _ _ (join_shape way join.eui join.body now) (Rests _)
 
-  heard_by_shape : (now : ℕ) (p : Plan StationMemory (Result Heard Dropped)) (u : Option Unread) → StationShape Home m.book m.station p → IsRule (heard_by own m now p u)
+  heard_by_shape : (now : ℕ) (p : Plan StationMemory (Result Heard Dropped)) (u : Option Unread) → StationShape Home m.book m.station p
+      → IsRule (heard_by own m now p u)
   heard_by_shape now p None s = within_shape Home heard.Station m p s
   heard_by_shape now p (Some u) s = join_in_shape u.way (join_in u.body) now
 
@@ -134,7 +143,8 @@ module _ (Home : Membership → Type 0) (entered : (e : BookEntry) → Home (Ent
   changed_began : (e : BookEntry) → Began Home m.book m.station (changed m e)
   changed_began e = by_change (changes m e)
     where
-      by_change : (b : Bool) → Began Home m.book m.station (if b then with_memory_by (without_session e.eui) (with_book_entry e (empty_draft m)) else empty_draft m)
+      by_change : (b : Bool) → Began Home m.book m.station
+          (if b then with_memory_by (without_session e.eui) (with_book_entry e (empty_draft m)) else empty_draft m)
       by_change true = remembers Home m.book m.station _ _ (enters_first Home m e (entered e))
       by_change false = begins Home m.book m.station m
 
@@ -143,7 +153,8 @@ module _ (Home : Membership → Type 0) (entered : (e : BookEntry) → Home (Ent
   unfolding empty_draft with_memory_by with_book_entry
   changed_place e = by_change (changes m e)
     where
-      by_change : (b : Bool) → let d : Draft Memory = (if b then with_memory_by (without_session e.eui) (with_book_entry e (empty_draft m)) else empty_draft m) in book.place_for d.memory.book e.eui ≤ length m.book
+      by_change : (b : Bool) → let d : Draft Memory = (if b then with_memory_by (without_session e.eui) (with_book_entry e (empty_draft m))
+          else empty_draft m) in book.place_for d.memory.book e.eui ≤ length m.book
       by_change true = place_for_again m.book e
       by_change false = place_for_small m.book e.eui
 
@@ -157,12 +168,18 @@ module _ (Home : Membership → Type 0) (entered : (e : BookEntry) → Home (Ent
   pub allow_shape_of : (eui : Eui) (psk : Key) → MemoryShape Home orders m (allow m eui psk)
   allow_shape_of eui psk =
       let e = book.allowed_entry eui psk (book.entry_for m.book eui) in
-      by_choice _ _ _ (sealing_shape in_memory orders m (Does Home m.book m.station) (changed m e) (book.place_for m.book eui + 1) (quiet_does Home m.book m.station _ (changed_began e))) (Rests _)
+      by_choice _ _ _ (sealing_shape in_memory orders m (Does Home m.book m.station) (changed m e) (book.place_for m.book eui + 1)
+      (quiet_does Home m.book m.station _ (changed_began e))) (Rests _)
 
-  depot_by_shape : (eui : Eui) (psk : Key) (d : Draft Memory) → book.place_for d.memory.book eui ≤ length m.book → Began Home m.book m.station d → MemoryShape Home orders m (depot_by m eui psk d)
-  depot_by_shape eui psk d small f = by_part (λ granted. option_map_or (λ e. sealing in_memory orders (with_book_entry (book.issued_entry eui granted e) d) granted) (book.allowed_one d.memory.book eui) (refused orders m refusal.MetersFull)) (grant_for d.memory eui) (refused orders m refusal.MetersFull)
-      (λ granted. by_part (λ e. sealing in_memory orders (with_book_entry (book.issued_entry eui granted e) d) granted) (book.allowed_one d.memory.book eui) (refused orders m refusal.MetersFull)
-      (λ e. sealing_shape _ _ _ _ _ _ (quiet_does Home m.book m.station _ (enters Home m.book m.station (book.issued_entry eui granted e) d small (entered _) f))) (Rests _)) (Rests _)
+  depot_by_shape : (eui : Eui) (psk : Key) (d : Draft Memory) → book.place_for d.memory.book eui ≤ length m.book → Began Home m.book m.station d
+      → MemoryShape Home orders m (depot_by m eui psk d)
+  depot_by_shape eui psk d small f = by_part (λ granted. option_map_or
+      (λ e. sealing in_memory orders (with_book_entry (book.issued_entry eui granted e) d) granted) (book.allowed_one d.memory.book eui)
+      (refused orders m refusal.MetersFull)) (grant_for d.memory eui) (refused orders m refusal.MetersFull)
+      (λ granted. by_part (λ e. sealing in_memory orders (with_book_entry (book.issued_entry eui granted e) d) granted) (book.allowed_one d.memory.book eui)
+      (refused orders m refusal.MetersFull)
+      (λ e. sealing_shape _ _ _ _ _ _
+      (quiet_does Home m.book m.station _ (enters Home m.book m.station (book.issued_entry eui granted e) d small (entered _) f))) (Rests _)) (Rests _)
 
   -- the entry that allows a meter is that meter's
   allows_meter : (eui : Eui) (psk : Key) (before : Option BookEntry) → (book.allowed_entry eui psk before).eui ≡ eui
@@ -172,7 +189,8 @@ module _ (Home : Membership → Type 0) (entered : (e : BookEntry) → Home (Ent
   pub depot_shape_of : (eui : Eui) (psk : Key) → MemoryShape Home orders m (depot m eui psk)
   depot_shape_of eui psk =
       let e = book.allowed_entry eui psk (book.entry_for m.book eui) in
-      by_choice _ _ _ (depot_by_shape eui psk (changed m e) (subst (λ x. book.place_for (changed m e).memory.book x ≤ length m.book) (allows_meter eui psk (book.entry_for m.book eui)) (changed_place e)) (changed_began e)) (Rests _)
+      by_choice _ _ _ (depot_by_shape eui psk (changed m e) (subst (λ x. book.place_for (changed m e).memory.book x ≤ length m.book)
+      (allows_meter eui psk (book.entry_for m.book eui)) (changed_place e)) (changed_began e)) (Rests _)
 
   pub rekey_shape_of : (index : ℕ) (key : Key) → Home (RingOf (ring.with_key m.station.ring index key)) → MemoryShape Home orders m (rekey m index key)
   rekey_shape_of index key put = by_choice _ _ _ (Rests _) (sealing_shape _ _ _ _ _ _ (quiet_does Home m.book m.station _
@@ -187,17 +205,21 @@ module _ (Home : Membership → Type 0) (entered : (e : BookEntry) → Home (Ent
 
   challenge_at_shape : (eui : Eui) (now to : ℕ) → MemoryShape Home orders m (challenge_at own.eui m eui now to)
   challenge_at_shape eui now to = checked_shape _ _ _ _ _ _
-      (by_part (λ value. challenge_by own.eui m to now (server_for eui own.eui value)) (oldest m) (refused orders m refusal.NoRandom) (λ value. challenge_by_shape to now (server_for eui own.eui value)) (Rests _))
+      (by_part (λ value. challenge_by own.eui m to now (server_for eui own.eui value)) (oldest m) (refused orders m refusal.NoRandom)
+      (λ value. challenge_by_shape to now (server_for eui own.eui value)) (Rests _))
 
   pub challenge_shape_of : (eui : Eui) (now : ℕ) → MemoryShape Home orders m (challenge own.eui m eui now)
-  challenge_shape_of eui now = by_part (challenge_at own.eui m eui now) (allowed_address m eui) (refused orders m refusal.NotAllowed) (λ to. challenge_at_shape eui now to) (Rests _)
+  challenge_shape_of eui now =
+      by_part (challenge_at own.eui m eui now) (allowed_address m eui) (refused orders m refusal.NotAllowed) (λ to. challenge_at_shape eui now to) (Rests _)
 
   activate_by_shape : (e : BookEntry) (index now to : ℕ) → MemoryShape Home orders m (activate_by m e index now to)
   activate_by_shape e index now to = search (words, entered) depth 16
 
   pub activate_shape_of : (eui : Eui) (index now : ℕ) → MemoryShape Home orders m (activate m eui index now)
-  activate_shape_of eui index now = by_part (λ e. option_map_or (activate_by m e index now) (book.address_of m.book eui) (refused orders m refusal.NotAllowed)) (allowed_entry m eui) (refused orders m refusal.NotAllowed)
-      (λ e. by_part (activate_by m e index now) (book.address_of m.book eui) (refused orders m refusal.NotAllowed) (λ to. activate_by_shape e index now to) (Rests _)) (Rests _)
+  activate_shape_of eui index now = by_part (λ e. option_map_or (activate_by m e index now) (book.address_of m.book eui) (refused orders m refusal.NotAllowed))
+      (allowed_entry m eui) (refused orders m refusal.NotAllowed)
+      (λ e. by_part (activate_by m e index now) (book.address_of m.book eui) (refused orders m refusal.NotAllowed) (λ to. activate_by_shape e index now to)
+      (Rests _)) (Rests _)
 
   kick_by_shape : (e : BookEntry) (to : ℕ) → MemoryShape Home orders m (kick_by m e to)
   kick_by_shape e to = sealing_shape in_memory orders m (Does Home m.book m.station)
@@ -205,7 +227,8 @@ module _ (Home : Membership → Type 0) (entered : (e : BookEntry) → Home (Ent
       (kick_goes_does to _ _ (remembers Home m.book m.station _ _ (enters_first Home m (book.kicked_entry e.eui e) (entered _))))
 
   pub kick_shape_of : (eui : Eui) → MemoryShape Home orders m (kick m eui)
-  kick_shape_of eui = by_part (λ e. option_map_or (kick_by m e) (book.address_of m.book eui) (refused orders m refusal.NotAllowed)) (allowed_entry m eui) (refused orders m refusal.NotAllowed)
+  kick_shape_of eui = by_part (λ e. option_map_or (kick_by m e) (book.address_of m.book eui) (refused orders m refusal.NotAllowed)) (allowed_entry m eui)
+      (refused orders m refusal.NotAllowed)
       (λ e. by_part (kick_by m e) (book.address_of m.book eui) (refused orders m refusal.NotAllowed) (λ to. kick_by_shape e to) (Rests _)) (Rests _)
 
 -- # Of the coordinator's own rings

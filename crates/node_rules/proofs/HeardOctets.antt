@@ -26,7 +26,8 @@ use Rattle.node_rules.specs.declared.refusal.Dropped.TheVariants.{BadUnit}
 use Rattle.node_rules.specs.Memory.{StationMemory, address_of, next_hop}
 use Rattle.node_rules.specs.Plans.{resting}
 use Rattle.node_rules.specs.Drafts.{Draft, alone, sealed, sealing, checked, choose, counters_left}
-use Rattle.node_rules.specs.Hearing.{Hearing, dropped, drop_it, ends, rank_over, hear_reply_for, report_by, forward_by, gathered, hear_message, hear_message_in, hear_over_mesh, hear_sealed, is_joining, hear_plain, hear_unit, hear_unit_in, hear}
+use Rattle.node_rules.specs.Hearing.{Hearing, dropped, drop_it, ends, rank_over, hear_reply_for, report_by, forward_by, gathered, hear_message, hear_message_in}
+use Rattle.node_rules.specs.Hearing.{hear_over_mesh, hear_sealed, is_joining, hear_plain, hear_unit, hear_unit_in, hear}
 use Rattle.node_rules.specs.MemoryDrafts.{Unread, unread}
 use Rattle.node_rules.specs.OctetLaws.{WayFits, UnreadFits, UnreadsAreOctets}
 
@@ -129,7 +130,8 @@ module _ (l : StationMemory) (cost note now : ℕ) where
   sealed_is own by all (units.Part mesh piece) are = choose_is _ _ _ (drop_is _) (mesh_is own (units.Part mesh piece) are)
   sealed_is own by all (units.Carried mesh body) are = choose_is _ _ _ (drop_is _) (mesh_is own (units.Carried mesh body) are)
 
-  plain_is : (answer : List ℕ → Heard) → ((body : List ℕ) → AreOctets body → Brings (answer body)) → (unit : MeshUnit) → UnitBrings unit → Is (hear_plain l answer (is_joining unit))
+  plain_is : (answer : List ℕ → Heard) → ((body : List ℕ) → AreOctets body → Brings (answer body)) → (unit : MeshUnit) → UnitBrings unit
+      → Is (hear_plain l answer (is_joining unit))
   plain_is answer f (units.Local code body) are = by_code (code == 2)
     where
       by_code : (b : Bool) → Is (hear_plain l answer (if b then Some body else None))
@@ -156,7 +158,8 @@ module _ (l : StationMemory) (cost note now : ℕ) where
       by_unit (Some unit) e = unit_is got.path unit (unit_brings got.payload unit are e)
 
 -- what is handed on unread is octets, from one node where it came over the mesh
-unread_fits : (l : StationMemory) (got : Accepted) (cost note now : ℕ) (u : Unread) → AreOctets got.payload → unread (hear l got cost note now).answer ≡ Some u → AreOctets u.body × WayFits u.way
+unread_fits : (l : StationMemory) (got : Accepted) (cost note now : ℕ) (u : Unread) → AreOctets got.payload → unread (hear l got cost note now).answer ≡ Some u
+    → AreOctets u.body × WayFits u.way
 unread_fits l got cost note now u are = by_answer (hear l got cost note now).answer (hear_names l cost note now got are)
   where
     by_answer : (r : Result Heard Dropped) → Tells r → unread r ≡ Some u → AreOctets u.body × WayFits u.way

@@ -24,7 +24,9 @@ use Rattle.node_rules.specs.declared.refusal.Dropped.TheVariants.{BufferFull, Ba
 use Rattle.node_rules.specs.Memory.{StationMemory, address_of, next_hop}
 use Rattle.node_rules.specs.Plans.{resting}
 use Rattle.node_rules.specs.Drafts.{alone}
-use Rattle.node_rules.specs.Hearing.{Hearing, dropped, drop_it, hear_request, hear_reply_for, hear_reply, hear_error, pass_error_on, loses, forward_by, forward, report_by, gathered, gather, hear_message, hear_message_in, hear_command, hear_over_mesh, hear_sealed, hear_plain, is_joining, hear_unit, hear_unit_in, hear}
+use Rattle.node_rules.specs.Hearing.{Hearing, dropped, drop_it, hear_request, hear_reply_for, hear_reply, hear_error, pass_error_on, loses, forward_by, forward}
+use Rattle.node_rules.specs.Hearing.{report_by, gathered, gather, hear_message, hear_message_in, hear_command, hear_over_mesh, hear_sealed, hear_plain}
+use Rattle.node_rules.specs.Hearing.{is_joining, hear_unit, hear_unit_in, hear}
 use Rattle.node_rules.proofs.Shapes.{Shape, Rests, Keeps, rests_shape, checked_shape, choose_shape, sealed_shape}
 use Rattle.node_rules.proofs.TablePuts.{Membership, Does, station_does, error_does, error_on_does}
 
@@ -70,14 +72,16 @@ module _ (R : Membership → Type 0) (listed : Book) (l : StationMemory) where
   unfolding gathered resting
   full_shape from = Rests (Err BufferFull)
 
-  by_room : (b : Bool) (from : ℕ) (t : pieces.Taking) → Came t → StationShape R listed l (gathered l from (if b then t else record { held = l.reassemblies; outcome = pieces.Full }))
+  by_room : (b : Bool) (from : ℕ) (t : pieces.Taking) → Came t
+      → StationShape R listed l (gathered l from (if b then t else record { held = l.reassemblies; outcome = pieces.Full }))
   by_room true from t c = came_shape from t c
   by_room false from t c = full_shape from
 
   gather_shape : (from : ℕ) (piece : Placed) (note now : ℕ) → StationShape R listed l (gather l from piece note now)
   unfolding pieces.taken
   gather_shape from piece note now =
-      by_room (pieces.has_room l.reassemblies (piece_begun from piece note now)) from _ (taken_came l.reassemblies (piece_begun from piece note now) (placed piece))
+      by_room (pieces.has_room l.reassemblies (piece_begun from piece note now)) from _
+      (taken_came l.reassemblies (piece_begun from piece note now) (placed piece))
 
   -- # The rules
 
@@ -117,7 +121,8 @@ module _ (R : Membership → Type 0) (listed : Book) (l : StationMemory) where
   message_shape own by false cost now (Rrep number c origin to) = reply_shape own by origin to _ now
   message_shape own by false cost now (Rerr lost to) = error_shape own by lost to
 
-  message_in_shape : (own by : ℕ) (all : Bool) (cost now : ℕ) (message : Option Message) → StationShape R listed l (hear_message_in l own by all cost now message)
+  message_in_shape : (own by : ℕ) (all : Bool) (cost now : ℕ) (message : Option Message)
+      → StationShape R listed l (hear_message_in l own by all cost now message)
   message_in_shape own by all cost now None = search words depth 16
   message_in_shape own by all cost now (Some message) = message_shape own by all cost now message
 
@@ -132,15 +137,18 @@ module _ (R : Membership → Type 0) (listed : Book) (l : StationMemory) where
 
   sealed_unit_shape : (own by : ℕ) (all : Bool) (unit : MeshUnit) (cost note now : ℕ) → StationShape R listed l (hear_sealed l own by all unit cost note now)
   sealed_unit_shape own by all (units.Local code body) cost note now = command_shape own by all code body cost now
-  sealed_unit_shape own by all (units.Whole mesh octets) cost note now = choose_shape _ _ _ _ _ _ _ (Rests _) (mesh_shape own (units.Whole mesh octets) note now)
+  sealed_unit_shape own by all (units.Whole mesh octets) cost note now =
+      choose_shape _ _ _ _ _ _ _ (Rests _) (mesh_shape own (units.Whole mesh octets) note now)
   sealed_unit_shape own by all (units.Part mesh piece) cost note now = choose_shape _ _ _ _ _ _ _ (Rests _) (mesh_shape own (units.Part mesh piece) note now)
-  sealed_unit_shape own by all (units.Carried mesh body) cost note now = choose_shape _ _ _ _ _ _ _ (Rests _) (mesh_shape own (units.Carried mesh body) note now)
+  sealed_unit_shape own by all (units.Carried mesh body) cost note now =
+      choose_shape _ _ _ _ _ _ _ (Rests _) (mesh_shape own (units.Carried mesh body) note now)
 
   plain_shape : (answer : List ℕ → Heard) (body : Option (List ℕ)) → StationShape R listed l (hear_plain l answer body)
   plain_shape answer None = Rests _
   plain_shape answer (Some body) = Rests _
 
-  addressed_shape : (own : Option ℕ) (by : ℕ) (all : Bool) (unit : MeshUnit) (cost note now : ℕ) → StationShape R listed l (option_map_or (λ a. hear_sealed l a by all unit cost note now) own (drop_it l BadUnit))
+  addressed_shape : (own : Option ℕ) (by : ℕ) (all : Bool) (unit : MeshUnit) (cost note now : ℕ)
+      → StationShape R listed l (option_map_or (λ a. hear_sealed l a by all unit cost note now) own (drop_it l BadUnit))
   addressed_shape None by all unit cost note now = Rests _
   addressed_shape (Some own) by all unit cost note now = sealed_unit_shape own by all unit cost note now
 

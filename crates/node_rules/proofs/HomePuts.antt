@@ -25,7 +25,8 @@ use Rattle.node_rules.proofs.TablePuts.{Membership, RingOf, EntryOf, PutOf, OfFl
 use Rattle.node_rules.proofs.TablePlans.{plan_puts, accept_puts, local_puts, near_puts, begin_puts}
 use Rattle.node_rules.proofs.HearingShapes.{hear_shape}
 use Rattle.node_rules.proofs.CallShapes.{accept_shape, send_shape, send_command_shape}
-use Rattle.node_rules.proofs.CoordinatorShapes.{HomeOf, coordinator_shape, allow_shape, depot_shape, rekey_shape, activate_self_shape, challenge_shape, activate_shape, kick_shape}
+use Rattle.node_rules.proofs.CoordinatorShapes.{HomeOf, coordinator_shape, allow_shape, depot_shape, rekey_shape, activate_self_shape, challenge_shape}
+use Rattle.node_rules.proofs.CoordinatorShapes.{activate_shape, kick_shape}
 
 -- # What a ring's octets read as
 
@@ -38,7 +39,8 @@ grant_home octets zero_first = by_keys (held_in (take 17 (drop 3 octets))) (held
     by_test false address active key0 key1 e = tt
 
     by_keys : (k0 k1 : Option (Option Key))
-        → IfSome (option_map Some (option_map_or (λ key0. option_map_or (λ key1. ring.grant_of (big_number 2 octets) (slice_index octets 2) key0 key1) k1 None) k0 None)) IsHome
+        → IfSome (option_map Some (option_map_or (λ key0. option_map_or (λ key1. ring.grant_of (big_number 2 octets) (slice_index octets 2) key0 key1) k1 None)
+        k0 None)) IsHome
     by_keys None k1 = tt
     by_keys (Some key0) None = tt
     by_keys (Some key0) (Some key1) =
@@ -86,12 +88,17 @@ pub coordinators_home : CoordinatorsWriteHome
 coordinators_home own m home = record {
   accepts = λ a. at _ (accept_puts (HomeOf m) m.book m.station _ (accept_shape m.station own.eui a));
   hears = λ got cost note now. at _ (plan_puts (HomeOf m) m.book m.station in_memory _ m _ (coordinator_shape own m got cost note now));
-  station_hears = λ got cost note now. at _ (plan_puts (HomeOf m) m.book m.station alone _ m.station _ (hear_shape (HomeOf m) m.book m.station got cost note now));
+  station_hears =
+      λ got cost note now. at _ (plan_puts (HomeOf m) m.book m.station alone _ m.station _ (hear_shape (HomeOf m) m.book m.station got cost note now));
   sends = λ to octets note now. at _ (plan_puts (HomeOf m) m.book m.station alone _ m.station _ (send_shape (HomeOf m) m.book m.station to octets note now));
   commands = λ to octets now. at _ (plan_puts (HomeOf m) m.book m.station alone _ m.station _ (send_command_shape (HomeOf m) m.book m.station to octets now));
   sends_local = λ code to body. at _ (local_puts (HomeOf m) m.book m.station code to body);
-  counter = λ value. at (calls.preset_counter m.station value).puts (All-cons (PutOf (HomeOf m) m.book m.station) _ [] (OfNumber counter.limit_at value (omega arith) (omega arith)) (All-nil (PutOf (HomeOf m) m.book m.station)));
-  number = λ value. at (calls.preset_number m.station value).puts (All-cons (PutOf (HomeOf m) m.book m.station) _ [] (OfNumber own_number.limit_at value (omega arith) (omega arith)) (All-nil (PutOf (HomeOf m) m.book m.station)));
+  counter = λ value. at (calls.preset_counter m.station value).puts
+      (All-cons (PutOf (HomeOf m) m.book m.station) _ [] (OfNumber counter.limit_at value (omega arith) (omega arith))
+      (All-nil (PutOf (HomeOf m) m.book m.station)));
+  number = λ value. at (calls.preset_number m.station value).puts
+      (All-cons (PutOf (HomeOf m) m.book m.station) _ [] (OfNumber own_number.limit_at value (omega arith) (omega arith))
+      (All-nil (PutOf (HomeOf m) m.book m.station)));
   near = λ to cost now. at _ (near_puts (HomeOf m) m.book m.station to cost now);
   begins = λ granted zero. all_home HomeMembership m.book m.station (λ r h. h) _ (begin_puts HomeMembership m granted zero);
   allows = λ eui psk. at _ (plan_puts (HomeOf m) m.book m.station in_memory _ m _ (allow_shape own m eui psk));

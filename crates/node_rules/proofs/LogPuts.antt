@@ -1,5 +1,6 @@
 -- No plan writes a slot of the log of broadcasts.
-use Rattle.std.proofs.Common.{◌≡◌, ◌≢◌, ◌⊎◌, inl, inr, ◌<◌, ◌≤◌, refl, sym, ◌∙◌, ℕ, Bool, true, false, List, [], length, Option, Some, None, Result, Ok, Err, arith}
+use Rattle.std.proofs.Common.{◌≡◌, ◌≢◌, ◌⊎◌, inl, inr, ◌<◌, ◌≤◌, refl, sym, ◌∙◌, ℕ, Bool, true, false, List, [], length, Option, Some, None, Result, Ok, Err}
+use Rattle.std.proofs.Common.{arith}
 use Rattle.std.specs.Prelude.{All, is_some}
 use Rattle.std.proofs.lemmas.List.Elements.{All-nil, All-cons}
 use Rattle.plc_base.specs.declared.key.Rand.{Rand}
@@ -27,11 +28,13 @@ use Rattle.plc_base.specs.Keeper.{Records}
 use Rattle.store_tables.proofs.StoreLemmas.{get-insert_other}
 use Rattle.std.specs.FinMap.{get, insert}
 use Rattle.node_rules.proofs.Shapes.{Shape, Rests, Keeps, Ended, checked_shape, choose_shape, sealed_shape}
-use Rattle.node_rules.proofs.TablePuts.{Membership, RingOf, PutOf, OfFloors, OfNumber, OfRing, OfMark, OfRank, OfEntry, AnyMembership, Any, AreOf, Puts, Does, begun_puts, ranked_puts, ringed_puts, goes_puts, counter_of, mark_of, both, begins, remembers, quiet_does}
+use Rattle.node_rules.proofs.TablePuts.{Membership, RingOf, PutOf, OfFloors, OfNumber, OfRing, OfMark, OfRank, OfEntry, AnyMembership, Any, AreOf, Puts, Does}
+use Rattle.node_rules.proofs.TablePuts.{begun_puts, ranked_puts, ringed_puts, goes_puts, counter_of, mark_of, both, begins, remembers, quiet_does}
 use Rattle.node_rules.proofs.HearingShapes.{hear_shape}
 use Rattle.node_rules.proofs.CallShapes.{AcceptShape, Stays, Marks, accept_shape, send_shape, send_command_shape}
 use Rattle.node_rules.proofs.MeterShapes.{meter_shape, joins_shape, leaves_shape}
-use Rattle.node_rules.proofs.CoordinatorShapes.{HomeOf, coordinator_shape, allow_shape, depot_shape, rekey_shape, activate_self_shape, challenge_shape, activate_shape, kick_shape}
+use Rattle.node_rules.proofs.CoordinatorShapes.{HomeOf, coordinator_shape, allow_shape, depot_shape, rekey_shape, activate_self_shape, challenge_shape}
+use Rattle.node_rules.proofs.CoordinatorShapes.{activate_shape, kick_shape}
 
 module _ (R : Membership → Type 0) (b : book.Book) (l : StationMemory) (short : HasShortTables l) where
   put_beside : (w : Write) → PutOf R b l w → IsBesideLog w
@@ -54,13 +57,16 @@ stations_leave_log l short = record {
   sends = λ to octets note now. at _ (plan_puts AnyMembership [] l alone _ l _ (send_shape AnyMembership [] l to octets note now));
   commands = λ to octets now. at _ (plan_puts AnyMembership [] l alone _ l _ (send_command_shape AnyMembership [] l to octets now));
   sends_local = λ code to body. at _ (local_puts AnyMembership [] l code to body);
-  counter = λ value. at (calls.preset_counter l value).puts (All-cons (PutOf AnyMembership [] l) _ [] (OfNumber counter.limit_at value (omega arith) (omega arith)) (All-nil (PutOf AnyMembership [] l)));
-  number = λ value. at (calls.preset_number l value).puts (All-cons (PutOf AnyMembership [] l) _ [] (OfNumber own_number.limit_at value (omega arith) (omega arith)) (All-nil (PutOf AnyMembership [] l)));
+  counter = λ value. at (calls.preset_counter l value).puts
+      (All-cons (PutOf AnyMembership [] l) _ [] (OfNumber counter.limit_at value (omega arith) (omega arith)) (All-nil (PutOf AnyMembership [] l)));
+  number = λ value. at (calls.preset_number l value).puts
+      (All-cons (PutOf AnyMembership [] l) _ [] (OfNumber own_number.limit_at value (omega arith) (omega arith)) (All-nil (PutOf AnyMembership [] l)));
   near = λ to cost now. at _ (near_puts AnyMembership [] l to cost now);
   installs = λ granted. at _ (ring_puts AnyMembership [] l (Some granted) (empty_draft l) (Any _) (begun_puts AnyMembership [] l l));
   puts_key = λ index key. at _ (ring_puts AnyMembership [] l (ring.with_key l.ring index key) (empty_draft l) (Any _) (begun_puts AnyMembership [] l l));
   activates = λ index. at _ (activate_puts [] l index);
-  leaves = at _ (ring_puts AnyMembership [] l None (record (empty_draft l) { memory = calls.idled (empty_draft l).memory }) (Any _) (begun_puts AnyMembership [] l l));
+  leaves = at _ (ring_puts AnyMembership [] l None (record (empty_draft l) { memory = calls.idled (empty_draft l).memory }) (Any _)
+      (begun_puts AnyMembership [] l l));
 }
   where
     at : (puts : List Write) → AreOf AnyMembership [] l puts → All IsBesideLog puts
@@ -73,7 +79,8 @@ meters_leave_log x m short = record {
   hears = λ got cost note now. at _ (plan_puts AnyMembership m.book m.station in_memory _ m _ (meter_shape x m got cost note now));
   joins = λ agent now. at _ (plan_puts AnyMembership m.book m.station in_memory _ m _ (joins_shape x m agent now));
   leaves = at _ (plan_puts AnyMembership m.book m.station in_memory _ m _ (leaves_shape x m));
-  provisions = λ granted. at _ (ring_puts AnyMembership m.book m.station (Some granted) (empty_draft m.station) (Any _) (begun_puts AnyMembership m.book m.station m.station));
+  provisions = λ granted. at _ (ring_puts AnyMembership m.book m.station (Some granted) (empty_draft m.station) (Any _)
+      (begun_puts AnyMembership m.book m.station m.station));
   takes_random = λ value. at _ (random_puts m value);
 }
   where

@@ -25,7 +25,8 @@ abbrev pub reading : {H : Type 0} → (Heard → H) → Result Heard Dropped →
 reading word (Ok h) = Ok (word h)
 reading word (Err reason) = Err reason
 
-pub within_shape : {H : Type 0} (R : Membership → Type 0) (word : Heard → H) (m : Memory) (p : Plan StationMemory (Result Heard Dropped)) → StationShape R m.book m.station p
+pub within_shape : {H : Type 0} (R : Membership → Type 0) (word : Heard → H) (m : Memory) (p : Plan StationMemory (Result Heard Dropped))
+    → StationShape R m.book m.station p
     → MemoryShape R dropped m (within (λ l. with_station l m) (reading word) p)
 unfolding resting
 within_shape R word m p (Rests answer) = Rests (reading word answer)

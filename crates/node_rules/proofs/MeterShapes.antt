@@ -25,7 +25,9 @@ use Rattle.node_rules.specs.Hearing.{dropped}
 use Rattle.node_rules.specs.Joining.{message}
 use Rattle.eap_psk.specs.Sessions.{peer_for, identifier_of}
 use Rattle.node_rules.specs.MemoryDrafts.{in_memory, goes_down, oldest, Unread, unread, packet_fault}
-use Rattle.node_rules.specs.Meters.{Hearing, Identity, drop_it, ends, carry_up, carries_down, carry_down, reply_with, reply, take_with, take_by, take, takes, replies, challenged, declined, kicked, activated, hear_near, hear_order, hear_join, hear_join_in, heard_by, hear_meter, joining_ends, join, leaving_ends, leave}
+use Rattle.node_rules.specs.Meters.{Hearing, Identity, drop_it, ends, carry_up, carries_down, carry_down, reply_with, reply, take_with, take_by, take, takes}
+use Rattle.node_rules.specs.Meters.{replies, challenged, declined, kicked, activated, hear_near, hear_order, hear_join, hear_join_in, heard_by, hear_meter}
+use Rattle.node_rules.specs.Meters.{joining_ends, join, leaving_ends, leave}
 use Rattle.node_rules.proofs.Shapes.{Rests, rests_shape, checked_shape, choose_shape, sealed_shape, sealing_shape, option_shape}
 use Rattle.node_rules.proofs.TablePuts.{Does, AnyMembership, memory_does, down_does, begins}
 use Rattle.node_rules.proofs.HearingShapes.{StationShape, hear_shape}
@@ -54,7 +56,8 @@ module _ (x : Identity) (m : Memory) where
   carry_up_shape from join _ now = Rests _
 
   carries_down_shape : (join : JoinMessage) → IsRule (carries_down m join)
-  carries_down_shape join = by_option (λ own. ends m (goes_down own join (empty_draft m)) heard.Carried) (address_of m.station) (drop_it m BadUnit) (λ own. ended _ _ (down_does AnyMembership m.book m.station own join (empty_draft m) (begins AnyMembership m.book m.station m))) (Rests _)
+  carries_down_shape join = by_option (λ own. ends m (goes_down own join (empty_draft m)) heard.Carried) (address_of m.station) (drop_it m BadUnit)
+      (λ own. ended _ _ (down_does AnyMembership m.book m.station own join (empty_draft m) (begins AnyMembership m.book m.station m))) (Rests _)
 
   carry_down_shape : (join : JoinMessage) (b : JoinBody) → IsRule (carry_down m join b)
   carry_down_shape join (body.Challenge eap) = carries_down_shape join
@@ -68,14 +71,18 @@ module _ (x : Identity) (m : Memory) where
 
   reply_shape : (course : Course) (packet : List ℕ) (now : ℕ) → IsRule (reply x m course packet now)
   reply_shape course packet now = passed _ _
-      (by_option (λ value. checked dropped m (option_map packet_fault (first_fault packet)) (reply_with x m course packet now value)) (oldest m) (drop_it m NoRandom)
-      (λ value. passed _ _ (replies_shape course (peer_for x.eui value packet) (message x.eui (body.Join (x.ciphers.second x.psk (identifier_of packet) (peer_for x.eui value packet)))) now)) (Rests _))
+      (by_option (λ value. checked dropped m (option_map packet_fault (first_fault packet)) (reply_with x m course packet now value)) (oldest m)
+      (drop_it m NoRandom)
+      (λ value. passed _ _ (replies_shape course (peer_for x.eui value packet)
+      (message x.eui (body.Join (x.ciphers.second x.psk (identifier_of packet) (peer_for x.eui value packet)))) now)) (Rests _))
 
-  takes_shape : (course : Course) (peer : Peer) (identifier : ℕ) (granted : Granted) (join : JoinMessage) (now : ℕ) → IsRule (takes m course peer identifier granted join now)
+  takes_shape : (course : Course) (peer : Peer) (identifier : ℕ) (granted : Granted) (join : JoinMessage) (now : ℕ)
+      → IsRule (takes m course peer identifier granted join now)
   takes_shape (ByAgent agent) peer identifier granted join now = search words depth 16
   takes_shape ByCommand peer identifier granted join now = search words depth 16
 
-  take_with_shape : (course : Course) (packet : List ℕ) (now : ℕ) (peer : Peer) (granted : Option Granted) → IsRule (take_with x m course packet now peer granted)
+  take_with_shape : (course : Course) (packet : List ℕ) (now : ℕ) (peer : Peer) (granted : Option Granted)
+      → IsRule (take_with x m course packet now peer granted)
   take_with_shape course packet now peer None = Rests _
   take_with_shape course packet now peer (Some granted) = takes_shape course peer _ granted _ now
 
@@ -85,7 +92,8 @@ module _ (x : Identity) (m : Memory) where
 
   take_shape : (course : Course) (packet : List ℕ) (now : ℕ) → IsRule (take x m course packet now)
   take_shape course packet now = passed _ _
-      (by_option (λ (s : MeterSession). take_by x m course packet now s.peer) m.session (drop_it m NoSession) (λ s. take_by_shape course packet now s.peer) (Rests _))
+      (by_option (λ (s : MeterSession). take_by x m course packet now s.peer) m.session (drop_it m NoSession) (λ s. take_by_shape course packet now s.peer)
+      (Rests _))
 
   challenged_shape : (course : Course) (packet : List ℕ) (now : ℕ) → IsRule (challenged x m course packet now)
   challenged_shape course packet now = chosen _ _ _ (reply_shape course packet now) (take_shape course packet now)
@@ -124,13 +132,15 @@ module _ (x : Identity) (m : Memory) where
   join_in_shape way None now = Rests _
   join_in_shape way (Some join) now = join_shape way join now
 
-  heard_by_shape : (now : ℕ) (p : Plan StationMemory (Result Heard Dropped)) (u : Option Unread) → StationShape AnyMembership m.book m.station p → IsRule (heard_by x m now p u)
+  heard_by_shape : (now : ℕ) (p : Plan StationMemory (Result Heard Dropped)) (u : Option Unread) → StationShape AnyMembership m.book m.station p
+      → IsRule (heard_by x m now p u)
   heard_by_shape now p None s = within_shape AnyMembership heard.Station m p s
   heard_by_shape now p (Some u) s = join_in_shape u.way (join_in u.body) now
 
   pub meter_shape : (got : Accepted) (cost note now : ℕ) → MemoryShape AnyMembership dropped m (hear_meter x m got cost note now)
   meter_shape got cost note now =
-      let p = station_rules.hear m.station got cost note now in heard_by_shape now p (unread p.answer) (hear_shape AnyMembership m.book m.station got cost note now)
+      let p = station_rules.hear m.station got cost note now in
+      heard_by_shape now p (unread p.answer) (hear_shape AnyMembership m.book m.station got cost note now)
 
   pub joins_shape : (agent now : ℕ) → MemoryShape AnyMembership joining_ends m (join x m agent now)
   joins_shape agent now = search words depth 16

@@ -18,7 +18,8 @@ pub arrived_octets : ArrivedBodiesAreOctets
 unfolding arrived
 arrived_octets ciphers octets a all = by_fault (frame_fault octets)
   where
-    by_fault : (o : Option (Fault FrameFaultKind)) → (if is_some o then None else Some (arrived_with ciphers (head_in octets) (take 15 octets) (body_in octets))) ≡ Some a → AreOctets a.body
+    by_fault : (o : Option (Fault FrameFaultKind))
+        → (if is_some o then None else Some (arrived_with ciphers (head_in octets) (take 15 octets) (body_in octets))) ≡ Some a → AreOctets a.body
     by_fault (Some f) e = absurd (cc)
     by_fault None e = subst (λ (x : Arrived). AreOctets x.body) (same_Some _ _ e) (body_octets octets all)
 
@@ -27,9 +28,12 @@ pub network_opens : NetworkOpensOctets
 unfolding arrived
 network_opens octets a key payload all fits = by_fault (frame_fault octets)
   where
-    by_fault : (o : Option (Fault FrameFaultKind)) → (if is_some o then None else Some (arrived_with network (head_in octets) (take 15 octets) (body_in octets))) ≡ Some a → a.opened key ≡ Some payload → AreOctets payload
+    by_fault : (o : Option (Fault FrameFaultKind))
+        → (if is_some o then None else Some (arrived_with network (head_in octets) (take 15 octets) (body_in octets))) ≡ Some a → a.opened key ≡ Some payload
+        → AreOctets payload
     by_fault (Some f) e is = absurd (cc)
-    by_fault None e is = opened_octets key.0 (head_in octets) (take 15 octets) (body_in octets) payload fits (body_octets octets all) (ap (λ (x : Arrived). x.opened key) (same_Some _ _ e) ∙ is)
+    by_fault None e is = opened_octets key.0 (head_in octets) (take 15 octets) (body_in octets) payload fits (body_octets octets all)
+        (ap (λ (x : Arrived). x.opened key) (same_Some _ _ e) ∙ is)
 
 pub network_opens_again : OpensWhatItSeals network
 network_opens_again = record {

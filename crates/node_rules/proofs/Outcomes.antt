@@ -23,7 +23,8 @@ no_fault : {F : Type 0} (done : Bool) → OnFalse done F → (F → ⊥) → don
 no_fault true r q = refl
 no_fault false r q = absurd (q r)
 
-pub carried : {M A : Type 0} (old : State M) (p : Plan M A) (answer : A) (out : Out) (new : State M) → Carries old p answer out new → IsCarriedOut old p answer out new
+pub carried : {M A : Type 0} (old : State M) (p : Plan M A) (answer : A) (out : Out) (new : State M) → Carries old p answer out new
+    → IsCarriedOut old p answer out new
 unfolding carry_out
 carried {M} {A} old p answer out new c =
     let k = cut_of old.store new.store p.puts c.done c.wrote in
@@ -34,7 +35,8 @@ carried {M} {A} old p answer out new c =
       fault = λ quiet. k.1.none (no_fault c.done k.1.rose quiet);
     }
   where
-    by_done : (cut : Option Cut) → IsCutBy old.store p.puts c.done new.store cut → (d : Bool) → c.done ≡ d → Shows (outcome_of (write p.puts cut old.store.records) p) old answer out new
+    by_done : (cut : Option Cut) → IsCutBy old.store p.puts c.done new.store cut → (d : Bool) → c.done ≡ d
+        → Shows (outcome_of (write p.puts cut old.store.records) p) old answer out new
     by_done cut is true e =
         let w = write p.puts cut old.store.records in
         let whole : w.whole ≡ true = sym is.whole ∙ e in

@@ -15,7 +15,8 @@ use Rattle.node_rules.specs.declared.refusal.Dropped.TheVariants.{Store}
 use Rattle.node_rules.specs.Memory.{StationMemory, next_hop}
 use Rattle.node_rules.specs.Plans.{resting}
 use Rattle.node_rules.specs.Drafts.{Draft, alone, refused, sealing, sealed, checked, choose}
-use Rattle.node_rules.specs.Hearing.{Hearing, dropped, hear_request, hear_reply_for, hear_reply, hear_error, forward_by, forward, report_by, gathered, hear_message, hear_message_in}
+use Rattle.node_rules.specs.Hearing.{Hearing, dropped, hear_request, hear_reply_for, hear_reply, hear_error, forward_by, forward, report_by, gathered}
+use Rattle.node_rules.specs.Hearing.{hear_message, hear_message_in}
 
 -- an answer that hands nothing on unread
 abbrev pub IsOwn : Heard → Type 0
@@ -46,7 +47,8 @@ module _ (l : StationMemory) where
   checked_own None p o = o
   checked_own (Some reason) p o = refused_own reason
 
-  sealed_when : (test : Bool) (d : Draft StationMemory) (g : Heard) → IsOwn g → Own (if test then refused dropped l dropped.spent else sealing alone dropped d g)
+  sealed_when : (test : Bool) (d : Draft StationMemory) (g : Heard) → IsOwn g
+      → Own (if test then refused dropped l dropped.spent else sealing alone dropped d g)
   sealed_when true d g own = refused_own dropped.spent
   sealed_when false d g own = ByAnswer _ (λ h e. subst (λ (k : Heard). IsOwn k) (same_heard g h e) own)
 

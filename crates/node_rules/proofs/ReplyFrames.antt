@@ -17,7 +17,8 @@ use Rattle.node_rules.specs.declared.refusal.Dropped.TheVariants.{BadUnit}
 use Rattle.node_rules.specs.Memory.{StationMemory, address_of, next_hop}
 use Rattle.node_rules.specs.Plans.{resting}
 use Rattle.node_rules.specs.Drafts.{alone, choose, empty_draft, with_rank, leave, goes, sealed_by}
-use Rattle.node_rules.specs.Hearing.{Hearing, dropped, drop_it, hear_reply, hear_reply_for, hear_message, hear_message_in, hear_command, hear_sealed, hear_plain, is_joining, hear_unit, hear_unit_in, hear, rank_over}
+use Rattle.node_rules.specs.Hearing.{Hearing, dropped, drop_it, hear_reply, hear_reply_for, hear_message, hear_message_in, hear_command, hear_sealed}
+use Rattle.node_rules.specs.Hearing.{hear_plain, is_joining, hear_unit, hear_unit_in, hear, rank_over}
 use Rattle.node_rules.specs.Laws.{WaitingFits, RepliesAreFew, AMetersRepliesAreFew, ACoordinatorsRepliesAreFew}
 use Rattle.node_rules.specs.Meters as meters
 use Rattle.node_rules.specs.Coordinators as coordinator_rules
@@ -54,7 +55,8 @@ module _ (l : StationMemory) where
   by_hop : (own by origin to : ℕ) (rank : Rank) (now : ℕ) (hop : Option ℕ) → OneMore (hear_reply_for l own by origin to rank now hop)
   by_hop own by origin to rank now None = Rests _
   by_hop own by origin to rank now (Some hop) =
-      checked_shape _ _ _ _ _ _ (sealed_shape _ _ _ _ _ _ (looser l (0 + 1) 1 1 3 _ (omega arith) (omega arith) (goes_fits l 0 1 hop _ 0 _ (offers_fits own origin rank by now))))
+      checked_shape _ _ _ _ _ _ (sealed_shape _ _ _ _ _ _
+      (looser l (0 + 1) 1 1 3 _ (omega arith) (omega arith) (goes_fits l 0 1 hop _ 0 _ (offers_fits own origin rank by now))))
 
   reply_more : (own by origin to : ℕ) (rank : Rank) (now : ℕ) → OneMore (hear_reply l own by origin to rank now)
   reply_more own by origin to rank now =
@@ -67,18 +69,21 @@ module _ (l : StationMemory) where
     message_more own by true cost now = Rests _
     message_more own by false cost now = reply_more own by origin to (rank_over number c cost) now
 
-    by_code : (own by : ℕ) (all : Bool) (cost now : ℕ) (first : Bool) (m : Option Message) (other : Hearing) → (if first then m else None) ≡ Some (Rrep number c origin to) → OneMore (choose first (hear_message_in l own by all cost now m) other)
+    by_code : (own by : ℕ) (all : Bool) (cost now : ℕ) (first : Bool) (m : Option Message) (other : Hearing)
+        → (if first then m else None) ≡ Some (Rrep number c origin to) → OneMore (choose first (hear_message_in l own by all cost now m) other)
     unfolding choose
     by_code own by all cost now true m other e = rw e (message_more own by all cost now)
     by_code own by all cost now false m other e = absurd (cc)
 
-    sealed_more : (own by : ℕ) (all : Bool) (unit : MeshUnit) (cost note now : ℕ) → route_message unit ≡ Some (Rrep number c origin to) → OneMore (hear_sealed l own by all unit cost note now)
+    sealed_more : (own by : ℕ) (all : Bool) (unit : MeshUnit) (cost note now : ℕ) → route_message unit ≡ Some (Rrep number c origin to)
+        → OneMore (hear_sealed l own by all unit cost note now)
     sealed_more own by all (units.Local code body) cost note now e = by_code own by all cost now _ (message_in body) _ e
     sealed_more own by all (units.Whole mesh octets) cost note now e = absurd (cc)
     sealed_more own by all (units.Part mesh piece) cost note now e = absurd (cc)
     sealed_more own by all (units.Carried mesh body) cost note now e = absurd (cc)
 
-    addressed_more : (own : Option ℕ) (by : ℕ) (all : Bool) (unit : MeshUnit) (cost note now : ℕ) → route_message unit ≡ Some (Rrep number c origin to) → OneMore (option_map_or (λ a. hear_sealed l a by all unit cost note now) own (drop_it l BadUnit))
+    addressed_more : (own : Option ℕ) (by : ℕ) (all : Bool) (unit : MeshUnit) (cost note now : ℕ) → route_message unit ≡ Some (Rrep number c origin to)
+        → OneMore (option_map_or (λ a. hear_sealed l a by all unit cost note now) own (drop_it l BadUnit))
     addressed_more None by all unit cost note now e = Rests _
     addressed_more (Some own) by all unit cost note now e = sealed_more own by all unit cost note now e
 
@@ -86,7 +91,8 @@ module _ (l : StationMemory) where
     plain_more answer None = Rests _
     plain_more answer (Some body) = Rests _
 
-    unit_more : (path : Path) (unit : Option MeshUnit) (cost note now : ℕ) → option_and_then route_message unit ≡ Some (Rrep number c origin to) → OneMore (hear_unit_in l path unit cost note now)
+    unit_more : (path : Path) (unit : Option MeshUnit) (cost note now : ℕ) → option_and_then route_message unit ≡ Some (Rrep number c origin to)
+        → OneMore (hear_unit_in l path unit cost note now)
     unit_more path None cost note now e = absurd (cc)
     unit_more (paths.Sealed from all key) (Some unit) cost note now e = addressed_more (address_of l) from all unit cost note now e
     unit_more (paths.Up from) (Some unit) cost note now e = plain_more _ (is_joining unit)
@@ -98,22 +104,26 @@ replies_few l got cost note now number c origin to w e = few l w _ (unit_more l 
 -- # Meters and the coordinator
 
 module _ (l : StationMemory) (number c origin to : ℕ) where
-  code_own : (own by : ℕ) (all : Bool) (cost now : ℕ) (first : Bool) (m : Option Message) (other : Hearing) → (if first then m else None) ≡ Some (Rrep number c origin to) → Own (choose first (hear_message_in l own by all cost now m) other)
+  code_own : (own by : ℕ) (all : Bool) (cost now : ℕ) (first : Bool) (m : Option Message) (other : Hearing)
+      → (if first then m else None) ≡ Some (Rrep number c origin to) → Own (choose first (hear_message_in l own by all cost now m) other)
   unfolding choose
   code_own own by all cost now true m other e = message_in_own l own by all cost now m
   code_own own by all cost now false m other e = absurd (cc)
 
-  sealed_unit_own : (own by : ℕ) (all : Bool) (unit : MeshUnit) (cost note now : ℕ) → route_message unit ≡ Some (Rrep number c origin to) → Own (hear_sealed l own by all unit cost note now)
+  sealed_unit_own : (own by : ℕ) (all : Bool) (unit : MeshUnit) (cost note now : ℕ) → route_message unit ≡ Some (Rrep number c origin to)
+      → Own (hear_sealed l own by all unit cost note now)
   sealed_unit_own own by all (units.Local code body) cost note now e = code_own own by all cost now _ (message_in body) _ e
   sealed_unit_own own by all (units.Whole mesh octets) cost note now e = absurd (cc)
   sealed_unit_own own by all (units.Part mesh piece) cost note now e = absurd (cc)
   sealed_unit_own own by all (units.Carried mesh body) cost note now e = absurd (cc)
 
-  addressed_own : (own : Option ℕ) (by : ℕ) (all : Bool) (unit : MeshUnit) (cost note now : ℕ) → route_message unit ≡ Some (Rrep number c origin to) → Own (option_map_or (λ a. hear_sealed l a by all unit cost note now) own (drop_it l BadUnit))
+  addressed_own : (own : Option ℕ) (by : ℕ) (all : Bool) (unit : MeshUnit) (cost note now : ℕ) → route_message unit ≡ Some (Rrep number c origin to)
+      → Own (option_map_or (λ a. hear_sealed l a by all unit cost note now) own (drop_it l BadUnit))
   addressed_own None by all unit cost note now e = refused_own l BadUnit
   addressed_own (Some own) by all unit cost note now e = sealed_unit_own own by all unit cost note now e
 
-  unit_own : (path : Path) (unit : Option MeshUnit) (from : ℕ) (all : Bool) (key : Key) (cost note now : ℕ) → path ≡ paths.Sealed from all key → option_and_then route_message unit ≡ Some (Rrep number c origin to) → Own (hear_unit_in l path unit cost note now)
+  unit_own : (path : Path) (unit : Option MeshUnit) (from : ℕ) (all : Bool) (key : Key) (cost note now : ℕ) → path ≡ paths.Sealed from all key
+      → option_and_then route_message unit ≡ Some (Rrep number c origin to) → Own (hear_unit_in l path unit cost note now)
   unit_own path None from all key cost note now p e = absurd (cc)
   unit_own path (Some unit) from all key cost note now p e = rw p (addressed_own (address_of l) from all unit cost note now e)
 
@@ -135,9 +145,11 @@ own_unread p (ByAnswer q own) = by_answer q.answer own
 pub meters_replies_few : AMetersRepliesAreFew
 meters_replies_few x m got cost note now from all key number c origin to w path e =
     let own = own_unread _ (unit_own m.station number c origin to got.path (unit_in got.payload) from all key cost note now path e) in
-    subst (λ o. length (meters.heard_by x m now (hear m.station got cost note now) o).frames ≤ 22) (sym own) (replies_few m.station got cost note now number c origin to w e)
+    subst (λ o. length (meters.heard_by x m now (hear m.station got cost note now) o).frames ≤ 22) (sym own)
+    (replies_few m.station got cost note now number c origin to w e)
 
 pub coordinators_replies_few : ACoordinatorsRepliesAreFew
 coordinators_replies_few x m got cost note now from all key number c origin to w path e =
     let own = own_unread _ (unit_own m.station number c origin to got.path (unit_in got.payload) from all key cost note now path e) in
-    subst (λ o. length (coordinator_rules.heard_by x m now (hear m.station got cost note now) o).frames ≤ 22) (sym own) (replies_few m.station got cost note now number c origin to w e)
+    subst (λ o. length (coordinator_rules.heard_by x m now (hear m.station got cost note now) o).frames ≤ 22) (sym own)
+    (replies_few m.station got cost note now number c origin to w e)

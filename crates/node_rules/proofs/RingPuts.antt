@@ -59,7 +59,8 @@ module _ (old : Records) where
   unfolding SameRing
   keep_same puts other k d within = λ r h. get-insert_other r _ ring_slot _ (λ e. other k d within (sym e)) ∙ h
 
-  kept_same : (puts : List Write) (done : Bool) (s t : Store) → s.records ≡ old → All PutsNoRing puts → Wrote s puts done t → get t.records ring_slot ≡ get old ring_slot
+  kept_same : (puts : List Write) (done : Bool) (s t : Store) → s.records ≡ old → All PutsNoRing puts → Wrote s puts done t
+      → get t.records ring_slot ≡ get old ring_slot
   unfolding SameRing
   kept_same puts done s t is other wrote = wrote_keeps SameRing puts done s t (keep_same puts other) (ap (λ (r : Records). get r ring_slot) is) wrote
 

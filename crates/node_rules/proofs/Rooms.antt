@@ -7,7 +7,8 @@ use Rattle.node_rules.specs.declared.heard.SentHow.TheVariants.{Sent, Waiting}
 use Rattle.node_rules.specs.declared.refusal.SendRefusal.TheVariants.{NotJoined}
 use Rattle.node_rules.specs.Memory.{StationMemory, Command, address_of, next_hop}
 use Rattle.node_rules.specs.Plans.{resting}
-use Rattle.node_rules.specs.Drafts.{Draft, Ends, alone, empty_draft, body_goes, waits, seeks, seeks_once, goes, with_own_number, lack, no_room, numbers_spent, is_awaited, counters_left, refused, sealed, checked}
+use Rattle.node_rules.specs.Drafts.{Draft, Ends, alone, empty_draft, body_goes, waits, seeks, seeks_once, goes, with_own_number, lack, no_room, numbers_spent}
+use Rattle.node_rules.specs.Drafts.{is_awaited, counters_left, refused, sealed, checked}
 use Rattle.node_rules.specs.Calls.{sending_ends, command_from, room_fault, how}
 use Rattle.node_rules.specs.Laws.{TheRoomNamesTheRefusal, command_answer}
 
@@ -30,7 +31,8 @@ module _ (l : StationMemory) (own to : ℕ) (octets : List ℕ) (now : ℕ) wher
       → (command_from l own to octets now).answer ≡ command_answer l to (room_fault l to (length octets))
   unfolding checked lack empty_draft body_goes
   by_route hop true e few = rw (e, few) (sealed_answer sending_ends l (body_goes own hop to 0 (Command octets) (empty_draft l)) Sent 1 true refl few)
-  by_route hop false e few = rw (e, few) (sealed_answer sending_ends l (body_goes own hop to 0 (Command octets) (empty_draft l)) Sent 1 false refl few ∙ ap Ok (how_is l to (Some hop) e))
+  by_route hop false e few = rw (e, few)
+      (sealed_answer sending_ends l (body_goes own hop to 0 (Command octets) (empty_draft l)) Sent 1 false refl few ∙ ap Ok (how_is l to (Some hop) e))
 
   by_counters : (few : Bool) → next_hop l to ≡ None → no_room l (length octets) ≡ false → is_awaited l to ≡ false → numbers_spent l ≡ false
       → nat_lt (counters_left l) 1 ≡ few
@@ -39,14 +41,16 @@ module _ (l : StationMemory) (own to : ℕ) (octets : List ℕ) (now : ℕ) wher
   by_counters true e full asked numbers few =
       rw (e, full, asked, numbers, few) (sealed_answer sending_ends l (waits to 0 (Command octets) now (seeks own to (empty_draft l))) Waiting 1 true refl few)
   by_counters false e full asked numbers few =
-      rw (e, full, asked, numbers, few) (sealed_answer sending_ends l (waits to 0 (Command octets) now (seeks own to (empty_draft l))) Waiting 1 false refl few ∙ ap Ok (how_is l to None e))
+      rw (e, full, asked, numbers, few)
+      (sealed_answer sending_ends l (waits to 0 (Command octets) now (seeks own to (empty_draft l))) Waiting 1 false refl few ∙ ap Ok (how_is l to None e))
 
   by_room : (full asked spent : Bool) → next_hop l to ≡ None → no_room l (length octets) ≡ full → is_awaited l to ≡ asked → numbers_spent l ≡ spent
       → (command_from l own to octets now).answer ≡ command_answer l to (room_fault l to (length octets))
   unfolding checked lack seeks_once empty_draft waits resting
   by_room true asked spent e full k numbers = rw (e, full) refl
   by_room false true spent e full k numbers =
-      rw (e, full, k, never_less (counters_left l)) (sealed_answer sending_ends l (waits to 0 (Command octets) now (empty_draft l)) Waiting 0 false refl (never_less (counters_left l)) ∙ ap Ok (how_is l to None e))
+      rw (e, full, k, never_less (counters_left l)) (sealed_answer sending_ends l (waits to 0 (Command octets) now (empty_draft l)) Waiting 0 false refl
+      (never_less (counters_left l)) ∙ ap Ok (how_is l to None e))
   by_room false false true e full k numbers = rw (e, full, k, numbers) refl
   by_room false false false e full k numbers = by_counters (nat_lt (counters_left l) 1) e full k numbers refl
 

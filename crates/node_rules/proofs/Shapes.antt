@@ -42,7 +42,8 @@ module _ {M H E : Type 0} (h : StationPlace M) (ends : Ends E) (m : M) (D : Draf
   pub sealing_shape : (d : Draft M) (answer : H) → D d → Shape h ends m D (sealing h ends d answer)
   sealing_shape d answer done = Ended d answer done
 
-  pub option_shape : {X : Type 0} (f : X → Plan M (Result H E)) (x : Option X) (p : Plan M (Result H E)) → ((y : X) → Shape h ends m D (f y)) → Shape h ends m D p → Shape h ends m D (option_map_or f x p)
+  pub option_shape : {X : Type 0} (f : X → Plan M (Result H E)) (x : Option X) (p : Plan M (Result H E)) → ((y : X) → Shape h ends m D (f y))
+      → Shape h ends m D p → Shape h ends m D (option_map_or f x p)
   option_shape f None p s t = t
   option_shape f (Some y) p s t = s y
 

@@ -42,8 +42,10 @@ stations_write_their_own l short = record {
   sends = λ to octets note now. at _ (plan_puts NoMembership [] l alone _ l _ (send_shape NoMembership [] l to octets note now));
   commands = λ to octets now. at _ (plan_puts NoMembership [] l alone _ l _ (send_command_shape NoMembership [] l to octets now));
   sends_local = λ code to body. at _ (local_puts NoMembership [] l code to body);
-  counter = λ value. at (calls.preset_counter l value).puts (All-cons (PutOf NoMembership [] l) _ [] (OfNumber counter.limit_at value (omega arith) (omega arith)) (All-nil (PutOf NoMembership [] l)));
-  number = λ value. at (calls.preset_number l value).puts (All-cons (PutOf NoMembership [] l) _ [] (OfNumber own_number.limit_at value (omega arith) (omega arith)) (All-nil (PutOf NoMembership [] l)));
+  counter = λ value. at (calls.preset_counter l value).puts
+      (All-cons (PutOf NoMembership [] l) _ [] (OfNumber counter.limit_at value (omega arith) (omega arith)) (All-nil (PutOf NoMembership [] l)));
+  number = λ value. at (calls.preset_number l value).puts
+      (All-cons (PutOf NoMembership [] l) _ [] (OfNumber own_number.limit_at value (omega arith) (omega arith)) (All-nil (PutOf NoMembership [] l)));
   near = λ to cost now. at _ (near_puts NoMembership [] l to cost now);
 }
   where

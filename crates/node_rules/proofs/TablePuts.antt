@@ -29,12 +29,14 @@ use Rattle.routing_set.specs.declared.rank.Rank.{Rank}
 use Rattle.routing_set.specs.RoutingSet as routing
 use Rattle.routing_set.specs.OwnNumber as own_number
 use Rattle.node_rules.specs.Memory.{StationMemory, Load, Command, Memory, CoordinatorSession, address_of, next_hop}
-use Rattle.node_rules.specs.Drafts.{Draft, empty_draft, tag_after, with_rank, with_own_number, with_next_tag, with_ring, with_routing_by, goes, body_goes, is_awaited, waits, seeks, seeks_once, sets_out, leave}
+use Rattle.node_rules.specs.Drafts.{Draft, empty_draft, tag_after, with_rank, with_own_number, with_next_tag, with_ring, with_routing_by, goes, body_goes}
+use Rattle.node_rules.specs.Drafts.{is_awaited, waits, seeks, seeks_once, sets_out, leave}
 use Rattle.node_rules.specs.MemoryDrafts.{on_station, station_part, with_memory_by, with_pair_tags, goes_up, goes_down, is_commanded}
 use Rattle.node_rules.specs.Joining.{command_of}
 use Rattle.node_rules.specs.Calls.{idled}
 use Rattle.node_rules.specs.Coordinators.{with_book_entry, with_session}
-use Rattle.node_rules.proofs.Words.{IsDone, Fits, begun_fits, learns_done, sends_on_done, answers_done, goes_done, error_done, error_on_done, on_ring, idled_fits, remembered_fits, tags_fit, entered_fits, up_done, down_done, commanded_done, quiet_done}
+use Rattle.node_rules.proofs.Words.{IsDone, Fits, begun_fits, learns_done, sends_on_done, answers_done, goes_done, error_done, error_on_done, on_ring}
+use Rattle.node_rules.proofs.Words.{idled_fits, remembered_fits, tags_fit, entered_fits, up_done, down_done, commanded_done, quiet_done}
 
 -- What is stored of who belongs to the network: a ring, or an entry of the book.
 pub data Membership : Type 0 where
@@ -93,9 +95,11 @@ place_for_small b eui = by_place (book.place_of b eui) (place_small book.entries
 pub place_for_again : (b : book.Book) (e : BookEntry) → book.place_for (book.with_entry b e) e.eui ≤ length b
 place_for_again b e = by_place (book.place_of (book.with_entry b e) e.eui) (has_entry b e).address
   where
-    by_place : (o : Option ℕ) → option_map (λ place. place + 1) o ≡ Some (book.place_for b e.eui + 1) → option_map_or (λ place. place) o (length (book.with_entry b e)) ≤ length b
+    by_place : (o : Option ℕ) → option_map (λ place. place + 1) o ≡ Some (book.place_for b e.eui + 1)
+        → option_map_or (λ place. place) o (length (book.with_entry b e)) ≤ length b
     by_place None h = absurd (cc)
-    by_place (Some k) h = let same : k + 1 ≡ book.place_for b e.eui + 1 = same_Some (k + 1) (book.place_for b e.eui + 1) h in let small = place_for_small b e.eui in omega arith
+    by_place (Some k) h =
+        let same : k + 1 ≡ book.place_for b e.eui + 1 = same_Some (k + 1) (book.place_for b e.eui + 1) h in let small = place_for_small b e.eui in omega arith
 
 module _ (R : Membership → Type 0) (b : book.Book) (l : StationMemory) where
   abbrev pub AreOf : List Write → Type 0
@@ -124,7 +128,8 @@ module _ (R : Membership → Type 0) (b : book.Book) (l : StationMemory) where
   unfolding routing.entry_writes
   offer_of dest rank next now =
       let gone = routing.forgotten l.routing dest now in
-      both _ _ (due_of l.routing.floors gone) (one _ (OfRank _ (routing.offered_entry dest rank next now) (place_small routing.ranks l.routing.entries (option_map_or (λ e. e.address) gone dest))))
+      both _ _ (due_of l.routing.floors gone) (one _
+      (OfRank _ (routing.offered_entry dest rank next now) (place_small routing.ranks l.routing.entries (option_map_or (λ e. e.address) gone dest))))
 
   number_of : (n : own_number.Numbering) → AreOf (puts_of (own_number.advance_write n))
   number_of n = by_limit (own_number.passes n)
@@ -151,12 +156,15 @@ module _ (R : Membership → Type 0) (b : book.Book) (l : StationMemory) where
   pub mark_of : (from count : ℕ) → AreOf (puts_of (marks.keep_write l.marks from count))
   mark_of from count = by_place (marks.place_of l.marks from) (place_small marks.peers l.marks from)
     where
-      held : (k : ℕ) (c : Bool) → k ≤ length l.marks → AreOf (puts_of (if c then None else Some (slots.entry_write marks.peers k (marks.peer_ahead from count))))
+      held : (k : ℕ) (c : Bool) → k ≤ length l.marks
+          → AreOf (puts_of (if c then None else Some (slots.entry_write marks.peers k (marks.peer_ahead from count))))
       held k true small = none
       held k false small = one _ (OfMark k (marks.peer_ahead from count) small)
 
       by_place : (place : Option ℕ) → unwrap_or place (length l.marks) ≤ length l.marks
-          → AreOf (puts_of (option_map_or (λ k. if nat_le count (marks.peer_at l.marks k).stored then None else Some (slots.entry_write marks.peers k (marks.peer_ahead from count))) place (Some (slots.entry_write marks.peers (length l.marks) (marks.peer_ahead from count)))))
+          → AreOf (puts_of (option_map_or (λ k. if nat_le count (marks.peer_at l.marks k).stored then None
+          else Some (slots.entry_write marks.peers k (marks.peer_ahead from count))) place
+          (Some (slots.entry_write marks.peers (length l.marks) (marks.peer_ahead from count)))))
       by_place None small = one _ (OfMark (length l.marks) (marks.peer_ahead from count) small)
       by_place (Some k) small = held k (nat_le count (marks.peer_at l.marks k).stored) small
 
@@ -239,13 +247,15 @@ module _ (R : Membership → Type 0) (b : book.Book) (l : StationMemory) where
     puts = leave_puts R b l own origin by _ (ranked_puts R b l origin rank by now);
   }
 
-  pub sends_on_does : (own origin : ℕ) (rank : Rank) (by now to : ℕ) (unit : MeshUnit) (note : ℕ) → Does R b l (goes to unit note (leave own origin by (with_rank origin rank by now (empty_draft l))))
+  pub sends_on_does : (own origin : ℕ) (rank : Rank) (by now to : ℕ) (unit : MeshUnit) (note : ℕ)
+      → Does R b l (goes to unit note (leave own origin by (with_rank origin rank by now (empty_draft l))))
   sends_on_does own origin rank by now to unit note = record {
     done = sends_on_done l own origin rank by now to unit note;
     puts = goes_puts R b l to unit note _ (leave_puts R b l own origin by _ (ranked_puts R b l origin rank by now));
   }
 
-  pub answers_does : (own origin : ℕ) (rank : Rank) (by now to : ℕ) (unit : MeshUnit) (note : ℕ) → Does R b l (goes to unit note (leave own origin by (with_own_number (with_rank origin rank by now (empty_draft l)))))
+  pub answers_does : (own origin : ℕ) (rank : Rank) (by now to : ℕ) (unit : MeshUnit) (note : ℕ)
+      → Does R b l (goes to unit note (leave own origin by (with_own_number (with_rank origin rank by now (empty_draft l)))))
   answers_does own origin rank by now to unit note = record {
     done = answers_done l own origin rank by now to unit note;
     puts = goes_puts R b l to unit note _ (leave_puts R b l own origin by _ (numbered_puts R b l _ (ranked_puts R b l origin rank by now)));
@@ -257,7 +267,8 @@ module _ (R : Membership → Type 0) (b : book.Book) (l : StationMemory) where
   pub error_does : (change : routing.Routing → routing.Routing) → Does R b l (with_routing_by change (empty_draft l))
   error_does change = record { done = error_done l change; puts = rerouted_puts R b l change _ (begun_puts R b l l) }
 
-  pub error_on_does : (to : ℕ) (unit : MeshUnit) (note : ℕ) (change : routing.Routing → routing.Routing) → Does R b l (goes to unit note (with_routing_by change (empty_draft l)))
+  pub error_on_does : (to : ℕ) (unit : MeshUnit) (note : ℕ) (change : routing.Routing → routing.Routing)
+      → Does R b l (goes to unit note (with_routing_by change (empty_draft l)))
   error_on_does to unit note change = record {
     done = error_on_done l to unit note change;
     puts = goes_puts R b l to unit note _ (rerouted_puts R b l change _ (begun_puts R b l l));
@@ -284,7 +295,8 @@ module _ (R : Membership → Type 0) (b : book.Book) (l : StationMemory) where
   unfolding with_pair_tags
   tags made opened d f = record { fits = tags_fit l made opened d f.fits; puts = f.puts }
 
-  pub enters : (e : BookEntry) (d : Draft Memory) → book.place_for d.memory.book e.eui ≤ length b → R (EntryOf e) → Began R b l d → Began R b l (with_book_entry e d)
+  pub enters : (e : BookEntry) (d : Draft Memory) → book.place_for d.memory.book e.eui ≤ length b → R (EntryOf e) → Began R b l d
+      → Began R b l (with_book_entry e d)
   unfolding with_book_entry
   enters e d small x f = record { fits = entered_fits l e d f.fits; puts = both R b l _ _ f.puts (entry_of R b l d.memory.book e small x) }
 
@@ -316,9 +328,11 @@ module _ (R : Membership → Type 0) (m : Memory) where
   enters_first e x = enters R m.book m.station e _ (place_for_small m.book e.eui) x (begins R m.book m.station m)
 
   -- also where its session goes on
-  pub enters_session : (s : CoordinatorSession) (e : BookEntry) → R (EntryOf e) → Began R m.book m.station (with_book_entry e (with_memory_by (with_session s) (empty_draft m)))
+  pub enters_session : (s : CoordinatorSession) (e : BookEntry) → R (EntryOf e)
+      → Began R m.book m.station (with_book_entry e (with_memory_by (with_session s) (empty_draft m)))
   unfolding empty_draft with_memory_by
-  enters_session s e x = enters R m.book m.station e _ (place_for_small m.book e.eui) x (remembers R m.book m.station (with_session s) _ (begins R m.book m.station m))
+  enters_session s e x =
+      enters R m.book m.station e _ (place_for_small m.book e.eui) x (remembers R m.book m.station (with_session s) _ (begins R m.book m.station m))
 
 pub ruleset station_does = (learns_does, sends_on_does, answers_does, goes_does, error_does, error_on_does)
 

@@ -1,5 +1,6 @@
 -- No table of a store gets a gap from writes that are in place, whichever of them fails.
-use Rattle.std.proofs.Common.{◌≡◌, ◌≢◌, ◌⊎◌, inl, inr, ℕ, ◌<◌, ◌≤◌, Bool, true, false, List, [], ◌∷◌, length, Option, Some, None, refl, sym, ap, ◌∙◌, subst, arith}
+use Rattle.std.proofs.Common.{◌≡◌, ◌≢◌, ◌⊎◌, inl, inr, ℕ, ◌<◌, ◌≤◌, Bool, true, false, List, [], ◌∷◌, length, Option, Some, None, refl, sym, ap, ◌∙◌, subst}
+use Rattle.std.proofs.Common.{arith}
 use Rattle.std.specs.Prelude.{All, if◌then◌else◌, slice_get}
 use Rattle.std.specs.Option.{option_map}
 use Rattle.std.specs.FinMap.{get, insert}
@@ -39,11 +40,13 @@ module _ (Q : Records → Type 0) where
       by_writing false = q
 
       by_success : (b : Bool) → Q (write rest (cut_after cut) (records_after cut r w.slot w.octets)).records
-          → Q (if b then write rest (cut_after cut) (records_after cut r w.slot w.octets) else record { whole = false; records = records_after cut r w.slot w.octets; cut = cut_after cut }).records
+          → Q (if b then write rest (cut_after cut) (records_after cut r w.slot w.octets)
+          else record { whole = false; records = records_after cut r w.slot w.octets; cut = cut_after cut }).records
       by_success true more = more
       by_success false more = by_writing (writes cut)
 
-  put_keeps : (w : Write) (ok : Bool) (old new : Store) → ((r : Records) → Q r → Q (insert r w.slot w.octets)) → Puts old w.slot w.octets ok new → Q old.records → Q new.records
+  put_keeps : (w : Write) (ok : Bool) (old new : Store) → ((r : Records) → Q r → Q (insert r w.slot w.octets)) → Puts old w.slot w.octets ok new → Q old.records
+      → Q new.records
   put_keeps w ok old new keep p q = by_outcome p.old_or_new
     where
       by_outcome : (new.records ≡ old.records) ⊎ (new.records ≡ insert old.records w.slot w.octets) → Q new.records
@@ -52,8 +55,10 @@ module _ (Q : Records → Type 0) where
 
   writes_keep : (puts : List Write) (done : Bool) (old new : Store) → Keep puts → Q old.records → Writes old puts done new → Q new.records
   writes_keep [] done old new keep q h = subst (λ (s : Store). Q s.records) (sym h.1) q
-  writes_keep (w ∷ rest) done old new keep q (true, mid, p, more, u) = writes_keep rest done mid new (All-tail Kept w rest keep) (put_keeps w true old mid (All-head Kept w rest keep) p q) more
-  writes_keep (w ∷ rest) done old new keep q (false, mid, p, u, stop) = subst (λ (s : Store). Q s.records) (sym stop.1) (put_keeps w false old mid (All-head Kept w rest keep) p q)
+  writes_keep (w ∷ rest) done old new keep q (true, mid, p, more, u) =
+      writes_keep rest done mid new (All-tail Kept w rest keep) (put_keeps w true old mid (All-head Kept w rest keep) p q) more
+  writes_keep (w ∷ rest) done old new keep q (false, mid, p, u, stop) =
+      subst (λ (s : Store). Q s.records) (sym stop.1) (put_keeps w false old mid (All-head Kept w rest keep) p q)
 
   pub wrote_keeps : (puts : List Write) (done : Bool) (old new : Store) → Keep puts → Q old.records → Wrote old puts done new → Q new.records
   wrote_keeps puts done old new keep q h = writes_keep puts done old new keep q h.by
@@ -74,7 +79,8 @@ record Holds {A : Type 0} (layout : slots.Layout A) (count : ℕ) (r : Records) 
   filled : (i : ℕ) → i < count → i < layout.slots → get r (slots.slot_of layout i) ≢ None
 
 -- a write to one of the first places, or to the one after them, leaves it so
-holds_put : {A : Type 0} (layout : slots.Layout A) (count : ℕ) (w : Write) (r : Records) → IsAtMost layout count w → Holds layout count r → Holds layout count (insert r w.slot w.octets)
+holds_put : {A : Type 0} (layout : slots.Layout A) (count : ℕ) (w : Write) (r : Records) → IsAtMost layout count w → Holds layout count r
+    → Holds layout count (insert r w.slot w.octets)
 holds_put layout count w r small h = record { gapless = gapless; filled = filled }
   where
     other : (i : ℕ) → slots.slot_of layout i ≢ w.slot → get (insert r w.slot w.octets) (slots.slot_of layout i) ≡ get r (slots.slot_of layout i)
@@ -144,7 +150,11 @@ module _ (role : Role) (l : StationMemory) (b : book.Book) where
   }
 
   gapless : (r : Records) → HoldAll role l b r → HasGaplessTables role r
-  gapless r h = record { marks = h.marks.gapless; ranks = h.ranks.gapless; entries = of_coordinator role _ _ (λ (x : Holds book.entries (length b) r). x.gapless) h.entries }
+  gapless r h = record {
+    marks = h.marks.gapless;
+    ranks = h.ranks.gapless;
+    entries = of_coordinator role _ _ (λ (x : Holds book.entries (length b) r). x.gapless) h.entries;
+  }
 
 pub writes_keep_tables : WritesKeepTables
 writes_keep_tables role l b old puts done new h placed wrote =

@@ -55,7 +55,8 @@ module _ (l : StationMemory) where
   local_on by all code octets = record { rests = λ way body e. absurd (cc) }
 
   command_hands_on : (own by : ℕ) (all : Bool) (code : ℕ) (body : List ℕ) (cost now : ℕ) → HandsOn (hear_command l own by all code body cost now)
-  command_hands_on own by all code body cost now = by_choice _ _ _ (from_own _ (message_in_own l own by all cost now (message_in body))) (by_choice _ _ _ dropped_on (local_on by all code body))
+  command_hands_on own by all code body cost now =
+      by_choice _ _ _ (from_own _ (message_in_own l own by all cost now (message_in body))) (by_choice _ _ _ dropped_on (local_on by all code body))
 
   mesh_hands_on : IsSome l.ring → (own : ℕ) (unit : MeshUnit) (note now : ℕ) → HandsOn (hear_over_mesh l own unit note now)
   mesh_hands_on ring own (units.Whole mesh octets) note now = from_own _ (choose_own _ _ _ (resting_own l _ tt) (forward_own l own mesh _ note))
@@ -65,16 +66,19 @@ module _ (l : StationMemory) where
 
   sealed_hands_on : IsSome l.ring → (own by : ℕ) (all : Bool) (unit : MeshUnit) (cost note now : ℕ) → HandsOn (hear_sealed l own by all unit cost note now)
   sealed_hands_on ring own by all (units.Local code body) cost note now = command_hands_on own by all code body cost now
-  sealed_hands_on ring own by all (units.Whole mesh octets) cost note now = by_choice _ _ _ dropped_on (mesh_hands_on ring own (units.Whole mesh octets) note now)
+  sealed_hands_on ring own by all (units.Whole mesh octets) cost note now =
+      by_choice _ _ _ dropped_on (mesh_hands_on ring own (units.Whole mesh octets) note now)
   sealed_hands_on ring own by all (units.Part mesh piece) cost note now = by_choice _ _ _ dropped_on (mesh_hands_on ring own (units.Part mesh piece) note now)
-  sealed_hands_on ring own by all (units.Carried mesh body) cost note now = by_choice _ _ _ dropped_on (mesh_hands_on ring own (units.Carried mesh body) note now)
+  sealed_hands_on ring own by all (units.Carried mesh body) cost note now =
+      by_choice _ _ _ dropped_on (mesh_hands_on ring own (units.Carried mesh body) note now)
 
   by_ring : (r : Ring) → l.ring ≡ r → (by : ℕ) (all : Bool) (unit : MeshUnit) (cost note now : ℕ)
       → HandsOn (option_map_or (λ own. hear_sealed l own by all unit cost note now) (option_map (λ (g : Granted). g.address) r) (drop_it l BadUnit))
   by_ring None e by all unit cost note now = dropped_on
   by_ring (Some g) e by all unit cost note now = sealed_hands_on (subst (λ (k : Ring). IsSome k) (sym e) refl) g.address by all unit cost note now
 
-  plain_hands_on : (answer : List ℕ → Heard) (body : Option (List ℕ)) → ((b : List ℕ) → HandsOn (resting l (Ok (answer b)) (Err Store))) → HandsOn (hear_plain l answer body)
+  plain_hands_on : (answer : List ℕ → Heard) (body : Option (List ℕ)) → ((b : List ℕ) → HandsOn (resting l (Ok (answer b)) (Err Store)))
+      → HandsOn (hear_plain l answer body)
   plain_hands_on answer None h = dropped_on
   plain_hands_on answer (Some body) h = h body
 

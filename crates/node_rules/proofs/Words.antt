@@ -21,7 +21,8 @@ use Rattle.routing_set.specs.RoutingSet as routing
 use Rattle.routing_set.specs.OwnNumber as own_number
 use Rattle.node_rules.specs.Frames.{Up, Down}
 use Rattle.node_rules.specs.Memory.{StationMemory, Load, Command, Memory, address_of, next_hop}
-use Rattle.node_rules.specs.Drafts.{Draft, empty_draft, with_rank, with_own_number, with_next_tag, with_ring, with_routing_by, goes, units_of, all_go, body_goes, is_awaited, waits, seeks, seeks_once, sets_out, leave}
+use Rattle.node_rules.specs.Drafts.{Draft, empty_draft, with_rank, with_own_number, with_next_tag, with_ring, with_routing_by, goes, units_of, all_go}
+use Rattle.node_rules.specs.Drafts.{body_goes, is_awaited, waits, seeks, seeks_once, sets_out, leave}
 use Rattle.node_rules.specs.MemoryDrafts.{with_station, on_station, station_part, with_memory_by, with_pair_tags, goes_up, goes_down, is_commanded}
 use Rattle.node_rules.specs.Joining.{command_of}
 use Rattle.node_rules.specs.Calls.{idled}
@@ -75,7 +76,8 @@ due_turn floors (Some e) = by_rise (routing.raises floors e)
 offer_turn : (r : routing.Routing) (dest : ℕ) (rank : Rank) (next now : ℕ) → InTurn 0 1 (routing.offer_writes r dest rank next now)
 unfolding routing.entry_writes
 offer_turn r dest rank next now = InTurn-append 0 1 1 _ _ (due_turn r.floors (routing.forgotten r dest now))
-    (table_turn routing.ranks (unwrap_or (routing.place_after r.entries dest (routing.forgotten r dest now)) (length r.entries)) (routing.offered_entry dest rank next now) (omega arith))
+    (table_turn routing.ranks (unwrap_or (routing.place_after r.entries dest (routing.forgotten r dest now)) (length r.entries))
+    (routing.offered_entry dest rank next now) (omega arith))
 
 number_turn : (n : own_number.Numbering) → InTurn 2 3 (puts_of (own_number.advance_write n))
 number_turn n = by_limit (own_number.passes n)
@@ -166,7 +168,8 @@ module _ (l : StationMemory) where
       let longer = one_more d.units (record { to = to; unit = unit; note = note }) in
       record { count = omega arith; turns = f.turns }
 
-  pub rerouted_fits : (more last : ℕ) (change : routing.Routing → routing.Routing) (d : Draft StationMemory) → Fits l more last d → Fits l more last (with_routing_by change d)
+  pub rerouted_fits : (more last : ℕ) (change : routing.Routing → routing.Routing) (d : Draft StationMemory) → Fits l more last d
+      → Fits l more last (with_routing_by change d)
   unfolding with_routing_by
   rerouted_fits more last change d f = record { count = f.count; turns = f.turns }
 
@@ -175,11 +178,15 @@ module _ (l : StationMemory) where
   pub learns_done : (own origin : ℕ) (rank : Rank) (by now : ℕ) → IsDone l (leave own origin by (with_rank origin rank by now (empty_draft l)))
   learns_done own origin rank by now = done 0 1 _ (omega arith) (omega arith) (leave_fits 1 own origin by _ (ranked_fresh origin rank by now _ (begun_fresh 0)))
 
-  pub sends_on_done : (own origin : ℕ) (rank : Rank) (by now to : ℕ) (unit : MeshUnit) (note : ℕ) → IsDone l (goes to unit note (leave own origin by (with_rank origin rank by now (empty_draft l))))
-  sends_on_done own origin rank by now to unit note = done (0 + 1) 1 _ (omega arith) (omega arith) (goes_fits 0 1 to unit note _ (leave_fits 1 own origin by _ (ranked_fresh origin rank by now _ (begun_fresh 0))))
+  pub sends_on_done : (own origin : ℕ) (rank : Rank) (by now to : ℕ) (unit : MeshUnit) (note : ℕ)
+      → IsDone l (goes to unit note (leave own origin by (with_rank origin rank by now (empty_draft l))))
+  sends_on_done own origin rank by now to unit note = done (0 + 1) 1 _ (omega arith) (omega arith)
+      (goes_fits 0 1 to unit note _ (leave_fits 1 own origin by _ (ranked_fresh origin rank by now _ (begun_fresh 0))))
 
-  pub answers_done : (own origin : ℕ) (rank : Rank) (by now to : ℕ) (unit : MeshUnit) (note : ℕ) → IsDone l (goes to unit note (leave own origin by (with_own_number (with_rank origin rank by now (empty_draft l)))))
-  answers_done own origin rank by now to unit note = done (0 + 1) 3 _ (omega arith) (omega arith) (goes_fits 0 3 to unit note _ (leave_fits 3 own origin by _ (numbered_fresh _ (ranked_fresh origin rank by now _ (begun_fresh 0)))))
+  pub answers_done : (own origin : ℕ) (rank : Rank) (by now to : ℕ) (unit : MeshUnit) (note : ℕ)
+      → IsDone l (goes to unit note (leave own origin by (with_own_number (with_rank origin rank by now (empty_draft l)))))
+  answers_done own origin rank by now to unit note = done (0 + 1) 3 _ (omega arith) (omega arith)
+      (goes_fits 0 3 to unit note _ (leave_fits 3 own origin by _ (numbered_fresh _ (ranked_fresh origin rank by now _ (begun_fresh 0)))))
 
   pub goes_done : (to : ℕ) (unit : MeshUnit) (note : ℕ) → IsDone l (goes to unit note (empty_draft l))
   goes_done to unit note = done (0 + 1) 3 _ (omega arith) (omega arith) (goes_fits 0 3 to unit note _ (begun_fits 3 l))
@@ -187,13 +194,15 @@ module _ (l : StationMemory) where
   pub error_done : (change : routing.Routing → routing.Routing) → IsDone l (with_routing_by change (empty_draft l))
   error_done change = done 0 3 _ (omega arith) (omega arith) (rerouted_fits 0 3 change _ (begun_fits 3 l))
 
-  pub error_on_done : (to : ℕ) (unit : MeshUnit) (note : ℕ) (change : routing.Routing → routing.Routing) → IsDone l (goes to unit note (with_routing_by change (empty_draft l)))
+  pub error_on_done : (to : ℕ) (unit : MeshUnit) (note : ℕ) (change : routing.Routing → routing.Routing)
+      → IsDone l (goes to unit note (with_routing_by change (empty_draft l)))
   error_on_done to unit note change = done (0 + 1) 3 _ (omega arith) (omega arith) (goes_fits 0 3 to unit note _ (rerouted_fits 0 3 change _ (begun_fits 3 l)))
 
 -- # Bodies that set out
 
 module _ (l : StationMemory) where
-  body_fits : (more own hop to note : ℕ) (load : Load) (d : Draft StationMemory) → units_in load ≤ more → Fits l 0 2 d → Fits l more 3 (body_goes own hop to note load d)
+  body_fits : (more own hop to note : ℕ) (load : Load) (d : Draft StationMemory) → units_in load ≤ more → Fits l 0 2 d
+      → Fits l more 3 (body_goes own hop to note load d)
   unfolding body_goes
   body_fits more own hop to note load d few f =
       let n = f.count in
@@ -218,7 +227,8 @@ module _ (l : StationMemory) where
       by_wait true = looser l 0 2 more 3 d (omega arith) (omega arith) f
       by_wait false = looser l (0 + 1) 3 more 3 _ (omega arith) (omega arith) (goes_fits l 0 3 _ _ _ _ (numbered_fits d f))
 
-  pub sets_out_fits : (more own to note : ℕ) (load : Load) (now : ℕ) (d : Draft StationMemory) → 1 ≤ more → units_in load ≤ more → Fits l 0 2 d → Fits l more 3 (sets_out own to note load now d)
+  pub sets_out_fits : (more own to note : ℕ) (load : Load) (now : ℕ) (d : Draft StationMemory) → 1 ≤ more → units_in load ≤ more → Fits l 0 2 d
+      → Fits l more 3 (sets_out own to note load now d)
   sets_out_fits more own to note load now d one few f = by_hop (next_hop d.memory to) refl
     where
       by_hop : (hop : Option ℕ) → next_hop d.memory to ≡ hop → Fits l more 3 (sets_out own to note load now d)
@@ -278,14 +288,16 @@ module _ (l : StationMemory) where
       by_address : (own : Option ℕ) → IsDone l (option_map_or (λ own. on_station (sets_out own to 0 (Command (command_of message)) now) d) own d)
       by_address None = done l 0 1 d (omega arith) (omega arith) f
       by_address (Some own) =
-          let x = sets_out_fits 1 own to 0 (Command (command_of message)) now (station_part d) (omega arith) (omega arith) (record { count = f.count; turns = later_turn 0 1 2 d.puts (omega arith) f.turns }) in
+          let x = sets_out_fits 1 own to 0 (Command (command_of message)) now (station_part d) (omega arith) (omega arith)
+          (record { count = f.count; turns = later_turn 0 1 2 d.puts (omega arith) f.turns }) in
           let n = x.count in
           record { few = λ h. omega arith; turns = x.turns }
 
   pub quiet_done : (d : Draft Memory) → Fits l 0 1 d → IsDone l d
   quiet_done d f = done l 0 1 d (omega arith) (omega arith) f
 
-pub of_station_done : (m : Memory) (d : Draft StationMemory) → IsDone m.station d → IsDone m.station (record { puts = d.puts; memory = with_station d.memory m; units = d.units; plain = d.plain; made = d.made; opened = d.opened })
+pub of_station_done : (m : Memory) (d : Draft StationMemory) → IsDone m.station d
+    → IsDone m.station (record { puts = d.puts; memory = with_station d.memory m; units = d.units; plain = d.plain; made = d.made; opened = d.opened })
 of_station_done m d f = record { few = f.few; turns = f.turns }
 
 pub ruleset quiet = (begun_fits, on_ring, idled_fits, remembered_fits, tags_fit, entered_fits)

@@ -1,5 +1,6 @@
 -- What is left of a plan whose writes may fail.
-use Rattle.std.proofs.Common.{◌≡◌, ◌⊎◌, ℕ, ◌-◌, ◌≤◌, ◌<◌, Bool, true, false, List, [], ◌∷◌, ◌++◌, length, Option, Some, None, refl, sym, ap, ◌∙◌, suc, subst, inl, inr, ⊎_elim, arith}
+use Rattle.std.proofs.Common.{◌≡◌, ◌⊎◌, ℕ, ◌-◌, ◌≤◌, ◌<◌, Bool, true, false, List, [], ◌∷◌, ◌++◌, length, Option, Some, None, refl, sym, ap, ◌∙◌, suc, subst}
+use Rattle.std.proofs.Common.{inl, inr, ⊎_elim, arith}
 use Rattle.std.specs.Option.{option_map}
 use Rattle.std.specs.Prelude.{IfSome, if◌then◌else◌, nat_lt}
 use Rattle.std.specs.FinMap.{insert}
@@ -51,7 +52,8 @@ one_less : (front : List Write) (n : ℕ) → 1 < n → length front ≡ (n - 1)
 one_less front n far e = omega arith
 
 behind : (w : Write) (rest : List Write) (cut : Cut) (records : Records) (far : Bool) → nat_lt 1 cut.nth ≡ far
-    → Made rest (Some (nearer cut)) (insert records w.slot w.octets) (write rest (Some (nearer cut)) (insert records w.slot w.octets)) ⊎ Failed rest (Some (nearer cut)) (insert records w.slot w.octets) (write rest (Some (nearer cut)) (insert records w.slot w.octets))
+    → Made rest (Some (nearer cut)) (insert records w.slot w.octets) (write rest (Some (nearer cut)) (insert records w.slot w.octets))
+    ⊎ Failed rest (Some (nearer cut)) (insert records w.slot w.octets) (write rest (Some (nearer cut)) (insert records w.slot w.octets))
     → Made (w ∷ rest) (Some cut) records (first w rest cut records far) ⊎ Failed (w ∷ rest) (Some cut) records (first w rest cut records far)
 behind w rest cut records true t (inl m) = inl (record {
   whole = m.whole;
@@ -75,7 +77,8 @@ behind w rest cut records true t (inr f) = inr (record {
   by = cut;
   loss = refl;
   place = one_less f.front cut.nth (ltb-true _ _ t) (f.place ∙ ap (λ (c : Cut). c.nth - 1) (sym (same_Some _ _ f.loss)));
-  left = f.left ∙ ap (λ (c : Cut). if c.keeps_new then all_put (f.front ++ f.one ∷ []) (insert records w.slot w.octets) else all_put f.front (insert records w.slot w.octets)) (sym (same_Some _ _ f.loss));
+  left = f.left ∙ ap (λ (c : Cut). if c.keeps_new then all_put (f.front ++ f.one ∷ []) (insert records w.slot w.octets)
+      else all_put f.front (insert records w.slot w.octets)) (sym (same_Some _ _ f.loss));
   cut_left = f.cut_left;
 })
 behind w rest cut records false t h = inr (record {
@@ -102,7 +105,8 @@ first_is w rest cut records = by_test (nat_lt 1 cut.nth) refl
     by_test true t = rw t refl
     by_test false t = rw t refl
 
-cut_off : (puts : List Write) (cut : Cut) (records : Records) → Made puts (Some cut) records (write puts (Some cut) records) ⊎ Failed puts (Some cut) records (write puts (Some cut) records)
+cut_off : (puts : List Write) (cut : Cut) (records : Records)
+    → Made puts (Some cut) records (write puts (Some cut) records) ⊎ Failed puts (Some cut) records (write puts (Some cut) records)
 cut_off [] cut records = inl (record { whole = refl; spared = inl refl; cut_left = ap (λ n. Some (record cut { nth = n })) (none_less cut.nth); left = refl })
   where
     none_less : (n : ℕ) → n ≡ n - 0

@@ -24,7 +24,8 @@ use Rattle.node_rules.specs.declared.refusal.PresetFault.TheVariants as presets
 use Rattle.node_rules.specs.Memory.{StationMemory, Datagram, Command, address_of, next_hop}
 use Rattle.node_rules.specs.Plans.{Plan, resting}
 use Rattle.node_rules.specs.Accepting.{is_own}
-use Rattle.node_rules.specs.Drafts.{Draft, Ends, Lack, OfRoom, OfNumbers, alone, empty_draft, with_rank, with_ring, with_next_tag, sets_out, lack, is_awaited, counters_left, refused, sealing, sealed, checked, choose}
+use Rattle.node_rules.specs.Drafts.{Draft, Ends, Lack, OfRoom, OfNumbers, alone, empty_draft, with_rank, with_ring, with_next_tag, sets_out, lack, is_awaited}
+use Rattle.node_rules.specs.Drafts.{counters_left, refused, sealing, sealed, checked, choose}
 
 -- # Sending
 

@@ -1,5 +1,6 @@
 -- What the coordinator does: letting meters in, answering their messages, and handing out keys.
-use Rattle.std.specs.Prelude.{ℕ, ◌+◌, Bool, true, false, not, ◌==◌, ◌&&◌, nat_lt, List, [], ◌∷◌, ◌++◌, length, set, position, slice_get, is_some, Option, Some, None, Result, Ok, Err, if◌then◌else◌}
+use Rattle.std.specs.Prelude.{ℕ, ◌+◌, Bool, true, false, not, ◌==◌, ◌&&◌, nat_lt, List, [], ◌∷◌, ◌++◌, length, set, position, slice_get, is_some, Option, Some}
+use Rattle.std.specs.Prelude.{None, Result, Ok, Err, if◌then◌else◌}
 use Rattle.std.specs.List.{filter}
 use Rattle.std.specs.Option.{option_map, option_map_or, option_and_then}
 use Rattle.plc_base.specs.Faults.{◌then◌, ◌when◌}
@@ -39,7 +40,8 @@ use Rattle.node_rules.specs.Hearing.{dropped, hear}
 use Rattle.node_rules.specs.Calls as calls
 use Rattle.node_rules.specs.Joining.{first_packet, server_for, server_agrees, message, command_of}
 use Rattle.eap_psk.specs.Sessions.{rand_p_in}
-use Rattle.node_rules.specs.MemoryDrafts.{with_station, in_memory, on_station, with_memory_by, with_pair_tags, goes_down, is_commanded, command_lack, oldest, without_oldest, Unread, unread, packet_fault}
+use Rattle.node_rules.specs.MemoryDrafts.{with_station, in_memory, on_station, with_memory_by, with_pair_tags, goes_down, is_commanded, command_lack, oldest}
+use Rattle.node_rules.specs.MemoryDrafts.{without_oldest, Unread, unread, packet_fault}
 use Rattle.node_rules.specs.Drafts as drafts
 
 -- what the coordinator does about a frame that was accepted

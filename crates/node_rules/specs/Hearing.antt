@@ -20,11 +20,13 @@ use Rattle.node_rules.specs.declared.heard.Way.TheVariants.{Air, Near, Mesh as B
 use Rattle.node_rules.specs.declared.heard.Heard.{Heard}
 use Rattle.node_rules.specs.declared.heard.Heard.TheVariants as heard
 use Rattle.node_rules.specs.declared.refusal.Dropped.{Dropped}
-use Rattle.node_rules.specs.declared.refusal.Dropped.TheVariants.{BadUnit, NoRoute, HopsSpent, NotBetter, CostSpent, RoutesFull, BufferFull, SeqSpent, CounterSpent, Store}
+use Rattle.node_rules.specs.declared.refusal.Dropped.TheVariants.{BadUnit, NoRoute, HopsSpent, NotBetter, CostSpent, RoutesFull, BufferFull, SeqSpent}
+use Rattle.node_rules.specs.declared.refusal.Dropped.TheVariants.{CounterSpent, Store}
 use Rattle.node_rules.specs.Frames.{to_all}
 use Rattle.node_rules.specs.Memory.{StationMemory, address_of, next_hop}
 use Rattle.node_rules.specs.Plans.{Plan, resting}
-use Rattle.node_rules.specs.Drafts.{Draft, Ends, Lack, OfRoom, OfNumbers, alone, empty_draft, with_rank, with_own_number, with_routing_by, goes, send_message, leave, numbers_spent, refused, sealed, checked, choose}
+use Rattle.node_rules.specs.Drafts.{Draft, Ends, Lack, OfRoom, OfNumbers, alone, empty_draft, with_rank, with_own_number, with_routing_by, goes, send_message}
+use Rattle.node_rules.specs.Drafts.{leave, numbers_spent, refused, sealed, checked, choose}
 
 -- what a node does on the line about a frame that was accepted
 abbrev pub Hearing : Type 0

@@ -36,7 +36,8 @@ use Rattle.node_rules.specs.Hearing.{dropped, hear}
 use Rattle.node_rules.specs.Calls as calls
 use Rattle.node_rules.specs.Joining.{is_first, message}
 use Rattle.eap_psk.specs.Sessions.{peer_for, identifier_of, agreed_by}
-use Rattle.node_rules.specs.MemoryDrafts.{with_station, in_memory, on_station, with_memory_by, with_pair_tags, goes_up, goes_down, is_commanded, command_lack, oldest, without_oldest, Unread, unread, packet_fault}
+use Rattle.node_rules.specs.MemoryDrafts.{with_station, in_memory, on_station, with_memory_by, with_pair_tags, goes_up, goes_down, is_commanded, command_lack}
+use Rattle.node_rules.specs.MemoryDrafts.{oldest, without_oldest, Unread, unread, packet_fault}
 
 -- what a meter does about a frame that was accepted
 abbrev pub Hearing : Type 0

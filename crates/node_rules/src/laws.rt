@@ -15,7 +15,12 @@ ghost use Rattle.plc_base.specs.declared.out_frame.Out.{Out};
 ghost use Rattle.node_rules.specs.Carrying.{Carries, IsCarriedOut};
 ghost use Rattle.node_rules.specs.Plans.{Plan, resting, within};
 ghost use Rattle.node_rules.specs.States.{State};
-ghost use Rattle.node_rules.specs.Laws.{WritesFailCleanly, NoCutNoFailure, HaltedHasNoAddress, RinglessHasNoAddress, HaltedDoesNothing, AFrameRefusedChangesNothing, ADropChangesNothing, AMetersDropChangesNothing, ACoordinatorsDropChangesNothing, ASendRefusedChangesNothing, AJoinRefusedChangesNothing, AnOrderRefusedChangesNothing, TheRoomNamesTheRefusal, HearingIsBounded, RepliesAreFew, AMetersRepliesAreFew, ACoordinatorsRepliesAreFew, AMetersHearingIsBounded, ACoordinatorsHearingIsBounded, ASendIsBounded, AJoinIsBounded, AnOrderIsBounded, AcceptingOnlyMarks, AnEmptyStoreIsBlank};
+ghost use Rattle.node_rules.specs.Laws.{WritesFailCleanly, NoCutNoFailure, HaltedHasNoAddress, RinglessHasNoAddress, HaltedDoesNothing};
+ghost use Rattle.node_rules.specs.Laws.{AFrameRefusedChangesNothing, ADropChangesNothing, AMetersDropChangesNothing, ACoordinatorsDropChangesNothing};
+ghost use Rattle.node_rules.specs.Laws.{ASendRefusedChangesNothing, AJoinRefusedChangesNothing, AnOrderRefusedChangesNothing, TheRoomNamesTheRefusal};
+ghost use Rattle.node_rules.specs.Laws.{HearingIsBounded, RepliesAreFew, AMetersRepliesAreFew, ACoordinatorsRepliesAreFew, AMetersHearingIsBounded};
+ghost use Rattle.node_rules.specs.Laws.{ACoordinatorsHearingIsBounded, ASendIsBounded, AJoinIsBounded, AnOrderIsBounded, AcceptingOnlyMarks};
+ghost use Rattle.node_rules.specs.Laws.{AnEmptyStoreIsBlank};
 
 /// Where the write of a plan fails, the writes in front of it are stored and those after it are not; the failed one is stored as the
 /// loss of power says. The node answers the word of a failed write, and nothing is sent, made or kept in memory. A plan whose writes are

@@ -32,7 +32,8 @@ ends_push start (end ∷ ends) count more are order = (are.0, ends_push end ends
 -- a part that stands before what is appended
 part_before : (xs ys : List ℕ) (i j : ℕ) → i ≤ j → j ≤ length xs → slice_range (xs ++ ys) i j ≡ slice_range xs i j
 part_before xs ys i j order within =
-    ap (take (j - i)) (drop-append-le i xs ys (omega (arith, order, within))) ∙ take-append-le (j - i) (drop i xs) ys (omega (arith, length-drop i xs, order, within))
+    ap (take (j - i)) (drop-append-le i xs ys (omega (arith, order, within)))
+    ∙ take-append-le (j - i) (drop i xs) ys (omega (arith, length-drop i xs, order, within))
 
 last_part : (xs ys : List ℕ) → slice_range (xs ++ ys) (length xs) (length (xs ++ ys)) ≡ ys
 last_part xs ys =

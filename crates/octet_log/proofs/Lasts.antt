@@ -1,5 +1,6 @@
 -- The last item that is the one sought, as items are added and left out.
-use Rattle.std.proofs.Common.{◌≡◌, inl, inr, ℕ, zero, suc, ◌+◌, ◌-◌, ◌<◌, ◌≤◌, List, [], ◌∷◌, ◌++◌, length, map, take, Some, refl, sym, ap, subst, ◌∙◌, arith, length-append, length-take}
+use Rattle.std.proofs.Common.{◌≡◌, inl, inr, ℕ, zero, suc, ◌+◌, ◌-◌, ◌<◌, ◌≤◌, List, [], ◌∷◌, ◌++◌, length, map, take, Some, refl, sym, ap, subst, ◌∙◌, arith}
+use Rattle.std.proofs.Common.{length-append, length-take}
 use Rattle.std.specs.Prelude.{slice_get, slice_index}
 use Rattle.std.specs.Prelude.{Result, Ok, Err, IsOk, is_ok, if◌then◌else◌}
 use Rattle.std.specs.Option.{option_map}
@@ -60,11 +61,13 @@ one_is_last items item m n first second = elim (cases_lt m n) [
 chain_at : (strings : List (List ℕ)) (k : ℕ) (octets : List ℕ) → slice_get strings k ≡ Some octets → slice_get (map chain_of strings) k ≡ Some (chain_of octets)
 chain_at strings k octets e = slice_get-map chain_of strings k ∙ ap (option_map chain_of) e
 
-pub chain_index : (strings : List (List ℕ)) (k : ℕ) (octets : List ℕ) → slice_get strings k ≡ Some octets → slice_index (map chain_of strings) k ≡ chain_of octets
+pub chain_index : (strings : List (List ℕ)) (k : ℕ) (octets : List ℕ) → slice_get strings k ≡ Some octets
+    → slice_index (map chain_of strings) k ≡ chain_of octets
 chain_index strings k octets e = get_or_from_slice_get (map chain_of strings) k (chain_of octets) 0 (chain_at strings k octets e)
 
 -- what is last up to the last number of its chain is last
-pub last_in_chain : (strings : List (List ℕ)) (octets : List ℕ) (from n : ℕ) → IsLast (map chain_of strings) (chain_of octets) from → IsLast (take from strings) octets n → IsLast strings octets n
+pub last_in_chain : (strings : List (List ℕ)) (octets : List ℕ) (from n : ℕ) → IsLast (map chain_of strings) (chain_of octets) from
+    → IsLast (take from strings) octets n → IsLast strings octets n
 last_in_chain strings octets from n chained is =
     let cut = length-take from strings in record {
       within = omega (arith, is.within, cut);
@@ -76,10 +79,12 @@ last_in_chain strings octets from n chained is =
     }
 
 -- what is last up to the number before in its chain is last among those before
-pub last_before : (strings : List (List ℕ)) (octets : List ℕ) (count from n : ℕ) → IsLast (take count (map chain_of strings)) (chain_of octets) from → count ≤ length strings
+pub last_before : (strings : List (List ℕ)) (octets : List ℕ) (count from n : ℕ) → IsLast (take count (map chain_of strings)) (chain_of octets) from
+    → count ≤ length strings
     → IsLast (take from strings) octets n → IsLast (take count strings) octets n
 last_before strings octets count from n chained within is =
-    let cut : length (take count (map chain_of strings)) ≡ count = omega (arith, length-take count (map chain_of strings), length-map strings chain_of, within) in
+    let cut : length (take count (map chain_of strings))
+    ≡ count = omega (arith, length-take count (map chain_of strings), length-map strings chain_of, within) in
     let order : from ≤ count = omega (arith, chained.within, cut) in
     last_in_chain (take count strings) octets from n
     (subst (λ (cs : List ℕ). IsLast cs (chain_of octets) from) (take-map chain_of count strings) chained)
@@ -93,11 +98,13 @@ pub record IsSought (strings : List (List ℕ)) (octets : List ℕ) (from number
   pub chain : 0 < number → slice_get (map chain_of strings) (number - 1) ≡ Some (chain_of octets)
   pub none : (k : ℕ) → number ≤ k → k < from → slice_get strings k ≡ Some octets → ⊥
 
-pub sought_first : (strings : List (List ℕ)) (octets : List ℕ) (from : ℕ) → (0 < from → slice_get (map chain_of strings) (from - 1) ≡ Some (chain_of octets)) → IsSought strings octets from from
+pub sought_first : (strings : List (List ℕ)) (octets : List ℕ) (from : ℕ) → (0 < from → slice_get (map chain_of strings) (from - 1) ≡ Some (chain_of octets))
+    → IsSought strings octets from from
 sought_first strings octets from chain = record { upto = omega arith; chain = chain; none = λ k low high _. absurd (omega (arith, low, high)) }
 
 -- the number before in the chain
-pub sought_before : (strings : List (List ℕ)) (octets : List ℕ) (from number before : ℕ) → IsSought strings octets from number → 0 < number → from ≤ length strings
+pub sought_before : (strings : List (List ℕ)) (octets : List ℕ) (from number before : ℕ) → IsSought strings octets from number → 0 < number
+    → from ≤ length strings
     → (slice_get strings (number - 1) ≡ Some octets → ⊥)
     → IsLast (take (number - 1) (map chain_of strings)) (slice_index (map chain_of strings) (number - 1)) before
     → IsSought strings octets from before
@@ -105,7 +112,8 @@ sought_before strings octets from number before was some within differs is =
     let cut = length-take (number - 1) (map chain_of strings) in
     let count = length-map strings chain_of in
     let order : before ≤ number - 1 = omega (arith, is.within, cut) in
-    let chain : slice_index (map chain_of strings) (number - 1) ≡ chain_of octets = get_or_from_slice_get (map chain_of strings) (number - 1) (chain_of octets) 0 (was.chain some) in
+    let chain : slice_index (map chain_of strings) (number - 1)
+    ≡ chain_of octets = get_or_from_slice_get (map chain_of strings) (number - 1) (chain_of octets) 0 (was.chain some) in
     let last = subst (λ c. IsLast (take (number - 1) (map chain_of strings)) c before) chain is in record {
       upto = omega (arith, order, was.upto);
       chain = λ positive. sym (got_take (number - 1) (map chain_of strings) (before - 1) (omega (arith, positive, order))) ∙ last.here positive;

@@ -1,8 +1,10 @@
 -- Chains of numbers, link by link.
-use Rattle.std.proofs.Common.{◌≡◌, inl, inr, ℕ, zero, suc, ◌+◌, ◌-◌, ◌<◌, ◌≤◌, List, [], ◌∷◌, ◌++◌, length, take, set, get_or, replicate, refl, sym, subst, ◌∙◌, arith, length-append}
+use Rattle.std.proofs.Common.{◌≡◌, inl, inr, ℕ, zero, suc, ◌+◌, ◌-◌, ◌<◌, ◌≤◌, List, [], ◌∷◌, ◌++◌, length, take, set, get_or, replicate, refl, sym, subst, ◌∙◌}
+use Rattle.std.proofs.Common.{arith, length-append}
 use Rattle.std.specs.Prelude.{slice_index}
 use Rattle.std.proofs.lemmas.Bool.{cases_lt, cases_eq}
-use Rattle.std.proofs.lemmas.List.{get_or_append_left, get_or_push, get_or-set_same, get_or-set_other, take_all, take-append-le, map_push, length-map, length-set}
+use Rattle.std.proofs.lemmas.List.{get_or_append_left, get_or_push, get_or-set_same, get_or-set_other, take_all, take-append-le, map_push, length-map}
+use Rattle.std.proofs.lemmas.List.{length-set}
 use Rattle.octet_log.specs.declared.chains.Link.{Link}
 use Rattle.octet_log.specs.Keeping.{IsLinked, chains_of, befores_of}
 use Rattle.octet_log.specs.Logs.{IsLast}
@@ -14,7 +16,8 @@ zeros_at (suc n) zero = refl
 zeros_at (suc n) (suc k) = zeros_at n k
 
 -- one more link
-pub linked_push : (heads : List ℕ) (links : List Link) (places most : ℕ) → IsLinked heads links places most → (l : Link) → l.chain < 16384 → 1 ≤ places → l.before ≡ slice_index heads l.chain
+pub linked_push : (heads : List ℕ) (links : List Link) (places most : ℕ) → IsLinked heads links places most → (l : Link) → l.chain < 16384 → 1 ≤ places
+    → l.before ≡ slice_index heads l.chain
     → (n most' : ℕ) → n ≡ length links + 1 → most ≤ most' → IsLinked (set heads l.chain n) (links ++ l ∷ []) (places - 1) most'
 linked_push heads links places most was l in_range some before n most' number more =
     let size : length heads ≡ 16384 = was.made (omega (arith, some)) in
@@ -28,8 +31,10 @@ linked_push heads links places most was l in_range some before n most' number mo
       fit = omega (arith, was.fit, some, more, length-append links (l ∷ []));
       head = λ chain range. subst (λ (cs : List ℕ). IsLast cs chain (slice_index (set heads l.chain n) chain)) (sym grown) (elim (cases_eq chain l.chain) [
         | inl same ↦ subst (λ c. IsLast (chains_of links ++ l.chain ∷ []) c (slice_index (set heads l.chain n) c)) (sym same)
-            (subst (IsLast (chains_of links ++ l.chain ∷ []) l.chain) (sym (get_or-set_same heads l.chain n 0 (omega (arith, size, in_range)))) (own_pushed (chains_of links) l.chain n (omega (arith, number, count))))
-        | inr other ↦ subst (IsLast (chains_of links ++ l.chain ∷ []) chain) (sym (get_or-set_other heads l.chain chain n 0 other)) (other_pushed (chains_of links) chain l.chain (slice_index heads chain) (λ e. other (sym e)) (was.head chain range))
+            (subst (IsLast (chains_of links ++ l.chain ∷ []) l.chain) (sym (get_or-set_same heads l.chain n 0 (omega (arith, size, in_range))))
+            (own_pushed (chains_of links) l.chain n (omega (arith, number, count))))
+        | inr other ↦ subst (IsLast (chains_of links ++ l.chain ∷ []) chain) (sym (get_or-set_other heads l.chain chain n 0 other))
+            (other_pushed (chains_of links) chain l.chain (slice_index heads chain) (λ e. other (sym e)) (was.head chain range))
       ]);
       before = λ k inside. rw (grown, grown2) (elim (cases_lt k (length links)) [
         | inl old ↦
@@ -39,7 +44,8 @@ linked_push heads links places most was l in_range some before n most' number mo
             rw (cut, at, at2) (was.before k old)
         | inr new ↦
             let last : length links ≡ k = omega (arith, new, inside, length-append links (l ∷ [])) in
-            let cut : take k (chains_of links ++ l.chain ∷ []) ≡ chains_of links = take-append-le k (chains_of links) (l.chain ∷ []) (omega (arith, last, count)) ∙ take_all k (chains_of links) (omega (arith, last, count)) in
+            let cut : take k (chains_of links ++ l.chain ∷ []) ≡ chains_of links = take-append-le k (chains_of links) (l.chain ∷ [])
+            (omega (arith, last, count)) ∙ take_all k (chains_of links) (omega (arith, last, count)) in
             let at = get_or_push (chains_of links) l.chain 0 k (omega (arith, last, count)) in
             let at2 = get_or_push (befores_of links) l.before 0 k (omega (arith, last, count2)) in
             rw (cut, at, at2, before) (was.head l.chain in_range)

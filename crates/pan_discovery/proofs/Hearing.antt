@@ -1,5 +1,6 @@
 -- The place of one more agent in a table of 16.
-use Rattle.std.proofs.Common.{◌≡◌, ◌<◌, ◌≤◌, ℕ, zero, suc, ◌+◌, Bool, true, false, cond, List, [], ◌∷◌, length, take, Some, None, refl, sym, ap, ◌∙◌, take_all, arith}
+use Rattle.std.proofs.Common.{◌≡◌, ◌<◌, ◌≤◌, ℕ, zero, suc, ◌+◌, Bool, true, false, cond, List, [], ◌∷◌, length, take, Some, None, refl, sym, ap, ◌∙◌, take_all}
+use Rattle.std.proofs.Common.{arith}
 use Rattle.std.specs.Prelude.{not, nat_lt, insert, position}
 use Rattle.std.specs.List.{list_any, position_or_len}
 use Rattle.std.proofs.lemmas.Bool.{ltb-false}
@@ -18,7 +19,8 @@ placed_within : (h : Agent) (n : ℕ) (xs : List Agent) → place h xs ≤ n →
 placed_within h n [] le = refl
 placed_within h n (x ∷ xs) le = by_test (λ m le. placed_within h m xs le) (nat_lt (rank h) (rank x)) n refl le
   where
-    by_test : ((m : ℕ) → place h xs ≤ m → take (suc m) (placed_by rank h xs) ≡ insert (take m xs) (place h xs) h) → (b : Bool) (n : ℕ) → nat_lt (rank h) (rank x) ≡ b → cond (not b) (1 + place h xs) 0 ≤ n
+    by_test : ((m : ℕ) → place h xs ≤ m → take (suc m) (placed_by rank h xs) ≡ insert (take m xs) (place h xs) h) → (b : Bool) (n : ℕ)
+        → nat_lt (rank h) (rank x) ≡ b → cond (not b) (1 + place h xs) 0 ≤ n
         → take (suc n) (cond b (h ∷ (x ∷ xs)) (x ∷ placed_by rank h xs)) ≡ insert (take n (x ∷ xs)) (cond (not b) (1 + place h xs) 0) h
     by_test more true n e le = refl
     by_test more false zero e le = absurd (omega (arith, le))

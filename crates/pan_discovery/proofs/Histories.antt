@@ -10,7 +10,8 @@ use Rattle.pan_discovery.proofs.Hearing.{first_agents}
 one_more_beacon : (scanning : Bool) (heard : List Agent) (a : Agent)
     → let agents : List Agent = take 16 (agents_of (if scanning then a ∷ heard else heard)) in
     let after : Scanned = record { scanning = scanning; agents = agents } in
-    after ≡ (if scanning then record { scanning = scanning; agents = heard_after a (take 16 (agents_of heard)) } else record { scanning = scanning; agents = take 16 (agents_of heard) })
+    after ≡ (if scanning then record { scanning = scanning; agents = heard_after a (take 16 (agents_of heard)) }
+    else record { scanning = scanning; agents = take 16 (agents_of heard) })
 one_more_beacon true heard a = ap (λ (agents : List Agent). record { scanning = true; agents = agents }) (first_agents a heard)
 one_more_beacon false heard a = refl
 

@@ -16,7 +16,8 @@ use Rattle.pan_discovery.proofs.Orders.{From, Sorted, Free, Distinct, sorted_all
 module _ (P : Agent → Type 0) where
   all_firsts : (xs : List Agent) → All P xs → All P (firsts xs)
   all_firsts [] h = h
-  all_firsts (x ∷ xs) h = All-cons P x _ (All-head P x xs h) (All-filter (λ (a : Agent). not (a.address == x.address)) P (firsts xs) (all_firsts xs (All-tail P x xs h)))
+  all_firsts (x ∷ xs) h =
+      All-cons P x _ (All-head P x xs h) (All-filter (λ (a : Agent). not (a.address == x.address)) P (firsts xs) (all_firsts xs (All-tail P x xs h)))
 
   all_placed : (x : Agent) (xs : List Agent) → P x → All P xs → All P (placed_by rank x xs)
   all_placed x [] p h = All-cons P x [] p h
@@ -64,7 +65,8 @@ before a b fa fb le other = by_total (cases_lt a.total b.total)
     by_total (inl cheaper) = inl cheaper
     by_total (inr dearer) = inr (omega (arith, dearer, le, fa, fb), omega (arith, dearer, le, fa, fb, other))
 
-all_before : (x : Agent) (xs : List Agent) → IsAddress x.address → All (λ (a : Agent). IsAddress a.address) xs → From (rank x) xs → Free x.address xs → All (ComesBefore x) xs
+all_before : (x : Agent) (xs : List Agent) → IsAddress x.address → All (λ (a : Agent). IsAddress a.address) xs → From (rank x) xs → Free x.address xs
+    → All (ComesBefore x) xs
 all_before x [] fx fits f free = All-nil (ComesBefore x)
 all_before x (y ∷ ys) fx fits f free =
     All-cons (ComesBefore x) y ys (before x y fx (All-head (λ (a : Agent). IsAddress a.address) y ys fits) f.0 (λ same. eqb-false _ _ free.0 (sym same)))

@@ -21,7 +21,8 @@ without_twice : (n : ℕ) (xs : List Agent) → without n (without n xs) ≡ wit
 without_twice n [] = refl
 without_twice n (x ∷ xs) = by_test (without_twice n xs) (x.address == n) refl
   where
-    by_test : (without n (without n xs) ≡ without n xs) → (b : Bool) → (x.address == n) ≡ b → without n (cond (not b) (x ∷ without n xs) (without n xs)) ≡ cond (not b) (x ∷ without n xs) (without n xs)
+    by_test : (without n (without n xs) ≡ without n xs) → (b : Bool) → (x.address == n) ≡ b
+        → without n (cond (not b) (x ∷ without n xs) (without n xs)) ≡ cond (not b) (x ∷ without n xs) (without n xs)
     by_test more true e = more
     by_test more false e = rw e (ap (λ (ys : List Agent). x ∷ ys) (more))
 
@@ -97,7 +98,8 @@ from_firsts n (x ∷ xs) h = (h.0, from_without n x.address (firsts xs) (from_fi
 
 sorted_firsts : (xs : List Agent) → Sorted xs → Sorted (firsts xs)
 sorted_firsts [] h = tt
-sorted_firsts (x ∷ xs) h = (from_without (rank x) x.address (firsts xs) (from_firsts (rank x) xs h.0), sorted_without x.address (firsts xs) (sorted_firsts xs h.1))
+sorted_firsts (x ∷ xs) h =
+    (from_without (rank x) x.address (firsts xs) (from_firsts (rank x) xs h.0), sorted_without x.address (firsts xs) (sorted_firsts xs h.1))
 
 -- # One more beacon among agents
 
@@ -136,11 +138,13 @@ added_beside : (h : Agent) (n : ℕ) (xs : List Agent) → (h.address == n) ≡ 
 added_beside h n [] other s = rw other refl
 added_beside h n (x ∷ xs) other s = by_tests (added_beside h n xs other s.1) (nat_lt (rank h) (rank x)) (x.address == h.address) (x.address == n) refl refl refl
   where
-    by_tests : (without n (added h xs) ≡ added h (without n xs)) → (b c d : Bool) → nat_lt (rank h) (rank x) ≡ b → (x.address == h.address) ≡ c → (x.address == n) ≡ d
+    by_tests : (without n (added h xs) ≡ added h (without n xs)) → (b c d : Bool) → nat_lt (rank h) (rank x) ≡ b → (x.address == h.address) ≡ c
+        → (x.address == n) ≡ d
         → without n (cond b (h ∷ without h.address (x ∷ xs)) (cond c (x ∷ xs) (x ∷ added h xs))) ≡ added h (without n (x ∷ xs))
     by_tests more true c d eb ec ed =
         let all : From (suc (rank h)) (x ∷ xs) = front_all h x xs (ltb-true _ _ eb) s.0 in
-        let right : added h (without n (x ∷ xs)) ≡ h ∷ without h.address (without n (x ∷ xs)) = added_front h (without n (x ∷ xs)) (from_without (suc (rank h)) n (x ∷ xs) all) in
+        let right : added h (without n (x ∷ xs))
+        ≡ h ∷ without h.address (without n (x ∷ xs)) = added_front h (without n (x ∷ xs)) (from_without (suc (rank h)) n (x ∷ xs) all) in
         rw other (ap (λ (ys : List Agent). h ∷ ys) (without_both n h.address (x ∷ xs))) ∙ sym right
     by_tests more false true true eb ec ed =
         let same : h.address ≡ n = sym (eqb-true _ _ ec) ∙ eqb-true _ _ ed in
@@ -273,7 +277,8 @@ known_later : (h : Agent) (xs : List Agent) → From (suc (rank h)) xs → list_
 known_later h [] f = refl
 known_later h (x ∷ xs) f = by_test (known_later h xs f.1) (h.address == x.address) refl
   where
-    by_test : (list_any (is_known_by h) xs ≡ false) → (b : Bool) → (h.address == x.address) ≡ b → ((b && nat_le x.total h.total) || list_any (is_known_by h) xs) ≡ false
+    by_test : (list_any (is_known_by h) xs ≡ false) → (b : Bool) → (h.address == x.address) ≡ b
+        → ((b && nat_le x.total h.total) || list_any (is_known_by h) xs) ≡ false
     by_test more true e =
         let same : h.address ≡ x.address = eqb-true _ _ e in
         let dearer : nat_le x.total h.total ≡ false = grind (arith, common_steps, f.0, same) in
@@ -297,7 +302,8 @@ pub added_is : (h : Agent) (xs : List Agent) → Sorted xs
 added_is h [] s = refl
 added_is h (x ∷ xs) s = by_tests (added_is h xs s.1) (nat_lt (rank h) (rank x)) (x.address == h.address) refl refl
   where
-    by_tests : (added h xs ≡ cond (list_any (is_known_by h) xs) xs (placed_by rank h (without h.address xs))) → (b c : Bool) → nat_lt (rank h) (rank x) ≡ b → (x.address == h.address) ≡ c
+    by_tests : (added h xs ≡ cond (list_any (is_known_by h) xs) xs (placed_by rank h (without h.address xs))) → (b c : Bool) → nat_lt (rank h) (rank x) ≡ b
+        → (x.address == h.address) ≡ c
         → cond b (h ∷ without h.address (x ∷ xs)) (cond c (x ∷ xs) (x ∷ added h xs))
         ≡ cond (list_any (is_known_by h) (x ∷ xs)) (x ∷ xs) (placed_by rank h (without h.address (x ∷ xs)))
     by_tests more true c eb ec =

@@ -1,5 +1,6 @@
 -- What is read out of octets is the request or the beacon that they spell, and the other way round.
-use Rattle.std.proofs.Common.{◌≡◌, ◌<◌, ◌≤◌, ◌==◌, ℕ, ◌+◌, Bool, true, false, List, [], ◌∷◌, ◌++◌, length, drop, Option, Some, None, if◌then◌else◌, refl, sym, ap, subst, ◌∙◌, arith}
+use Rattle.std.proofs.Common.{◌≡◌, ◌<◌, ◌≤◌, ◌==◌, ℕ, ◌+◌, Bool, true, false, List, [], ◌∷◌, ◌++◌, length, drop, Option, Some, None, if◌then◌else◌, refl, sym}
+use Rattle.std.proofs.Common.{ap, subst, ◌∙◌, arith}
 use Rattle.std.specs.Prelude.{IfSome, slice_index}
 use Rattle.std.proofs.lemmas.Bool.{and_parts, eqb-true, ltb-true}
 use Rattle.std.proofs.lemmas.List.Elements.{All-drop}
@@ -21,7 +22,8 @@ request_read : (seq : ℕ) → discovery_in (request_spelling seq) ≡ Some (Req
 unfolding discovery_in is_request octet two
 request_read seq = refl
 
-beacon_read : (seq pan from cost : ℕ) → IsDiscovery (Beacon seq pan from cost) → discovery_in (beacon_spelling seq pan from cost) ≡ Some (Beacon seq pan from cost)
+beacon_read : (seq pan from cost : ℕ) → IsDiscovery (Beacon seq pan from cost)
+    → discovery_in (beacon_spelling seq pan from cost) ≡ Some (Beacon seq pan from cost)
 unfolding discovery_in is_beacon octet
 beacon_read seq pan from cost h =
     let octets : List ℕ = beacon_spelling seq pan from cost in
@@ -29,8 +31,10 @@ beacon_read seq pan from cost h =
     let kind : two 0 octets ≡ 0x0080 = two_behind [] 0x0080 (seq ∷ little_bytes 2 pan ++ (little_bytes 2 from ++ end)) (omega arith) in
     let e0 : little_two 3 octets ≡ pan = little_two_behind (0x00 ∷ 0x80 ∷ seq ∷ []) pan (little_bytes 2 from ++ end) h.1 in
     let e1 : little_two 5 octets ≡ from = little_two_behind (0x00 ∷ 0x80 ∷ seq ∷ little_bytes 2 pan) from end (omega (arith, h.2)) in
-    let lists : two 9 octets ≡ 0 = two_behind (0x00 ∷ 0x80 ∷ seq ∷ little_bytes 2 pan ++ (little_bytes 2 from ++ (0xFF ∷ role from ∷ []))) 0 (big_bytes 2 cost) (omega arith) in
-    let e2 : two 11 octets ≡ cost = two_behind (0x00 ∷ 0x80 ∷ seq ∷ little_bytes 2 pan ++ (little_bytes 2 from ++ (0xFF ∷ role from ∷ 0x00 ∷ 0x00 ∷ []))) cost [] h.3 in
+    let lists : two 9 octets ≡ 0 = two_behind (0x00 ∷ 0x80 ∷ seq ∷ little_bytes 2 pan ++ (little_bytes 2 from ++ (0xFF ∷ role from ∷ []))) 0 (big_bytes 2 cost)
+    (omega arith) in
+    let e2 : two 11 octets ≡ cost = two_behind (0x00 ∷ 0x80 ∷ seq ∷ little_bytes 2 pan ++ (little_bytes 2 from ++ (0xFF ∷ role from ∷ 0x00 ∷ 0x00 ∷ []))) cost
+    [] h.3 in
     let valid : is_address from ≡ true = grind (arith, common_steps) in
     let same : (role from == role from) ≡ true = grind (arith, common_steps) in
     rw (kind, e0, e1, valid, same, lists, e2) refl
@@ -47,7 +51,8 @@ one_value octets a b h k = same_Some _ _ (sym (discoveries_read a octets h) ∙ 
 
 -- # What is read is spelled
 
-little_two_then : (at : ℕ) (octets : List ℕ) → AreOctets octets → at + 2 ≤ length octets → after at octets ≡ little_bytes 2 (little_two at octets) ++ after (at + 2) octets
+little_two_then : (at : ℕ) (octets : List ℕ) → AreOctets octets → at + 2 ≤ length octets
+    → after at octets ≡ little_bytes 2 (little_two at octets) ++ after (at + 2) octets
 unfolding little_two
 little_two_then at octets fits whole =
     let read = little_stands 2 at _ octets whole fits refl in
@@ -111,7 +116,8 @@ beacon_spelled octets fits is =
     let tail : after 7 octets ≡ 0xFF ∷ role (little_two 5 octets) ∷ 0x00 ∷ 0x00 ∷ big_bytes 2 (two 11 octets) =
     e4 ∙ (λ i. frames i ∷ e5 i) ∙ (λ i. 0xFF ∷ sender i ∷ e6 i) ∙ (λ i. 0xFF ∷ role (little_two 5 octets) ∷ (lists i ++ e7 i))
     ∙ ap (λ (o : List ℕ). 0xFF ∷ role (little_two 5 octets) ∷ 0x00 ∷ 0x00 ∷ (big_bytes 2 (two 11 octets) ++ o)) e8 in
-    let head : after 3 octets ≡ little_bytes 2 (little_two 3 octets) ++ (little_bytes 2 (little_two 5 octets) ++ (0xFF ∷ role (little_two 5 octets) ∷ 0x00 ∷ 0x00 ∷ big_bytes 2 (two 11 octets))) =
+    let head : after 3 octets ≡ little_bytes 2 (little_two 3 octets)
+    ++ (little_bytes 2 (little_two 5 octets) ++ (0xFF ∷ role (little_two 5 octets) ∷ 0x00 ∷ 0x00 ∷ big_bytes 2 (two 11 octets))) =
     e2 ∙ ap (λ (o : List ℕ). little_bytes 2 (little_two 3 octets) ++ o) (e3 ∙ ap (λ (o : List ℕ). little_bytes 2 (little_two 5 octets) ++ o) tail) in (
       (octet_low 2 octets fits, little_two_low 3 octets fits, ltb-true _ _ c.0, two_low 11 octets fits),
       sym (after_none octets) ∙ e0 ∙ (λ i. kind i ++ e1 i) ∙ ap (λ (o : List ℕ). 0x00 ∷ 0x80 ∷ octet 2 octets ∷ o) head,

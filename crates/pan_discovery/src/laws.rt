@@ -1,5 +1,6 @@
 //! Laws of discovery, over its definitions alone: each stands as the contract of a function that does nothing.
-ghost use Rattle.pan_discovery.specs.Laws.{DiscoveriesAreRead, ReadDiscoveriesAreSpelled, AgentsAreInOrder, AgentsAreDistinct, AgentsWereHeard, SendersAreAgents, FirstAgentsSuffice, OneMoreEntry};
+ghost use Rattle.pan_discovery.specs.Laws.{DiscoveriesAreRead, ReadDiscoveriesAreSpelled, AgentsAreInOrder, AgentsAreDistinct, AgentsWereHeard};
+ghost use Rattle.pan_discovery.specs.Laws.{SendersAreAgents, FirstAgentsSuffice, OneMoreEntry};
 
 /// The request or beacon that octets spell is read out of them.
 pub fn discoveries_are_read()

@@ -1,5 +1,6 @@
 -- What goes out of a node is a path message again.
-use Rattle.std.proofs.Common.{◌≡◌, ◌≢◌, ◌==◌, ℕ, ◌+◌, ◌-◌, Bool, true, false, List, [], ◌∷◌, ◌++◌, length, Option, Some, None, Ok, Err, if◌then◌else◌, refl, ◌∙◌, arith}
+use Rattle.std.proofs.Common.{◌≡◌, ◌≢◌, ◌==◌, ℕ, ◌+◌, ◌-◌, Bool, true, false, List, [], ◌∷◌, ◌++◌, length, Option, Some, None, Ok, Err, if◌then◌else◌, refl}
+use Rattle.std.proofs.Common.{◌∙◌, arith}
 use Rattle.std.specs.Prelude.{IfOk, position, slice_index}
 use Rattle.std.proofs.lemmas.Bool.{eqb-false}
 use Rattle.std.proofs.lemmas.Grind.{common_steps}
@@ -44,7 +45,8 @@ led_fits own target walk (Some to) fits h = by_tests (has own walk) (target == o
         let other : length walk ≢ 15 = eqb-false _ _ ec in
         (h.0, omega (arith, long), omega (arith, long), longer_walk own walk fits h.3 ea, still_sought own target walk h.4 eb)
 
-ask_fits : (own from : ℕ) (next : Option ℕ) (target : ℕ) (walk : List ℕ) → IsAddress own → IsPath (Ask target walk) → IfOk (ask_taken own from next target walk) IsStep
+ask_fits : (own from : ℕ) (next : Option ℕ) (target : ℕ) (walk : List ℕ) → IsAddress own → IsPath (Ask target walk)
+    → IfOk (ask_taken own from next target walk) IsStep
 ask_fits own from next target walk fits h = by_test (ends_with from walk) (led_fits own target walk (hop own from next target) fits h)
   where
     by_test : (b : Bool) → IfOk (ask_led own target walk (hop own from next target)) IsStep

@@ -1,5 +1,6 @@
 -- Walks: their octets, and what one more address makes of them.
-use Rattle.std.proofs.Common.{◌≡◌, ◌<◌, ◌≤◌, ◌==◌, ℕ, zero, suc, ◌+◌, ◌*◌, Bool, true, false, List, [], ◌∷◌, ◌++◌, length, take, get_or, ◌-◌, refl, sym, ap, ◌∙◌, append_assoc, arith}
+use Rattle.std.proofs.Common.{◌≡◌, ◌<◌, ◌≤◌, ◌==◌, ℕ, zero, suc, ◌+◌, ◌*◌, Bool, true, false, List, [], ◌∷◌, ◌++◌, length, take, get_or, ◌-◌, refl, sym, ap}
+use Rattle.std.proofs.Common.{◌∙◌, append_assoc, arith}
 use Rattle.std.specs.Prelude.{not, ◌&&◌, ◌||◌}
 use Rattle.std.specs.List.{list_all}
 use Rattle.std.proofs.lemmas.Bool.{and_parts, ltb-true}
@@ -29,7 +30,8 @@ distinct_table false false d h = refl
 distinct_more : (walk : List ℕ) (a : ℕ) → are_distinct (walk ++ a ∷ []) ≡ (are_distinct walk && not (has a walk))
 distinct_more [] a = refl
 distinct_more (x ∷ walk) a =
-    let others : has x (walk ++ a ∷ []) ≡ (has x walk || ((x == a) || false)) = has_more x walk a ∙ ap (λ (q : Bool). has x walk || (q || false)) (same_both a x) in
+    let others : has x (walk ++ a ∷ [])
+    ≡ (has x walk || ((x == a) || false)) = has_more x walk a ∙ ap (λ (q : Bool). has x walk || (q || false)) (same_both a x) in
     let rest = distinct_more walk a in
     (λ i. not (others i) && rest i) ∙ distinct_table (has x walk) (x == a) (are_distinct walk) (has a walk)
 
@@ -72,7 +74,8 @@ stays_none (suc m) n at octets none =
     let place : suc m + n ≡ suc (m + n) = omega arith in
     ap (λ (k : ℕ). is_walk (walk_at k at octets)) place ∙ ap is_walk (at_more (m + n) at octets)
     ∙ walk_more (walk_at (m + n) at octets) (two (at + 2 * (m + n)) octets)
-    ∙ ap (λ (b : Bool). b && (is_address (two (at + 2 * (m + n)) octets) && not (has (two (at + 2 * (m + n)) octets) (walk_at (m + n) at octets)))) (stays_none m n at octets none)
+    ∙ ap (λ (b : Bool). b && (is_address (two (at + 2 * (m + n)) octets) && not (has (two (at + 2 * (m + n)) octets) (walk_at (m + n) at octets))))
+    (stays_none m n at octets none)
 
 -- one more address of a walk that is read, and one that makes it none
 pub extended : (walk new : List ℕ) (k at : ℕ) (octets : List ℕ) → walk ≡ walk_at k at octets → is_walk walk ≡ true
@@ -90,7 +93,8 @@ pub not_extended : (walk : List ℕ) (k count at : ℕ) (octets : List ℕ) → 
 not_extended walk k count at octets here more fits =
     let last : ℕ = two (at + 2 * k) octets in
     let longer : walk_at (k + 1) at octets ≡ walk ++ last ∷ [] = one_more k at octets ∙ ap (λ (w : List ℕ). w ++ last ∷ []) (sym here) in
-    let none : is_walk (walk_at (k + 1) at octets) ≡ false = ap is_walk longer ∙ walk_more walk last ∙ ap (λ (b : Bool). is_walk walk && b) fits ∙ and_false (is_walk walk) in
+    let none : is_walk (walk_at (k + 1) at octets)
+    ≡ false = ap is_walk longer ∙ walk_more walk last ∙ ap (λ (b : Bool). is_walk walk && b) fits ∙ and_false (is_walk walk) in
     let place : count ≡ (count - (k + 1)) + (k + 1) = omega arith in
     ap (λ (n : ℕ). is_walk (walk_at n at octets)) place ∙ stays_none (count - (k + 1)) (k + 1) at octets none
 
@@ -119,7 +123,8 @@ written_room front addresses out i within so_far fits =
     omega (arith, long, length-walk_octets (take i addresses), length-take-le i addresses (omega arith))
 
 -- a walk that is spelled is read
-pub walk_behind : (front walk rest : List ℕ) → list_all is_address walk ≡ true → walk_at (length walk) (length front) (front ++ (walk_octets walk ++ rest)) ≡ walk
+pub walk_behind : (front walk rest : List ℕ) → list_all is_address walk ≡ true
+    → walk_at (length walk) (length front) (front ++ (walk_octets walk ++ rest)) ≡ walk
 walk_behind front [] rest all = refl
 walk_behind front (a ∷ walk) rest all =
     let parts = and_parts (is_address a) (list_all is_address walk) all in
@@ -139,4 +144,5 @@ walk_then zero at octets fits within = ap (λ (p : ℕ). after p octets) (let sa
 walk_then (suc n) at octets fits within =
     let place : at + 2 + 2 * n ≡ at + 2 * suc n = omega arith in
     two_then at octets fits (omega arith)
-    ∙ ap (λ (o : List ℕ). big_bytes 2 (two at octets) ++ o) (walk_then n (at + 2) octets fits (omega arith) ∙ ap (λ (p : ℕ). walk_octets (walk_at n (at + 2) octets) ++ after p octets) place)
+    ∙ ap (λ (o : List ℕ). big_bytes 2 (two at octets) ++ o)
+    (walk_then n (at + 2) octets fits (omega arith) ∙ ap (λ (p : ℕ). walk_octets (walk_at n (at + 2) octets) ++ after p octets) place)

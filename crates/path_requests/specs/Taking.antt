@@ -1,6 +1,7 @@
 -- What a node does with a path message that it hears: its own address, the sender's, and the next hop of its valid route to the
 -- target of an ask, if it has one.
-use Rattle.std.specs.Prelude.{◌≡◌, ◌≤◌, ℕ, ◌+◌, ◌-◌, true, List, [], ◌∷◌, ◌++◌, length, slice_index, position, Option, Some, None, Result, Ok, Err, ◌==◌, if◌then◌else◌}
+use Rattle.std.specs.Prelude.{◌≡◌, ◌≤◌, ℕ, ◌+◌, ◌-◌, true, List, [], ◌∷◌, ◌++◌, length, slice_index, position, Option, Some, None, Result, Ok, Err, ◌==◌}
+use Rattle.std.specs.Prelude.{if◌then◌else◌}
 use Rattle.path_requests.specs.declared.message.PathMessage.{PathMessage}
 use Rattle.path_requests.specs.declared.message.PathMessage.TheVariants.{Ask, Tell}
 use Rattle.path_requests.specs.declared.step.PathStep.{PathStep}

@@ -13,7 +13,8 @@ pub cut_off-none : {K : Type 0} (short : K) (end : ℕ) (octets : List ℕ) → 
 unfolding cut_off
 cut_off-none short end octets h = grind (arith, common_steps)
 
-pub address_fault-none : {K : Type 0} (short no_node : K) (at a : ℕ) (octets : List ℕ) → at + 2 ≤ length octets → two at octets ≡ a → IsAddress a → address_fault short no_node at octets ≡ None
+pub address_fault-none : {K : Type 0} (short no_node : K) (at a : ℕ) (octets : List ℕ) → at + 2 ≤ length octets → two at octets ≡ a → IsAddress a
+    → address_fault short no_node at octets ≡ None
 unfolding address_fault cut_off
 address_fault-none short no_node at a octets h is fits = grind (arith, common_steps)
 
@@ -34,7 +35,8 @@ pub is_whole : {K : Type 0} (short : K) (end : ℕ) (octets : List ℕ) → cut_
 unfolding cut_off
 is_whole short end octets e = ltb-false _ _ (when_none _ _ e)
 
-pub is_node : {K : Type 0} (short no_node : K) (at : ℕ) (octets : List ℕ) → address_fault short no_node at octets ≡ None → (at + 2 ≤ length octets) × IsAddress (two at octets)
+pub is_node : {K : Type 0} (short no_node : K) (at : ℕ) (octets : List ℕ) → address_fault short no_node at octets ≡ None
+    → (at + 2 ≤ length octets) × IsAddress (two at octets)
 unfolding address_fault
 is_node short no_node at octets e =
     let parts = then_none (cut_off short (at + 2) octets) _ e in
@@ -45,7 +47,8 @@ pub read_by : {F V : Type 0} (fault : Option F) (value : V) → fault ≡ None �
 read_by None value none = refl
 read_by (Some f) value none = cc
 
-pub not_read : {F V : Type 0} (fault : Option F) (f : F) (value : V) → fault ≡ Some f → (let none : Option V = None in (if is_some fault then none else Some value) ≡ none)
+pub not_read : {F V : Type 0} (fault : Option F) (f : F) (value : V) → fault ≡ Some f
+    → (let none : Option V = None in (if is_some fault then none else Some value) ≡ none)
 not_read None f value some = cc
 not_read (Some g) f value some = refl
 

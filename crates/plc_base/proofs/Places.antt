@@ -2,15 +2,18 @@
 use Rattle.std.proofs.Common.{◌≡◌, ℕ, ◌+◌, ◌-◌, ◌/◌, ◌%◌, ◌^◌, ◌<◌, ◌≤◌, List, [], ◌∷◌, ◌++◌, length, All, take, drop, slice_index, refl, sym, ap, ◌∙◌, arith}
 use Rattle.std.proofs.Math.Seq.{drop-append_seam, take-append_seam}
 use Rattle.std.proofs.Math.ListN.{drop_of_length-le}
-use Rattle.std.proofs.lemmas.List.{take-append-drop, length-take-le, drop-drop, length-drop, length-append, get_or-drop, get_or-append-add, drop_more, get_or_default}
+use Rattle.std.proofs.lemmas.List.{take-append-drop, length-take-le, drop-drop, length-drop, length-append, get_or-drop, get_or-append-add, drop_more}
+use Rattle.std.proofs.lemmas.List.{get_or_default}
 use Rattle.std.proofs.lemmas.List.Elements.{All-take, All-drop}
 use Rattle.byteorder.specs.Endian.{big_bytes, big_number, little_bytes, little_number}
-use Rattle.byteorder.specs.Numbers.{big_number-reads_back, big_from-take, little_number-reads_back, little_from-take, length-bytes_high_first, length-bytes_low_first}
+use Rattle.byteorder.specs.Numbers.{big_number-reads_back, big_from-take, little_number-reads_back, little_from-take, length-bytes_high_first}
+use Rattle.byteorder.specs.Numbers.{length-bytes_low_first}
 use Rattle.plc_base.specs.Fields.{AreOctets, after, octet, two, four, little_two, little_four, part, Stands}
 use Rattle.plc_base.specs.OctetLaws.{EachOctetFits}
 use Rattle.plc_base.proofs.NumbersOfOctets.{below, bytes_high_first-big_from, bytes_low_first-little_from}
 
-pub octet_stands : (at : ℕ) (octets : List ℕ) → at + 1 ≤ length octets → (slice_index octets at ≡ octet at octets) × Stands (slice_index octets at ∷ []) at octets
+pub octet_stands : (at : ℕ) (octets : List ℕ) → at + 1 ≤ length octets
+    → (slice_index octets at ≡ octet at octets) × Stands (slice_index octets at ∷ []) at octets
 unfolding octet after
 octet_stands at octets h = (refl, record { within = h; parts = drop_more octets at 0 (omega arith) })
 
@@ -21,35 +24,41 @@ octets_all octets h = λ k d within. omega (arith, h k, get_or_default octets k 
 -- the octets of the number that is read are those that stand there
 big_again : (n : ℕ) (octets : List ℕ) → n ≤ length octets → All (λ x. x < 256) octets → octets ≡ big_bytes n (big_number n octets) ++ drop n octets
 big_again n octets h fits =
-    let front : big_bytes n (big_number n (take n octets)) ≡ take n octets = bytes_high_first-big_from n (take n octets) (length-take-le n octets h) (All-take (λ x. x < 256) n octets fits) in
+    let front : big_bytes n (big_number n (take n octets))
+    ≡ take n octets = bytes_high_first-big_from n (take n octets) (length-take-le n octets h) (All-take (λ x. x < 256) n octets fits) in
     let same : big_number n (take n octets) ≡ big_number n octets = big_from-take 0 n n octets (omega arith) in
     sym (take-append-drop n octets) ∙ ap (λ (xs : List ℕ). xs ++ drop n octets) (sym front ∙ ap (λ (x : ℕ). big_bytes n x) same)
 
 little_again : (n : ℕ) (octets : List ℕ) → n ≤ length octets → All (λ x. x < 256) octets → octets ≡ little_bytes n (little_number n octets) ++ drop n octets
 little_again n octets h fits =
-    let front : little_bytes n (little_number n (take n octets)) ≡ take n octets = bytes_low_first-little_from n (take n octets) (length-take-le n octets h) (All-take (λ x. x < 256) n octets fits) in
+    let front : little_bytes n (little_number n (take n octets))
+    ≡ take n octets = bytes_low_first-little_from n (take n octets) (length-take-le n octets h) (All-take (λ x. x < 256) n octets fits) in
     let same : little_number n (take n octets) ≡ little_number n octets = little_from-take 0 n n octets (omega arith) in
     sym (take-append-drop n octets) ∙ ap (λ (xs : List ℕ). xs ++ drop n octets) (sym front ∙ ap (λ (x : ℕ). little_bytes n x) same)
 
 -- a number of n octets that is read of the slice from a place on stands there
-pub big_stands : (n at x : ℕ) (octets : List ℕ) → at + n ≤ length octets → All (λ x. x < 256) octets → x ≡ big_number n (take (length octets - at) (drop at octets)) → (x ≡ big_number n (drop at octets)) × Stands (big_bytes n x) at octets
+pub big_stands : (n at x : ℕ) (octets : List ℕ) → at + n ≤ length octets → All (λ x. x < 256) octets
+    → x ≡ big_number n (take (length octets - at) (drop at octets)) → (x ≡ big_number n (drop at octets)) × Stands (big_bytes n x) at octets
 unfolding after
 big_stands n at x octets h fits is =
     let len : length (big_bytes n x) ≡ n = length-bytes_high_first n x in
     let same : x ≡ big_number n (drop at octets) = is ∙ big_from-take 0 n (length octets - at) (drop at octets) (omega arith) in
     let whole = big_again n (drop at octets) (omega (arith, length-drop at octets)) (All-drop (λ x. x < 256) at octets fits) in
     let parts : drop at octets ≡ big_bytes n x ++ drop (at + n) octets =
-    whole ∙ ap (λ (xs : List ℕ). big_bytes n (big_number n (drop at octets)) ++ xs) (drop-drop n at octets) ∙ ap (λ (y : ℕ). big_bytes n y ++ drop (at + n) octets) (sym same) in
+    whole ∙ ap (λ (xs : List ℕ). big_bytes n (big_number n (drop at octets)) ++ xs) (drop-drop n at octets)
+    ∙ ap (λ (y : ℕ). big_bytes n y ++ drop (at + n) octets) (sym same) in
     (same, record { within = omega arith; parts = parts ∙ ap (λ (m : ℕ). big_bytes n x ++ drop (at + m) octets) (sym len) })
 
-pub little_stands : (n at x : ℕ) (octets : List ℕ) → at + n ≤ length octets → All (λ x. x < 256) octets → x ≡ little_number n (take (length octets - at) (drop at octets)) → (x ≡ little_number n (drop at octets)) × Stands (little_bytes n x) at octets
+pub little_stands : (n at x : ℕ) (octets : List ℕ) → at + n ≤ length octets → All (λ x. x < 256) octets
+    → x ≡ little_number n (take (length octets - at) (drop at octets)) → (x ≡ little_number n (drop at octets)) × Stands (little_bytes n x) at octets
 unfolding after
 little_stands n at x octets h fits is =
     let len : length (little_bytes n x) ≡ n = length-bytes_low_first 0 n x in
     let same : x ≡ little_number n (drop at octets) = is ∙ little_from-take 0 n (length octets - at) (drop at octets) (omega arith) in
     let whole = little_again n (drop at octets) (omega (arith, length-drop at octets)) (All-drop (λ x. x < 256) at octets fits) in
     let parts : drop at octets ≡ little_bytes n x ++ drop (at + n) octets =
-    whole ∙ ap (λ (xs : List ℕ). little_bytes n (little_number n (drop at octets)) ++ xs) (drop-drop n at octets) ∙ ap (λ (y : ℕ). little_bytes n y ++ drop (at + n) octets) (sym same) in
+    whole ∙ ap (λ (xs : List ℕ). little_bytes n (little_number n (drop at octets)) ++ xs) (drop-drop n at octets)
+    ∙ ap (λ (y : ℕ). little_bytes n y ++ drop (at + n) octets) (sym same) in
     (same, record { within = omega arith; parts = parts ∙ ap (λ (m : ℕ). little_bytes n x ++ drop (at + m) octets) (sym len) })
 
 -- the high octet of a number of two octets stands first

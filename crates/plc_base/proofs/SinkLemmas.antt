@@ -1,5 +1,6 @@
 -- What writes leave of a sink's plan and faults.
-use Rattle.std.proofs.Common.{◌≡◌, ℕ, ◌+◌, ◌-◌, ◌≤◌, true, false, List, [], ◌++◌, length, Option, Some, None, IfSome, Ok, Err, refl, sym, ◌∙◌, ap, subst, arith, length-append}
+use Rattle.std.proofs.Common.{◌≡◌, ℕ, ◌+◌, ◌-◌, ◌≤◌, true, false, List, [], ◌++◌, length, Option, Some, None, IfSome, Ok, Err, refl, sym, ◌∙◌, ap, subst, arith}
+use Rattle.std.proofs.Common.{length-append}
 use Rattle.std.proofs.lemmas.Bool.{le-ltb}
 use Rattle.std.specs.Io.KnownBytes.{Appends, Keeps}
 use Rattle.plc_base.specs.Streams.{HasWritten, SinkState, WritePlan, write_fails, plan_after_write, FollowsWritePlan, Writes, PlansRoomFor, SinkFaults}
@@ -12,7 +13,8 @@ no_failure : true ≡ false → ⊥
 no_failure e = cc
 
 -- the plan after a write of a whole piece
-room_after : (plan : WritePlan) (new : Option WritePlan) (count taken more : ℕ) → taken ≡ count → new ≡ Some (plan_after_write plan count) → plan.fails ≡ [] → taken + more ≤ plan.room → PlansRoomFor more new
+room_after : (plan : WritePlan) (new : Option WritePlan) (count taken more : ℕ) → taken ≡ count → new ≡ Some (plan_after_write plan count) → plan.fails ≡ []
+    → taken + more ≤ plan.room → PlansRoomFor more new
 room_after plan new count taken more all is none room =
     let passes = room_passes plan count none (omega (arith, room, all)) in
     subst (PlansRoomFor more) (sym is) (rw passes (none, omega (arith, room, all)))
@@ -21,7 +23,8 @@ room_after plan new count taken more all is none room =
 pub wrote_some : {E : Type 0} {old new : SinkState} {piece : List ℕ} (n : ℕ) → Writes {E = E} old new (Ok n) piece → SinkFaults old new n
 wrote_some {E} {old} {new} {piece} n w = record { later = w.cause.later; none = λ more. by old.plan refl w.planned more }
   where
-    by : (p : Option WritePlan) → old.plan ≡ p → IfSome p (λ plan. FollowsWritePlan {E = E} plan old new (Ok n) (length piece)) → (more : ℕ) → PlansRoomFor (n + more) p → PlansRoomFor more new.plan × (new.faults ≡ old.faults)
+    by : (p : Option WritePlan) → old.plan ≡ p → IfSome p (λ plan. FollowsWritePlan {E = E} plan old new (Ok n) (length piece)) → (more : ℕ)
+        → PlansRoomFor (n + more) p → PlansRoomFor more new.plan × (new.faults ≡ old.faults)
     by None is planned more room = absurd room
     by (Some plan) is planned more room = (
       room_after plan new.plan (length piece) n more planned.count_is planned.plan_is room.0 room.1,
@@ -32,9 +35,11 @@ wrote_some {E} {old} {new} {piece} n w = record { later = w.cause.later; none = 
 pub wrote_none : {E : Type 0} {old new : SinkState} {piece : List ℕ} (e : E) → Writes old new (Err e) piece → SinkFaults old new (length piece)
 wrote_none {E} {old} {new} {piece} e w = record { later = w.cause.later; none = λ more. by old.plan refl w.planned more }
   where
-    by : (p : Option WritePlan) → old.plan ≡ p → IfSome p (λ plan. FollowsWritePlan plan old new (Err e) (length piece)) → (more : ℕ) → PlansRoomFor (length piece + more) p → PlansRoomFor more new.plan × (new.faults ≡ old.faults)
+    by : (p : Option WritePlan) → old.plan ≡ p → IfSome p (λ plan. FollowsWritePlan plan old new (Err e) (length piece)) → (more : ℕ)
+        → PlansRoomFor (length piece + more) p → PlansRoomFor more new.plan × (new.faults ≡ old.faults)
     by None is planned more room = absurd room
-    by (Some plan) is planned more room = absurd (no_failure (sym (planned.ok_is ∙ rw (room_passes plan (length piece) room.0 (let fits = room.1 in omega (arith, fits))) refl)))
+    by (Some plan) is planned more room =
+        absurd (no_failure (sym (planned.ok_is ∙ rw (room_passes plan (length piece) room.0 (let fits = room.1 in omega (arith, fits))) refl)))
 
 pub wrote_nothing : (s : SinkState) → SinkFaults s s 0
 wrote_nothing s = record { later = omega arith; none = λ more room. (subst (λ n. PlansRoomFor n s.plan) (omega arith) room, refl) }
@@ -68,7 +73,8 @@ appends_kept (Some x) (Some y) None xs p q = absurd q
 appends_kept (Some x) (Some y) (Some z) xs p q = q ∙ p
 
 -- a write failed after a part of a text
-pub wrote_short : {T E : Type 0} {first middle last : SinkState} (text front rest : List ℕ) (e q : E) → text ≡ front ++ rest → Appends first.taken middle.taken front → SinkFaults first middle (length front)
+pub wrote_short : {T E : Type 0} {first middle last : SinkState} (text front rest : List ℕ) (e q : E) → text ≡ front ++ rest
+    → Appends first.taken middle.taken front → SinkFaults first middle (length front)
     → Writes middle last (Err e) rest → HasWritten {T = T} {E = E} first last (Err q) text
 wrote_short {T} {E} {first} {middle} {last} text front rest e q whole appends faults failed =
     let long : length front + length rest ≡ length text = sym (ap length whole ∙ length-append front rest) in

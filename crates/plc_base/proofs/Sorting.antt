@@ -50,7 +50,8 @@ least_from n (x ∷ xs) h = (h 0 x (omega arith), least_from n xs (λ k d lt. h 
 rises_from : (xs : List ℕ) → IsNonDecreasingBy (λ x. x) xs → Rises xs
 unfolding Rises
 rises_from [] h = tt
-rises_from (x ∷ xs) h = (least_from x xs (λ k d lt. h 0 (suc k) d (omega arith) (omega arith)), rises_from xs (λ i j d le lt. h (suc i) (suc j) d (omega arith) (omega arith)))
+rises_from (x ∷ xs) h =
+    (least_from x xs (λ k d lt. h 0 (suc k) d (omega arith) (omega arith)), rises_from xs (λ i j d le lt. h (suc i) (suc j) d (omega arith) (omega arith)))
 
 -- a number below all does not stand in the list
 count_below : (v n : ℕ) (xs : List ℕ) → v < n → IsLeast n xs → count v xs ≡ 0
@@ -129,7 +130,8 @@ module _ {A : Type 0} (number : A → ℕ) where
   placed_rises x [] h = (tt, tt)
   placed_rises x (y ∷ ys) h = by_test (nat_lt (number x) (number y)) refl (placed_rises x ys h.1)
     where
-      by_test : (b : Bool) → nat_lt (number x) (number y) ≡ b → Rises (map number (placed_by number x ys)) → Rises (map number (if b then x ∷ (y ∷ ys) else y ∷ placed_by number x ys))
+      by_test : (b : Bool) → nat_lt (number x) (number y) ≡ b → Rises (map number (placed_by number x ys))
+          → Rises (map number (if b then x ∷ (y ∷ ys) else y ∷ placed_by number x ys))
       by_test true e more =
           let below : number x < number y = grind (arith, nat_tests) in
           ((omega arith, lower (number x) (number y) (map number ys) (omega arith) h.0), (h.0, h.1))
@@ -142,7 +144,8 @@ module _ {A : Type 0} (number : A → ℕ) where
   ordered_rises [] = tt
   ordered_rises (x ∷ xs) = placed_rises x (ordered_by number xs) (ordered_rises xs)
 
-  pub sorted_numbers : (xs : List A) (sorted : List ℕ) → IsPermutation (map number xs) sorted → IsSorted nat_cmp sorted → sorted ≡ map number (ordered_by number xs)
+  pub sorted_numbers : (xs : List A) (sorted : List ℕ) → IsPermutation (map number xs) sorted → IsSorted nat_cmp sorted
+      → sorted ≡ map number (ordered_by number xs)
   sorted_numbers xs sorted same up =
       same_rising sorted (map number (ordered_by number xs)) (sorted_rises sorted up) (ordered_rises xs)
       (λ v. sym (same_counts (map number xs) sorted same v) ∙ sym (ordered_count v xs))

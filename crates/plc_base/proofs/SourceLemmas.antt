@@ -21,7 +21,8 @@ one_read {E} {old} {new} {result} {buf} r = record {
   failed = r.cause.failed;
 }
   where
-    by : (p : Option ReadPlan) → IfSome p (λ plan. FollowsReadPlan plan old new result buf) → PlansNoFailedRead p → PlansNoFailedRead new.plan × (new.faults ≡ old.faults)
+    by : (p : Option ReadPlan) → IfSome p (λ plan. FollowsReadPlan plan old new result buf) → PlansNoFailedRead p
+        → PlansNoFailedRead new.plan × (new.faults ≡ old.faults)
     by None planned none = absurd none
     by (Some plan) planned none = (subst PlansNoFailedRead (sym planned.plan_is) none, planned.faults_is ∙ rw none refl)
 

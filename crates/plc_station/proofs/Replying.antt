@@ -197,7 +197,8 @@ learned_quiet l own by origin rank now = by_fault (rank_fault l own origin rank 
 
 -- so does a request that goes on
 pub sent_on_quiet : (l : StationMemory) (own by origin dest : ℕ) (rank : Rank) (now : ℕ)
-    → reply_among (sealing {H = Unit {0}} alone dropped (send_message to_all (Rreq rank.number rank.cost origin dest) (offers own origin rank by now l)) tt).frames
+    → reply_among (sealing {H = Unit {0}} alone dropped (send_message to_all (Rreq rank.number rank.cost origin dest) (offers own origin rank by now l))
+    tt).frames
     ≡ None
 unfolding goes leave with_rank empty_draft
 sent_on_quiet l own by origin dest rank now =
@@ -311,10 +312,12 @@ failed_heard {H} {E} ends s t d reason answer out c is = record { carries = fail
 -- a request that went on is no reply
 pub sent_on_kept : (before after : Option Reply) (memory : Option StationMemory) (l : StationMemory) (own by origin dest : ℕ) (rank : Rank) (now : ℕ)
     → before ≡ None → after ≡ before
-    → after ≡ reply_sent (sealing {H = Unit {0}} alone dropped (send_message to_all (Rreq rank.number rank.cost origin dest) (offers own origin rank by now l)) tt)
+    → after ≡ reply_sent (sealing {H = Unit {0}} alone dropped (send_message to_all (Rreq rank.number rank.cost origin dest) (offers own origin rank by now l))
+    tt)
     memory
 sent_on_kept before after memory l own by origin dest rank now fresh stays =
-    stays ∙ fresh ∙ none_sent (sealing {H = Unit {0}} alone dropped (send_message to_all (Rreq rank.number rank.cost origin dest) (offers own origin rank by now l))
+    stays ∙ fresh ∙ none_sent (sealing {H = Unit {0}} alone dropped
+    (send_message to_all (Rreq rank.number rank.cost origin dest) (offers own origin rank by now l))
     tt) memory (sent_on_quiet l own by origin dest rank now)
 
 -- what is kept of the last frame is no part of a plan

@@ -15,7 +15,8 @@ use Rattle.node_rules.specs.declared.heard.Heard.TheVariants.{Answered, Relayed}
 use Rattle.node_rules.specs.declared.refusal.Dropped.TheVariants.{NotBetter, CostSpent, RoutesFull, SeqSpent, CounterSpent}
 use Rattle.node_rules.specs.Frames.{to_all}
 use Rattle.node_rules.specs.Memory.{StationMemory}
-use Rattle.node_rules.specs.Drafts.{Outgoing, alone, empty_draft, choose, checked, goes, send_message, leave, with_own_number, with_rank, numbers_spent, counters_left}
+use Rattle.node_rules.specs.Drafts.{Outgoing, alone, empty_draft, choose, checked, goes, send_message, leave, with_own_number, with_rank, numbers_spent}
+use Rattle.node_rules.specs.Drafts.{counters_left}
 use Rattle.node_rules.specs.Drafts.{refused, sealing}
 use Rattle.node_rules.specs.Hearing.{dropped, rank_fault, hear_request, offers, offers_numbered}
 use Rattle.fragment_buffers.specs.Waiting.{leaving}
@@ -37,7 +38,8 @@ unfolding goes leave with_own_number with_rank empty_draft leaving
 answer_long l own by origin dest rank now = sym (length-append (leaving own origin by l.waiting) (one by (Rrep (l.own_number.last + 1) 0 own origin)))
 
 relay_long : (l : StationMemory) (own by origin dest : ℕ) (rank : Rank) (now : ℕ)
-    → length (leaving own origin by l.waiting) + 1 ≡ length (send_message to_all (Rreq rank.number rank.cost origin dest) (offers own origin rank by now l)).units
+    → length (leaving own origin by l.waiting) + 1
+    ≡ length (send_message to_all (Rreq rank.number rank.cost origin dest) (offers own origin rank by now l)).units
 unfolding goes leave with_rank empty_draft leaving
 relay_long l own by origin dest rank now = sym (length-append (leaving own origin by l.waiting) (one to_all (Rreq rank.number rank.cost origin dest)))
 

@@ -40,11 +40,13 @@ use Rattle.reach_rules.specs.CheckedReplies.{hear_acknowledgement, hear_acknowle
 use Rattle.reach_rules.specs.Beacons.{hear_discovery_in, cost_home, beacons, is_foreign, takes_beacons, takes_beacon}
 use Rattle.reach_rules.specs.Beacons as discovering
 use Rattle.reach_rules.specs.Receiving.{NeighbourCommand, command_of, command_on, hear_by}
-use Rattle.reach_rules.specs.Laws.{DoesAsWithout, HearsAsWithout, NodesHearAsWithout, CommandsAreHandedOn, NothingIsAwaited, NobodyIsListedByTime, NoScanHearsNothing, AnEmptyStoreGivesNothing, unawaited}
+use Rattle.reach_rules.specs.Laws.{DoesAsWithout, HearsAsWithout, NodesHearAsWithout, CommandsAreHandedOn, NothingIsAwaited, NobodyIsListedByTime}
+use Rattle.reach_rules.specs.Laws.{NoScanHearsNothing, AnEmptyStoreGivesNothing, unawaited}
 
 -- # Frames
 
-by_command : {M H : Type 0} (h : StationPlace M) (x : Reaching M) (got : Accepted) (now : ℕ) (p : Plan M (Result H Dropped)) (c : Option NeighbourCommand) → c ≡ None → DoesAsWithout x p (hear_by h false x got now p c)
+by_command : {M H : Type 0} (h : StationPlace M) (x : Reaching M) (got : Accepted) (now : ℕ) (p : Plan M (Result H Dropped)) (c : Option NeighbourCommand)
+    → c ≡ None → DoesAsWithout x p (hear_by h false x got now p c)
 unfolding choose
 by_command h x got now p None e = record { answer = refl; failed = refl; puts = refl; memory = refl; beside = refl; frames = refl; made = refl; opened = refl }
 by_command h x got now p (Some c) e = absurd (cc)
@@ -64,13 +66,16 @@ module _ (l : StationMemory) (c : NeighbourCommand) where
   abbrev unread : Hearing
   unread = resting l (Ok (heard.Local c.from c.to_all c.code c.body)) (Err drops.Store)
 
-  by_code : (from : ℕ) (all : Bool) (code : ℕ) (body : List ℕ) (p q : Hearing) (one two : Bool) → (if one then None else (if two then None else Some (record { from = from; to_all = all; code = code; body = body }))) ≡ Some c → choose one p (choose two q (resting l (Ok (heard.Local from all code body)) (Err drops.Store))) ≡ unread
+  by_code : (from : ℕ) (all : Bool) (code : ℕ) (body : List ℕ) (p q : Hearing) (one two : Bool)
+      → (if one then None else (if two then None else Some (record { from = from; to_all = all; code = code; body = body }))) ≡ Some c
+      → choose one p (choose two q (resting l (Ok (heard.Local from all code body)) (Err drops.Store))) ≡ unread
   unfolding choose
   by_code from all code body p q true two e = absurd (cc)
   by_code from all code body p q false true e = absurd (cc)
   by_code from all code body p q false false e = cc
 
-  by_path : (own : ℕ) (path : Path) (unit : Option MeshUnit) (cost note now : ℕ) → address_of l ≡ Some own → command_on path unit ≡ Some c → hear_unit_in l path unit cost note now ≡ unread
+  by_path : (own : ℕ) (path : Path) (unit : Option MeshUnit) (cost note now : ℕ) → address_of l ≡ Some own → command_on path unit ≡ Some c
+      → hear_unit_in l path unit cost note now ≡ unread
   by_path own (paths.Sealed from all key) None cost note now a e = absurd (cc)
   by_path own (paths.Sealed from all key) (Some (units.Whole mesh octets)) cost note now a e = absurd (cc)
   by_path own (paths.Sealed from all key) (Some (units.Part mesh piece)) cost note now a e = absurd (cc)
@@ -93,7 +98,8 @@ nothing_is_awaited x from all body none = by_all all
     by_reading : (ack : Option (ℕ × ℕ)) → hear_acknowledgement_in x from ack ≡ reaching.drop_it x (unawaited false ack)
     by_reading None = refl
     by_reading (Some (number, origin)) =
-        ap (λ (s : Neighbours). choose (is_awaited s from number origin) (remembers (with_checks (acked_after x.beside.checks from number origin) x) Acked) (reaching.drop_it x NotAwaited)) none
+        ap (λ (s : Neighbours). choose (is_awaited s from number origin) (remembers (with_checks (acked_after x.beside.checks from number origin) x) Acked)
+        (reaching.drop_it x NotAwaited)) none
 
     by_all : (b : Bool) → hear_acknowledgement x from b body ≡ reaching.drop_it x (unawaited b (ack_in body))
     by_all true = refl
@@ -109,15 +115,19 @@ module _ (role : Role) (l : StationMemory) (scan : Scanned) where
   beacons_stay own None = refl
   beacons_stay own (Some cost) = refl
 
-  request_stays : (address : Option ℕ) → (option_map_or (λ own. beacons scan own (cost_home role l)) address (discovering.stays scan (Err dropped.NotForMe))).scan ≡ scan
+  request_stays : (address : Option ℕ)
+      → (option_map_or (λ own. beacons scan own (cost_home role l)) address (discovering.stays scan (Err dropped.NotForMe))).scan ≡ scan
   request_stays None = refl
   request_stays (Some own) = beacons_stay own (cost_home role l)
 
-  taken_stays : (t : Bool) (from cost link : ℕ) → scan.scanning ≡ false → (if t then takes_beacon scan from cost link else discovering.stays scan (Err dropped.NotScanning)).scan ≡ scan
+  taken_stays : (t : Bool) (from cost link : ℕ) → scan.scanning ≡ false
+      → (if t then takes_beacon scan from cost link else discovering.stays scan (Err dropped.NotScanning)).scan ≡ scan
   taken_stays true from cost link off = rw off refl
   taken_stays false from cost link off = refl
 
-  beacon_stays : (foreign t : Bool) (from cost link : ℕ) → scan.scanning ≡ false → (if foreign then discovering.stays scan (Err dropped.NotForMe) else (if t then takes_beacon scan from cost link else discovering.stays scan (Err dropped.NotScanning))).scan ≡ scan
+  beacon_stays : (foreign t : Bool) (from cost link : ℕ) → scan.scanning ≡ false
+      → (if foreign then discovering.stays scan (Err dropped.NotForMe)
+      else (if t then takes_beacon scan from cost link else discovering.stays scan (Err dropped.NotScanning))).scan ≡ scan
   beacon_stays true t from cost link off = refl
   beacon_stays false t from cost link off = taken_stays t from cost link off
 

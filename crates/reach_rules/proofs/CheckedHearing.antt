@@ -75,7 +75,8 @@ module _ {M H : Type 0} (h : StationPlace M) (x : Reaching M) (now : ℕ) where
   known_refusal (Ok heard) reason e = absurd (cc)
   known_refusal (Err word) reason e = refl
 
-  clean_of : (p : Plan M (Result H Dropped)) → RefusesCleanly drops.Store x.memory p → (a : Result H Dropped) → p.answer ≡ a → (reason : ReachDropped) → known_answer a ≡ Err reason → ChangesNothing x.memory p
+  clean_of : (p : Plan M (Result H Dropped)) → RefusesCleanly drops.Store x.memory p → (a : Result H Dropped) → p.answer ≡ a → (reason : ReachDropped)
+      → known_answer a ≡ Err reason → ChangesNothing x.memory p
   clean_of p c (Ok heard) is reason e = absurd (cc)
   clean_of p c (Err word) is reason e = c.1 word is
 
@@ -87,7 +88,8 @@ module _ {M H : Type 0} (h : StationPlace M) (x : Reaching M) (now : ℕ) where
         record { puts = n.puts; memory = ap (with_memory x) n.memory; frames = n.frames; made = n.made; opened = n.opened },
   )
 
-  checked_clean : (path : Path) (message : Option Message) (p : Plan M (Result H Dropped)) → RefusesCleanly drops.Store x.memory p → RefusesCleanly (Known drops.Store) x (with_check (reply_among p.frames) now (known_plan x (acknowledged h path message p)))
+  checked_clean : (path : Path) (message : Option Message) (p : Plan M (Result H Dropped)) → RefusesCleanly drops.Store x.memory p
+      → RefusesCleanly (Known drops.Store) x (with_check (reply_among p.frames) now (known_plan x (acknowledged h path message p)))
   checked_clean path message p c = (
     ap known_answer (same_failed path message p ∙ c.0),
     λ reason e.
@@ -97,7 +99,8 @@ module _ {M H : Type 0} (h : StationPlace M) (x : Reaching M) (now : ℕ) where
         record {
           puts = ap (λ (q : Plan M (Result H Dropped)). q.puts) same ∙ n.puts;
           memory =
-              ap (λ (frames : List Sent). with_checks (checks_after x.beside.checks (reply_among frames) now) (with_memory x (acknowledged h path message p).memory)) n.frames
+              ap (λ (frames : List Sent). with_checks (checks_after x.beside.checks (reply_among frames) now)
+              (with_memory x (acknowledged h path message p).memory)) n.frames
               ∙ ap (with_memory x) (ap (λ (q : Plan M (Result H Dropped)). q.memory) same ∙ n.memory);
           frames = ap (λ (q : Plan M (Result H Dropped)). q.frames) same ∙ n.frames;
           made = ap (λ (q : Plan M (Result H Dropped)). q.made) same ∙ n.made;
@@ -109,7 +112,8 @@ module _ {M H : Type 0} (h : StationPlace M) (x : Reaching M) (now : ℕ) where
   unfolding resting
   dropped_clean reason = (refl, λ why e. record { puts = refl; memory = refl; frames = refl; made = refl; opened = refl })
 
-  chosen_clean : (t : Bool) (q p : Plan (Reaching M) (Result (ReachHeard H) ReachDropped)) → RefusesCleanly (Known drops.Store) x q → RefusesCleanly (Known drops.Store) x p → RefusesCleanly (Known drops.Store) x (choose t q p)
+  chosen_clean : (t : Bool) (q p : Plan (Reaching M) (Result (ReachHeard H) ReachDropped)) → RefusesCleanly (Known drops.Store) x q
+      → RefusesCleanly (Known drops.Store) x p → RefusesCleanly (Known drops.Store) x (choose t q p)
   unfolding choose
   chosen_clean true q p a b = a
   chosen_clean false q p a b = b
@@ -118,7 +122,8 @@ module _ {M H : Type 0} (h : StationPlace M) (x : Reaching M) (now : ℕ) where
   command_refusal (Ok heard) reason e = absurd (cc)
   command_refusal (Err word) reason e = cc
 
-  command_clean : (p : Commanding M) → RefusesCleanly (Known drops.Store) x p → RefusesCleanly (Known drops.Store) x (within (λ y. y) (command_answer {H = H}) p)
+  command_clean : (p : Commanding M) → RefusesCleanly (Known drops.Store) x p
+      → RefusesCleanly (Known drops.Store) x (within (λ y. y) (command_answer {H = H}) p)
   command_clean p c = (
     ap command_answer c.0,
     λ reason e.
@@ -126,7 +131,8 @@ module _ {M H : Type 0} (h : StationPlace M) (x : Reaching M) (now : ℕ) where
         record { puts = n.puts; memory = n.memory; frames = n.frames; made = n.made; opened = n.opened },
   )
 
-  by_command : (checks_on : Bool) (got : Accepted) (p : Plan M (Result H Dropped)) → RefusesCleanly drops.Store x.memory p → (c : Option NeighbourCommand) → RefusesCleanly (Known drops.Store) x (hear_by h checks_on x got now p c)
+  by_command : (checks_on : Bool) (got : Accepted) (p : Plan M (Result H Dropped)) → RefusesCleanly drops.Store x.memory p → (c : Option NeighbourCommand)
+      → RefusesCleanly (Known drops.Store) x (hear_by h checks_on x got now p c)
   by_command checks_on got p clean None =
       chosen_clean checks_on _ _
       (chosen_clean (is_unbelieved x.beside.checks got.path (message_of got)) _ _ (dropped_clean Blacklisted) (checked_clean got.path (message_of got) p clean))
@@ -135,15 +141,19 @@ module _ {M H : Type 0} (h : StationPlace M) (x : Reaching M) (now : ℕ) where
 
   -- # Replies and requests
 
-  acknowledged_plan : (from number cost origin to : ℕ) (key : Key) (heard : H) (p : Plan M (Result H Dropped)) (path : Path) (message : Option Message) → path ≡ paths.Sealed from false key → message ≡ Some (Rrep number cost origin to) → p.answer ≡ Ok heard
-      → IsAcknowledged h from number origin p (choose (is_unbelieved x.beside.checks path message) (drop_it x Blacklisted) (with_check (reply_among p.frames) now (known_plan x (acknowledged h path message p))))
+  acknowledged_plan : (from number cost origin to : ℕ) (key : Key) (heard : H) (p : Plan M (Result H Dropped)) (path : Path) (message : Option Message)
+      → path ≡ paths.Sealed from false key → message ≡ Some (Rrep number cost origin to) → p.answer ≡ Ok heard
+      → IsAcknowledged h from number origin p (choose (is_unbelieved x.beside.checks path message) (drop_it x Blacklisted)
+      (with_check (reply_among p.frames) now (known_plan x (acknowledged h path message p))))
   unfolding choose
   acknowledged_plan from number cost origin to key heard p path message on is ok =
       let taken : is_ok p.answer ≡ true = ap is_ok ok in
       rw (on, is, taken) (record { answer = refl; puts = refl; memory = refl; frames = refl })
 
-  unbelieved_plan : (from number cost origin dest : ℕ) (key : Key) (p : Plan M (Result H Dropped)) (path : Path) (message : Option Message) → path ≡ paths.Sealed from true key → message ≡ Some (Rreq number cost origin dest) → is_listed x.beside.checks from ≡ true
-      → choose (is_unbelieved x.beside.checks path message) (drop_it x Blacklisted) (with_check (reply_among p.frames) now (known_plan x (acknowledged h path message p))) ≡ drop_it x Blacklisted
+  unbelieved_plan : (from number cost origin dest : ℕ) (key : Key) (p : Plan M (Result H Dropped)) (path : Path) (message : Option Message)
+      → path ≡ paths.Sealed from true key → message ≡ Some (Rreq number cost origin dest) → is_listed x.beside.checks from ≡ true
+      → choose (is_unbelieved x.beside.checks path message) (drop_it x Blacklisted)
+      (with_check (reply_among p.frames) now (known_plan x (acknowledged h path message p))) ≡ drop_it x Blacklisted
   unfolding choose
   unbelieved_plan from number cost origin dest key p path message on is listed = rw (on, is, listed) refl
 
@@ -151,7 +161,9 @@ pub frames_cleanly : {M H : Type 0} → FramesRefuseCleanly M H
 frames_cleanly h checks_on x got now p clean = by_command h x now checks_on got p clean (command_of got)
 
 pub replies_acknowledged : {M H : Type 0} → RepliesAreAcknowledged M H
-replies_acknowledged h x got now p from number cost origin to key heard on is ok = acknowledged_plan h x now from number cost origin to key heard p got.path (message_of got) on is ok
+replies_acknowledged h x got now p from number cost origin to key heard on is ok =
+    acknowledged_plan h x now from number cost origin to key heard p got.path (message_of got) on is ok
 
 pub listed_unbelieved : {M H : Type 0} → ListedAreNotBelieved M H
-listed_unbelieved h x got now p from number cost origin dest key on is listed = unbelieved_plan h x now from number cost origin dest key p got.path (message_of got) on is listed
+listed_unbelieved h x got now p from number cost origin dest key on is listed =
+    unbelieved_plan h x now from number cost origin dest key p got.path (message_of got) on is listed

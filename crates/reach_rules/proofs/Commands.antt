@@ -1,5 +1,6 @@
 -- What the plans of further reach refuse, store and send.
-use Rattle.std.proofs.Common.{◌≡◌, inl, inr, ℕ, ◌+◌, ◌<◌, ◌≤◌, Bool, true, false, List, [], ◌∷◌, ◌++◌, length, Option, Some, None, Result, Ok, Err, refl, ap, arith, nat_eq}
+use Rattle.std.proofs.Common.{◌≡◌, inl, inr, ℕ, ◌+◌, ◌<◌, ◌≤◌, Bool, true, false, List, [], ◌∷◌, ◌++◌, length, Option, Some, None, Result, Ok, Err, refl, ap}
+use Rattle.std.proofs.Common.{arith, nat_eq}
 use Rattle.std.specs.Prelude.{if◌then◌else◌, nat_lt, nat_le}
 use Rattle.std.specs.Option.{option_map_or}
 use Rattle.std.proofs.lemmas.Bool.{ne_eqb}
@@ -29,7 +30,8 @@ use Rattle.node_rules.specs.declared.refusal.LocalRefusal.{LocalRefusal}
 use Rattle.node_rules.specs.Memory.{StationMemory, address_of, station_route}
 use Rattle.node_rules.specs.Neighbours.{local_ends, local_draft}
 use Rattle.node_rules.specs.Plans.{Plan, resting}
-use Rattle.node_rules.specs.Drafts.{Draft, StationPlace, Ends, Outgoing, alone, empty_draft, goes, letters, sealed_by, sealing_key, sealing, refused, sealed, checked, choose}
+use Rattle.node_rules.specs.Drafts.{Draft, StationPlace, Ends, Outgoing, alone, empty_draft, goes, letters, sealed_by, sealing_key, sealing, refused, sealed}
+use Rattle.node_rules.specs.Drafts.{checked, choose}
 use Rattle.node_rules.specs.Laws.{RefusesCleanly, WritesInTurn, turn_of}
 use Rattle.node_rules.proofs.Words.{InTurn, InTurn-append, in_turn, counter_turn}
 use Rattle.reach_rules.specs.declared.heard.CommandHeard.{CommandHeard}
@@ -40,10 +42,13 @@ use Rattle.reach_rules.specs.declared.refusal.BroadcastRefusal.TheVariants as br
 use Rattle.reach_rules.specs.declared.refusal.AskRefusal.TheVariants as asks
 use Rattle.reach_rules.specs.ReachingNodes.{Beside, Reaching, Commanding, in_reach, reach_ends, drop_it, adds_local}
 use Rattle.reach_rules.specs.CheckedReplies.{hear_acknowledgement, hear_acknowledgement_in}
-use Rattle.reach_rules.specs.Broadcasts.{with_broadcast_mark, with_broadcast_number, broadcast_fault, hop_less, goes_further, admits_broadcast, hear_broadcast_in, hear_broadcast, Broadcasting, broadcast_ends, broadcast_from, broadcast}
+use Rattle.reach_rules.specs.Broadcasts.{with_broadcast_mark, with_broadcast_number, broadcast_fault, hop_less, goes_further, admits_broadcast}
+use Rattle.reach_rules.specs.Broadcasts.{hear_broadcast_in, hear_broadcast, Broadcasting, broadcast_ends, broadcast_from, broadcast}
 use Rattle.reach_rules.specs.PathAsking.{follows_path, hear_path_in, hear_path, next_toward, Asking, ask_ends, asks_by, asks_from, ask_path}
 use Rattle.reach_rules.specs.Receiving.{NeighbourCommand, hear_command_at, hear_command}
-use Rattle.reach_rules.specs.Laws.{CommandsRefuseCleanly, CallsRefuseCleanly, CommandsWriteInTurn, CallsWriteInTurn, CommandsSendCommands, CallsSendCommands, CommandsKeepTheRest, CallsKeepTheRest, AcknowledgementsAreCommands, KeepsTheRest, SendsACommand, AtMostACommand, MarkedBeforeTheCounter, frames_on}
+use Rattle.reach_rules.specs.Laws.{CommandsRefuseCleanly, CallsRefuseCleanly, CommandsWriteInTurn, CallsWriteInTurn, CommandsSendCommands, CallsSendCommands}
+use Rattle.reach_rules.specs.Laws.{CommandsKeepTheRest, CallsKeepTheRest, AcknowledgementsAreCommands, KeepsTheRest, SendsACommand, AtMostACommand}
+use Rattle.reach_rules.specs.Laws.{MarkedBeforeTheCounter, frames_on}
 
 -- # Turns
 
@@ -65,7 +70,9 @@ mark_turn table origin number = by_place (place_of table origin)
     by_test true place = omega arith
     by_test false place = entry_turn place (mark_ahead origin number)
 
-    by_place : (place : Option ℕ) → InTurn 0 3 (puts_of (option_map_or (λ place. if nat_le number (mark_at table place).stored then None else Some (slots.entry_write marks place (mark_ahead origin number))) place (Some (slots.entry_write marks (length table) (mark_ahead origin number)))))
+    by_place : (place : Option ℕ) → InTurn 0 3 (puts_of (option_map_or
+        (λ place. if nat_le number (mark_at table place).stored then None else Some (slots.entry_write marks place (mark_ahead origin number))) place
+        (Some (slots.entry_write marks (length table) (mark_ahead origin number)))))
     by_place None = entry_turn (length table) (mark_ahead origin number)
     by_place (Some place) = by_test (nat_le number (mark_at table place).stored) place
 
@@ -83,7 +90,8 @@ data Says : List Outgoing → Type 0 where
   Nothing : Says []
   Command : (to code : ℕ) (body : List ℕ) → 3 ≤ code → code ≤ 5 → Says (record { to = to; unit = Local code body; note = 0 } ∷ [])
 
-letters_say : (g : Granted) (key : Option Key) (first : ℕ) (units : List Outgoing) → Says units → AtMostACommand (option_map_or (λ key. letters g key first units) key [])
+letters_say : (g : Granted) (key : Option Key) (first : ℕ) (units : List Outgoing) → Says units
+    → AtMostACommand (option_map_or (λ key. letters g key first units) key [])
 letters_say g None first units s = tt
 letters_say g (Some key) first _ Nothing = tt
 letters_say g (Some key) first _ (Command to code body low high) = (refl, (low, high))
@@ -111,13 +119,26 @@ module _ {M : Type 0} (x : Reaching M) where
   unfolding empty_draft with_broadcast_mark goes_further adds_local
   goes_on b = by_hops (nat_lt b.hops 2)
     where
-      by_hops : (t : Bool) → IsReach x (if t then with_broadcast_mark b.origin b.number (empty_draft x) else adds_local to_all 4 (spelling (hop_less b)) (with_broadcast_mark b.origin b.number (empty_draft x)))
+      by_hops : (t : Bool) → IsReach x (if t then with_broadcast_mark b.origin b.number (empty_draft x)
+          else adds_local to_all 4 (spelling (hop_less b)) (with_broadcast_mark b.origin b.number (empty_draft x)))
       by_hops true = marked b.origin b.number
-      by_hops false = record { turns = mark_turn x.beside.log.marks b.origin b.number; units = Command to_all 4 _ (omega arith) (omega arith); plain = refl; memory = refl; scan = refl }
+      by_hops false = record {
+        turns = mark_turn x.beside.log.marks b.origin b.number;
+        units = Command to_all 4 _ (omega arith) (omega arith);
+        plain = refl;
+        memory = refl;
+        scan = refl;
+      }
 
   numbered : (octets : List ℕ) → IsReach x (adds_local to_all 4 octets (with_broadcast_number (empty_draft x)))
   unfolding empty_draft with_broadcast_number adds_local
-  numbered octets = record { turns = number_turn x.beside.log.numbering; units = Command to_all 4 octets (omega arith) (omega arith); plain = refl; memory = refl; scan = refl }
+  numbered octets = record {
+    turns = number_turn x.beside.log.numbering;
+    units = Command to_all 4 octets (omega arith) (omega arith);
+    plain = refl;
+    memory = refl;
+    scan = refl;
+  }
 
   tells : (to : ℕ) (octets : List ℕ) → IsReach x (adds_local to 5 octets (empty_draft x))
   unfolding empty_draft adds_local
@@ -142,7 +163,8 @@ module _ {M H E : Type 0} (h : StationPlace M) (ends : Ends E) (x : Reaching M) 
   choose_shape true p q s t = s
   choose_shape false p q s t = t
 
-  sealed_when : (test : Bool) (d : Draft (Reaching M)) (word : H) → IsReach x d → Shape {H = H} h ends x (if test then refused ends x ends.spent else sealing (in_reach h) ends d word)
+  sealed_when : (test : Bool) (d : Draft (Reaching M)) (word : H) → IsReach x d
+      → Shape {H = H} h ends x (if test then refused ends x ends.spent else sealing (in_reach h) ends d word)
   sealed_when true d word r = Rests (Err ends.spent)
   sealed_when false d word r = Ended d word r
 
@@ -173,7 +195,10 @@ module _ {M H E : Type 0} (h : StationPlace M) (ends : Ends E) (x : Reaching M) 
   keeps_by p (Rests word) = record { memory = inl refl; scan = refl }
   keeps_by p (Keeps b word same) = record { memory = inl refl; scan = same }
   keeps_by p (Ended d word r) = record {
-    memory = inr (counter.reserved (h.station d.memory.memory).counter (length d.units), ap (λ m. h.with_station (record (h.station m) { counter = counter.reserved (h.station d.memory.memory).counter (length d.units) }) m) r.memory);
+    memory = inr (
+      counter.reserved (h.station d.memory.memory).counter (length d.units),
+      ap (λ m. h.with_station (record (h.station m) { counter = counter.reserved (h.station d.memory.memory).counter (length d.units) }) m) r.memory,
+    );
     scan = r.scan;
   }
 
@@ -227,7 +252,8 @@ module _ {M : Type 0} (h : StationPlace M) (x : Reaching M) where
   sends_shape : (datagram : List ℕ) → BroadcastShape (broadcast h x datagram)
   sends_shape datagram = by_address (address_of (h.station x.memory))
     where
-      by_address : (own : Option ℕ) → BroadcastShape (option_map_or (λ own. broadcast_from h x own datagram) own (refused broadcast_ends x broadcasts.NotJoined))
+      by_address : (own : Option ℕ) → BroadcastShape
+          (option_map_or (λ own. broadcast_from h x own datagram) own (refused broadcast_ends x broadcasts.NotJoined))
       by_address None = Rests _
       by_address (Some own) = checked_shape _ _ _ _ _ (sealed_shape _ _ _ _ _ (numbered x _))
 
@@ -318,13 +344,16 @@ module _ {M : Type 0} (h : StationPlace M) (x : Reaching M) (b : Broadcast) (got
   abbrev plan_when : (few spent : Bool) → CommandHeard → Commanding M
   plan_when few spent word = if few then refused reach_ends x reach_ends.spent else sealing (in_reach h) reach_ends (draft_when spent) word
 
-  puts_when : (few spent : Bool) (word : CommandHeard) → (plan_when few spent word).answer ≡ Ok got → (plan_when few spent word).puts ≡ puts_of (keep_write x.beside.log.marks b.origin b.number) ++ puts_of (counter.reserve_write (h.station x.memory).counter (if spent then 0 else 1))
+  puts_when : (few spent : Bool) (word : CommandHeard) → (plan_when few spent word).answer ≡ Ok got
+      → (plan_when few spent word).puts
+      ≡ puts_of (keep_write x.beside.log.marks b.origin b.number) ++ puts_of (counter.reserve_write (h.station x.memory).counter (if spent then 0 else 1))
   unfolding resting empty_draft with_broadcast_mark adds_local
   puts_when true spent word e = absurd (cc)
   puts_when false true word e = refl
   puts_when false false word e = refl
 
-  marks_when : (few spent : Bool) (word : CommandHeard) → (plan_when few spent word).answer ≡ Ok got → (plan_when few spent word).memory.beside.log.marks ≡ kept_after x.beside.log.marks b.origin b.number
+  marks_when : (few spent : Bool) (word : CommandHeard) → (plan_when few spent word).answer ≡ Ok got
+      → (plan_when few spent word).memory.beside.log.marks ≡ kept_after x.beside.log.marks b.origin b.number
   unfolding resting empty_draft with_broadcast_mark adds_local
   marks_when true spent word e = absurd (cc)
   marks_when false true word e = refl
@@ -334,12 +363,14 @@ module _ {M : Type 0} (h : StationPlace M) (x : Reaching M) (b : Broadcast) (got
   unfolding sealed goes_further
   admits e = record { puts = puts_when _ (nat_lt b.hops 2) _ e; marks = marks_when _ (nat_lt b.hops 2) _ e }
 
-  admits_by : (fault : Option ReachDropped) → (checked reach_ends x fault (admits_broadcast h x b)).answer ≡ Ok got → IsAdmitted h x b (checked reach_ends x fault (admits_broadcast h x b))
+  admits_by : (fault : Option ReachDropped) → (checked reach_ends x fault (admits_broadcast h x b)).answer ≡ Ok got
+      → IsAdmitted h x b (checked reach_ends x fault (admits_broadcast h x b))
   unfolding checked resting
   admits_by None e = admits e
   admits_by (Some reason) e = absurd (cc)
 
-pub admitted : {M : Type 0} (h : StationPlace M) (x : Reaching M) (own : ℕ) (b : Broadcast) (got : CommandHeard) → (hear_broadcast_in h x own (Some b)).answer ≡ Ok got → IsAdmitted h x b (hear_broadcast_in h x own (Some b))
+pub admitted : {M : Type 0} (h : StationPlace M) (x : Reaching M) (own : ℕ) (b : Broadcast) (got : CommandHeard)
+    → (hear_broadcast_in h x own (Some b)).answer ≡ Ok got → IsAdmitted h x b (hear_broadcast_in h x own (Some b))
 admitted h x own b got e = admits_by h x b got (broadcast_fault own x.beside.log b) e
 
 pub marked_first : {M : Type 0} → MarkedBeforeTheCounter M

@@ -23,7 +23,8 @@ use Rattle.node_rules.proofs.OwnAnswers.{Own, ByAnswer, choose_own, refused_own,
 module _ (l : StationMemory) where
   -- Where the plan hands on a command for the neighbours, the frame carries it.
   record HandsOn (carried : Option NeighbourCommand) (p : Hearing) : Type 0 where
-    carries : (from : ℕ) (all : Bool) (code : ℕ) (body : List ℕ) → p.answer ≡ Ok (heard.Local from all code body) → carried ≡ Some (record { from = from; to_all = all; code = code; body = body })
+    carries : (from : ℕ) (all : Bool) (code : ℕ) (body : List ℕ) → p.answer ≡ Ok (heard.Local from all code body)
+        → carried ≡ Some (record { from = from; to_all = all; code = code; body = body })
 
   by_own : (carried : Option NeighbourCommand) (p : Hearing) → Own p → HandsOn carried p
   by_own carried p (ByAnswer q own) = record { carries = λ from all code body e. absurd (own (heard.Local from all code body) e) }
@@ -40,7 +41,8 @@ module _ (l : StationMemory) where
   unfolding resting
   joining_on carried way octets = record { carries = λ from all code body e. absurd (cc) }
 
-  handed : (by : ℕ) (t : Bool) (k : ℕ) (octets : List ℕ) → HandsOn (Some (record { from = by; to_all = t; code = k; body = octets })) (resting l (Ok (heard.Local by t k octets)) (Err Store))
+  handed : (by : ℕ) (t : Bool) (k : ℕ) (octets : List ℕ)
+      → HandsOn (Some (record { from = by; to_all = t; code = k; body = octets })) (resting l (Ok (heard.Local by t k octets)) (Err Store))
   unfolding resting
   handed by t k octets = record { carries = λ from all code body e. cc }
 
@@ -52,13 +54,18 @@ module _ (l : StationMemory) where
   by_code by t k octets false true p own = dropped_on _
   by_code by t k octets false false p own = handed by t k octets
 
-  sealed_on : (own by : ℕ) (t : Bool) (unit : MeshUnit) (cost note now : ℕ) → HandsOn (command_with by t (Some unit)) (hear_sealed l own by t unit cost note now)
+  sealed_on : (own by : ℕ) (t : Bool) (unit : MeshUnit) (cost note now : ℕ)
+      → HandsOn (command_with by t (Some unit)) (hear_sealed l own by t unit cost note now)
   sealed_on own by t (units.Local code body) cost note now = by_code by t code body _ _ _ (message_in_own l own by t cost now (message_in body))
-  sealed_on own by t (units.Whole mesh octets) cost note now = by_own _ _ (choose_own _ _ _ (refused_own l BadUnit) (choose_own _ _ _ (resting_own l _ tt) (forward_own l own mesh _ note)))
-  sealed_on own by t (units.Part mesh piece) cost note now = by_own _ _ (choose_own _ _ _ (refused_own l BadUnit) (choose_own _ _ _ (gathered_own l mesh.origin _) (forward_own l own mesh _ note)))
-  sealed_on own by t (units.Carried mesh body) cost note now = by_choice _ _ _ _ (dropped_on _) (by_choice _ _ _ _ (joining_on _ (Mesh mesh.origin) body) (by_own _ _ (forward_own l own mesh _ note)))
+  sealed_on own by t (units.Whole mesh octets) cost note now =
+      by_own _ _ (choose_own _ _ _ (refused_own l BadUnit) (choose_own _ _ _ (resting_own l _ tt) (forward_own l own mesh _ note)))
+  sealed_on own by t (units.Part mesh piece) cost note now =
+      by_own _ _ (choose_own _ _ _ (refused_own l BadUnit) (choose_own _ _ _ (gathered_own l mesh.origin _) (forward_own l own mesh _ note)))
+  sealed_on own by t (units.Carried mesh body) cost note now =
+      by_choice _ _ _ _ (dropped_on _) (by_choice _ _ _ _ (joining_on _ (Mesh mesh.origin) body) (by_own _ _ (forward_own l own mesh _ note)))
 
-  by_address : (address : Option ℕ) (by : ℕ) (t : Bool) (unit : MeshUnit) (cost note now : ℕ) → HandsOn (command_with by t (Some unit)) (option_map_or (λ own. hear_sealed l own by t unit cost note now) address (drop_it l BadUnit))
+  by_address : (address : Option ℕ) (by : ℕ) (t : Bool) (unit : MeshUnit) (cost note now : ℕ)
+      → HandsOn (command_with by t (Some unit)) (option_map_or (λ own. hear_sealed l own by t unit cost note now) address (drop_it l BadUnit))
   by_address None by t unit cost note now = dropped_on _
   by_address (Some own) by t unit cost note now = sealed_on own by t unit cost note now
 

@@ -22,7 +22,8 @@ use Rattle.reach_rules.proofs.Commands.{admitted}
 -- # Marks
 
 -- a number that is its origin's mark is old
-old_at : (table : Marks) (origin number place : ℕ) → place_of table origin ≡ Some place → (mark_at table place).mark ≡ number → room_for table origin number ≡ Err log_faults.Old
+old_at : (table : Marks) (origin number place : ℕ) → place_of table origin ≡ Some place → (mark_at table place).mark ≡ number
+    → room_for table origin number ≡ Err log_faults.Old
 old_at table origin number place there same =
     let low : nat_le number (mark_at table place).mark ≡ true = grind (arith, nat_tests) in
     rw (there, low) refl
@@ -30,7 +31,8 @@ old_at table origin number place there same =
 kept_old : (table : Marks) (origin number : ℕ) → room_for (kept_after table origin number) origin number ≡ Err log_faults.Old
 kept_old table origin number = by_place (place_of table origin) refl
   where
-    by_entry : (place : ℕ) (e : OriginMark) → place_of table origin ≡ Some place → e.address ≡ origin → e.mark ≡ number → room_for (set table place e) origin number ≡ Err log_faults.Old
+    by_entry : (place : ℕ) (e : OriginMark) → place_of table origin ≡ Some place → e.address ≡ origin → e.mark ≡ number
+        → room_for (set table place e) origin number ≡ Err log_faults.Old
     by_entry place e there named marked =
         let within = (found marks table origin place e there).0 in
         let here : place_of table e.address ≡ Some place = ap (λ a. place_of table a) named ∙ there in
@@ -38,8 +40,10 @@ kept_old table origin number = by_place (place_of table origin) refl
         let is = get_or-set_same table place e (record { address = 0; mark = 0; stored = 0 }) within in
         old_at (set table place e) origin number place after (ap (λ (o : OriginMark). o.mark) is ∙ marked)
 
-    by_stored : (place : ℕ) (b : Bool) → place_of table origin ≡ Some place → room_for (set table place (if b then record (mark_at table place) { mark = number } else mark_ahead origin number)) origin number ≡ Err log_faults.Old
-    by_stored place true there = by_entry place (record (mark_at table place) { mark = number }) there (found marks table origin place (record { address = 0; mark = 0; stored = 0 }) there).1 refl
+    by_stored : (place : ℕ) (b : Bool) → place_of table origin ≡ Some place
+        → room_for (set table place (if b then record (mark_at table place) { mark = number } else mark_ahead origin number)) origin number ≡ Err log_faults.Old
+    by_stored place true there = by_entry place (record (mark_at table place) { mark = number }) there
+        (found marks table origin place (record { address = 0; mark = 0; stored = 0 }) there).1 refl
     by_stored place false there = by_entry place (mark_ahead origin number) there refl refl
 
     by_place : (o : Option ℕ) → place_of table origin ≡ o → room_for (kept_after table origin number) origin number ≡ Err log_faults.Old
@@ -56,11 +60,13 @@ kept_old table origin number = by_place (place_of table origin) refl
 -- # Plans
 
 -- a broadcast whose number is old is dropped so, whether it is an own one or not
-dropped_old : {M : Type 0} (h : StationPlace M) (y : Reaching M) (own : ℕ) (c : Broadcast) → room_for y.beside.log.marks c.origin c.number ≡ Err log_faults.Old → (hear_broadcast_in h y own (Some c)).answer ≡ Err Old
+dropped_old : {M : Type 0} (h : StationPlace M) (y : Reaching M) (own : ℕ) (c : Broadcast) → room_for y.beside.log.marks c.origin c.number ≡ Err log_faults.Old
+    → (hear_broadcast_in h y own (Some c)).answer ≡ Err Old
 unfolding checked resting broadcast_fault
 dropped_old h y own c old = by_own (c.origin == own) (mark_fault (room_for y.beside.log.marks c.origin c.number)) (ap mark_fault old)
   where
-    by_own : (t : Bool) (fault : Option ReachDropped) → fault ≡ Some Old → (checked reach_ends y (Some Old when t then fault) (admits_broadcast h y c)).answer ≡ Err Old
+    by_own : (t : Bool) (fault : Option ReachDropped) → fault ≡ Some Old
+        → (checked reach_ends y (Some Old when t then fault) (admits_broadcast h y c)).answer ≡ Err Old
     by_own true fault e = refl
     by_own false fault e = ap (λ f. (checked reach_ends y f (admits_broadcast h y c)).answer) e
 

@@ -1,7 +1,9 @@
 -- Single commands and calls of further reach, which are computed.
 use Rattle.std.proofs.Common.{refl}
 use Rattle.reach_rules.proofs.Computing.{computed}
-use Rattle.reach_rules.specs.ReachCases.{StrangeCommandsAreDropped, BroadcastsAreJudgedInOrder, ABroadcastStoresItsMark, OwnBroadcastsAreJudgedInOrder, PathsAreJudgedInOrder, AsksAreJudgedInOrder, DiscoveryIsJudgedInOrder, DiscoveryIsKnownByItsType, OnlyTheUnjoinedScan, AnAcknowledgementTakesACounter, ARelayIsCheckedToo}
+use Rattle.reach_rules.specs.ReachCases.{StrangeCommandsAreDropped, BroadcastsAreJudgedInOrder, ABroadcastStoresItsMark, OwnBroadcastsAreJudgedInOrder}
+use Rattle.reach_rules.specs.ReachCases.{PathsAreJudgedInOrder, AsksAreJudgedInOrder, DiscoveryIsJudgedInOrder, DiscoveryIsKnownByItsType, OnlyTheUnjoinedScan}
+use Rattle.reach_rules.specs.ReachCases.{AnAcknowledgementTakesACounter, ARelayIsCheckedToo}
 
 pub strange_commands_are_dropped : StrangeCommandsAreDropped
 unfolding computed StrangeCommandsAreDropped

@@ -1,7 +1,8 @@
 -- What becomes of acknowledgements, broadcasts, beacons and path requests: the scripts are computed.
 use Rattle.std.proofs.Common.{refl}
 use Rattle.reach_rules.proofs.Computing.{computed}
-use Rattle.reach_rules.specs.ReachScripts.{ALateNeighbourIsListed, ANeighbourInTimeIsBelieved, WithoutChecksAllAreBelieved, BroadcastsGoOnAndEnd, TheCheapestAgentIsChosen, TheCoordinatorIsAnAgent, APathIsAnswered, ABrokenPathIsNotAnswered}
+use Rattle.reach_rules.specs.ReachScripts.{ALateNeighbourIsListed, ANeighbourInTimeIsBelieved, WithoutChecksAllAreBelieved, BroadcastsGoOnAndEnd}
+use Rattle.reach_rules.specs.ReachScripts.{TheCheapestAgentIsChosen, TheCoordinatorIsAnAgent, APathIsAnswered, ABrokenPathIsNotAnswered}
 
 pub a_late_neighbour_is_listed : ALateNeighbourIsListed
 unfolding computed ALateNeighbourIsListed

@@ -36,7 +36,8 @@ use Rattle.reach_rules.specs.Broadcasts.{broadcast}
 use Rattle.reach_rules.specs.PathAsking.{ask_path}
 use Rattle.reach_rules.specs.Beacons.{hear_discovery, begin_scan, choose_agent, is_discovery}
 use Rattle.reach_rules.specs.Receiving.{hear_command}
-use Rattle.reach_rules.specs.SmallLines.{SmallLine, Doing, Sends, Comes, Passes, Hearing, group_key, identity, unjoined, joined, near_to, on_line, line_of, words_of, flown_in}
+use Rattle.reach_rules.specs.SmallLines.{SmallLine, Doing, Sends, Comes, Passes, Hearing, group_key, identity, unjoined, joined, near_to, on_line, line_of}
+use Rattle.reach_rules.specs.SmallLines.{words_of, flown_in}
 use Rattle.reach_rules.specs.ReachScripts.{waiting, answered, relayed, learned, checked_line}
 
 -- # Words

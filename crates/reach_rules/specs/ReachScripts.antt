@@ -10,7 +10,9 @@ use Rattle.reach_rules.specs.declared.refusal.ReachDropped.TheVariants.{Known, B
 use Rattle.reach_rules.specs.declared.refusal.DiscoveryDropped.TheVariants.{NotScanning}
 use Rattle.reach_rules.specs.declared.refusal.ChooseRefusal.TheVariants.{NoBeacon}
 use Rattle.reach_rules.specs.ReachingNodes.{Plainly, OfCommand}
-use Rattle.reach_rules.specs.SmallLines.{SmallLine, Doing, Word, Sends, Comes, Breaks, Passes, Broadcasts, Asks, Scans, Chooses, Sending, Hearing, Breaking, Passing, Broadcasting, Asking, Discovering, Scanning, Choosing, unjoined, joined, near_to, line_of, words_of, flown_in, discovery_octets}
+use Rattle.reach_rules.specs.SmallLines.{SmallLine, Doing, Word, Sends, Comes, Breaks, Passes, Broadcasts, Asks, Scans, Chooses, Sending, Hearing, Breaking}
+use Rattle.reach_rules.specs.SmallLines.{Passing, Broadcasting, Asking, Discovering, Scanning, Choosing, unjoined, joined, near_to, line_of, words_of, flown_in}
+use Rattle.reach_rules.specs.SmallLines.{discovery_octets}
 
 -- # Words
 

@@ -1,5 +1,7 @@
 //! Single commands and calls of further reach that the checker computes: each stands as the contract of a function that does nothing.
-ghost use Rattle.reach_rules.specs.ReachCases.{StrangeCommandsAreDropped, BroadcastsAreJudgedInOrder, ABroadcastStoresItsMark, OwnBroadcastsAreJudgedInOrder, PathsAreJudgedInOrder, AsksAreJudgedInOrder, DiscoveryIsJudgedInOrder, DiscoveryIsKnownByItsType, OnlyTheUnjoinedScan, AnAcknowledgementTakesACounter, ARelayIsCheckedToo};
+ghost use Rattle.reach_rules.specs.ReachCases.{StrangeCommandsAreDropped, BroadcastsAreJudgedInOrder, ABroadcastStoresItsMark, OwnBroadcastsAreJudgedInOrder};
+ghost use Rattle.reach_rules.specs.ReachCases.{PathsAreJudgedInOrder, AsksAreJudgedInOrder, DiscoveryIsJudgedInOrder, DiscoveryIsKnownByItsType};
+ghost use Rattle.reach_rules.specs.ReachCases.{OnlyTheUnjoinedScan, AnAcknowledgementTakesACounter, ARelayIsCheckedToo};
 
 /// Octets that are none of these commands are dropped, and so is a command that came on a wrong way or to a node without an address.
 #[tactic(auto, using(crate::proofs::ReachCases::strange_commands_are_dropped))]

@@ -1,5 +1,9 @@
 //! Laws of further reach, over the definitions alone: each stands as the contract of a function that does nothing.
-ghost use Rattle.reach_rules.specs.Laws.{HearsAsWithout, NodesHearAsWithout, CommandsAreHandedOn, OnlyCommandsAreHandedOn, AnEmptyStoreGivesNothing, NothingIsAwaited, NobodyIsListedByTime, RepliesAreAcknowledged, ListedAreNotBelieved, NoScanHearsNothing, CommandsRefuseCleanly, CallsRefuseCleanly, FramesRefuseCleanly, HandedUpOnce, CommandsWriteInTurn, CallsWriteInTurn, CommandsSendCommands, CallsSendCommands, MarkedBeforeTheCounter, AcknowledgementsAreCommands, CommandsKeepTheRest, CallsKeepTheRest};
+ghost use Rattle.reach_rules.specs.Laws.{HearsAsWithout, NodesHearAsWithout, CommandsAreHandedOn, OnlyCommandsAreHandedOn, AnEmptyStoreGivesNothing};
+ghost use Rattle.reach_rules.specs.Laws.{NothingIsAwaited, NobodyIsListedByTime, RepliesAreAcknowledged, ListedAreNotBelieved, NoScanHearsNothing};
+ghost use Rattle.reach_rules.specs.Laws.{CommandsRefuseCleanly, CallsRefuseCleanly, FramesRefuseCleanly, HandedUpOnce, CommandsWriteInTurn, CallsWriteInTurn};
+ghost use Rattle.reach_rules.specs.Laws.{CommandsSendCommands, CallsSendCommands, MarkedBeforeTheCounter, AcknowledgementsAreCommands, CommandsKeepTheRest};
+ghost use Rattle.reach_rules.specs.Laws.{CallsKeepTheRest};
 
 /// Where checks are off, a frame that carries no command of code 03, 04 or 05 is heard as without further reach: the same is answered,
 /// stored, kept in memory, sent, made and checked, and what the node holds beside its memory is left as it is.

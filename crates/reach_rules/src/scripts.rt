@@ -1,5 +1,6 @@
 //! Scripts of further reach that the checker computes: each stands as the contract of a function that does nothing.
-ghost use Rattle.reach_rules.specs.ReachScripts.{ALateNeighbourIsListed, ANeighbourInTimeIsBelieved, WithoutChecksAllAreBelieved, BroadcastsGoOnAndEnd, TheCheapestAgentIsChosen, TheCoordinatorIsAnAgent, APathIsAnswered, ABrokenPathIsNotAnswered};
+ghost use Rattle.reach_rules.specs.ReachScripts.{ALateNeighbourIsListed, ANeighbourInTimeIsBelieved, WithoutChecksAllAreBelieved, BroadcastsGoOnAndEnd};
+ghost use Rattle.reach_rules.specs.ReachScripts.{TheCheapestAgentIsChosen, TheCoordinatorIsAnAgent, APathIsAnswered, ABrokenPathIsNotAnswered};
 
 /// A neighbour that acknowledges a reply after two seconds is not believed for 300 seconds, and its acknowledgement is not awaited.
 #[tactic(auto, using(crate::proofs::ReachScripts::a_late_neighbour_is_listed))]

@@ -23,12 +23,14 @@ pub stored_beside : {A : Type 0} (layout : Layout A) (table : List A) (old new :
     → (layout.first + layout.slots ≤ 0x0200) ⊎ (0x0240 ≤ layout.first) → IsStored layout table new
 stored_beside layout table old new stored same behind apart = record {
   short = stored.short;
-  each = λ place within. ap (option_map (layout.read place)) (same (slot_of layout place) (differs place) (outside place within apart)) ∙ stored.each place within;
+  each = λ place within. ap (option_map (layout.read place)) (same (slot_of layout place) (differs place) (outside place within apart))
+      ∙ stored.each place within;
 }
   where
     differs : (place : ℕ) → slot_of layout place ≢ 5
     differs place = omega arith
 
-    outside : (place : ℕ) → place < layout.slots → (layout.first + layout.slots ≤ 0x0200) ⊎ (0x0240 ≤ layout.first) → (slot_of layout place < 0x0200) ⊎ (0x023F < slot_of layout place)
+    outside : (place : ℕ) → place < layout.slots → (layout.first + layout.slots ≤ 0x0200) ⊎ (0x0240 ≤ layout.first)
+        → (slot_of layout place < 0x0200) ⊎ (0x023F < slot_of layout place)
     outside place within (inl below) = inl (omega arith)
     outside place within (inr above) = inr (omega arith)

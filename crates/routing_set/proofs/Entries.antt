@@ -18,8 +18,10 @@ ranked-valid address number cost short low =
 pub entry_in-octets_of : (e : RoutingEntry) → e.address < 0xFFFE → 1 ≤ e.rank.number → e.rank.number < 2 ^ 16 → e.rank.cost < 2 ^ 16
     → entry_in (octets_of e) ≡ Some (without_route e)
 entry_in-octets_of e short low number cost =
-    let first : big_number 2 (octets_of e) ≡ e.address = big_number-reads_back 2 e.address (big_bytes 2 e.rank.number ++ big_bytes 2 e.rank.cost) (omega arith) in
-    let second : big_number 2 (big_bytes 2 e.rank.number ++ big_bytes 2 e.rank.cost) ≡ e.rank.number = big_number-reads_back 2 e.rank.number (big_bytes 2 e.rank.cost) (omega arith) in
+    let first : big_number 2 (octets_of e)
+    ≡ e.address = big_number-reads_back 2 e.address (big_bytes 2 e.rank.number ++ big_bytes 2 e.rank.cost) (omega arith) in
+    let second : big_number 2 (big_bytes 2 e.rank.number ++ big_bytes 2 e.rank.cost)
+    ≡ e.rank.number = big_number-reads_back 2 e.rank.number (big_bytes 2 e.rank.cost) (omega arith) in
     let third : big_number 2 (big_bytes 2 e.rank.cost) ≡ e.rank.cost = big_number-reads_back 2 e.rank.cost [] (omega arith) in
     ap (λ a. ranked a (big_number 2 (big_bytes 2 e.rank.number ++ big_bytes 2 e.rank.cost)) (big_number 2 (big_bytes 2 e.rank.cost))) first
     ∙ ap (λ n. ranked e.address n (big_number 2 (big_bytes 2 e.rank.cost))) second

@@ -1,5 +1,6 @@
 -- Before the first valid route ends, none does.
-use Rattle.std.proofs.Common.{◌≡◌, ℕ, ◌+◌, ◌<◌, ◌≤◌, not, Bool, true, false, cond, List, [], ◌∷◌, Option, Some, None, map, get_or, refl, sym, ap, subst, ◌∙◌, arith}
+use Rattle.std.proofs.Common.{◌≡◌, ℕ, ◌+◌, ◌<◌, ◌≤◌, not, Bool, true, false, cond, List, [], ◌∷◌, Option, Some, None, map, get_or, refl, sym, ap, subst, ◌∙◌}
+use Rattle.std.proofs.Common.{arith}
 use Rattle.std.specs.List.{All}
 use Rattle.std.specs.Option.{option_map_or}
 use Rattle.std.proofs.lemmas.Bool.{cond-false, lt-ltb}
@@ -27,7 +28,8 @@ with_one time (Some r) = earlier time (r.offered + 21600)
 pub still : (entries : List RoutingEntry) → IsStill (first_end entries) entries
 unfolding first_end
 still entries =
-    (all_last end_by (λ (time : ℕ) (e : RoutingEntry). Lasts time e.route) (λ time e. with_one time e.route) (λ a b e le lasts. sooner a b e.route le lasts) entries 18446744073709551615).1
+    (all_last end_by (λ (time : ℕ) (e : RoutingEntry). Lasts time e.route) (λ time e. with_one time e.route) (λ a b e le lasts. sooner a b e.route le lasts)
+    entries 18446744073709551615).1
 
 -- # Routes end
 
@@ -35,7 +37,8 @@ ended_lasts : (b : Bool) (time : ℕ) (e : RoutingEntry) → Lasts time e.route 
 ended_lasts true time e h = tt
 ended_lasts false time e h = h
 
-pub still_ended : (test : RoutingEntry → Bool) (time : ℕ) (entries : List RoutingEntry) → IsStill time entries → IsStill time (map (λ e. cond (test e) (without_route e) e) entries)
+pub still_ended : (test : RoutingEntry → Bool) (time : ℕ) (entries : List RoutingEntry) → IsStill time entries
+    → IsStill time (map (λ e. cond (test e) (without_route e) e) entries)
 still_ended test time entries h =
     All-map (λ (e : RoutingEntry). Lasts time e.route) (λ e. cond (test e) (without_route e) e) entries
     (λ k d lt. ended_lasts (test (get_or entries k d)) time (get_or entries k d) (h k d lt))

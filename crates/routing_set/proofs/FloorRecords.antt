@@ -1,5 +1,6 @@
 -- The record of the floors is read back.
-use Rattle.std.proofs.Common.{◌≡◌, ◌⊎◌, ℕ, zero, suc, ◌*◌, ◌^◌, ◌<◌, Bool, true, cond, List, [], ◌∷◌, Some, None, Result, Ok, Err, length, map, drop, get_or, refl, sym, inl, inr, ap, ◌∙◌, arith}
+use Rattle.std.proofs.Common.{◌≡◌, ◌⊎◌, ℕ, zero, suc, ◌*◌, ◌^◌, ◌<◌, Bool, true, cond, List, [], ◌∷◌, Some, None, Result, Ok, Err, length, map, drop, get_or}
+use Rattle.std.proofs.Common.{refl, sym, inl, inr, ap, ◌∙◌, arith}
 use Rattle.std.specs.Prelude.{◌==◌, OnOk, is_ok}
 use Rattle.std.specs.List.{range_with_len}
 use Rattle.std.proofs.lemmas.Bool.Decides.{nat_tests}
@@ -17,7 +18,8 @@ length-octets [] = refl
 length-octets (f ∷ floors) = omega (arith, length-octets floors)
 
 -- each of them is read at its place
-read_at : (floors : List ℕ) (k d : ℕ) → k < length floors → ((i : ℕ) → get_or floors i 0 < 2 ^ 16) → big_number 2 (drop (2 * k) (floors_octets floors)) ≡ get_or floors k d
+read_at : (floors : List ℕ) (k d : ℕ) → k < length floors → ((i : ℕ) → get_or floors i 0 < 2 ^ 16)
+    → big_number 2 (drop (2 * k) (floors_octets floors)) ≡ get_or floors k d
 read_at [] k d h fits = absurd (omega arith)
 read_at (f ∷ floors) zero d h fits = big_number-reads_back 2 f (floors_octets floors) (omega (arith, fits 0))
 read_at (f ∷ floors) (suc k) d h fits =
@@ -31,7 +33,8 @@ floors_in-octets floors long fits =
     let octets : (length (floors_octets floors) == 32) ≡ true = grind (arith, nat_tests, length-octets floors) in
     let back : floors ≡ map (λ class. big_number 2 (drop (2 * class) (floors_octets floors))) (range_with_len 0 16)
     = fill_by_all (λ class. big_number 2 (drop (2 * class) (floors_octets floors))) floors 16 0 long (λ k h. sym (read_at floors k 0 (omega arith) fits)) in
-    ap (λ (b : Bool). cond b (Some (map (λ class. big_number 2 (drop (2 * class) (floors_octets floors))) (range_with_len 0 16))) None) octets ∙ ap Some (sym back)
+    ap (λ (b : Bool). cond b (Some (map (λ class. big_number 2 (drop (2 * class) (floors_octets floors))) (range_with_len 0 16))) None) octets
+    ∙ ap Some (sym back)
 
 -- what was read into 16 numbers
 pub floors_of-read : (octets floors : List ℕ) → length floors ≡ 16 → IsRead big_number 2 octets floors → floors ≡ floors_of octets

@@ -59,12 +59,14 @@ record Chosen (now : ℕ) (best : Option RoutingEntry) (entries : List RoutingEn
   others : (other : RoutingEntry) → Among entries other → is_fresh now other ≡ false → goes_before other e ≡ false
 
 -- the entries after the first one
-by_among : (P : RoutingEntry → Type 0) (x : RoutingEntry) (entries : List RoutingEntry) → P x → ((other : RoutingEntry) → Among entries other → P other) → (other : RoutingEntry) (place : ℕ)
+by_among : (P : RoutingEntry → Type 0) (x : RoutingEntry) (entries : List RoutingEntry) → P x → ((other : RoutingEntry) → Among entries other → P other)
+    → (other : RoutingEntry) (place : ℕ)
     → slice_get (x ∷ entries) place ≡ Some other → P other
 by_among P x entries here more other zero there = let same : x ≡ other = cc in subst P same here
 by_among P x entries here more other (suc place) there = more other (record { place = place; there = there })
 
-chosen : (now : ℕ) (best : Option RoutingEntry) (entries : List RoutingEntry) (e : RoutingEntry) → IfSome best (λ b. is_fresh now b ≡ false) → fold (first_of now) best entries ≡ Some e
+chosen : (now : ℕ) (best : Option RoutingEntry) (entries : List RoutingEntry) (e : RoutingEntry) → IfSome best (λ b. is_fresh now b ≡ false)
+    → fold (first_of now) best entries ≡ Some e
     → Chosen now best entries e
 chosen now None [] e old h = absurd (cc (h))
 chosen now (Some b) [] e old h =
@@ -79,23 +81,29 @@ chosen now None (x ∷ entries) e old h = by_fresh (is_fresh now x) refl (chosen
         → (Unit {0} → fold (first_of now) None entries ≡ Some e → Chosen now None entries e)
         → (is_fresh now x ≡ false → fold (first_of now) (Some x) entries ≡ Some e → Chosen now (Some x) entries e) → Chosen now None (x ∷ entries) e
     by_fresh true is stays changes =
-        let same : fold (first_of now) (first_of now None x) entries ≡ fold (first_of now) None entries = ap (λ (b : Bool). fold (first_of now) (cond b None (Some x)) entries) is in
+        let same : fold (first_of now) (first_of now None x) entries
+        ≡ fold (first_of now) None entries = ap (λ (b : Bool). fold (first_of now) (cond b None (Some x)) entries) is in
         let k = stays tt (sym same ∙ h) in record {
           old = k.old;
           so_far = tt;
           others = λ other among.
-              by_among (λ o. is_fresh now o ≡ false → goes_before o e ≡ false) x entries (λ fresh. absurd (cc (is, fresh))) k.others other among.place among.there;
+              by_among (λ o. is_fresh now o ≡ false → goes_before o e ≡ false) x entries (λ fresh. absurd (cc (is, fresh))) k.others other among.place
+              among.there;
         }
     by_fresh false is stays changes =
-        let same : fold (first_of now) (first_of now None x) entries ≡ fold (first_of now) (Some x) entries = ap (λ (b : Bool). fold (first_of now) (cond b None (Some x)) entries) is in
+        let same : fold (first_of now) (first_of now None x) entries
+        ≡ fold (first_of now) (Some x) entries = ap (λ (b : Bool). fold (first_of now) (cond b None (Some x)) entries) is in
         let k = changes is (sym same ∙ h) in record {
           old = k.old;
           so_far = tt;
-          others = λ other among. by_among (λ o. is_fresh now o ≡ false → goes_before o e ≡ false) x entries (λ fresh. k.so_far) k.others other among.place among.there;
+          others = λ other among. by_among (λ o. is_fresh now o ≡ false → goes_before o e ≡ false) x entries (λ fresh. k.so_far) k.others other among.place
+              among.there;
         }
-chosen now (Some b) (x ∷ entries) e old h = by_tests (is_fresh now x) (goes_before x b) refl refl (chosen now (Some b) entries e old) (chosen now (Some x) entries e)
+chosen now (Some b) (x ∷ entries) e old h =
+    by_tests (is_fresh now x) (goes_before x b) refl refl (chosen now (Some b) entries e old) (chosen now (Some x) entries e)
   where
-    by_tests : (fresh before : Bool) → is_fresh now x ≡ fresh → goes_before x b ≡ before → (fold (first_of now) (Some b) entries ≡ Some e → Chosen now (Some b) entries e)
+    by_tests : (fresh before : Bool) → is_fresh now x ≡ fresh → goes_before x b ≡ before
+        → (fold (first_of now) (Some b) entries ≡ Some e → Chosen now (Some b) entries e)
         → (is_fresh now x ≡ false → fold (first_of now) (Some x) entries ≡ Some e → Chosen now (Some x) entries e) → Chosen now (Some b) (x ∷ entries) e
     by_tests true before is order stays changes =
         let same : fold (first_of now) (first_of now (Some b) x) entries ≡ fold (first_of now) (Some b) entries
@@ -104,7 +112,8 @@ chosen now (Some b) (x ∷ entries) e old h = by_tests (is_fresh now x) (goes_be
           old = k.old;
           so_far = k.so_far;
           others = λ other among.
-              by_among (λ o. is_fresh now o ≡ false → goes_before o e ≡ false) x entries (λ fresh. absurd (cc (is, fresh))) k.others other among.place among.there;
+              by_among (λ o. is_fresh now o ≡ false → goes_before o e ≡ false) x entries (λ fresh. absurd (cc (is, fresh))) k.others other among.place
+              among.there;
         }
     by_tests false true is order stays changes =
         let same : fold (first_of now) (first_of now (Some b) x) entries ≡ fold (first_of now) (Some x) entries
@@ -113,7 +122,8 @@ chosen now (Some b) (x ∷ entries) e old h = by_tests (is_fresh now x) (goes_be
         let k = changes is (sym same ∙ h) in record {
           old = k.old;
           so_far = not_after x b e order k.so_far;
-          others = λ other among. by_among (λ o. is_fresh now o ≡ false → goes_before o e ≡ false) x entries (λ fresh. k.so_far) k.others other among.place among.there;
+          others = λ other among. by_among (λ o. is_fresh now o ≡ false → goes_before o e ≡ false) x entries (λ fresh. k.so_far) k.others other among.place
+              among.there;
         }
     by_tests false false is order stays changes =
         let same : fold (first_of now) (first_of now (Some b) x) entries ≡ fold (first_of now) (Some b) entries
@@ -123,7 +133,8 @@ chosen now (Some b) (x ∷ entries) e old h = by_tests (is_fresh now x) (goes_be
           old = k.old;
           so_far = k.so_far;
           others = λ other among.
-              by_among (λ o. is_fresh now o ≡ false → goes_before o e ≡ false) x entries (λ fresh. before_past x b e x.route b.route e.route order k.so_far) k.others other among.place
+              by_among (λ o. is_fresh now o ≡ false → goes_before o e ≡ false) x entries (λ fresh. before_past x b e x.route b.route e.route order k.so_far)
+              k.others other among.place
               among.there;
         }
 
@@ -141,7 +152,8 @@ all_fresh now entries h = by_test (list_all (is_fresh now) entries) refl
     by_test true is = is
     by_test false is = absurd (cc (one_goes now entries is, h))
 
-pub first_or_fresh : (now : ℕ) (entries : List RoutingEntry) → MatchOption (first_to_go now entries) (list_all (is_fresh now) entries ≡ true) (IsFirstToGo now entries)
+pub first_or_fresh : (now : ℕ) (entries : List RoutingEntry)
+    → MatchOption (first_to_go now entries) (list_all (is_fresh now) entries ≡ true) (IsFirstToGo now entries)
 first_or_fresh now entries = by_choice (first_to_go now entries) refl
   where
     by_choice : (o : Option RoutingEntry) → first_to_go now entries ≡ o → MatchOption o (list_all (is_fresh now) entries ≡ true) (IsFirstToGo now entries)

@@ -9,7 +9,8 @@ use Rattle.store_tables.proofs.Opening.{reopened}
 use Rattle.routing_set.specs.declared.rank.Rank.{Rank}
 use Rattle.routing_set.specs.declared.entry.RoutingEntry.{RoutingEntry}
 use Rattle.routing_set.specs.Ranks.{IsAtLeast}
-use Rattle.routing_set.specs.RoutingSet.{Routing, ranks, IsKept, floors_in, routing_of, opened, at_rest, held, is_better, is_full, offered, half_offered, offered_entry, ended, without_route}
+use Rattle.routing_set.specs.RoutingSet.{Routing, ranks, IsKept, floors_in, routing_of, opened, at_rest, held, is_better, is_full, offered, half_offered}
+use Rattle.routing_set.specs.RoutingSet.{offered_entry, ended, without_route}
 use Rattle.routing_set.specs.Histories.{IsRouting, Leads, begins, offers, fails, ends, restarts, elsewhere}
 use Rattle.routing_set.proofs.RankOrder.{at_least_trans}
 use Rattle.routing_set.proofs.Endings.{kept_ended}
@@ -39,7 +40,8 @@ ended_sound test r h = record {
 -- what was kept is opened again
 pub opened_again : (r : Routing) (records : Records) → slots.IsTable ranks r.entries → IsKept r records → opened records ≡ Ok (at_rest r)
 opened_again r records h kept =
-    ap (λ o. routing_of o (slots.opened ranks records)) kept.floors ∙ ap (routing_of (Some r.floors)) (reopened ranks records r.entries (λ _. refl) h kept.ranks)
+    ap (λ o. routing_of o (slots.opened ranks records)) kept.floors
+    ∙ ap (routing_of (Some r.floors)) (reopened ranks records r.entries (λ _. refl) h kept.ranks)
 
 -- What the records give stands above what was known first.
 record Holds (first : Routing) (was : Option Routing) (records : Records) : Type 0 where
@@ -49,7 +51,8 @@ record Holds (first : Routing) (was : Option Routing) (records : Records) : Type
   above : (dest : ℕ) → IsAtLeast (held routing dest) (held first dest)
   live : IfSome was (λ r. r ≡ routing)
 
-offers_holds : (first now : Routing) (dest : ℕ) (rank : Rank) (next at : ℕ) (old new : Records) → Holds first (Some now) old → is_better now dest rank ≡ true → is_full now dest at ≡ false
+offers_holds : (first now : Routing) (dest : ℕ) (rank : Rank) (next at : ℕ) (old new : Records) → Holds first (Some now) old → is_better now dest rank ≡ true
+    → is_full now dest at ≡ false
     → IsKept (offered now dest rank next at) new → Holds first (Some (offered now dest rank next at)) new
 offers_holds first now dest rank next at old new h better room kept =
     let sound = subst (λ (r : Routing). IsRouting r) (sym h.live) h.sound in
@@ -63,7 +66,8 @@ offers_holds first now dest rank next at old new h better room kept =
       live = refl;
     }
 
-fails_holds : (first now : Routing) (dest : ℕ) (rank : Rank) (next at : ℕ) (old new : Records) → Holds first (Some now) old → is_better now dest rank ≡ true → is_full now dest at ≡ false
+fails_holds : (first now : Routing) (dest : ℕ) (rank : Rank) (next at : ℕ) (old new : Records) → Holds first (Some now) old → is_better now dest rank ≡ true
+    → is_full now dest at ≡ false
     → IsKept now new ⊎ IsKept (half_offered now dest at) new ⊎ IsKept (offered now dest rank next at) new → Holds first None new
 fails_holds first now dest rank next at old new h better room either = by_either either
   where
@@ -86,7 +90,8 @@ fails_holds first now dest rank next at old new h better room either = by_either
         let k = offers_holds first now dest rank next at old new h better room kept in
         record { routing = k.routing; sound = k.sound; kept = k.kept; above = k.above; live = tt }
 
-ends_holds : (first now : Routing) (records : Records) (test : RoutingEntry → Bool) → Holds first (Some now) records → Holds first (Some (ended test now)) records
+ends_holds : (first now : Routing) (records : Records) (test : RoutingEntry → Bool) → Holds first (Some now) records
+    → Holds first (Some (ended test now)) records
 ends_holds first now records test h =
     let sound = subst (λ (r : Routing). IsRouting r) (sym h.live) h.sound in
     let kept = subst (λ (r : Routing). IsKept r records) (sym h.live) h.kept in
@@ -99,7 +104,8 @@ ends_holds first now records test h =
       live = refl;
     }
 
-restarts_holds : (first : Routing) (was : Option Routing) (now : Routing) (records : Records) → Holds first was records → opened records ≡ Ok now → Holds first (Some now) records
+restarts_holds : (first : Routing) (was : Option Routing) (now : Routing) (records : Records) → Holds first was records → opened records ≡ Ok now
+    → Holds first (Some now) records
 restarts_holds first was now records h e =
     let is : Ok (at_rest h.routing) ≡ Ok now = sym (opened_again h.routing records h.sound.entries h.kept) ∙ e in
     let same : now ≡ at_rest h.routing = cc (is) in
@@ -127,7 +133,10 @@ holds first was records (elsewhere w old new before floors others) =
       sound = h.sound;
       kept = record {
         floors = ap floors_in floors ∙ h.kept.floors;
-        ranks = record { short = h.kept.ranks.short; each = λ place within. ap (option_map (ranks.read place)) (others place within) ∙ h.kept.ranks.each place within };
+        ranks = record {
+          short = h.kept.ranks.short;
+          each = λ place within. ap (option_map (ranks.read place)) (others place within) ∙ h.kept.ranks.each place within;
+        };
       };
       above = h.above;
       live = h.live;

@@ -1,5 +1,6 @@
 -- The puts of an offer and of a number lead from what the records gave to what they give.
-use Rattle.std.proofs.Common.{◌≡◌, ◌≢◌, ◌⊎◌, inl, ⊎_elim, ℕ, zero, suc, ◌+◌, ◌<◌, ◌^◌, Bool, true, false, List, [], ◌∷◌, ◌++◌, length, get_or, set, Option, Some, None, refl, sym, ap, ◌∙◌, subst, arith, length-append}
+use Rattle.std.proofs.Common.{◌≡◌, ◌≢◌, ◌⊎◌, inl, ⊎_elim, ℕ, zero, suc, ◌+◌, ◌<◌, ◌^◌, Bool, true, false, List, [], ◌∷◌, ◌++◌, length, get_or, set, Option}
+use Rattle.std.proofs.Common.{Some, None, refl, sym, ap, ◌∙◌, subst, arith, length-append}
 use Rattle.std.specs.Prelude.{if◌then◌else◌, All, is_some, ◌==◌, unwrap_or, slice_get}
 use Rattle.std.specs.FinMap.{get, insert}
 use Rattle.std.proofs.lemmas.Bool.{cases_eq, ltb-false}
@@ -15,14 +16,16 @@ use Rattle.store_tables.proofs.StoreLemmas.{get-insert_other}
 use Rattle.store_tables.proofs.SlotTables.{found, stored_set, stored_push, stored_elsewhere}
 use Rattle.routing_set.specs.declared.rank.Rank.{Rank}
 use Rattle.routing_set.specs.declared.entry.RoutingEntry.{RoutingEntry}
-use Rattle.routing_set.specs.RoutingSet.{Routing, IsKept, ranks, octets_of, floors_in, floor_slot, floors_due, floors_write, raised, raises, class_of, place_of, entered, entry_writes, writes_of, after_of, first_to_go, is_full, offered_entry, offer_writes, offered}
+use Rattle.routing_set.specs.RoutingSet.{Routing, IsKept, ranks, octets_of, floors_in, floor_slot, floors_due, floors_write, raised, raises, class_of, place_of}
+use Rattle.routing_set.specs.RoutingSet.{entered, entry_writes, writes_of, after_of, first_to_go, is_full, offered_entry, offer_writes, offered}
 use Rattle.routing_set.specs.OwnNumber as numbers
 use Rattle.routing_set.specs.Histories.{IsRouting}
 use Rattle.routing_set.specs.Laws.{Among, IsReadableEntry, HasNumber, IsRanged, IsRoutingIn, IsNumberIn}
 use Rattle.routing_set.proofs.Limits.{limit_in-insert}
 use Rattle.routing_set.proofs.Entries.{entry_in-octets_of}
 use Rattle.routing_set.proofs.FloorRecords.{floors_in-insert}
-use Rattle.routing_set.proofs.Offers.{entered_held, writes_held, entered_new, writes_new, entered_first, writes_first, after_gone, gone_among, place_there, one_goes, room_old}
+use Rattle.routing_set.proofs.Offers.{entered_held, writes_held, entered_new, writes_new, entered_first, writes_first, after_gone, gone_among, place_there}
+use Rattle.routing_set.proofs.Offers.{one_goes, room_old}
 use Rattle.routing_set.proofs.Rising.{entered_sound}
 
 -- # The own number
@@ -31,7 +34,8 @@ pub number_leads : (n : numbers.Numbering) → n.last < 65535 → PutsLead IsNum
 number_leads n left = by_due (numbers.passes n) refl
   where
     by_due : (b : Bool) → numbers.passes n ≡ b
-        → PutsLead IsNumberIn n (puts_of (if b then numbers.limit_write (numbers.raised n.limit) else None)) (record { limit = if b then numbers.raised n.limit else n.limit; last = n.last + 1 })
+        → PutsLead IsNumberIn n (puts_of (if b then numbers.limit_write (numbers.raised n.limit) else None))
+        (record { limit = if b then numbers.raised n.limit else n.limit; last = n.last + 1 })
     by_due true e = leads_one IsNumberIn n _ _ (λ r k.
         let below = k.kept.below in let fits = k.fits in let low = k.low in
         record {
@@ -44,14 +48,16 @@ number_leads n left = by_due (numbers.passes n) refl
 -- # Ranks and floors
 
 -- the floors stay where a rank is written
-floors_stay : (t : Routing) (r : Records) (place : ℕ) (octets : List ℕ) → IsKept t r → floors_in (get (insert r (0x0200 + place) octets) floor_slot) ≡ Some t.floors
+floors_stay : (t : Routing) (r : Records) (place : ℕ) (octets : List ℕ) → IsKept t r
+    → floors_in (get (insert r (0x0200 + place) octets) floor_slot) ≡ Some t.floors
 floors_stay t r place octets kept = ap floors_in (get-insert_other r (0x0200 + place) floor_slot octets (omega arith)) ∙ kept.floors
 
 reads_entry : (e : RoutingEntry) (place : ℕ) → IsReadableEntry e → ranks.read place (ranks.octets place e) ≡ Some (ranks.rest e)
 reads_entry e place f = entry_in-octets_of e f.address f.low f.number f.cost
 
 -- an entry in a place
-place_leads : (t : Routing) (e : RoutingEntry) (place : ℕ) → place < length t.entries → place < 64 → IsReadableEntry e → IsRanged (record t { entries = set t.entries place e })
+place_leads : (t : Routing) (e : RoutingEntry) (place : ℕ) → place < length t.entries → place < 64 → IsReadableEntry e
+    → IsRanged (record t { entries = set t.entries place e })
     → PutsLead IsRoutingIn t (slots.entry_write ranks place e ∷ []) (record t { entries = set t.entries place e })
 place_leads t e place within inside f x = leads_one IsRoutingIn t _ _ (λ r k.
     record {
@@ -70,7 +76,8 @@ push_leads t e f x = leads_one IsRoutingIn t _ _ (λ r k.
       ranged = x;
       kept = record {
         floors = floors_stay t r (length t.entries) (octets_of e) k.kept;
-        ranks = stored_push ranks t.entries r _ e k.kept.ranks (let longer = length-append t.entries (e ∷ []) in omega (arith, x.sound.entries.short)) refl (reads_entry e (length t.entries) f);
+        ranks = stored_push ranks t.entries r _ e k.kept.ranks (let longer = length-append t.entries (e ∷ []) in omega (arith, x.sound.entries.short)) refl
+            (reads_entry e (length t.entries) f);
       };
     })
 
@@ -84,7 +91,8 @@ raised_range floors gone fits number long class = by_rise (raises floors gone)
     by_rise true =
         let within : class_of gone.address < length floors = omega arith in
         ⊎_elim (λ (here : class ≡ class_of gone.address). rw (here, get_or-set_same floors (class_of gone.address) gone.rank.number 0 within) number)
-        (λ (other : class ≢ class_of gone.address). rw (get_or-set_other floors (class_of gone.address) class gone.rank.number 0 other) (fits class)) (cases_eq class (class_of gone.address))
+        (λ (other : class ≢ class_of gone.address). rw (get_or-set_other floors (class_of gone.address) class gone.rank.number 0 other) (fits class))
+        (cases_eq class (class_of gone.address))
 
 half_leads : (t : Routing) (gone : RoutingEntry) → IsRanged (record t { floors = raised t.floors gone })
     → PutsLead IsRoutingIn t (puts_of (floors_due t.floors (Some gone))) (record t { floors = raised t.floors gone })
@@ -113,7 +121,8 @@ sound_by : (r t : Routing) (e : RoutingEntry) (now : ℕ) → IsRouting r → is
 sound_by r t e now s room is = subst IsRouting is (entered_sound r e now s room)
 
 -- where the address is kept, or no place has to be made
-held_leads : (t : Routing) (e : RoutingEntry) (now place : ℕ) → IsReadableEntry e → IsRanged t → is_full t e.address now ≡ false → place_of t.entries e.address ≡ Some place
+held_leads : (t : Routing) (e : RoutingEntry) (now place : ℕ) → IsReadableEntry e → IsRanged t → is_full t e.address now ≡ false
+    → place_of t.entries e.address ≡ Some place
     → PutsLead IsRoutingIn t (entry_writes t e now) (entered t e now)
 held_leads t e now place f x room at =
     let there = found ranks t.entries e.address place e at in
@@ -150,7 +159,8 @@ among_number entries gone a all = at_place entries a.place a.there all
     at_place (x ∷ xs) zero e all = let is : x ≡ gone = cc in subst HasNumber is (all 0 x (omega arith))
     at_place (x ∷ xs) (suc place) e all = at_place xs place e (λ k d lt. all (suc k) d (omega arith))
 
-gone_leads : (t : Routing) (e gone : RoutingEntry) (now place : ℕ) → IsReadableEntry e → IsRanged t → is_full t e.address now ≡ false → place_of t.entries e.address ≡ None
+gone_leads : (t : Routing) (e gone : RoutingEntry) (now place : ℕ) → IsReadableEntry e → IsRanged t → is_full t e.address now ≡ false
+    → place_of t.entries e.address ≡ None
     → (length t.entries == 64) ≡ true → first_to_go now t.entries ≡ Some gone → place_of t.entries gone.address ≡ Some place
     → PutsLead IsRoutingIn t (entry_writes t e now) (entered t e now)
 gone_leads t e gone now place f x room at whole first there =

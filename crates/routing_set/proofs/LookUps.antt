@@ -1,5 +1,6 @@
 -- What is looked up in a table where an entry came.
-use Rattle.std.proofs.Common.{◌≡◌, ◌≢◌, ◌⊎◌, inl, inr, ℕ, zero, suc, ◌<◌, ◌≤◌, Bool, true, false, cond, List, [], ◌∷◌, ◌++◌, Option, Some, None, length, set, get_or, refl, sym, ap, subst, ◌∙◌, arith}
+use Rattle.std.proofs.Common.{◌≡◌, ◌≢◌, ◌⊎◌, inl, inr, ℕ, zero, suc, ◌<◌, ◌≤◌, Bool, true, false, cond, List, [], ◌∷◌, ◌++◌, Option, Some, None, length, set}
+use Rattle.std.proofs.Common.{get_or, refl, sym, ap, subst, ◌∙◌, arith}
 use Rattle.std.specs.Prelude.{◌==◌, nat_lt, is_some, slice_get, IfSome}
 use Rattle.std.specs.List.{find, position_or_len}
 use Rattle.std.specs.Option.{option_and_then, option_or}
@@ -30,7 +31,8 @@ entry_of-find entries dest = by_within (nat_lt (position_or_len (is_at dest) ent
   where
     by_within : (within : Bool) → nat_lt (position_or_len (is_at dest) entries) (length entries) ≡ within → entry_of entries dest ≡ find (is_at dest) entries
     by_within true is =
-        ap (λ (b : Bool). option_and_then (slice_get entries) (cond b (Some (position_or_len (is_at dest) entries)) None)) is ∙ sym (find_at (is_at dest) entries)
+        ap (λ (b : Bool). option_and_then (slice_get entries) (cond b (Some (position_or_len (is_at dest) entries)) None)) is
+        ∙ sym (find_at (is_at dest) entries)
     by_within false is =
         let past : length entries ≤ position_or_len (is_at dest) entries = grind (arith, nat_tests) in
         ap (λ (b : Bool). option_and_then (slice_get entries) (cond b (Some (position_or_len (is_at dest) entries)) None)) is
@@ -50,7 +52,8 @@ first_place entries dest place e = by_within (nat_lt (position_or_len (is_at des
     by_within true k h = cc
     by_within false k h = absurd (cc (h))
 
-none_by : (p : RoutingEntry → Bool) (entries : List RoutingEntry) (d : RoutingEntry) → ((k : ℕ) → k < length entries → p (get_or entries k d) ≡ false) → find p entries ≡ None
+none_by : (p : RoutingEntry → Bool) (entries : List RoutingEntry) (d : RoutingEntry) → ((k : ℕ) → k < length entries → p (get_or entries k d) ≡ false)
+    → find p entries ≡ None
 none_by p [] d h = refl
 none_by p (x ∷ entries) d h = ap (λ (b : Bool). cond b (Some x) (find p entries)) (h 0 (omega arith)) ∙ none_by p entries d (λ k w. h (suc k) (omega arith))
 
@@ -85,7 +88,8 @@ came_held entries e place h at =
     let there = found ranks entries e.address place e at in
     record {
       here = find-set (is_at e.address) entries place e (first_place entries e.address place at) there.0 (is_at-true e.address e refl);
-      away = λ dest ne other. find_past (is_at dest) entries place e e (is_at-false dest (get_or entries place e) (λ same. ne (sym same ∙ there.1))) (is_at-false dest e (λ same. ne (sym same)));
+      away = λ dest ne other. find_past (is_at dest) entries place e e (is_at-false dest (get_or entries place e) (λ same. ne (sym same ∙ there.1)))
+          (is_at-false dest e (λ same. ne (sym same)));
       lost = tt;
       sound = IsTable-set ranks entries place e h there.0 (free_found ranks entries e.address place h at);
     }
@@ -98,7 +102,8 @@ came_new entries e h at room = record {
       find-append (is_at e.address) entries (e ∷ []) ∙ ap (λ o. option_or o (find (is_at e.address) (e ∷ []))) (find_none entries e.address at)
       ∙ ap (λ (b : Bool). cond b (Some e) None) (is_at-true e.address e refl);
   away = λ dest ne other.
-      find-append (is_at dest) entries (e ∷ []) ∙ ap (λ (b : Bool). option_or (find (is_at dest) entries) (cond b (Some e) None)) (is_at-false dest e (λ same. ne (sym same)))
+      find-append (is_at dest) entries (e ∷ [])
+      ∙ ap (λ (b : Bool). option_or (find (is_at dest) entries) (cond b (Some e) None)) (is_at-false dest e (λ same. ne (sym same)))
       ∙ or_none (find (is_at dest) entries);
   lost = tt;
   sound = IsTable-push ranks entries e h room (free_new ranks entries e.address (length entries) (ap is_some at));
@@ -113,8 +118,14 @@ pub came_gone : (entries : List RoutingEntry) (e g : RoutingEntry) (place : ℕ)
     → place_of entries g.address ≡ Some place → Came entries (set entries place e) e (Some g)
 came_gone entries e g place h new among at = record {
   here = set_new (is_at e.address) entries place e (find_none entries e.address new) there.0 (is_at-true e.address e refl);
-  away = λ dest ne other. find_past (is_at dest) entries place e e (is_at-false dest (get_or entries place e) (λ same. other (sym same ∙ (found ranks entries g.address place e at).1))) (is_at-false dest e (λ same. ne (sym same)));
-  lost = (differs, none_by (is_at g.address) (set entries place e) e others, find_place entries g.address place at ∙ subst (λ (k : ℕ). slice_get entries k ≡ Some g) same_place among.there);
+  away = λ dest ne other. find_past (is_at dest) entries place e e
+      (is_at-false dest (get_or entries place e) (λ same. other (sym same ∙ (found ranks entries g.address place e at).1)))
+      (is_at-false dest e (λ same. ne (sym same)));
+  lost = (
+    differs,
+    none_by (is_at g.address) (set entries place e) e others,
+    find_place entries g.address place at ∙ subst (λ (k : ℕ). slice_get entries k ≡ Some g) same_place among.there,
+  );
   sound = IsTable-set ranks entries place e h there.0 (free_new ranks entries e.address place (ap is_some new));
 }
   where
@@ -135,7 +146,8 @@ came_gone entries e g place h new among at = record {
       where
         by_lower : (among.place < place) ⊎ (place ≤ among.place) → among.place ≢ place → among.place ≡ place
         by_lower (inl lower) ne = absurd (h.distinct among.place place g lower there.0 (ap (λ (x : RoutingEntry). x.address) (is_there g) ∙ sym there.1))
-        by_lower (inr higher) ne = absurd (h.distinct place among.place g (omega arith) inside (there.1 ∙ sym (ap (λ (x : RoutingEntry). x.address) (is_there g))))
+        by_lower (inr higher) ne =
+            absurd (h.distinct place among.place g (omega arith) inside (there.1 ∙ sym (ap (λ (x : RoutingEntry). x.address) (is_there g))))
 
         by_order : (among.place ≡ place) ⊎ (among.place ≢ place) → among.place ≡ place
         by_order (inl same) = same
@@ -158,4 +170,5 @@ came_gone entries e g place h new among at = record {
         by_place (inl same) =
             ap (λ (j : ℕ). is_at g.address (get_or (set entries place e) j e)) same ∙ ap (is_at g.address) (get_or-set_same entries place e e there.0)
             ∙ is_at-false g.address e (λ same. differs (sym same))
-        by_place (inr ne) = ap (is_at g.address) (get_or-set_other entries place k e e ne) ∙ is_at-false g.address (get_or entries k e) (by_lower (cases_lt k place) ne)
+        by_place (inr ne) =
+            ap (is_at g.address) (get_or-set_other entries place k e e ne) ∙ is_at-false g.address (get_or entries k e) (by_lower (cases_lt k place) ne)

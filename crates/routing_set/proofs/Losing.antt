@@ -19,7 +19,8 @@ nexts : Option RoutingEntry → Option ℕ
 nexts o = option_map (λ (t : Route). t.next) (option_and_then (λ (e : RoutingEntry). e.route) o)
 
 by_route : (same : Bool) (by address : ℕ) (rank : Rank) (route : Option Route)
-    → nexts (Some (cond (same && goes_by by (record { address = address; rank = rank; route = route })) (record { address = address; rank = rank; route = None }) (record { address = address; rank = rank; route = route })))
+    → nexts (Some (cond (same && goes_by by (record { address = address; rank = rank; route = route }))
+    (record { address = address; rank = rank; route = None }) (record { address = address; rank = rank; route = route })))
     ≡ hop_after same by (nexts (Some (record { address = address; rank = rank; route = route })))
 unfolding nexts
 by_route true by address rank None = refl
@@ -27,7 +28,8 @@ by_route false by address rank None = refl
 by_route false by address rank (Some t) = refl
 by_route true by address rank (Some t) = by_test (t.next == by)
   where
-    by_test : (b : Bool) → nexts (Some (cond b (record { address = address; rank = rank; route = None }) (record { address = address; rank = rank; route = Some t }))) ≡ cond b None (Some t.next)
+    by_test : (b : Bool) → nexts (Some (cond b (record { address = address; rank = rank; route = None })
+        (record { address = address; rank = rank; route = Some t }))) ≡ cond b None (Some t.next)
     by_test true = refl
     by_test false = refl
 
@@ -39,19 +41,23 @@ after_address lost by e = by_test ((e.address == lost) && goes_by by e)
     by_test true = refl
     by_test false = refl
 
-find_left : (lost by to : ℕ) (entries : List RoutingEntry) → nexts (find (is_at to) (map (after lost by) entries)) ≡ hop_after (to == lost) by (nexts (find (is_at to) entries))
+find_left : (lost by to : ℕ) (entries : List RoutingEntry)
+    → nexts (find (is_at to) (map (after lost by) entries)) ≡ hop_after (to == lost) by (nexts (find (is_at to) entries))
 unfolding nexts after
 find_left lost by to [] = refl
 find_left lost by to (e ∷ es) = by_here (find_left lost by to es) (cases_eq e.address to)
   where
-    by_here : nexts (find (is_at to) (map (after lost by) es)) ≡ hop_after (to == lost) by (nexts (find (is_at to) es)) → (e.address ≡ to) ⊎ (e.address ≢ to) → nexts (find (is_at to) (map (after lost by) (e ∷ es))) ≡ hop_after (to == lost) by (nexts (find (is_at to) (e ∷ es)))
+    by_here : nexts (find (is_at to) (map (after lost by) es)) ≡ hop_after (to == lost) by (nexts (find (is_at to) es)) → (e.address ≡ to) ⊎ (e.address ≢ to)
+        → nexts (find (is_at to) (map (after lost by) (e ∷ es))) ≡ hop_after (to == lost) by (nexts (find (is_at to) (e ∷ es)))
     by_here more (inl same) =
-        ap (λ (b : Bool). nexts (cond b (Some (after lost by e)) (find (is_at to) (map (after lost by) es)))) (is_at-true to (after lost by e) (after_address lost by e ∙ same))
+        ap (λ (b : Bool). nexts (cond b (Some (after lost by e)) (find (is_at to) (map (after lost by) es))))
+        (is_at-true to (after lost by e) (after_address lost by e ∙ same))
         ∙ by_route (e.address == lost) by e.address e.rank e.route
         ∙ ap (λ (a : ℕ). hop_after (a == lost) by (nexts (Some e))) same
         ∙ sym (ap (λ (b : Bool). hop_after (to == lost) by (nexts (cond b (Some e) (find (is_at to) es)))) (is_at-true to e same))
     by_here more (inr other) =
-        ap (λ (b : Bool). nexts (cond b (Some (after lost by e)) (find (is_at to) (map (after lost by) es)))) (is_at-false to (after lost by e) (λ k. other (sym (after_address lost by e) ∙ k)))
+        ap (λ (b : Bool). nexts (cond b (Some (after lost by e)) (find (is_at to) (map (after lost by) es))))
+        (is_at-false to (after lost by e) (λ k. other (sym (after_address lost by e) ∙ k)))
         ∙ more
         ∙ sym (ap (λ (b : Bool). hop_after (to == lost) by (nexts (cond b (Some e) (find (is_at to) es)))) (is_at-false to e other))
 

@@ -1,5 +1,6 @@
 -- What an offer that is taken puts, and what is kept then.
-use Rattle.std.proofs.Common.{◌≡◌, ◌≢◌, ◌⊎◌, inl, inr, ℕ, zero, suc, ◌<◌, ◌≤◌, Bool, true, false, cond, List, [], ◌∷◌, ◌++◌, Option, Some, None, length, set, get_or, Result, Ok, Err, refl, sym, ap, subst, ◌∙◌, arith}
+use Rattle.std.proofs.Common.{◌≡◌, ◌≢◌, ◌⊎◌, inl, inr, ℕ, zero, suc, ◌<◌, ◌≤◌, Bool, true, false, cond, List, [], ◌∷◌, ◌++◌, Option, Some, None, length, set}
+use Rattle.std.proofs.Common.{get_or, Result, Ok, Err, refl, sym, ap, subst, ◌∙◌, arith}
 use Rattle.std.specs.Prelude.{◌==◌, ◌&&◌, is_some, is_ok, is_err, OnOk, fold, unwrap_or}
 use Rattle.std.specs.Bool.{OnTrue}
 use Rattle.std.specs.Option.{option_map_or}
@@ -14,7 +15,8 @@ use Rattle.store_tables.specs.SlotTables as slots
 use Rattle.store_tables.proofs.SlotTables.{apart, stored_elsewhere}
 use Rattle.routing_set.specs.declared.entry.RoutingEntry.{RoutingEntry}
 use Rattle.routing_set.specs.Laws.{Among}
-use Rattle.routing_set.specs.RoutingSet.{Routing, ranks, place_of, IsKept, Keeps, floor_slot, floors_in, is_fresh, goes_before, first_of, first_to_go, is_full, forgotten, raised, floors_due, writes_of, half_of, after_of, half_entered, entered, entry_writes}
+use Rattle.routing_set.specs.RoutingSet.{Routing, ranks, place_of, IsKept, Keeps, floor_slot, floors_in, is_fresh, goes_before, first_of, first_to_go, is_full}
+use Rattle.routing_set.specs.RoutingSet.{forgotten, raised, floors_due, writes_of, half_of, after_of, half_entered, entered, entry_writes}
 
 -- # Which entry is forgotten
 
@@ -41,7 +43,8 @@ one_goes now (e ∷ entries) h = by_test (is_fresh now e) refl (one_goes now ent
     by_test : (fresh : Bool) → is_fresh now e ≡ fresh → (list_all (is_fresh now) entries ≡ false → is_some (fold (first_of now) None entries) ≡ true)
         → is_some (fold (first_of now) (cond (is_fresh now e) None (Some e)) entries) ≡ true
     by_test true is more =
-        ap (λ (b : Bool). is_some (fold (first_of now) (cond b None (Some e)) entries)) is ∙ more (behind_fresh (is_fresh now e) (list_all (is_fresh now) entries) is h)
+        ap (λ (b : Bool). is_some (fold (first_of now) (cond b None (Some e)) entries)) is
+        ∙ more (behind_fresh (is_fresh now e) (list_all (is_fresh now) entries) is h)
     by_test false is more = ap (λ (b : Bool). is_some (fold (first_of now) (cond b None (Some e)) entries)) is ∙ some_stays now e entries
 
 pub behind : (x : RoutingEntry) (entries : List RoutingEntry) (e : RoutingEntry) → Among entries e → Among (x ∷ entries) e
@@ -55,7 +58,8 @@ first_is now best e = by_fresh (is_fresh now e) best
     by_before false b = inl refl
 
     by_fresh : (fresh : Bool) (best : Option RoutingEntry)
-        → (cond fresh best (cond (option_map_or (goes_before e) best true) (Some e) best) ≡ best) ⊎ (cond fresh best (cond (option_map_or (goes_before e) best true) (Some e) best) ≡ Some e)
+        → (cond fresh best (cond (option_map_or (goes_before e) best true) (Some e) best) ≡ best)
+        ⊎ (cond fresh best (cond (option_map_or (goes_before e) best true) (Some e) best) ≡ Some e)
     by_fresh true best = inl refl
     by_fresh false None = inr refl
     by_fresh false (Some b) = by_before (goes_before e b) b
@@ -106,7 +110,8 @@ forgets_short r dest now e short =
     ap (λ (o : Option ℕ). cond (is_some o) None (cond (length r.entries == 64) (first_to_go now r.entries) None)) e
     ∙ ap (λ (b : Bool). cond b (first_to_go now r.entries) None) short
 
-pub forgets_first : (r : Routing) (dest now : ℕ) → place_of r.entries dest ≡ None → (length r.entries == 64) ≡ true → forgotten r dest now ≡ first_to_go now r.entries
+pub forgets_first : (r : Routing) (dest now : ℕ) → place_of r.entries dest ≡ None → (length r.entries == 64) ≡ true
+    → forgotten r dest now ≡ first_to_go now r.entries
 unfolding forgotten
 forgets_first r dest now e whole =
     ap (λ (o : Option ℕ). cond (is_some o) None (cond (length r.entries == 64) (first_to_go now r.entries) None)) e
@@ -126,7 +131,8 @@ room_old r dest now e whole room =
 
 -- only ranks were put
 pub one_put : (old : Routing) (entries : List RoutingEntry) (ok : Bool) (s t : Records) → IsKept old s → OnTrue ok (slots.IsStored ranks entries t)
-    → slots.IsStored ranks old.entries t ⊎ slots.IsStored ranks entries t → SameOutside 0x0200 0x023F s t → Keeps old old (record old { entries = entries }) ok s t
+    → slots.IsStored ranks old.entries t ⊎ slots.IsStored ranks entries t → SameOutside 0x0200 0x023F s t
+    → Keeps old old (record old { entries = entries }) ok s t
 one_put old entries ok s t kept stored either same = record {
   kept = by_ok ok stored;
   either = by_either either;
@@ -150,7 +156,8 @@ pub two_puts : (old : Routing) (floors : List ℕ) (entries : List RoutingEntry)
     → slots.IsStored ranks old.entries t ⊎ slots.IsStored ranks entries t → SameOutside 0x0200 0x023F m t
     → Keeps old (record old { floors = floors }) (record { entries = entries; floors = floors }) ok s t
 two_puts old floors entries ok s m t kept raised first stored either second =
-    let half : IsKept (record old { floors = floors }) m = record { floors = raised; ranks = stored_elsewhere ranks old.entries s m 5 5 kept.ranks first (inl (omega arith)) } in
+    let half : IsKept (record old { floors = floors })
+    m = record { floors = raised; ranks = stored_elsewhere ranks old.entries s m 5 5 kept.ranks first (inl (omega arith)) } in
     let k = one_put (record old { floors = floors }) entries ok m t half stored either second in
     record {
       kept = k.kept;
@@ -171,7 +178,8 @@ two_puts old floors entries ok s m t kept raised first stored either second =
         by_order (inr high) = inr (omega arith)
 
 -- the put of the floors failed
-pub no_put : (old after : Routing) (floors : List ℕ) (s t : Records) → IsKept old s → (floors_in (get t floor_slot) ≡ Some old.floors) ⊎ (floors_in (get t floor_slot) ≡ Some floors)
+pub no_put : (old after : Routing) (floors : List ℕ) (s t : Records) → IsKept old s
+    → (floors_in (get t floor_slot) ≡ Some old.floors) ⊎ (floors_in (get t floor_slot) ≡ Some floors)
     → SameOutside 5 5 s t → Keeps old (record old { floors = floors }) after false s t
 no_put old after floors s t kept either same = record {
   kept = tt;
@@ -266,7 +274,8 @@ half_first r dest now e whole = ap (half_of r) (forgets_first r dest now e whole
 pub after_gone : (r : Routing) (gone e : RoutingEntry) (place : ℕ) → place_of r.entries gone.address ≡ Some place
     → after_of r (Some gone) e ≡ record { entries = set r.entries place e; floors = raised r.floors gone }
 after_gone r gone e place at =
-    ap (λ (o : Option ℕ). let k : Routing = record { entries = option_map_or (λ p. set r.entries p e) o (r.entries ++ e ∷ []); floors = raised r.floors gone } in k) at
+    ap (λ (o : Option ℕ). let k : Routing =
+    record { entries = option_map_or (λ p. set r.entries p e) o (r.entries ++ e ∷ []); floors = raised r.floors gone } in k) at
 
 writes_gone : (r : Routing) (gone e : RoutingEntry) (place : ℕ) → place_of r.entries gone.address ≡ Some place
     → writes_of r (Some gone) e ≡ puts_of (floors_due r.floors (Some gone)) ++ slots.entry_write ranks place e ∷ []
@@ -276,13 +285,15 @@ writes_gone r gone e place at =
 pub gone_stops : (r : Routing) (gone e : RoutingEntry) (place : ℕ) (s t : Store) → place_of r.entries gone.address ≡ Some place
     → Stores s (floors_due r.floors (Some gone)) false t → Wrote s (writes_of r (Some gone) e) false t
 gone_stops r gone e place s t at first =
-    subst (λ ws. Wrote s ws false t) (sym (writes_gone r gone e place at)) (wrote_stop s t (floors_due r.floors (Some gone)) (slots.entry_write ranks place e ∷ []) first)
+    subst (λ ws. Wrote s ws false t) (sym (writes_gone r gone e place at))
+    (wrote_stop s t (floors_due r.floors (Some gone)) (slots.entry_write ranks place e ∷ []) first)
 
 pub gone_goes_on : (r : Routing) (gone e : RoutingEntry) (place : ℕ) (ok : Bool) (s m t : Store) → place_of r.entries gone.address ≡ Some place
     → Stores s (floors_due r.floors (Some gone)) true m → Stores m (Some (slots.entry_write ranks place e)) ok t → Wrote s (writes_of r (Some gone) e) ok t
 gone_goes_on r gone e place ok s m t at first second =
     subst (λ ws. Wrote s ws ok t) (sym (writes_gone r gone e place at))
-    (wrote_then s m t (floors_due r.floors (Some gone)) (slots.entry_write ranks place e ∷ []) ok first (wrote_last m t (slots.entry_write ranks place e) ok second))
+    (wrote_then s m t (floors_due r.floors (Some gone)) (slots.entry_write ranks place e ∷ []) ok first
+    (wrote_last m t (slots.entry_write ranks place e) ok second))
 
 pub gone_keeps : (r : Routing) (gone e : RoutingEntry) (place : ℕ) (ok : Bool) (s m t : Records) → place_of r.entries gone.address ≡ Some place → IsKept r s
     → floors_in (get m floor_slot) ≡ Some (raised r.floors gone) → SameOutside 5 5 s m → OnTrue ok (slots.IsStored ranks (set r.entries place e) t)
@@ -307,7 +318,8 @@ held_keeps r e now place ok s t at kept stored either same =
     let full = subst (λ (a : Routing). Keeps r r a ok s t) (sym (entered_held r e now place at)) k in
     subst (λ (h : Routing). Keeps r h (entered r e now) ok s t) (sym (half_same r e.address now (forgets_none r e.address now place at))) full
 
-pub new_keeps : (r : Routing) (e : RoutingEntry) (now : ℕ) (ok : Bool) (s t : Records) → place_of r.entries e.address ≡ None → (length r.entries == 64) ≡ false → IsKept r s
+pub new_keeps : (r : Routing) (e : RoutingEntry) (now : ℕ) (ok : Bool) (s t : Records) → place_of r.entries e.address ≡ None → (length r.entries == 64) ≡ false
+    → IsKept r s
     → OnTrue ok (slots.IsStored ranks (r.entries ++ e ∷ []) t)
     → slots.IsStored ranks r.entries t ⊎ slots.IsStored ranks (r.entries ++ e ∷ []) t → SameOutside 0x0200 0x023F s t
     → Keeps r (half_entered r e.address now) (entered r e now) ok s t
@@ -324,7 +336,8 @@ first_keeps r e now ok s t at whole k =
     subst (λ (h : Routing). Keeps r h (entered r e now) ok s t) (sym (half_first r e.address now at whole)) full
 
 -- what an answer says of a table, at the list that the table is
-pub stored_ok : {T E : Type 0} (r : Result T E) (next entries : List RoutingEntry) (t : Records) → OnOk r (next ≡ entries) → OnOk r (slots.IsStored ranks next t)
+pub stored_ok : {T E : Type 0} (r : Result T E) (next entries : List RoutingEntry) (t : Records) → OnOk r (next ≡ entries)
+    → OnOk r (slots.IsStored ranks next t)
     → OnTrue (is_ok r) (slots.IsStored ranks entries t)
 stored_ok (Ok u) next entries t is stored = subst (λ (es : List RoutingEntry). slots.IsStored ranks es t) is stored
 stored_ok (Err e) next entries t is stored = tt

@@ -32,7 +32,8 @@ entry_rests records entries e reading among =
     let within = slice_get_within entries among.place e among.there in
     read_rests (get records (slots.slot_of ranks among.place)) e (reading.each among.place within ∙ among.there)
 
-found_rests : (records : Records) (entries : List RoutingEntry) (dest : ℕ) (o : Option RoutingEntry) → slots.IsReading ranks entries records → find (is_at dest) entries ≡ o
+found_rests : (records : Records) (entries : List RoutingEntry) (dest : ℕ) (o : Option RoutingEntry) → slots.IsReading ranks entries records
+    → find (is_at dest) entries ≡ o
     → option_and_then (λ (e : RoutingEntry). e.route) o ≡ None
 found_rests records entries dest None reading is = refl
 found_rests records entries dest (Some e) reading is = entry_rests records entries e reading (find_among (is_at dest) entries e is)
@@ -46,4 +47,5 @@ read_unrouted records floors entries dest reading =
 -- so none ends before any time
 pub read_still : (records : Records) (entries : List RoutingEntry) (time : ℕ) → slots.IsReading ranks entries records → IsStill time entries
 read_still records entries time reading =
-    still_unrouted time entries (λ k d lt. entry_rests records entries (get_or entries k d) reading (record { place = k; there = slice_get-get_or entries k d lt }))
+    still_unrouted time entries (λ k d lt. entry_rests records entries (get_or entries k d) reading
+    (record { place = k; there = slice_get-get_or entries k d lt }))

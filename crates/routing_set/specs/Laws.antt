@@ -1,5 +1,6 @@
 -- What holds of ranks, routes and floors, whatever is offered.
-use Rattle.std.specs.Prelude.{◌≡◌, ◌⊎◌, ℕ, ◌<◌, ◌≤◌, ◌^◌, Bool, true, false, ◌==◌, ◌&&◌, if◌then◌else◌, List, slice_get, get_or, All, Option, Some, None, MatchOption}
+use Rattle.std.specs.Prelude.{◌≡◌, ◌⊎◌, ℕ, ◌<◌, ◌≤◌, ◌^◌, Bool, true, false, ◌==◌, ◌&&◌, if◌then◌else◌, List, slice_get, get_or, All, Option, Some, None}
+use Rattle.std.specs.Prelude.{MatchOption}
 use Rattle.std.specs.List.{list_all}
 use Rattle.plc_base.specs.Keeper.{Records}
 use Rattle.store_tables.specs.Writes.{puts_of}
@@ -7,7 +8,8 @@ use Rattle.store_tables.specs.LeadingPuts.{PutsLead}
 use Rattle.routing_set.specs.declared.rank.Rank.{Rank}
 use Rattle.routing_set.specs.declared.entry.RoutingEntry.{RoutingEntry}
 use Rattle.routing_set.specs.Ranks.{IsAtLeast}
-use Rattle.routing_set.specs.RoutingSet.{Routing, IsKept, held, rank_of, route_of, next_of, is_full, is_fresh, goes_before, first_to_go, offered_entry, offer_writes, offered, ended, without_next_to}
+use Rattle.routing_set.specs.RoutingSet.{Routing, IsKept, held, rank_of, route_of, next_of, is_full, is_fresh, goes_before, first_to_go, offered_entry}
+use Rattle.routing_set.specs.RoutingSet.{offer_writes, offered, ended, without_next_to}
 use Rattle.routing_set.specs.OwnNumber as numbers
 use Rattle.routing_set.specs.Histories.{IsRouting, Leads}
 

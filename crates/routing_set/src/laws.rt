@@ -1,5 +1,6 @@
 //! Laws of ranks, routes and floors. Each is the contract of a function that does nothing.
-ghost use Rattle.routing_set.specs.Laws.{RanksOnlyRise, OffersBeginTheirRoute, EndingsKeepRanks, TheFirstIsForgotten, AnOfferIsFound, OtherHopsStay, OffersLead, NumbersLead};
+ghost use Rattle.routing_set.specs.Laws.{RanksOnlyRise, OffersBeginTheirRoute, EndingsKeepRanks, TheFirstIsForgotten, AnOfferIsFound, OtherHopsStay};
+ghost use Rattle.routing_set.specs.Laws.{OffersLead, NumbersLead};
 
 /// The rank of an address, kept or a floor, only rises: over any offers, failed puts, forgetting, routes that end and new
 /// starts.

@@ -9,7 +9,10 @@ ghost use Rattle.store_tables.specs.SlotTables.{IsTable, IsGapless, IsReading};
 ghost use Rattle.routing_set.specs.Ranks.{beats, rank_by};
 ghost use Rattle.routing_set.specs.Endings.{takes};
 ghost use Rattle.routing_set.specs.FirstEnd.{first_end, IsStill};
-ghost use Rattle.routing_set.specs.RoutingSet.{Routing, ranks, IsKept, IsSomeOffered, IsBad, SameElsewhere, opened, at_rest, place_of, rank_of, route_of, next_of, held, floor_of, is_better, is_full, is_fresh, first_to_go, offered, half_offered, offer_writes, entered, half_entered, entry_writes, Keeps, writes_of, half_of, after_of, offer_result, offer_puts, offer_after, is_stored, ended, without_next, without_next_to, expired};
+ghost use Rattle.routing_set.specs.RoutingSet.{Routing, ranks, IsKept, IsSomeOffered, IsBad, SameElsewhere, opened, at_rest, place_of, rank_of, route_of};
+ghost use Rattle.routing_set.specs.RoutingSet.{next_of, held, floor_of, is_better, is_full, is_fresh, first_to_go, offered, half_offered, offer_writes};
+ghost use Rattle.routing_set.specs.RoutingSet.{entered, half_entered, entry_writes, Keeps, writes_of, half_of, after_of, offer_result, offer_puts, offer_after};
+ghost use Rattle.routing_set.specs.RoutingSet.{is_stored, ended, without_next, without_next_to, expired};
 
 use crate::ending::Ending;
 use crate::entry::first_of;

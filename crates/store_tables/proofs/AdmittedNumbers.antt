@@ -1,5 +1,6 @@
 -- A number is admitted only above all that were admitted of its address.
-use Rattle.std.proofs.Common.{◌≡◌, ◌≢◌, ◌⊎◌, inl, inr, ℕ, zero, suc, ◌^◌, ◌<◌, ◌≤◌, true, false, List, [], ◌∷◌, ◌++◌, Option, Some, None, Ok, length, map, get_or, set, refl, sym, ap, subst, ◌∙◌, arith}
+use Rattle.std.proofs.Common.{◌≡◌, ◌≢◌, ◌⊎◌, inl, inr, ℕ, zero, suc, ◌^◌, ◌<◌, ◌≤◌, true, false, List, [], ◌∷◌, ◌++◌, Option, Some, None, Ok, length, map}
+use Rattle.std.proofs.Common.{get_or, set, refl, sym, ap, subst, ◌∙◌, arith}
 use Rattle.std.specs.Prelude.{nat_lt, is_some, IfSome, slice_get}
 use Rattle.std.specs.Option.{option_map}
 use Rattle.std.specs.FinMap.{get}
@@ -12,7 +13,8 @@ use Rattle.store_tables.specs.SlotTables.{Layout, IsTable, IsFree, IsStored, IsG
 use Rattle.store_tables.specs.declared.marks.Mark.{Mark}
 use Rattle.store_tables.specs.Marks.{Table, layout, slots_of, at_rest, IsCovered, place_of, mark_ahead, mark_in-rests, has_room, keep_write, kept_after}
 use Rattle.store_tables.specs.AdmittedNumbers.{Admitted, AllEarlier, IsNew, EachOnce}
-use Rattle.store_tables.proofs.SlotTables.{slice_get-set, slice_get-set_other, slice_get-push, slice_get-push_other, slice_get-map, found, apart, free_new, free_found, IsTable-set, IsTable-push, stored_set, stored_push, stored_rest, stored_map, set_either, push_either}
+use Rattle.store_tables.proofs.SlotTables.{slice_get-set, slice_get-set_other, slice_get-push, slice_get-push_other, slice_get-map, found, apart, free_new}
+use Rattle.store_tables.proofs.SlotTables.{free_found, IsTable-set, IsTable-push, stored_set, stored_push, stored_rest, stored_map, set_either, push_either}
 use Rattle.store_tables.proofs.Opening.{opened_kept, opened_reads, reopened}
 use Rattle.store_tables.proofs.MarkEntries.{mark_in-octets_of, room_new, kept_low, kept_high, write_low, write_high}
 
@@ -39,7 +41,8 @@ module _ (first count : ℕ) where
   AllMarked table [] = Unit {0}
   AllMarked table (a ∷ before) = Marked table a × AllMarked table before
 
-  AllMarked-map : (table next : Marks) (before : List Admitted) → ((a : Admitted) → Marked table a → Marked next a) → AllMarked table before → AllMarked next before
+  AllMarked-map : (table next : Marks) (before : List Admitted) → ((a : Admitted) → Marked table a → Marked next a) → AllMarked table before
+      → AllMarked next before
   AllMarked-map table next [] f h = tt
   AllMarked-map table next (a ∷ before) f h = (f a h.0, AllMarked-map table next before f h.1)
 
@@ -93,11 +96,14 @@ module _ (first count : ℕ) where
     marked : (a : Admitted) → Marked table a → Marked next a
     here : Marked next (record { address = address; number = number })
     below : (a : Admitted) → Marked table a → a.address ≡ address → a.number < number
-    stored : (old new : Store) → IsStored marks table old.records → Stores old (keep_write first count table address number) true new → IsStored marks next new.records
-    either : (old new : Store) → IsStored marks table old.records → Stores old (keep_write first count table address number) false new → IsStored marks table new.records ⊎ IsStored marks next new.records
+    stored : (old new : Store) → IsStored marks table old.records → Stores old (keep_write first count table address number) true new
+        → IsStored marks next new.records
+    either : (old new : Store) → IsStored marks table old.records → Stores old (keep_write first count table address number) false new
+        → IsStored marks table new.records ⊎ IsStored marks next new.records
 
   -- the address stands at a place, and gets another entry there with the number as its mark
-  set_marked : (table : Marks) (address number place : ℕ) (was entry : Entry) → slice_get table place ≡ Some was → was.mark < number → entry.address ≡ was.address → entry.mark ≡ number
+  set_marked : (table : Marks) (address number place : ℕ) (was entry : Entry) → slice_get table place ≡ Some was → was.mark < number
+      → entry.address ≡ was.address → entry.mark ≡ number
       → (a : Admitted) → Marked table a → Marked (set table place entry) a
   set_marked table address number place was entry there above same mark a m =
       elim (cases_eq m.place place) [
@@ -119,7 +125,8 @@ module _ (first count : ℕ) where
         }
       ]
 
-  set_below : (table : Marks) (address number place : ℕ) (was : Entry) → IsTable marks table → slice_get table place ≡ Some was → was.address ≡ address → was.mark < number
+  set_below : (table : Marks) (address number place : ℕ) (was : Entry) → IsTable marks table → slice_get table place ≡ Some was → was.address ≡ address
+      → was.mark < number
       → (a : Admitted) → Marked table a → a.address ≡ address → a.number < number
   set_below table address number place was h there named above a m same =
       elim (cases_eq m.place place) [
@@ -128,20 +135,24 @@ module _ (first count : ℕ) where
             omega (arith, m.above, above, ap (λ (p : Entry). p.mark) one)
         | inr other ↦ elim (cases_lt m.place place) [
           | inl lower ↦ absurd (h.distinct m.place place was lower (inside table place was there)
-              (ap (λ (p : Entry). p.address) (at_default table m.place m.entry was m.there) ∙ m.same ∙ same ∙ sym named ∙ sym (ap (λ (p : Entry). p.address) (at_default table place was was there))))
+              (ap (λ (p : Entry). p.address) (at_default table m.place m.entry was m.there) ∙ m.same ∙ same ∙ sym named
+              ∙ sym (ap (λ (p : Entry). p.address) (at_default table place was was there))))
           | inr higher ↦ absurd (h.distinct place m.place was (omega arith) (inside table m.place m.entry m.there)
-              (ap (λ (p : Entry). p.address) (at_default table place was was there) ∙ named ∙ sym same ∙ sym m.same ∙ sym (ap (λ (p : Entry). p.address) (at_default table m.place m.entry was m.there))))
+              (ap (λ (p : Entry). p.address) (at_default table place was was there) ∙ named ∙ sym same ∙ sym m.same
+              ∙ sym (ap (λ (p : Entry). p.address) (at_default table m.place m.entry was m.there))))
         ]
       ]
 
   -- a number that the stored mark covers
-  steps_low : (table : Marks) (address number place : ℕ) (was : Entry) → IsTable marks table → IsCovered first count table → place_of first count table address ≡ Some place
+  steps_low : (table : Marks) (address number place : ℕ) (was : Entry) → IsTable marks table → IsCovered first count table
+      → place_of first count table address ≡ Some place
       → slice_get table place ≡ Some was → was.address ≡ address → was.mark < number → number ≤ was.stored
       → Steps table address number (set table place (record was { mark = number }))
   steps_low table address number place was h covered e there named above low =
       let within = inside table place was there in
       record {
-        sound = IsTable-set marks table place (record was { mark = number }) h within (subst (λ (k : ℕ). IsFree marks table place k) (sym named) (free_found marks table address place h e));
+        sound = IsTable-set marks table place (record was { mark = number }) h within
+            (subst (λ (k : ℕ). IsFree marks table place k) (sym named) (free_found marks table address place h e));
         covered = All-set (λ entry. entry.mark ≤ entry.stored) table place (record was { mark = number }) low covered;
         marked = set_marked table address number place was (record was { mark = number }) there above refl refl;
         here = record { place = place; entry = record was { mark = number }; there = slice_get-set table place _ within; same = named; above = omega arith };
@@ -186,7 +197,8 @@ module _ (first count : ℕ) where
 
   -- a new address
   steps_new : (table : Marks) (address number : ℕ) → IsTable marks table → IsCovered first count table → address < 0xFFFE → number < 2 ^ 32
-      → place_of first count table address ≡ None → length table < slots_of first count → Steps table address number (table ++ mark_ahead first count address number ∷ [])
+      → place_of first count table address ≡ None → length table < slots_of first count
+      → Steps table address number (table ++ mark_ahead first count address number ∷ [])
   steps_new table address number h covered short fits e room =
       let entry : Entry = mark_ahead first count address number in
       let reads = mark_in-octets_of first count entry short (omega arith) in
@@ -219,7 +231,8 @@ module _ (first count : ℕ) where
     pub once : EachOnce before
     pub live : IfSome was (λ t. t ≡ table)
 
-  all_below : (table : Marks) (address number : ℕ) (before : List Admitted) → ((a : Admitted) → Marked table a → a.address ≡ address → a.number < number) → AllMarked table before
+  all_below : (table : Marks) (address number : ℕ) (before : List Admitted) → ((a : Admitted) → Marked table a → a.address ≡ address → a.number < number)
+      → AllMarked table before
       → AllEarlier address number before
   all_below table address number [] f h = tt
   all_below table address number (a ∷ before) f h = (f a h.0, all_below table address number before f h.1)
@@ -227,10 +240,15 @@ module _ (first count : ℕ) where
   -- what is above all that were admitted of its address is new
   is_new : (a : Admitted) (before : List Admitted) → AllEarlier a.address a.number before → IsNew a before
   is_new a [] h = tt
-  is_new a (b ∷ before) h = (λ same. let low = h.0 (ap (λ (x : Admitted). x.address) same) in let is = ap (λ (x : Admitted). x.number) same in absurd (omega arith), is_new a before h.1)
+  is_new a (b ∷ before) h = (
+    λ same. let low = h.0 (ap (λ (x : Admitted). x.address) same) in let is = ap (λ (x : Admitted). x.number) same in
+        absurd (omega arith),
+    is_new a before h.1,
+  )
 
   steps_at : (table : Marks) (address number place : ℕ) → IsTable marks table → IsCovered first count table → address < 0xFFFE → number < 2 ^ 32
-      → has_room first count table address number ≡ true → place_of first count table address ≡ Some place → Steps table address number (kept_after first count table address number)
+      → has_room first count table address number ≡ true → place_of first count table address ≡ Some place
+      → Steps table address number (kept_after first count table address number)
   steps_at table address number place h covered short fits room e =
       let here = found marks table address place no_entry e in
       let was : Entry = get_or table place no_entry in
@@ -252,7 +270,8 @@ module _ (first count : ℕ) where
       by_place (Some place) e = steps_at table address number place h covered short fits room e
       by_place None e =
           let after : kept_after first count table address number ≡ table ++ mark_ahead first count address number ∷ [] = rw e refl in
-          subst (λ (t : Marks). Steps table address number t) (sym after) (steps_new table address number h covered short fits e (room_new first count table address number e room))
+          subst (λ (t : Marks). Steps table address number t) (sym after)
+          (steps_new table address number h covered short fits e (room_new first count table address number e room))
 
   pub admitted_begins : (table : Marks) (records : Records) → opened marks records ≡ Ok table → IsGapless marks records → HoldsAdmitted [] (Some table) records
   admitted_begins table records e gapless =
@@ -270,7 +289,8 @@ module _ (first count : ℕ) where
         live = refl;
       }
 
-  pub admitted_restarts : (before : List Admitted) (was : Option Marks) (table : Marks) (records : Records) → HoldsAdmitted before was records → opened marks records ≡ Ok table
+  pub admitted_restarts : (before : List Admitted) (was : Option Marks) (table : Marks) (records : Records) → HoldsAdmitted before was records
+      → opened marks records ≡ Ok table
       → HoldsAdmitted before (Some table) records
   admitted_restarts before was table records h e =
       let same = reopened marks records h.table (λ _. refl) h.sound h.stored in
@@ -295,8 +315,10 @@ module _ (first count : ℕ) where
   live before table records h =
       subst (λ (t : Marks). Live before t records) (sym h.live) (record { sound = h.sound; covered = h.covered; stored = h.stored; marked = h.marked })
 
-  pub admitted_lost : (before : List Admitted) (table : Marks) (address number : ℕ) (old new : Store) → HoldsAdmitted before (Some table) old.records → address < 0xFFFE → number < 2 ^ 32
-      → has_room first count table address number ≡ true → Stores old (keep_write first count table address number) false new → HoldsAdmitted before None new.records
+  pub admitted_lost : (before : List Admitted) (table : Marks) (address number : ℕ) (old new : Store) → HoldsAdmitted before (Some table) old.records
+      → address < 0xFFFE → number < 2 ^ 32
+      → has_room first count table address number ≡ true → Stores old (keep_write first count table address number) false new
+      → HoldsAdmitted before None new.records
   admitted_lost before table address number old new h short fits room stores =
       let l = live before table old.records h in
       let s = steps table address number l.sound l.covered short fits room in
@@ -314,14 +336,16 @@ module _ (first count : ℕ) where
       ]
 
   -- where there is room for a number, it is above all that was admitted of its address
-  pub room_is_fresh : (before : List Admitted) (table : Marks) (records : Records) (address number : ℕ) → HoldsAdmitted before (Some table) records → address < 0xFFFE → number < 2 ^ 32
+  pub room_is_fresh : (before : List Admitted) (table : Marks) (records : Records) (address number : ℕ) → HoldsAdmitted before (Some table) records
+      → address < 0xFFFE → number < 2 ^ 32
       → has_room first count table address number ≡ true → AllEarlier address number before
   room_is_fresh before table records address number h short fits room =
       let l = live before table records h in
       let s = steps table address number l.sound l.covered short fits room in
       all_below table address number before s.below l.marked
 
-  pub admitted_more : (before : List Admitted) (table : Marks) (address number : ℕ) (old new : Store) → HoldsAdmitted before (Some table) old.records → address < 0xFFFE → number < 2 ^ 32
+  pub admitted_more : (before : List Admitted) (table : Marks) (address number : ℕ) (old new : Store) → HoldsAdmitted before (Some table) old.records
+      → address < 0xFFFE → number < 2 ^ 32
       → has_room first count table address number ≡ true → Stores old (keep_write first count table address number) true new
       → HoldsAdmitted (record { address = address; number = number } ∷ before) (Some (kept_after first count table address number)) new.records
   admitted_more before table address number old new h short fits room stores =
@@ -333,7 +357,8 @@ module _ (first count : ℕ) where
         covered = s.covered;
         stored = s.stored old new l.stored stores;
         marked = (s.here, AllMarked-map table (kept_after first count table address number) before s.marked l.marked);
-        once = (is_new (record { address = address; number = number }) before (room_is_fresh before table old.records address number h short fits room), h.once);
+        once =
+            (is_new (record { address = address; number = number }) before (room_is_fresh before table old.records address number h short fits room), h.once);
         live = refl;
       }
 
@@ -351,7 +376,8 @@ module _ (first count : ℕ) where
   }
 
   pub admitted_none : (before : List Admitted) (was : Option Marks) (records : Records) → HoldsAdmitted before was records → HoldsAdmitted before None records
-  admitted_none before was records h = record { table = h.table; sound = h.sound; covered = h.covered; stored = h.stored; marked = h.marked; once = h.once; live = tt }
+  admitted_none before was records h =
+      record { table = h.table; sound = h.sound; covered = h.covered; stored = h.stored; marked = h.marked; once = h.once; live = tt }
 
   pub admitted_sound : (before : List Admitted) (table : Marks) (records : Records) → HoldsAdmitted before (Some table) records → IsTable marks table
   admitted_sound before table records h = (live before table records h).sound

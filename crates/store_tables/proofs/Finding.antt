@@ -1,5 +1,6 @@
 -- Each entry of a table is found by its key, in whatever order the keys are looked up.
-use Rattle.std.proofs.Common.{◌≡◌, ◌⊎◌, inl, inr, ℕ, ◌<◌, ◌≤◌, Bool, true, false, List, [], ◌∷◌, Option, Some, None, length, map, get_or, refl, sym, ap, ◌∙◌, arith}
+use Rattle.std.proofs.Common.{◌≡◌, ◌⊎◌, inl, inr, ℕ, ◌<◌, ◌≤◌, Bool, true, false, List, [], ◌∷◌, Option, Some, None, length, map, get_or, refl, sym, ap, ◌∙◌}
+use Rattle.std.proofs.Common.{arith}
 use Rattle.std.specs.Prelude.{if◌then◌else◌, nat_lt, slice_get, is_some, All, IsSorted, IsPermutation}
 use Rattle.std.specs.Option.{option_and_then}
 use Rattle.std.specs.Ordering.{nat_cmp}
@@ -45,7 +46,8 @@ module _ {A : Type 0} (layout : Layout A) where
       by_place None is = absurd (apart layout table (layout.key (get_or table k d)) (ap is_some is) k d lt refl)
       by_place (Some place) is =
           let there = found layout table (layout.key (get_or table k d)) place d is in
-          ap (option_and_then (slice_get table)) is ∙ slice_get-get_or table place d there.0 ∙ ap (λ (q : ℕ). Some (get_or table q d)) (same place there.0 there.1)
+          ap (option_and_then (slice_get table)) is ∙ slice_get-get_or table place d there.0
+          ∙ ap (λ (q : ℕ). Some (get_or table q d)) (same place there.0 there.1)
 
   find_each : (table xs : List A) → All (λ e. entry_of layout table (layout.key e) ≡ Some e) xs → map (entry_of layout table) (map layout.key xs) ≡ map Some xs
   find_each table [] all = refl

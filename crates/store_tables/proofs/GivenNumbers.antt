@@ -1,10 +1,12 @@
 -- No number is given out twice.
-use Rattle.std.proofs.Common.{◌≡◌, ◌⊎◌, ℕ, zero, suc, ◌+◌, ◌≤◌, Bool, true, false, cond, List, [], ◌∷◌, ◌++◌, Option, Some, None, Ok, refl, sym, ap, subst, ◌∙◌, inl, inr, arith}
+use Rattle.std.proofs.Common.{◌≡◌, ◌⊎◌, ℕ, zero, suc, ◌+◌, ◌≤◌, Bool, true, false, cond, List, [], ◌∷◌, ◌++◌, Option, Some, None, Ok, refl, sym, ap, subst, ◌∙◌}
+use Rattle.std.proofs.Common.{inl, inr, arith}
 use Rattle.std.specs.Prelude.{IfSome}
 use Rattle.std.specs.FinMap.{get}
 use Rattle.plc_base.specs.Keeper.{Records, Store, Stores}
 use Rattle.store_tables.specs.declared.number_slot.NumberSlot.{NumberSlot}
-use Rattle.store_tables.specs.Numberings.{Counting, IsKept, opened, counting_from, counting_at, limit_in, limit_write, greatest, raised, passes, reserve_write, reserved, run_of, AllBelow, EachAbove}
+use Rattle.store_tables.specs.Numberings.{Counting, IsKept, opened, counting_from, counting_at, limit_in, limit_write, greatest, raised, passes, reserve_write}
+use Rattle.store_tables.specs.Numberings.{reserved, run_of, AllBelow, EachAbove}
 use Rattle.store_tables.proofs.StoredLimits.{Reads, kept_reserved, raised_reads, reserved_reads, limit_either}
 
 AllBelow-weaker : (a b : ℕ) (xs : List ℕ) → a ≤ b → AllBelow a xs → AllBelow b xs
@@ -13,7 +15,8 @@ AllBelow-weaker a b (x ∷ xs) h below = (omega (arith, below.0), AllBelow-weake
 
 AllBelow-run : (first count : ℕ) (given : List ℕ) → AllBelow first given → AllBelow (first + count) (run_of first count ++ given)
 AllBelow-run first zero given below = AllBelow-weaker first (first + zero) given (omega arith) below
-AllBelow-run first (suc count) given below = (omega arith, AllBelow-weaker (first + count) (first + suc count) (run_of first count ++ given) (omega arith) (AllBelow-run first count given below))
+AllBelow-run first (suc count) given below =
+    (omega arith, AllBelow-weaker (first + count) (first + suc count) (run_of first count ++ given) (omega arith) (AllBelow-run first count given below))
 
 EachAbove-run : (first count : ℕ) (given : List ℕ) → AllBelow first given → EachAbove given → EachAbove (run_of first count ++ given)
 EachAbove-run first zero given below each = each
@@ -32,7 +35,8 @@ module _ (at : NumberSlot) (stride : ℕ) where
   opened_counting : (c : Counting) (records : Records) → opened at records ≡ Ok c → (limit_in at (get records at.slot) ≡ Some c.limit) × (c.next ≡ c.limit)
   opened_counting c records e = by_limit (limit_in at (get records at.slot)) refl e
     where
-      by_limit : (o : Option ℕ) → limit_in at (get records at.slot) ≡ o → counting_from at o ≡ Ok c → (limit_in at (get records at.slot) ≡ Some c.limit) × (c.next ≡ c.limit)
+      by_limit : (o : Option ℕ) → limit_in at (get records at.slot) ≡ o → counting_from at o ≡ Ok c
+          → (limit_in at (get records at.slot) ≡ Some c.limit) × (c.next ≡ c.limit)
       by_limit None is e = absurd (cc (e))
       by_limit (Some limit) is e =
           let same : counting_at limit ≡ c = cc in
@@ -44,7 +48,8 @@ module _ (at : NumberSlot) (stride : ℕ) where
       record { limit = c.limit; stored = from.0; reads = reads; below = tt; each = tt; live = (refl, omega (arith, from.1), tt) }
 
   -- a reservation keeps it
-  pub given_more : (given : List ℕ) (c : Counting) (count : ℕ) (old new : Store) → HoldsGiven given (Some c) old.records → count ≤ stride → c.next + count ≤ greatest at.width
+  pub given_more : (given : List ℕ) (c : Counting) (count : ℕ) (old new : Store) → HoldsGiven given (Some c) old.records → count ≤ stride
+      → c.next + count ≤ greatest at.width
       → Stores old (reserve_write at stride c count) true new → HoldsGiven (run_of c.next count ++ given) (Some (reserved at stride c count)) new.records
   given_more given c count old new h few left stores =
       let kept : IsKept at c old.records = record { limit = h.stored ∙ ap Some (sym h.live.0); below = h.live.1 } in
@@ -61,14 +66,16 @@ module _ (at : NumberSlot) (stride : ℕ) where
       }
 
   -- and so does a failed put
-  pub given_lost : (given : List ℕ) (c : Counting) (count : ℕ) (old new : Store) → HoldsGiven given (Some c) old.records → Stores old (reserve_write at stride c count) false new
+  pub given_lost : (given : List ℕ) (c : Counting) (count : ℕ) (old new : Store) → HoldsGiven given (Some c) old.records
+      → Stores old (reserve_write at stride c count) false new
       → HoldsGiven given None new.records
   given_lost given c count old new h stores = by_due (passes c count) stores
     where
       next : Reads at (raised at stride c.limit)
       next = raised_reads at stride c.limit (subst (Reads at) (sym h.live.0) h.reads)
 
-      either : (limit_in at (get new.records at.slot) ≡ limit_in at (get old.records at.slot)) ⊎ (limit_in at (get new.records at.slot) ≡ Some (raised at stride c.limit))
+      either : (limit_in at (get new.records at.slot) ≡ limit_in at (get old.records at.slot))
+          ⊎ (limit_in at (get new.records at.slot) ≡ Some (raised at stride c.limit))
           → HoldsGiven given None new.records
       either (inl same) = record { limit = h.limit; stored = same ∙ h.stored; reads = h.reads; below = h.below; each = h.each; live = tt }
       either (inr higher) = record {
@@ -99,7 +106,8 @@ module _ (at : NumberSlot) (stride : ℕ) where
       }
 
   -- it stays where other slots are put, and where the numbering is lost
-  pub given_elsewhere : (given : List ℕ) (was : Option Counting) (old new : Records) → HoldsGiven given was old → get new at.slot ≡ get old at.slot → HoldsGiven given was new
+  pub given_elsewhere : (given : List ℕ) (was : Option Counting) (old new : Records) → HoldsGiven given was old → get new at.slot ≡ get old at.slot
+      → HoldsGiven given was new
   given_elsewhere given was old new h same =
       record { limit = h.limit; stored = ap (limit_in at) same ∙ h.stored; reads = h.reads; below = h.below; each = h.each; live = h.live }
 

@@ -23,14 +23,16 @@ module _ (first count : ℕ) (t : Table first count) (address number : ℕ) (sho
   unfolding ahead
   reads place = mark_in-octets_of first count (mark_ahead first count address number) short (omega arith)
 
-  new_leads : place_of first count t address ≡ None → length t < marks.slots → PutsLead (AreMarksIn first count) t (entry_write marks (length t) ahead ∷ []) (t ++ ahead ∷ [])
+  new_leads : place_of first count t address ≡ None → length t < marks.slots
+      → PutsLead (AreMarksIn first count) t (entry_write marks (length t) ahead ∷ []) (t ++ ahead ∷ [])
   unfolding ahead
   new_leads at room = leads_one (AreMarksIn first count) t _ _ (λ r k. record {
     kept = stored_push marks t r _ ahead k.kept room refl (reads (length t));
     sound = IsTable-push marks t ahead k.sound room (free_new marks t address (length t) (ap is_some at));
   })
 
-  high_leads : (place : ℕ) → place_of first count t address ≡ Some place → PutsLead (AreMarksIn first count) t (entry_write marks place ahead ∷ []) (set t place ahead)
+  high_leads : (place : ℕ) → place_of first count t address ≡ Some place
+      → PutsLead (AreMarksIn first count) t (entry_write marks place ahead ∷ []) (set t place ahead)
   unfolding ahead
   high_leads place at =
       let there = found marks t address place (record { address = 0; mark = 0; stored = 0 }) at in
@@ -39,17 +41,20 @@ module _ (first count : ℕ) (t : Table first count) (address number : ℕ) (sho
         sound = IsTable-set marks t place ahead k.sound there.0 (free_found marks t address place k.sound at);
       })
 
-  low_leads : (place : ℕ) → place_of first count t address ≡ Some place → PutsLead (AreMarksIn first count) t [] (set t place (record (mark_at first count t place) { mark = number }))
+  low_leads : (place : ℕ) → place_of first count t address ≡ Some place
+      → PutsLead (AreMarksIn first count) t [] (set t place (record (mark_at first count t place) { mark = number }))
   low_leads place at =
       let there = found marks t address place (record { address = 0; mark = 0; stored = 0 }) at in
       let e : Mark first count = record (mark_at first count t place) { mark = number } in
       let got : slice_get t place ≡ Some (mark_at first count t place) = slice_get-get_or t place (record { address = 0; mark = 0; stored = 0 }) there.0 in
       leads_beside (AreMarksIn first count) t _ (λ r k. record {
         kept = stored_rest marks t r place e there.0 (rw got refl) k.kept;
-        sound = IsTable-set marks t place e k.sound there.0 (subst (λ (q : ℕ). IsFree marks t place q) (sym there.1) (free_found marks t address place k.sound at));
+        sound = IsTable-set marks t place e k.sound there.0
+            (subst (λ (q : ℕ). IsFree marks t place q) (sym there.1) (free_found marks t address place k.sound at));
       })
 
-  leads : has_room first count t address number ≡ true → PutsLead (AreMarksIn first count) t (puts_of (keep_write first count t address number)) (kept_after first count t address number)
+  leads : has_room first count t address number ≡ true
+      → PutsLead (AreMarksIn first count) t (puts_of (keep_write first count t address number)) (kept_after first count t address number)
   unfolding ahead
   leads room = by_place (place_of first count t address) refl
     where
@@ -60,7 +65,9 @@ module _ (first count : ℕ) (t : Table first count) (address number : ℕ) (sho
       by_stored place false at = high_leads place at
 
       by_place : (o : Option ℕ) → place_of first count t address ≡ o
-          → PutsLead (AreMarksIn first count) t (puts_of (option_map_or (λ place. if nat_le number (mark_at first count t place).stored then None else Some (entry_write marks place ahead)) o (Some (entry_write marks (length t) ahead))))
+          → PutsLead (AreMarksIn first count) t (puts_of (option_map_or
+          (λ place. if nat_le number (mark_at first count t place).stored then None else Some (entry_write marks place ahead)) o
+          (Some (entry_write marks (length t) ahead))))
           (option_map_or (λ place. set t place (advanced first count (mark_at first count t place) address number)) o (t ++ ahead ∷ []))
       by_place (Some place) at = by_stored place (nat_le number (mark_at first count t place).stored) at
       by_place None at = new_leads at (room_new first count t address number at room)

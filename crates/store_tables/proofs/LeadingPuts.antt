@@ -64,9 +64,11 @@ module _ {M : Type 0} (Q : M → Records → Type 0) where
       by_writing false = f.0
 
       by_success : (b : Bool) → succeeds cut ≡ b → ((c : Option Cut) (s : Records) → Prefixes Q ps s → Reads Q (write ps c s).records)
-          → Reads Q (if b then write ps (cut_after cut) (records_after cut r p.slot p.octets) else record { whole = false; records = records_after cut r p.slot p.octets; cut = cut_after cut }).records
+          → Reads Q (if b then write ps (cut_after cut) (records_after cut r p.slot p.octets)
+          else record { whole = false; records = records_after cut r p.slot p.octets; cut = cut_after cut }).records
       by_success true e more =
-          let written : records_after cut r p.slot p.octets ≡ insert r p.slot p.octets = ap (λ (b : Bool). cond b (insert r p.slot p.octets) r) (succeeded_writes cut e) in
+          let written : records_after cut r p.slot p.octets
+          ≡ insert r p.slot p.octets = ap (λ (b : Bool). cond b (insert r p.slot p.octets) r) (succeeded_writes cut e) in
           more (cut_after cut) (records_after cut r p.slot p.octets) (subst (Prefixes Q ps) (sym written) f.1)
       by_success false e more = by_writing (writes cut)
 
@@ -76,10 +78,12 @@ whole_put [] cut r e = refl
 whole_put (p ∷ ps) cut r h = by_success (succeeds cut) refl (λ c s k. whole_put ps c s k) h
   where
     by_success : (b : Bool) → succeeds cut ≡ b → ((c : Option Cut) (s : Records) → (write ps c s).whole ≡ true → (write ps c s).records ≡ all_put ps s)
-        → let w : Written = if b then write ps (cut_after cut) (records_after cut r p.slot p.octets) else record { whole = false; records = records_after cut r p.slot p.octets; cut = cut_after cut } in
+        → let w : Written = if b then write ps (cut_after cut) (records_after cut r p.slot p.octets)
+        else record { whole = false; records = records_after cut r p.slot p.octets; cut = cut_after cut } in
         w.whole ≡ true → w.records ≡ all_put ps (insert r p.slot p.octets)
     by_success true e more h =
-        let written : records_after cut r p.slot p.octets ≡ insert r p.slot p.octets = ap (λ (b : Bool). cond b (insert r p.slot p.octets) r) (succeeded_writes cut e) in
+        let written : records_after cut r p.slot p.octets
+        ≡ insert r p.slot p.octets = ap (λ (b : Bool). cond b (insert r p.slot p.octets) r) (succeeded_writes cut e) in
         more (cut_after cut) (records_after cut r p.slot p.octets) h ∙ ap (all_put ps) written
     by_success false e more h = absurd (cc)
 
@@ -108,16 +112,19 @@ Leaves P [] = Unit {0}
 Leaves P (p ∷ ps) = ((r : Records) → P r → P (insert r p.slot p.octets)) × Leaves P ps
 
 -- the same over a value that holds the one as a part, where the writes leave what is said of the rest
-module _ {M N : Type 0} (Q : M → Records → Type 0) (P : Records → Type 0) (R : N → Records → Type 0) (f : M → N) (there : (m : M) (r : Records) → Q m r → P r → R (f m) r) where
+module _ {M N : Type 0} (Q : M → Records → Type 0) (P : Records → Type 0) (R : N → Records → Type 0) (f : M → N)
+    (there : (m : M) (r : Records) → Q m r → P r → R (f m) r) where
   prefixes_beside : (ps : List Write) (r : Records) → Leaves P ps → P r → Prefixes Q ps r → Prefixes R ps r
   prefixes_beside [] r l b x = record { value = f x.value; kept = there x.value r x.kept b }
-  prefixes_beside (p ∷ ps) r l b x = (record { value = f x.0.value; kept = there x.0.value r x.0.kept b }, prefixes_beside ps (insert r p.slot p.octets) l.1 (l.0 r b) x.1)
+  prefixes_beside (p ∷ ps) r l b x =
+      (record { value = f x.0.value; kept = there x.0.value r x.0.kept b }, prefixes_beside ps (insert r p.slot p.octets) l.1 (l.0 r b) x.1)
 
   left_beside : (ps : List Write) (r : Records) → Leaves P ps → P r → P (all_put ps r)
   left_beside [] r l b = b
   left_beside (p ∷ ps) r l b = left_beside ps (insert r p.slot p.octets) l.1 (l.0 r b)
 
-  pub leads_part : (back : (m : M) (r : Records) → R (f m) r → Q m r × P r) (m n : M) (ps : List Write) → Leaves P ps → PutsLead Q m ps n → PutsLead R (f m) ps (f n)
+  pub leads_part : (back : (m : M) (r : Records) → R (f m) r → Q m r × P r) (m n : M) (ps : List Write) → Leaves P ps → PutsLead Q m ps n
+      → PutsLead R (f m) ps (f n)
   leads_part back m n ps l x = record {
     run = λ r q.
         let both = back m r q in

@@ -1,5 +1,6 @@
 -- What is looked up in a table where an entry came.
-use Rattle.std.proofs.Common.{◌≡◌, ◌≢◌, ℕ, suc, ◌+◌, ◌<◌, ◌≤◌, Bool, true, false, cond, List, [], ◌∷◌, ◌++◌, Option, Some, None, length, set, get_or, refl, sym, ap, ◌∙◌, arith, length-append}
+use Rattle.std.proofs.Common.{◌≡◌, ◌≢◌, ℕ, suc, ◌+◌, ◌<◌, ◌≤◌, Bool, true, false, cond, List, [], ◌∷◌, ◌++◌, Option, Some, None, length, set, get_or, refl, sym}
+use Rattle.std.proofs.Common.{ap, ◌∙◌, arith, length-append}
 use Rattle.std.specs.Prelude.{◌==◌, nat_lt, slice_get, is_some, not}
 use Rattle.std.specs.List.{find, position_or_len}
 use Rattle.std.specs.Option.{option_and_then, option_or}
@@ -51,17 +52,20 @@ module _ {A : Type 0} (layout : Layout A) where
       by_within false k h = absurd (cc (h))
 
   -- an entry in the place of the one of its key
-  pub entry_set : (table : List A) (place : ℕ) (e : A) → place_of layout table (layout.key e) ≡ Some place → entry_of layout (set table place e) (layout.key e) ≡ Some e
+  pub entry_set : (table : List A) (place : ℕ) (e : A) → place_of layout table (layout.key e) ≡ Some place
+      → entry_of layout (set table place e) (layout.key e) ≡ Some e
   entry_set table place e at =
       entry_of-find (set table place e) (layout.key e)
-      ∙ find-set (has_key (layout.key e)) table place e (first_place table (layout.key e) place at) (found layout table (layout.key e) place e at).0 (has_key-true (layout.key e) e refl)
+      ∙ find-set (has_key (layout.key e)) table place e (first_place table (layout.key e) place at) (found layout table (layout.key e) place e at).0
+      (has_key-true (layout.key e) e refl)
 
   pub entry_set_other : (table : List A) (place key : ℕ) (e : A) → place_of layout table (layout.key e) ≡ Some place → key ≢ layout.key e
       → entry_of layout (set table place e) key ≡ entry_of layout table key
   entry_set_other table place key e at ne =
       let there = found layout table (layout.key e) place e at in
       entry_of-find (set table place e) key
-      ∙ find_past (has_key key) table place e e (has_key-false key (get_or table place e) (λ same. ne (sym same ∙ there.1))) (has_key-false key e (λ same. ne (sym same)))
+      ∙ find_past (has_key key) table place e e (has_key-false key (get_or table place e) (λ same. ne (sym same ∙ there.1)))
+      (has_key-false key e (λ same. ne (sym same)))
       ∙ sym (entry_of-find table key)
 
   or_none : (o : Option A) → option_or o None ≡ o
@@ -85,9 +89,11 @@ module _ {A : Type 0} (layout : Layout A) where
       ∙ sym (entry_of-find table key)
 
   -- it stands at the next place
-  pub place_push : (table : List A) (e : A) → place_of layout table (layout.key e) ≡ None → place_of layout (table ++ e ∷ []) (layout.key e) ≡ Some (length table)
+  pub place_push : (table : List A) (e : A) → place_of layout table (layout.key e) ≡ None
+      → place_of layout (table ++ e ∷ []) (layout.key e) ≡ Some (length table)
   place_push table e at =
       let none = apart layout table (layout.key e) (ap is_some at) in
-      let first = first_here (has_key (layout.key e)) table e (λ k d lt. has_key-false (layout.key e) (get_or table k d) (none k d lt)) (has_key-true (layout.key e) e refl) in
+      let first = first_here (has_key (layout.key e)) table e (λ k d lt. has_key-false (layout.key e) (get_or table k d) (none k d lt))
+      (has_key-true (layout.key e) e refl) in
       let within : nat_lt (length table) (length (table ++ e ∷ [])) ≡ true = let long = length-append table (e ∷ []) in grind (arith, nat_tests) in
       ap (λ (k : ℕ). cond (nat_lt k (length (table ++ e ∷ []))) (Some k) None) first ∙ ap (λ (b : Bool). cond b (Some (length table)) None) within

@@ -1,5 +1,6 @@
 -- A number that was stored is read back.
-use Rattle.std.proofs.Common.{◌≡◌, ◌⊎◌, ℕ, ◌^◌, ◌<◌, ◌≤◌, Bool, true, false, cond, [], length, Some, None, Result, Ok, Err, refl, sym, inl, inr, ap, ◌∙◌, arith, append-nil}
+use Rattle.std.proofs.Common.{◌≡◌, ◌⊎◌, ℕ, ◌^◌, ◌<◌, ◌≤◌, Bool, true, false, cond, [], length, Some, None, Result, Ok, Err, refl, sym, inl, inr, ap, ◌∙◌, arith}
+use Rattle.std.proofs.Common.{append-nil}
 use Rattle.std.specs.Prelude.{◌==◌, OnOk, is_ok, nat_lt}
 use Rattle.std.proofs.lemmas.Bool.Decides.{nat_tests}
 use Rattle.std.specs.FinMap.{get, insert}
@@ -15,7 +16,8 @@ reading-high least number h =
     let e : nat_lt number least ≡ false = grind (arith, nat_tests) in
     ap (λ (b : Bool). cond b None (Some number)) e
 
-pub number_in-octets : (at : NumberSlot) (number : ℕ) → number < 256 ^ at.width → at.least ≤ number → number_in at (Some (big_bytes at.width number)) ≡ Some number
+pub number_in-octets : (at : NumberSlot) (number : ℕ) → number < 256 ^ at.width → at.least ≤ number
+    → number_in at (Some (big_bytes at.width number)) ≡ Some number
 number_in-octets at number fits least =
     let long : length (big_bytes at.width number) ≡ at.width = length-bytes_high_first at.width number in
     let same : (length (big_bytes at.width number) == at.width) ≡ true = grind (arith, nat_tests) in

@@ -1,6 +1,7 @@
 -- How the table that the records give grows from slot to slot, what an opened table holds, and that a table which was
 -- stored is opened again.
-use Rattle.std.proofs.Common.{◌≡◌, ◌≢◌, ℕ, zero, suc, ◌+◌, ◌<◌, ◌≤◌, Bool, true, false, cond, List, [], ◌∷◌, ◌++◌, Option, Some, None, Result, Ok, Err, length, get_or, take, map, refl, sym, ap, subst, ◌∙◌, inl, inr, arith, length-append}
+use Rattle.std.proofs.Common.{◌≡◌, ◌≢◌, ℕ, zero, suc, ◌+◌, ◌<◌, ◌≤◌, Bool, true, false, cond, List, [], ◌∷◌, ◌++◌, Option, Some, None, Result, Ok, Err, length}
+use Rattle.std.proofs.Common.{get_or, take, map, refl, sym, ap, subst, ◌∙◌, inl, inr, arith, length-append}
 use Rattle.std.specs.Prelude.{position, slice_get, is_some, ◌==◌, ◌⊎◌, IsSome}
 use Rattle.std.specs.Option.{option_map, option_map_or}
 use Rattle.std.specs.Result.{IfOk, OnOk, MatchResult}
@@ -13,7 +14,8 @@ use Rattle.std.specs.Ordering.{nat_cmp}
 use Rattle.std.specs.FinMap.{get, empty, get-empty}
 use Rattle.plc_base.specs.Keeper.{Records}
 use Rattle.plc_base.specs.declared.keeper.BadStore.{BadStore}
-use Rattle.store_tables.specs.SlotTables.{Layout, slot_of, place_of, IsTable, IsStored, IsGapless, IsReading, IsSecond, IsBad, entry_at, with_record, opened, opened_from, read_into}
+use Rattle.store_tables.specs.SlotTables.{Layout, slot_of, place_of, IsTable, IsStored, IsGapless, IsReading, IsSecond, IsBad, entry_at, with_record, opened}
+use Rattle.store_tables.specs.SlotTables.{opened_from, read_into}
 use Rattle.store_tables.proofs.SlotTables.{slice_get-push, slice_get-push_other, found, free_new, IsTable-push}
 
 -- # The three ways in which a record goes
@@ -52,7 +54,8 @@ unfolding opened_from
 opened_from-more layout zero rest place records table next octets h e more = absurd (omega arith)
 opened_from-more layout (suc left) rest place records table next octets h e more = let same : left ≡ rest = omega arith in rw (e, more, same) refl
 
-pub opened_from-none_left : {A : Type 0} (layout : Layout A) (place : ℕ) (records : Records) (table : List A) → opened_from layout 0 place records table ≡ Ok table
+pub opened_from-none_left : {A : Type 0} (layout : Layout A) (place : ℕ) (records : Records) (table : List A)
+    → opened_from layout 0 place records table ≡ Ok table
 unfolding opened_from
 opened_from-none_left layout place records table = refl
 
@@ -98,17 +101,20 @@ kept_next {A = A} layout place table next records octets rests kept len got t q 
       | inl here ↦
           ap (λ k. option_map (layout.read k) (get records (slot_of layout k))) here ∙ ap (option_map (layout.read place)) got ∙ ap Some t.reads
           ∙ ap (λ p. Some (Some p)) (sym (rests place octets t.entry t.reads))
-          ∙ sym (ap (λ table. shown (slice_get table q)) t.longer ∙ ap (λ k. shown (slice_get (table ++ t.entry ∷ []) k)) (here ∙ sym len) ∙ ap shown (slice_get-push table t.entry))
+          ∙ sym (ap (λ table. shown (slice_get table q)) t.longer ∙ ap (λ k. shown (slice_get (table ++ t.entry ∷ []) k)) (here ∙ sym len)
+          ∙ ap shown (slice_get-push table t.entry))
       | inr other ↦
           let ne : q ≢ length table = omega arith in
           kept q (omega arith) ∙ sym (ap (λ table. shown (slice_get table q)) t.longer ∙ ap shown (slice_get-push_other table q t.entry ne))
     ]
 
 -- a record that was taken, where the rest is known
-kept_taken : {A : Type 0} (layout : Layout A) (left place : ℕ) (records : Records) (table last : List A) (octets : List ℕ) (o : Option (List A)) → ReadsAtRest layout
+kept_taken : {A : Type 0} (layout : Layout A) (left place : ℕ) (records : Records) (table last : List A) (octets : List ℕ) (o : Option (List A))
+    → ReadsAtRest layout
     → with_record layout place table octets ≡ o → get records (slot_of layout place) ≡ Some octets
     → opened_from layout (suc left) place records table ≡ Ok last → length table ≡ place → KeptBelow layout place table records
-    → ((next : List A) → opened_from layout left (place + 1) records next ≡ Ok last → length next ≡ place + 1 → KeptBelow layout (place + 1) next records → IsStored layout last records)
+    → ((next : List A) → opened_from layout left (place + 1) records next ≡ Ok last → length next ≡ place + 1 → KeptBelow layout (place + 1) next records
+    → IsStored layout last records)
     → IsStored layout last records
 kept_taken layout left place records table last octets None rests w is e len kept rest =
     let damaged = opened_from-damaged layout (suc left) place records table octets (omega arith) is w in
@@ -116,15 +122,18 @@ kept_taken layout left place records table last octets None rests w is e len kep
 kept_taken layout left place records table last octets (Some next) rests w is e len kept rest =
     let more = opened_from-more layout (suc left) left place records table next octets (omega arith) is w in
     let new = taken layout place table octets next w in
-    rest next (sym more ∙ e) (omega (arith, ap length new.longer, length-append table (new.entry ∷ []))) (kept_next layout place table next records octets rests kept len is new)
+    rest next (sym more ∙ e) (omega (arith, ap length new.longer, length-append table (new.entry ∷ [])))
+    (kept_next layout place table next records octets rests kept len is new)
 
 kept_step : {A : Type 0} (layout : Layout A) (left place : ℕ) (records : Records) (table last : List A) (o : Option (List ℕ)) → ReadsAtRest layout
     → place ≤ layout.slots
     → get records (slot_of layout place) ≡ o
     → opened_from layout (suc left) place records table ≡ Ok last → length table ≡ place → IsGapless layout records → KeptBelow layout place table records
-    → ((next : List A) → opened_from layout left (place + 1) records next ≡ Ok last → length next ≡ place + 1 → KeptBelow layout (place + 1) next records → IsStored layout last records)
+    → ((next : List A) → opened_from layout left (place + 1) records next ≡ Ok last → length next ≡ place + 1 → KeptBelow layout (place + 1) next records
+    → IsStored layout last records)
     → IsStored layout last records
-kept_step layout left place records table last (Some octets) rests low is e len gapless kept rest = kept_taken layout left place records table last octets _ rests refl is e len kept rest
+kept_step layout left place records table last (Some octets) rests low is e len gapless kept rest =
+    kept_taken layout left place records table last octets _ rests refl is e len kept rest
 kept_step layout left place records table last None rests low is e len gapless kept rest =
     let empty = opened_from-empty layout (suc left) place records table is in
     let same : table ≡ last = cc in
@@ -132,7 +141,8 @@ kept_step layout left place records table last None rests low is e len gapless k
       short = omega arith;
       each = λ q h. elim (cases_lt q place) [
         | inl lower ↦ kept q lower
-        | inr above ↦ ap (option_map (layout.read q)) (none_at q above h) ∙ sym (ap (option_map (λ p. Some (layout.rest p))) (slice_get_past table q (omega arith)))
+        | inr above ↦ ap (option_map (layout.read q)) (none_at q above h)
+            ∙ sym (ap (option_map (λ p. Some (layout.rest p))) (slice_get_past table q (omega arith)))
       ];
     })
   where
@@ -156,7 +166,8 @@ kept_opened layout (suc left) place records table last rests e len all gapless k
 -- an opened table is stored, where no record stands after the first empty slot
 pub opened_kept : {A : Type 0} (layout : Layout A) (records : Records) (r : Result (List A) BadStore) → ReadsAtRest layout → r ≡ opened layout records
     → IsGapless layout records → IfOk r (λ table. IsStored layout table records)
-opened_kept layout records (Ok table) rests e gapless = kept_opened layout layout.slots 0 records [] table rests (sym e) refl (omega arith) gapless (λ q h. absurd (omega arith))
+opened_kept layout records (Ok table) rests e gapless =
+    kept_opened layout layout.slots 0 records [] table rests (sym e) refl (omega arith) gapless (λ q h. absurd (omega arith))
 opened_kept layout records (Err bad) rests e gapless = tt
 
 -- an empty store has no gap
@@ -182,9 +193,11 @@ stored_gapless {A = A} layout table records stored i j lt within none = behind (
     behind : (o : Option (List ℕ)) → get records (slot_of layout j) ≡ o → get records (slot_of layout j) ≡ None
     behind None is = is
     behind (Some octets) is =
-        let here : None ≡ option_map (λ entry. Some (layout.rest entry)) (slice_get table i) = ap (option_map (layout.read i)) (sym none) ∙ stored.each i (omega arith) in
+        let here : None ≡ option_map (λ entry. Some (layout.rest entry)) (slice_get table i) = ap (option_map (layout.read i)) (sym none)
+        ∙ stored.each i (omega arith) in
         let past = ended (slice_get table i) refl here in
-        let there = sym (ap (option_map (layout.read j)) is) ∙ stored.each j within ∙ ap (option_map (λ entry. Some (layout.rest entry))) (slice_get_past table j (omega arith)) in
+        let there = sym (ap (option_map (layout.read j)) is) ∙ stored.each j within
+        ∙ ap (option_map (λ entry. Some (layout.rest entry))) (slice_get_past table j (omega arith)) in
         absurd (cc (there))
 
 -- # A table that was stored is opened again as it rests
@@ -199,23 +212,28 @@ record ReadAt {A : Type 0} (layout : Layout A) (records : Records) (place : ℕ)
   got : get records (slot_of layout place) ≡ Some octets
   reads : layout.read place octets ≡ Some entry
 
-read_at : {A : Type 0} (layout : Layout A) (table : List A) (records : Records) (place : ℕ) (d : A) → IsStored layout table records → place < length table → place < layout.slots
+read_at : {A : Type 0} (layout : Layout A) (table : List A) (records : Records) (place : ℕ) (d : A) → IsStored layout table records → place < length table
+    → place < layout.slots
     → ReadAt layout records place (layout.rest (get_or table place d))
 read_at layout table records place d stored within h =
-    by_record (get records (slot_of layout place)) refl (stored.each place h ∙ ap (option_map (λ p. Some (layout.rest p))) (slice_get-get_or table place d within))
+    by_record (get records (slot_of layout place)) refl
+    (stored.each place h ∙ ap (option_map (λ p. Some (layout.rest p))) (slice_get-get_or table place d within))
   where
-    by_record : (o : Option (List ℕ)) → get records (slot_of layout place) ≡ o → option_map (layout.read place) o ≡ Some (Some (layout.rest (get_or table place d)))
+    by_record : (o : Option (List ℕ)) → get records (slot_of layout place) ≡ o
+        → option_map (layout.read place) o ≡ Some (Some (layout.rest (get_or table place d)))
         → ReadAt layout records place (layout.rest (get_or table place d))
     by_record None is e = cc
     by_record (Some octets) is e = record { octets = octets; got = is; reads = cc }
 
 -- after the table there is no record
-pub none_behind : {A : Type 0} (layout : Layout A) (table : List A) (records : Records) (place : ℕ) → IsStored layout table records → length table ≤ place → place < layout.slots
+pub none_behind : {A : Type 0} (layout : Layout A) (table : List A) (records : Records) (place : ℕ) → IsStored layout table records → length table ≤ place
+    → place < layout.slots
     → get records (slot_of layout place) ≡ None
 none_behind layout table records place stored past h =
     by_record (get records (slot_of layout place)) refl (stored.each place h ∙ ap (option_map (λ p. Some (layout.rest p))) (slice_get_past table place past))
   where
-    by_record : (o : Option (List ℕ)) → get records (slot_of layout place) ≡ o → option_map (layout.read place) o ≡ None → get records (slot_of layout place) ≡ None
+    by_record : (o : Option (List ℕ)) → get records (slot_of layout place) ≡ o → option_map (layout.read place) o ≡ None
+        → get records (slot_of layout place) ≡ None
     by_record None is e = is
     by_record (Some octets) is e = cc
 
@@ -223,13 +241,15 @@ differ : (a b : ℕ) → a ≢ b → (a == b) ≡ false
 differ a b h = grind (arith, nat_tests)
 
 -- where no place passes the test, there is no first one
-none_passes : {A : Type 0} (test : A → Bool) (table : List A) (d : A) → ((k : ℕ) → k < length table → test (get_or table k d) ≡ false) → is_some (position test table) ≡ false
+none_passes : {A : Type 0} (test : A → Bool) (table : List A) (d : A) → ((k : ℕ) → k < length table → test (get_or table k d) ≡ false)
+    → is_some (position test table) ≡ false
 none_passes test table d h =
     let none = position_or_len_is test table (length table) d (omega arith) h (λ lt. absurd (omega arith)) in
     grind (arith, nat_tests)
 
 -- the entry at a place is none of those before it
-not_before : {A : Type 0} (layout : Layout A) (table : List A) (place : ℕ) (d : A) → ((e : A) → layout.key (layout.rest e) ≡ layout.key e) → IsTable layout table
+not_before : {A : Type 0} (layout : Layout A) (table : List A) (place : ℕ) (d : A) → ((e : A) → layout.key (layout.rest e) ≡ layout.key e)
+    → IsTable layout table
     → place < length table → is_some (place_of layout (at_places layout table place) (layout.key (layout.rest (get_or table place d)))) ≡ false
 not_before {A = A} layout table place d keys h within =
     none_passes (λ entry. layout.key entry == layout.key (layout.rest (get_or table place d))) (map layout.rest (take place table)) d differs
@@ -239,11 +259,13 @@ not_before {A = A} layout table place d keys h within =
     differs k lt =
         let below : k < place = omega (arith, length-map (take place table) layout.rest, length-take place table) in
         let first : k < length (take place table) = omega (arith, length-map (take place table) layout.rest) in
-        let same = ap layout.key (get_or-map layout.rest (take place table) k d d first ∙ ap layout.rest (get_or-take place table k d below)) ∙ keys (get_or table k d) in
+        let same = ap layout.key (get_or-map layout.rest (take place table) k d d first ∙ ap layout.rest (get_or-take place table k d below))
+        ∙ keys (get_or table k d) in
         differ _ _ (λ e. h.distinct k place d below within (sym same ∙ e ∙ keys (get_or table place d)))
 
 -- one entry is read, where the rest is known
-reopened_one : {A : Type 0} (layout : Layout A) (left place : ℕ) (records : Records) (table : List A) (o : Option A) → ((e : A) → layout.key (layout.rest e) ≡ layout.key e)
+reopened_one : {A : Type 0} (layout : Layout A) (left place : ℕ) (records : Records) (table : List A) (o : Option A)
+    → ((e : A) → layout.key (layout.rest e) ≡ layout.key e)
     → IsTable layout table → IsStored layout table records → place + suc left ≡ layout.slots → slice_get table place ≡ o → place < length table
     → opened_from layout left (place + 1) records (at_places layout table (place + 1)) ≡ Ok (map layout.rest table)
     → opened_from layout (suc left) place records (at_places layout table place) ≡ Ok (map layout.rest table)
@@ -252,8 +274,10 @@ reopened_one {A = A} layout left place records table (Some d) keys h stored all 
     let read = read_at layout table records place d stored within (omega arith) in
     let entry : A = layout.rest (get_or table place d) in
     let more = with_record-new layout place (at_places layout table place) read.octets entry read.reads (not_before layout table place d keys h within) in
-    opened_from-more layout (suc left) left place records (at_places layout table place) (at_places layout table place ++ entry ∷ []) read.octets (omega arith) read.got more
-    ∙ ap (opened_from layout left (place + 1) records) (sym (ap (map layout.rest) (take_more table place d within) ∙ map_push layout.rest (take place table) (get_or table place d)))
+    opened_from-more layout (suc left) left place records (at_places layout table place) (at_places layout table place ++ entry ∷ []) read.octets (omega arith)
+    read.got more
+    ∙ ap (opened_from layout left (place + 1) records)
+    (sym (ap (map layout.rest) (take_more table place d within) ∙ map_push layout.rest (take place table) (get_or table place d)))
     ∙ rest
 
 reopened_from : {A : Type 0} (layout : Layout A) (left place : ℕ) (records : Records) (table : List A) → ((e : A) → layout.key (layout.rest e) ≡ layout.key e)
@@ -263,7 +287,8 @@ reopened_from layout zero place records table keys h stored all =
     opened_from-none_left layout place records (at_places layout table place) ∙ ap (λ t. Ok (map layout.rest t)) (take_all place table (omega (arith, h.short)))
 reopened_from layout (suc left) place records table keys h stored all =
     elim (cases_lt place (length table)) [
-      | inl within ↦ reopened_one layout left place records table (slice_get table place) keys h stored all refl within (reopened_from layout left (place + 1) records table keys h stored (omega arith))
+      | inl within ↦ reopened_one layout left place records table (slice_get table place) keys h stored all refl within
+          (reopened_from layout left (place + 1) records table keys h stored (omega arith))
       | inr past ↦
           opened_from-empty layout (suc left) place records (at_places layout table place) (none_behind layout table records place stored past (omega arith))
           ∙ ap (λ t. Ok (map layout.rest t)) (take_all place table past)
@@ -297,7 +322,8 @@ entry_there : {A : Type 0} (layout : Layout A) (place : ℕ) (records : Records)
     → entry_at layout records place ≡ layout.read place octets
 entry_there layout place records octets got = rw got refl
 
-second : {A : Type 0} (layout : Layout A) (place : ℕ) (table : List A) (records : Records) (octets : List ℕ) (entry : A) → IsReadBelow layout place table records
+second : {A : Type 0} (layout : Layout A) (place : ℕ) (table : List A) (records : Records) (octets : List ℕ) (entry : A)
+    → IsReadBelow layout place table records
     → get records (slot_of layout place) ≡ Some octets → layout.read place octets ≡ Some entry → is_some (place_of layout table (layout.key entry)) ≡ true
     → IsSecond layout records place
 second layout place table records octets entry below got reads held = go (place_of layout table (layout.key entry)) refl held
@@ -334,7 +360,8 @@ bad_record {A = A} layout place table records octets below got damaged = by_entr
     by_entry (Some entry) is e = by_place entry _ is refl e
 
 read_more : {A : Type 0} (layout : Layout A) (place : ℕ) (table next : List A) (records : Records) (octets : List ℕ) → IsReadBelow layout place table records
-    → place < layout.slots → get records (slot_of layout place) ≡ Some octets → Taken layout place table octets next → IsReadBelow layout (place + 1) next records
+    → place < layout.slots → get records (slot_of layout place) ≡ Some octets → Taken layout place table octets next
+    → IsReadBelow layout (place + 1) next records
 read_more layout place table next records octets below within got t = record {
   sound = subst (λ next. IsTable layout next) (sym t.longer)
       (IsTable-push layout table t.entry below.sound (omega (arith, below.count)) (free_new layout table (layout.key t.entry) (length table) t.new));
@@ -351,7 +378,8 @@ read_more layout place table next records octets below within got t = record {
 }
 
 reads_step : {A : Type 0} (layout : Layout A) (left place : ℕ) (records : Records) (table : List A) (r : Result (List A) BadStore) (o : Option (List ℕ))
-    → get records (slot_of layout place) ≡ o → opened_from layout (suc left) place records table ≡ r → place + suc left ≡ layout.slots → IsReadBelow layout place table records
+    → get records (slot_of layout place) ≡ o → opened_from layout (suc left) place records table ≡ r → place + suc left ≡ layout.slots
+    → IsReadBelow layout place table records
     → ((next : List A) → opened_from layout left (place + 1) records next ≡ r → IsReadBelow layout (place + 1) next records → Reads layout records r)
     → Reads layout records r
 unfolding Reads
@@ -364,7 +392,8 @@ reads_step layout left place records table r None is e all below rest =
     })
 reads_step {A = A} layout left place records table r (Some octets) is e all below rest = go (with_record layout place table octets) refl
   where
-    go : (o : Option (List A)) → with_record layout place table octets ≡ o → MatchResult r (λ table. IsReading layout table records) (λ bad. IsBad layout records bad.slot)
+    go : (o : Option (List A)) → with_record layout place table octets ≡ o
+        → MatchResult r (λ table. IsReading layout table records) (λ bad. IsBad layout records bad.slot)
     go None w =
         let damaged = opened_from-damaged layout (suc left) place records table octets (omega arith) is w in
         subst (λ r. MatchResult r (λ table. IsReading layout table records) (λ bad. IsBad layout records bad.slot)) (sym damaged ∙ e) (record {
@@ -389,7 +418,8 @@ reads_from layout zero place records table r e all below =
       ended = λ h. absurd (omega (arith, below.count));
     })
 reads_from layout (suc left) place records table r e all below =
-    reads_step layout left place records table r _ refl e all below (λ next e' below'. reads_from layout left (place + 1) records next r e' (omega arith) below')
+    reads_step layout left place records table r _ refl e all below
+    (λ next e' below'. reads_from layout left (place + 1) records next r e' (omega arith) below')
 
 -- an opened table has the entry of each record, and else the record that it names is bad
 pub opened_reads : {A : Type 0} (layout : Layout A) (records : Records) (r : Result (List A) BadStore) → r ≡ opened layout records
@@ -403,14 +433,20 @@ opened_reads layout records r e = reads_from layout layout.slots 0 records [] r 
 })
 
 -- what a table that was read again holds
-pub reloaded : {A : Type 0} (layout : Layout A) (records : Records) (r : Result (Unit {0}) BadStore) (t : List A) → ReadsAtRest layout → ((e : A) → layout.key (layout.rest e) ≡ layout.key e) → read_into r t ≡ opened layout records
-    → OnOk r (IsReading layout t records) × (IsGapless layout records → OnOk r (IsStored layout t records)) × ((table : List A) → IsTable layout table → IsStored layout table records → (r ≡ Ok tt) × (t ≡ map layout.rest table))
-reloaded {A = A} layout records (Ok u) t rests keys e =
-    (opened_reads layout records (Ok t) e, opened_kept layout records (Ok t) rests e, λ table h k. (refl, ok_is t (map layout.rest table) (e ∙ reopened layout records table keys h k)))
+pub reloaded : {A : Type 0} (layout : Layout A) (records : Records) (r : Result (Unit {0}) BadStore) (t : List A) → ReadsAtRest layout
+    → ((e : A) → layout.key (layout.rest e) ≡ layout.key e) → read_into r t ≡ opened layout records
+    → OnOk r (IsReading layout t records) × (IsGapless layout records → OnOk r (IsStored layout t records))
+    × ((table : List A) → IsTable layout table → IsStored layout table records → (r ≡ Ok tt) × (t ≡ map layout.rest table))
+reloaded {A = A} layout records (Ok u) t rests keys e = (
+  opened_reads layout records (Ok t) e,
+  opened_kept layout records (Ok t) rests e,
+  λ table h k. (refl, ok_is t (map layout.rest table) (e ∙ reopened layout records table keys h k)),
+)
   where
     ok_is : (a b : List A) → ◌≡◌ {A = Result (List A) BadStore} (Ok a) (Ok b) → a ≡ b
     ok_is a b same = cc
-reloaded {A = A} layout records (Err bad) t rests keys e = (tt, λ gapless. tt, λ table h k. absurd (never (map layout.rest table) (e ∙ reopened layout records table keys h k)))
+reloaded {A = A} layout records (Err bad) t rests keys e =
+    (tt, λ gapless. tt, λ table h k. absurd (never (map layout.rest table) (e ∙ reopened layout records table keys h k)))
   where
     never : (b : List A) → ◌≡◌ {A = Result (List A) BadStore} (Err bad) (Ok b) → ⊥
     never b same = cc

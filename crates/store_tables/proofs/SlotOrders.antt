@@ -1,9 +1,11 @@
 -- The places of a table in the order of their keys: where a key is found, and what becomes of them with a place more or less.
-use Rattle.std.proofs.Common.{◌≡◌, ◌≢◌, ◌⊎◌, inl, inr, ℕ, ◌+◌, ◌-◌, ◌<◌, ◌≤◌, List, [], ◌∷◌, ◌++◌, Option, Some, None, length, map, get_or, set, refl, sym, ap, subst, ◌∙◌, arith, length-append}
+use Rattle.std.proofs.Common.{◌≡◌, ◌≢◌, ◌⊎◌, inl, inr, ℕ, ◌+◌, ◌-◌, ◌<◌, ◌≤◌, List, [], ◌∷◌, ◌++◌, Option, Some, None, length, map, get_or, set, refl, sym, ap}
+use Rattle.std.proofs.Common.{subst, ◌∙◌, arith, length-append}
 use Rattle.std.proofs.lemmas.Bool.{cases_eq, cases_lt}
 use Rattle.std.proofs.lemmas.Grind.{in_insert, in_remove}
 use Rattle.std.proofs.lemmas.List.{length-map, length-set, map-append, map-set, get_or-map, get_or-set_other, get_or_append_left, get_or_default}
-use Rattle.std.proofs.lemmas.List.Edits.{length-insert, get_or-insert_below, get_or-insert_at, get_or-insert_above, length-remove, get_or-remove_below, get_or-remove_above}
+use Rattle.std.proofs.lemmas.List.Edits.{length-insert, get_or-insert_below, get_or-insert_at, get_or-insert_above, length-remove, get_or-remove_below}
+use Rattle.std.proofs.lemmas.List.Edits.{get_or-remove_above}
 use Rattle.std.proofs.lemmas.List.Quantifiers.{all_pairs_remove}
 use Rattle.std.proofs.lemmas.Option.{slice_get-get_or}
 use Rattle.std.proofs.Math.Seq.{map-set_same}
@@ -73,7 +75,8 @@ module _ (keys places : List ℕ) where
   pub up : IsRising keys places → IsNonDecreasingBy (slice_index keys) places
   up h i j d le lt =
       elim (cases_eq i j) [
-        | inl same ↦ let one : slice_index keys (get_or places i d) ≡ slice_index keys (get_or places j d) = ap (λ (k : ℕ). slice_index keys (get_or places k d)) same in omega arith
+        | inl same ↦ let one : slice_index keys (get_or places i d)
+            ≡ slice_index keys (get_or places j d) = ap (λ (k : ℕ). slice_index keys (get_or places k d)) same in omega arith
         | inr ne ↦ let rise = h.rises i j d (omega arith) lt in omega arith
       ]
 
@@ -216,7 +219,8 @@ module _ (keys places : List ℕ) where
   -- # Other keys
 
   -- these places have the keys that they had
-  same_keys : (next : List ℕ) → IsRising keys places → ((k d : ℕ) → k < length places → (get_or places k d < length next) × (slice_index next (get_or places k d) ≡ slice_index keys (get_or places k d)))
+  same_keys : (next : List ℕ) → IsRising keys places
+      → ((k d : ℕ) → k < length places → (get_or places k d < length next) × (slice_index next (get_or places k d) ≡ slice_index keys (get_or places k d)))
       → IsRising next places
   same_keys next h same = record {
     within = λ k d lt. (same k d lt).0;
@@ -227,7 +231,8 @@ module _ (keys places : List ℕ) where
   push_lacks key h =
       let len = length-append keys (key ∷ []) in
       record {
-        rising = same_keys (keys ++ key ∷ []) h.rising (λ k d lt. let inside = h.rising.within k d lt in (omega arith, get_or_append_left keys (key ∷ []) 0 (get_or places k d) inside));
+        rising = same_keys (keys ++ key ∷ []) h.rising
+            (λ k d lt. let inside = h.rising.within k d lt in (omega arith, get_or_append_left keys (key ∷ []) 0 (get_or places k d) inside));
         lacking = λ k d lt same. let inside = h.rising.within k d lt in absurd (omega arith);
         others = λ q lt ne. h.whole q (omega arith);
         counted = omega (arith, h.counted);
@@ -237,7 +242,8 @@ module _ (keys places : List ℕ) where
   set_lacks place key h =
       let len = length-set keys place key in
       record {
-        rising = same_keys (set keys place key) h.rising (λ k d lt. let inside = h.rising.within k d lt in (omega arith, get_or-set_other keys place (get_or places k d) key 0 (h.lacking k d lt)));
+        rising = same_keys (set keys place key) h.rising
+            (λ k d lt. let inside = h.rising.within k d lt in (omega arith, get_or-set_other keys place (get_or places k d) key 0 (h.lacking k d lt)));
         lacking = h.lacking;
         others = λ q lt ne. h.others q (omega arith) ne;
         counted = omega (arith, h.counted);
@@ -263,11 +269,14 @@ module _ {A : Type 0} (layout : Layout A) (table : List A) where
   pub table_push_lacks : (e : A) (places : List ℕ) → IsOrder (keys_of layout table) places → LacksOne (keys_of layout (table ++ e ∷ [])) places (length table)
   table_push_lacks e places h =
       subst (λ (keys : List ℕ). LacksOne keys places (length table)) (sym (map-append layout.key table (e ∷ [])))
-      (subst (λ (k : ℕ). LacksOne (keys_of layout table ++ layout.key e ∷ []) places k) (length-map table layout.key) (push_lacks (keys_of layout table) places (layout.key e) h))
+      (subst (λ (k : ℕ). LacksOne (keys_of layout table ++ layout.key e ∷ []) places k) (length-map table layout.key)
+      (push_lacks (keys_of layout table) places (layout.key e) h))
 
-  pub table_set_lacks : (place : ℕ) (e : A) (places : List ℕ) → LacksOne (keys_of layout table) places place → LacksOne (keys_of layout (set table place e)) places place
+  pub table_set_lacks : (place : ℕ) (e : A) (places : List ℕ) → LacksOne (keys_of layout table) places place
+      → LacksOne (keys_of layout (set table place e)) places place
   table_set_lacks place e places h =
-      subst (λ (keys : List ℕ). LacksOne keys places place) (sym (map-set layout.key table place e)) (set_lacks (keys_of layout table) places place (layout.key e) h)
+      subst (λ (keys : List ℕ). LacksOne keys places place) (sym (map-set layout.key table place e))
+      (set_lacks (keys_of layout table) places place (layout.key e) h)
 
   -- an entry of the same key leaves the order
   pub same_order : (place : ℕ) (e d : A) (places : List ℕ) → layout.key e ≡ layout.key (get_or table place d) → IsOrder (keys_of layout table) places
@@ -289,7 +298,8 @@ module _ {A : Type 0} (layout : Layout A) (table : List A) where
       let keys : List ℕ = keys_of layout table in
       let len = length-map table layout.key in
       let here : slice_index keys place ≡ key = get_or-map layout.key table place e 0 within ∙ sym (ap layout.key is) ∙ sym its in
-      ranked keys inside key rank place (subst (λ (ps : List ℕ). IsOrder keys ps) (sym same) h) (subst (λ (ps : List ℕ). IsRank keys ps key rank) (sym same) r) (omega arith) here
+      ranked keys inside key rank place (subst (λ (ps : List ℕ). IsOrder keys ps) (sym same) h) (subst (λ (ps : List ℕ). IsRank keys ps key rank) (sym same) r)
+      (omega arith) here
 
   -- what an entry more asks of the order
   pub more_lacks : (e : A) (inside next : List A) (places : List ℕ) (room at : ℕ) → IsTableOf layout room table places → length table < layout.slots
@@ -315,8 +325,10 @@ module _ {A : Type 0} (layout : Layout A) (table : List A) where
       )
 
   -- what an entry of another key asks of it
-  pub other_lacks : (place at : ℕ) (e : A) (kept inside next : List A) (before places : List ℕ) (room : ℕ) → IsTableOf layout room table before → place < length table
-      → IsFree layout table place (layout.key e) → kept ≡ table → LacksOne (keys_of layout kept) places place → inside ≡ next → next ≡ set table place e → at ≡ place
+  pub other_lacks : (place at : ℕ) (e : A) (kept inside next : List A) (before places : List ℕ) (room : ℕ) → IsTableOf layout room table before
+      → place < length table
+      → IsFree layout table place (layout.key e) → kept ≡ table → LacksOne (keys_of layout kept) places place → inside ≡ next → next ≡ set table place e
+      → at ≡ place
       → IsTable layout next × (IsTable layout inside × ((at < length inside) × (LacksOne (keys_of layout inside) places at × (length places < room))))
   other_lacks place at e kept inside next before places room h within free old lacks same other is =
       let sound = IsTable-set layout table place e h.sound within free in

@@ -1,5 +1,6 @@
 -- A table stays stored where one entry is written, or where only what is not stored changes.
-use Rattle.std.proofs.Common.{◌≡◌, ◌≢◌, ◌⊎◌, inl, inr, ℕ, true, zero, suc, ◌+◌, ◌<◌, ◌≤◌, false, List, [], ◌∷◌, ◌++◌, Option, Some, None, length, map, get_or, set, refl, sym, ap, subst, ◌∙◌, arith, length-append}
+use Rattle.std.proofs.Common.{◌≡◌, ◌≢◌, ◌⊎◌, inl, inr, ℕ, true, zero, suc, ◌+◌, ◌<◌, ◌≤◌, false, List, [], ◌∷◌, ◌++◌, Option, Some, None, length, map, get_or}
+use Rattle.std.proofs.Common.{set, refl, sym, ap, subst, ◌∙◌, arith, length-append}
 use Rattle.std.proofs.lemmas.Bool.{cases_eq, cases_lt}
 use Rattle.std.proofs.lemmas.Bool.Decides.{nat_tests}
 use Rattle.std.proofs.lemmas.Grind.{common_steps}
@@ -47,7 +48,8 @@ slice_get-map f (p ∷ table) (suc q) = slice_get-map f table q
 -- a write through the slice of the elements
 pub refill-set : {X : Type 0} (xs : List X) (i : ℕ) (y : X) → refill (length xs) xs (set xs i y) ≡ set xs i y
 refill-set xs i y =
-    rw (length-set xs i y, drop_all (length xs) xs (omega arith), append-nil (set xs i y)) (take_all (length xs) (set xs i y) (omega (arith, length-set xs i y)))
+    rw (length-set xs i y, drop_all (length xs) xs (omega arith), append-nil (set xs i y))
+    (take_all (length xs) (set xs i y) (omega (arith, length-set xs i y)))
 
 -- # Keys
 
@@ -96,7 +98,8 @@ free_found {A = A} layout table key place h e q within other = go (slice_get tab
 
 -- an entry that rests like the one at a place has its key, which is free there
 pub free_same_rest : {A : Type 0} (layout : Layout A) (table : List A) (place : ℕ) (e : A) → ((a : A) → layout.key (layout.rest a) ≡ layout.key a)
-    → IsTable layout table → place < length table → IfSome (slice_get table place) (λ before. layout.rest e ≡ layout.rest before) → IsFree layout table place (layout.key e)
+    → IsTable layout table → place < length table → IfSome (slice_get table place) (λ before. layout.rest e ≡ layout.rest before)
+    → IsFree layout table place (layout.key e)
 free_same_rest {A = A} layout table place e keys h within same q inside other = go (slice_get table q) refl
   where
     before : layout.key (get_or table place e) ≡ layout.key e
@@ -181,13 +184,15 @@ pub stored_set : {A : Type 0} (layout : Layout A) (table : List A) (old new : Re
     → IsStored layout table old → place < length table → new ≡ insert old (slot_of layout place) (layout.octets place e)
     → layout.read place (layout.octets place e) ≡ Some (layout.rest e) → IsStored layout (set table place e) new
 stored_set layout table old new place e stored within written reads =
-    stored_at layout table (set table place e) old new place e stored (omega (arith, stored.short, length-set table place e)) (slice_get-set table place e within) (λ q ne. slice_get-set_other table place q e ne) written reads
+    stored_at layout table (set table place e) old new place e stored (omega (arith, stored.short, length-set table place e))
+    (slice_get-set table place e within) (λ q ne. slice_get-set_other table place q e ne) written reads
 
 pub stored_push : {A : Type 0} (layout : Layout A) (table : List A) (old new : Records) (e : A)
     → IsStored layout table old → length table < layout.slots → new ≡ insert old (slot_of layout (length table)) (layout.octets (length table) e)
     → layout.read (length table) (layout.octets (length table) e) ≡ Some (layout.rest e) → IsStored layout (table ++ e ∷ []) new
 stored_push layout table old new e stored room written reads =
-    stored_at layout table (table ++ e ∷ []) old new (length table) e stored (omega (arith, length-append table (e ∷ []))) (slice_get-push table e) (λ q ne. slice_get-push_other table q e ne) written reads
+    stored_at layout table (table ++ e ∷ []) old new (length table) e stored (omega (arith, length-append table (e ∷ []))) (slice_get-push table e)
+    (λ q ne. slice_get-push_other table q e ne) written reads
 
 -- whatever becomes of the put of one place, what is stored is the table before or after
 pub set_either : {A : Type 0} (layout : Layout A) (table : List A) (old new : Records) (place : ℕ) (e : A)
@@ -197,7 +202,8 @@ set_either layout table old new place e stored within (inl same) reads = inl (su
 set_either layout table old new place e stored within (inr written) reads = inr (stored_set layout table old new place e stored within written reads)
 
 pub push_either : {A : Type 0} (layout : Layout A) (table : List A) (old new : Records) (e : A)
-    → IsStored layout table old → length table < layout.slots → (new ≡ old) ⊎ (new ≡ insert old (slot_of layout (length table)) (layout.octets (length table) e))
+    → IsStored layout table old → length table < layout.slots
+    → (new ≡ old) ⊎ (new ≡ insert old (slot_of layout (length table)) (layout.octets (length table) e))
     → layout.read (length table) (layout.octets (length table) e) ≡ Some (layout.rest e) → IsStored layout table new ⊎ IsStored layout (table ++ e ∷ []) new
 push_either layout table old new e stored room (inl same) reads = inl (subst (λ (r : Records). IsStored layout table r) (sym same) stored)
 push_either layout table old new e stored room (inr written) reads = inr (stored_push layout table old new e stored room written reads)
@@ -213,7 +219,8 @@ shown_same layout (Some b) e d is h = ap (λ p. Some (Some p)) (sym h)
 
 -- what is not stored may change, at one place
 pub stored_rest : {A : Type 0} (layout : Layout A) (table : List A) (records : Records) (place : ℕ) (e : A) → place < length table
-    → IfSome (slice_get table place) (λ before. layout.rest e ≡ layout.rest before) → IsStored layout table records → IsStored layout (set table place e) records
+    → IfSome (slice_get table place) (λ before. layout.rest e ≡ layout.rest before) → IsStored layout table records
+    → IsStored layout (set table place e) records
 stored_rest layout table records place e within same stored = record {
   short = omega (arith, stored.short, length-set table place e);
   each = λ q inside.
@@ -246,7 +253,8 @@ stored_elsewhere layout table old new first last stored same apart = record {
   each = λ q h. ap (option_map (layout.read q)) (same (slot_of layout q) (outside q h apart)) ∙ stored.each q h;
 }
   where
-    outside : (q : ℕ) → q < layout.slots → (last < layout.first) ⊎ (layout.first + layout.slots ≤ first) → (slot_of layout q < first) ⊎ (last < slot_of layout q)
+    outside : (q : ℕ) → q < layout.slots → (last < layout.first) ⊎ (layout.first + layout.slots ≤ first)
+        → (slot_of layout q < first) ⊎ (last < slot_of layout q)
     outside q h (inl below) = inr (omega arith)
     outside q h (inr above) = inl (omega arith)
 
@@ -275,7 +283,8 @@ place_of-set {A = A} layout table e at key place there found_at =
   where
     same : (k : ℕ) → k < length table → layout.key (get_or (set table at e) k e) ≡ layout.key (get_or table k e)
     same k h = elim (cases_eq k at) [
-      | inl here ↦ rw (here, get_or-set_same table at e e (found layout table (layout.key e) at e there).0) (sym (found layout table (layout.key e) at e there).1)
+      | inl here ↦ rw (here, get_or-set_same table at e e (found layout table (layout.key e) at e there).0)
+          (sym (found layout table (layout.key e) at e there).1)
       | inr other ↦ rw (get_or-set_other table at k e e other) refl
     ]
 

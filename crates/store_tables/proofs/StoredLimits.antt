@@ -11,7 +11,8 @@ use Rattle.store_tables.specs.LeadingPuts.{PutsLead}
 use Rattle.store_tables.proofs.StoreLemmas.{stores_elsewhere}
 use Rattle.store_tables.proofs.NumberSlots.{stored-insert, number_either}
 use Rattle.store_tables.proofs.LeadingPuts.{leads_one, leads_beside}
-use Rattle.store_tables.specs.Numberings.{Counting, IsKept, IsCountingIn, ReservationsLead, limit_in, limit_write, stored_limit, greatest, raised, passes, reserve_write, reserved}
+use Rattle.store_tables.specs.Numberings.{Counting, IsKept, IsCountingIn, ReservationsLead, limit_in, limit_write, stored_limit, greatest, raised, passes}
+use Rattle.store_tables.specs.Numberings.{reserve_write, reserved}
 
 module _ (at : NumberSlot) where
   -- a limit that was stored is read back

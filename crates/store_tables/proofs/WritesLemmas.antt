@@ -70,7 +70,8 @@ with_known_cut s t (w ∷ ws) done cut (true, mid, p, rest, u) e =
     let known = stores_known s mid (Some w) true cut p e in
     let k = with_known_cut mid t ws done (cut_after cut) rest known.known_cut_is in
     let ok : succeeds cut ≡ true = sym known.done_is in
-    let more = subst (λ m. (done ≡ (write ws (cut_after cut) m).whole) × (t.records ≡ (write ws (cut_after cut) m).records) × (t.known_cut ≡ Some (write ws (cut_after cut) m).cut)) known.records_is k in
+    let more = subst (λ m. (done ≡ (write ws (cut_after cut) m).whole) × (t.records ≡ (write ws (cut_after cut) m).records)
+    × (t.known_cut ≡ Some (write ws (cut_after cut) m).cut)) known.records_is k in
     rw ok more
 with_known_cut s t (w ∷ ws) done cut (false, mid, p, u, stop) e =
     let known = stores_known s mid (Some w) false cut p e in

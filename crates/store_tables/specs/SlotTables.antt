@@ -1,5 +1,6 @@
 -- A table whose entries stand in a row of slots, read from the first slot to the first empty one.
-use Rattle.std.specs.Prelude.{◌≡◌, ◌≢◌, ◌⊎◌, ℕ, zero, suc, ◌+◌, ◌-◌, ◌<◌, ◌≤◌, ◌==◌, Bool, List, [], ◌∷◌, ◌++◌, length, map, slice_get, position, is_some, if◌then◌else◌, AllPairs, Option, Some, None, Result, Ok, Err, IfSome, IsSome}
+use Rattle.std.specs.Prelude.{◌≡◌, ◌≢◌, ◌⊎◌, ℕ, zero, suc, ◌+◌, ◌-◌, ◌<◌, ◌≤◌, ◌==◌, Bool, List, [], ◌∷◌, ◌++◌, length, map, slice_get, position, is_some}
+use Rattle.std.specs.Prelude.{if◌then◌else◌, AllPairs, Option, Some, None, Result, Ok, Err, IfSome, IsSome}
 use Rattle.std.specs.Option.{option_map, option_map_or, option_and_then}
 use Rattle.std.specs.FinMap.{get}
 use Rattle.plc_base.specs.declared.keeper.BadStore.{BadStore}

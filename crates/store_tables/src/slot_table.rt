@@ -1,8 +1,10 @@
 //! A table whose entries stand in a row of slots of a keeper.
-ghost use Rattle.std.specs.Prelude.{◌≡◌, ◌==◌, ◌<◌, ◌≤◌, ◌+◌, ◌∷◌, ◌++◌, [], List, length, map, set, is_ok, is_some, slice_get, IsTrue, IfSome, MatchOption, IfOk, IfErr, OnOk, OnErr, Some, Ok};
+ghost use Rattle.std.specs.Prelude.{◌≡◌, ◌==◌, ◌<◌, ◌≤◌, ◌+◌, ◌∷◌, ◌++◌, [], List, length, map, set, is_ok, is_some, slice_get, IsTrue, IfSome, MatchOption};
+ghost use Rattle.std.specs.Prelude.{IfOk, IfErr, OnOk, OnErr, Some, Ok};
 ghost use Rattle.std.specs.Prelude.{ℕ};
 ghost use Rattle.plc_base.specs.Keeper.{IsSlot, Records, Puts, Stores, OutsideStays, IsOldOrNew};
-ghost use Rattle.store_tables.specs.SlotTables.{Layout, slot_of, IsTable, IsFree, IsStored, IsGapless, IsReading, IsBad, Reopens, ReopensInto, place_of, entry_of, entry_write, last_of, opened, read_into};
+ghost use Rattle.store_tables.specs.SlotTables.{Layout, slot_of, IsTable, IsFree, IsStored, IsGapless, IsReading, IsBad, Reopens, ReopensInto, place_of};
+ghost use Rattle.store_tables.specs.SlotTables.{entry_of, entry_write, last_of, opened, read_into};
 
 use crate::slot_order::SlotOrder;
 use arrayvec::ArrayVec;

@@ -94,7 +94,8 @@ sound_push p q es ws w os s r room = record {
   few = omega (arith, blocks_push ws w, room.room);
 }
 
-pub gathered_push : (p q : PoolState) (es : List Entry) (ws : List Slot) (w : Slot) (os : List ℕ) → IsSound p es ws → Reserves p q w os → reassemblies_in q es ≡ reassemblies_in p es
+pub gathered_push : (p q : PoolState) (es : List Entry) (ws : List Slot) (w : Slot) (os : List ℕ) → IsSound p es ws → Reserves p q w os
+    → reassemblies_in q es ≡ reassemblies_in p es
 gathered_push p q es ws w os s r = gathered_same p q es (λ i lt. (r.others _ (kept_chain p es i s.keeps s.bounded.some lt)).1)
 
 pub bodies_push : (p q : PoolState) (es : List Entry) (ws : List Slot) (w : Slot) (os : List ℕ) → IsSound p es ws → Reserves p q w os
@@ -162,8 +163,10 @@ sound_remove p q es ws i w s r =
       few = omega (arith, sum, s.few);
     }
 
-pub gathered_remove : (p q : PoolState) (es : List Entry) (ws : List Slot) (i : ℕ) (w : Slot) → IsSound p es ws → Returns p q ws i w → reassemblies_in q es ≡ reassemblies_in p es
-gathered_remove p q es ws i w s r = gathered_same p q es (λ k lt. (r.others _ (entry_apart p q es ws i w s r k lt) (kept_chain p es k s.keeps s.bounded.some lt)).1)
+pub gathered_remove : (p q : PoolState) (es : List Entry) (ws : List Slot) (i : ℕ) (w : Slot) → IsSound p es ws → Returns p q ws i w
+    → reassemblies_in q es ≡ reassemblies_in p es
+gathered_remove p q es ws i w s r =
+    gathered_same p q es (λ k lt. (r.others _ (entry_apart p q es ws i w s r k lt) (kept_chain p es k s.keeps s.bounded.some lt)).1)
 
 bodies_left : (p q : PoolState) (es : List Entry) (ws : List Slot) (i : ℕ) (w : Slot) → IsSound p es ws → Returns p q ws i w
     → bodies_in q (remove ws i) ≡ bodies_in p (remove ws i)
@@ -199,7 +202,8 @@ blocks_same p es (w ∷ ws) h =
     ∙ sym (sum_by-cons (λ (v : Slot). blocks v.size) w ws)
 
 -- where there is room for so many octets, there is
-pub room_is : (p : PoolState) (es : List Entry) (ws : List Slot) (h : Held) (octets : ℕ) → record { reassemblies = reassemblies_in p es; waiting = bodies_in p ws } ≡ h
+pub room_is : (p : PoolState) (es : List Entry) (ws : List Slot) (h : Held) (octets : ℕ)
+    → record { reassemblies = reassemblies_in p es; waiting = bodies_in p ws } ≡ h
     → All (IsHeld p es) ws
     → no_room_in h.waiting octets ≡ false → blocks_of ws + blocks octets ≤ 80
 room_is p es ws h octets view waits free =

@@ -45,7 +45,8 @@ returns-in-Err-finish-clause-drives g c =
 
 pub loop-machine-smaller : goal.loop-machine-smaller
 loop-machine-smaller g c =
-    let more = advanced _ _ _ g.met.M.LineMachine.stops c.loop-machine.invariant.so_far (next_at c.in-Ok-Some.ensures.next (Some c.in-Ok-Some.kind) c.in-Ok-Some.field-0-is) c.in-Ok-take_line.ensures in omega (arith, more.0, more.1)
+    let more = advanced _ _ _ g.met.M.LineMachine.stops c.loop-machine.invariant.so_far
+    (next_at c.in-Ok-Some.ensures.next (Some c.in-Ok-Some.kind) c.in-Ok-Some.field-0-is) c.in-Ok-take_line.ensures in omega (arith, more.0, more.1)
 
 pub loop-machine-preserved : goal.loop-machine-preserved
 loop-machine-preserved g c =

@@ -5,7 +5,8 @@ use Rattle.line_driver.proofs.machine.follow.Given as goal
 
 abbrev pub invariant-loop-machine : goal.invariant-loop-machine
 invariant-loop-machine g l = record {
-  so_far : SoFar g.M.LineMachine.turn g.M.LineMachine.end_text l.fn.machine (g.S.Source.state l.fn.source) (g.S.Source.state l.source) (g.K.Sink.state l.fn.sink) (g.K.Sink.state l.sink) l.machine l.input.seen l.input.count l.input.window.ahead l.input.ended;
+  so_far : SoFar g.M.LineMachine.turn g.M.LineMachine.end_text l.fn.machine (g.S.Source.state l.fn.source) (g.S.Source.state l.source)
+      (g.K.Sink.state l.fn.sink) (g.K.Sink.state l.sink) l.machine l.input.seen l.input.count l.input.window.ahead l.input.ended;
   over : IsTrue l.input.ended → IsOver (g.S.Source.state l.source);
   within : l.input.seen ≤ 67108864;
 }

@@ -8,7 +8,8 @@ returns-clause-fills g c =
     let buf = c.deref_mut.result.now in
     let room = c.capacity.result - c.len.result in
     let read = c.in_ok-count.ensures.read in
-    let came : c.in_ok-count.count ≤ c.args.ring.now.capacity - length c.args.ring.now.items = omega (arith, c.in_ok-count.ensures.bound, c.read.auto.buf, length-take room buf, c.capacity.ensures, c.len.ensures) in
+    let came : c.in_ok-count.count ≤ c.args.ring.now.capacity - length c.args.ring.now.items = omega
+    (arith, c.in_ok-count.ensures.bound, c.read.auto.buf, length-take room buf, c.capacity.ensures, c.len.ensures) in
     record {
       given = given_behind
           c.args.ring.now.items

@@ -25,5 +25,8 @@ returns-clause-parts c =
     let head = c.in_ok-head.head in
     let octets = c.args.octets.now in
     let parts : octets ≡ c.split_at.result.0.now ++ c.split_at.result.1.now =
-    sym (take-append-drop 15 octets) ∙ (λ i. sym c.split_at.ensures.front i ++ sym c.split_at.ensures.back i) in
-    (header_is head octets c.split_at.result.0.now c.split_at.result.1.now read.0 (read.2 ∙ ap (header_then head) (sym c.split_at.ensures.back)) parts (omega arith), parts)
+    sym (take-append-drop 15 octets) ∙ (λ i. sym c.split_at.ensures.front i ++ sym c.split_at.ensures.back i) in (
+      header_is head octets c.split_at.result.0.now c.split_at.result.1.now read.0 (read.2 ∙ ap (header_then head) (sym c.split_at.ensures.back)) parts
+          (omega arith),
+      parts,
+    )

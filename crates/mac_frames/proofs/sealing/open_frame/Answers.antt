@@ -24,7 +24,8 @@ returns-clause-only c = λ payload sealed.
     opens_only c.open_text.result c.args.raw.now.head c.args.aes.now c.nonce_of.result c.args.raw.now.header.now
     c.args.raw.now.body.now c.split_at.result.0.now c.split_at.result.1.now c.open_text.new.out payload
     c.requires.frame (parts c)
-    (omega (arith, tag_fits c.args.raw.now.head c.args.raw.now.body.now c.requires.sealed c.requires.frame.rest)) c.nonce_of.ensures c.open_text.ensures.tag.1 c.open_text.ensures.opened sealed
+    (omega (arith, tag_fits c.args.raw.now.head c.args.raw.now.body.now c.requires.sealed c.requires.frame.rest)) c.nonce_of.ensures c.open_text.ensures.tag.1
+    c.open_text.ensures.opened sealed
 
 -- the tag that opening wants, of the body's parts
 wanted : (c : After-open_text)

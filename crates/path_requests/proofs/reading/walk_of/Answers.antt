@@ -8,5 +8,6 @@ returns-then-not-extend c =
 
 pub loop-k-preserved : goal.loop-k-preserved
 loop-k-preserved c =
-    let more = extended _ _ c.loop-k.k c.args.at c.args.octets.now c.loop-k.invariant.walk c.loop-k.invariant.is (sym c.if-not-extend.ensures.answer) c.if-not-extend.ensures.walk in
+    let more = extended _ _ c.loop-k.k c.args.at c.args.octets.now c.loop-k.invariant.walk c.loop-k.invariant.is (sym c.if-not-extend.ensures.answer)
+    c.if-not-extend.ensures.walk in
     record { walk = more.0; is = more.1; long = rw (← c.loop-k.invariant.long) more.2 }

@@ -17,7 +17,8 @@ loop-rest-preserved g c =
     let count = c.in_ok-count.count in
     let written = c.in_ok-count.ensures.written in
     let bound = c.in_ok-count.ensures.bound in
-    let long : length front.0 + count ≡ length (front.0 ++ take count c.loop-rest.rest.now) = omega (arith, length-append front.0 (take count c.loop-rest.rest.now), length-take-le count c.loop-rest.rest.now bound.1) in record {
+    let long : length front.0 + count ≡ length (front.0 ++ take count c.loop-rest.rest.now) = omega
+    (arith, length-append front.0 (take count c.loop-rest.rest.now), length-take-le count c.loop-rest.rest.now bound.1) in record {
       front = (
         _,
         front_more c.args.text.now front.0 c.loop-rest.rest.now count front.1,

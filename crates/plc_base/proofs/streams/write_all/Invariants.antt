@@ -6,7 +6,8 @@ use Rattle.plc_base.proofs.streams.write_all.Given as goal
 -- a prefix of the text was written, and the rest is to come
 abbrev pub invariant-loop-rest : goal.invariant-loop-rest
 invariant-loop-rest g l = record {
-  front : (front : List ℕ) × (l.fn.text ≡ front ++ l.rest) × Appends ((g.K.Sink.state l.fn.sink).taken) ((g.K.Sink.state l.sink).taken) front × SinkFaults (g.K.Sink.state l.fn.sink) (g.K.Sink.state l.sink) (length front);
+  front : (front : List ℕ) × (l.fn.text ≡ front ++ l.rest) × Appends ((g.K.Sink.state l.fn.sink).taken) ((g.K.Sink.state l.sink).taken) front
+      × SinkFaults (g.K.Sink.state l.fn.sink) (g.K.Sink.state l.sink) (length front);
 }
 
 abbrev pub decreases-loop-rest : goal.decreases-loop-rest

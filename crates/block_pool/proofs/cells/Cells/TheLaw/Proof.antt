@@ -24,8 +24,10 @@ use Rattle.block_pool.proofs.cells.Cells.TheLaw.Statement.{statement}
 copied : (R : RattleType) → RowLaws R → (p : Ptr) (xs : List R.Denot) (fs : List Bool) → ShrLaws (slots_lent R p xs fs)
 copied R L p [] fs = nothing_shr_laws
 copied R L p (x ∷ xs) [] = nothing_shr_laws
-copied R L p (x ∷ xs) (true ∷ fs) = beside_shr_laws (slot_lent R true p x) (slots_lent R (p +ₚ bytes_of R) xs fs) (lent_at_shr_laws R L p x) (copied R L (p +ₚ bytes_of R) xs fs)
-copied R L p (x ∷ xs) (false ∷ fs) = beside_shr_laws (slot_lent R false p x) (slots_lent R (p +ₚ bytes_of R) xs fs) nothing_shr_laws (copied R L (p +ₚ bytes_of R) xs fs)
+copied R L p (x ∷ xs) (true ∷ fs) =
+    beside_shr_laws (slot_lent R true p x) (slots_lent R (p +ₚ bytes_of R) xs fs) (lent_at_shr_laws R L p x) (copied R L (p +ₚ bytes_of R) xs fs)
+copied R L p (x ∷ xs) (false ∷ fs) =
+    beside_shr_laws (slot_lent R false p x) (slots_lent R (p +ₚ bytes_of R) xs fs) nothing_shr_laws (copied R L (p +ₚ bytes_of R) xs fs)
 
 module _ {M : Type 1} {𝓤 : Ura M} (𝓛 : Logic 𝓤) (R : RattleType) (l : Lft) (share : Shares 𝓛 R l) where
   -- the row is lent place by place
@@ -34,10 +36,12 @@ module _ {M : Type 1} {𝓤 : Ura M} (𝓛 : Logic 𝓤) (R : RattleType) (l : L
   lent_row p (x ∷ xs) [] = Lends-nothing 𝓛 ftrue l
   lent_row p (x ∷ xs) (true ∷ fs) =
       let next : Ptr = p +ₚ bytes_of R in
-      Lends-both 𝓛 (slot R true p x) (slots R next xs fs) (slot_lent R true p x) (slots_lent R next xs fs) l (Lends-lies 𝓛 R l p x (share x)) (lent_row next xs fs)
+      Lends-both 𝓛 (slot R true p x) (slots R next xs fs) (slot_lent R true p x) (slots_lent R next xs fs) l (Lends-lies 𝓛 R l p x (share x))
+      (lent_row next xs fs)
   lent_row p (x ∷ xs) (false ∷ fs) =
       let next : Ptr = p +ₚ bytes_of R in
-      Lends-both 𝓛 (slot R false p x) (slots R next xs fs) (slot_lent R false p x) (slots_lent R next xs fs) l (Lends-nothing 𝓛 (slot R false p x) l) (lent_row next xs fs)
+      Lends-both 𝓛 (slot R false p x) (slots R next xs fs) (slot_lent R false p x) (slots_lent R next xs fs) l (Lends-nothing 𝓛 (slot R false p x) l)
+      (lent_row next xs fs)
 
   lent_block : (p : Ptr) (xs : List R.Denot) (fs : List Bool) → Lends 𝓛 (in_block p (slots R p xs fs)) (slots_lent R p xs fs) l
   lent_block (block_ptr b o) xs fs = lent_row (block_ptr b o) xs fs
@@ -45,10 +49,12 @@ module _ {M : Type 1} {𝓤 : Ura M} (𝓛 : Logic 𝓤) (R : RattleType) (l : L
 
 pub shares : (R : RattleType) (L : Laws R) → statement R L
 shares R L = of_Lends (cells.struct R) (cells.the_codes R.Denot R.coded) (cells.the_heap R) (cells.the_lent R)
-    (λ c p. let small = flt (c.count * bytes_of R) (2 ^ 63) in beside_shr_laws (said small) (slots_lent R c.base c.items c.filled) (said_shr_laws small tt) (copied R L.shr_laws c.base c.items c.filled))
+    (λ c p. let small = flt (c.count * bytes_of R) (2 ^ 63) in
+    beside_shr_laws (said small) (slots_lent R c.base c.items c.filled) (said_shr_laws small tt) (copied R L.shr_laws c.base c.items c.filled))
     (copy_shared RawPtr-field RawPtr-copy, (copy_shared usize-field usize-copy, tt))
     (λ M 𝓤 𝓛 c p.
     let l = (cells.the_row R).lives in
     let small = flt (c.count * bytes_of R) (2 ^ 63) in
     let share = Shares-less 𝓛 R R.lives l (Incl-trans (meet_⊑_left (R.lives ++ []) _) (meet_⊑_left R.lives [])) (L.shares 𝓛) in
-    Lends-both 𝓛 small (in_block c.base (slots R c.base c.items c.filled)) (said small) (slots_lent R c.base c.items c.filled) l (Lends-said 𝓛 small tt l) (lent_block 𝓛 R l share c.base c.items c.filled))
+    Lends-both 𝓛 small (in_block c.base (slots R c.base c.items c.filled)) (said small) (slots_lent R c.base c.items c.filled) l (Lends-said 𝓛 small tt l)
+    (lent_block 𝓛 R l share c.base c.items c.filled))

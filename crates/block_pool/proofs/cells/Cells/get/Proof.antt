@@ -46,20 +46,24 @@ pub get_spec : {M : Type 1} → stated.statement M
 get_spec 𝓤 𝓛 𝓜 𝓡 wired X L =
     let E : El = record { row = X; laws = L } in let follow = inst_fn (args E) code.function in
     let held = F.clauses X 𝓛 𝓜.mem 𝓡.returns in let W = walk_of 𝓛 (F.ended X) (stayed X) held in let 𝓣 = tables 𝓤 𝓛.H 𝓜 𝓡 𝓡.env in
-    proved_at 𝓛 (F.ended X) (stayed X) held 𝓜 𝓡
-    (Goes-dropped 𝓛 2 (RefOf (0 ∷ []) tt (plain (λ _. CellsOf E)) (λ _. tt)) yes (λ κs x w. refl), (Goes-dropped 𝓛 2 (plain (λ _. PlaceOf E)) no (λ κs x w. refl), tt))
+    proved_at 𝓛 (F.ended X) (stayed X) held 𝓜 𝓡 (
+      Goes-dropped 𝓛 2 (RefOf (0 ∷ []) tt (plain (λ _. CellsOf E)) (λ _. tt)) yes (λ κs x w. refl),
+      (Goes-dropped 𝓛 2 (plain (λ _. PlaceOf E)) no (λ κs x w. refl), tt),
+    )
     (key (args E)) follow (code.unfolded 𝓤 𝓛.H 𝓜 𝓡 wired (X, tt))
     (λ y are.
     let κ = y.0.0.0 in let q = y.0.1.0 in let κ₁ = y.0.0.1.0 in let q₁ = y.0.1.1.0 in
     let rb : ℕ = y.0.3.0.ref_ptr.0 in let ro : ℕ = y.0.3.0.ref_ptr.1 in let c : Cells X.Denot = y.0.3.0.now in let at : Place X.Denot = y.0.3.1.0 in
     let i : ℕ = index_of X c.base at.ptr in let Lies : Type 0 = LiesIn X c at.ptr in
-    qed 𝓛 (((‵ (flft κ q) ⊛ ‵ (flft κ₁ q₁) ⊛ ‵ ftrue) ⊛ ‵ (owns (types_at (F.ended X).signature.params y.0.0) y.0.3 y.0.4)) ∷ (raw (fact 𝓤 (κ₁ ⊑ X.lives)) ⊛ raw (fact 𝓤 Lies)) ∷ []) ∵
+    qed 𝓛 (((‵ (flft κ q) ⊛ ‵ (flft κ₁ q₁) ⊛ ‵ ftrue) ⊛ ‵ (owns (types_at (F.ended X).signature.params y.0.0) y.0.3 y.0.4))
+    ∷ (raw (fact 𝓤 (κ₁ ⊑ X.lives)) ⊛ raw (fact 𝓤 Lies)) ∷ []) ∵
     move ! (1 ∷ []) $ split ! $ drop ! $ heard ! Lies (λ lies.
     let ix : i < length c.items = omega (arith, lies.1, c.ok.0) in let fx : i < length c.filled = omega (arith, lies.1, c.ok.1) in
     let d : X.Denot = hd c.items (omega arith) in let x : X.Denot = get_or c.items i d in
     split ! $ split ! $ move ! (2 ∷ []) $ fsplit ! $ fsplit ! $ feq_l ! (λ is_ref. move ! (1 ∷ []) $ fsplit ! $ place_had E ! at y.0.4.1.0 (λ is_place. drop ! $
     -- what the `&` shows: of that, the `&` to the value at the index
-    use1 𝓛 (‵ (hidden_shr RawPtr κ c.base rb (ro + 0)) ⊛ ‵ (hidden_shr usize κ c.count rb (ro + 8)) ⊛ ‵ (flt (c.count * sz E) (2 ^ 63)) ⊛ ‵ (slots_lent X c.base c.items c.filled κ)) (cells_shown E 𝓛 κ c rb ro) $
+    use1 𝓛 (‵ (hidden_shr RawPtr κ c.base rb (ro + 0)) ⊛ ‵ (hidden_shr usize κ c.count rb (ro + 8)) ⊛ ‵ (flt (c.count * sz E) (2 ^ 63))
+    ⊛ ‵ (slots_lent X c.base c.items c.filled κ)) (cells_shown E 𝓛 κ c rb ro) $
     split3 ! $ move ! (2 ∷ []) $ split ! $ drop ! $
     in_a_block ! c.base (λ r. slots_lent X r c.items c.filled κ) (none_at_null E 𝓛 κ c.items c.filled i ix fx lies.2) (λ b o at_b.
     let there : ℕ = i * sz E + o in
@@ -74,6 +78,7 @@ get_spec 𝓤 𝓛 𝓜 𝓡 wired X L =
     first ! $ blocks ! $ sets_last ! (addr ! (through ! refl (stop !))) refl (tt, tt) $
     exec ! 𝓣.C 𝓣.Λ (env follow.locals l) (after 2 follow.body) (at_ret _ (W.post y)) $ sets ! (of_opd ! (get ! refl)) refl (tt, tt) $
     returns ! (look_at ! 0 refl) $ free_all ! refl $
-    suffices ! _ (ends_at 𝓛 (F.ended X) (stayed X) held y (vptr b there) (record { ref_ptr = (b, there); now = x }) (tt, (tt, tt)) (tt, (tt, tt))) $ says ! (any-default c.items i d x ix) $
+    suffices ! _ (ends_at 𝓛 (F.ended X) (stayed X) held y (vptr b there) (record { ref_ptr = (b, there); now = x }) (tt, (tt, tt)) (tt, (tt, tt)))
+    $ says ! (any-default c.items i d x ix) $
     join ! $ move ! (1 ∷ []) $ feq_i ! (List Val) (vptr b there ∷ []) (vptr b there ∷ []) refl $ fjoin ! $
     nothing ! $ nothing ! $ fjoin ! $ nothing ! $ fjoin ! $ keep ! (2 ∷ 0 ∷ 1 ∷ []) $ done !))))))

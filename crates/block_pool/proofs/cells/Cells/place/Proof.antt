@@ -48,19 +48,23 @@ pub place_spec : {M : Type 1} → stated.statement M
 place_spec 𝓤 𝓛 𝓜 𝓡 wired X L =
     let E : El = record { row = X; laws = L } in let count_on = inst_fn (args E) code.function in
     let held = F.clauses X 𝓛 𝓜.mem 𝓡.returns in let W = walk_of 𝓛 (F.ended X) (stayed X) held in let 𝓣 = tables 𝓤 𝓛.H 𝓜 𝓡 𝓡.env in
-    proved 𝓛 (F.ended X) (stayed X) held 𝓜 𝓡
-    (Goes-dropped 𝓛 2 (RefOf (0 ∷ []) tt (plain (λ _. CellsOf E)) (λ _. tt)) yes (λ κs x w. refl), (Goes-dropped 𝓛 2 (plain (λ _. usize)) yes (λ κs x w. refl), tt))
+    proved 𝓛 (F.ended X) (stayed X) held 𝓜 𝓡 (
+      Goes-dropped 𝓛 2 (RefOf (0 ∷ []) tt (plain (λ _. CellsOf E)) (λ _. tt)) yes (λ κs x w. refl),
+      (Goes-dropped 𝓛 2 (plain (λ _. usize)) yes (λ κs x w. refl), tt),
+    )
     (key (args E)) count_on (code.unfolded 𝓤 𝓛.H 𝓜 𝓡 wired (X, tt))
     (λ κs. (shr_vals, (uint_vals w64, tt))) (λ κs. (shr_Tells (named 0) κs.0 (CellsOf E), (uint_Tells w64, tt))) (λ κs qs bounds a n are.
     let y : W.Ghost = ((κs, qs, bounds, a, (shr_vals a.0, (uint_vals w64 a.1.0, tt))), n) in
     let κ = κs.0 in let q = qs.0 in let κ₁ = κs.1.0 in let q₁ = qs.1.0 in
     let rb : ℕ = a.0.ref_ptr.0 in let ro : ℕ = a.0.ref_ptr.1 in let c : Cells X.Denot = a.0.now in let i : ℕ = a.1.0 in let s : ℕ = sz E in
     let Holds : Type 0 = (i < c.count) × (get_or c.filled i false ≡ true) in
-    qed 𝓛 (((‵ (flft κ q) ⊛ ‵ (flft κ₁ q₁) ⊛ ‵ ftrue) ⊛ ‵ (owns (types_at (F.ended X).signature.params κs) a y.0.4)) ∷ (raw (fact 𝓤 (κ₁ ⊑ X.lives)) ⊛ raw (fact 𝓤 Holds)) ∷ []) ∵
+    qed 𝓛 (((‵ (flft κ q) ⊛ ‵ (flft κ₁ q₁) ⊛ ‵ ftrue) ⊛ ‵ (owns (types_at (F.ended X).signature.params κs) a y.0.4))
+    ∷ (raw (fact 𝓤 (κ₁ ⊑ X.lives)) ⊛ raw (fact 𝓤 Holds)) ∷ []) ∵
     move ! (1 ∷ []) $ split ! $ drop ! $ heard ! Holds (λ holds.
     let ix : i < length c.items = omega (arith, holds.0, c.ok.0) in let fx : i < length c.filled = omega (arith, holds.0, c.ok.1) in
     split ! $ split ! $ move ! (2 ∷ []) $ fsplit ! $ fsplit ! $ drop ! $
-    use1 𝓛 (‵ (hidden_shr RawPtr κ c.base rb (ro + 0)) ⊛ ‵ (hidden_shr usize κ c.count rb (ro + 8)) ⊛ ‵ (flt (c.count * s) (2 ^ 63)) ⊛ ‵ (slots_lent X c.base c.items c.filled κ)) (cells_shown E 𝓛 κ c rb ro) $
+    use1 𝓛 (‵ (hidden_shr RawPtr κ c.base rb (ro + 0)) ⊛ ‵ (hidden_shr usize κ c.count rb (ro + 8)) ⊛ ‵ (flt (c.count * s) (2 ^ 63))
+    ⊛ ‵ (slots_lent X c.base c.items c.filled κ)) (cells_shown E 𝓛 κ c rb ro) $
     split3 ! $ move ! (2 ∷ []) $ split ! $ flt_l ! (λ fits.
     -- no product of the code wraps, since all places together are below 2 ^ 63
     let low : s < 2 ^ 63 = one_below c.count s (2 ^ 63) (omega (arith, holds.0)) fits in let one_word : s < 2 ^ 64 = omega (arith, low) in

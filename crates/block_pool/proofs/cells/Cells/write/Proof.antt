@@ -13,7 +13,8 @@ use mir.MapTy.{inst_fn}
 use mir.Val.{Val, vunit, vptr}
 use prog.Wp.{WpFn}
 use types.ByLocal.{alloc_all, pass_all, free_all, look_at, get, through, sets, env}
-use types.Kit.{‵, raw, ◌⊛◌, at_ret, ◌$◌, ◌∵◌, !, qed, move, keep, use1, use3, drop, split, join, fsplit, fsplit3, fjoin, fjoin3, feq_i, suffices, done, prop, regoal, rewrite}
+use types.Kit.{‵, raw, ◌⊛◌, at_ret, ◌$◌, ◌∵◌, !, qed, move, keep, use1, use3, drop, split, join, fsplit, fsplit3, fjoin, fjoin3, feq_i, suffices, done, prop}
+use types.Kit.{regoal, rewrite}
 use types.Part.{whole, sub, look_in}
 use types.Run.{init, stop, fld, load, size_lit, unit_lit, of_opd, bin, assigns_last, first, blocks, exec, returns, enter}
 use denote.Builtin.{usize}
@@ -40,22 +41,33 @@ stayed E = (stay_ref (0 ∷ []) tt (plain (λ _. CellsOf E)), (stay_dropped _ ye
 
 -- the cells after the write
 abbrev written : {X : Type 0} → Cells X → ℕ → X → Cells X
-written c i x = record { base = c.base; count = c.count; items = set c.items i x; filled = set c.filled i true; ok = (c.ok.0 ∙ sym (length-set c.items i x), c.ok.1 ∙ sym (length-set c.filled i true)); small = c.small }
+written c i x = record {
+  base = c.base;
+  count = c.count;
+  items = set c.items i x;
+  filled = set c.filled i true;
+  ok = (c.ok.0 ∙ sym (length-set c.items i x), c.ok.1 ∙ sym (length-set c.filled i true));
+  small = c.small;
+}
 
 pub write_spec : {M : Type 1} → stated.statement M
 write_spec 𝓤 𝓛 𝓜 𝓡 wired X L =
     let E : El = record { row = X; laws = L } in let put_in = inst_fn (args E) code.function in
     let held = F.clauses X 𝓛 𝓜.mem 𝓡.returns in let W = walk_of 𝓛 (F.ended X) (stayed E) held in let 𝓣 = tables 𝓤 𝓛.H 𝓜 𝓡 𝓡.env in
-    proved_at 𝓛 (F.ended X) (stayed E) held 𝓜 𝓡
-    (Goes-ref 𝓛 2 0 tt (plain (λ _. CellsOf E)), (Goes-dropped 𝓛 2 (plain (λ _. usize)) yes (λ κs x w. refl), (Goes-dropped 𝓛 2 (plain (λ _. R E)) no (λ κs x w. refl), tt)))
+    proved_at 𝓛 (F.ended X) (stayed E) held 𝓜 𝓡 (
+      Goes-ref 𝓛 2 0 tt (plain (λ _. CellsOf E)),
+      (Goes-dropped 𝓛 2 (plain (λ _. usize)) yes (λ κs x w. refl), (Goes-dropped 𝓛 2 (plain (λ _. R E)) no (λ κs x w. refl), tt)),
+    )
     (key (args E)) put_in (code.unfolded 𝓤 𝓛.H 𝓜 𝓡 wired (X, tt))
     (λ y are.
     let κ = y.0.0.0 in let q = y.0.1.0 in let κ₁ = y.0.0.1.0 in let q₁ = y.0.1.1.0 in
-    let rb : ℕ = y.0.3.0.ref_ptr.0 in let ro : ℕ = y.0.3.0.ref_ptr.1 in let c : Cells X.Denot = y.0.3.0.now in let i : ℕ = y.0.3.1.0 in let x : X.Denot = y.0.3.1.1.0 in
+    let rb : ℕ = y.0.3.0.ref_ptr.0 in let ro : ℕ = y.0.3.0.ref_ptr.1 in let c : Cells X.Denot = y.0.3.0.now in let i : ℕ = y.0.3.1.0 in
+    let x : X.Denot = y.0.3.1.1.0 in
     let s : ℕ = sz E in let new : Cells X.Denot = written c i x in let word_i : i < 2 ^ 64 = are.1.0.1 in
     -- the value, as the machine has it
     let got = one E y.0.4.1.1.0 ((lawful E 𝓛).typed x y.0.4.1.1.0 are.1.1.0) in let v : Val = got.0 in let good = got.2 in
-    qed 𝓛 (((‵ (flft κ q) ⊛ ‵ (flft κ₁ q₁) ⊛ ‵ ftrue) ⊛ ‵ (owns (types_at (F.ended X).signature.params y.0.0) y.0.3 y.0.4)) ∷ (raw (fact 𝓤 (κ₁ ⊑ X.lives)) ⊛ raw (fact 𝓤 (i < c.count))) ∷ []) ∵
+    qed 𝓛 (((‵ (flft κ q) ⊛ ‵ (flft κ₁ q₁) ⊛ ‵ ftrue) ⊛ ‵ (owns (types_at (F.ended X).signature.params y.0.0) y.0.3 y.0.4))
+    ∷ (raw (fact 𝓤 (κ₁ ⊑ X.lives)) ⊛ raw (fact 𝓤 (i < c.count))) ∷ []) ∵
     move ! (1 ∷ []) $ split ! $ drop ! $ heard ! (i < c.count) (λ lt.
     let ix : i < length c.items = omega (arith, lt, c.ok.0) in let fx : i < length c.filled = omega (arith, lt, c.ok.1) in
     split ! $ split ! $ move ! (2 ∷ []) $ fsplit3 ! $ fsplit3 ! $ move ! (4 ∷ []) $ fsplit ! $ keep ! (3 ∷ 4 ∷ 6 ∷ 0 ∷ 7 ∷ []) $

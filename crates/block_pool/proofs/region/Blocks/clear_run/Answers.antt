@@ -11,7 +11,8 @@ pub clear-requires : goal.clear-requires
 clear-requires c = subst (IsSpot c.loop.self) (sym c.loop.invariant.after) (c.loop.invariant.cleared.links.spots _ (c.requires.1 _ c.loop-test.true).0)
 
 pub next-at-requires : goal.next-at-requires
-next-at-requires c = c.clear.ensures.links.spots _ (subst (IsSpot c.loop.self) (sym c.loop.invariant.after) (c.loop.invariant.cleared.links.spots _ (c.requires.1 _ c.loop-test.true).0))
+next-at-requires c = c.clear.ensures.links.spots _
+    (subst (IsSpot c.loop.self) (sym c.loop.invariant.after) (c.loop.invariant.cleared.links.spots _ (c.requires.1 _ c.loop-test.true).0))
 
 pub loop-preserved : goal.loop-preserved
 loop-preserved c =

@@ -9,7 +9,11 @@ pub returns-then-offset-gt0-clause-stands : goal.returns-then-offset-gt0-clause-
 returns-then-offset-gt0-clause-stands c = at_start _ _ _ _ _ c.walk-place.ensures (omega arith)
 
 pub loop-out-init : goal.loop-out-init
-loop-out-init c = record { within = omega arith; read = λ k lt. absurd (omega arith); stands = at_begin _ _ _ _ _ c.walk-place.ensures (omega (arith, c.if-offset-gt0.false)) (omega arith) }
+loop-out-init c = record {
+  within = omega arith;
+  read = λ k lt. absurd (omega arith);
+  stands = at_begin _ _ _ _ _ c.walk-place.ensures (omega (arith, c.if-offset-gt0.false)) (omega arith);
+}
 
 pub read_block-requires-clause-spot : goal.read_block-requires-clause-spot
 read_block-requires-clause-spot c = is_spot_at _ _ _ _ _ _ c.loop-out.invariant.stands c.requires (omega (arith, c.loop-out-test.true))
@@ -28,7 +32,8 @@ loop-out-preserved c =
     let long : length c.read_block.new.out ≡ n = c.read_block.auto.out ∙ room in
     record {
       within = omega (arith, fits, same, same_len_mid done n c.loop-out.out c.read_block.new.out (long ∙ sym room));
-      read = read_more c.loop-out.out _ c.read_block.new.out _ _ _ _ _ 0 64 c.loop-out.invariant.read stands (omega arith) (omega arith) (λ i lt. c.read_block.ensures i lt ∙ ap (octet_of c.args.self.now (spot_of c.loop-out.place)) (omega arith))
+      read = read_more c.loop-out.out _ c.read_block.new.out _ _ _ _ _ 0 64 c.loop-out.invariant.read stands (omega arith) (omega arith)
+          (λ i lt. c.read_block.ensures i lt ∙ ap (octet_of c.args.self.now (spot_of c.loop-out.place)) (omega arith))
           (λ k lt. get_or-put_mid_other done n c.loop-out.out c.read_block.new.out 0 fits long k (λ low high. absurd (omega (arith, low, lt))))
           (λ i lt. get_or-put_mid done n c.loop-out.out c.read_block.new.out 0 fits long i (omega (arith, same, lt)));
       stands = at_next _ _ _ _ _ _ (at_more _ _ _ 0 64 _ _ stands (omega arith) (omega arith)) refl c.next-place.ensures;

@@ -13,7 +13,8 @@ pub settle-within-requires-clause-spot : goal.settle-within-requires-clause-spot
 settle-within-requires-clause-spot c = is_spot_at _ _ _ _ _ _ c.loop-done.invariant.stands c.requires (omega (arith, c.loop-done-test.true))
 
 pub read_part-requires-clause-spot : goal.read_part-requires-clause-spot
-read_part-requires-clause-spot c = is_spot_at _ _ _ _ _ _ (c.settle-within.ensures.same _ _ c.loop-done.invariant.stands) c.requires (omega (arith, c.loop-done-test.true))
+read_part-requires-clause-spot c =
+    is_spot_at _ _ _ _ _ _ (c.settle-within.ensures.same _ _ c.loop-done.invariant.stands) c.requires (omega (arith, c.loop-done-test.true))
 
 pub loop-done-preserved : goal.loop-done-preserved
 loop-done-preserved c =
@@ -27,7 +28,8 @@ loop-done-preserved c =
     let long : length c.read_part.new.out ≡ n = c.read_part.auto.out ∙ room in
     record {
       within = omega (arith, fits, same, same_len_mid done n c.loop-done.out c.read_part.new.out (long ∙ sym room));
-      read = read_more c.loop-done.out _ c.read_part.new.out _ _ _ _ _ _ _ c.loop-done.invariant.read stands c.settle-within.ensures.within part.2 (λ i lt. c.read_part.ensures i (omega (arith, room, same, lt)))
+      read = read_more c.loop-done.out _ c.read_part.new.out _ _ _ _ _ _ _ c.loop-done.invariant.read stands c.settle-within.ensures.within part.2
+          (λ i lt. c.read_part.ensures i (omega (arith, room, same, lt)))
           (λ k lt. get_or-put_mid_other done n c.loop-done.out c.read_part.new.out 0 fits long k (λ low high. absurd (omega (arith, low, lt))))
           (λ i lt. get_or-put_mid done n c.loop-done.out c.read_part.new.out 0 fits long i (omega (arith, same, lt)));
       stands = at_more _ _ _ _ _ _ _ stands part.2 (omega arith);

@@ -10,11 +10,13 @@ pub loop-done-init : goal.loop-done-init
 loop-done-init c = record { within = omega arith; written = written_none _ _ _ _; stands = at_start _ _ _ _ _ c.walk-place.ensures (omega arith) }
 
 pub settle-within-requires-clause-spot : goal.settle-within-requires-clause-spot
-settle-within-requires-clause-spot c = is_spot_at _ _ _ _ _ _ c.loop-done.invariant.stands (are_spots _ _ _ (strung_links _ _ _ _ c.loop-done.invariant.written.links c.requires)) (omega (arith, c.loop-done-test.true))
+settle-within-requires-clause-spot c = is_spot_at _ _ _ _ _ _ c.loop-done.invariant.stands
+    (are_spots _ _ _ (strung_links _ _ _ _ c.loop-done.invariant.written.links c.requires)) (omega (arith, c.loop-done-test.true))
 
 pub write_part-requires-clause-spot : goal.write_part-requires-clause-spot
 write_part-requires-clause-spot c =
-    is_spot_at _ _ _ _ _ _ (c.settle-within.ensures.same _ _ c.loop-done.invariant.stands) (are_spots _ _ _ (strung_links _ _ _ _ c.loop-done.invariant.written.links c.requires)) (omega (arith, c.loop-done-test.true))
+    is_spot_at _ _ _ _ _ _ (c.settle-within.ensures.same _ _ c.loop-done.invariant.stands)
+    (are_spots _ _ _ (strung_links _ _ _ _ c.loop-done.invariant.written.links c.requires)) (omega (arith, c.loop-done-test.true))
 
 pub loop-done-preserved : goal.loop-done-preserved
 loop-done-preserved c =
@@ -28,6 +30,8 @@ loop-done-preserved c =
     record {
       within = omega (arith, part.1, c.loop-done.invariant.within);
       written = written_more _ _ _ _ _ _ _ _ _ _ _ _ c.requires (omega (arith, part.1, c.loop-done.invariant.within)) part.0 c.loop-done.invariant.written
-          (here.0 ∙ hop-links _ _ _ _ c.loop-done.invariant.written.links (are_spots _ _ _ c.requires) _ (omega (arith, c.loop-done-test.true))) here.1 part.2 (length-mid_of _ _ _ fits ∙ same) (λ i lt. get_or-mid_of c.loop-done.done n i c.args.piece.now 0 (omega (arith, lt))) c.write_part.ensures;
-      stands = at_links _ _ _ _ _ _ _ c.write_part.ensures.links (are_spots _ _ _ now) (at_more _ _ _ _ _ _ _ stands part.2 (omega arith)) (omega (arith, part.1, c.loop-done.invariant.within));
+          (here.0 ∙ hop-links _ _ _ _ c.loop-done.invariant.written.links (are_spots _ _ _ c.requires) _ (omega (arith, c.loop-done-test.true))) here.1 part.2
+          (length-mid_of _ _ _ fits ∙ same) (λ i lt. get_or-mid_of c.loop-done.done n i c.args.piece.now 0 (omega (arith, lt))) c.write_part.ensures;
+      stands = at_links _ _ _ _ _ _ _ c.write_part.ensures.links (are_spots _ _ _ now) (at_more _ _ _ _ _ _ _ stands part.2 (omega arith))
+          (omega (arith, part.1, c.loop-done.invariant.within));
     }

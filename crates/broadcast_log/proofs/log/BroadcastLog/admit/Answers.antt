@@ -19,5 +19,7 @@ keep-requires g c =
 
 pub returns-in-Ok-clause-fresh : goal.returns-in-Ok-clause-fresh
 returns-in-Ok-clause-fresh g c given before run =
-    let room : room_for c.args.self.now.marks c.args.origin c.args.number ≡ Ok (tt {0}) = ap (λ (l : Log). room_for l.marks c.args.origin c.args.number) (sym c.self.view_is) ∙ sym c.in-Ok.ensures in
-    on_ok _ (admission_is_fresh given before c.args.self.now (g.K.Keeper.store c.args.keeper.now).records c.args.origin c.args.number run (omega arith) (omega arith) room)
+    let room : room_for c.args.self.now.marks c.args.origin c.args.number
+    ≡ Ok (tt {0}) = ap (λ (l : Log). room_for l.marks c.args.origin c.args.number) (sym c.self.view_is) ∙ sym c.in-Ok.ensures in
+    on_ok _ (admission_is_fresh given before c.args.self.now (g.K.Keeper.store c.args.keeper.now).records c.args.origin c.args.number run (omega arith)
+    (omega arith) room)

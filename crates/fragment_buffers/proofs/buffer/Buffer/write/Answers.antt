@@ -19,6 +19,7 @@ invariant_of-self c =
     let size = ap (λ e. e.size) view ∙ c.requires.size in
     let written = entry_written (entry_of c.self.inside) c.args.piece.now c.self.invariant.entry c.requires.rule size none in
     record {
-      entry = subst (λ ps. IsEntry (record (entry_of c.self.inside) { places = ps })) (sym (c.push.ensures.items ∙ ap (λ p. c.self.inside.places.items ++ p ∷ []) c.of-place.ensures)) written;
+      entry = subst (λ ps. IsEntry (record (entry_of c.self.inside) { places = ps }))
+          (sym (c.push.ensures.items ∙ ap (λ p. c.self.inside.places.items ++ p ∷ []) c.of-place.ensures)) written;
       chain = c.self.invariant.chain;
     }

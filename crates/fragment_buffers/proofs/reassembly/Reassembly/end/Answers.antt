@@ -18,7 +18,8 @@ ends c =
     let chain = ap (λ (e : Entry). e.chain) (the_entry c) in
     record {
       there = c.requires.there;
-      free = c.give_back.ensures.free ∙ ap (λ n. c.args.pool.now.free + blocks n) (ap (λ (e : Entry). length (chain_octets c.args.pool.now e.chain)) (the_entry c) ∙ c.requires.keeps.lengths c.args.index c.requires.there);
+      free = c.give_back.ensures.free ∙ ap (λ n. c.args.pool.now.free + blocks n)
+          (ap (λ (e : Entry). length (chain_octets c.args.pool.now e.chain)) (the_entry c) ∙ c.requires.keeps.lengths c.args.index c.requires.there);
       others = λ d ne is. stays-remove c.args.pool.now c.give_back.new.pool _ d c.give_back.ensures.chains (λ e. ne (e ∙ chain)) is;
     }
 
@@ -37,15 +38,18 @@ invariant_of-self c =
 
 pub returns-clause-gathered : goal.returns-clause-gathered
 returns-clause-gathered c =
-    ap (reassemblies_in c.give_back.new.pool) (items c) ∙ gathered_remove c.args.pool.now c.give_back.new.pool c.args.self.now c.args.index c.requires.keeps (some c) (ends c)
+    ap (reassemblies_in c.give_back.new.pool) (items c)
+    ∙ gathered_remove c.args.pool.now c.give_back.new.pool c.args.self.now c.args.index c.requires.keeps (some c) (ends c)
 
 pub returns-clause-keeps : goal.returns-clause-keeps
 returns-clause-keeps c =
-    subst (Keeps c.give_back.new.pool) (sym (items c)) (keeps_remove c.args.pool.now c.give_back.new.pool c.args.self.now c.args.index c.requires.keeps (some c) (ends c))
+    subst (Keeps c.give_back.new.pool) (sym (items c))
+    (keeps_remove c.args.pool.now c.give_back.new.pool c.args.self.now c.args.index c.requires.keeps (some c) (ends c))
 
 pub returns-clause-moves : goal.returns-clause-moves
 returns-clause-moves c =
-    subst (Moves c.args.pool.now c.give_back.new.pool c.args.self.now) (sym (items c)) (moves_remove c.args.pool.now c.give_back.new.pool c.args.self.now c.args.index (ends c))
+    subst (Moves c.args.pool.now c.give_back.new.pool c.args.self.now) (sym (items c))
+    (moves_remove c.args.pool.now c.give_back.new.pool c.args.self.now c.args.index (ends c))
 
 pub returns-clause-bounded : goal.returns-clause-bounded
 returns-clause-bounded c = bounded_after c.args.self.now _ c.args.index (items c) c.requires.there (subst IsBounded c.self.view_is c.self.invariant.bounded)

@@ -22,7 +22,8 @@ loop-index-preserved-then-has_expired c =
       moves = moves_both c.args.pool.now c.loop-index.pool c.end.new.pool c.args.self.now es c.end.new.self c.loop-index.invariant.moves c.end.ensures.moves;
       within = omega (arith, ap length c.end.ensures.entries, length-remove es c.loop-index.index lt, lt);
       gathered =
-          c.loop-index.invariant.gathered ∙ expired_at held c.loop-index.index c.args.now (omega (arith, long, lt)) (omega (arith, since, c.if-has_expired.ensures))
+          c.loop-index.invariant.gathered
+          ∙ expired_at held c.loop-index.index c.args.now (omega (arith, long, lt)) (omega (arith, since, c.if-has_expired.ensures))
           ∙ ap (λ rs. kept_so_far rs c.loop-index.index c.args.now) (sym c.end.ensures.gathered);
     }
 
@@ -48,4 +49,5 @@ loop-index-preserved c =
 pub returns-clause-gathered : goal.returns-clause-gathered
 returns-clause-gathered c =
     let long = length-gathered c.loop-index.pool c.loop-index.self in
-    sym (c.loop-index.invariant.gathered ∙ all_kept (reassemblies_in c.loop-index.pool c.loop-index.self) c.loop-index.index c.args.now (omega (arith, long, ap length c.self.view_is, c.len.ensures.value, c.loop-index-test.false)))
+    sym (c.loop-index.invariant.gathered ∙ all_kept (reassemblies_in c.loop-index.pool c.loop-index.self) c.loop-index.index c.args.now
+    (omega (arith, long, ap length c.self.view_is, c.len.ensures.value, c.loop-index-test.false)))

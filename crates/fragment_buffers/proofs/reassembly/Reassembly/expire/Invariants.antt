@@ -8,7 +8,8 @@ invariant-loop-index l = record {
   keeps : Keeps l.pool l.self;
   moves : Moves l.fn.pool l.pool l.fn.self l.self;
   within : l.index ≤ length l.self;
-  gathered : unexpired (reassemblies_in l.fn.pool l.fn.self) l.now ≡ take l.index (reassemblies_in l.pool l.self) ++ unexpired (drop l.index (reassemblies_in l.pool l.self)) l.now;
+  gathered : unexpired (reassemblies_in l.fn.pool l.fn.self) l.now
+      ≡ take l.index (reassemblies_in l.pool l.self) ++ unexpired (drop l.index (reassemblies_in l.pool l.self)) l.now;
 }
 
 abbrev pub decreases-loop-index : goal.decreases-loop-index

@@ -7,10 +7,13 @@ use Rattle.fragment_buffers.proofs.Keeping.{read_entry, moves_both}
 use Rattle.fragment_buffers.proofs.Settling.{joined_repeat, joined_grown}
 use Rattle.fragment_buffers.proofs.reassembly.Reassembly.join.Goals as goal
 
-repeat : (c : goal.Then-repeats) → joined_at (reassemblies_in c.args.pool.now c.args.self.now) c.args.index c.args.piece.now c.args.note c.args.now ≡ record { held = reassemblies_in c.args.pool.now c.args.self.now; outcome = Held }
+repeat : (c : goal.Then-repeats) → joined_at (reassemblies_in c.args.pool.now c.args.self.now) c.args.index c.args.piece.now c.args.note c.args.now
+    ≡ record { held = reassemblies_in c.args.pool.now c.args.self.now; outcome = Held }
 repeat c =
-    let entry = read_entry _ c.args.self.now c.args.index c.index-deref-index.result c.index-deref-index.is (c.deref.ensures.0 ∙ c.self.view_is) c.requires.there in
-    joined_repeat c.args.pool.now c.args.self.now c.args.index c.args.piece.now c.args.note c.args.now c.requires.there (subst IsEntry entry c.repeats.ensures.rule) (c.requires.keeps.lengths c.args.index c.requires.there)
+    let entry = read_entry _ c.args.self.now c.args.index c.index-deref-index.result c.index-deref-index.is (c.deref.ensures.0 ∙ c.self.view_is)
+    c.requires.there in
+    joined_repeat c.args.pool.now c.args.self.now c.args.index c.args.piece.now c.args.note c.args.now c.requires.there
+    (subst IsEntry entry c.repeats.ensures.rule) (c.requires.keeps.lengths c.args.index c.requires.there)
     (ap (λ (e : Entry). list_any (same_place (place_of c.args.piece.now)) e.places) (sym entry) ∙ sym c.repeats.ensures.value ∙ c.if-repeats.true)
 
 pub returns-then-repeats-clause-answer : goal.returns-then-repeats-clause-answer
@@ -22,10 +25,13 @@ returns-then-repeats-clause-datagram c = c.requires.empty ∙ sym (ap (λ (t : T
 pub returns-then-repeats-clause-gathered : goal.returns-then-repeats-clause-gathered
 returns-then-repeats-clause-gathered c = sym (ap (λ (t : Taking). t.held) (repeat c))
 
-grown_is : (c : goal.After-settle) → joined_at (reassemblies_in c.args.pool.now c.args.self.now) c.args.index c.args.piece.now c.args.note c.args.now ≡ settled_at (reassemblies_in c.grow.new.pool c.grow.new.self) c.args.index
+grown_is : (c : goal.After-settle) → joined_at (reassemblies_in c.args.pool.now c.args.self.now) c.args.index c.args.piece.now c.args.note c.args.now
+    ≡ settled_at (reassemblies_in c.grow.new.pool c.grow.new.self) c.args.index
 grown_is c =
-    let entry = read_entry _ c.args.self.now c.args.index c.index-deref-index.result c.index-deref-index.is (c.deref.ensures.0 ∙ c.self.view_is) c.requires.there in
-    joined_grown c.args.pool.now c.args.self.now c.args.index c.args.piece.now c.args.note c.args.now c.requires.there (subst IsEntry entry c.repeats.ensures.rule) (c.requires.keeps.lengths c.args.index c.requires.there)
+    let entry = read_entry _ c.args.self.now c.args.index c.index-deref-index.result c.index-deref-index.is (c.deref.ensures.0 ∙ c.self.view_is)
+    c.requires.there in
+    joined_grown c.args.pool.now c.args.self.now c.args.index c.args.piece.now c.args.note c.args.now c.requires.there
+    (subst IsEntry entry c.repeats.ensures.rule) (c.requires.keeps.lengths c.args.index c.requires.there)
     (ap (λ (e : Entry). list_any (same_place (place_of c.args.piece.now)) e.places) (sym entry) ∙ sym c.repeats.ensures.value ∙ c.if-repeats.false)
     ∙ ap (λ held. settled_at held c.args.index) (sym c.grow.ensures.gathered)
 
@@ -39,4 +45,5 @@ pub returns-clause-gathered : goal.returns-clause-gathered
 returns-clause-gathered c = c.settle.ensures.gathered ∙ sym (ap (λ (t : Taking). t.held) (grown_is c))
 
 pub returns-clause-moves : goal.returns-clause-moves
-returns-clause-moves c = moves_both c.args.pool.now c.grow.new.pool c.settle.new.pool c.args.self.now c.grow.new.self c.settle.new.self c.grow.ensures.moves c.settle.ensures.moves
+returns-clause-moves c =
+    moves_both c.args.pool.now c.grow.new.pool c.settle.new.pool c.args.self.now c.grow.new.self c.settle.new.self c.grow.ensures.moves c.settle.ensures.moves

@@ -6,7 +6,8 @@ use Rattle.fragment_buffers.proofs.Naming.{found_gathered}
 use Rattle.fragment_buffers.proofs.Rule.{joined_answer}
 use Rattle.fragment_buffers.proofs.reassembly.Reassembly.take.Goals as goal
 
-found : (c : goal.After-join) → taken (reassemblies_in c.args.pool.now c.args.self.now) c.args.origin c.args.piece.now c.args.note c.args.now ≡ joined_at (reassemblies_in c.args.pool.now c.args.self.now) c.in-Some.index c.args.piece.now c.args.note c.args.now
+found : (c : goal.After-join) → taken (reassemblies_in c.args.pool.now c.args.self.now) c.args.origin c.args.piece.now c.args.note c.args.now
+    ≡ joined_at (reassemblies_in c.args.pool.now c.args.self.now) c.in-Some.index c.args.piece.now c.args.note c.args.now
 found c =
     let named = c.in-Some.ensures.named in
     let first : (k : ℕ) → k < c.in-Some.index → has_name c.args.origin c.args.piece.now.size c.args.piece.now.tag (entry_at c.args.self.now k) ≡ false = λ k lk.
@@ -17,7 +18,8 @@ found c =
 
 pub returns-in-Some-clause-answer : goal.returns-in-Some-clause-answer
 returns-in-Some-clause-answer c =
-    ap (λ a. Ok a) c.join.ensures.answer ∙ sym (joined_answer (reassemblies_in c.args.pool.now c.args.self.now) c.in-Some.index c.args.piece.now c.args.note c.args.now)
+    ap (λ a. Ok a) c.join.ensures.answer
+    ∙ sym (joined_answer (reassemblies_in c.args.pool.now c.args.self.now) c.in-Some.index c.args.piece.now c.args.note c.args.now)
     ∙ sym (ap (λ (t : Taking). answer_of t.outcome) (found c))
 
 pub returns-in-Some-clause-datagram : goal.returns-in-Some-clause-datagram

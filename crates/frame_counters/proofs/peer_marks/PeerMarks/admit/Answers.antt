@@ -11,4 +11,5 @@ on_ok (Err e) h = tt
 pub returns-in-Ok-clause-fresh : goal.returns-in-Ok-clause-fresh
 returns-in-Ok-clause-fresh g c before history =
     let room : room_for c.args.self.now c.args.from c.args.counter ≡ Ok (tt {0}) = sym c.in-Ok.ensures in
-    on_ok _ (room_is_fresh before c.args.self.now (g.K.Keeper.store c.args.keeper.now).records c.args.from c.args.counter history (omega arith) (omega arith) room)
+    on_ok _ (room_is_fresh before c.args.self.now (g.K.Keeper.store c.args.keeper.now).records c.args.from c.args.counter history (omega arith) (omega arith)
+    room)

@@ -5,7 +5,8 @@ use Rattle.frame_counters.specs.SendCounter.{Counting}
 use Rattle.frame_counters.proofs.Given.{next_is_fresh}
 use Rattle.frame_counters.proofs.send_counter.SendCounter.reserve.Goals as goal
 
-below : {E : Type 0} (result : Result ℕ E) (next : ℕ) (given : List ℕ) → IfOk result (λ number. number ≡ next) → AllBelow next given → IfOk result (λ number. AllBelow number given)
+below : {E : Type 0} (result : Result ℕ E) (next : ℕ) (given : List ℕ) → IfOk result (λ number. number ≡ next) → AllBelow next given
+    → IfOk result (λ number. AllBelow number given)
 below (Ok number) next given is h = subst (λ (n : ℕ). AllBelow n given) (sym is) h
 below (Err fault) next given is h = tt
 

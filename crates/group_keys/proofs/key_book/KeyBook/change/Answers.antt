@@ -9,7 +9,8 @@ returns-then-eq-clause-book g c =
     let items = c.self.inside.table in
     let at : place_of items c.args.entry.eui ≡ Some c.in-Some.place = ap (slots.place_of entries items) (sym c.number.ensures) ∙ sym c.in-Some.ensures.place in
     let same : same_entry c.get.result c.args.entry ≡ true = sym c.if-eq.ensures in
-    sym c.self.view_is ∙ sym (entry_same items c.args.entry c.get.result c.in-Some.place at c.get.ensures same) ∙ ap (λ (b : Book). with_entry b c.args.entry) c.self.view_is
+    sym c.self.view_is ∙ sym (entry_same items c.args.entry c.get.result c.in-Some.place at c.get.ensures same)
+    ∙ ap (λ (b : Book). with_entry b c.args.entry) c.self.view_is
 
 pub returns-in_ok-set_stored-in-Some-clause-addresses : goal.returns-in_ok-set_stored-in-Some-clause-addresses
 returns-in_ok-set_stored-in-Some-clause-addresses g c meter address had =

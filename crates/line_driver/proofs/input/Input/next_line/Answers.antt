@@ -88,11 +88,13 @@ loop-at-preserved g c =
     let found = c.in-Neither.ensures in
     let room : c.loop-at.self.seen + length c.loop-at.self.window.ahead ≤ 67108864 = omega (arith, found.0, c.loop-at.invariant.within) in
     let shed = c.shed-long.ensures.shed in
-    let clear = shed_clear c.loop-at.self.seen c.shed-long.new.self.seen c.loop-at.self.window.ahead c.shed-long.new.self.window.ahead c.loop-at.long c.shed-long.result found.1 room shed in
+    let clear = shed_clear c.loop-at.self.seen c.shed-long.new.self.seen c.loop-at.self.window.ahead c.shed-long.new.self.window.ahead c.loop-at.long
+    c.shed-long.result found.1 room shed in
     let given = c.in_ok-refill.ensures.refills.given in
     let front = clear_front c.shed-long.new.self.window.ahead c.refill.new.self.window.ahead given.octets given.grown clear.0 in
     let there = c.len-clear.ensures.len in record {
-      taking = rw c.in_ok-refill.ensures.seen (taking_more (taking_shed c.loop-at.invariant.taking c.shed-long.new.self.seen c.shed-long.new.self.window.ahead c.shed-long.result found.1 room shed) c.if-self.false given);
+      taking = rw c.in_ok-refill.ensures.seen (taking_more (taking_shed c.loop-at.invariant.taking c.shed-long.new.self.seen c.shed-long.new.self.window.ahead
+          c.shed-long.result found.1 room shed) c.if-self.false given);
       begin = c.loop-at.invariant.begin;
       count = c.in_ok-refill.ensures.count ∙ c.shed-long.ensures.count ∙ c.loop-at.invariant.count;
       later = omega (arith, c.in_ok-refill.ensures.seen, clear.2, c.loop-at.invariant.later);
@@ -108,6 +110,8 @@ returns-in_err-refill-clause-next g c =
     let found = c.in-Neither.ensures in
     let room : c.loop-at.self.seen + length c.loop-at.self.window.ahead ≤ 67108864 = omega (arith, found.0, c.loop-at.invariant.within) in
     let shed = c.shed-long.ensures.shed in
-    let clear = shed_clear c.loop-at.self.seen c.shed-long.new.self.seen c.loop-at.self.window.ahead c.shed-long.new.self.window.ahead c.loop-at.long c.shed-long.result found.1 room shed in
+    let clear = shed_clear c.loop-at.self.seen c.shed-long.new.self.seen c.loop-at.self.window.ahead c.shed-long.new.self.window.ahead c.loop-at.long
+    c.shed-long.result found.1 room shed in
     let p = err_from_is_err_and c.from_residual.result c.from_residual.ensures.1 in
-    rw p.1 (found_failure (taking_shed c.loop-at.invariant.taking c.shed-long.new.self.seen c.shed-long.new.self.window.ahead c.shed-long.result found.1 room shed) p.0 _ _ _ _ _ c.if-self.false clear.0 clear.1 c.in_err-refill.ensures.refills.kept.2)
+    rw p.1 (found_failure (taking_shed c.loop-at.invariant.taking c.shed-long.new.self.seen c.shed-long.new.self.window.ahead c.shed-long.result found.1 room
+    shed) p.0 _ _ _ _ _ c.if-self.false clear.0 clear.1 c.in_err-refill.ensures.refills.kept.2)

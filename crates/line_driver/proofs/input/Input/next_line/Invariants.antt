@@ -7,7 +7,8 @@ use Rattle.line_driver.proofs.input.Input.next_line.Given as goal
 
 abbrev pub invariant-loop-at : goal.invariant-loop-at
 invariant-loop-at g l = record {
-  taking : Taking (g.S.Source.state l.fn.source) (g.S.Source.state l.source) l.fn.self.seen l.fn.self.count l.fn.self.window.ahead l.fn.self.ended l.self.seen l.self.window.ahead l.self.ended l.long;
+  taking : Taking (g.S.Source.state l.fn.source) (g.S.Source.state l.source) l.fn.self.seen l.fn.self.count l.fn.self.window.ahead l.fn.self.ended l.self.seen
+      l.self.window.ahead l.self.ended l.long;
   begin : l.begin ≡ l.fn.self.seen;
   count : l.self.count ≡ l.fn.self.count;
   later : l.begin ≤ l.self.seen;

@@ -9,6 +9,8 @@ returns-clause-shed c =
     inr (
       omega (arith, same, c.if-count-le-MAX_LINE.false),
       ap (λ n. c.args.self.now.seen + n) same,
-      ap (λ (w : Window). w.ahead) c.pass.ensures ∙ nil_from_length (drop c.len-count.result c.args.self.now.window.ahead) (omega (arith, same, length-drop c.len-count.result c.args.self.now.window.ahead)),
+      ap (λ (w : Window). w.ahead) c.pass.ensures
+          ∙ nil_from_length (drop c.len-count.result c.args.self.now.window.ahead)
+          (omega (arith, same, length-drop c.len-count.result c.args.self.now.window.ahead)),
       refl,
     )

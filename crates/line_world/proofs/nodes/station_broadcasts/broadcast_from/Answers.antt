@@ -78,12 +78,15 @@ returns-clause-reaches c =
     let same = c.octets.ensures.value ∙ c.write_broadcast.ensures
     ∙ ap (λ (n : ℕ). spelling (record { hops = 14; origin = c.args.own; number = n; octets = c.args.datagram.now })) c.in-Some.ensures.number in
     rw (← c.beside.view_is) (subst (λ (r : Result (Unit {0}) BroadcastRefusal). ReachesFirst s b (Err refusals.Halted)
-    (λ y. broadcast_from alone y c.args.own c.args.datagram.now) r c.send_local-sent.new.out c.send_local-sent.new.station (record b { log = c.send_local-sent.new.log }))
+    (λ y. broadcast_from alone y c.args.own c.args.datagram.now) r c.send_local-sent.new.out c.send_local-sent.new.station
+    (record b { log = c.send_local-sent.new.log }))
     (own_told c.send_local-sent.result ∙ sym c.broadcast_sent.ensures)
     (first_recorded broadcast_ends s b (Err refusals.Halted) (λ y. broadcast_from alone y c.args.own c.args.datagram.now) h.0 h.1 (number_put b.log.numbering)
     (numbered_log b.log) tt 4 None body goes
-    c.args.out.now c.send_local-sent.new.out m c.send_local-sent.new.station c.send_local-sent.result (record b { log = c.send_local-sent.new.log }) c.requires.empty put
+    c.args.out.now c.send_local-sent.new.out m c.send_local-sent.new.station c.send_local-sent.result (record b { log = c.send_local-sent.new.log })
+    c.requires.empty put
     (sent_as m c.send_local-sent.new.station h.0 4 None c.octets.result.now body c.send_local-sent.result c.args.out.now c.send_local-sent.new.out
     (still_held s m (number_put b.log.numbering) h.0 put h.1) same c.send_local-sent.ensures.carries)
-    (log_left b (numbered_log b.log) c.take_number.new.log c.send_local-sent.new.log (is_some c.send_local-sent.new.station.memory) c.send_local-sent.ensures.log
+    (log_left b (numbered_log b.log) c.take_number.new.log c.send_local-sent.new.log (is_some c.send_local-sent.new.station.memory)
+    c.send_local-sent.ensures.log
     c.in-Some.ensures.log)))

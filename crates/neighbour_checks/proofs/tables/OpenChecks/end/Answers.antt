@@ -5,4 +5,5 @@ use Rattle.arrayvec.proofs.ArrayVecLemmas.{filter-from_retain}
 use Rattle.neighbour_checks.proofs.tables.OpenChecks.end.Goals as goal
 
 pub returns : goal.returns
-returns c = rw (← c.self.view_is) (filter-from_retain _ (λ x. not (waits_for c.args.neighbour c.args.number c.args.origin x)) _ (λ x b f' y called. search rules) _ _ c.retain.ensures.filtered)
+returns c = rw (← c.self.view_is) (filter-from_retain _ (λ x. not (waits_for c.args.neighbour c.args.number c.args.origin x)) _
+    (λ x b f' y called. search rules) _ _ c.retain.ensures.filtered)

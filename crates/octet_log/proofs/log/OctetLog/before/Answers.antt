@@ -15,4 +15,5 @@ returns-in-Some c = λ octets here.
     let is : c.in-Some.octets.now ≡ octets = cc in
     let last = subst (λ (cs : List ℕ). IsLast (take (n - 1) cs) (slice_index cs (n - 1)) p) same c.before-in-Some.ensures in
     let last2 = subst (λ chain. IsLast (take (n - 1) (map chain_of strings)) chain p) (chain_index strings (n - 1) octets here) last in
-    last_before strings octets (n - 1) p c.last_from.result last2 (omega (arith, c.requires.within)) (subst (λ (x : List ℕ). IsLast (take p strings) x c.last_from.result) is c.last_from.ensures)
+    last_before strings octets (n - 1) p c.last_from.result last2 (omega (arith, c.requires.within))
+    (subst (λ (x : List ℕ). IsLast (take p strings) x c.last_from.result) is c.last_from.ensures)

@@ -4,4 +4,5 @@ use Rattle.octet_log.proofs.Ends.{length_strings}
 use Rattle.octet_log.proofs.strings.Strings.len.Goals as goal
 
 pub returns : goal.returns
-returns c = omega (arith, c.len.ensures, length_strings c.self.inside.octets.items 0 c.self.inside.ends.items, ap (λ (l : Log). length l.strings) c.self.view_is)
+returns c =
+    omega (arith, c.len.ensures, length_strings c.self.inside.octets.items 0 c.self.inside.ends.items, ap (λ (l : Log). length l.strings) c.self.view_is)

@@ -6,4 +6,5 @@ use Rattle.pan_discovery.specs.declared.agents.Agent.{Agent}
 use Rattle.pan_discovery.proofs.agents.Agents.forget.Goals as goal
 
 pub returns : goal.returns
-returns c = rw (← c.self.view_is) (filter-from_retain _ (λ (a : Agent). not (a.address == c.args.address)) _ (λ x b f' y called. search rules) _ _ c.retain.ensures.filtered)
+returns c = rw (← c.self.view_is)
+    (filter-from_retain _ (λ (a : Agent). not (a.address == c.args.address)) _ (λ x b f' y called. search rules) _ _ c.retain.ensures.filtered)

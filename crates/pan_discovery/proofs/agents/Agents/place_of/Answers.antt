@@ -10,4 +10,5 @@ pub returns-in-Some-clause-within : goal.returns-in-Some-clause-within
 returns-in-Some-clause-within c = (place_some c.args.heard.now c.args.self.now _ (sym c.first_after.ensures ∙ c.in-Some.is)).1
 
 pub returns-in-None-clause-value : goal.returns-in-None-clause-value
-returns-in-None-clause-value c = c.len.ensures.value ∙ ap length c.self.view_is ∙ place_none c.args.heard.now c.args.self.now (sym c.first_after.ensures ∙ c.in-None.is)
+returns-in-None-clause-value c =
+    c.len.ensures.value ∙ ap length c.self.view_is ∙ place_none c.args.heard.now c.args.self.now (sym c.first_after.ensures ∙ c.in-None.is)

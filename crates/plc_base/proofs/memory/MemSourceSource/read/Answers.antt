@@ -8,7 +8,8 @@ pub returns-else-count-eq0-clause-read : goal.returns-else-count-eq0-clause-read
 returns-else-count-eq0-clause-read c =
     let call : c.saturating_add-self.result ≡ one_more c.args.self.now.calls = c.saturating_add-self.ensures in
     let passes : is_listed c.args.self.now.fails.items (one_more c.args.self.now.calls) ≡ false =
-    ap (is_listed c.args.self.now.fails.items) (sym call) ∙ ap (λ (l : List ℕ). is_listed l c.saturating_add-self.result) (sym c.deref.ensures.value) ∙ sym c.is_listed.ensures ∙ c.if-is_listed.false in
+    ap (is_listed c.args.self.now.fails.items) (sym call) ∙ ap (λ (l : List ℕ). is_listed l c.saturating_add-self.result) (sym c.deref.ensures.value)
+    ∙ sym c.is_listed.ensures ∙ c.if-is_listed.false in
     record {
       bytes = (
         copied
@@ -18,7 +19,8 @@ returns-else-count-eq0-clause-read c =
             c.args.self.now.at
             _
             c.min-count.result
-            (c.copy_from_slice.ensures.after ∙ ap (λ (l : List ℕ). take (c.args.self.now.at + c.min-count.result - c.args.self.now.at) (drop c.args.self.now.at l)) c.deref-2.ensures.value)
+            (c.copy_from_slice.ensures.after
+            ∙ ap (λ (l : List ℕ). take (c.args.self.now.at + c.min-count.result - c.args.self.now.at) (drop c.args.self.now.at l)) c.deref-2.ensures.value)
             (omega arith)
             (omega arith),
         λ none _. absurd (c.if-count-eq0.false none),
@@ -28,7 +30,12 @@ returns-else-count-eq0-clause-read c =
       cause = record { later = omega arith; failed = tt };
       planned = record {
         ok_is = rw passes refl;
-        count_is = omega (arith, length-drop c.args.self.now.at c.args.self.now.octets.items, length-append c.copy_from_slice.new.self (drop c.min-count.result c.args.buf.now), length-drop c.min-count.result c.args.buf.now);
+        count_is = omega (
+          arith,
+          length-drop c.args.self.now.at c.args.self.now.octets.items,
+          length-append c.copy_from_slice.new.self (drop c.min-count.result c.args.buf.now),
+          length-drop c.min-count.result c.args.buf.now,
+        );
         faults_is = rw passes refl;
         plan_is = rw call refl;
       };

@@ -51,7 +51,8 @@ returns-in_default-advance-clause-carries g c =
 pub returns-in_default-reserve-clause-carries : goal.returns-in_default-reserve-clause-carries
 unfolding goes leave with_own_number with_rank empty_draft leaving
 returns-in_default-reserve-clause-carries g c =
-    let count : c.units_for-units.result + 1 ≡ length (send_message c.args.by (Rrep (c.self.inside.parts.own_number.last + 1) 0 c.args.grant.now.address c.args.origin)
+    let count : c.units_for-units.result + 1
+    ≡ length (send_message c.args.by (Rrep (c.self.inside.parts.own_number.last + 1) 0 c.args.grant.now.address c.args.origin)
     (offers_numbered c.args.grant.now.address c.args.origin c.args.rank c.args.by c.args.now (station_in c.self.inside.parts c.self.inside.bodies))).units =
     omega (
       arith,
@@ -89,7 +90,8 @@ seal_message-requires-clause-room g c =
 pub returns-clause-carries : goal.returns-clause-carries
 unfolding goes leave with_own_number with_rank empty_draft leaving
 returns-clause-carries g c =
-    let count : c.units_for-units.result + 1 ≡ length (send_message c.args.by (Rrep (c.self.inside.parts.own_number.last + 1) 0 c.args.grant.now.address c.args.origin)
+    let count : c.units_for-units.result + 1
+    ≡ length (send_message c.args.by (Rrep (c.self.inside.parts.own_number.last + 1) 0 c.args.grant.now.address c.args.origin)
     (offers_numbered c.args.grant.now.address c.args.origin c.args.rank c.args.by c.args.now (station_in c.self.inside.parts c.self.inside.bodies))).units =
     omega (
       arith,

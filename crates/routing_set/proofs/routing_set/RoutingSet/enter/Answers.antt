@@ -5,14 +5,16 @@ use Rattle.store_tables.specs.Writes.{Wrote}
 use Rattle.store_tables.specs.SlotTables.{entry_write}
 use Rattle.routing_set.specs.declared.entry.RoutingEntry.{RoutingEntry}
 use Rattle.routing_set.specs.RoutingSet.{Routing, ranks, IsKept, place_of, entered, half_entered, entry_writes, Keeps}
-use Rattle.routing_set.proofs.Offers.{room_old, entered_held, entered_new, entered_first, writes_held, writes_new, writes_first, held_keeps, new_keeps, first_keeps, stored_ok, ok_is, wrote_last}
+use Rattle.routing_set.proofs.Offers.{room_old, entered_held, entered_new, entered_first, writes_held, writes_new, writes_first, held_keeps, new_keeps}
+use Rattle.routing_set.proofs.Offers.{first_keeps, stored_ok, ok_is, wrote_last}
 use Rattle.routing_set.proofs.routing_set.RoutingSet.enter.Goals as goal
 
 pub replace-requires-clause-old : goal.replace-requires-clause-old
 replace-requires-clause-old g c =
     let r : Routing = c.args.self.now in
     let new : place_of r.entries c.args.entry.address ≡ None
-    = ap (λ (k : Routing). place_of k.entries c.args.entry.address) (sym c.self.view_is) ∙ ap (place_of c.self.inside.table) (sym c.key.ensures.value) ∙ sym c.in-None.ensures.place in
+    = ap (λ (k : Routing). place_of k.entries c.args.entry.address) (sym c.self.view_is) ∙ ap (place_of c.self.inside.table) (sym c.key.ensures.value)
+    ∙ sym c.in-None.ensures.place in
     let whole : (length r.entries == 64) ≡ true = ap (λ (k : Routing). length k.entries == 64) (sym c.self.view_is) ∙ sym c.if-is_full.ensures in
     room_old r c.args.entry.address c.args.now new whole c.requires.room
 
@@ -36,7 +38,8 @@ returns-in-Some-clause-store g c =
     let named : entry_write ranks c.in-Some.place e ∷ [] ≡ entry_writes c.args.self.now c.args.entry c.args.now
     = sym (writes_held r c.args.entry c.args.now c.in-Some.place at)
     ∙ ap (λ (k : Routing). entry_writes k c.args.entry c.args.now) c.self.view_is in
-    subst (λ (ws : List Write). Wrote s ws (is_ok c.set_stored.result) t) named (wrote_last s t (entry_write ranks c.in-Some.place e) _ c.set_stored.ensures.store)
+    subst (λ (ws : List Write). Wrote s ws (is_ok c.set_stored.result) t) named
+    (wrote_last s t (entry_write ranks c.in-Some.place e) _ c.set_stored.ensures.store)
 
 pub returns-in-Some-clause-keeps : goal.returns-in-Some-clause-keeps
 returns-in-Some-clause-keeps g c =
@@ -46,8 +49,10 @@ returns-in-Some-clause-keeps g c =
     let at : place_of r.entries c.args.entry.address ≡ Some c.in-Some.place = ap (place_of r.entries) (sym c.key.ensures.value) ∙ sym c.in-Some.ensures.place in
     let kept : IsKept r s.records = subst (λ (k : Routing). IsKept k s.records) (sym c.self.view_is) c.requires.kept in
     let stored = stored_ok c.set_stored.result _ _ t.records c.set_stored.ensures.table c.set_stored.ensures.kept in
-    let keeps = held_keeps r c.args.entry c.args.now c.in-Some.place (is_ok c.set_stored.result) s.records t.records at kept stored c.set_stored.ensures.either c.set_stored.ensures.elsewhere in
-    subst (λ (k : Routing). Keeps k (half_entered k c.args.entry.address c.args.now) (entered k c.args.entry c.args.now) (is_ok c.set_stored.result) s.records t.records) c.self.view_is keeps
+    let keeps = held_keeps r c.args.entry c.args.now c.in-Some.place (is_ok c.set_stored.result) s.records t.records at kept stored c.set_stored.ensures.either
+    c.set_stored.ensures.elsewhere in
+    subst (λ (k : Routing). Keeps k (half_entered k c.args.entry.address c.args.now) (entered k c.args.entry c.args.now) (is_ok c.set_stored.result) s.records
+    t.records) c.self.view_is keeps
 
 -- another one is forgotten
 
@@ -55,7 +60,8 @@ pub returns-in-None-clause-routing : goal.returns-in-None-clause-routing
 returns-in-None-clause-routing g c =
     let r : Routing = c.args.self.now in
     let new : place_of r.entries c.args.entry.address ≡ None
-    = ap (λ (k : Routing). place_of k.entries c.args.entry.address) (sym c.self.view_is) ∙ ap (place_of c.self.inside.table) (sym c.key.ensures.value) ∙ sym c.in-None.ensures.place in
+    = ap (λ (k : Routing). place_of k.entries c.args.entry.address) (sym c.self.view_is) ∙ ap (place_of c.self.inside.table) (sym c.key.ensures.value)
+    ∙ sym c.in-None.ensures.place in
     let whole : (length r.entries == 64) ≡ true = ap (λ (k : Routing). length k.entries == 64) (sym c.self.view_is) ∙ sym c.if-is_full.ensures in
     ok_is Routing Routing _ _ (λ k. k) _ c.replace.result c.replace.ensures.routing (sym (entered_first r c.args.entry c.args.now new whole))
 
@@ -65,7 +71,8 @@ returns-in-None-clause-store g c =
     let s = g.K.Keeper.store c.args.keeper.now in
     let t = g.K.Keeper.store c.replace.new.keeper in
     let new : place_of r.entries c.args.entry.address ≡ None
-    = ap (λ (k : Routing). place_of k.entries c.args.entry.address) (sym c.self.view_is) ∙ ap (place_of c.self.inside.table) (sym c.key.ensures.value) ∙ sym c.in-None.ensures.place in
+    = ap (λ (k : Routing). place_of k.entries c.args.entry.address) (sym c.self.view_is) ∙ ap (place_of c.self.inside.table) (sym c.key.ensures.value)
+    ∙ sym c.in-None.ensures.place in
     let whole : (length r.entries == 64) ≡ true = ap (λ (k : Routing). length k.entries == 64) (sym c.self.view_is) ∙ sym c.if-is_full.ensures in
     subst (λ (ws : List Write). Wrote s ws (is_ok c.replace.result) t) (sym (writes_first r c.args.entry c.args.now new whole)) c.replace.ensures.store
 
@@ -75,7 +82,8 @@ returns-in-None-clause-keeps g c =
     let s = g.K.Keeper.store c.args.keeper.now in
     let t = g.K.Keeper.store c.replace.new.keeper in
     let new : place_of r.entries c.args.entry.address ≡ None
-    = ap (λ (k : Routing). place_of k.entries c.args.entry.address) (sym c.self.view_is) ∙ ap (place_of c.self.inside.table) (sym c.key.ensures.value) ∙ sym c.in-None.ensures.place in
+    = ap (λ (k : Routing). place_of k.entries c.args.entry.address) (sym c.self.view_is) ∙ ap (place_of c.self.inside.table) (sym c.key.ensures.value)
+    ∙ sym c.in-None.ensures.place in
     let whole : (length r.entries == 64) ≡ true = ap (λ (k : Routing). length k.entries == 64) (sym c.self.view_is) ∙ sym c.if-is_full.ensures in
     first_keeps r c.args.entry c.args.now (is_ok c.replace.result) s.records t.records new whole c.replace.ensures.keeps
 
@@ -88,7 +96,8 @@ returns-in-None-2-clause-routing g c =
     let short : (length r.entries == 64) ≡ false = sym c.if-is_full.ensures in
     let named = sym (entered_new r c.args.entry c.args.now new short)
     ∙ ap (λ (k : Routing). entered k c.args.entry c.args.now) c.self.view_is in
-    ok_is (List RoutingEntry) Routing _ _ (λ es. record { entries = es; floors = c.self.inside.floors }) _ c.push_stored.result c.push_stored.ensures.table named
+    ok_is (List RoutingEntry) Routing _ _ (λ es. record { entries = es; floors = c.self.inside.floors }) _ c.push_stored.result c.push_stored.ensures.table
+    named
 
 pub returns-in-None-2-clause-store : goal.returns-in-None-2-clause-store
 returns-in-None-2-clause-store g c =
@@ -101,7 +110,8 @@ returns-in-None-2-clause-store g c =
     let named : entry_write ranks (length r.entries) e ∷ [] ≡ entry_writes c.args.self.now c.args.entry c.args.now
     = sym (writes_new r c.args.entry c.args.now new short)
     ∙ ap (λ (k : Routing). entry_writes k c.args.entry c.args.now) c.self.view_is in
-    subst (λ (ws : List Write). Wrote s ws (is_ok c.push_stored.result) t) named (wrote_last s t (entry_write ranks (length r.entries) e) _ c.push_stored.ensures.store)
+    subst (λ (ws : List Write). Wrote s ws (is_ok c.push_stored.result) t) named
+    (wrote_last s t (entry_write ranks (length r.entries) e) _ c.push_stored.ensures.store)
 
 pub returns-in-None-2-clause-keeps : goal.returns-in-None-2-clause-keeps
 returns-in-None-2-clause-keeps g c =
@@ -112,5 +122,7 @@ returns-in-None-2-clause-keeps g c =
     let short : (length r.entries == 64) ≡ false = sym c.if-is_full.ensures in
     let kept : IsKept r s.records = subst (λ (k : Routing). IsKept k s.records) (sym c.self.view_is) c.requires.kept in
     let stored = stored_ok c.push_stored.result _ _ t.records c.push_stored.ensures.table c.push_stored.ensures.kept in
-    let keeps = new_keeps r c.args.entry c.args.now (is_ok c.push_stored.result) s.records t.records new short kept stored c.push_stored.ensures.either c.push_stored.ensures.elsewhere in
-    subst (λ (k : Routing). Keeps k (half_entered k c.args.entry.address c.args.now) (entered k c.args.entry c.args.now) (is_ok c.push_stored.result) s.records t.records) c.self.view_is keeps
+    let keeps = new_keeps r c.args.entry c.args.now (is_ok c.push_stored.result) s.records t.records new short kept stored c.push_stored.ensures.either
+    c.push_stored.ensures.elsewhere in
+    subst (λ (k : Routing). Keeps k (half_entered k c.args.entry.address c.args.now) (entered k c.args.entry c.args.now) (is_ok c.push_stored.result) s.records
+    t.records) c.self.view_is keeps

@@ -36,7 +36,10 @@ set_stored-requires g c =
         within,
         (
           free_new ranks items c.args.entry.address place (ap is_some new),
-          (grind (arith, nat_tests, c.requires.valid), stored_elsewhere ranks items old.records mid.records 5 5 kept c.raise_floor.ensures.elsewhere (inl (omega arith))),
+          (
+            grind (arith, nat_tests, c.requires.valid),
+            stored_elsewhere ranks items old.records mid.records 5 5 kept c.raise_floor.ensures.elsewhere (inl (omega arith)),
+          ),
         ),
       ),
     )
@@ -47,13 +50,17 @@ returns-in_err-floors-clause-store g c =
     let gone = c.unwrap-gone.result in
     let s = g.K.Keeper.store c.args.keeper.now in
     let t = g.K.Keeper.store c.raise_floor.new.keeper in
-    let at : place_of r.entries gone.address ≡ Some c.unwrap-place.result = ap (place_of r.entries) (sym c.key.ensures.value) ∙ sym c.place_of.ensures.place ∙ c.unwrap-place.ensures in
+    let at : place_of r.entries gone.address
+    ≡ Some c.unwrap-place.result = ap (place_of r.entries) (sym c.key.ensures.value) ∙ sym c.place_of.ensures.place ∙ c.unwrap-place.ensures in
     let first : first_to_go c.args.now c.args.self.now.entries ≡ Some gone = sym c.first_to_go.ensures.entry ∙ c.unwrap-gone.ensures in
-    let stops : Wrote s (writes_of r (Some gone) c.args.entry) false t = gone_stops r gone c.args.entry c.unwrap-place.result s t at c.in_err-floors.ensures.store in
-    let moved : Wrote s (writes_of c.args.self.now (Some gone) c.args.entry) false t = subst (λ (k : Routing). Wrote s (writes_of k (Some gone) c.args.entry) false t) c.self.view_is stops in
+    let stops : Wrote s (writes_of r (Some gone) c.args.entry) false t = gone_stops r gone c.args.entry c.unwrap-place.result s t at
+    c.in_err-floors.ensures.store in
+    let moved : Wrote s (writes_of c.args.self.now (Some gone) c.args.entry) false t = subst
+    (λ (k : Routing). Wrote s (writes_of k (Some gone) c.args.entry) false t) c.self.view_is stops in
     let named : Wrote s (writes_of c.args.self.now (first_to_go c.args.now c.args.self.now.entries) c.args.entry) false t
     = subst (λ (o : Option RoutingEntry). Wrote s (writes_of c.args.self.now o c.args.entry) false t) (sym first) moved in
-    subst (λ (b : Bool). Wrote s (writes_of c.args.self.now (first_to_go c.args.now c.args.self.now.entries) c.args.entry) b t) (sym (err_not_ok _ c.from_residual.ensures.0)) named
+    subst (λ (b : Bool). Wrote s (writes_of c.args.self.now (first_to_go c.args.now c.args.self.now.entries) c.args.entry) b t)
+    (sym (err_not_ok _ c.from_residual.ensures.0)) named
 
 pub returns-in_err-set_stored-clause-store : goal.returns-in_err-set_stored-clause-store
 returns-in_err-set_stored-clause-store g c =
@@ -62,14 +69,17 @@ returns-in_err-set_stored-clause-store g c =
     let s = g.K.Keeper.store c.args.keeper.now in
     let m = g.K.Keeper.store c.raise_floor.new.keeper in
     let t = g.K.Keeper.store c.set_stored.new.keeper in
-    let at : place_of r.entries gone.address ≡ Some c.unwrap-place.result = ap (place_of r.entries) (sym c.key.ensures.value) ∙ sym c.place_of.ensures.place ∙ c.unwrap-place.ensures in
+    let at : place_of r.entries gone.address
+    ≡ Some c.unwrap-place.result = ap (place_of r.entries) (sym c.key.ensures.value) ∙ sym c.place_of.ensures.place ∙ c.unwrap-place.ensures in
     let first : first_to_go c.args.now c.args.self.now.entries ≡ Some gone = sym c.first_to_go.ensures.entry ∙ c.unwrap-gone.ensures in
     let stops : Wrote s (writes_of r (Some gone) c.args.entry) false t
     = gone_goes_on r gone c.args.entry c.unwrap-place.result false s m t at c.in_ok-floors.ensures.store c.in_err-set_stored.ensures.store in
-    let moved : Wrote s (writes_of c.args.self.now (Some gone) c.args.entry) false t = subst (λ (k : Routing). Wrote s (writes_of k (Some gone) c.args.entry) false t) c.self.view_is stops in
+    let moved : Wrote s (writes_of c.args.self.now (Some gone) c.args.entry) false t = subst
+    (λ (k : Routing). Wrote s (writes_of k (Some gone) c.args.entry) false t) c.self.view_is stops in
     let named : Wrote s (writes_of c.args.self.now (first_to_go c.args.now c.args.self.now.entries) c.args.entry) false t
     = subst (λ (o : Option RoutingEntry). Wrote s (writes_of c.args.self.now o c.args.entry) false t) (sym first) moved in
-    subst (λ (b : Bool). Wrote s (writes_of c.args.self.now (first_to_go c.args.now c.args.self.now.entries) c.args.entry) b t) (sym (err_not_ok _ c.from_residual-in_err-set_stored.ensures.0)) named
+    subst (λ (b : Bool). Wrote s (writes_of c.args.self.now (first_to_go c.args.now c.args.self.now.entries) c.args.entry) b t)
+    (sym (err_not_ok _ c.from_residual-in_err-set_stored.ensures.0)) named
 
 pub returns-clause-store : goal.returns-clause-store
 returns-clause-store g c =
@@ -78,9 +88,11 @@ returns-clause-store g c =
     let s = g.K.Keeper.store c.args.keeper.now in
     let m = g.K.Keeper.store c.raise_floor.new.keeper in
     let t = g.K.Keeper.store c.set_stored.new.keeper in
-    let at : place_of r.entries gone.address ≡ Some c.unwrap-place.result = ap (place_of r.entries) (sym c.key.ensures.value) ∙ sym c.place_of.ensures.place ∙ c.unwrap-place.ensures in
+    let at : place_of r.entries gone.address
+    ≡ Some c.unwrap-place.result = ap (place_of r.entries) (sym c.key.ensures.value) ∙ sym c.place_of.ensures.place ∙ c.unwrap-place.ensures in
     let first : first_to_go c.args.now c.args.self.now.entries ≡ Some gone = sym c.first_to_go.ensures.entry ∙ c.unwrap-gone.ensures in
     let done : Wrote s (writes_of r (Some gone) c.args.entry) true t
     = gone_goes_on r gone c.args.entry c.unwrap-place.result true s m t at c.in_ok-floors.ensures.store c.in_ok-set_stored.ensures.store in
-    let moved : Wrote s (writes_of c.args.self.now (Some gone) c.args.entry) true t = subst (λ (k : Routing). Wrote s (writes_of k (Some gone) c.args.entry) true t) c.self.view_is done in
+    let moved : Wrote s (writes_of c.args.self.now (Some gone) c.args.entry) true t = subst
+    (λ (k : Routing). Wrote s (writes_of k (Some gone) c.args.entry) true t) c.self.view_is done in
     subst (λ (o : Option RoutingEntry). Wrote s (writes_of c.args.self.now o c.args.entry) true t) (sym first) moved

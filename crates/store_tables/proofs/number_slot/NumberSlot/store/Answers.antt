@@ -17,7 +17,8 @@ pub returns-clause-elsewhere : goal.returns-clause-elsewhere
 returns-clause-elsewhere g c =
     let old = g.K.Keeper.store c.args.keeper.now in
     let new = g.K.Keeper.store c.put.new.self in
-    stores_elsewhere old new (Some (number_write c.args.self.now c.args.number)) _ c.args.self.now.slot c.args.self.now.slot (returns-clause-store g c) (omega arith, omega arith)
+    stores_elsewhere old new (Some (number_write c.args.self.now c.args.number)) _ c.args.self.now.slot c.args.self.now.slot (returns-clause-store g c)
+    (omega arith, omega arith)
 
 pub returns-clause-either : goal.returns-clause-either
 returns-clause-either g c =

@@ -13,7 +13,8 @@ returns-then-rank-len g c =
     let len = length-map table layout.key in
     let places : length c.self.inside.places.items ≡ length c.args.self.now = ap length c.self.view_is in
     sym (place_none layout table c.args.key
-    (λ q lt. unranked keys c.args.self.now c.args.key c.rank-rank.result c.requires.order c.rank-rank.ensures (λ within. absurd (omega (arith, c.len.ensures.value))) q (omega arith)))
+    (λ q lt. unranked keys c.args.self.now c.args.key c.rank-rank.result c.requires.order c.rank-rank.ensures
+    (λ within. absurd (omega (arith, c.len.ensures.value))) q (omega arith)))
 
 pub returns-then-key_of-key : goal.returns-then-key_of-key
 returns-then-key_of-key g c =

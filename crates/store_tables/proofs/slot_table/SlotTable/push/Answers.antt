@@ -10,7 +10,8 @@ insert-requires g c =
     let items = c.self.inside.entries.items in
     let short : length items < layout.slots = omega (arith, c.requires.room, ap length c.self.view_is) in
     let free = subst (λ (t : List g.row.E.Denot). IsFree layout t (length t) (layout.key c.args.entry)) (sym c.self.view_is) c.requires.free in
-    let so = more_lacks layout items c.args.entry c.as_slice.result.now c.push.new.self.items c.self.inside.order g.row.N c.len-place.result c.self.invariant short free
+    let so = more_lacks layout items c.args.entry c.as_slice.result.now c.push.new.self.items c.self.inside.order g.row.N c.len-place.result c.self.invariant
+    short free
     c.as_slice.ensures.value c.push.ensures.items c.len-place.ensures.value in
     (search rules, so.1)
 
@@ -20,7 +21,8 @@ invariant_of-self g c =
     let items = c.self.inside.entries.items in
     let short : length items < layout.slots = omega (arith, c.requires.room, ap length c.self.view_is) in
     let free = subst (λ (t : List g.row.E.Denot). IsFree layout t (length t) (layout.key c.args.entry)) (sym c.self.view_is) c.requires.free in
-    let so = more_lacks layout items c.args.entry c.as_slice.result.now c.push.new.self.items c.self.inside.order g.row.N c.len-place.result c.self.invariant short free
+    let so = more_lacks layout items c.args.entry c.as_slice.result.now c.push.new.self.items c.self.inside.order g.row.N c.len-place.result c.self.invariant
+    short free
     c.as_slice.ensures.value c.push.ensures.items c.len-place.ensures.value in
     record {
       sound = so.0;

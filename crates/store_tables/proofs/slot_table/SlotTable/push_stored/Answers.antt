@@ -24,7 +24,8 @@ returns-in_err-store_entry-clause-either g c =
     let old = (g.K.Keeper.store c.args.keeper.now).records in
     let new = (g.K.Keeper.store c.store_entry.new.keeper).records in
     push_either layout c.args.self.now old new c.args.entry c.requires.kept c.requires.room
-    (subst (λ (k : ℕ). (new ≡ old) ⊎ (new ≡ insert old (slot_of layout k) (layout.octets k c.args.entry))) c.len.ensures.value c.store_entry.ensures.store.old_or_new)
+    (subst (λ (k : ℕ). (new ≡ old) ⊎ (new ≡ insert old (slot_of layout k) (layout.octets k c.args.entry))) c.len.ensures.value
+    c.store_entry.ensures.store.old_or_new)
     (subst (λ (k : ℕ). layout.read k (layout.octets k c.args.entry) ≡ Some (layout.rest c.args.entry)) c.len.ensures.value c.store_entry.ensures.reads_back)
 
 pub returns-clause-either : goal.returns-clause-either
@@ -33,5 +34,6 @@ returns-clause-either g c =
     let old = (g.K.Keeper.store c.args.keeper.now).records in
     let new = (g.K.Keeper.store c.store_entry.new.keeper).records in
     push_either layout c.args.self.now old new c.args.entry c.requires.kept c.requires.room
-    (subst (λ (k : ℕ). (new ≡ old) ⊎ (new ≡ insert old (slot_of layout k) (layout.octets k c.args.entry))) c.len.ensures.value c.store_entry.ensures.store.old_or_new)
+    (subst (λ (k : ℕ). (new ≡ old) ⊎ (new ≡ insert old (slot_of layout k) (layout.octets k c.args.entry))) c.len.ensures.value
+    c.store_entry.ensures.store.old_or_new)
     (subst (λ (k : ℕ). layout.read k (layout.octets k c.args.entry) ≡ Some (layout.rest c.args.entry)) c.len.ensures.value c.store_entry.ensures.reads_back)

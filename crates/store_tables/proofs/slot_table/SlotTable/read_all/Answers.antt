@@ -4,7 +4,8 @@ use Rattle.std.specs.FinMap.{get}
 use Rattle.store_tables.specs.SlotTables.{place_of, opened_from, slot_of}
 use Rattle.store_tables.proofs.SlotTables.{free_new}
 use Rattle.store_tables.proofs.SlotOrders.{slot_fits}
-use Rattle.store_tables.proofs.Opening.{with_record-none, with_record-held, with_record-new, opened_from-empty, opened_from-damaged, opened_from-more, opened_from-none_left}
+use Rattle.store_tables.proofs.Opening.{with_record-none, with_record-held, with_record-new, opened_from-empty, opened_from-damaged, opened_from-more}
+use Rattle.store_tables.proofs.Opening.{opened_from-none_left}
 use Rattle.store_tables.proofs.slot_table.SlotTable.read_all.Goals as goal
 
 pub returns-in_default-read : goal.returns-in_default-read
@@ -12,11 +13,14 @@ returns-in_default-read g c =
     let layout = g.E.SlotEntry.layout in
     let records = (g.K.Keeper.store c.args.keeper.now).records in
     let table = c.loop-place.self in
-    let got : get records (slot_of layout c.loop-place.place) ≡ Some c.in-Some.octets = ap (get records) (sym c.slot-slot.ensures.value) ∙ sym c.in-Some.ensures in
-    let unread : layout.read c.loop-place.place c.in-Some.octets ≡ None = ap (layout.read c.loop-place.place) (sym c.octets.ensures.value) ∙ sym c.in_default-read.ensures in
+    let got : get records (slot_of layout c.loop-place.place)
+    ≡ Some c.in-Some.octets = ap (get records) (sym c.slot-slot.ensures.value) ∙ sym c.in-Some.ensures in
+    let unread : layout.read c.loop-place.place c.in-Some.octets
+    ≡ None = ap (layout.read c.loop-place.place) (sym c.octets.ensures.value) ∙ sym c.in_default-read.ensures in
     let damaged = with_record-none layout c.loop-place.place table c.in-Some.octets unread in
     let opens = ap (λ (k : ℕ). Err (record { slot = k })) c.slot-slot.ensures.value
-    ∙ sym (opened_from-damaged layout _ c.loop-place.place records table c.in-Some.octets (omega (arith, c.requires.slots)) got damaged) ∙ c.loop-place.invariant.rest in
+    ∙ sym (opened_from-damaged layout _ c.loop-place.place records table c.in-Some.octets (omega (arith, c.requires.slots)) got damaged)
+    ∙ c.loop-place.invariant.rest in
     opens
 
 pub returns-then-is_some : goal.returns-then-is_some
@@ -24,12 +28,16 @@ returns-then-is_some g c =
     let layout = g.E.SlotEntry.layout in
     let records = (g.K.Keeper.store c.args.keeper.now).records in
     let table = c.loop-place.self in
-    let got : get records (slot_of layout c.loop-place.place) ≡ Some c.in-Some.octets = ap (get records) (sym c.slot-slot.ensures.value) ∙ sym c.in-Some.ensures in
-    let entry : layout.read c.loop-place.place c.in-Some.octets ≡ Some c.in-Some-read.entry = ap (layout.read c.loop-place.place) (sym c.octets.ensures.value) ∙ sym c.in-Some-read.ensures in
-    let held : is_some (place_of layout table (layout.key c.in-Some-read.entry)) ≡ true = ap (λ (k : ℕ). is_some (place_of layout table k)) (sym c.key.ensures) ∙ ap is_some (sym c.place_of.ensures.place) ∙ sym c.if-is_some.ensures in
+    let got : get records (slot_of layout c.loop-place.place)
+    ≡ Some c.in-Some.octets = ap (get records) (sym c.slot-slot.ensures.value) ∙ sym c.in-Some.ensures in
+    let entry : layout.read c.loop-place.place c.in-Some.octets
+    ≡ Some c.in-Some-read.entry = ap (layout.read c.loop-place.place) (sym c.octets.ensures.value) ∙ sym c.in-Some-read.ensures in
+    let held : is_some (place_of layout table (layout.key c.in-Some-read.entry))
+    ≡ true = ap (λ (k : ℕ). is_some (place_of layout table k)) (sym c.key.ensures) ∙ ap is_some (sym c.place_of.ensures.place) ∙ sym c.if-is_some.ensures in
     let damaged = with_record-held layout c.loop-place.place table c.in-Some.octets c.in-Some-read.entry entry held in
     let opens = ap (λ (k : ℕ). Err (record { slot = k })) c.slot-slot.ensures.value
-    ∙ sym (opened_from-damaged layout _ c.loop-place.place records table c.in-Some.octets (omega (arith, c.requires.slots)) got damaged) ∙ c.loop-place.invariant.rest in
+    ∙ sym (opened_from-damaged layout _ c.loop-place.place records table c.in-Some.octets (omega (arith, c.requires.slots)) got damaged)
+    ∙ c.loop-place.invariant.rest in
     opens
 
 pub loop-place-preserved : goal.loop-place-preserved
@@ -37,13 +45,17 @@ loop-place-preserved g c =
     let layout = g.E.SlotEntry.layout in
     let records = (g.K.Keeper.store c.args.keeper.now).records in
     let table = c.loop-place.self in
-    let got : get records (slot_of layout c.loop-place.place) ≡ Some c.in-Some.octets = ap (get records) (sym c.slot-slot.ensures.value) ∙ sym c.in-Some.ensures in
-    let entry : layout.read c.loop-place.place c.in-Some.octets ≡ Some c.in-Some-read.entry = ap (layout.read c.loop-place.place) (sym c.octets.ensures.value) ∙ sym c.in-Some-read.ensures in
-    let new : is_some (place_of layout table (layout.key c.in-Some-read.entry)) ≡ false = ap (λ (k : ℕ). is_some (place_of layout table k)) (sym c.key.ensures) ∙ ap is_some (sym c.place_of.ensures.place) ∙ sym c.if-is_some.ensures in
+    let got : get records (slot_of layout c.loop-place.place)
+    ≡ Some c.in-Some.octets = ap (get records) (sym c.slot-slot.ensures.value) ∙ sym c.in-Some.ensures in
+    let entry : layout.read c.loop-place.place c.in-Some.octets
+    ≡ Some c.in-Some-read.entry = ap (layout.read c.loop-place.place) (sym c.octets.ensures.value) ∙ sym c.in-Some-read.ensures in
+    let new : is_some (place_of layout table (layout.key c.in-Some-read.entry))
+    ≡ false = ap (λ (k : ℕ). is_some (place_of layout table k)) (sym c.key.ensures) ∙ ap is_some (sym c.place_of.ensures.place) ∙ sym c.if-is_some.ensures in
     let more = with_record-new layout c.loop-place.place table c.in-Some.octets c.in-Some-read.entry entry new in
     record {
       rest = ap (opened_from layout (layout.slots - (c.loop-place.place + 1)) (c.loop-place.place + 1) records) c.push.ensures
-          ∙ sym (opened_from-more layout _ (layout.slots - (c.loop-place.place + 1)) c.loop-place.place records table _ c.in-Some.octets (omega (arith, c.requires.slots)) got more)
+          ∙ sym (opened_from-more layout _ (layout.slots - (c.loop-place.place + 1)) c.loop-place.place records table _ c.in-Some.octets
+          (omega (arith, c.requires.slots)) got more)
           ∙ c.loop-place.invariant.rest;
       count = omega (arith, ap length c.push.ensures, length-append table (c.in-Some-read.entry ∷ []));
     }
@@ -68,6 +80,7 @@ pub push-requires : goal.push-requires
 push-requires g c =
     let layout = g.E.SlotEntry.layout in
     let table = c.loop-place.self in
-    let new : is_some (place_of layout table (layout.key c.in-Some-read.entry)) ≡ false = ap (λ (k : ℕ). is_some (place_of layout table k)) (sym c.key.ensures) ∙ ap is_some (sym c.place_of.ensures.place) ∙ sym c.if-is_some.ensures in
+    let new : is_some (place_of layout table (layout.key c.in-Some-read.entry))
+    ≡ false = ap (λ (k : ℕ). is_some (place_of layout table k)) (sym c.key.ensures) ∙ ap is_some (sym c.place_of.ensures.place) ∙ sym c.if-is_some.ensures in
     let fits = slot_fits c.slot-slot.result c.slot-slot.ensures.valid in
     (search rules, (omega (arith, c.requires.slots), (omega (arith, c.slot-slot.ensures.value), free_new layout table _ _ new)))

@@ -13,7 +13,8 @@ invariant_of-self g c =
     let free = subst (λ (t : List g.row.E.Denot). IsFree layout t c.args.place (layout.key c.args.entry)) (sym c.self.view_is) c.requires.free in
     let before = c.index-deref-place.is ∙ ap (λ (t : List g.row.E.Denot). get_or t c.args.place c.index-deref-place.result) c.deref.ensures.0
     ∙ get_or_default items c.args.place c.index-deref-place.result c.args.entry within in
-    let same : layout.key c.args.entry ≡ layout.key (get_or items c.args.place c.args.entry) = sym c.key-2.ensures ∙ sym c.if-key.true ∙ c.key.ensures ∙ ap layout.key before in
+    let same : layout.key c.args.entry
+    ≡ layout.key (get_or items c.args.place c.args.entry) = sym c.key-2.ensures ∙ sym c.if-key.true ∙ c.key.ensures ∙ ap layout.key before in
     rw c.overwrite.ensures (same_table layout items c.args.place c.args.entry c.self.inside.order g.row.N c.self.invariant within same free)
 
 pub insert-requires : goal.insert-requires
@@ -22,8 +23,10 @@ insert-requires g c =
     let items = c.self.inside.entries.items in
     let within : c.args.place < length items = omega (arith, c.requires.within, ap length c.self.view_is) in
     let free = subst (λ (t : List g.row.E.Denot). IsFree layout t c.args.place (layout.key c.args.entry)) (sym c.self.view_is) c.requires.free in
-    let so = other_lacks layout items c.args.place c.remove-taken.result c.args.entry c.as_slice.result.now c.as_slice-2.result.now c.overwrite-2.new.entries.items c.self.inside.order c.remove-taken.new.self g.row.N
-    c.self.invariant within free c.as_slice.ensures.value c.remove-taken.ensures.lacks c.as_slice-2.ensures.value c.overwrite-2.ensures c.remove-taken.ensures.place in
+    let so = other_lacks layout items c.args.place c.remove-taken.result c.args.entry c.as_slice.result.now c.as_slice-2.result.now
+    c.overwrite-2.new.entries.items c.self.inside.order c.remove-taken.new.self g.row.N
+    c.self.invariant within free c.as_slice.ensures.value c.remove-taken.ensures.lacks c.as_slice-2.ensures.value c.overwrite-2.ensures
+    c.remove-taken.ensures.place in
     (search rules, so.1)
 
 pub invariant_of-self-2 : goal.invariant_of-self-2
@@ -32,8 +35,10 @@ invariant_of-self-2 g c =
     let items = c.self.inside.entries.items in
     let within : c.args.place < length items = omega (arith, c.requires.within, ap length c.self.view_is) in
     let free = subst (λ (t : List g.row.E.Denot). IsFree layout t c.args.place (layout.key c.args.entry)) (sym c.self.view_is) c.requires.free in
-    let so = other_lacks layout items c.args.place c.remove-taken.result c.args.entry c.as_slice.result.now c.as_slice-2.result.now c.overwrite-2.new.entries.items c.self.inside.order c.remove-taken.new.self g.row.N
-    c.self.invariant within free c.as_slice.ensures.value c.remove-taken.ensures.lacks c.as_slice-2.ensures.value c.overwrite-2.ensures c.remove-taken.ensures.place in
+    let so = other_lacks layout items c.args.place c.remove-taken.result c.args.entry c.as_slice.result.now c.as_slice-2.result.now
+    c.overwrite-2.new.entries.items c.self.inside.order c.remove-taken.new.self g.row.N
+    c.self.invariant within free c.as_slice.ensures.value c.remove-taken.ensures.lacks c.as_slice-2.ensures.value c.overwrite-2.ensures
+    c.remove-taken.ensures.place in
     record {
       sound = so.0;
       whole = c.self.invariant.whole;

@@ -11,18 +11,21 @@ returns-clause-kept g c =
     let old = (g.K.Keeper.store c.args.keeper.now).records in
     let new = (g.K.Keeper.store c.store_entry.new.keeper).records in
     rw c.replace.ensures
-    (stored_set layout c.args.self.now old new c.args.place c.args.entry c.requires.kept c.requires.within c.in_ok-store_entry.ensures.store.stored c.store_entry.ensures.reads_back)
+    (stored_set layout c.args.self.now old new c.args.place c.args.entry c.requires.kept c.requires.within c.in_ok-store_entry.ensures.store.stored
+    c.store_entry.ensures.reads_back)
 
 pub returns-in_err-store_entry-clause-either : goal.returns-in_err-store_entry-clause-either
 returns-in_err-store_entry-clause-either g c =
     let layout = g.E.SlotEntry.layout in
     let old = (g.K.Keeper.store c.args.keeper.now).records in
     let new = (g.K.Keeper.store c.store_entry.new.keeper).records in
-    set_either layout c.args.self.now old new c.args.place c.args.entry c.requires.kept c.requires.within c.store_entry.ensures.store.old_or_new c.store_entry.ensures.reads_back
+    set_either layout c.args.self.now old new c.args.place c.args.entry c.requires.kept c.requires.within c.store_entry.ensures.store.old_or_new
+    c.store_entry.ensures.reads_back
 
 pub returns-clause-either : goal.returns-clause-either
 returns-clause-either g c =
     let layout = g.E.SlotEntry.layout in
     let old = (g.K.Keeper.store c.args.keeper.now).records in
     let new = (g.K.Keeper.store c.store_entry.new.keeper).records in
-    set_either layout c.args.self.now old new c.args.place c.args.entry c.requires.kept c.requires.within c.store_entry.ensures.store.old_or_new c.store_entry.ensures.reads_back
+    set_either layout c.args.self.now old new c.args.place c.args.entry c.requires.kept c.requires.within c.store_entry.ensures.store.old_or_new
+    c.store_entry.ensures.reads_back

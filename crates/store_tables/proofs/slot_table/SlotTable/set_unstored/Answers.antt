@@ -10,7 +10,8 @@ invariant_of-self g c =
     let layout = g.E.SlotEntry.layout in
     let items = c.self.inside.entries.items in
     let within : c.args.place < length items = omega (arith, ap length c.self.view_is) in
-    let rests = subst (λ (t : List g.row.E.Denot). IfSome (slice_get t c.args.place) (λ before. layout.rest c.args.entry ≡ layout.rest before)) (sym c.self.view_is) c.requires.same in
+    let rests = subst (λ (t : List g.row.E.Denot). IfSome (slice_get t c.args.place) (λ before. layout.rest c.args.entry ≡ layout.rest before))
+    (sym c.self.view_is) c.requires.same in
     rw c.overwrite.ensures
     (same_table layout items c.args.place c.args.entry c.self.inside.order g.row.N c.self.invariant within
     (same_rest_key layout items c.args.place c.args.entry g.met.E.SlotEntry.keeps_key within rests)
@@ -23,5 +24,6 @@ returns-clause-kept g c records kept =
     let within : c.args.place < length items = omega (arith, ap length c.self.view_is) in
     rw c.overwrite.ensures
     (stored_rest layout items records c.args.place c.args.entry within
-    (subst (λ (t : List g.row.E.Denot). IfSome (slice_get t c.args.place) (λ before. layout.rest c.args.entry ≡ layout.rest before)) (sym c.self.view_is) c.requires.same)
+    (subst (λ (t : List g.row.E.Denot). IfSome (slice_get t c.args.place) (λ before. layout.rest c.args.entry ≡ layout.rest before)) (sym c.self.view_is)
+    c.requires.same)
     (subst (λ (t : List g.row.E.Denot). IsStored layout t records) (sym c.self.view_is) kept))

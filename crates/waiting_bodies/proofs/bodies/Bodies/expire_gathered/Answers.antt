@@ -11,7 +11,8 @@ pub returns : goal.returns
 returns c =
     seen_moved c.self.inside.pool c.expire.new.pool c.self.inside.reassembly c.expire.new.self c.self.inside.waiting.items c.args.self.now _ c.self.view_is
     c.self.invariant.sound
-    c.expire.ensures.moves (c.expire.ensures.gathered ∙ ap (λ (es : List Reassembly). unexpired es c.args.now) (ap (λ (h : Held). h.reassemblies) c.self.view_is))
+    c.expire.ensures.moves (c.expire.ensures.gathered
+    ∙ ap (λ (es : List Reassembly). unexpired es c.args.now) (ap (λ (h : Held). h.reassemblies) c.self.view_is))
 
 pub invariant_of-self : goal.invariant_of-self
 invariant_of-self c = record {

@@ -38,7 +38,8 @@ returns-clause-received c =
     found_at c.self.inside.meters.items _ c.args.place c.index_mut-meter.result.now _ c.self.view_is c.requires.there c.index_mut-meter.ensures.value (record {
       reports = told x y c.args.got.now c.args.cost c.args.note c.args.now c.hear-heard.result c.hear-heard.new.out sound may c.hear-heard.ensures.psk
           c.hear-heard.ensures.carries
-          c.with_reply.result (tells_with c.reception_of_meter.result c.with_reply.result c.reply_of-replied.result _ c.with_reply.ensures c.reception_of_meter.ensures);
+          c.with_reply.result (tells_with c.reception_of_meter.result c.with_reply.result c.reply_of-replied.result _ c.with_reply.ensures
+          c.reception_of_meter.ensures);
       did = did _ c.self.inside.meters.items _ c.args.place y _ _ c.self.view_is
           (heard x y c.args.got.now c.args.cost c.args.note c.args.now c.hear-heard.result c.hear-heard.new.out sound may c.hear-heard.ensures.psk
           c.hear-heard.ensures.carries);
