@@ -42,7 +42,7 @@ fn order_answer(sent: Result<SentHow, SendRefusal>) -> Result<(), CoordinatorRef
     }
 }
 
-// The key that was issued at an index, 0 or 1.
+// The key that was issued at an index.
 fn issued_at(entry: &BookEntry, index: KeyIndex) -> Option<Key>
     ensures { result ≡ book.issued_at entry.now index }
 {
@@ -119,7 +119,7 @@ impl<K: Keeper + Drop> Coordinator<K> {
         key == issued
     }
 
-    /// Orders a meter, at a time in seconds, to seal with the key at an index, 0 or 1: the command is in `out`, or waits for a route,
+    /// Orders a meter, at a time in seconds, to seal with the key at an index: the command is in `out`, or waits for a route,
     /// and where nothing waited for that one yet, a request for it to all is in `out`.
     ///
     /// Halted, NotAllowed, NotIssued exactly where its ring has no key at the index or another one than was issued to the meter,

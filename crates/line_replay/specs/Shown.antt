@@ -73,12 +73,12 @@ mac_frame_text octets = mac_frame_text_by (frame_fault octets) octets
 
 -- a beacon request, or a beacon with its sender, its network and the cost of the sender's way to the coordinator
 unfoldable pub discovery_text : Discovery → List ℕ
-discovery_text (Request seq) = codes "request for beacons\n"
+discovery_text (Request seq) = codes "beacon request\n"
 discovery_text (Beacon seq pan from cost) =
     codes "beacon from " ++ (short_word from ++ (codes " pan " ++ (short_word pan
     ++ (codes " cost " ++ (decimal cost ++ codes "\n")))))
 
--- The two begin with other frame types than a MAC frame, so no octets are both.
+-- Discovery is looked for first: its two messages begin with other frame types than a MAC frame.
 abbrev pub frame_text_by : Option Discovery → List ℕ → List ℕ
 frame_text_by (Some message) octets = discovery_text message
 frame_text_by None octets = mac_frame_text octets

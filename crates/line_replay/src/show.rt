@@ -122,12 +122,13 @@ fn mac_frame_text(alloc: Global, octets: &[u8]) -> Result<String, AllocError>
     }
 }
 
+// A beacon request, or a beacon with its sender, its network and its cost.
 #[tactic(auto, unfolding(crate::specs::Shown::discovery_text))]
 fn discovery_text(alloc: Global, message: Discovery) -> Result<String, AllocError>
     ensures { IfOk result (λ text. string_bytes text ≡ discovery_text message) }
 {
     match message {
-        Discovery::Request { .. } => String::from_str(alloc, "request for beacons\n"),
+        Discovery::Request { .. } => String::from_str(alloc, "beacon request\n"),
         Discovery::Beacon {
             pan,
             from,

@@ -1,4 +1,4 @@
-//! What is said of an event, and what a node's doing leaves of the world.
+//! What is said of an event, and what a node's call changes in the world.
 ghost use Rattle.std.specs.Prelude.{◌≡◌, ◌+◌, ◌++◌, ◌<◌, ◌≤◌, ◌&&◌, not, true, length, map, Ok, OnOk, OnErr, nat_lt};
 ghost use Rattle.line_events.specs.declared.event.TheConstants.{MAX_EVENTS};
 ghost use Rattle.line_events.specs.declared.event.StepFault.TheVariants as faults;

@@ -38,7 +38,7 @@ impl Line {
         Ok(self.answered(Answer::Ticked))
     }
 
-    // What each node holds beside its memory moves to the present time. Where neighbours are not checked that changes nothing, so no node is visited.
+    // Ends what is old in the checks of each node. Where neighbours are not checked there is none, so no node is visited.
     fn tick_beside(&mut self)
         requires checks { NoneChecked (world_of self.old) }
         ensures { world_of self.new ≡ record (world_of self.old) { beside = map (tick_beside self.old.clock) self.old.beside.items } }

@@ -7,7 +7,7 @@ use std::marker::Model;
 
 /// The grant of a joining: the node's short address and the group keys (ITU-T G.9903, joining).
 ///
-/// `active` is 0 or 1 and `keys` holds a key there. A contract sees the address, the active index and the two keys.
+/// `keys` holds a key at the index `active`. A contract sees the address, the active index and the two keys.
 #[derive(Clone, Copy, Debug)]
 pub struct Grant {
     /// The short address of the node.

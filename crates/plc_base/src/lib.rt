@@ -3,8 +3,8 @@
 //! In the order in which firmware meets them:
 //!
 //! - [`Eui`], [`Short`], [`PAN`] and [`LinkCost`] say who a node is and what a link costs, [`Destination`] where a frame goes,
-//!   [`Key`], [`KeyIndex`], [`Rand`] and [`Grant`] what a node is given. `Short::new` and `LinkCost::new` are None exactly for the numbers
-//!   that are no address and no cost (`valid`).
+//!   [`Key`], [`KeyIndex`], [`Rand`] and [`Grant`] what a node is given. `Short::new`, `LinkCost::new`, `KeyIndex::new` and
+//!   `Destination::new` are None exactly for the numbers that are no address, no cost, no index and no destination (`valid`).
 //! - [`Octets`] holds at most so many octets in place: [`FrameBuf`] 400, [`DatagramBuf`] 1,280, [`EapBuf`] 128, [`Record`] 64.
 //!   [`OctetRef`] refers to octets that stand elsewhere. A contract sees the list of the octets.
 //! - [`Keeper`] is the trait that firmware writes over its flash: `get` and `put` of a record at a slot. [`MemKeeper`] is one
