@@ -1,0 +1,9 @@
+mod BankLemmas
+mod CellLemmas
+mod CopyLemmas
+mod KeeperLemmas
+mod LogLemmas
+mod ModelLemmas
+mod OpeningLemmas
+mod Outcomes
+mod RunLemmas

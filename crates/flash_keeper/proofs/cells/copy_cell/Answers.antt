@@ -1,0 +1,32 @@
+use Rattle.std.proofs.Common.{◌≡◌, ◌∙◌, ℕ, ◌+◌, ◌-◌, Bool, true, false, sym, ap}
+use Rattle.std.specs.FinMap.{insert}
+use Rattle.flash_keeper.specs.Log.{holds_later, counts}
+use Rattle.flash_keeper.proofs.CopyLemmas.{kept-uncounted, kept-replaced, kept-counted}
+use Rattle.flash_keeper.proofs.cells.copy_cell.Goals as goal
+
+pub returns-then-not-is_marked-clause-records : goal.returns-then-not-is_marked-clause-records
+returns-then-not-is_marked-clause-records g c =
+    let words = (g.B.FlashBank.bank c.args.from.now).words in
+    c.requires.records ∙ sym (kept-uncounted words c.args.cells c.args.cell (sym c.is_marked.ensures ∙ c.if-not-is_marked.true))
+
+pub returns-then-is_replaced-clause-records : goal.returns-then-is_replaced-clause-records
+returns-then-is_replaced-clause-records g c =
+    let words = (g.B.FlashBank.bank c.args.from.now).words in
+    let cell = c.args.cell in
+    let cells = c.args.cells in
+    c.requires.records ∙ sym (kept-replaced words cells cell
+    (ap (λ (s : ℕ). holds_later words (cell + 1) (cells - (cell + 1)) s) (sym c.slot_of-slot.ensures) ∙ sym c.is_replaced.ensures
+    ∙ c.if-is_replaced.true))
+
+pub returns-clause-records : goal.returns-clause-records
+returns-clause-records g c =
+    let words = (g.B.FlashBank.bank c.args.from.now).words in
+    let cell = c.args.cell in
+    let cells = c.args.cells in
+    let records = c.requires.records in
+    let slot = c.slot_of-slot.ensures in
+    let octets = c.record_of-octets.ensures in
+    c.in_ok-write_cell.ensures.records ∙ (λ i. insert (records i) (slot i) (octets i))
+    ∙ sym (kept-counted words cells cell (sym c.is_marked.ensures ∙ c.if-not-is_marked.false)
+    (ap (λ (s : ℕ). holds_later words (cell + 1) (cells - (cell + 1)) s) (sym c.slot_of-slot.ensures) ∙ sym c.is_replaced.ensures
+    ∙ c.if-is_replaced.false))

@@ -1,0 +1,25 @@
+use Rattle.std.proofs.Common.{◌≡◌, ℕ, ◌+◌, Bool, true, is_ok, subst, ap}
+use Rattle.flash_keeper.specs.Flash.{Bank, Programs}
+use Rattle.flash_keeper.specs.Log.{end}
+use Rattle.flash_keeper.proofs.Outcomes.{on_ok_of}
+use Rattle.flash_keeper.proofs.LogLemmas.{settled_ended, left_ended}
+use Rattle.flash_keeper.proofs.cells.end_cell.Goals as goal
+
+pub returns-clause-settled : goal.returns-clause-settled
+returns-clause-settled g c =
+    let old = g.B.FlashBank.bank c.args.bank.now in
+    let new = g.B.FlashBank.bank c.program.new.self in
+    let at : c.place_of.result + 10 ≡ end c.args.cell = ap (λ (n : ℕ). n + 10) c.place_of.ensures in
+    let p : Programs (end c.args.cell) 0 (is_ok c.program.result) old new = subst (λ (n : ℕ). Programs n 0 (is_ok c.program.result) old new) at
+    c.program.ensures in
+    on_ok_of c.program.result (λ ok choice left certain.
+    settled_ended old new c.args.cell choice c.requires.within left certain (subst (λ (b : Bool). Programs (end c.args.cell) 0 b old new) ok p))
+
+pub returns-clause-left : goal.returns-clause-left
+returns-clause-left g c =
+    let old = g.B.FlashBank.bank c.args.bank.now in
+    let new = g.B.FlashBank.bank c.program.new.self in
+    let at : c.place_of.result + 10 ≡ end c.args.cell = ap (λ (n : ℕ). n + 10) c.place_of.ensures in
+    let p : Programs (end c.args.cell) 0 (is_ok c.program.result) old new = subst (λ (n : ℕ). Programs n 0 (is_ok c.program.result) old new) at
+    c.program.ensures in
+    λ choice left certain. left_ended old new c.args.cell choice (is_ok c.program.result) c.requires.within left certain p

@@ -1,0 +1,32 @@
+use Rattle.std.proofs.Common.{◌≡◌, ◌⊎◌, inl, inr, ℕ, zero, suc, ◌+◌, ◌*◌, ◌/◌, ◌-◌, ◌<◌, ◌≤◌, ◌&&◌, ◌||◌, Bool, true, false, cond, List, [], ◌∷◌, ◌++◌, take}
+use Rattle.std.proofs.Common.{drop, length, Option, Some, None, refl, sym, subst, ap, ◌∙◌, arith, length-append}
+use Rattle.std.specs.FinMap as map
+use Rattle.flash_keeper.specs.Log.{upto, holds, octets_at}
+use Rattle.flash_keeper.proofs.CopyLemmas.{get_upto, get_upto-zero}
+use Rattle.flash_keeper.proofs.cells.find.Goals as goal
+
+pub returns-then-is_of : goal.returns-then-is_of
+returns-then-is_of g c =
+    let words = (g.B.FlashBank.bank c.args.bank.now).words in
+    let k : ℕ = c.loop-cell.cell - 1 in
+    let next : c.loop-cell.cell ≡ k + 1 = omega (arith, c.loop-cell-test.true) in
+    ap (λ (o : List ℕ). Some o) c.record_of.ensures
+    ∙ sym (c.loop-cell.invariant.same ∙ ap (λ (n : ℕ). map.get (upto words n) c.args.slot) next ∙ get_upto words k c.args.slot
+    ∙ ap (λ (b : Bool). cond b (Some (octets_at words k)) (map.get (upto words k) c.args.slot)) (sym c.is_of.ensures ∙ c.if-is_of.true))
+
+pub loop-cell-preserved : goal.loop-cell-preserved
+loop-cell-preserved g c =
+    let words = (g.B.FlashBank.bank c.args.bank.now).words in
+    let k : ℕ = c.loop-cell.cell - 1 in
+    let next : c.loop-cell.cell ≡ k + 1 = omega (arith, c.loop-cell-test.true) in
+    record {
+      same = c.loop-cell.invariant.same ∙ ap (λ (n : ℕ). map.get (upto words n) c.args.slot) next ∙ get_upto words k c.args.slot
+          ∙ ap (λ (b : Bool). cond b (Some (octets_at words k)) (map.get (upto words k) c.args.slot)) (sym c.is_of.ensures ∙ c.if-is_of.false);
+      below = omega (arith, c.loop-cell.invariant.below);
+    }
+
+pub returns : goal.returns
+returns g c =
+    let words = (g.B.FlashBank.bank c.args.bank.now).words in
+    let none : c.loop-cell.cell ≡ 0 = omega (arith, c.loop-cell-test.false) in
+    sym (c.loop-cell.invariant.same ∙ ap (λ (n : ℕ). map.get (upto words n) c.args.slot) none ∙ get_upto-zero words c.args.slot)

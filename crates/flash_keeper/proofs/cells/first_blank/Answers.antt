@@ -1,0 +1,13 @@
+use Rattle.std.proofs.Common.{◌<◌, arith}
+use Rattle.flash_keeper.proofs.OpeningLemmas.{found_blank, found_none}
+use Rattle.flash_keeper.proofs.cells.first_blank.Goals as goal
+
+pub returns-then-is_blank-clause-found : goal.returns-then-is_blank-clause-found
+returns-then-is_blank-clause-found g c = λ n choice left.
+    found_blank (g.B.FlashBank.bank c.args.bank.now) n c.loop-cell.cell choice c.is_blank.result left (c.loop-cell.invariant.low n choice left)
+    c.is_blank.ensures.certain c.is_blank.ensures.whole c.if-is_blank.true
+
+pub returns-clause-found : goal.returns-clause-found
+returns-clause-found g c = λ n choice left.
+    found_none (g.B.FlashBank.bank c.args.bank.now) n c.loop-cell.cell c.room_of-count.result choice left (c.loop-cell.invariant.low n choice left)
+    c.loop-cell.invariant.below (λ less. omega (arith, less, c.loop-cell-test.false)) c.room_of-count.ensures

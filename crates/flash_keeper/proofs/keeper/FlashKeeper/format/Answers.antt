@@ -1,0 +1,9 @@
+use Rattle.std.proofs.Common.{◌≡◌, ◌∙◌, None}
+use Rattle.flash_keeper.proofs.KeeperLemmas.{nothing_else}
+use Rattle.flash_keeper.proofs.keeper.FlashKeeper.format.Goals as goal
+
+pub returns : goal.returns
+returns g c =
+    let e = c.in-Ok.ensures.records in
+    let l = nothing_else _ _ _ _ c.in-Ok.ensures.ready ∙ e in
+    λ i. record { store = record { records = e i; faults = 0; told = None }; left = l i }

@@ -1,0 +1,48 @@
+-- A bank of NOR flash: its words, what a reading of one may show, and what a program and an erase leave, also where power failed in them.
+use Rattle.std.specs.Prelude.{◌≡◌, ◌⊎◌, ℕ, ◌≤◌, ◌<◌, ◌+◌, ◌*◌, ◌/◌, ◌-◌, ◌^◌, Bool, true, false, Option, Some}
+
+-- What a word reads as. None after a program of it was cut short: it then reads as anything, at each reading anew.
+abbrev pub Word : Type 0
+Word = Option ℕ
+
+-- a word of which each bit is 1
+abbrev pub erased : ℕ
+erased = 0xFFFFFFFFFFFFFFFF
+
+-- the first word of a bank with a store of this layout: a name, and the number 1 of the layout
+abbrev pub head_word : ℕ
+head_word = 0x464C4B4545500001
+
+-- A bank. torn: an erase of it was cut short and none was done since, so each word of it reads as anything.
+pub record Bank : Type 0 where
+  -- how many words it has
+  pub size : ℕ
+  pub torn : Bool
+  -- what is at each place; nothing was ever programmed at a place from size on
+  pub words : ℕ → Word
+
+-- What a reading of the word at a place shows.
+pub record Reads (bank : Bank) (at word : ℕ) : Type 0 where
+  pub firm : bank.torn ≡ false → (n : ℕ) → bank.words at ≡ Some n → word ≡ n
+  -- the premise on torn erases: what one leaves in the first word does not read as the head of a store
+  pub no_forgery : bank.torn ≡ true → at ≡ 0 → word ≡ head_word → ⊥
+
+-- A word may be programmed where it is erased; to 0, so that each bit is programmed, in any state.
+abbrev pub MayProgram : Bank → ℕ → ℕ → Type 0
+MayProgram bank at word = (bank.torn ≡ false) × ((bank.words at ≡ Some erased) ⊎ (word ≡ 0))
+
+-- A program of a word, which was done or cut short.
+pub record Programs (at word : ℕ) (ok : Bool) (old new : Bank) : Type 0 where
+  pub done : ok ≡ true → new.words at ≡ Some word
+  -- bits that are as they are to be do not change, even where it was cut short
+  pub kept : old.words at ≡ Some word → new.words at ≡ Some word
+  pub others : (i : ℕ) → (i ≡ at → ⊥) → new.words i ≡ old.words i
+  pub torn : new.torn ≡ old.torn
+  pub size : new.size ≡ old.size
+
+-- An erase of a bank, which was done, also where it did not answer so, was cut short, or did not begin.
+pub record Erases (ok : Bool) (old new : Bank) : Type 0 where
+  pub whole : ok ≡ true → new.torn ≡ false
+  pub blank : ok ≡ true → (i : ℕ) → new.words i ≡ Some erased
+  pub cut : ok ≡ false → (new ≡ old) ⊎ (new.torn ≡ true) ⊎ ((new.torn ≡ false) × ((i : ℕ) → new.words i ≡ Some erased))
+  pub size : new.size ≡ old.size

@@ -1,0 +1,5 @@
+pub mod Flash
+pub mod Log
+pub mod Banks
+pub mod Model
+pub mod Runs

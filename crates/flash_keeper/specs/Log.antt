@@ -1,0 +1,151 @@
+-- The log in a bank: cells of words, what makes a cell count, and the records that the first cells stand for.
+use Rattle.std.specs.Prelude.{◌≡◌, ◌⊎◌, ℕ, zero, suc, ◌≤◌, ◌<◌, ◌+◌, ◌*◌, ◌/◌, ◌-◌, ◌%◌, ◌^◌, ◌==◌, Bool, true, false, not, ◌&&◌, ◌||◌, if◌then◌else◌, List}
+use Rattle.std.specs.Prelude.{[], ◌++◌, take, Option, Some, None}
+use Rattle.std.specs.FinMap.{insert, empty}
+use Rattle.byteorder.specs.Endian.{big_bytes}
+use Rattle.plc_base.specs.Keeper.{Records}
+use Rattle.flash_keeper.specs.Flash.{Word, Bank, erased}
+
+-- A bank begins with three words: its head, its generation, and the mark that makes it count. Then come cells of 11 words: 65 times the
+-- slot and the length, 8 of octets, the mark that makes the cell count, and the end, by which its mark is certain.
+abbrev pub place : ℕ → ℕ
+place k = 3 + 11 * k
+
+abbrev pub mark : ℕ → ℕ
+mark k = 3 + 11 * k + 9
+
+abbrev pub end : ℕ → ℕ
+end k = 3 + 11 * k + 10
+
+-- how many cells a bank of so many words has
+abbrev pub room : ℕ → ℕ
+room size = (size - 3) / 11
+
+abbrev pub value : Word → ℕ
+value (Some n) = n
+value None = 0
+
+abbrev pub slot_at : (ℕ → Word) → ℕ → ℕ
+slot_at words k = value (words (place k)) / 65
+
+abbrev pub length_at : (ℕ → Word) → ℕ → ℕ
+length_at words k = value (words (place k)) % 65
+
+-- the octets of the n words from a place on
+unfoldable pub octets_from : (ℕ → Word) → ℕ → ℕ → List ℕ
+octets_from words at zero = []
+octets_from words at (suc n) = octets_from words at n ++ big_bytes 8 (value (words (at + n)))
+
+-- how many words so many octets take
+abbrev pub words_for : ℕ → ℕ
+words_for length = (length + 7) / 8
+
+abbrev pub octets_at : (ℕ → Word) → ℕ → List ℕ
+octets_at words k = take (length_at words k) (octets_from words (place k + 1) (words_for (length_at words k)))
+
+-- a word of which a program was begun
+abbrev pub begun : Word → Bool
+begun (Some n) = not (n == erased)
+begun None = true
+
+-- a cell counts where the program of its mark was begun
+abbrev pub counts : (ℕ → Word) → ℕ → Bool
+counts words k = begun (words (mark k))
+
+abbrev pub step : (ℕ → Word) → ℕ → Records → Records
+step words k records = if counts words k then insert records (slot_at words k) (octets_at words k) else records
+
+-- the records that the first k cells stand for
+unfoldable pub upto : (ℕ → Word) → ℕ → Records
+upto words zero = empty
+upto words (suc k) = step words k (upto words k)
+
+-- a word that reads the same each time
+abbrev pub IsFirm : Word → Type 0
+IsFirm word = word ≡ Some (value word)
+
+-- a cell has a record that reads the same each time
+pub record IsWhole (words : ℕ → Word) (k : ℕ) : Type 0 where
+  pub head : IsFirm (words (place k))
+  pub slot : slot_at words k < 2 ^ 32
+  pub body : (i : ℕ) → i < words_for (length_at words k) → IsFirm (words (place k + 1 + i))
+
+-- the mark of a cell was not begun, or is whole and so is its record
+abbrev pub IsMarkCertain : (ℕ → Word) → ℕ → Type 0
+IsMarkCertain words k = (words (mark k) ≡ Some erased) ⊎ ((words (mark k) ≡ Some 0) × IsWhole words k)
+
+-- a cell that is certain: it is ended, and has a record or none
+pub record IsCertain (words : ℕ → Word) (k : ℕ) : Type 0 where
+  pub ended : words (end k) ≡ Some 0
+  pub either : IsMarkCertain words k
+
+abbrev pub AreCertain : (ℕ → Word) → ℕ → Type 0
+AreCertain words n = (k : ℕ) → k < n → IsCertain words k
+
+-- What may be found in the cell that is written: its mark was not begun, or its record is whole, and either its mark is certain or
+-- its end was not begun.
+abbrev pub IsOpen : (ℕ → Word) → ℕ → Type 0
+IsOpen words k = (words (mark k) ≡ Some erased) ⊎ (IsWhole words k × ((words (mark k) ≡ Some 0) ⊎ (words (end k) ≡ Some erased)))
+
+abbrev pub IsBlankFrom : (ℕ → Word) → ℕ → Type 0
+IsBlankFrom words at = (i : ℕ) → at ≤ i → words i ≡ Some erased
+
+-- two records of which one is meant, and which is open
+pub record Choice : Type 0 where
+  pub old : Records
+  pub new : Records
+
+abbrev pub IsOneOf : Choice → Records → Type 0
+IsOneOf choice records = (records ≡ choice.old) ⊎ (records ≡ choice.new)
+
+-- The first n cells are certain and nothing was written after them.
+pub record IsSettled (bank : Bank) (n : ℕ) : Type 0 where
+  pub firm : bank.torn ≡ false
+  pub certain : AreCertain bank.words n
+  pub blank : IsBlankFrom bank.words (place n)
+  pub within : n ≤ room bank.size
+
+-- The first n cells are certain, one more may have been begun, and nothing was written after it.
+pub record IsLeft (bank : Bank) (n : ℕ) (choice : Choice) : Type 0 where
+  pub firm : bank.torn ≡ false
+  pub certain : AreCertain bank.words n
+  pub last : IsOpen bank.words n
+  pub blank : IsBlankFrom bank.words (place (n + 1))
+  pub within : (n < room bank.size) ⊎ ((n ≡ room bank.size) × IsBlankFrom bank.words (place n))
+  pub stands : IsOneOf choice (upto bank.words n)
+  pub stands_next : IsOneOf choice (upto bank.words (n + 1))
+
+-- nothing but words in these places has changed
+abbrev pub SameOutside : ℕ → ℕ → Bank → Bank → Type 0
+SameOutside from to old new = (i : ℕ) → (i < from) ⊎ (to ≤ i) → new.words i ≡ old.words i
+
+-- whether a cell counts and has this slot
+abbrev pub holds : (ℕ → Word) → ℕ → ℕ → Bool
+holds words k slot = counts words k && (slot_at words k == slot)
+
+-- whether one of the n cells from k on counts and has this slot
+unfoldable pub holds_later : (ℕ → Word) → ℕ → ℕ → ℕ → Bool
+holds_later words k zero slot = false
+holds_later words k (suc n) slot = holds words k slot || holds_later words (suc k) n slot
+
+-- the records of the first k cells whose slot none of the n cells has again
+unfoldable pub kept : (ℕ → Word) → ℕ → ℕ → Records
+kept words n zero = empty
+kept words n (suc k) = if counts words k && not (holds_later words (suc k) (n - suc k) (slot_at words k)) then insert (kept words n k) (slot_at words k)
+    (octets_at words k) else kept words n k
+
+-- nothing before this place has changed
+abbrev pub SameBelow : ℕ → Bank → Bank → Type 0
+SameBelow to old new = (i : ℕ) → i < to → new.words i ≡ old.words i
+
+-- records of which nothing is open
+abbrev pub only : Records → Choice
+only records = record { old = records; new = records }
+
+-- the first cell that a reading shows as blank, where the first n are certain
+abbrev pub IsFoundBlank : Bank → ℕ → ℕ → Type 0
+IsFoundBlank bank n at = ((at ≡ n) × (n < room bank.size → bank.words (mark n) ≡ Some erased)) ⊎ (at ≡ n + 1)
+
+-- all cells before this one are certain, and it may be ended, since its mark was not begun
+abbrev pub IsClosable : Bank → ℕ → Choice → Type 0
+IsClosable bank at choice = IsLeft bank at choice × (at < room bank.size → bank.words (mark at) ≡ Some erased)

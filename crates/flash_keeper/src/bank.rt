@@ -1,0 +1,64 @@
+//! A bank of flash, as firmware gives it.
+ghost use Rattle.std.specs.Prelude.{◌≡◌, ◌<◌, ◌≤◌, ◌^◌, is_ok, false, Some};
+ghost use Rattle.flash_keeper.specs.Flash.{Bank, head_word, Reads, MayProgram, Programs, Erases};
+
+use plc_base::Failed;
+
+/// The number of the layout of a store, the lowest 16 bits of the first word of a bank.
+pub const LAYOUT: u16 = 1;
+
+/// A word of which each bit is 1.
+pub const ERASED: u64 = 0xFFFF_FFFF_FFFF_FFFF;
+
+/// The first word of a bank with a store: six octets that no other use writes there, and [`LAYOUT`].
+pub const HEAD: u64 = 0x464C_4B45_4550_0001;
+
+/// A bank of NOR flash: words of 8 octets which are erased together.
+///
+/// What is said here the hardware and its driver have to promise; nothing else is asked of them.
+pub trait FlashBank {
+    /// The words of the bank.
+    ghost bank: { Self → Bank };
+
+    /// How many words there are: at least 14, and fewer than 2^32. It is the same for good.
+    fn words(&self) -> usize
+        ensures { result ≡ (bank self.now).size };
+
+    /// The word at a place. A word that was programmed, or erased, reads so each time. A word whose program was cut short by a loss of
+    /// power, and each word of a bank whose erase was, may read as anything, anew each time; where the part reports an error of its
+    /// own check of a word, answer any number.
+    ///
+    /// One thing is asked of a torn erase (`no_forgery`): the first word does not read as the head of a store. A torn erase leaves 64 bits
+    /// that mean nothing, so a reading does that once in 2^64.
+    fn read(&self, at: usize) -> u64
+        requires { at < (bank self.now).size }
+        ensures { Reads (bank self.now) at result };
+
+    /// Programs the word at a place, and no other. It is erased, or each bit is to be programmed (0), whatever the word is: 0 over
+    /// anything makes it 0, and bits that are 0 already stay so even if power fails. No other word is programmed over one that is not erased.
+    ///
+    /// After `Failed` it was done, was cut short, or did not begin.
+    fn program(&mut self, at: usize, word: u64) -> Result<(), Failed>
+        requires within { at < (bank self.old).size }
+        requires allowed { MayProgram (bank self.old) at word }
+        ensures { Programs at word (is_ok result) (bank self.old) (bank self.new) };
+
+    /// Erases all words of the bank, and no other. After `Failed` it was cut short, or did not begin.
+    fn erase(&mut self) -> Result<(), Failed>
+        ensures { Erases (is_ok result) (bank self.old) (bank self.new) };
+
+    /// There is room for a cell, and places fit into 32 bits.
+    ghost fits: { (b : Self) → (14 ≤ (bank b).size) × ((bank b).size < 2 ^ 32) };
+}
+
+/// The number of the layout of a store in a bank, None where its first word names none. It is [`LAYOUT`] in each bank that an opening
+/// takes; where a store of another layout is found, firmware that knows that layout can read it.
+pub fn layout_of<B: FlashBank>(bank: &B) -> Option<u16>
+    ensures { (B.bank bank.now).torn ≡ false → (B.bank bank.now).words 0 ≡ Some head_word → result ≡ Some 1 }
+{
+    let head = bank.read(0);
+    if head / 65536 != HEAD / 65536 {
+        return None;
+    }
+    Some((head % 65536) as u16)
+}

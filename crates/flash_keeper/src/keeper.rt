@@ -1,0 +1,185 @@
+//! The keeper.
+ghost use Rattle.std.specs.Prelude.{◌≡◌, ◌<◌, ◌≤◌, ◌+◌, ◌⊎◌, is_ok, OnOk, OnErr, IfOk, IfErr, None};
+ghost use Rattle.std.specs.FinMap.{insert};
+ghost use Rattle.std.specs.FinMap as map;
+ghost use Rattle.plc_base.specs.Keeper.{Store, IsSlot, Puts};
+ghost use Rattle.flash_keeper.specs.Log.{Choice, IsOneOf};
+ghost use Rattle.flash_keeper.specs.Banks.{AreChosen, IsStore, IsOpened, IsLeftBy, FlashStore};
+
+use crate::bank::FlashBank;
+use crate::cells::find;
+use crate::pair::{Pair, generation_of};
+use plc_base::{Failed, Keeper, Record};
+use std::marker::Model;
+use thiserror::Error;
+
+/// Why a store was not opened.
+#[derive(Clone, Copy, Debug, PartialEq, Eq, Drop, Error)]
+pub enum OpenFault {
+    /// A program or an erase failed.
+    #[error("the flash failed")]
+    Flash,
+    /// Neither bank has a store of this layout.
+    #[error("no bank has a store of this layout")]
+    NoStore,
+}
+
+/// A keeper over two banks of NOR flash.
+///
+/// A contract sees what it holds, and what an opening of its banks may find in place of that. After `Failed` it holds the records from before, and each
+/// further put fails, until its banks are opened again.
+#[derive(Drop)]
+pub struct FlashKeeper<B: FlashBank + Drop> {
+    pair: Pair<B>,
+    failed: bool,
+    faults: u64,
+}
+
+impl<B: FlashBank + Drop> Model for FlashKeeper<B> {
+    ghost use Rattle.std.specs.Prelude.{◌+◌, None};
+    ghost use Rattle.flash_keeper.specs.Log.{upto};
+    ghost use Rattle.flash_keeper.specs.Banks.{FlashStore, flash_store_code, IsKept};
+
+    ghost Value = { FlashStore };
+
+    ghost coded = { flash_store_code };
+
+    ghost view = { λ k. record {
+      store = record { records = upto (B.bank k.pair.live).words k.pair.next; faults = k.faults; told = None };
+      left = upto (B.bank k.pair.live).words (k.pair.next + 1);
+    } };
+
+    ghost invariant = { λ k. IsKept (B.bank k.pair.live) (B.bank k.pair.spare) k.pair.next k.pair.generation k.failed };
+}
+
+impl<B: FlashBank + Drop> FlashKeeper<B> {
+    /// Erases two banks, and makes them a store with no record: for a device that has none yet, since all that they held is lost. It
+    /// fails only where a program or an erase failed, and gives the banks back, to be formatted again.
+    #[tactic(auto, using(crate::proofs::KeeperLemmas::kept_of_ready, crate::proofs::KeeperLemmas::kept_of_left, crate::proofs::KeeperLemmas::nothing_else))]
+    pub fn format(first: B, second: B) -> Result<FlashKeeper<B>, (B, B)>
+        ensures { IfOk result (λ keeper. keeper ≡ record { store = record { records = map.empty; faults = 0; told = None }; left = map.empty }) }
+    {
+        let mut pair = Pair {
+            live: first,
+            spare: second,
+            next: 0,
+            generation: 1,
+        };
+        let Ok(()) = pair.format() else {
+            return Err((pair.live, pair.spare));
+        };
+        Ok(FlashKeeper {
+            pair,
+            failed: false,
+            faults: 0,
+        })
+    }
+
+    // Settles two banks, of which the first one read as live.
+    #[tactic(auto, using(crate::proofs::KeeperLemmas::kept_of_ready, crate::proofs::KeeperLemmas::kept_of_left, crate::proofs::KeeperLemmas::nothing_else))]
+    fn settled(
+        live: B,
+        spare: B,
+        generation: u64,
+        counted: bool,
+    ) -> Result<FlashKeeper<B>, (OpenFault, B, B)>
+        requires { (c : Choice) × AreChosen (B.bank live) (B.bank spare) generation counted c }
+        ensures opened { IfOk result (λ keeper. (c : Choice) → AreChosen (B.bank live) (B.bank spare) generation counted c → IsOpened c keeper) }
+        ensures fault { IfErr result (λ e. (e.0 ≡ OpenFault.Flash) × ((c : Choice) → AreChosen (B.bank live) (B.bank spare) generation counted c
+            → IsStore (B.bank e.1) (B.bank e.2) c)) }
+    {
+        let mut pair = Pair {
+            live,
+            spare,
+            next: 0,
+            generation,
+        };
+        let Ok(()) = pair.settle(counted) else {
+            return Err((OpenFault::Flash, pair.live, pair.spare));
+        };
+        Ok(FlashKeeper {
+            pair,
+            failed: false,
+            faults: 0,
+        })
+    }
+
+    /// Opens the store in two banks, in either order, after a start or after a failed put.
+    ///
+    /// Whatever two records the banks may stand for (`IsStore`, which `into_banks` gives), it holds one of them, and so does every later
+    /// opening (`opened`). It fails only with [`OpenFault::Flash`], where a program or an erase failed, and gives the banks back, which then
+    /// stand for the same records (`fault`). Where no bank has a store, which its condition excludes, the fault is [`OpenFault::NoStore`].
+    pub fn open(first: B, second: B) -> Result<FlashKeeper<B>, (OpenFault, B, B)>
+        requires { (c : Choice) × IsStore (B.bank first) (B.bank second) c }
+        ensures opened { IfOk result (λ keeper. (c : Choice) → IsStore (B.bank first) (B.bank second) c → IsOpened c keeper) }
+        ensures fault { IfErr result (λ e. (e.0 ≡ OpenFault.Flash) × ((c : Choice) → IsStore (B.bank first) (B.bank second) c
+            → IsStore (B.bank e.1) (B.bank e.2) c)) }
+    {
+        let one = generation_of(&first);
+        let two = generation_of(&second);
+        let Some(earlier) = one else {
+            let Some(later) = two else {
+                return Err((OpenFault::NoStore, first, second));
+            };
+            return FlashKeeper::settled(second, first, later, false);
+        };
+        let Some(later) = two else {
+            return FlashKeeper::settled(first, second, earlier, false);
+        };
+        if earlier < later {
+            return FlashKeeper::settled(second, first, later, true);
+        }
+        FlashKeeper::settled(first, second, earlier, true)
+    }
+
+    /// The banks, to be opened again: they stand for the records that it holds, or those that are left of a failed put.
+    pub fn into_banks(self) -> (B, B)
+        ensures { IsStore (B.bank result.0) (B.bank result.1) (record { old = self.store.records; new = self.left }) }
+    {
+        (self.pair.live, self.pair.spare)
+    }
+
+    // Writes a record to flash.
+    #[tactic(auto, using(crate::proofs::KeeperLemmas::kept_of_ready, crate::proofs::KeeperLemmas::kept_of_left, crate::proofs::KeeperLemmas::nothing_else))]
+    fn write(&mut self, slot: u32, octets: &Record) -> Result<(), Failed>
+        ensures ok { OnOk result (self.new.store.records ≡ insert self.old.store.records slot octets.now) }
+        ensures err { OnErr result (self.new.store.records ≡ self.old.store.records) }
+        ensures faults { self.new.store.faults ≡ self.old.store.faults }
+        ensures told { self.new.store.told ≡ self.old.store.told }
+        ensures left { IsLeftBy self.old slot octets.now (is_ok result) self.new }
+    {
+        if self.failed {
+            return Err(Failed);
+        }
+        self.failed = true;
+        self.pair.put(slot, octets)?;
+        self.failed = false;
+        Ok(())
+    }
+}
+
+impl<B: FlashBank + Drop> Keeper for FlashKeeper<B> {
+    ghost store = { λ k. k.store };
+
+    #[tactic(auto, using(crate::proofs::KeeperLemmas::kept_within))]
+    fn get(&self, slot: u32) -> Option<Record> {
+        find(&self.pair.live, self.pair.next, slot)
+    }
+
+    /// Writes the record at a slot. It fails where a program or an erase failed, and where both banks are full of records of other slots.
+    ///
+    /// After `Failed` it holds the records from before, an opening of its banks finds those or the ones with this record (`left`), and each
+    /// further put fails.
+    fn put(&mut self, slot: u32, octets: &Record) -> Result<(), Failed>
+        requires { IsSlot slot }
+        ensures puts { Puts self.old.store slot octets.now (is_ok result) self.new.store }
+        ensures old { OnErr result (self.new.store.records ≡ self.old.store.records) }
+        ensures left { IsLeftBy self.old slot octets.now (is_ok result) self.new }
+    {
+        let Ok(()) = self.write(slot, octets) else {
+            self.faults = self.faults.saturating_add(1);
+            return Err(Failed);
+        };
+        Ok(())
+    }
+}

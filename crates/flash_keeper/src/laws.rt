@@ -1,0 +1,13 @@
+//! Laws over runs of a store. Each is the contract of a function that does nothing.
+ghost use Rattle.flash_keeper.specs.Runs.{HoldsWhatWasPut, EachOpeningIsTheSame};
+
+/// Over any puts, losses of power at any moment, and openings: a slot has the record that was last put there, or, from the next opening on,
+/// that of a put which failed after it.
+pub fn a_slot_has_what_was_put()
+    ensures { HoldsWhatWasPut }
+{}
+
+/// What an opening finds each later one finds, until a put.
+pub fn each_opening_is_the_same()
+    ensures { EachOpeningIsTheSame }
+{}

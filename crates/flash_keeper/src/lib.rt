@@ -1,0 +1,51 @@
+//! A [`plc_base::Keeper`] over two banks of raw NOR flash, which outlasts a loss of power at any moment.
+//!
+//! Firmware writes [`FlashBank`] for its flash: read a word of 8 octets, program one, erase the bank. [`FlashKeeper::format`] makes a store
+//! of two erased banks once, in the factory; [`FlashKeeper::open`] opens it at each start, and settles what a torn word left before anything
+//! builds on it. The two banks may be given in either order.
+//!
+//! # What is promised
+//!
+//! - Gets and puts are those of a [`plc_base::Keeper`]: after `Failed` the slot has the record from before (`puts`, `old`).
+//! - Power may fail in each program and each erase. An opening then finds the records from before the put or those with it, and no others
+//!   (`left` of `put`, `opened` of `open`); what it found, each later opening finds too, until a put ([`laws::each_opening_is_the_same`]). An
+//!   opening in which power fails changes nothing of that (`fault`).
+//! - So after any puts, losses of power and openings a slot has the record that was last put there, or that of a put which failed after it
+//!   ([`laws::a_slot_has_what_was_put`]).
+//! - All this holds however a torn word reads, and if it reads otherwise each time. No check sum is part of the argument.
+//! - The premise `no_forgery`: what a torn erase leaves in the first word of a bank does not read as the head of a store. That is a chance of
+//!   2^-64 for 64 bits that mean nothing.
+//!
+//! What firmware has to promise stands at [`FlashBank`]. Not part of the model: bits that decay later or are disturbed by programs of other
+//! words, and parts that program no word of 8 octets by itself or refuse zeros over a word that was programmed.
+//!
+//! # After a failed put
+//!
+//! The keeper answers each get as before, and fails each further put. Whoever has it drops what stands on it, takes the banks
+//! ([`FlashKeeper::into_banks`]) and opens them and the node anew. A `restart` of a node over the same keeper does not do: its puts fail.
+//!
+//! # Figures
+//!
+//! | | |
+//! |---|---|
+//! | RAM | two [`FlashBank`] objects and 32 octets (24 on a 32-bit machine); no table of slots, no buffer that stays, no allocation |
+//! | flash, per bank | 24 octets, and 88 for each put until the bank is full |
+//! | a put | 3 programs of marks and lengths, and one for each 8 octets of the record: 11 at most |
+//! | an opening | 2 or 3 programs, and one cell |
+//! | a bank that is full | one erase, and a copy of each record; then the other bank is live, so the banks wear by turns |
+//! | erases | one in (cells of a bank - slots with a record) puts and openings, and one for each put that lost power in its record |
+//!
+//! Two banks of 32 KiB have 372 cells each; a meter has at most 166 records, so there is one erase in 206 puts and openings at least. A get looks
+//! through the log from its end, two words a cell: nodes get records when they open, and hold them after that.
+#![tactic(auto)]
+
+mod bank;
+mod cells;
+mod keeper;
+pub mod laws;
+mod model_flash;
+mod pair;
+
+pub use bank::{FlashBank, LAYOUT, layout_of};
+pub use keeper::{FlashKeeper, OpenFault};
+pub use model_flash::{Cut, ModelFlash};
