@@ -88,6 +88,51 @@ impl<K: Keeper + Drop> Coordinator<K> {
         self.station.last_reply()
     }
 
+    /// The address of a meter in the book, None where it has none or the coordinator is halted.
+    pub fn address_of(&self, eui: Eui) -> Option<Short>
+        ensures { result ≡ option_and_then
+            (λ (m : memory.Memory). book.address_of m.book eui) (node_of self.now).memory }
+    {
+        if self.station.halted() {
+            return None;
+        }
+        self.book.address(eui)
+    }
+
+    /// Whether a session with a meter is open. Where the coordinator is halted none is.
+    pub fn has_session(&self, eui: Eui) -> bool
+        ensures { result ≡ is_some (option_and_then
+            (λ (m : memory.Memory). session_in m.sessions eui) (node_of self.now).memory) }
+    {
+        if self.station.halted() {
+            return false;
+        }
+        self.sessions.of(eui).is_some()
+    }
+
+    /// How many sessions are open. What it holds keeps its sizes, whatever its keeper is: at most 8 sessions, 8 random values and 999 meters
+    /// in its book, and its station's tables as [`Station::waiting`] has them. Of the station of a halted one that says nothing.
+    pub fn sessions(&self) -> usize
+        ensures value { result ≡ length self.now.sessions }
+        ensures sessions { length self.now.sessions ≤ 8 }
+        ensures randoms { length self.now.randoms ≤ 8 }
+        ensures book { length self.now.book ≤ 999 }
+        ensures sized { IfSome self.now.station.memory HasSizes }
+    {
+        // The tables keep their sizes by their types.
+        let _waiting = self.station.waiting();
+        let _randoms = self.randoms.count();
+        let _meters = self.book.entries();
+        self.sessions.count()
+    }
+
+    /// Gives the keeper back, as std's `into_inner` does. What the coordinator held in memory is forgotten.
+    pub fn into_keeper(self) -> K
+        ensures store { K.store result ≡ self.station.store }
+    {
+        self.station.into_keeper()
+    }
+
     /// Ends what is old at a time in seconds: what its station ends, and the sessions that were opened 120 seconds ago or before. A
     /// halted one stays as it is.
     pub fn tick(&mut self, now: u64)

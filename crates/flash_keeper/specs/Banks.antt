@@ -99,7 +99,7 @@ pub record IsOpened (choice : Choice) (keeper : FlashStore) : Type 0 where
   pub one : IsOneOf choice keeper.store.records
   pub left : keeper.left ≡ keeper.store.records
   pub faults : keeper.store.faults ≡ 0
-  pub told : keeper.store.told ≡ None
+  pub known_cut : keeper.store.known_cut ≡ None
 
 -- what an opening may find after a put: the record, where it was done; where it failed, what an opening might have found before it, or that
 -- with this record

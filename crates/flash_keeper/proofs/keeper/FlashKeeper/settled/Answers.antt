@@ -7,5 +7,5 @@ returns-clause-opened g c = λ choice chosen. record {
   one = c.in-Ok.ensures.records choice chosen;
   left = nothing_else _ _ _ _ c.in-Ok.ensures.ready;
   faults = refl;
-  told = refl;
+  known_cut = refl;
 }
