@@ -54,7 +54,7 @@ fn push_entry(
         ++ (happened_text number event.now happened.now ++ sent_text quiet world.now happened.now.first_flight)) }
 {
     push_happened(text, alloc, number, event, happened)?;
-    push_sent(text, alloc, quiet, world, happened.first_flight)
+    push_sent(text, quiet, world, happened.first_flight)
 }
 
 impl Player {

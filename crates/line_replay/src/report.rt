@@ -11,12 +11,7 @@ use plc_base::Sink;
 use std::alloc::{AllocError, Global};
 
 #[tactic(auto, unfolding(crate::specs::Texts::flight_text))]
-fn push_flight(
-    text: &mut String,
-    alloc: Global,
-    world: &World,
-    number: u32,
-) -> Result<(), AllocError>
+fn push_flight(text: &mut String, world: &World, number: u32) -> Result<(), AllocError>
     ensures { OnOk result (string_bytes text.new ≡ string_bytes text.old ++ flight_text world.now number) }
 {
     let Some(octets) = world.flight(number) else {
@@ -25,14 +20,13 @@ fn push_flight(
     let Some(node) = world.flight_sender(number) else {
         return Ok(());
     };
-    push_fly(text, alloc, number, node, octets)
+    push_fly(text, number, node, octets)
 }
 
 /// Appends the lines of the flights from a number on: none to a quiet report.
 #[tactic(auto, unfolding(crate::specs::Texts::sent_text))]
 pub fn push_sent(
     text: &mut String,
-    alloc: Global,
     quiet: bool,
     world: &World,
     first: u32,
@@ -42,16 +36,16 @@ pub fn push_sent(
     if quiet {
         return Ok(());
     }
-    push_flies(text, alloc, world, first)
+    push_flies(text, world, first)
 }
 
-fn push_flies(text: &mut String, alloc: Global, world: &World, first: u32) -> Result<(), AllocError>
+fn push_flies(text: &mut String, world: &World, first: u32) -> Result<(), AllocError>
     ensures { OnOk result (string_bytes text.new
         ≡ string_bytes text.old ++ flies_text world.now first (length world.now.flights + 1 - first)) }
 {
     let last = world.counts().flights;
     for number in u64::from(first)..u64::from(last) + 1 {
-        push_flight(text, alloc, world, number as u32)?;
+        push_flight(text, world, number as u32)?;
     }
     Ok(())
 }

@@ -7,13 +7,12 @@ ghost use Rattle.line_script.specs.Texts.{took_text, done_text, shown_text, deta
 
 use crate::answer::{answer_word, spaced_verdict};
 use crate::digits::push_digits;
-use crate::node_report::{push_node, short_word};
+use crate::node_report::push_node;
 use itoa::Buffer;
 use line_events::{Admission, AgentLine, Answer, BroadcastUp, Event, Handed, Happenings, PathLine};
 use node_rules::ShownRef;
 use plc_base::Short;
 use std::alloc::{AllocError, Global};
-use std::fmt::Write;
 
 /// Why a line is bad. The reasons are tried in this order.
 #[derive(Clone, Copy, Debug, PartialEq, Eq)]
@@ -109,10 +108,9 @@ fn push_forged(text: &mut String, number: u32, forged: bool) -> Result<(), Alloc
     if !forged {
         return Ok(());
     }
-    match write!(text, "forged {number}\n") {
-        Ok(()) => Ok(()),
-        Err(_) => Err(AllocError),
-    }
+    text.push_str("forged ")?;
+    push_number(text, number)?;
+    text.push_str("\n")
 }
 
 #[tactic(auto, unfolding(crate::specs::Texts::up_text))]
@@ -129,22 +127,26 @@ fn push_up(text: &mut String, up: &Option<Handed<'_>>) -> Result<(), AllocError>
     }
 }
 
+// The last word of a line, a number.
+fn push_last_number(text: &mut String, number: u32) -> Result<(), AllocError>
+    ensures { OnOk result (string_bytes text.new ≡ string_bytes text.old ++ (codes " " ++ (decimal number ++ codes "\n"))) }
+{
+    text.push_str(" ")?;
+    push_number(text, number)?;
+    text.push_str("\n")
+}
+
 // A short address after a space.
-fn push_address(text: &mut String, alloc: Global, address: Short) -> Result<(), AllocError>
+fn push_address(text: &mut String, address: Short) -> Result<(), AllocError>
     ensures { OnOk result (string_bytes text.new
         ≡ string_bytes text.old ++ (codes " " ++ short_word address)) }
 {
-    let digits = short_word(alloc, address.number())?;
     text.push_str(" ")?;
-    text.push_str(digits.as_str())
+    push_digits(text, &address.number().to_be_bytes())
 }
 
 #[tactic(auto, unfolding(crate::specs::Texts::bup_text))]
-fn push_bup(
-    text: &mut String,
-    alloc: Global,
-    up: &Option<BroadcastUp<'_>>,
-) -> Result<(), AllocError>
+fn push_bup(text: &mut String, up: &Option<BroadcastUp<'_>>) -> Result<(), AllocError>
     ensures { OnOk result (string_bytes text.new ≡ string_bytes text.old ++ bup_text up.now) }
 {
     match up {
@@ -152,7 +154,7 @@ fn push_bup(
         Some(up) => {
             text.push_str("bup ")?;
             push_number(text, u32::from(up.node))?;
-            push_address(text, alloc, up.origin)?;
+            push_address(text, up.origin)?;
             push_broadcast(text, up.number, up.octets.octets())
         }
     }
@@ -169,33 +171,31 @@ fn push_broadcast(text: &mut String, number: u32, octets: &[u8]) -> Result<(), A
 }
 
 #[tactic(auto, unfolding(crate::specs::Texts::agent_text))]
-fn push_agent(text: &mut String, alloc: Global, agent: Option<AgentLine>) -> Result<(), AllocError>
+fn push_agent(text: &mut String, agent: Option<AgentLine>) -> Result<(), AllocError>
     ensures { OnOk result (string_bytes text.new ≡ string_bytes text.old ++ agent_text agent) }
 {
     match agent {
         None => Ok(()),
         Some(agent) => {
-            let (node, total) = (agent.node, agent.total);
-            let address = short_word(alloc, agent.address.number())?;
-            match write!(text, "agent {node} {address} {total}\n") {
-                Ok(()) => Ok(()),
-                Err(_) => Err(AllocError),
-            }
+            text.push_str("agent ")?;
+            push_number(text, u32::from(agent.node))?;
+            push_address(text, agent.address)?;
+            push_last_number(text, agent.total)
         }
     }
 }
 
-fn push_walk(text: &mut String, alloc: Global, walk: &[Short]) -> Result<(), AllocError>
+fn push_walk(text: &mut String, walk: &[Short]) -> Result<(), AllocError>
     ensures { OnOk result (string_bytes text.new ≡ string_bytes text.old ++ walk_text walk.now) }
 {
     for address in walk {
-        push_address(text, alloc, *address)?;
+        push_address(text, *address)?;
     }
     Ok(())
 }
 
 #[tactic(auto, unfolding(crate::specs::Texts::path_text))]
-fn push_path(text: &mut String, alloc: Global, path: &Option<PathLine>) -> Result<(), AllocError>
+fn push_path(text: &mut String, path: &Option<PathLine>) -> Result<(), AllocError>
     ensures { OnOk result (string_bytes text.new ≡ string_bytes text.old ++ path_text path.now) }
 {
     match path {
@@ -203,7 +203,7 @@ fn push_path(text: &mut String, alloc: Global, path: &Option<PathLine>) -> Resul
         Some(path) => {
             text.push_str("path ")?;
             push_number(text, u32::from(path.node))?;
-            push_walk(text, alloc, path.walk.addresses())?;
+            push_walk(text, path.walk.addresses())?;
             text.push_str("\n")
         }
     }
@@ -211,31 +211,25 @@ fn push_path(text: &mut String, alloc: Global, path: &Option<PathLine>) -> Resul
 
 /// The lines of further reach: the broadcast that was handed up, the agent that was chosen, the answer to a path request.
 #[tactic(auto, unfolding(crate::specs::Texts::further_text))]
-fn push_further(
-    text: &mut String,
-    alloc: Global,
-    happened: &Happenings<'_>,
-) -> Result<(), AllocError>
+fn push_further(text: &mut String, happened: &Happenings<'_>) -> Result<(), AllocError>
     ensures { OnOk result (string_bytes text.new ≡ string_bytes text.old ++ further_text happened.now) }
 {
-    push_bup(text, alloc, &happened.bup)?;
-    push_agent(text, alloc, happened.agent)?;
-    push_path(text, alloc, &happened.path)
+    push_bup(text, &happened.bup)?;
+    push_agent(text, happened.agent)?;
+    push_path(text, &happened.path)
 }
 
 #[tactic(auto, unfolding(crate::specs::Texts::grant_text))]
-fn push_grant(text: &mut String, alloc: Global, grant: Option<Admission>) -> Result<(), AllocError>
+fn push_grant(text: &mut String, grant: Option<Admission>) -> Result<(), AllocError>
     ensures { OnOk result (string_bytes text.new ≡ string_bytes text.old ++ grant_text grant) }
 {
     match grant {
         None => Ok(()),
         Some(grant) => {
-            let node = grant.node;
-            let address = short_word(alloc, grant.address.number())?;
-            match write!(text, "grant {node} {address}\n") {
-                Ok(()) => Ok(()),
-                Err(_) => Err(AllocError),
-            }
+            text.push_str("grant ")?;
+            push_number(text, u32::from(grant.node))?;
+            push_address(text, grant.address)?;
+            text.push_str("\n")
         }
     }
 }
@@ -246,10 +240,11 @@ fn push_took(text: &mut String, took: Option<u16>) -> Result<(), AllocError>
 {
     match took {
         None => Ok(()),
-        Some(node) => match write!(text, "took {node}\n") {
-            Ok(()) => Ok(()),
-            Err(_) => Err(AllocError),
-        },
+        Some(node) => {
+            text.push_str("took ")?;
+            push_number(text, u32::from(node))?;
+            text.push_str("\n")
+        }
     }
 }
 
@@ -259,10 +254,11 @@ fn push_done(text: &mut String, done: Option<u16>) -> Result<(), AllocError>
 {
     match done {
         None => Ok(()),
-        Some(node) => match write!(text, "done {node}\n") {
-            Ok(()) => Ok(()),
-            Err(_) => Err(AllocError),
-        },
+        Some(node) => {
+            text.push_str("done ")?;
+            push_number(text, u32::from(node))?;
+            text.push_str("\n")
+        }
     }
 }
 
@@ -294,7 +290,7 @@ fn push_details(
 ) -> Result<(), AllocError>
     ensures { OnOk result (string_bytes text.new ≡ string_bytes text.old ++ details_text event.now happened.now) }
 {
-    push_grant(text, alloc, happened.grant)?;
+    push_grant(text, happened.grant)?;
     push_took(text, happened.took)?;
     push_done(text, happened.done)?;
     push_shown(text, alloc, event, &happened.shown)
@@ -318,19 +314,13 @@ pub fn push_happened(
     push_answer(text, number, happened.answer)?;
     push_forged(text, number, happened.forged)?;
     push_up(text, &happened.up)?;
-    push_further(text, alloc, happened)?;
+    push_further(text, happened)?;
     push_details(text, alloc, event, happened)
 }
 
-/// Appends the line of a flight: its number, the node that sent it, and its octets. Nothing but the text grows, so nothing uses `_alloc`.
+/// Appends the line of a flight: its number, the node that sent it, and its octets.
 #[tactic(auto, unfolding(crate::specs::Texts::fly_text))]
-pub fn push_fly(
-    text: &mut String,
-    _alloc: Global,
-    number: u32,
-    node: u16,
-    octets: &[u8],
-) -> Result<(), AllocError>
+pub fn push_fly(text: &mut String, number: u32, node: u16, octets: &[u8]) -> Result<(), AllocError>
     ensures { OnOk result (string_bytes text.new ≡ string_bytes text.old ++ fly_text number node octets.now) }
 {
     text.push_str("fly ")?;

@@ -124,6 +124,13 @@ impl<K: Keeper + Drop> Meter<K> {
         self.randoms.count()
     }
 
+    /// Gives the keeper back, as std's `into_inner` does. What the meter held in memory is forgotten.
+    pub fn into_keeper(self) -> K
+        ensures store { K.store result ≡ self.station.store }
+    {
+        self.station.into_keeper()
+    }
+
     /// The neighbour, the number and the origin of the route reply that its station sent at its last `hear`, as
     /// [`Station::last_reply`] gives it.
     pub fn last_reply(&self) -> Option<(Short, u16, Short)>
