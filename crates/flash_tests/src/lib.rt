@@ -1,0 +1,7 @@
+//! Tests of a keeper over flash in which power fails at each program and each erase in turn, in each way.
+//!
+//! They stand apart from `flash_keeper`, since the gate proves a crate once more where it has tests of its own.
+#![tactic(auto)]
+
+#[cfg(test)]
+mod power_cuts;
