@@ -9,7 +9,7 @@
 //! - `station` lends the station, whose `accept` takes each frame; `hear` then takes a joining message or carries it on, and hands on
 //!   what the station makes of all else (`MeterHeard`). `send` and its like are the station's too.
 //! - `tick` ends what is old at a time in seconds, a session after 120. `leave` drops the ring; `restart` forgets all but the store, and
-//!   ends a halt.
+//!   ends a halt; `into_keeper` gives the store back.
 //!
 //! What its calls promise, by the names of their clauses:
 //!
