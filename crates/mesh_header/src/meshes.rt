@@ -12,8 +12,7 @@ use crate::unit::Mesh;
 use plc_base::{Fault, FrameBuf, address_at, octet_at};
 
 // The hops, and where the origin begins.
-#[tactic(auto, unfolding(crate::specs::Faults::hops_fault, plc_base::specs::Faults::cut_off, crate::specs::Faults::origin_at,
-    crate::specs::Grammar::hops_then), using(plc_base::proofs::Places::after_none))]
+#[tactic(auto, unfolding(crate::specs::Faults::hops_fault, plc_base::specs::Faults::cut_off, crate::specs::Faults::origin_at))]
 fn hops_of(octets: &[u8], first: u8) -> Result<(u8, usize), UnitFault>
     requires there { octets.now ≡ first ∷ after 1 octets.now }
     requires is { first ≡ octet 0 octets.now }

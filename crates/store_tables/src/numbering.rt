@@ -2,8 +2,7 @@
 ghost use Rattle.std.specs.Prelude.{◌≡◌, ◌⊎◌, ◌+◌, ◌≤◌, ◌<◌, ◌^◌, IfOk, IfErr, OnOk, OnErr, None, is_ok};
 ghost use Rattle.std.specs.FinMap as map;
 ghost use Rattle.plc_base.specs.Keeper.{Stores, OutsideStays, IsOldOrNew};
-ghost use Rattle.store_tables.specs.Numberings.{IsKept, IsOldLimitOrKept, limit_at, limit_in, stored_limit, opened, greatest, reserve_write, reserved};
-ghost use Rattle.store_tables.specs.Numberings.{limit_write, counting_at};
+ghost use Rattle.store_tables.specs.Numberings.{IsKept, IsOldLimitOrKept, limit_at, limit_in, stored_limit, opened, greatest, reserve_write, reserved, limit_write, counting_at};
 ghost use Rattle.store_tables.specs.NumberSlots.{IsNumberSlot};
 
 use crate::NumberSlot;
@@ -23,8 +22,7 @@ pub struct Numbering<const SLOT: u32, const WIDTH: usize, const LEAST: u32, cons
 impl<const SLOT: u32, const WIDTH: usize, const LEAST: u32, const STRIDE: u32> Model
     for Numbering<SLOT, WIDTH, LEAST, STRIDE> {
     ghost use Rattle.std.specs.Prelude.{◌≤◌, ◌<◌, ◌^◌};
-    ghost use Rattle.store_tables.specs.Numberings.{Counting, counting_code, limit_at};
-    ghost use Rattle.store_tables.specs.NumberSlots.{IsNumberSlot};
+    ghost use Rattle.store_tables.specs.Numberings.{Counting, counting_code};
 
     ghost Value = { Counting };
 
@@ -32,7 +30,7 @@ impl<const SLOT: u32, const WIDTH: usize, const LEAST: u32, const STRIDE: u32> M
 
     ghost view = { λ c. record { limit = c.limit; next = c.next } };
 
-    ghost invariant = { λ c. IsNumberSlot (limit_at SLOT WIDTH LEAST) × (c.next ≤ c.limit) × (c.limit < 256 ^ WIDTH) × (LEAST ≤ c.limit) };
+    ghost invariant = { λ c. (c.next ≤ c.limit) × (c.limit < 256 ^ WIDTH) × (LEAST ≤ c.limit) };
 }
 
 impl<const SLOT: u32, const WIDTH: usize, const LEAST: u32, const STRIDE: u32> Numbering<
@@ -79,6 +77,7 @@ impl<const SLOT: u32, const WIDTH: usize, const LEAST: u32, const STRIDE: u32> N
 
     /// How many numbers are left: the greatest of `WIDTH` octets, which is never given out, minus the next one.
     pub fn left(&self) -> u32
+        requires { IsNumberSlot (limit_at SLOT WIDTH LEAST) }
         ensures { result + self.now.next ≡ greatest WIDTH }
     {
         greatest(WIDTH) - self.next
@@ -89,6 +88,7 @@ impl<const SLOT: u32, const WIDTH: usize, const LEAST: u32, const STRIDE: u32> N
     ///
     /// Only a failed put is an error. The numbering is then as it was, but may not be used until it is opened again.
     pub fn reserve<K: Keeper>(&mut self, keeper: &mut K, count: u32) -> Result<u32, Failed>
+        requires slot { IsNumberSlot (limit_at SLOT WIDTH LEAST) }
         requires few { count ≤ STRIDE }
         requires left { self.old.next + count ≤ greatest WIDTH }
         requires kept { IsKept (limit_at SLOT WIDTH LEAST) self.old (K.store keeper.old).records }
@@ -118,6 +118,7 @@ impl<const SLOT: u32, const WIDTH: usize, const LEAST: u32, const STRIDE: u32> N
     ///
     /// Only a failed put is an error. The numbering is then as it was, but may not be used until it is opened again.
     pub fn set_limit<K: Keeper>(&mut self, keeper: &mut K, value: u32) -> Result<(), Failed>
+        requires slot { IsNumberSlot (limit_at SLOT WIDTH LEAST) }
         requires fits { value < 256 ^ WIDTH }
         requires least { LEAST ≤ value }
         ensures numbering { OnOk result (self.new ≡ counting_at value) }

@@ -140,7 +140,7 @@ pub set_stored-requires : goal.set_stored-requires
 set_stored-requires g c =
     let items = c.self.inside.table in
     let key : c.key.result ≡ c.ahead_of.result.address =
-        c.key.ensures.value ∙ sym (ap (λ (m : Mark g.row.FIRST g.row.SLOTS). m.address) c.ahead_of.ensures) in (
+    c.key.ensures.value ∙ sym (ap (λ (m : Mark g.row.FIRST g.row.SLOTS). m.address) c.ahead_of.ensures) in (
       search rules,
       (
         c.in-Some.ensures.within,
