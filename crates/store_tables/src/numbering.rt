@@ -2,7 +2,8 @@
 ghost use Rattle.std.specs.Prelude.{◌≡◌, ◌⊎◌, ◌+◌, ◌≤◌, ◌<◌, ◌^◌, IfOk, IfErr, OnOk, OnErr, None, is_ok};
 ghost use Rattle.std.specs.FinMap as map;
 ghost use Rattle.plc_base.specs.Keeper.{Stores, OutsideStays, IsOldOrNew};
-ghost use Rattle.store_tables.specs.Numberings.{IsKept, IsOldLimitOrKept, limit_at, limit_in, stored_limit, opened, greatest, reserve_write, reserved, limit_write, counting_at};
+ghost use Rattle.store_tables.specs.Numberings.{IsKept, IsOldLimitOrKept, limit_at, limit_in, stored_limit, opened, greatest, reserve_write, reserved};
+ghost use Rattle.store_tables.specs.Numberings.{limit_write, counting_at};
 ghost use Rattle.store_tables.specs.NumberSlots.{IsNumberSlot};
 
 use crate::NumberSlot;
