@@ -5,11 +5,11 @@ use Rattle.std.proofs.lemmas.List.Elements.{All-nil, All-cons, All-head, All-tai
 use Rattle.plc_base.specs.Fields.{AreOctets}
 use Rattle.node_rules.specs.Ciphers.{Ciphers}
 use Rattle.line_rules.specs.Laws.{KeepsFlights}
-use Rattle.line_rules.specs.Runs.{Entry, IsRun}
+use Rattle.line_rules.specs.Runs.{Entry, IsRun, last_world}
 use Rattle.line_rules.specs.Worlds.{World, Flight, start}
 use Rattle.line_rules.proofs.StepsOn.{line_steps}
 use Rattle.line_laws.specs.Laws.{FlightsAreOctets}
-use Rattle.line_laws.specs.Network.{world_after, LastFlightsSayAll}
+use Rattle.line_laws.specs.Network.{LastFlightsSayAll}
 
 abbrev OfOctets : Flight → Type 0
 OfOctets f = AreOctets f.octets
@@ -24,7 +24,7 @@ were_octets (f ∷ fs) [] keeps all = absurd keeps
 were_octets (f ∷ fs) (g ∷ gs) keeps all =
     All-cons OfOctets f fs (subst AreOctets keeps.0.octets (All-head OfOctets g gs all)) (were_octets fs gs keeps.1 (All-tail OfOctets g gs all))
 
-all_octets : (ciphers : Ciphers) (w : World) (entries : List Entry) → IsRun ciphers w entries → All OfOctets (world_after w entries).flights
+all_octets : (ciphers : Ciphers) (w : World) (entries : List Entry) → IsRun ciphers w entries → All OfOctets (last_world w entries).flights
     → All OfOctets w.flights × FlightsAreOctets entries
 all_octets ciphers w [] run all = (all, All-nil EntryFlies)
 all_octets ciphers w (x ∷ xs) run all =

@@ -1,10 +1,12 @@
 -- The laws of runs, forged or not, each by induction over a run.
-use Rattle.std.proofs.Common.{◌≡◌, ℕ, ◌≤◌, ◌<◌, true, List, [], ◌∷◌, ◌++◌, length, append-nil, Option, Some, None, Ok, sym, subst}
-use Rattle.std.specs.Prelude.{All, AllPairs, IfSome}
+use Rattle.std.proofs.Common.{◌≡◌, ℕ, ◌≤◌, ◌<◌, true, List, [], ◌∷◌, ◌++◌, length, append-nil, Option, Some, None, Ok, refl, sym, subst}
+use Rattle.std.specs.Prelude.{All, AllPairs, IfSome, IsOk}
 use Rattle.std.proofs.lemmas.List.{append_assoc}
-use Rattle.std.proofs.lemmas.List.Elements.{All-append, All-cons, All-head, All-nil, All-push, All-tail}
+use Rattle.std.proofs.lemmas.List.Elements.{All-append, All-cons, All-head, All-nil, All-push, All-tail, All-weaker}
 use Rattle.node_rules.specs.Ciphers.{Ciphers, network}
-use Rattle.node_rules.specs.Memory.{Node, node_route}
+use Rattle.node_rules.specs.Memory.{Memory, Node, Role, node_route}
+use Rattle.node_rules.specs.StoreReading.{memory_of}
+use Rattle.plc_base.specs.Keeper.{Records}
 use Rattle.line_events.specs.declared.event.Answer.TheVariants as said
 use Rattle.line_events.specs.declared.event.Event.{Event}
 use Rattle.line_events.specs.declared.event.Event.TheVariants as events
@@ -13,18 +15,20 @@ use Rattle.line_rules.specs.Further.{line_step}
 use Rattle.line_rules.specs.Forgery.{IsForgedRight}
 use Rattle.line_rules.specs.Nonces as nonces
 use Rattle.line_rules.specs.Nonces.{AreAddressed, AreSpelled, IsSpelled}
-use Rattle.line_rules.specs.Runs.{Entry, IsRun, events_of, one_of, sends as sends_of}
+use Rattle.line_rules.specs.Runs.{Entry, IsRun, events_of, one_of, sends as sends_of, IsLineRun}
 use Rattle.line_rules.specs.SafeRuns.{IsAlwaysSizedBy, IsSizedBy, RestartsAreAnswered, is_restart}
 use Rattle.line_rules.specs.Traces.{AreTracedRight, CountsRight, IsSendOf}
 use Rattle.line_rules.specs.Worlds.{World, Sending, node_at, start}
 use Rattle.line_laws.specs.FurtherLines.{FlightsSpelled}
 use Rattle.line_laws.specs.Laws.{EveryCountIsRight, EveryCounterRises, EveryFlightIsSpelled, EveryForgeryIsReported, EveryRestartIsAnswered}
-use Rattle.line_laws.specs.Laws.{EveryRunIsSized, EverySenderIsRight, EveryTraceIsRight, IsLineRun}
+use Rattle.line_laws.specs.Laws.{EveryRunIsSized, EverySenderIsRight, EveryStoreIsReadable, EveryTraceIsRight, HasReading, StoresAreReadable}
+use Rattle.line_laws.specs.Lines.{Left, NodeOk}
 use Rattle.line_laws.specs.LineAccounts.{IsLineRight, RestartIn, TagsIn}
 use Rattle.line_laws.specs.Live.{EveryMarkRises, MarksAlwaysRise}
 use Rattle.line_laws.specs.Loops.{EveryRestartEndsRoutes, RestartsEndRoutes}
 use Rattle.line_laws.specs.Owed.{KeepsRanges}
 use Rattle.line_laws.specs.Sizes.{IsAnyLoad}
+use Rattle.line_laws.specs.Stores.{IsKept}
 use Rattle.line_laws.specs.Tags.{EverySendHasOctets, EveryTagRises, TagRises, TagsOk}
 use Rattle.line_laws.proofs.FurtherOctets.{every_flight}
 use Rattle.line_laws.proofs.FurtherRanges.{line_steps_spell}
@@ -34,6 +38,7 @@ use Rattle.line_laws.proofs.FurtherTags.{line_tags_rise}
 use Rattle.line_laws.proofs.IssueRuns.{all_of_one}
 use Rattle.line_laws.proofs.LineRuns.{AreLawful, lawful, rises_at, senders_at}
 use Rattle.line_laws.proofs.Readings.{network_ranges}
+use Rattle.line_laws.proofs.Restarting.{again}
 use Rattle.line_laws.proofs.Running.{world_sized}
 use Rattle.line_laws.proofs.TagRuns.{start_tags}
 
@@ -108,6 +113,20 @@ module _ (ciphers : Ciphers) (fits : KeepsRanges ciphers) where
 
   -- # What nodes hold
 
+  abbrev EntryReads : Entry → Type 0
+  EntryReads x = All HasReading x.after.nodes
+
+  -- what the records give of a node that runs, and of one that is halted
+  reads : (x : Node) → NodeOk x → HasReading x
+  reads x ok = by_memory x.memory ok.kept
+    where
+      kept_reads : (m : Memory) → IsKept x.role m x.store.records → HasReading x
+      kept_reads m k = subst IsOk (sym (again x.role m x.store.records k).is) refl
+
+      by_memory : (o : Option Memory) → Left (IsKept x.role) x.store.records o → HasReading x
+      by_memory None left = kept_reads left.memory left.kept
+      by_memory (Some m) left = kept_reads m left
+
   abbrev EntrySized : Entry → Type 0
   EntrySized x = IsSizedBy IsAnyLoad x.after × (x.trace.happened.flights ≤ 24)
 
@@ -133,6 +152,11 @@ module _ (ciphers : Ciphers) (fits : KeepsRanges ciphers) where
 
   abbrev EntryAnswered : Entry → Type 0
   EntryAnswered x = is_restart x.event ≡ true → x.trace.happened.answer ≡ said.Restarted
+
+  readable_from : (w : World) (entries : List Entry) → AreLawful ciphers w entries → StoresAreReadable entries
+  readable_from w [] l = All-nil EntryReads
+  readable_from w (x ∷ xs) l = All-cons EntryReads x xs
+      (All-weaker NodeOk HasReading reads x.after.nodes l.0.after.ok.nodes) (readable_from x.after xs l.1)
 
   answered_from : (w : World) (entries : List Entry) → AreLawful ciphers w entries → RestartsAreAnswered entries
   answered_from w [] l = All-nil EntryAnswered
@@ -186,6 +210,9 @@ every_mark ciphers fits entries r fly = marks_from ciphers fits start entries (l
 
 pub every_tag : EveryTagRises
 every_tag ciphers fits entries r fly = tags_from ciphers fits start [] start_tags entries (lawful ciphers fits entries r fly)
+
+pub every_store : EveryStoreIsReadable
+every_store ciphers fits entries r fly = readable_from ciphers fits start entries (lawful ciphers fits entries r fly)
 
 pub every_restart : EveryRestartIsAnswered
 every_restart ciphers fits entries r fly = answered_from ciphers fits start entries (lawful ciphers fits entries r fly)

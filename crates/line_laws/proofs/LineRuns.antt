@@ -11,11 +11,11 @@ use Rattle.line_rules.specs.Further.{line_step}
 use Rattle.line_rules.specs.Laws.{GoesOn}
 use Rattle.line_rules.specs.Logs.{LogsKept}
 use Rattle.line_rules.specs.Nonces.{HasSender}
-use Rattle.line_rules.specs.Runs.{Entry, IsRun, events_of, issued}
+use Rattle.line_rules.specs.Runs.{Entry, IsRun, events_of, issued, IsLineRun}
 use Rattle.line_rules.specs.Worlds.{World, Issued, start}
 use Rattle.line_rules.proofs.StepsOn.{line_steps}
 use Rattle.line_laws.specs.Keyed.{Keyed}
-use Rattle.line_laws.specs.Laws.{FlightsAreOctets, IsLineRun}
+use Rattle.line_laws.specs.Laws.{FlightsAreOctets}
 use Rattle.line_laws.specs.FurtherLines.{LogsHold, RisesIn, StepHolds}
 use Rattle.line_laws.specs.LineAccounts.{BooksIn, BooksLater, FlightsEnd, SealedOnce, SendersIn}
 use Rattle.line_laws.specs.Lines.{FlightFits, WorldOk}

@@ -5,10 +5,10 @@ use Rattle.plc_base.specs.declared.tags.PairTag.{PairTag}
 use Rattle.eap_psk.specs.Tags.{granting_tag, success_tag}
 use Rattle.eap_psk.specs.declared.server.Agreed.{Agreed}
 use Rattle.node_rules.specs.Ciphers.{Ciphers}
-use Rattle.line_rules.specs.Runs.{Entry}
+use Rattle.line_rules.specs.Runs.{Entry, IsLineRun}
 use Rattle.line_rules.specs.Worlds.{Pairing}
 use Rattle.line_laws.specs.Keyed.{Among}
-use Rattle.line_laws.specs.Laws.{IsLineRun, FlightsAreOctets}
+use Rattle.line_laws.specs.Laws.{FlightsAreOctets}
 use Rattle.line_laws.specs.Owed.{KeepsRanges}
 
 -- The tag of the channel in which the third message brings the grant: RAND_S stands in the head that it covers, and RAND_P makes its key.

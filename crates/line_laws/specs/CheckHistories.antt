@@ -19,9 +19,8 @@ use Rattle.line_events.specs.declared.event.Answer.TheVariants as said
 use Rattle.line_events.specs.declared.event.Event.{Event}
 use Rattle.line_rules.specs.Forgery.{Comes, accepting}
 use Rattle.line_rules.specs.FurtherRuns.{check_history}
-use Rattle.line_rules.specs.Runs.{Entry}
+use Rattle.line_rules.specs.Runs.{Entry, IsLineRun}
 use Rattle.line_rules.specs.Worlds.{World, node_at, start}
-use Rattle.line_laws.specs.Laws.{IsLineRun}
 use Rattle.line_laws.specs.ReachTraces.{FrameCame}
 
 -- # In a history

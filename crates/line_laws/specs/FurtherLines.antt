@@ -26,13 +26,12 @@ use Rattle.plc_base.specs.Keeper.{Records}
 use Rattle.broadcast_log.specs.Laws.{IsLogIn}
 use Rattle.line_events.specs.declared.event.Event.{Event}
 use Rattle.line_events.specs.Events.{IsEvent}
-use Rattle.line_rules.specs.Runs.{Entry}
+use Rattle.line_rules.specs.Runs.{Entry, IsLineRun}
 use Rattle.line_rules.specs.Logs.{CommandsAreOctets, HaveShortTables, LogsKept}
 use Rattle.line_rules.specs.Nonces.{IsSpelled}
 use Rattle.pan_discovery.specs.declared.message.Discovery.{Discovery}
 use Rattle.pan_discovery.specs.Messages.{IsDiscovery}
 use Rattle.reach_rules.specs.Beacons.{hear_discovery}
-use Rattle.line_laws.specs.Laws.{IsLineRun}
 use Rattle.line_laws.specs.Live.{MarksRise}
 use Rattle.line_laws.specs.Owed.{AreOctets, KeepsRanges}
 

@@ -2,10 +2,9 @@
 use Rattle.std.specs.Prelude.{◌≡◌, false, List, [], ◌∷◌}
 use Rattle.node_rules.specs.Ciphers.{network}
 use Rattle.line_rules.specs.Agreement.{NodeHasKey}
-use Rattle.line_rules.specs.Runs.{Entry}
+use Rattle.line_rules.specs.Runs.{Entry, IsLineRun}
 use Rattle.line_rules.specs.Worlds.{World, Issued, start}
 use Rattle.line_laws.specs.Keyed.{Each}
-use Rattle.line_laws.specs.Laws.{IsLineRun}
 use Rattle.line_laws.specs.Ranges.{WorldRanged}
 
 -- what every node holds is in its ranges after each event, and what flies is letters in theirs, plain frames and frames of discovery

@@ -1,11 +1,11 @@
 -- A joined meter holds only keys that were issued to it.
 use Rattle.std.specs.Prelude.{◌≡◌, false, List, [], ◌∷◌, ◌++◌}
 use Rattle.node_rules.specs.Ciphers.{Ciphers}
-use Rattle.line_rules.specs.Runs.{Entry, issued}
+use Rattle.line_rules.specs.Runs.{Entry, issued, IsLineRun}
 use Rattle.line_rules.specs.SafeRuns.{HasOnlyIssuedKeys}
 use Rattle.line_rules.specs.Agreement.{Agrees}
 use Rattle.line_laws.specs.Owed.{KeepsRanges}
-use Rattle.line_laws.specs.Laws.{IsLineRun, FlightsAreOctets}
+use Rattle.line_laws.specs.Laws.{FlightsAreOctets}
 
 -- after each event before the first forged one, each meter holds only keys that were issued to it up to then
 abbrev pub IsIssuedAfter : List Entry → List Entry → Type 0

@@ -9,10 +9,9 @@ use Rattle.line_events.specs.declared.event.Event.{Event}
 use Rattle.line_events.specs.declared.event.Event.TheVariants as events
 use Rattle.node_rules.specs.Ciphers.{network}
 use Rattle.node_rules.specs.Memory.{Memory, Node}
-use Rattle.line_rules.specs.Runs.{Entry}
+use Rattle.line_rules.specs.Runs.{Entry, IsLineRun}
 use Rattle.line_rules.specs.Worlds.{World, Issued, node_at, start}
 use Rattle.line_laws.specs.Keyed.{Each}
-use Rattle.line_laws.specs.Laws.{IsLineRun}
 
 -- the key that the coordinator's ring has at an index
 abbrev pub coordinator_key : World → ℕ → Option Key

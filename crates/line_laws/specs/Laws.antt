@@ -1,24 +1,20 @@
 -- What holds of every run of the line.
-use Rattle.std.specs.Prelude.{◌≡◌, ◌⊎◌, ℕ, Some, None, All, List}
+use Rattle.std.specs.Prelude.{◌≡◌, ◌⊎◌, ℕ, Some, None, All, List, IsOk}
 use Rattle.plc_base.specs.declared.key.Key.{Key}
 use Rattle.mac_frames.specs.Reading.{head_in}
 use Rattle.pan_discovery.specs.declared.message.Discovery.{Discovery}
 use Rattle.pan_discovery.specs.Messages.{discovery_spelling}
 use Rattle.node_rules.specs.Ciphers.{Ciphers, network}
-use Rattle.line_events.specs.Events.{AreEvents}
+use Rattle.node_rules.specs.Memory.{Node}
+use Rattle.node_rules.specs.StoreReading.{memory_of}
 use Rattle.line_rules.specs.Worlds.{Flight, start}
-use Rattle.line_rules.specs.Runs.{Entry, IsRun, events_of}
+use Rattle.line_rules.specs.Runs.{Entry, IsLineRun}
 use Rattle.line_rules.specs.SafeRuns.{IsAlwaysSized, IsAlwaysSizedBy, RestartsAreAnswered}
 use Rattle.line_rules.specs.Nonces.{CountersRise, NoncesDiffer, IsPlainFrame, IsSealedUnder, nonce_in_head, AreSpelled, AreAddressed, AreApart}
 use Rattle.line_rules.specs.Forgery.{IsForgedRight}
 use Rattle.line_rules.specs.Traces.{CountsRight, AreTracedRight}
 use Rattle.line_laws.specs.Owed.{AreOctets, KeepsRanges}
 use Rattle.line_laws.specs.Sizes.{IsAnyLoad}
-
--- A run of the line from its beginning, whose events are ones that lines can say.
-pub record IsLineRun (ciphers : Ciphers) (entries : List Entry) : Type 0 where
-  pub events : AreEvents (events_of entries)
-  pub run : IsRun ciphers start entries
 
 -- every flight of a run is octets
 abbrev pub FlightsAreOctets : List Entry → Type 0
@@ -82,6 +78,19 @@ abbrev pub EveryRunIsSized : Type 0
 EveryRunIsSized =
     (ciphers : Ciphers) → KeepsRanges ciphers → (entries : List Entry) → IsLineRun ciphers entries
     → FlightsAreOctets entries → IsAlwaysSizedBy IsAnyLoad entries
+
+-- the records of a node have a reading: what it would hold after a restart
+abbrev pub HasReading : Node → Type 0
+HasReading x = IsOk (memory_of x.role x.store.records)
+
+-- so have those of every node of every world, also where a failed write has halted it
+abbrev pub StoresAreReadable : List Entry → Type 0
+StoresAreReadable entries = All (λ (x : Entry). All HasReading x.after.nodes) entries
+
+abbrev pub EveryStoreIsReadable : Type 0
+EveryStoreIsReadable =
+    (ciphers : Ciphers) → KeepsRanges ciphers → (entries : List Entry) → IsLineRun ciphers entries
+    → FlightsAreOctets entries → StoresAreReadable entries
 
 -- a restart finds a store that has a reading
 abbrev pub EveryRestartIsAnswered : Type 0

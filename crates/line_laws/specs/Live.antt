@@ -12,11 +12,11 @@ use Rattle.node_rules.specs.Ciphers.{Ciphers}
 use Rattle.node_rules.specs.Memory.{Memory, Role, Coordinator, Meter, Node}
 use Rattle.node_rules.specs.StoreReading.{memory_of}
 use Rattle.line_rules.specs.Forgery.{Comes, accepting}
-use Rattle.line_rules.specs.Runs.{Entry}
+use Rattle.line_rules.specs.Runs.{Entry, IsLineRun}
 use Rattle.line_rules.specs.Steps.{memory_by}
 use Rattle.line_rules.specs.Worlds.{World, Flight, node_at, start}
 use Rattle.line_laws.specs.Owed.{KeepsRanges}
-use Rattle.line_laws.specs.Laws.{IsLineRun, FlightsAreOctets}
+use Rattle.line_laws.specs.Laws.{FlightsAreOctets}
 use Rattle.line_laws.specs.Places.{LiveFalls, opened_at}
 
 -- # What a node holds

@@ -7,10 +7,9 @@ use Rattle.routing_set.specs.RoutingSet as routing
 use Rattle.node_rules.specs.Ciphers.{network}
 use Rattle.node_rules.specs.Memory.{Node, node_route}
 use Rattle.line_events.specs.declared.event.Event.TheVariants as events
-use Rattle.line_rules.specs.Runs.{Entry}
+use Rattle.line_rules.specs.Runs.{Entry, IsLineRun}
 use Rattle.line_rules.specs.SafeRuns.{HasNoLoop}
 use Rattle.line_rules.specs.Worlds.{World, node_at, start}
-use Rattle.line_laws.specs.Laws.{IsLineRun}
 
 -- # What nodes store
 

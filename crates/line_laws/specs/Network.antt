@@ -6,7 +6,7 @@ use Rattle.line_rules.specs.Agreement.{Agrees, KickedStaysOut}
 use Rattle.line_rules.specs.Forgery.{IsForgedRight}
 use Rattle.line_rules.specs.FurtherRuns.{AreBroadcastOnce, AreOfHistory, AreWalked, LogsAlwaysKept}
 use Rattle.line_rules.specs.Nonces.{CountersRise, NoncesDiffer, AreSpelled, AreAddressed, AreApart}
-use Rattle.line_rules.specs.Runs.{Entry, IsRun}
+use Rattle.line_rules.specs.Runs.{Entry, IsRun, IsLineRun, last_world}
 use Rattle.line_rules.specs.SafeRuns.{IsAlwaysSized, IsSafe, RestartsAreAnswered}
 use Rattle.line_rules.specs.Traces.{CountsRight, AreTracedRight}
 use Rattle.line_rules.specs.Worlds.{World, Flight, start}
@@ -16,7 +16,7 @@ use Rattle.line_laws.specs.Live.{MarksAlwaysRise, FlightsAlwaysFall}
 use Rattle.line_laws.specs.Once.{AcceptsOnce, AcceptedOnce}
 use Rattle.line_laws.specs.Issued.{IsIssuedAfter}
 use Rattle.line_laws.specs.IssuedRight.{AreIssuedRight}
-use Rattle.line_laws.specs.Laws.{IsLineRun, FlightsAreOctets}
+use Rattle.line_laws.specs.Laws.{FlightsAreOctets, StoresAreReadable}
 use Rattle.line_laws.specs.Loops.{AreLoopFree, RestartsEndRoutes}
 use Rattle.line_laws.specs.ReachTraces.{AreReachReported, ListsBroadcasts}
 use Rattle.line_laws.specs.StepsTaken.{AreStepsTaken}
@@ -31,6 +31,7 @@ EveryRunIsSafe = (entries : List Entry) → IsLineRun network entries → IsSafe
 pub record IsRight (entries : List Entry) : Type 0 where
   pub octets : FlightsAreOctets entries
   pub sized : IsAlwaysSized entries
+  pub readable : StoresAreReadable entries
   pub answered : RestartsAreAnswered entries
   pub ends : RestartsEndRoutes entries
   pub rises : CountersRise entries
@@ -70,13 +71,8 @@ EveryNetworkRunIsRight = (entries : List Entry) → IsLineRun network entries �
 
 -- # Flights stay
 
--- the world after all events of a run from a world on
-abbrev pub world_after : World → List Entry → World
-world_after w [] = w
-world_after w (x ∷ xs) = world_after x.after xs
-
 -- no flight is ever taken away, and each keeps its octets: where those of the last world are octets, all were
 abbrev pub LastFlightsSayAll : Type 0
 LastFlightsSayAll =
     (ciphers : Ciphers) (entries : List Entry) → IsRun ciphers start entries
-    → All (λ (f : Flight). AreOctets f.octets) (world_after start entries).flights → FlightsAreOctets entries
+    → All (λ (f : Flight). AreOctets f.octets) (last_world start entries).flights → FlightsAreOctets entries

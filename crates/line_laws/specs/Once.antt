@@ -3,10 +3,10 @@ use Rattle.std.specs.Prelude.{◌≡◌, ℕ, false, List, [], ◌∷◌}
 use Rattle.plc_base.specs.declared.key.Key.{Key}
 use Rattle.node_rules.specs.Ciphers.{Ciphers}
 use Rattle.line_rules.specs.Forgery.{AcceptsSealed}
-use Rattle.line_rules.specs.Runs.{Entry}
+use Rattle.line_rules.specs.Runs.{Entry, IsLineRun}
 use Rattle.line_rules.specs.Worlds.{World, start}
 use Rattle.line_laws.specs.Owed.{KeepsRanges}
-use Rattle.line_laws.specs.Laws.{IsLineRun, FlightsAreOctets}
+use Rattle.line_laws.specs.Laws.{FlightsAreOctets}
 
 -- # By one node
 

@@ -23,10 +23,9 @@ use Rattle.line_events.specs.Events.{IsEvent, IsLineOctets}
 use Rattle.line_rules.specs.Forgery.{Comes, accepting}
 use Rattle.line_rules.specs.Further.{acknowledging, beside_at, due, reaches}
 use Rattle.line_rules.specs.FurtherRuns.{AreBroadcastOnce, AreOfHistory, AreWalked, LogsAlwaysKept}
-use Rattle.line_rules.specs.Runs.{Entry}
+use Rattle.line_rules.specs.Runs.{Entry, IsLineRun}
 use Rattle.line_rules.specs.Steps.{forged_by, hears, identity, note_by, psk_of}
 use Rattle.line_rules.specs.Worlds.{World, node_at}
-use Rattle.line_laws.specs.Laws.{IsLineRun}
 use Rattle.line_laws.specs.Letters.{IsSent}
 use Rattle.line_laws.specs.Ranges.{WorldRanged}
 

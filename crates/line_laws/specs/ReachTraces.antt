@@ -29,10 +29,9 @@ use Rattle.line_events.specs.declared.happenings.BroadcastUp.{BroadcastUp}
 use Rattle.line_events.specs.declared.happenings.PathLine.{PathLine}
 use Rattle.line_rules.specs.Forgery.{Comes, accepting}
 use Rattle.line_rules.specs.FurtherRuns.{broadcasts}
-use Rattle.line_rules.specs.Runs.{Entry, one_of}
+use Rattle.line_rules.specs.Runs.{Entry, one_of, IsLineRun}
 use Rattle.line_rules.specs.Steps.{flight_by}
 use Rattle.line_rules.specs.Worlds.{World, node_at, Broadcasting, Noticed, Replied, Acknowledged, Scans, Heard, start}
-use Rattle.line_laws.specs.Laws.{IsLineRun}
 
 -- # Frames that come and fly
 

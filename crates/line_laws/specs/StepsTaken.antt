@@ -8,9 +8,8 @@ use Rattle.node_rules.specs.Ciphers.{network}
 use Rattle.node_rules.specs.Memory.{Node, node_address, node_route}
 use Rattle.line_events.specs.declared.event.Event.{Event}
 use Rattle.line_events.specs.declared.event.Event.TheVariants as events
-use Rattle.line_rules.specs.Runs.{Entry}
+use Rattle.line_rules.specs.Runs.{Entry, IsLineRun}
 use Rattle.line_rules.specs.Worlds.{Stepping, World, node_at, start}
-use Rattle.line_laws.specs.Laws.{IsLineRun}
 use Rattle.line_laws.specs.ReachTraces.{FrameCame}
 
 -- A line asks a node for the way to another one, which has this address.

@@ -1,12 +1,12 @@
 -- The tags that name the pieces of datagrams.
 use Rattle.std.specs.Prelude.{◌≡◌, ℕ, ◌<◌, ◌≤◌, All, AllPairs, List, length, Some, Ok}
 use Rattle.std.specs.FinMap.{get}
-use Rattle.line_rules.specs.Runs.{Entry, sends}
+use Rattle.line_rules.specs.Runs.{Entry, sends, IsLineRun}
 use Rattle.line_rules.specs.Worlds.{World, Sending, node_at}
 use Rattle.node_rules.specs.Ciphers.{Ciphers}
 use Rattle.node_rules.specs.Memory.{Node}
 use Rattle.node_rules.specs.StoreReading.{tag_in}
-use Rattle.line_laws.specs.Laws.{IsLineRun, FlightsAreOctets}
+use Rattle.line_laws.specs.Laws.{FlightsAreOctets}
 use Rattle.line_laws.specs.Owed.{KeepsRanges}
 
 -- of two datagrams of one node that are cut into pieces the later one has the higher tag

@@ -1,10 +1,9 @@
 -- What a run hands up was sent, and nothing is handed up twice.
 use Rattle.std.specs.Prelude.{◌≡◌, false, List, [], ◌∷◌, ◌++◌, IfSome}
-use Rattle.line_rules.specs.Runs.{Entry, sends, ups}
+use Rattle.line_rules.specs.Runs.{Entry, sends, ups, IsLineRun}
 use Rattle.line_rules.specs.SafeRuns.{WasSent, IsNew}
 use Rattle.line_events.specs.declared.happenings.Handed.{Handed}
 use Rattle.node_rules.specs.Ciphers.{network}
-use Rattle.line_laws.specs.Laws.{IsLineRun}
 
 -- so it is of each event after others, before the first forged one
 abbrev pub UpsAreSentAfter : List Entry → List Entry → Type 0

@@ -8,7 +8,7 @@ ghost use Rattle.line_laws.specs.IssuedRight.{EveryKeyIsIssuedRight};
 ghost use Rattle.line_laws.specs.Kicked.{EveryKickedMeterStaysOut};
 ghost use Rattle.line_laws.specs.Laws.{EveryAddressDiffers, EveryCountIsRight, EveryCounterRises, EveryFlightIsAFrame, EveryFlightIsOctets};
 ghost use Rattle.line_laws.specs.Laws.{EveryFlightIsSpelled, EveryForgeryIsReported, EveryNetworkRunIsSized, EveryNonceDiffers};
-ghost use Rattle.line_laws.specs.Laws.{EveryRestartIsAnswered, EveryRunIsSized, EverySenderIsRight, EveryTraceIsRight};
+ghost use Rattle.line_laws.specs.Laws.{EveryRestartIsAnswered, EveryRunIsSized, EverySenderIsRight, EveryStoreIsReadable, EveryTraceIsRight};
 ghost use Rattle.line_laws.specs.Live.{EveryFlightFalls, EveryMarkRises};
 ghost use Rattle.line_laws.specs.Loops.{EveryRestartEndsRoutes, EveryRunIsLoopFree};
 ghost use Rattle.line_laws.specs.Network.{EveryNetworkRunIsRight, EveryRunIsSafe, LastFlightsSayAll};
@@ -51,6 +51,13 @@ pub fn every_run_is_sized()
 #[tactic(auto)]
 pub fn every_restart_is_answered()
     ensures { EveryRestartIsAnswered }
+{}
+
+/// In every run, forged or not, after every event: the records of each node have a reading, also those of a node that a failed write has
+/// halted.
+#[tactic(auto)]
+pub fn every_store_is_readable()
+    ensures { EveryStoreIsReadable }
 {}
 
 /// In every run of the network, forged or not: after a restart its node has no valid route, whatever it had before.

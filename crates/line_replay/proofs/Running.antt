@@ -17,9 +17,8 @@ use Rattle.line_events.specs.Events.{IsEvent, AreEvents}
 use Rattle.line_rules.specs.Worlds.{World, start}
 use Rattle.line_rules.specs.Steps.{Step}
 use Rattle.line_rules.specs.Further.{line_step}
-use Rattle.line_rules.specs.Runs.{Entry, IsRun, events_of}
+use Rattle.line_rules.specs.Runs.{Entry, IsRun, events_of, IsLineRun}
 use Rattle.line_rules.specs.Traces.{CountsRight}
-use Rattle.line_laws.specs.Laws.{IsLineRun}
 use Rattle.line_script.specs.declared.reading.Reading.{Reading}
 use Rattle.line_script.specs.declared.reading.Reading.TheVariants.{Quiet, NoForm, Reads}
 use Rattle.line_script.specs.declared.report.Reason.TheVariants as reasons

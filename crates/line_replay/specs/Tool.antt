@@ -1,3 +1,4 @@
+use Rattle.line_rules.specs.Runs.{IsLineRun}
 -- What the tool's call says.
 use Rattle.std.specs.Prelude.{◌≡◌, ℕ, ◌<◌, Bool, true, false, ◌&&◌, List, [], ◌∷◌, ◌++◌, length, String, Some, None, codes, string_bytes, bytes_eq}
 use Rattle.std.specs.Prelude.{if◌then◌else◌}
@@ -11,7 +12,6 @@ use Rattle.line_driver.specs.declared.machine.Exit.TheVariants as exits
 use Rattle.line_driver.specs.Outcomes.{Outcome}
 use Rattle.line_driver.specs.Clauses.{Drives}
 use Rattle.node_rules.specs.Ciphers.{network}
-use Rattle.line_laws.specs.Laws.{IsLineRun}
 use Rattle.line_laws.specs.Network.{IsRight}
 use Rattle.line_script.specs.Words.{number_within}
 use Rattle.line_replay.specs.declared.tool.Command.{Command}

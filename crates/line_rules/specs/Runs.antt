@@ -1,9 +1,10 @@
 -- Runs of the world, and the history of each.
 use Rattle.std.specs.Prelude.{◌≡◌, ℕ, ◌+◌, ◌-◌, ◌<◌, ◌==◌, nat_lt, false, List, [], ◌∷◌, ◌++◌, map, All, Option, Some, None, Ok, Err, slice_get, if◌then◌else◌}
 use Rattle.line_events.specs.declared.event.Event.{Event}
+use Rattle.line_events.specs.Events.{IsEvent, AreEvents}
 use Rattle.line_events.specs.declared.event.TheConstants.{MAX_EVENTS}
-use Rattle.node_rules.specs.Ciphers.{Ciphers}
-use Rattle.line_rules.specs.Worlds.{World, Sending, Issued, Pairing, Trace}
+use Rattle.node_rules.specs.Ciphers.{Ciphers, network}
+use Rattle.line_rules.specs.Worlds.{World, Sending, Issued, Pairing, Trace, start}
 use Rattle.line_events.specs.declared.happenings.Handed.{Handed}
 use Rattle.line_rules.specs.Steps.{Step}
 use Rattle.line_rules.specs.Further.{line_step}
@@ -38,6 +39,41 @@ IsRun ciphers w (x ∷ xs) =
     (w.events < MAX_EVENTS) × (x.number ≡ w.events + 1) × (line_step ciphers w x.event ≡ Ok (x.after, x.trace))
     × IsRun ciphers x.after xs
 
+-- the events of a run
+abbrev pub events_of : List Entry → List Event
+events_of entries = map (λ (x : Entry). x.event) entries
+
+-- A run of the line from its beginning, whose events are ones that lines can say.
+pub record IsLineRun (ciphers : Ciphers) (entries : List Entry) : Type 0 where
+  pub events : AreEvents (events_of entries)
+  pub run : IsRun ciphers start entries
+
+-- the world after all events of a run from a world on
+abbrev pub last_world : World → List Entry → World
+last_world w [] = w
+last_world w (x ∷ xs) = last_world x.after xs
+
+-- The history of a world: a run of the network from the beginning that ends in it.
+pub record IsHistory (entries : List Entry) (w : World) : Type 0 where
+  pub run : IsLineRun network entries
+  pub ends : last_world start entries ≡ w
+
+-- A world that has a history.
+pub record IsReached (w : World) : Type 0 where
+  pub entries : List Entry
+  pub history : IsHistory entries w
+
+-- the world of the beginning has one, with no event
+abbrev pub TheStartIsReached : Type 0
+TheStartIsReached = IsHistory [] start
+
+-- a history goes on by each event that is taken
+abbrev pub HistoriesGoOn : Type 0
+HistoriesGoOn =
+    (entries : List Entry) (w v : World) (event : Event) (trace : Trace) → IsHistory entries w → w.events < MAX_EVENTS → IsEvent event
+    → line_step network w event ≡ Ok (v, trace)
+    → IsHistory (entries ++ record { number = w.events + 1; event = event; trace = trace; after = v } ∷ []) v
+
 -- # What a history has
 
 -- what each entry gives, in order
@@ -65,10 +101,6 @@ issued entries = all_of (λ d. d.issued) entries
 -- the joinings that meters took, in order
 abbrev pub takings : List Entry → List Pairing
 takings entries = all_of (λ d. one_of d.taken) entries
-
--- the events of a run
-abbrev pub events_of : List Entry → List Event
-events_of entries = map (λ (x : Entry). x.event) entries
 
 -- the send of a number
 abbrev pub send_at : List Sending → ℕ → Option Sending

@@ -2,6 +2,7 @@
 ghost use Rattle.line_rules.specs.FurtherRuns.{NothingFurther};
 ghost use Rattle.line_rules.specs.Laws.{StepsGoOn, LineStepsGoOn};
 ghost use Rattle.line_rules.specs.Logs.{LineStepsKeepLogs, LogsKeptAtFirst};
+ghost use Rattle.line_rules.specs.Runs.{TheStartIsReached, HistoriesGoOn};
 
 /// An event that is taken counts one event on, and takes back no flight and no tag that was made; no node goes, and the clock does not
 /// fall.
@@ -14,6 +15,14 @@ pub fn steps_go_on()
 #[tactic(auto)]
 pub fn line_steps_go_on()
     ensures { LineStepsGoOn }
+{}
+
+/// The history of a world goes on by each event that is taken. So whoever steps a world has its history, and all that the laws say of
+/// runs holds of it.
+#[tactic(auto)]
+pub fn histories_go_on()
+    ensures first { TheStartIsReached }
+    ensures later { HistoriesGoOn }
 {}
 
 /// Before the first event no neighbour is checked and no agent was heard, and the history has no broadcast and no path.

@@ -68,6 +68,9 @@ impl Space {
 }
 
 /// The nodes of a line, and every frame that ever went out.
+///
+/// Each world has a history: a run of the rules from the world without nodes that ends in it (`reached` of `counts`). What the laws of runs
+/// say holds of it, for whoever steps it: `line_rules::histories_go_on` says which entry each event adds.
 #[derive(Drop)]
 pub struct World {
     pub(crate) line: Line,
@@ -75,6 +78,7 @@ pub struct World {
 
 impl Model for World {
     ghost use Rattle.line_rules.specs.Logs.{LogsKept};
+    ghost use Rattle.line_rules.specs.Runs.{IsReached};
     ghost use Rattle.line_rules.specs.Worlds.{World};
     ghost use Rattle.line_world.specs.WorldCodes.{world_code};
     ghost use Rattle.line_world.specs.Bounds.{IsBounded, NoneChecked};
@@ -86,13 +90,15 @@ impl Model for World {
 
     ghost view = { λ w. world_of w.line };
 
-    ghost invariant = { λ w. IsBounded (world_of w.line) × LogsKept (world_of w.line) × NoneChecked (world_of w.line) };
+    ghost invariant = { λ w. IsBounded (world_of w.line) × LogsKept (world_of w.line) × NoneChecked (world_of w.line)
+        × IsReached (world_of w.line) };
 }
 
 impl World {
     ghost use Rattle.std.specs.Option.{option_copied, option_map};
     ghost use Rattle.node_rules.specs.Ciphers.{network};
     ghost use Rattle.line_rules.specs.Worlds.{start, flight_at};
+    ghost use Rattle.line_rules.specs.Runs.{IsReached};
     ghost use Rattle.line_rules.specs.Further.{line_step};
     ghost use Rattle.line_world.specs.Steps.{Gives, HasMemory, takes_memory};
 
@@ -130,6 +136,7 @@ impl World {
         ensures forged { result.forged ≡ self.now.forged }
         ensures done { result.done ≡ self.now.done }
         ensures bound { self.now.events ≤ MAX_EVENTS }
+        ensures reached { IsReached self.now }
     {
         Counts {
             events: self.line.events,

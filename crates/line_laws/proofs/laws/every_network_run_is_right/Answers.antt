@@ -9,7 +9,7 @@ use Rattle.line_laws.proofs.FurtherStates.{every_issued_right}
 use Rattle.line_laws.proofs.FurtherUps.{every_up}
 use Rattle.line_laws.proofs.KeyedRuns.{every_address, every_fall, every_joining, every_nonce, only_issued}
 use Rattle.line_laws.proofs.KickRuns.{every_kick}
-use Rattle.line_laws.proofs.LawRuns.{every_count, every_counter, every_forgery, every_mark, every_restart, every_restart_ends, every_send}
+use Rattle.line_laws.proofs.LawRuns.{every_count, every_counter, every_forgery, every_mark, every_restart, every_store, every_restart_ends, every_send}
 use Rattle.line_laws.proofs.LawRuns.{every_sender, every_spelling, every_tag, every_trace}
 use Rattle.line_laws.proofs.OnceRuns.{every_frame, every_node}
 use Rattle.line_laws.proofs.ReachHistory.{every_history}
@@ -25,6 +25,7 @@ pub returns : goal.returns
 returns c = λ entries run. record {
   octets = every_flight entries run;
   sized = every_size entries run;
+  readable = every_store network network_ranges entries run (every_flight entries run);
   answered = every_restart network network_ranges entries run (every_flight entries run);
   ends = every_restart_ends entries run;
   rises = every_counter network network_ranges entries run (every_flight entries run);

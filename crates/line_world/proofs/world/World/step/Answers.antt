@@ -4,6 +4,7 @@ use Rattle.node_rules.specs.Ciphers.{network}
 use Rattle.line_world.specs.Lines.{world_of}
 use Rattle.line_world.proofs.Besides.{beside_long}
 use Rattle.line_world.proofs.Comings.{still_kept}
+use Rattle.line_world.proofs.Reached.{still_reached}
 use Rattle.line_world.proofs.Unchecked.{still_none}
 use Rattle.line_world.proofs.world.World.step.Goals as goal
 
@@ -16,4 +17,6 @@ invariant_of-self c = (
   still_kept (world_of c.self.inside.line) (world_of c.step.new.self) c.args.event.now c.step.result c.short_tables.ensures.tables c.self.invariant.1
       c.step.ensures.octets c.step.ensures.steps.gives,
   still_none (world_of c.self.inside.line) (world_of c.step.new.self) c.args.event.now c.step.result c.self.invariant.2 c.step.ensures.steps.gives,
+  still_reached (world_of c.self.inside.line) (world_of c.step.new.self) c.args.event.now c.step.result c.self.invariant.3 c.requires.events c.requires.event
+      c.step.ensures.steps.gives,
 )
