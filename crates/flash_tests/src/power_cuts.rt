@@ -1,4 +1,6 @@
 //! Puts into a small store, in one of whose programs or erases power fails; then it is opened several times.
+ghost use Rattle.std.specs.Prelude.{◌≤◌};
+
 use flash_keeper::{Cut, FlashKeeper, ModelFlash};
 use plc_base::{Keeper, Record};
 use std::alloc::{AllocError, Global};
@@ -31,7 +33,9 @@ fn store(alloc: Global, nth: u32, how: Cut, of_second: bool) -> Result<Option<St
 }
 
 // How many of 14 puts succeed, by turns at three slots.
-fn put_all(keeper: &mut Store) -> u8 {
+fn put_all(keeper: &mut Store) -> u8
+    ensures { result ≤ 14 }
+{
     for k in 0..14 {
         if keeper.put(1 + u32::from(k % 3), &record(k)).is_err() {
             return k;

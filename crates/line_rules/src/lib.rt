@@ -6,4 +6,6 @@
 
 mod laws;
 
-pub use laws::{histories_go_on, it_starts_with_nothing_further, line_steps_go_on, logs_are_kept, steps_go_on};
+pub use laws::{
+    histories_go_on, it_starts_with_nothing_further, line_steps_go_on, logs_are_kept, steps_go_on,
+};

@@ -34,3 +34,4 @@ mod HeardFurther
 mod Calling
 mod CheckedFrames
 mod Acknowledging
+mod Reached
