@@ -73,12 +73,12 @@ module _ (store : Store) (eui : Eui) (key : Key) (y : CoordinatorState) (new : s
 
   pub made : Begins store eui key (Ok tt) (node_of y) → of_coordinator y ≡ coordinator_node eui key
   made b =
-      let t = took Coordinator (read_state store eui b.memory) (node_of y) (Ok tt) (λ m. begin m (first_grant key)) (Ok tt) nothing tells tt b.carries in
+      let t = took Coordinator (read_state store eui b.memory) (node_of y) (Ok tt) (λ m. begin m (first_grant key)) (Ok tt) nothing reports tt b.carries in
       t.node_is ∙ ap (λ n. (acts n (Ok tt) (λ m. begin m (first_grant key))).node) (blank_is b.memory b.read)
 
   pub made_sound : Begins store eui key (Ok tt) (node_of y) → IsSome (node_of y).memory → Holds (node_of y) → IsSoundCoordinator y
   made_sound b running h =
-      runs_sound y running h (tells_still (read_state store eui b.memory) (node_of y) (begin b.memory (first_grant key)) (Ok tt) nothing tells b.carries)
+      runs_sound y running h (tells_still (read_state store eui b.memory) (node_of y) (begin b.memory (first_grant key)) (Ok tt) nothing reports b.carries)
 
   -- it may begin
   pub may_begin : MayBegin store.records

@@ -1,5 +1,8 @@
 -- The world's invariant after an event.
+use Rattle.std.proofs.Common.{◌<◌, sym, subst}
+use Rattle.line_events.specs.declared.event.TheConstants.{MAX_EVENTS}
 use Rattle.line_rules.specs.Further.{line_step}
+use Rattle.line_rules.specs.Worlds.{World}
 use Rattle.node_rules.specs.Ciphers.{network}
 use Rattle.line_world.specs.Lines.{world_of}
 use Rattle.line_world.proofs.Besides.{beside_long}
@@ -17,6 +20,6 @@ invariant_of-self c = (
   still_kept (world_of c.self.inside.line) (world_of c.step.new.self) c.args.event.now c.step.result c.short_tables.ensures.tables c.self.invariant.1
       c.step.ensures.octets c.step.ensures.steps.gives,
   still_none (world_of c.self.inside.line) (world_of c.step.new.self) c.args.event.now c.step.result c.self.invariant.2 c.step.ensures.steps.gives,
-  still_reached (world_of c.self.inside.line) (world_of c.step.new.self) c.args.event.now c.step.result c.self.invariant.3 c.requires.events c.requires.event
-      c.step.ensures.steps.gives,
+  still_reached (world_of c.self.inside.line) (world_of c.step.new.self) c.args.event.now c.step.result c.self.invariant.3
+      (subst (λ (w : World). w.events < MAX_EVENTS) (sym c.self.view_is) c.requires.events) c.requires.event c.step.ensures.steps.gives,
 )
