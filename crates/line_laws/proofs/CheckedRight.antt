@@ -66,28 +66,36 @@ use Rattle.line_laws.proofs.ReachHistory.{every_history, start_history}
 use Rattle.line_laws.proofs.ReachSteps.{Asks, Bcasts, Checked, Chooses, Commands, Discovers, Fails, Hears, IsAccepted, IsReachStep, Known, Opens, Restarts}
 use Rattle.line_laws.proofs.ReachSteps.{Rests, Scans, Ticks, Unbelieves, after_accepting, heard_node, reach_step_is, same_comes}
 use Rattle.line_laws.proofs.ReachReported.{QuietIn, old_quiet}
-use Rattle.line_laws.proofs.ReachWords.{Quiet, ask_quiet, broadcast_quiet, choice_quiet, drop_quiet, hears_quiet, idle_quiet, is_new, lost_quiet, restart_quiet}
+use Rattle.line_laws.proofs.ReachWords.{NotNew, Quiet, ask_quiet, broadcast_quiet, choice_quiet, drop_quiet, hears_quiet, idle_quiet, is_new, lost_quiet}
+use Rattle.line_laws.proofs.ReachWords.{not_new, restart_quiet}
 use Rattle.line_laws.proofs.TracesRight.{comes_brought, entry, false_true}
 
 same_Ok : {A E : Type 0} (x y : A) (r : Result A E) → r ≡ Ok x → r ≡ Ok y → x ≡ y
 same_Ok x y r e f = cc (e, f)
 
 -- a word of further reach is no other word
+other_word : (a b : Answer) → NotNew a → is_new b ≡ true → a ≡ b → ⊥
+other_word a b old new e = false_true (sym old ∙ ap is_new e ∙ new)
+
 new_word : (a b : Answer) → Quiet a → is_new b ≡ true → a ≡ b → ⊥
-new_word a b old new e = false_true (sym old ∙ ap is_new e ∙ new)
+new_word a b old = other_word a b (not_new a old)
 
 module _ (w : World) (before : List Entry) (h : IsOfHistory before w) (n : ℕ) where
   abbrev CheckedIn : Event → Step → Type 0
   CheckedIn event (Ok r) = IsCheckedRight w before (entry n event r)
   CheckedIn event (Err fault) = Unit {0}
 
+  other_checked : (event : Event) (v : World) (t : Trace) → NotNew t.happened.answer → (IsBlacklisted w before event → ⊥)
+      → IsCheckedRight w before (entry n event (v, t))
+  other_checked event v t old none = record {
+    blacklisted = (λ e. absurd (other_word t.happened.answer said.Blacklisted old refl e), λ b. absurd (none b));
+    acked = λ e. absurd (other_word t.happened.answer said.Acked old refl e);
+    not_awaited = λ e. absurd (other_word t.happened.answer said.NotAwaited old refl e);
+  }
+
   quiet_checked : (event : Event) (v : World) (t : Trace) → Quiet t.happened.answer → (IsBlacklisted w before event → ⊥)
       → IsCheckedRight w before (entry n event (v, t))
-  quiet_checked event v t quiet none = record {
-    blacklisted = (λ e. absurd (new_word t.happened.answer said.Blacklisted quiet refl e), λ b. absurd (none b));
-    acked = λ e. absurd (new_word t.happened.answer said.Acked quiet refl e);
-    not_awaited = λ e. absurd (new_word t.happened.answer said.NotAwaited quiet refl e);
-  }
+  quiet_checked event v t quiet none = other_checked event v t (not_new t.happened.answer quiet) none
 
   -- # Where no request was accepted
 
@@ -369,7 +377,7 @@ module _ (w : World) (before : List Entry) (h : IsOfHistory before w) (n : ℕ) 
   unbrought event none b = none b.number b.came.octets b.came.comes
 
   old_checked : (event : Event) (s : Step) → QuietIn s → (IsBlacklisted w before event → ⊥) → CheckedIn event s
-  old_checked event (Ok r) q none = quiet_checked event r.0 r.1 q none
+  old_checked event (Ok r) q none = other_checked event r.0 r.1 q none
   old_checked event (Err fault) q none = tt
 
   checked_in : (event : Event) (s : Step) → IsReachStep network w event s → CheckedIn event s

@@ -106,6 +106,7 @@ pub mod AgreeTags
 pub mod AgreeSteps
 pub mod AgreeRuns
 pub mod AgreedRight
+pub mod AdmittedRight
 pub mod BookGrowth
 pub mod NonceRuns
 pub mod MarkSteps

@@ -20,6 +20,7 @@ use Rattle.pan_discovery.specs.History.{Scanned}
 use Rattle.node_rules.specs.declared.heard.Accepted.{Accepted}
 use Rattle.node_rules.specs.declared.heard.Reply.{Reply}
 use Rattle.node_rules.specs.declared.refusal.Dropped.TheVariants as drops
+use Rattle.node_rules.specs.declared.refusal.CoordinatorRefusal.{CoordinatorRefusal}
 use Rattle.node_rules.specs.declared.refusal.CoordinatorRefusal.TheVariants as orders
 use Rattle.node_rules.specs.declared.refusal.SendRefusal.TheVariants as sends
 use Rattle.node_rules.specs.Coordinators as coordinator_rules
@@ -54,7 +55,7 @@ use Rattle.reach_rules.specs.Broadcasts.{broadcast, broadcast_ends, broadcast_fr
 use Rattle.reach_rules.specs.CheckedReplies.{message_of}
 use Rattle.reach_rules.specs.ReachingNodes.{Beside, Reaching}
 use Rattle.reach_rules.specs.Receiving.{NeighbourCommand, command_of, hear_command}
-use Rattle.line_rules.specs.Answers.{Reception, ask_word, broadcast_word, command_word, discovery_word, frame_word, scan_word, sent_word}
+use Rattle.line_rules.specs.Answers.{Reception, ask_word, broadcast_word, command_word, discovery_word, frame_word, order_word, scan_word, sent_word}
 use Rattle.line_events.specs.declared.event.Answer.{Answer}
 use Rattle.line_events.specs.declared.event.Answer.TheVariants as said
 use Rattle.line_events.specs.declared.event.Event.{Event}
@@ -65,8 +66,8 @@ use Rattle.line_rules.specs.Further.{broadcasts_by, checked, commanded, discover
 use Rattle.line_rules.specs.Further.{scans_by, sends_nothing, with_beside, with_check}
 use Rattle.line_rules.specs.Logs.{LogsKept}
 use Rattle.line_rules.specs.Runs.{Entry, IsRun, events_of, one_of}
-use Rattle.line_rules.specs.Steps.{Step, acted, flight_by, flights_of, happened, heard, identity, is_taken, note_by, ran, sent_if, tag_of, world_after}
-use Rattle.line_rules.specs.Steps.{trace_of}
+use Rattle.line_rules.specs.Steps.{Step, acted, allowed_word, flight_by, flights_of, happened, heard, identity, is_taken, note_by, ran, sent_if, tag_of}
+use Rattle.line_rules.specs.Steps.{trace_of, world_after}
 use Rattle.line_rules.specs.Forgery.{Comes}
 use Rattle.line_rules.specs.FurtherRuns.{broadcasts}
 use Rattle.line_rules.specs.Worlds.{Acknowledged, Broadcasting, Flight, Noticed, Trace, World, start}
@@ -79,16 +80,16 @@ use Rattle.line_laws.proofs.FurtherOctets.{every_run_holds}
 use Rattle.line_laws.proofs.ReachCame.{Says, acts_says, command_came, command_said}
 use Rattle.line_laws.proofs.ReachSteps.{Asks, Bcasts, Checked, Chooses, Commands, Discovers, Fails, Hears, IsAccepted, IsReachStep, Known, Opens, Restarts}
 use Rattle.line_laws.proofs.ReachSteps.{Rests, Scans as Begins, Ticks, Unbelieves, after_accepting, heard_node, reach_step_is}
-use Rattle.line_laws.proofs.ReachWords.{IsUnsent, Quiet, Untold, ask_quiet, breaks_quiet, broadcast_quiet, choice_quiet, frame_quiet, hears_quiet, idle_quiet}
-use Rattle.line_laws.proofs.ReachWords.{lost_quiet, ordered_quiet, reach_untold, restart_quiet, sent_quiet, unsent_answer, unsent_event, unsent_octets}
-use Rattle.line_laws.proofs.ReachWords.{unsent_word, untold, word_quiet}
+use Rattle.line_laws.proofs.ReachWords.{IsUnsent, NotNew, Quiet, Untold, ask_quiet, breaks_quiet, broadcast_quiet, choice_quiet, frame_quiet, hears_quiet}
+use Rattle.line_laws.proofs.ReachWords.{idle_quiet, lost_quiet, none_new, not_new, order_quiet, reach_untold, restart_quiet, sent_quiet, unsent_answer}
+use Rattle.line_laws.proofs.ReachWords.{unsent_event, unsent_octets, unsent_word, untold, word_quiet}
 use Rattle.line_laws.proofs.StepKinds as old
 use Rattle.line_laws.proofs.TracesRight.{entry}
 
 -- # What tells nothing of further reach
 
 record IsUntold (event : Event) (t : Trace) : Type 0 where
-  word : Quiet t.happened.answer
+  word : NotNew t.happened.answer
   spread : IsUnsent event t.happened.answer
   bup : t.happened.bup ≡ None
   path : t.happened.path ≡ None
@@ -102,7 +103,7 @@ UntoldIn event (Err fault) = Unit {0}
 silent : (event : Event) (t : Trace) → Quiet t.happened.answer → IsUnsent event t.happened.answer → t.happened.bup ≡ None → t.happened.path ≡ None
     → t.further.broadcast ≡ None → t.further.noticed ≡ None → IsUntold event t
 silent event t word spread bup path cast noticed =
-    record { word = word; spread = spread; bup = bup; path = path; broadcast = cast; noticed = noticed }
+    record { word = not_new t.happened.answer word; spread = spread; bup = bup; path = path; broadcast = cast; noticed = noticed }
 
 -- of an event that sends nothing to all
 quietly : (event : Event) (t : Trace) → Quiet t.happened.answer → as_bcast event ≡ None → t.happened.bup ≡ None → t.happened.path ≡ None
@@ -133,8 +134,19 @@ old_untold w event s (old.SendsFrom from to datagram x a there call target) =
     (sent_quiet (acts x (Err sends.Halted) (λ m. of_station m (calls.send m.station a datagram (w.sends + 1) w.clock))).answer)
     refl refl refl refl refl)
 old_untold w event s (old.AllowsMeter number y c psk there call meter) =
-    quietly (events.Allow number) _ (ordered_quiet said.Allowed refl (acts c (Err orders.Halted) (λ m. coordinator_rules.allow m y.eui psk)).answer)
-    refl refl refl refl refl
+    let a = (acts c (Err orders.Halted) (λ m. coordinator_rules.allow m y.eui psk)).answer in
+    record {
+      word = by_answer a;
+      spread = unsent_event (events.Allow number) (allowed_word a) refl;
+      bup = refl;
+      path = refl;
+      broadcast = refl;
+      noticed = refl;
+    }
+  where
+    by_answer : (r : Result ℕ CoordinatorRefusal) → NotNew (allowed_word r)
+    by_answer (Ok address) = refl
+    by_answer (Err reason) = not_new (order_word reason) (order_quiet reason)
 old_untold w event s (old.Sets e quiet number x plan there open_is is) = silent e _ refl refl refl refl refl refl
 old_untold w event s (old.SetsTwo e quiet a b cost x y p q hx hy apart open_is first second fresh near) =
     silent e _ refl refl refl refl refl refl
@@ -152,7 +164,7 @@ old_untold w event s (old.Cuts number nth keeps_new x there) =
     silent (events.Cut number nth keeps_new) _ refl refl refl refl refl refl
 
 abbrev pub QuietIn : Step → Type 0
-QuietIn (Ok r) = Quiet r.1.happened.answer
+QuietIn (Ok r) = NotNew r.1.happened.answer
 QuietIn (Err fault) = Unit {0}
 
 -- its word is none of further reach
@@ -215,7 +227,7 @@ module _ (w : World) (logs : LogsKept w) (n : ℕ) where
   ToldIn event (Err fault) = Unit {0}
 
   untold_told : (event : Event) (v : World) (t : Trace) → IsUntold event t → IsReachReported w (entry n event (v, t))
-  untold_told event v t u = let q = untold t.happened.answer u.word in record {
+  untold_told event v t u = let q = none_new t.happened.answer u.word in record {
     broadcast = ap (option_map to_all_of) u.broadcast ∙ sym u.spread;
     bup = ap is_some u.bup ∙ sym q.0;
     bup_came = subst (λ o. IfSome o (BroadcastCame w event)) (sym u.bup) tt;

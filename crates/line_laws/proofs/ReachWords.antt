@@ -1,9 +1,10 @@
--- Words that further reach does not use: nothing was handed up, reported, acknowledged, heard or begun.
+-- Words that further reach does not use: nothing was handed up, reported, acknowledged, heard or begun, and no meter allowed.
 use Rattle.std.proofs.Common.{◌≡◌, Bool, true, false, ℕ, List, Option, Some, None, Result, Ok, Err, refl, ap}
 use Rattle.std.specs.Prelude.{if◌then◌else◌}
 use Rattle.std.specs.Option.{option_map_or}
 use Rattle.line_laws.proofs.ReachSteps.{is_idle}
 use Rattle.line_laws.proofs.StepKinds.{IsWord, OfRandom, OfJoin, OfLeave, OfDraw, OfChallenge, OfTurn, OfOrder, OfKick}
+use Rattle.line_laws.specs.AdmittedRight.{is_admitted}
 use Rattle.line_laws.specs.ReachTraces.{as_bcast, is_acked, is_beaconed, is_bup, is_path, is_scanning, is_sent, sent_to_all}
 use Rattle.line_rules.specs.Answers.{Reception, ask_word, broadcast_word, coordinator_reception, discovery_word, drop_word, frame_word, join_word, leave_word}
 use Rattle.line_rules.specs.Answers.{meter_reception, order_word, ordered_word, random_word, reach_drop_word, send_word, sent_word, station_reception}
@@ -69,20 +70,47 @@ is_new said.Scanning = true
 is_new said.Beaconed = true
 is_new _ = false
 
+abbrev pub NotNew : Answer → Type 0
+NotNew a = is_new a ≡ false
+
+-- whether it is one of these, or of a meter that is allowed
+abbrev pub is_told : Answer → Bool
+is_told said.Allowed = true
+is_told a = is_new a
+
 abbrev pub Quiet : Answer → Type 0
-Quiet a = is_new a ≡ false
+Quiet a = is_told a ≡ false
+
+pub not_new : (a : Answer) → Quiet a → NotNew a
+not_new said.Allowed e = refl
+not_new said.Bup e = e
+not_new said.Path e = e
+not_new said.Acked e = e
+not_new said.NotAwaited e = e
+not_new said.Blacklisted e = e
+not_new said.Scanning e = e
+not_new said.Beaconed e = e
+not_new _ e = refl
+
+-- no meter is allowed
+pub not_admitted : (a : Answer) → Quiet a → is_admitted a ≡ false
+not_admitted said.Allowed e = absurd (cc (e))
+not_admitted _ e = refl
 
 -- no broadcast was handed up, no walk reported, no acknowledgement and no beacon taken, and no scan begun
 abbrev pub Untold : Answer → Type 0
 Untold a = (is_bup a ≡ false) × (is_path a ≡ false) × (is_acked a ≡ false) × (is_scanning a ≡ false) × (is_beaconed a ≡ false)
 
+pub none_new : (a : Answer) → NotNew a → Untold a
+none_new said.Bup e = absurd (cc (e))
+none_new said.Path e = absurd (cc (e))
+none_new said.Acked e = absurd (cc (e))
+none_new said.Scanning e = absurd (cc (e))
+none_new said.Beaconed e = absurd (cc (e))
+none_new _ e = (refl, refl, refl, refl, refl)
+
 pub untold : (a : Answer) → Quiet a → Untold a
-untold said.Bup e = absurd (cc (e))
-untold said.Path e = absurd (cc (e))
-untold said.Acked e = absurd (cc (e))
-untold said.Scanning e = absurd (cc (e))
-untold said.Beaconed e = absurd (cc (e))
-untold _ e = (refl, refl, refl, refl, refl)
+untold a q = none_new a (not_new a q)
 
 pub send_quiet : (r : SendRefusal) → Quiet (send_word r)
 send_quiet sends.Halted = refl
@@ -94,7 +122,7 @@ send_quiet sends.SeqSpent = refl
 send_quiet sends.CounterSpent = refl
 send_quiet sends.Store = refl
 
-order_quiet : (r : CoordinatorRefusal) → Quiet (order_word r)
+pub order_quiet : (r : CoordinatorRefusal) → Quiet (order_word r)
 order_quiet orders.Halted = refl
 order_quiet orders.MetersFull = refl
 order_quiet orders.NotAllowed = refl

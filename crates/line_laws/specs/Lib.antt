@@ -22,6 +22,7 @@ pub mod Ranked
 pub mod InCustody
 pub mod Agreed
 pub mod AgreedRight
+pub mod AdmittedRight
 pub mod Shut
 pub mod Later
 pub mod FurtherLines

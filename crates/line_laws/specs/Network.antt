@@ -10,6 +10,7 @@ use Rattle.line_rules.specs.Runs.{Entry, IsRun, IsLineRun, last_world}
 use Rattle.line_rules.specs.SafeRuns.{IsAlwaysSized, IsSafe, RestartsAreAnswered}
 use Rattle.line_rules.specs.Traces.{CountsRight, AreTracedRight}
 use Rattle.line_rules.specs.Worlds.{World, Flight, start}
+use Rattle.line_laws.specs.AdmittedRight.{AreAdmittedRight}
 use Rattle.line_laws.specs.AgreedRight.{IsAgreedRight}
 use Rattle.line_laws.specs.CheckHistories.{AreCheckedRight}
 use Rattle.line_laws.specs.Live.{MarksAlwaysRise, FlightsAlwaysFall}
@@ -51,6 +52,7 @@ pub record IsRight (entries : List Entry) : Type 0 where
   pub routes : AreLoopFree start entries
   pub counted : CountsRight start entries
   pub traced : AreTracedRight start entries
+  pub admitted : AreAdmittedRight start entries
   pub tags : TagsRise entries
   pub some : SendsHaveOctets entries
   pub ups : UpsAreSentAfter [] entries

@@ -1,4 +1,5 @@
 //! Laws of the runs: each carried by a function that does nothing.
+ghost use Rattle.line_laws.specs.AdmittedRight.{EveryAdmissionIsRight};
 ghost use Rattle.line_laws.specs.AgreedRight.{EveryAgreementIsSaid};
 ghost use Rattle.line_laws.specs.CheckHistories.{EveryCheckIsRight};
 ghost use Rattle.line_laws.specs.FurtherLines.{EveryRunHolds};
@@ -144,6 +145,13 @@ pub fn every_count_is_right()
 #[tactic(auto)]
 pub fn every_trace_is_right()
     ensures { EveryTraceIsRight }
+{}
+
+/// In every run, forged or not, whatever the ciphers are, an event has an admission exactly where its answer is Allowed: it is the event that allows this
+/// meter, and after it the coordinator's book allows the meter and has it at the address of the admission.
+#[tactic(auto)]
+pub fn every_admission_is_right()
+    ensures { EveryAdmissionIsRight }
 {}
 
 /// In every run, whatever the ciphers are, exactly those events are reported to be forged in which a node accepted octets that no node sent under their key, or

@@ -1,5 +1,6 @@
 -- Each law, for the network's ciphers, which keep the ranges, and its flights, which are octets.
 use Rattle.node_rules.specs.Ciphers.{network}
+use Rattle.line_laws.proofs.AdmittedRight.{every_admission}
 use Rattle.line_laws.proofs.AgreedRight.{every_agreement}
 use Rattle.line_laws.proofs.CheckedRight.{every_check}
 use Rattle.line_laws.proofs.FurtherLoops.{every_run as loop_free}
@@ -45,6 +46,7 @@ returns c = λ entries run. record {
   routes = loop_free entries run;
   counted = every_count network entries run;
   traced = every_trace network entries run;
+  admitted = every_admission network entries run;
   tags = every_tag network network_ranges entries run (every_flight entries run);
   some = every_send network entries run;
   ups = every_up entries run;
