@@ -1,0 +1,4 @@
+pub mod Names
+pub mod Writing
+pub mod Nesting
+pub mod Laws
