@@ -4,7 +4,11 @@
 #![tactic(auto)]
 
 #[cfg(test)]
+mod captures;
+#[cfg(test)]
 mod joinings;
+#[cfg(test)]
+mod pages;
 #[cfg(test)]
 mod paths;
 #[cfg(test)]
@@ -13,3 +17,5 @@ mod routes;
 mod streams;
 #[cfg(test)]
 mod units;
+#[cfg(test)]
+mod words;
