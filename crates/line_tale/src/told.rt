@@ -1,0 +1,132 @@
+//! Events and flights as a tale has them.
+ghost use Rattle.std.specs.Prelude.{◌≡◌, ◌≤◌, length};
+ghost use Rattle.std.specs.Option.{ForSome, option_copied};
+ghost use Rattle.plc_base.specs.declared.limits.TheConstants.{LONGEST_FRAME};
+ghost use Rattle.line_tale.specs.Tales.{address_of, event_told, flight_told, gist_of, kind_of, note_of};
+
+use crate::act::{Act, act_of};
+use frame_words::{FrameTarget, Gist, PayloadKind, frame_target, payload_gist, payload_kind};
+use line_events::{Admission, Answer, Event, Handed, Happenings};
+
+/// An event that was taken, and how it ended.
+#[derive(Clone, Copy)]
+pub struct TaleEvent {
+    /// The number of its line in the script, from 1.
+    pub line: u32,
+    /// What it was.
+    pub act: Act,
+    /// How it ended.
+    pub answer: Answer,
+    /// Whether a tag that a node found right was made by nobody.
+    pub forged: bool,
+    /// The clock after it, in seconds.
+    pub clock: u64,
+    /// The number of the send whose datagram was handed up, 0 where no node of the run sent it. None where none was handed up.
+    pub up: Option<u32>,
+    /// The short address of the meter that was allowed, if one was.
+    pub address: Option<u16>,
+    /// The node of the meter that took its grant, if one did.
+    pub took: Option<u16>,
+    /// The node of the meter whose joining is done, if one is.
+    pub done: Option<u16>,
+    /// One more than the number of flights before it.
+    pub first_flight: u32,
+    /// How many flights are new.
+    pub flights: u8,
+}
+
+/// A frame that flew.
+#[derive(Clone, Copy)]
+pub struct TaleFlight {
+    /// The node that sent it.
+    pub from: u16,
+    /// The number of the send whose datagram it carries on its way, or a part of it; 0 for all others.
+    pub note: u32,
+    /// Whom it is for.
+    pub target: FrameTarget,
+    /// The kind of its payload.
+    pub kind: PayloadKind,
+    /// What its payload is about.
+    pub gist: Gist,
+    /// The node with the EUI-64 that its payload or its target names, where there is such a node.
+    pub device: Option<u32>,
+}
+
+fn note_of(up: &Option<Handed<'_>>) -> Option<u32>
+    ensures { result ≡ note_of up.now }
+{
+    match up {
+        None => None,
+        Some(handed) => Some(handed.note),
+    }
+}
+
+fn address_of(grant: &Option<Admission>) -> Option<u16>
+    ensures { result ≡ address_of grant.now }
+{
+    match grant {
+        None => None,
+        Some(admission) => Some(admission.address.number()),
+    }
+}
+
+/// An event that was taken, by the number of its line, what happened, and the clock after it.
+pub fn event_told(line: u32, event: &Event<'_>, happened: &Happenings<'_>, clock: u64) -> TaleEvent
+    ensures { result ≡ event_told line event.now happened.now clock }
+{
+    TaleEvent {
+        line,
+        act: act_of(event),
+        answer: happened.answer,
+        forged: happened.forged,
+        clock,
+        up: note_of(&happened.up),
+        address: address_of(&happened.grant),
+        took: happened.took,
+        done: happened.done,
+        first_flight: happened.first_flight,
+        flights: happened.flights,
+    }
+}
+
+fn kind_of(payload: Option<&[u8]>) -> PayloadKind
+    requires { ForSome payload (λ p. length p.now ≤ LONGEST_FRAME) }
+    ensures { result ≡ kind_of (option_copied payload.entry) }
+{
+    match payload {
+        None => PayloadKind::Unknown,
+        Some(octets) => payload_kind(octets),
+    }
+}
+
+fn gist_of(payload: Option<&[u8]>) -> Gist
+    requires { ForSome payload (λ p. length p.now ≤ LONGEST_FRAME) }
+    ensures { result ≡ gist_of (option_copied payload.entry) }
+{
+    match payload {
+        None => Gist::Unread,
+        Some(octets) => payload_gist(octets),
+    }
+}
+
+/// A frame that flew: its sender, its note, its octets, its payload where that is plain or a key opens it, at most 400 octets, and the node
+/// with the EUI-64 that it names.
+pub fn flight_told(
+    from: u16,
+    note: u32,
+    octets: &[u8],
+    payload: Option<&[u8]>,
+    device: Option<u32>,
+) -> TaleFlight
+    requires { ForSome payload (λ p. length p.now ≤ LONGEST_FRAME) }
+    ensures { result ≡ flight_told from note octets.now (option_copied payload.entry) device }
+{
+    TaleFlight {
+        from,
+        note,
+        target: frame_target(octets),
+        kind: kind_of(payload),
+        gist: gist_of(payload),
+        device,
+    }
+}
