@@ -1,0 +1,78 @@
+-- Each event is owned by one story.
+use Rattle.std.proofs.Common.{◌≡◌, ℕ, ◌+◌, ◌-◌, Bool, List, [], ◌∷◌, ◌++◌, length, map, Option, Some, None, refl, ap, ◌∙◌, arith, length-append}
+use Rattle.std.specs.Prelude.{if◌then◌else◌}
+use Rattle.std.proofs.lemmas.List.{length-map}
+use Rattle.line_tale.specs.declared.told.TaleEvent.{TaleEvent}
+use Rattle.line_tale.specs.declared.told.TaleFlight.{TaleFlight}
+use Rattle.line_tale.specs.declared.act.Act.{Act}
+use Rattle.line_stories.specs.declared.story.Story.{Story}
+use Rattle.line_stories.specs.Kinds.{joins, readies}
+use Rattle.line_stories.specs.Stories.{Stories, no_stories, settled_by, settled, next_event, with_line, line_number, unready, number_at, place_of, recorded}
+use Rattle.line_stories.specs.Stories.{event_by, event_seen, flight_seen, flights_seen, flights_of, told_seen}
+use Rattle.line_stories.specs.Stories.{events_seen, ended, stories_of, ready_owners, last_owner}
+use Rattle.line_stories.specs.Laws.{EventsAreOwned}
+
+-- how many events were seen
+abbrev seen : Stories → ℕ
+seen s = length s.owners + length s.ready
+
+ready_count : (joined : Option ℕ) (story line : ℕ) (ready : List ℕ) → length (ready_owners joined story line ready) ≡ length ready
+ready_count joined story line [] = refl
+ready_count joined story line (node ∷ ready) = grind (arith, ready_count joined story line ready)
+
+count_more : (owners readied ready : List ℕ) (story : ℕ) → length readied ≡ length ready
+    → length ((owners ++ readied) ++ (story ∷ [])) + 0 ≡ length owners + length ready + 1
+count_more owners readied ready story is = omega (arith, length-append (owners ++ readied) (story ∷ []), length-append owners readied, is)
+
+settled_by_count : (stories : List Story) (line : ℕ) (act : Act) (first : ℕ) (s : Stories) → seen (settled_by stories line act first s) ≡ seen s + 1
+settled_by_count stories line act first s =
+    let story = number_at (place_of act stories s.lots) stories in
+    count_more s.owners (ready_owners (joins act) story line s.ready) s.ready story (ready_count (joins act) story line s.ready)
+
+settled_count : (act : Act) (s : Stories) → seen (settled act s) ≡ seen s + 1
+unfolding settled
+settled_count act s =
+    settled_by_count (with_line (unready (joins act) s.ready) (length s.owners + 1) s.stories) (line_number (unready (joins act) s.ready) s.stories)
+    act (next_event s) s
+
+recorded_count : (e : TaleEvent) (n story : ℕ) (s : Stories) → seen (recorded e n story s) ≡ seen s
+unfolding recorded
+recorded_count e n story s = refl
+
+event_count_by : (o : Option ℕ) (e : TaleEvent) (s : Stories) → seen (event_by o e s) ≡ seen s + 1
+event_count_by (Some node) e s = omega (arith, length-append s.ready (node ∷ []))
+event_count_by None e s =
+    recorded_count e (length (settled e.act s).owners) (last_owner (settled e.act s).owners) (settled e.act s) ∙ settled_count e.act s
+
+event_count : (e : TaleEvent) (s : Stories) → seen (event_seen e s) ≡ seen s + 1
+unfolding event_seen
+event_count e s = event_count_by (readies e.act) e s
+
+flights_count : (fs : List TaleFlight) (s : Stories) → seen (flights_seen fs s) ≡ seen s
+flights_count [] s = refl
+flights_count (f ∷ fs) s = flights_count fs (flight_seen f s)
+
+-- an event and its flights
+one_more : (e : TaleEvent) (flights : List TaleFlight) (s : Stories) → seen (told_seen e flights s) ≡ seen s + 1
+unfolding told_seen
+one_more e flights s = flights_count (flights_of e flights) (event_seen e s) ∙ event_count e s
+
+pub counted : (e : TaleEvent) (flights : List TaleFlight) (s new : Stories) → new ≡ told_seen e flights s → (n : ℕ)
+    → length s.owners + length s.ready ≡ n → length new.owners + length new.ready ≡ n + 1
+counted e flights s new is n was = ap (λ (t : Stories). seen t) is ∙ (one_more e flights s ∙ ap (λ (k : ℕ). k + 1) was)
+
+events_count : (flights : List TaleFlight) (es : List TaleEvent) (s : Stories) → seen (events_seen flights es s) ≡ seen s + length es
+events_count flights [] s = omega arith
+events_count flights (e ∷ es) s =
+    let rest = events_count flights es (told_seen e flights s) in
+    let one = one_more e flights s in
+    omega (arith, rest, one)
+
+ended_count : (s : Stories) → length (ended s).owners ≡ seen s
+ended_count s =
+    let line = line_number (unready None s.ready) s.stories in
+    omega (arith, length-append s.owners (ready_owners None 0 line s.ready), ready_count None 0 line s.ready)
+
+pub events_are_owned : EventsAreOwned
+unfolding stories_of
+events_are_owned events flights = ended_count (events_seen flights events no_stories) ∙ omega (arith, events_count flights events no_stories)

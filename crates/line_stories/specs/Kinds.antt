@@ -1,0 +1,145 @@
+-- What events and answers are to a story.
+use Rattle.std.specs.Prelude.{ℕ, Bool, true, false, Option, None, Some}
+use Rattle.line_events.specs.declared.event.Answer.{Answer}
+use Rattle.line_events.specs.declared.event.Answer.TheVariants as said
+use Rattle.line_tale.specs.declared.act.Act.{Act}
+use Rattle.line_tale.specs.declared.act.Act.TheVariants as acts
+use Rattle.line_stories.specs.declared.kind.StoryKind.{StoryKind}
+use Rattle.line_stories.specs.declared.kind.StoryKind.TheVariants as kinds
+
+-- lines of the setup have one story together
+abbrev pub is_setup : Act → Bool
+is_setup (acts.Coordinator eui) = true
+is_setup (acts.Meter eui) = true
+is_setup (acts.Depot node) = true
+is_setup (acts.Near a b) = true
+is_setup (acts.Counter node) = true
+is_setup (acts.Number node) = true
+is_setup acts.Checks = true
+is_setup _ = false
+
+-- the story that an event begins
+abbrev pub begins : Act → Option StoryKind
+begins (acts.Send from to octets) = Some kinds.Datagram
+begins (acts.Join node agent) = Some kinds.Joining
+begins (acts.Choose node k) = Some kinds.Joining
+begins (acts.Challenge node) = Some kinds.Renewal
+begins (acts.Activate node index) = Some kinds.Order
+begins (acts.Kick node) = Some kinds.Order
+begins (acts.Inject node cost octets) = Some kinds.Injection
+begins (acts.Bcast node octets) = Some kinds.Broadcast
+begins (acts.Path from to) = Some kinds.Walk
+begins _ = None
+
+-- the node that a story is about
+abbrev pub person_of : Act → ℕ
+person_of (acts.Send from to octets) = from
+person_of (acts.Join node agent) = node
+person_of (acts.Choose node k) = node
+person_of (acts.Challenge node) = node
+person_of (acts.Activate node index) = node
+person_of (acts.Kick node) = node
+person_of (acts.Inject node cost octets) = node
+person_of (acts.Bcast node octets) = node
+person_of (acts.Path from to) = from
+person_of _ = 0
+
+-- the meter whose joining or renewal an event begins
+abbrev pub joins : Act → Option ℕ
+joins (acts.Join node agent) = Some node
+joins (acts.Choose node k) = Some node
+joins (acts.Challenge node) = Some node
+joins _ = None
+
+-- the node that an event readies for a joining, 0 for the coordinator
+abbrev pub readies : Act → Option ℕ
+readies (acts.Allow node) = Some node
+readies (acts.Rand node) = Some node
+readies _ = None
+
+-- the flight whose story an event goes on with
+abbrev pub goes_on_with : Act → Option ℕ
+goes_on_with (acts.Deliver flight node cost) = Some flight
+goes_on_with (acts.Lose flight) = Some flight
+goes_on_with _ = None
+
+-- the node that an event has do what it was told
+abbrev pub obeys_at : Act → Option ℕ
+obeys_at (acts.Deliver flight node cost) = Some node
+obeys_at (acts.Inject node cost octets) = Some node
+obeys_at (acts.Activate node index) = Some node
+obeys_at _ = None
+
+-- whether an event made a node
+abbrev pub makes_node : Act → Bool
+makes_node (acts.Coordinator eui) = true
+makes_node (acts.Meter eui) = true
+makes_node _ = false
+
+abbrev pub is_sent : Answer → Bool
+is_sent said.Sent = true
+is_sent said.Waiting = true
+is_sent _ = false
+
+-- whether an event is a send: sends are numbered
+abbrev pub sends : Act → Answer → Bool
+sends (acts.Send from to octets) answer = is_sent answer
+sends _ _ = false
+
+-- whether a node that a frame is for goes on with it: any ok but Reported
+abbrev pub takes_on : Answer → Bool
+takes_on said.Left = true
+takes_on said.Broken = true
+takes_on said.Challenged = true
+takes_on said.Activated = true
+takes_on said.Up = true
+takes_on said.Held = true
+takes_on said.Relayed = true
+takes_on said.Answered = true
+takes_on said.Learned = true
+takes_on said.Carried = true
+takes_on said.Replied = true
+takes_on said.Took = true
+takes_on said.Noted = true
+takes_on said.Declined = true
+takes_on said.Keyed = true
+takes_on said.Done = true
+takes_on said.Acked = true
+takes_on said.Bup = true
+takes_on said.Beacon = true
+takes_on said.Beaconed = true
+takes_on said.Path = true
+takes_on _ = false
+
+abbrev pub is_reported : Answer → Bool
+is_reported said.Reported = true
+is_reported _ = false
+
+abbrev pub is_declined : Answer → Bool
+is_declined said.Declined = true
+is_declined _ = false
+
+-- whether a meter did what it was told
+abbrev pub is_heeded : Answer → Bool
+is_heeded said.Activated = true
+is_heeded said.Left = true
+is_heeded _ = false
+
+abbrev pub is_path : Answer → Bool
+is_path said.Path = true
+is_path _ = false
+
+-- the stories with which joining messages stay
+abbrev pub keeps_joinings : StoryKind → Bool
+keeps_joinings kinds.Joining = true
+keeps_joinings kinds.Renewal = true
+keeps_joinings kinds.Order = true
+keeps_joinings _ = false
+
+abbrev pub is_line : StoryKind → Bool
+is_line kinds.Line = true
+is_line _ = false
+
+abbrev pub is_setup_kind : StoryKind → Bool
+is_setup_kind kinds.Setup = true
+is_setup_kind _ = false

@@ -1,0 +1,97 @@
+-- What a story is, what becomes of it at an event, and what becomes of a flight.
+use Rattle.std.specs.Prelude.{ℕ, ◌==◌, ◌&&◌, Bool, true, false, List, Option, None, Some, if◌then◌else◌}
+use Rattle.line_events.specs.declared.event.Answer.{Answer}
+use Rattle.line_tale.specs.declared.act.Act.{Act}
+use Rattle.line_tale.specs.declared.act.Act.TheVariants as acts
+use Rattle.line_tale.specs.declared.told.TaleEvent.{TaleEvent}
+use Rattle.line_stories.specs.declared.kind.StoryKind.{StoryKind}
+use Rattle.line_stories.specs.declared.kind.StoryKind.TheVariants as kinds
+use Rattle.line_stories.specs.declared.story.Story.{Story}
+use Rattle.line_stories.specs.declared.lot.Lot.{Lot}
+use Rattle.line_stories.specs.declared.lot.Fate.{Fate}
+use Rattle.line_stories.specs.declared.lot.Fate.TheVariants as fates
+use Rattle.line_stories.specs.Kinds.{takes_on, is_reported, is_declined, is_heeded, is_path, obeys_at}
+use Rattle.line_stories.specs.Lists.{changed_at}
+
+-- # Stories
+
+abbrev pub new_story : StoryKind → ℕ → ℕ → Story
+new_story kind first person = record { kind = kind; first = first; person = person; reached = None; took = None; declined = None }
+
+abbrev pub is_node : Option ℕ → ℕ → Bool
+is_node None node = false
+is_node (Some x) node = x == node
+
+-- the first event of a kind, where this one may be it
+abbrev pub or_first : Option ℕ → Bool → ℕ → Option ℕ
+or_first (Some m) holds n = Some m
+or_first None holds n = if holds then Some n else None
+
+-- the last event of a kind, where this one may be it
+abbrev pub or_last : Option ℕ → Bool → ℕ → Option ℕ
+or_last before holds n = if holds then Some n else before
+
+-- an event of a joining
+abbrev pub joining_marked : ℕ → TaleEvent → Story → Story
+joining_marked n e story =
+    record story {
+      reached = or_last story.reached (is_node e.done story.person) n;
+      took = or_last story.took (is_node e.took story.person) n;
+      declined = or_first story.declined (is_declined e.answer) n;
+    }
+
+-- an event of an order
+abbrev pub order_marked : ℕ → TaleEvent → Story → Story
+order_marked n e story =
+    record story { reached = or_first story.reached (is_heeded e.answer && is_node (obeys_at e.act) story.person) n }
+
+abbrev pub walk_marked : ℕ → TaleEvent → Story → Story
+walk_marked n e story = record story { reached = or_first story.reached (is_path e.answer) n }
+
+-- what an event of a story says of it
+abbrev pub marked_by : StoryKind → ℕ → TaleEvent → Story → Story
+marked_by kinds.Joining n e story = joining_marked n e story
+marked_by kinds.Renewal n e story = joining_marked n e story
+marked_by kinds.Order n e story = order_marked n e story
+marked_by kinds.Walk n e story = walk_marked n e story
+marked_by _ n e story = story
+
+abbrev pub marked : ℕ → TaleEvent → Story → Story
+marked n e story = marked_by story.kind n e story
+
+-- the datagram of a story is handed up
+abbrev pub came : ℕ → Story → Story
+came n story = record story { reached = or_first story.reached true n }
+
+-- # Flights
+
+-- whether a flight is for a node: to all, or to nobody of the run, it is for each that hears it
+abbrev pub is_for : Option ℕ → ℕ → Bool
+is_for None node = true
+is_for (Some x) node = x == node
+
+-- what becomes of a flight that was not taken yet, at an answer
+abbrev pub answered : ℕ → Answer → Fate
+answered n answer = if takes_on answer then fates.WentOn n else (if is_reported answer then fates.Reported n else fates.Refused n)
+
+-- what becomes of a flight, where a node that it is for hears it
+abbrev pub fate_after : ℕ → Answer → Fate → Fate
+fate_after n _ (fates.WentOn m) = fates.WentOn m
+fate_after n answer _ = answered n answer
+
+abbrev pub fate_lost : ℕ → Fate → Fate
+fate_lost n fates.Missed = fates.Lost n
+fate_lost n fate = fate
+
+abbrev pub heard : ℕ → ℕ → Answer → Lot → Lot
+heard n node answer lot =
+    if is_for lot.to node then record lot { fate = fate_after n answer lot.fate } else record lot { overheard = true }
+
+abbrev pub lost : ℕ → Lot → Lot
+lost n lot = record lot { fate = fate_lost n lot.fate }
+
+-- what an event does to the flights
+abbrev pub lots_by : Act → ℕ → Answer → List Lot → List Lot
+lots_by (acts.Deliver flight node cost) n answer lots = changed_at flight (heard n node answer) lots
+lots_by (acts.Lose flight) n _ lots = changed_at flight (lost n) lots
+lots_by _ n _ lots = lots

@@ -1,0 +1,286 @@
+-- Which story owns which event and which flight of a tale.
+use Rattle.std.specs.Prelude.{ℕ, ◌+◌, ◌-◌, ◌==◌, ◌||◌, Bool, true, false, not, List, [], ◌∷◌, ◌++◌, length, map, position, take, drop, slice_get, slice_set}
+use Rattle.std.specs.Prelude.{Option, None, Some, if◌then◌else◌}
+use Rattle.frame_words.specs.declared.gist.FrameTarget.{FrameTarget}
+use Rattle.frame_words.specs.declared.gist.FrameTarget.TheVariants as targets
+use Rattle.frame_words.specs.declared.gist.Gist.{Gist}
+use Rattle.frame_words.specs.declared.gist.Gist.TheVariants as gists
+use Rattle.line_events.specs.declared.event.Answer.{Answer}
+use Rattle.line_events.specs.declared.event.Answer.TheVariants as said
+use Rattle.line_tale.specs.declared.act.Act.{Act}
+use Rattle.line_tale.specs.declared.act.Act.TheVariants as acts
+use Rattle.line_tale.specs.declared.told.TaleEvent.{TaleEvent}
+use Rattle.line_tale.specs.declared.told.TaleFlight.{TaleFlight}
+use Rattle.line_tale.specs.Tales.{numbered}
+use Rattle.line_stories.specs.declared.kind.StoryKind.{StoryKind}
+use Rattle.line_stories.specs.declared.kind.StoryKind.TheVariants as kinds
+use Rattle.line_stories.specs.declared.story.Story.{Story}
+use Rattle.line_stories.specs.declared.lot.Lot.{Lot}
+use Rattle.line_stories.specs.declared.lot.Fate.TheVariants as fates
+use Rattle.line_stories.specs.declared.place.Place.{Place}
+use Rattle.line_stories.specs.declared.place.Place.TheVariants.{At, New}
+use Rattle.line_stories.specs.Kinds.{begins, goes_on_with, is_line, is_setup, is_setup_kind, joins, keeps_joinings, makes_node, person_of, readies, sends}
+use Rattle.line_stories.specs.Lists.{changed_at}
+use Rattle.line_stories.specs.Marks.{came, lots_by, marked, new_story}
+
+-- # What is known while a tale is gone through
+
+pub record Stories : Type 0 where
+  -- by their numbers from 1
+  pub stories : List Story
+  -- the story of each event, by its number from 1
+  pub owners : List ℕ
+  -- the flights, by their numbers from 1
+  pub lots : List Lot
+  -- the story of each send, by its number from 1
+  pub sent : List ℕ
+  -- the last joining or renewal of each node, by its number from 0; 0 where there was none
+  pub joinings : List ℕ
+  -- the node of each short address, from 0
+  pub homes : List ℕ
+  -- what the last events readied, which have no story so far: the nodes, 0 for the coordinator
+  pub ready : List ℕ
+
+abbrev pub no_stories : Stories
+no_stories = record { stories = []; owners = []; lots = []; sent = []; joinings = []; homes = []; ready = [] }
+
+-- # The story of an event
+
+abbrev pub line_at : Option Story → Bool
+line_at None = false
+line_at (Some story) = is_line story.kind
+
+abbrev pub setup_at : Option Story → Bool
+setup_at None = false
+setup_at (Some story) = is_setup_kind story.kind
+
+-- what happens on the line goes to the newest story where that is such a one
+abbrev pub line_place : List Story → Place
+line_place stories = if line_at (slice_get stories (length stories - 1)) then At (length stories) else New kinds.Line
+
+-- the setup is the first story
+abbrev pub setup_place : List Story → Place
+setup_place stories = if setup_at (slice_get stories 0) then At 1 else New kinds.Setup
+
+abbrev pub lot_place : Option Lot → List Story → Place
+lot_place (Some lot) stories = At lot.story
+lot_place None stories = line_place stories
+
+-- an event that begins no story
+abbrev pub old_place : Option ℕ → Bool → List Story → List Lot → Place
+old_place (Some flight) setup stories lots = lot_place (numbered lots flight) stories
+old_place None true stories lots = setup_place stories
+old_place None false stories lots = line_place stories
+
+abbrev pub place_by : Option StoryKind → Act → List Story → List Lot → Place
+place_by (Some kind) act stories lots = New kind
+place_by None act stories lots = old_place (goes_on_with act) (is_setup act) stories lots
+
+abbrev pub place_of : Act → List Story → List Lot → Place
+place_of act stories lots = place_by (begins act) act stories lots
+
+-- the number of the story at a place
+abbrev pub number_at : Place → List Story → ℕ
+number_at (At number) stories = number
+number_at (New kind) stories = length stories + 1
+
+-- the stories with the one at a place, which begins with an event and is about a node
+abbrev pub with_place : Place → ℕ → ℕ → List Story → List Story
+with_place (At number) first node stories = stories
+with_place (New kind) first node stories = stories ++ (new_story kind first node ∷ [])
+
+-- # What readies a joining
+
+-- whether what readies a node readies the joining that comes next, of this meter; what readies the coordinator does so too
+abbrev pub is_readied : Option ℕ → ℕ → Bool
+is_readied None node = false
+is_readied (Some meter) node = node == 0 || (node == meter)
+
+-- the place of the first that readies no joining
+abbrev pub unready : Option ℕ → List ℕ → Option ℕ
+unready joined ready = position (λ node. not (is_readied joined node)) ready
+
+-- the stories with one on the line, where an event goes to it: the first such event is that of this number
+abbrev pub with_line : Option ℕ → ℕ → List Story → List Story
+with_line None first stories = stories
+with_line (Some place) first stories = with_place (line_place stories) (first + place) 0 stories
+
+-- the number of that story, 0 where there is none
+abbrev pub line_number : Option ℕ → List Story → ℕ
+line_number None stories = 0
+line_number (Some place) stories = number_at (line_place stories) stories
+
+-- the stories of the events that readied something
+abbrev pub ready_owner : Option ℕ → ℕ → ℕ → ℕ → ℕ
+ready_owner joined story line node = if is_readied joined node then story else line
+
+abbrev pub ready_owners : Option ℕ → ℕ → ℕ → List ℕ → List ℕ
+ready_owners joined story line [] = []
+ready_owners joined story line (node ∷ ready) = ready_owner joined story line node ∷ ready_owners joined story line ready
+
+-- # One event
+
+-- the number of the next event
+abbrev pub next_event : Stories → ℕ
+next_event s = length s.owners + length s.ready + 1
+
+-- the events that readied something and an event after them get their stories, by the stories with that of the line
+abbrev pub settled_by : List Story → ℕ → Act → ℕ → Stories → Stories
+settled_by stories line act first s =
+    let place = place_of act stories s.lots in
+    record s {
+      stories = with_place place first (person_of act) stories;
+      owners = (s.owners ++ ready_owners (joins act) (number_at place stories) line s.ready) ++ (number_at place stories ∷ []);
+      ready = [];
+    }
+
+unfoldable pub settled : Act → Stories → Stories
+settled act s =
+    settled_by (with_line (unready (joins act) s.ready) (length s.owners + 1) s.stories) (line_number (unready (joins act) s.ready) s.stories)
+    act (next_event s) s
+
+-- the story of the last event, 0 where there is none
+abbrev pub last_owner : List ℕ → ℕ
+last_owner owners = elim (slice_get owners (length owners - 1)) [ None ↦ 0 | Some story ↦ story ]
+
+abbrev pub sent_with : Bool → ℕ → List ℕ → List ℕ
+sent_with true story sent = sent ++ (story ∷ [])
+sent_with false story sent = sent
+
+abbrev pub joinings_with : Option ℕ → ℕ → List ℕ → List ℕ
+joinings_with (Some node) story joinings = slice_set joinings node story
+joinings_with None story joinings = joinings
+
+-- each node that is made has a place
+abbrev pub nodes_with : Bool → List ℕ → List ℕ
+nodes_with true joinings = joinings ++ (0 ∷ [])
+nodes_with false joinings = joinings
+
+abbrev pub addressed : ℕ → ℕ → Option ℕ → Option ℕ
+addressed count node None = None
+addressed count node (Some address) = if address == count then Some node else None
+
+abbrev pub depot_newcomer : ℕ → Answer → Option ℕ
+depot_newcomer node said.Joined = Some node
+depot_newcomer node _ = None
+
+abbrev pub allow_newcomer : ℕ → ℕ → Answer → Option ℕ → Option ℕ
+allow_newcomer count node said.Allowed address = addressed count node address
+allow_newcomer count node _ address = None
+
+-- the node that gets the next address: the coordinator has address 0, and the book gives one to each meter that is first joined in the
+-- workshop or allowed
+abbrev pub newcomer : ℕ → Act → Answer → Option ℕ → Option ℕ
+newcomer count (acts.Coordinator eui) _ address = Some 0
+newcomer count (acts.Depot node) answer address = depot_newcomer node answer
+newcomer count (acts.Allow node) answer address = allow_newcomer count node answer address
+newcomer count _ _ address = None
+
+abbrev pub homes_with : Option ℕ → List ℕ → List ℕ
+homes_with (Some node) homes = homes ++ (node ∷ [])
+homes_with None homes = homes
+
+-- the stories, where a datagram of this note is handed up
+abbrev pub up_marked : Option ℕ → ℕ → List ℕ → List Story → List Story
+up_marked None n sent stories = stories
+up_marked (Some note) n sent stories =
+    elim (numbered sent note) [ None ↦ stories | Some story ↦ changed_at story (came n) stories ]
+
+-- what an event of this number says to a story and of the line
+unfoldable pub recorded : TaleEvent → ℕ → ℕ → Stories → Stories
+recorded e n story s =
+    let sent = sent_with (sends e.act e.answer) story s.sent in
+    record s {
+      stories = up_marked e.up n sent (changed_at story (marked n e) s.stories);
+      lots = lots_by e.act n e.answer s.lots;
+      sent = sent;
+      joinings = nodes_with (makes_node e.act) (joinings_with (joins e.act) story s.joinings);
+      homes = homes_with (newcomer (length s.homes) e.act e.answer e.address) s.homes;
+    }
+
+-- an event that readies something has no story so far
+abbrev pub event_by : Option ℕ → TaleEvent → Stories → Stories
+event_by (Some node) e s = record s { ready = s.ready ++ (node ∷ []); homes = homes_with (newcomer (length s.homes) e.act e.answer e.address) s.homes }
+event_by None e s =
+    let owned = settled e.act s in
+    recorded e (length owned.owners) (last_owner owned.owners) owned
+
+unfoldable pub event_seen : TaleEvent → Stories → Stories
+event_seen e s = event_by (readies e.act) e s
+
+-- # One flight
+
+-- the node that a flight is for
+abbrev pub node_of : FrameTarget → Option ℕ → List ℕ → Option ℕ
+node_of targets.Nobody device homes = None
+node_of targets.All device homes = None
+node_of (targets.Node address) device homes = slice_get homes address
+node_of (targets.Device eui) device homes = device
+
+abbrev pub is_joining : Gist → Bool
+is_joining (gists.Joins eui) = true
+is_joining _ = false
+
+abbrev pub keeps_at : Option Story → Bool
+keeps_at None = false
+keeps_at (Some story) = keeps_joinings story.kind
+
+-- a story, or another one where there is one
+abbrev pub or_story : Option ℕ → ℕ → ℕ
+or_story None story = story
+or_story (Some other) story = if other == 0 then story else other
+
+abbrev pub joining_of : Option ℕ → List ℕ → Option ℕ
+joining_of None joinings = None
+joining_of (Some node) joinings = slice_get joinings node
+
+-- the story that owns a flight which an event of a story made: that of the send which it carries, or the last joining of the device which
+-- a joining message is about
+unfoldable pub flight_owner : TaleFlight → ℕ → Stories → ℕ
+flight_owner f story s =
+    if f.note == 0
+    then (if is_joining f.gist then (if keeps_at (numbered s.stories story) then story else or_story (joining_of f.device s.joinings) story) else story)
+    else or_story (numbered s.sent f.note) story
+
+abbrev pub flight_seen : TaleFlight → Stories → Stories
+flight_seen f s =
+    record s {
+      lots = s.lots ++ (record {
+        story = flight_owner f (last_owner s.owners) s;
+        to = node_of f.target f.device s.homes;
+        fate = fates.Missed;
+        bears = not (f.note == 0);
+        overheard = false;
+      } ∷ []);
+    }
+
+-- # A whole tale
+
+abbrev pub flights_seen : List TaleFlight → Stories → Stories
+flights_seen [] s = s
+flights_seen (f ∷ fs) s = flights_seen fs (flight_seen f s)
+
+-- the flights that an event made
+abbrev pub flights_of : TaleEvent → List TaleFlight → List TaleFlight
+flights_of e flights = take e.flights (drop (e.first_flight - 1) flights)
+
+-- an event and its flights
+unfoldable pub told_seen : TaleEvent → List TaleFlight → Stories → Stories
+told_seen e flights s = flights_seen (flights_of e flights) (event_seen e s)
+
+abbrev pub events_seen : List TaleFlight → List TaleEvent → Stories → Stories
+events_seen flights [] s = s
+events_seen flights (e ∷ es) s = events_seen flights es (told_seen e flights s)
+
+-- what readied something last, and no joining came
+abbrev pub ended : Stories → Stories
+ended s =
+    record s {
+      stories = with_line (unready None s.ready) (length s.owners + 1) s.stories;
+      owners = s.owners ++ ready_owners None 0 (line_number (unready None s.ready) s.stories) s.ready;
+      ready = [];
+    }
+
+-- the stories of a tale
+unfoldable pub stories_of : List TaleEvent → List TaleFlight → Stories
+stories_of events flights = ended (events_seen flights events no_stories)

@@ -1,0 +1,123 @@
+-- What became of a story.
+use Rattle.std.specs.Prelude.{ℕ, ◌+◌, ◌-◌, ◌==◌, ◌&&◌, ◌||◌, Bool, true, false, not, List, [], ◌∷◌, length, replicate, Option, None, Some, if◌then◌else◌}
+use Rattle.line_events.specs.declared.event.Answer.{Answer}
+use Rattle.line_events.specs.declared.event.Answer.TheVariants as said
+use Rattle.line_tale.specs.declared.told.TaleEvent.{TaleEvent}
+use Rattle.line_stories.specs.declared.kind.StoryKind.{StoryKind}
+use Rattle.line_stories.specs.declared.kind.StoryKind.TheVariants as kinds
+use Rattle.line_stories.specs.declared.story.Story.{Story}
+use Rattle.line_stories.specs.declared.lot.Lot.{Lot}
+use Rattle.line_stories.specs.declared.lot.Fate.{Fate}
+use Rattle.line_stories.specs.declared.lot.Fate.TheVariants as fates
+use Rattle.line_stories.specs.declared.ends.Ends.{Ends}
+use Rattle.line_stories.specs.declared.verdict.Verdict.{Verdict}
+use Rattle.line_stories.specs.declared.verdict.Verdict.TheVariants as verdicts
+use Rattle.line_stories.specs.Kinds.{takes_on, is_reported}
+use Rattle.line_stories.specs.Lists.{changed_at}
+
+-- # The ends of a story: its last flight, and the first with its datagram that did not go on
+
+abbrev pub no_ends : Ends
+no_ends = record { last = 0; bears = false; broken = 0 }
+
+abbrev pub went_on : Fate → Bool
+went_on (fates.WentOn n) = true
+went_on _ = false
+
+-- the first number that is not 0
+abbrev pub or_number : ℕ → ℕ → ℕ
+or_number before n = if before == 0 then n else before
+
+-- one more flight that carries the datagram, or a piece of it
+abbrev pub with_bearer : ℕ → Bool → Ends → Ends
+with_bearer n true ends = record { last = n; bears = true; broken = ends.broken }
+with_bearer n false ends = record { last = n; bears = true; broken = or_number ends.broken n }
+
+abbrev pub with_flight : ℕ → Lot → Ends → Ends
+with_flight n lot ends = if lot.bears then with_bearer n (went_on lot.fate) ends else record { last = n; bears = ends.bears; broken = ends.broken }
+
+abbrev pub ends_after : ℕ → Lot → List Ends → List Ends
+ends_after n lot ends = changed_at lot.story (with_flight n lot) ends
+
+-- those of all stories, by the flights from this number on
+abbrev pub ends_from : ℕ → List Lot → List Ends → List Ends
+ends_from n [] ends = ends
+ends_from n (lot ∷ lots) ends = ends_from (n + 1) lots (ends_after n lot ends)
+
+-- the ends of so many stories
+abbrev pub ends_of : ℕ → List Lot → List Ends
+ends_of count lots = ends_from 1 lots (replicate count no_ends)
+
+-- # Verdicts
+
+-- whether the event of a story was not refused
+abbrev pub is_begun : Answer → Bool
+is_begun said.Sent = true
+is_begun said.Waiting = true
+is_begun said.Asked = true
+is_begun said.Challenged = true
+is_begun said.Activated = true
+is_begun said.Ordered = true
+is_begun said.Kicked = true
+is_begun said.Traced = true
+is_begun _ = false
+
+-- a datagram: the first of the flights with it that did not go on, or what came last
+abbrev pub unreached_datagram : Ends → Verdict
+unreached_datagram ends =
+    if ends.bears then (if ends.broken == 0 then verdicts.Loose ends.last else verdicts.Ended ends.broken) else verdicts.NeverLeft ends.last
+
+abbrev pub unreached_joining : Option ℕ → Option ℕ → ℕ → Verdict
+unreached_joining (Some event) declined last = verdicts.TookOnly event last
+unreached_joining None (Some event) last = verdicts.Declined event
+unreached_joining None None last = verdicts.Loose last
+
+abbrev pub unreached_order : ℕ → Verdict
+unreached_order last = if last == 0 then verdicts.NotTold else verdicts.Loose last
+
+-- of a story that did not reach its end
+abbrev pub unreached : StoryKind → Story → Ends → Verdict
+unreached kinds.Datagram story ends = unreached_datagram ends
+unreached kinds.Joining story ends = unreached_joining story.took story.declined ends.last
+unreached kinds.Renewal story ends = unreached_joining story.took story.declined ends.last
+unreached kinds.Order story ends = unreached_order ends.last
+unreached kinds.Walk story ends = verdicts.Loose ends.last
+unreached _ story ends = verdicts.Nothing
+
+abbrev pub reached_or : Option ℕ → Verdict → Verdict
+reached_or (Some event) verdict = verdicts.Reached event
+reached_or None verdict = verdict
+
+abbrev pub injected : Bool → Answer → Verdict
+injected true _ = verdicts.Forged
+injected false answer = if takes_on answer || is_reported answer then verdicts.Taken else verdicts.Stopped
+
+-- whether a story can fail to begin
+abbrev pub is_asked : StoryKind → Bool
+is_asked kinds.Datagram = true
+is_asked kinds.Joining = true
+is_asked kinds.Renewal = true
+is_asked kinds.Order = true
+is_asked kinds.Walk = true
+is_asked _ = false
+
+abbrev pub asked_verdict : StoryKind → Story → Ends → TaleEvent → Verdict
+asked_verdict kind story ends e =
+    if is_asked kind && not (is_begun e.answer) then verdicts.NotBegun else reached_or story.reached (unreached kind story ends)
+
+abbrev pub verdict_by : StoryKind → Story → Ends → TaleEvent → Verdict
+verdict_by kinds.Injection story ends e = injected e.forged e.answer
+verdict_by kind story ends e = asked_verdict kind story ends e
+
+-- the verdict of a story, by its flights that did not go on and the event that it begins with
+abbrev pub verdict_of : Story → Ends → TaleEvent → Verdict
+verdict_of story ends e = verdict_by story.kind story ends e
+
+-- whether a verdict is good, where one asks that of it
+abbrev pub is_good : Verdict → Option Bool
+is_good (verdicts.Reached event) = Some true
+is_good verdicts.Stopped = Some true
+is_good verdicts.NotTold = None
+is_good verdicts.Taken = None
+is_good verdicts.Nothing = None
+is_good _ = Some false

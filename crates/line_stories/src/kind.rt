@@ -1,0 +1,261 @@
+//! The kinds of stories, and what events and answers are to them.
+ghost use Rattle.std.specs.Prelude.{◌≡◌};
+ghost use Rattle.line_stories.specs.Kinds as story_kinds;
+
+use line_events::Answer;
+use line_tale::Act;
+
+/// What a story is about.
+#[derive(Clone, Copy, Debug, PartialEq, Eq)]
+pub enum StoryKind {
+    /// The lines of the setup, all together.
+    Setup,
+    /// A datagram on its way.
+    Datagram,
+    /// A meter joins.
+    Joining,
+    /// The coordinator gives a meter its keys anew.
+    Renewal,
+    /// A node is told to seal with another key, or to leave.
+    Order,
+    /// Octets that no node sent come to a node.
+    Injection,
+    /// A datagram goes to all.
+    Broadcast,
+    /// A node asks for the way to another one.
+    Walk,
+    /// What happens on the line by itself: ticks, breaks, restarts and the like that stand in a row.
+    Line,
+}
+
+/// Whether an event is one of the setup.
+pub fn is_setup(act: &Act) -> bool
+    ensures { result ≡ story_kinds.is_setup act.now }
+{
+    match act {
+        Act::Coordinator { .. } => true,
+        Act::Meter { .. } => true,
+        Act::Depot { .. } => true,
+        Act::Near { .. } => true,
+        Act::Counter { .. } => true,
+        Act::Number { .. } => true,
+        Act::Checks => true,
+        _ => false,
+    }
+}
+
+/// The story that an event begins, if it begins one.
+pub fn begins(act: &Act) -> Option<StoryKind>
+    ensures { result ≡ story_kinds.begins act.now }
+{
+    match act {
+        Act::Send { .. } => Some(StoryKind::Datagram),
+        Act::Join { .. } => Some(StoryKind::Joining),
+        Act::Choose { .. } => Some(StoryKind::Joining),
+        Act::Challenge { .. } => Some(StoryKind::Renewal),
+        Act::Activate { .. } => Some(StoryKind::Order),
+        Act::Kick { .. } => Some(StoryKind::Order),
+        Act::Inject { .. } => Some(StoryKind::Injection),
+        Act::Bcast { .. } => Some(StoryKind::Broadcast),
+        Act::Path { .. } => Some(StoryKind::Walk),
+        _ => None,
+    }
+}
+
+/// The node that the story is about which an event begins, 0 where it begins none.
+pub fn person_of(act: &Act) -> u32
+    ensures { result ≡ story_kinds.person_of act.now }
+{
+    match act {
+        Act::Send { from, .. } => *from,
+        Act::Join { node, .. } => *node,
+        Act::Choose { node, .. } => *node,
+        Act::Challenge { node } => *node,
+        Act::Activate { node, .. } => *node,
+        Act::Kick { node } => *node,
+        Act::Inject { node, .. } => *node,
+        Act::Bcast { node, .. } => *node,
+        Act::Path { from, .. } => *from,
+        _ => 0,
+    }
+}
+
+/// The meter whose joining or renewal an event begins.
+pub fn joins(act: &Act) -> Option<u32>
+    ensures { result ≡ story_kinds.joins act.now }
+{
+    match act {
+        Act::Join { node, .. } => Some(*node),
+        Act::Choose { node, .. } => Some(*node),
+        Act::Challenge { node } => Some(*node),
+        _ => None,
+    }
+}
+
+/// The node that an event readies for a joining.
+pub fn readies(act: &Act) -> Option<u32>
+    ensures { result ≡ story_kinds.readies act.now }
+{
+    match act {
+        Act::Allow { node } => Some(*node),
+        Act::Rand { node } => Some(*node),
+        _ => None,
+    }
+}
+
+/// The flight whose story an event goes on with.
+pub fn goes_on_with(act: &Act) -> Option<u32>
+    ensures { result ≡ story_kinds.goes_on_with act.now }
+{
+    match act {
+        Act::Deliver { flight, .. } => Some(*flight),
+        Act::Lose { flight } => Some(*flight),
+        _ => None,
+    }
+}
+
+/// The node that an event has do what it was told: that which hears a frame, or which is told by the script itself.
+pub fn obeys_at(act: &Act) -> Option<u32>
+    ensures { result ≡ story_kinds.obeys_at act.now }
+{
+    match act {
+        Act::Deliver { node, .. } => Some(*node),
+        Act::Inject { node, .. } => Some(*node),
+        Act::Activate { node, .. } => Some(*node),
+        _ => None,
+    }
+}
+
+/// Whether an event made a node.
+pub fn makes_node(act: &Act) -> bool
+    ensures { result ≡ story_kinds.makes_node act.now }
+{
+    match act {
+        Act::Coordinator { .. } => true,
+        Act::Meter { .. } => true,
+        _ => false,
+    }
+}
+
+fn is_sent(answer: Answer) -> bool
+    ensures { result ≡ story_kinds.is_sent answer }
+{
+    match answer {
+        Answer::Sent => true,
+        Answer::Waiting => true,
+        _ => false,
+    }
+}
+
+/// Whether an event is a send: a line `send` that went out or waits.
+pub fn sends(act: &Act, answer: Answer) -> bool
+    ensures { result ≡ story_kinds.sends act.now answer }
+{
+    match act {
+        Act::Send { .. } => is_sent(answer),
+        _ => false,
+    }
+}
+
+/// Whether a node that a frame is for goes on with it: it answers ok, and not that the unit ends there.
+pub fn takes_on(answer: Answer) -> bool
+    ensures { result ≡ story_kinds.takes_on answer }
+{
+    match answer {
+        Answer::Left => true,
+        Answer::Broken => true,
+        Answer::Challenged => true,
+        Answer::Activated => true,
+        Answer::Up => true,
+        Answer::Held => true,
+        Answer::Relayed => true,
+        Answer::Answered => true,
+        Answer::Learned => true,
+        Answer::Carried => true,
+        Answer::Replied => true,
+        Answer::Took => true,
+        Answer::Noted => true,
+        Answer::Declined => true,
+        Answer::Keyed => true,
+        Answer::Done => true,
+        Answer::Acked => true,
+        Answer::Bup => true,
+        Answer::Beacon => true,
+        Answer::Beaconed => true,
+        Answer::Path => true,
+        _ => false,
+    }
+}
+
+/// Whether a unit ended at a node, which told its origin so.
+pub fn is_reported(answer: Answer) -> bool
+    ensures { result ≡ story_kinds.is_reported answer }
+{
+    match answer {
+        Answer::Reported => true,
+        _ => false,
+    }
+}
+
+/// Whether a meter was not let in.
+pub fn is_declined(answer: Answer) -> bool
+    ensures { result ≡ story_kinds.is_declined answer }
+{
+    match answer {
+        Answer::Declined => true,
+        _ => false,
+    }
+}
+
+/// Whether a meter did what it was told: to seal with another key, or to leave.
+pub fn is_heeded(answer: Answer) -> bool
+    ensures { result ≡ story_kinds.is_heeded answer }
+{
+    match answer {
+        Answer::Activated => true,
+        Answer::Left => true,
+        _ => false,
+    }
+}
+
+/// Whether a path request was answered, at the node that had sent it.
+pub fn is_path(answer: Answer) -> bool
+    ensures { result ≡ story_kinds.is_path answer }
+{
+    match answer {
+        Answer::Path => true,
+        _ => false,
+    }
+}
+
+/// Whether joining messages stay with a story of this kind.
+pub fn keeps_joinings(kind: StoryKind) -> bool
+    ensures { result ≡ story_kinds.keeps_joinings kind }
+{
+    match kind {
+        StoryKind::Joining => true,
+        StoryKind::Renewal => true,
+        StoryKind::Order => true,
+        _ => false,
+    }
+}
+
+/// Whether a story is one of what happens on the line by itself.
+pub fn is_line(kind: StoryKind) -> bool
+    ensures { result ≡ story_kinds.is_line kind }
+{
+    match kind {
+        StoryKind::Line => true,
+        _ => false,
+    }
+}
+
+/// Whether a story is that of the setup.
+pub fn is_setup_kind(kind: StoryKind) -> bool
+    ensures { result ≡ story_kinds.is_setup_kind kind }
+{
+    match kind {
+        StoryKind::Setup => true,
+        _ => false,
+    }
+}

@@ -1,0 +1,132 @@
+//! A story, and what its events say of it.
+ghost use Rattle.std.specs.Prelude.{◌≡◌, ◌&&◌};
+ghost use Rattle.line_stories.specs.Kinds.{is_heeded, obeys_at};
+ghost use Rattle.line_stories.specs.Marks as story_marks;
+
+use crate::kind::{StoryKind, is_declined, is_heeded, is_path, obeys_at};
+use line_tale::TaleEvent;
+
+/// What somebody asked of the line, and what became of it. Events are meant by their numbers from 1.
+#[derive(Clone, Copy)]
+pub struct Story {
+    /// What it is about.
+    pub kind: StoryKind,
+    /// The event that it begins with.
+    pub first: usize,
+    /// The node that it is about: the one that sends, joins or is told, or to which octets come; 0 for others.
+    pub person: u32,
+    /// The event at which it reached its end: the datagram was handed up first, the joining was done last, the node first did what it was
+    /// told, the answer to the path request came first.
+    pub reached: Option<usize>,
+    /// The last event at which the meter that joins took its grant.
+    pub took: Option<usize>,
+    /// The first event at which the meter that joins was declined.
+    pub declined: Option<usize>,
+}
+
+/// A story without a further event.
+pub fn new_story(kind: StoryKind, first: usize, person: u32) -> Story
+    ensures { result ≡ story_marks.new_story kind first person }
+{
+    Story {
+        kind,
+        first,
+        person,
+        reached: None,
+        took: None,
+        declined: None,
+    }
+}
+
+/// Whether the node that is named, if one is, is this one.
+pub fn is_node(named: Option<u32>, node: u32) -> bool
+    ensures { result ≡ story_marks.is_node named node }
+{
+    match named {
+        None => false,
+        Some(x) => x == node,
+    }
+}
+
+fn is_meter(named: Option<u16>, node: u32) -> bool
+    ensures { result ≡ story_marks.is_node named node }
+{
+    match named {
+        None => false,
+        Some(x) => u32::from(x) == node,
+    }
+}
+
+fn or_first(before: Option<usize>, holds: bool, number: usize) -> Option<usize>
+    ensures { result ≡ story_marks.or_first before holds number }
+{
+    match before {
+        Some(first) => Some(first),
+        None => or_last(None, holds, number),
+    }
+}
+
+fn or_last(before: Option<usize>, holds: bool, number: usize) -> Option<usize>
+    ensures { result ≡ story_marks.or_last before holds number }
+{
+    if holds {
+        return Some(number);
+    }
+    before
+}
+
+fn joining_marked(number: usize, event: &TaleEvent, story: &Story) -> Story
+    ensures { result ≡ story_marks.joining_marked number event.now story.now }
+{
+    Story {
+        kind: story.kind,
+        first: story.first,
+        person: story.person,
+        reached: or_last(story.reached, is_meter(event.done, story.person), number),
+        took: or_last(story.took, is_meter(event.took, story.person), number),
+        declined: or_first(story.declined, is_declined(event.answer), number),
+    }
+}
+
+// Whether the node of a story does what it was told.
+fn is_obeyed(event: &TaleEvent, person: u32) -> bool
+    ensures { result ≡ (is_heeded event.now.answer && story_marks.is_node (obeys_at event.now.act) person) }
+{
+    if !is_heeded(event.answer) {
+        return false;
+    }
+    is_node(obeys_at(&event.act), person)
+}
+
+fn reached_at(number: usize, holds: bool, story: &Story) -> Story
+    ensures { result ≡ record story.now { reached = story_marks.or_first story.now.reached holds number } }
+{
+    Story {
+        kind: story.kind,
+        first: story.first,
+        person: story.person,
+        reached: or_first(story.reached, holds, number),
+        took: story.took,
+        declined: story.declined,
+    }
+}
+
+/// A story after one of its events, the one of this number.
+pub fn marked(number: usize, event: &TaleEvent, story: &Story) -> Story
+    ensures { result ≡ story_marks.marked number event.now story.now }
+{
+    match story.kind {
+        StoryKind::Joining => joining_marked(number, event, story),
+        StoryKind::Renewal => joining_marked(number, event, story),
+        StoryKind::Order => reached_at(number, is_obeyed(event, story.person), story),
+        StoryKind::Walk => reached_at(number, is_path(event.answer), story),
+        _ => *story,
+    }
+}
+
+/// A story whose datagram is handed up at the event of this number.
+pub fn came(number: usize, story: &Story) -> Story
+    ensures { result ≡ story_marks.came number story.now }
+{
+    reached_at(number, true, story)
+}

@@ -1,0 +1,440 @@
+//! The stories of a tale, while it is gone through.
+ghost use Rattle.std.specs.Prelude.{◌≡◌, ◌<◌, ◌≤◌, ◌+◌, ◌++◌, ◌∷◌, IfOk, OnErr, OnOk, length};
+ghost use Rattle.line_events.specs.declared.event.TheConstants.{MAX_EVENTS};
+ghost use Rattle.line_tale.specs.Tales.{numbered};
+ghost use Rattle.line_stories.specs.Kinds as story_kinds;
+ghost use Rattle.line_stories.specs.Lists.{changed_at};
+ghost use Rattle.line_stories.specs.Marks as story_marks;
+ghost use Rattle.line_stories.specs.Stories as spec_stories;
+
+use crate::kind::{joins, keeps_joinings, makes_node, person_of, readies, sends};
+use crate::lot::{Fate, Lot, change_lots};
+use crate::place::{place_of, take_place};
+use crate::readiness::{push_owners, take_line, unready};
+use crate::story::{Story, came, marked};
+use frame_words::{FrameTarget, Gist};
+use line_events::Answer;
+use line_tale::{Act, Tale, TaleEvent, TaleFlight};
+use std::alloc::{AllocError, Global};
+use std::marker::Model;
+
+/// What is known of the stories of a tale, while it is gone through. Stories, events, flights and sends have numbers from 1, nodes and
+/// addresses from 0.
+#[derive(Drop)]
+pub struct Telling {
+    /// The stories.
+    pub stories: Vec<Story>,
+    /// The story of each event.
+    pub owners: Vec<usize>,
+    /// What became of each flight.
+    pub lots: Vec<Lot>,
+    /// The story of each send.
+    pub sent: Vec<usize>,
+    // The last joining or renewal of each node, 0 where there was none.
+    joinings: Vec<usize>,
+    /// The node of each short address.
+    pub homes: Vec<u32>,
+    // The nodes that the last events readied for a joining, which have no story so far.
+    ready: Vec<u32>,
+}
+
+impl Model for Telling {
+    ghost use Rattle.line_stories.specs.Stories.{Stories};
+
+    ghost Value = { Stories };
+
+    ghost view = { λ t. record {
+      stories = t.stories.items;
+      owners = t.owners.items;
+      lots = t.lots.items;
+      sent = t.sent.items;
+      joinings = t.joinings.items;
+      homes = t.homes.items;
+      ready = t.ready.items;
+    } };
+}
+
+// The node that gets the next address, where so many are given.
+fn newcomer(count: usize, act: &Act, answer: Answer, address: Option<u16>) -> Option<u32>
+    ensures { result ≡ spec_stories.newcomer count act.now answer address }
+{
+    match act {
+        Act::Coordinator { .. } => Some(0),
+        Act::Depot { node } => depot_newcomer(*node, answer),
+        Act::Allow { node } => allow_newcomer(count, *node, answer, address),
+        _ => None,
+    }
+}
+
+fn depot_newcomer(node: u32, answer: Answer) -> Option<u32>
+    ensures { result ≡ spec_stories.depot_newcomer node answer }
+{
+    match answer {
+        Answer::Joined => Some(node),
+        _ => None,
+    }
+}
+
+fn allow_newcomer(count: usize, node: u32, answer: Answer, address: Option<u16>) -> Option<u32>
+    ensures { result ≡ spec_stories.allow_newcomer count node answer address }
+{
+    match answer {
+        Answer::Allowed => addressed(count, node, address),
+        _ => None,
+    }
+}
+
+fn addressed(count: usize, node: u32, address: Option<u16>) -> Option<u32>
+    ensures { result ≡ spec_stories.addressed count node address }
+{
+    let Some(address) = address else {
+        return None;
+    };
+    if address as usize == count {
+        return Some(node);
+    }
+    None
+}
+
+// A node at the next address, where there is one.
+fn push_home(homes: &mut Vec<u32>, event: &TaleEvent) -> Result<(), AllocError>
+    ensures { OnOk result (homes.new.items ≡ spec_stories.homes_with
+        (spec_stories.newcomer (length homes.old.items) event.now.act event.now.answer event.now.address) homes.old.items) }
+{
+    match newcomer(homes.len(), &event.act, event.answer, event.address) {
+        None => Ok(()),
+        Some(node) => {
+            homes.push(node)?;
+            Ok(())
+        }
+    }
+}
+
+// An event of a story.
+fn mark(stories: &mut Vec<Story>, story: usize, number: usize, event: &TaleEvent)
+    ensures { stories.new.items ≡ changed_at story (story_marks.marked number event.now) stories.old.items }
+{
+    if story == 0 {
+        return;
+    }
+    let Some(old) = stories.get(story - 1) else {
+        return;
+    };
+    let new = marked(number, event, old);
+    stories[story - 1] = new;
+}
+
+// The datagram of a story is handed up.
+fn bring(stories: &mut Vec<Story>, story: usize, number: usize)
+    ensures { stories.new.items ≡ changed_at story (story_marks.came number) stories.old.items }
+{
+    if story == 0 {
+        return;
+    }
+    let Some(old) = stories.get(story - 1) else {
+        return;
+    };
+    let new = came(number, old);
+    stories[story - 1] = new;
+}
+
+// A datagram of this note is handed up, or none is.
+fn mark_up(stories: &mut Vec<Story>, up: Option<u32>, number: usize, sent: &[usize])
+    ensures { stories.new.items ≡ spec_stories.up_marked up number sent.now stories.old.items }
+{
+    let Some(note) = up else {
+        return;
+    };
+    if note == 0 {
+        return;
+    }
+    let Some(story) = sent.get(note as usize - 1) else {
+        return;
+    };
+    bring(stories, *story, number);
+}
+
+// A send of a story.
+fn push_sent(sent: &mut Vec<usize>, event: &TaleEvent, story: usize) -> Result<(), AllocError>
+    ensures { OnOk result (sent.new.items
+        ≡ spec_stories.sent_with (story_kinds.sends event.now.act event.now.answer) story sent.old.items) }
+{
+    if sends(&event.act, event.answer) {
+        sent.push(story)?;
+    }
+    Ok(())
+}
+
+// The story is the last joining of a node.
+fn begin_joining(joinings: &mut Vec<usize>, joined: Option<u32>, story: usize)
+    ensures { joinings.new.items ≡ spec_stories.joinings_with joined story joinings.old.items }
+{
+    let Some(node) = joined else {
+        return;
+    };
+    let node = node as usize;
+    if node < joinings.len() {
+        joinings[node] = story;
+    }
+}
+
+// A node that is made has no joining.
+fn push_node(joinings: &mut Vec<usize>, makes: bool) -> Result<(), AllocError>
+    ensures { OnOk result (joinings.new.items ≡ spec_stories.nodes_with makes joinings.old.items) }
+{
+    if makes {
+        joinings.push(0)?;
+    }
+    Ok(())
+}
+
+// The node that a flight is for.
+fn node_of(target: &FrameTarget, device: Option<u32>, homes: &[u32]) -> Option<u32>
+    ensures { result ≡ spec_stories.node_of target.now device homes.now }
+{
+    match target {
+        FrameTarget::Nobody => None,
+        FrameTarget::All => None,
+        FrameTarget::Node { address } => homes.get(*address as usize).copied(),
+        FrameTarget::Device { .. } => device,
+    }
+}
+
+fn is_joining(gist: &Gist) -> bool
+    ensures { result ≡ spec_stories.is_joining gist.now }
+{
+    match gist {
+        Gist::Joins { .. } => true,
+        _ => false,
+    }
+}
+
+fn keeps_at(stories: &[Story], story: usize) -> bool
+    ensures { result ≡ spec_stories.keeps_at (numbered stories.now story) }
+{
+    if story == 0 {
+        return false;
+    }
+    match stories.get(story - 1) {
+        None => false,
+        Some(found) => keeps_joinings(found.kind),
+    }
+}
+
+fn or_story(other: Option<usize>, story: usize) -> usize
+    ensures { result ≡ spec_stories.or_story other story }
+{
+    match other {
+        None => story,
+        Some(number) => {
+            if number == 0 {
+                return story;
+            }
+            number
+        }
+    }
+}
+
+fn joining_of(device: Option<u32>, joinings: &[usize]) -> Option<usize>
+    ensures { result ≡ spec_stories.joining_of device joinings.now }
+{
+    let Some(node) = device else {
+        return None;
+    };
+    joinings.get(node as usize).copied()
+}
+
+fn sent_by(note: u32, sent: &[usize]) -> Option<usize>
+    ensures { result ≡ numbered sent.now note }
+{
+    if note == 0 {
+        return None;
+    }
+    sent.get(note as usize - 1).copied()
+}
+
+impl Telling {
+    /// No stories. It takes no memory.
+    pub fn new(alloc: Global) -> Telling
+        ensures { result ≡ spec_stories.no_stories }
+    {
+        Telling {
+            stories: Vec::new(alloc),
+            owners: Vec::new(alloc),
+            lots: Vec::new(alloc),
+            sent: Vec::new(alloc),
+            joinings: Vec::new(alloc),
+            homes: Vec::new(alloc),
+            ready: Vec::new(alloc),
+        }
+    }
+
+    // The events that readied something, and an event after them, get their stories.
+    #[tactic(auto, unfolding(crate::specs::Stories::settled))]
+    fn settle(&mut self, act: &Act) -> Result<(), AllocError>
+        requires { length self.old.owners + length self.old.ready < MAX_EVENTS }
+        ensures { OnOk result (self.new ≡ spec_stories.settled act.now self.old) }
+    {
+        let joined = joins(act);
+        let first = self.owners.len() + 1;
+        let number = self.owners.len() + self.ready.len() + 1;
+        let line = take_line(
+            &mut self.stories,
+            unready(joined, self.ready.as_slice()),
+            first,
+        )?;
+        let place = place_of(act, self.stories.as_slice(), self.lots.as_slice());
+        let story = take_place(&mut self.stories, place, number, person_of(act))?;
+        push_owners(&mut self.owners, self.ready.as_slice(), joined, story, line)?;
+        self.owners.push(story)?;
+        self.ready.clear();
+        Ok(())
+    }
+
+    // What an event says to its story and of the line.
+    #[tactic(auto, unfolding(crate::specs::Stories::recorded))]
+    fn record(&mut self, event: &TaleEvent, number: usize, story: usize) -> Result<(), AllocError>
+        ensures { OnOk result (self.new ≡ spec_stories.recorded event.now number story self.old) }
+    {
+        push_sent(&mut self.sent, event, story)?;
+        push_home(&mut self.homes, event)?;
+        begin_joining(&mut self.joinings, joins(&event.act), story);
+        push_node(&mut self.joinings, makes_node(&event.act))?;
+        mark(&mut self.stories, story, number, event);
+        mark_up(&mut self.stories, event.up, number, self.sent.as_slice());
+        change_lots(&mut self.lots, &event.act, number, event.answer);
+        Ok(())
+    }
+
+    fn last_owner(&self) -> usize
+        ensures { result ≡ spec_stories.last_owner self.now.owners }
+    {
+        match self.owners.last() {
+            None => 0,
+            Some(story) => *story,
+        }
+    }
+
+    // An event that readies a node for a joining has no story so far.
+    fn get_ready(&mut self, event: &TaleEvent, node: u32) -> Result<(), AllocError>
+        ensures { OnOk result (self.new ≡ spec_stories.event_by (Some node) event.now self.old) }
+    {
+        self.ready.push(node)?;
+        push_home(&mut self.homes, event)
+    }
+
+    /// Adds the next event of a tale. Fewer than 50,000 were added before.
+    ///
+    /// It fails only where memory runs out; what is left then is not said.
+    #[tactic(auto, unfolding(crate::specs::Stories::event_seen))]
+    pub fn push_event(&mut self, event: &TaleEvent) -> Result<(), AllocError>
+        requires { length self.old.owners + length self.old.ready < MAX_EVENTS }
+        ensures { OnOk result (self.new ≡ spec_stories.event_seen event.now self.old) }
+    {
+        if let Some(node) = readies(&event.act) {
+            return self.get_ready(event, node);
+        }
+        self.settle(&event.act)?;
+        let number = self.owners.len();
+        let story = self.last_owner();
+        self.record(event, number, story)
+    }
+
+    // The story that owns a flight which an event of a story made.
+    #[tactic(auto, unfolding(crate::specs::Stories::flight_owner))]
+    fn flight_owner(&self, flight: &TaleFlight, story: usize) -> usize
+        ensures { result ≡ spec_stories.flight_owner flight.now story self.now }
+    {
+        if flight.note != 0 {
+            return or_story(sent_by(flight.note, self.sent.as_slice()), story);
+        }
+        if !is_joining(&flight.gist) {
+            return story;
+        }
+        if keeps_at(self.stories.as_slice(), story) {
+            return story;
+        }
+        or_story(joining_of(flight.device, self.joinings.as_slice()), story)
+    }
+
+    /// Adds the next flight of a tale, after the event that made it.
+    ///
+    /// It fails only where memory runs out, and nothing changes then.
+    pub fn push_flight(&mut self, flight: &TaleFlight) -> Result<(), AllocError>
+        ensures { OnOk result (self.new ≡ spec_stories.flight_seen flight.now self.old) }
+    {
+        let lot = Lot {
+            story: self.flight_owner(flight, self.last_owner()),
+            to: node_of(&flight.target, flight.device, self.homes.as_slice()),
+            fate: Fate::Missed,
+            bears: flight.note != 0,
+            overheard: false,
+        };
+        self.lots.push(lot)?;
+        Ok(())
+    }
+
+    // The flights of an event.
+    fn push_flights(&mut self, flights: &[TaleFlight]) -> Result<(), AllocError>
+        ensures { OnOk result (self.new ≡ spec_stories.flights_seen flights.now self.old) }
+    {
+        for flight in flights {
+            self.push_flight(flight)?;
+        }
+        Ok(())
+    }
+
+    // An event and its flights, of all of the tale.
+    #[tactic(auto, unfolding(crate::specs::Stories::told_seen))]
+    fn push_told(&mut self, event: &TaleEvent, flights: &[TaleFlight]) -> Result<(), AllocError>
+        requires { length self.old.owners + length self.old.ready < MAX_EVENTS }
+        ensures { OnOk result (self.new ≡ spec_stories.told_seen event.now flights.now self.old) }
+    {
+        self.push_event(event)?;
+        self.push_flights(flights_of(event, flights))
+    }
+
+    // What readied something last, and no joining came.
+    fn end(&mut self) -> Result<(), AllocError>
+        requires { length self.old.owners + length self.old.ready ≤ MAX_EVENTS }
+        ensures { OnOk result (self.new ≡ spec_stories.ended self.old) }
+    {
+        let first = self.owners.len() + 1;
+        let line = take_line(
+            &mut self.stories,
+            unready(None, self.ready.as_slice()),
+            first,
+        )?;
+        push_owners(&mut self.owners, self.ready.as_slice(), None, 0, line)?;
+        self.ready.clear();
+        Ok(())
+    }
+}
+
+// The flights that an event made.
+fn flights_of<'a>(event: &TaleEvent, flights: &'a [TaleFlight]) -> &'a [TaleFlight]
+    ensures { result.now ≡ spec_stories.flights_of event.now flights.now }
+{
+    let start = (event.first_flight as usize)
+        .saturating_sub(1)
+        .min(flights.len());
+    let rest = &flights[start..];
+    let count = (event.flights as usize).min(rest.len());
+    &rest[..count]
+}
+
+/// The stories of a tale, with the story of each event and each flight, and what became of each flight. The tale has at most 50,000 events.
+///
+/// It fails only where memory runs out.
+#[tactic(auto, unfolding(crate::specs::Stories::stories_of))]
+pub fn stories_of(alloc: Global, tale: &Tale) -> Result<Telling, AllocError>
+    requires { length tale.now.events.items ≤ MAX_EVENTS }
+    ensures { IfOk result (λ telling. telling ≡ spec_stories.stories_of tale.now.events.items tale.now.flights.items) }
+{
+    let mut telling = Telling::new(alloc);
+    for event in &tale.events {
+        telling.push_told(event, tale.flights.as_slice())?;
+    }
+    telling.end()?;
+    Ok(telling)
+}
