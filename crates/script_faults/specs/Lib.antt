@@ -1,0 +1,3 @@
+pub mod Forms
+pub mod Nearest
+pub mod Places
