@@ -1,0 +1,9 @@
+pub mod Airtime
+pub mod Numbered
+pub mod Calendars
+pub mod Disturbing
+pub mod Nodes
+pub mod Chances
+pub mod Counts
+pub mod Turns
+pub mod Ends

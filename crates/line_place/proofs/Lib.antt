@@ -1,0 +1,3 @@
+pub mod Widening
+pub mod Connected
+pub mod Tries

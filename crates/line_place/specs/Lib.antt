@@ -1,0 +1,5 @@
+pub mod Spread
+pub mod Distances
+pub mod Rows
+pub mod Hops
+pub mod Scattering
