@@ -3,6 +3,7 @@
 
 mod answer;
 mod digits;
+mod event_line;
 mod kind;
 mod laws;
 mod node_report;
@@ -10,6 +11,7 @@ mod reading;
 mod report;
 mod word;
 
+pub use event_line::push_line;
 pub use kind::EventKind;
 pub use laws::lines_are_read_back;
 pub use node_report::short_word;

@@ -64,7 +64,7 @@ fn reason_word(reason: Reason) -> &'static str
 
 // Numbers and octets are appended without the formatter, which takes several times as long, since most lines are made of them.
 
-fn push_number(text: &mut String, number: u32) -> Result<(), AllocError>
+pub(crate) fn push_number(text: &mut String, number: u32) -> Result<(), AllocError>
     ensures { OnOk result (string_bytes text.new ≡ string_bytes text.old ++ decimal number) }
 {
     let mut digits = Buffer::new();
