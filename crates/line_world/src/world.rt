@@ -8,7 +8,7 @@ use crate::nodes::Nodes;
 use line_events::{Event, Happenings, StepFault};
 use line_flights::{Flights, MadeTags};
 use node_rules::{Shown, ShownPeers, ShownRoutes};
-use plc_base::{DatagramBuf, FrameBuf, Out};
+use plc_base::{DatagramBuf, FrameBuf, Key, Out};
 use std::alloc::Global;
 use std::marker::Model;
 
@@ -95,9 +95,11 @@ impl Model for World {
 }
 
 impl World {
-    ghost use Rattle.std.specs.Option.{option_copied, option_map};
+    ghost use Rattle.std.specs.Prelude.{IfSome, is_some};
+    ghost use Rattle.std.specs.Option.{option_and_then, option_copied, option_map};
     ghost use Rattle.node_rules.specs.Ciphers.{network};
-    ghost use Rattle.line_rules.specs.Worlds.{start, flight_at};
+    ghost use Rattle.node_rules.specs.Showing.{shown_of};
+    ghost use Rattle.line_rules.specs.Worlds.{start, flight_at, node_at};
     ghost use Rattle.line_rules.specs.Runs.{IsReached};
     ghost use Rattle.line_rules.specs.Further.{line_step};
     ghost use Rattle.line_world.specs.Steps.{Gives, HasMemory, takes_memory};
@@ -160,6 +162,43 @@ impl World {
         ensures { result ≡ option_map (λ f. f.from) (flight_at self.now flight) }
     {
         self.line.flights.sender(flight)
+    }
+
+    /// The number of the send that a flight carries, a whole or in part: 0 where it carries none. None exactly where no flight has that number.
+    pub fn flight_note(&self, flight: u32) -> Option<u32>
+        ensures { result ≡ option_map (λ f. f.note) (flight_at self.now flight) }
+    {
+        let flight = self.line.flights.get(flight)?;
+        Some(flight.note)
+    }
+
+    /// The group key that sealed a flight, if one did. None where the flight is plain, and where no flight has that number.
+    pub fn flight_key(&self, flight: u32) -> Option<Key>
+        ensures { result ≡ option_and_then (λ f. f.key) (flight_at self.now flight) }
+    {
+        let flight = self.line.flights.get(flight)?;
+        flight.key
+    }
+
+    /// The clock, in seconds.
+    pub fn clock(&self) -> u64
+        ensures { result ≡ self.now.clock }
+    {
+        self.line.clock
+    }
+
+    /// Fills in what is shown of a node. It is no event. False exactly where there is no such node; nothing changes then.
+    pub fn show(&mut self, node: u32, shown: &mut Shown) -> bool
+        ensures there { result ≡ is_some (node_at self.old node) }
+        ensures shown { IfSome (node_at self.old node) (λ n. shown.new ≡ shown_of n) }
+        ensures same { self.new ≡ self.old }
+    {
+        let node = node as usize;
+        if node >= self.line.nodes.len() {
+            return false;
+        }
+        self.line.nodes.show(node, shown);
+        true
     }
 
     /// Takes an event, and answers what happened: the step of the rules. Fewer than 50,000 events were taken before.
