@@ -1,21 +1,24 @@
 -- A doing that is carried to its end.
-use Rattle.std.proofs.Common.{◌≡◌, ℕ, ◌++◌, Bool, true, false, [], length, map, Option, Some, None, Result, Ok, Err, refl, sym, ap, subst, ◌∙◌}
+use Rattle.std.proofs.Common.{◌≡◌, ℕ, ◌+◌, ◌≤◌, ◌++◌, Bool, true, false, List, [], length, map, Option, Some, None, Result, Ok, Err, refl, sym, ap, subst, ◌∙◌}
+use Rattle.std.proofs.Common.{arith}
+use Rattle.std.proofs.lemmas.Bool.Decides.{nat_tests}
 use Rattle.std.specs.Prelude.{if◌then◌else◌}
-use Rattle.plc_base.specs.Keeper.{Store, Stores}
+use Rattle.plc_base.specs.Keeper.{Store, Stores, Write}
 use Rattle.store_tables.specs.Writes.{Wrote}
 use Rattle.plc_base.specs.declared.out_frame.Out.{Out}
-use Rattle.store_tables.proofs.WritesLemmas.{wrote_one, wrote_append, wrote_append_stop}
-use Rattle.frame_counters.specs.SendCounter.{reserved, reserve_write}
+use Rattle.store_tables.proofs.WritesLemmas.{wrote_none, wrote_one, wrote_append, wrote_append_stop}
+use Rattle.frame_counters.specs.SendCounter.{Counting, passes, reserved, reserve_write}
 use Rattle.std.specs.Option.{option_map_or}
 use Rattle.plc_base.specs.declared.key.Key.{Key}
 use Rattle.group_keys.specs.KeyRing.{Ring}
 use Rattle.node_rules.specs.Ciphers.{network}
-use Rattle.node_rules.specs.Frames.{spelled}
+use Rattle.node_rules.specs.Frames.{Sent as Frame, spelled}
 use Rattle.node_rules.specs.Memory.{StationMemory}
 use Rattle.node_rules.specs.Plans.{Plan, resting}
 use Rattle.node_rules.specs.Drafts.{Draft, Ends, alone, refused, sealing, sealed_by, sealing_key, letters}
 use Rattle.node_rules.specs.States.{State}
 use Rattle.node_rules.specs.Carrying.{Carries, nothing}
+use Rattle.plc_station.specs.Sealing.{only_frames}
 use Rattle.plc_station.proofs.Carrying.{resting_carried}
 
 -- what is sent, and what is left where a put failed
@@ -85,6 +88,43 @@ sealed_none (Some g) first = by_key (sealing_key g)
     by_key : (k : Option Key) → option_map_or (λ key. letters g key first []) k [] ≡ []
     by_key None = refl
     by_key (Some key) = refl
+
+-- # Nothing to seal
+
+none_pass : (x : Counting) → x.next ≤ x.limit → false ≡ passes x 0
+none_pass x below = grind (arith, nat_tests, below)
+
+-- reserving none writes nothing
+pub none_written : (x : Counting) (s : Store) → x.next ≤ x.limit → Stores s (reserve_write x 0) true s
+none_written x s below = rw (← none_pass x below) (refl, refl)
+
+-- and leaves the counter
+pub none_reserved : (x : Counting) → x.next ≤ x.limit → x ≡ reserved x 0
+none_reserved x below = rw (← none_pass x below) (ap (λ (n : ℕ). record { limit = x.limit; next = n }) (omega arith))
+
+-- what is stored and left where nothing goes out
+abbrev pub silent : List Write → StationMemory → Draft StationMemory
+silent puts l = record { puts = puts; memory = l; units = []; plain = []; made = []; opened = [] }
+
+-- all puts were done, and nothing goes out
+pub settled : {H E : Type 0} (ends : Ends E) (s t : State StationMemory) (puts : List Write) (l : StationMemory) (e : Draft StationMemory) (answer : H)
+    (out : Out) → silent puts l ≡ e
+    → Wrote s.store puts true t.store → l.counter.next ≤ l.counter.limit → out ≡ nothing
+    → t ≡ record { store = t.store; eui = s.eui; memory = Some l; replied = t.replied }
+    → Carries s (sealing alone ends e answer) (Ok answer) out t
+settled {H} {E} ends s t puts l e answer out same wrote below is new =
+    ended ends s t (silent puts l) e answer t.store out 0 same wrote refl (none_written l.counter t.store below)
+    (is ∙ ap (λ (fs : List Frame). only_frames (map (spelled network) fs)) (sym (sealed_none l.ring l.counter.next)))
+    (new ∙ ap (λ (x : Counting). record { store = t.store; eui = s.eui; memory = Some (record l { counter = x }); replied = t.replied })
+    (none_reserved l.counter below))
+
+-- nothing is stored, and nothing goes out
+pub unsealed : {H E : Type 0} (ends : Ends E) (s t : State StationMemory) (l : StationMemory) (e : Draft StationMemory) (answer : H) (out : Out)
+    → silent [] l ≡ e → t.store ≡ s.store → t.eui ≡ s.eui → t.memory ≡ Some l
+    → l.counter.next ≤ l.counter.limit → out ≡ nothing → Carries s (sealing alone ends e answer) (Ok answer) out t
+unsealed {H} {E} ends s t l e answer out same store eui memory below is =
+    settled ends s t [] l e answer out same (rw store (wrote_none s.store)) below is
+    (λ i. record { store = t.store; eui = eui i; memory = memory i; replied = t.replied })
 
 -- # Refusals and answers
 

@@ -1,9 +1,7 @@
 -- What ring calls and presets come to, by what is tested.
-use Rattle.std.proofs.Common.{◌≡◌, inl, inr, ℕ, true, false, Some, None, refl, ap, ◌∙◌, arith}
+use Rattle.std.proofs.Common.{◌≡◌, ℕ, true, false, Some, None, refl}
 use Rattle.plc_base.specs.declared.key.Key.{Key}
 use Rattle.group_keys.specs.declared.fault.RingFault.TheVariants.{NotHeld}
-use Rattle.plc_base.specs.Keeper.{Records, SameOutside}
-use Rattle.group_keys.specs.KeyRing as ring
 use Rattle.group_keys.specs.KeyRing.{key_in_ring, with_active}
 use Rattle.routing_set.specs.RoutingSet as routing
 use Rattle.node_rules.specs.declared.refusal.PresetFault.TheVariants as presets
@@ -35,10 +33,3 @@ pub near_kept : (l : StationMemory) (to cost k now : ℕ) → k ≡ cost → tru
     → sealing alone presetting_ends (with_rank to (near_rank k) to now (empty_draft l)) tt ≡ preset_near l to cost now
 unfolding checked
 near_kept l to cost k now same e full = rw (← same, ← e, ← full) refl
-
--- # The ring that the records give
-
--- a put of the counter leaves it
-pub ring_counted : (r : ring.Ring) (old mid new : Records) → ring.IsOldRingOrKept r old mid → SameOutside 2 2 mid new → ring.IsOldRingOrKept r old new
-ring_counted r old mid new (inl same) other = inl (ap ring.ring_at (other 1 (inl (omega arith))) ∙ same)
-ring_counted r old mid new (inr kept) other = inr (record { stored = ap ring.ring_at (other 1 (inl (omega arith))) ∙ kept.stored })

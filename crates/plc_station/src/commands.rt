@@ -83,15 +83,7 @@ impl<K: Keeper + Drop> Station<K> {
         ensures agrees { Agrees self.new }
         ensures replied { self.new.replied ≡ self.old.replied }
     {
-        // Shows the check that the next counter is within its bound.
-        let _left = self.parts.counter.left();
-        self.halted = true;
-        // Nothing is sent, so no counter is stored: a rule ends with the counters of what it sends.
-        let Ok(_) = self.parts.counter.reserve(&mut self.keeper, 0) else {
-            return Err(SendRefusal::Store);
-        };
         self.bodies.push(to, 0, now, None, octets);
-        self.halted = false;
         Ok(SentHow::Waiting)
     }
 

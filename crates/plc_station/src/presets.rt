@@ -60,15 +60,9 @@ impl<K: Keeper + Drop> Station<K> {
         ensures agrees { Agrees self.new }
         ensures replied { self.new.replied ≡ self.old.replied }
     {
-        // Shows the check that the next counter is within its bound.
-        let _left = self.parts.counter.left();
         let rank = Rank { number: 1, cost };
         self.halted = true;
         let Ok(()) = self.parts.routing.keep(&mut self.keeper, to, rank, to, now) else {
-            return Err(PresetFault::Store);
-        };
-        // Nothing is sent, so no counter is stored: a rule ends with the counters of what it sends.
-        let Ok(_) = self.parts.counter.reserve(&mut self.keeper, 0) else {
             return Err(PresetFault::Store);
         };
         self.halted = false;

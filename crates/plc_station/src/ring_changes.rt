@@ -20,14 +20,8 @@ impl<K: Keeper + Drop> Station<K> {
         ensures agrees { Agrees self.new }
         ensures replied { self.new.replied ≡ self.old.replied }
     {
-        // Shows the check that the next counter is within its bound.
-        let _left = self.parts.counter.left();
         self.halted = true;
         let Ok(()) = self.parts.ring.keep(&mut self.keeper, Some(*grant)) else {
-            return Err(RingFault::Store);
-        };
-        // Nothing is sent, so no counter is stored: a rule ends with the counters of what it sends.
-        let Ok(_) = self.parts.counter.reserve(&mut self.keeper, 0) else {
             return Err(RingFault::Store);
         };
         self.halted = false;
@@ -47,14 +41,8 @@ impl<K: Keeper + Drop> Station<K> {
         ensures agrees { Agrees self.new }
         ensures replied { self.new.replied ≡ self.old.replied }
     {
-        // Shows the check that the next counter is within its bound.
-        let _left = self.parts.counter.left();
         self.halted = true;
         let Ok(()) = self.parts.ring.put(&mut self.keeper, index, key) else {
-            return Err(RingFault::Store);
-        };
-        // Nothing is sent, so no counter is stored: a rule ends with the counters of what it sends.
-        let Ok(_) = self.parts.counter.reserve(&mut self.keeper, 0) else {
             return Err(RingFault::Store);
         };
         self.halted = false;
@@ -75,14 +63,8 @@ impl<K: Keeper + Drop> Station<K> {
         ensures agrees { Agrees self.new }
         ensures replied { self.new.replied ≡ self.old.replied }
     {
-        // Shows the check that the next counter is within its bound.
-        let _left = self.parts.counter.left();
         self.halted = true;
         let Ok(()) = self.parts.ring.set_active(&mut self.keeper, index) else {
-            return Err(RingFault::Store);
-        };
-        // Nothing is sent, so no counter is stored: a rule ends with the counters of what it sends.
-        let Ok(_) = self.parts.counter.reserve(&mut self.keeper, 0) else {
             return Err(RingFault::Store);
         };
         self.halted = false;
@@ -115,14 +97,8 @@ impl<K: Keeper + Drop> Station<K> {
         ensures agrees { Agrees self.new }
         ensures replied { self.new.replied ≡ self.old.replied }
     {
-        // Shows the check that the next counter is within its bound.
-        let _left = self.parts.counter.left();
         self.halted = true;
         let Ok(()) = self.parts.ring.keep(&mut self.keeper, None) else {
-            return Err(RingFault::Store);
-        };
-        // Nothing is sent, so no counter is stored: a rule ends with the counters of what it sends.
-        let Ok(_) = self.parts.counter.reserve(&mut self.keeper, 0) else {
             return Err(RingFault::Store);
         };
         self.parts.routing.invalidate_all();

@@ -38,7 +38,6 @@ impl<K: Keeper + Drop> Station<K> {
     fn lose(&mut self, by: Short, lost: Short, out: &Out) -> Result<Heard<'static>, Dropped>
         requires running { IsSome self.old.memory }
         requires agrees { Agrees self.old }
-        requires left { IfSome self.old.memory (λ l. l.counter.next ≤ GREATEST_COUNTER) }
         requires empty { out.now ≡ nothing }
         ensures carries { IfSome self.old.memory
             (λ l. Carries self.old (drafts.sealing drafts.alone hearing.dropped
@@ -46,13 +45,7 @@ impl<K: Keeper + Drop> Station<K> {
         ensures agrees { Agrees self.new }
         ensures replied { self.new.replied ≡ self.old.replied }
     {
-        self.halted = true;
-        // Nothing is sent, so no counter is stored: a rule ends with the counters of what it sends.
-        let Ok(_) = self.parts.counter.reserve(&mut self.keeper, 0) else {
-            return Err(Dropped::Store);
-        };
         self.parts.routing.invalidate(lost, by);
-        self.halted = false;
         Ok(Heard::Broken)
     }
 

@@ -77,7 +77,6 @@ impl<K: Keeper + Drop> Station<K> {
         requires some { 1 ≤ length datagram.now }
         requires fits { length datagram.now ≤ LONGEST_DATAGRAM }
         requires room { IfSome self.old.memory (λ l. drafts.no_room l (length datagram.now) ≡ false) }
-        requires left { IfSome self.old.memory (λ l. l.counter.next ≤ GREATEST_COUNTER) }
         requires empty { out.old ≡ nothing }
         ensures carries { IfSome self.old.memory (λ l. Carries self.old (drafts.sealing drafts.alone calls.sending_ends
             (drafts.waits to note (Datagram datagram.now l.next_tag) now
@@ -87,10 +86,6 @@ impl<K: Keeper + Drop> Station<K> {
     {
         self.halted = true;
         let Ok(tag) = self.parts.next_tag.take(&mut self.keeper, datagram.len()) else {
-            return Err(SendRefusal::Store);
-        };
-        // Nothing is sent, so no counter is stored: a rule ends with the counters of what it sends.
-        let Ok(_) = self.parts.counter.reserve(&mut self.keeper, 0) else {
             return Err(SendRefusal::Store);
         };
         self.bodies.push(to, note, now, Some(tag), datagram);
