@@ -259,7 +259,7 @@ class BorderOfTheNodes(unittest.TestCase):
 
     def test_each_is_broken_by_a_test(self):
         tested = re.findall(r'stops\("(\w+: \w+: \w+)"', read(os.path.join(HERE, "firmware/tests/border.rs")))
-        self.assertEqual(sorted(tested), sorted(self.checked))
+        self.assertEqual(sorted(set(tested)), sorted(self.checked))
 
     def test_each_stands_in_the_page(self):
         rows = re.findall(r"^\| (`\w+::.*`) \| (.*) \|$", read(os.path.join(export.TOP, "docs/IN-YOUR-FIRMWARE.md")), re.MULTILINE)

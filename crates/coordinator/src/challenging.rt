@@ -1,5 +1,5 @@
 //! Sessions that the operator opens with a meter over the mesh.
-ghost use Rattle.std.specs.Prelude.{◌≡◌, ◌≤◌, false, Err, Some, None, IfSome, IfNone, IsSome, IfOk, IfErr, length};
+ghost use Rattle.std.specs.Prelude.{◌≡◌, false, Err, Some, None, IfSome, IfNone, IsSome, IfOk, IfErr, length};
 ghost use Rattle.joining_messages.specs.Messages.{IsMessage};
 ghost use Rattle.joining_messages.specs.declared.message.JoinBody.TheVariants as body;
 ghost use Rattle.node_rules.specs.Joining.{command_of};
@@ -8,7 +8,7 @@ ghost use Rattle.node_rules.specs.MemoryDrafts as words;
 ghost use Rattle.node_rules.specs.Coordinators as rules;
 ghost use Rattle.node_rules.specs.Carrying.{Carries, nothing};
 ghost use Rattle.coordinator.specs.CoordinatorStates.{node_of};
-ghost use Rattle.coordinator.specs.CoordinatorAgreement.{Holds};
+ghost use Rattle.coordinator.specs.CoordinatorAgreement.{CoordinatorReady, CoordinatorReadyToAnswer, Holds};
 ghost use Rattle.coordinator.specs.MeshCommands as mesh_plans;
 
 use crate::coordinator::Coordinator;
@@ -46,8 +46,7 @@ impl<K: Keeper + Drop> Coordinator<K> {
 
     // What stands in the way of the command that carries a message.
     fn message_room(&self, to: Short, message: &JoinMessage) -> Result<(), CoordinatorRefusal>
-        requires running { IsSome (node_of self.now).memory }
-        requires holds { Holds (node_of self.now) }
+        requires ready { CoordinatorReady (node_of self.now) }
         requires message { IsMessage message.now }
         ensures room { IfOk result (λ _. IfSome (node_of self.now).memory (λ m. mesh_plans.RoomFor m to message.now)) }
         ensures refused { IfErr result (λ reason. IfSome (node_of self.now).memory (λ m.
@@ -60,8 +59,7 @@ impl<K: Keeper + Drop> Coordinator<K> {
 
     // A session begins, with the oldest random value.
     pub(crate) fn begin_session(&mut self, session: ServerSession)
-        requires running { IsSome (node_of self.old).memory }
-        requires holds { Holds (node_of self.old) }
+        requires ready { CoordinatorReady (node_of self.old) }
         requires room { IfSome (node_of self.old).memory (λ m. rules.sessions_full m session.server.eui ≡ false) }
         requires value { IfSome (node_of self.old).memory (λ m. IsSome (words.oldest m)) }
         ensures state { IfSome (node_of self.old).memory (λ m. node_of self.new
@@ -81,13 +79,11 @@ impl<K: Keeper + Drop> Coordinator<K> {
         now: u64,
         out: &mut Out,
     ) -> Result<(), CoordinatorRefusal>
-        requires running { IsSome (node_of self.old).memory }
-        requires holds { Holds (node_of self.old) }
+        requires ready { CoordinatorReadyToAnswer (node_of self.old) out.old }
         requires room { IfSome (node_of self.old).memory (λ m. rules.sessions_full m server.eui ≡ false) }
         requires value { IfSome (node_of self.old).memory (λ m. IsSome (words.oldest m)) }
         requires message { IsMessage message.now }
         requires packet { message.now ≡ joining.message server.eui (body.Challenge (joining.first_packet server)) }
-        requires empty { out.old ≡ nothing }
         ensures carries { IfSome (node_of self.old).memory (λ m. Carries (node_of self.old)
             (rules.challenge_by self.old.station.eui m to now server) result out.new (node_of self.new)) }
         ensures holds { Holds (node_of self.new) }
@@ -110,11 +106,9 @@ impl<K: Keeper + Drop> Coordinator<K> {
         now: u64,
         out: &mut Out,
     ) -> Result<(), CoordinatorRefusal>
-        requires running { IsSome (node_of self.old).memory }
-        requires holds { Holds (node_of self.old) }
+        requires ready { CoordinatorReadyToAnswer (node_of self.old) out.old }
         requires room { IfSome (node_of self.old).memory (λ m. rules.sessions_full m eui ≡ false) }
         requires value { IfSome (node_of self.old).memory (λ m. Some value ≡ words.oldest m) }
-        requires empty { out.old ≡ nothing }
         ensures carries { IfSome (node_of self.old).memory (λ m. Carries (node_of self.old)
             (rules.challenge_by self.old.station.eui m to now (joining.server_for eui self.old.station.eui value))
             result out.new (node_of self.new)) }

@@ -1,5 +1,5 @@
 //! The coordinator.
-ghost use Rattle.std.specs.Prelude.{◌≡◌, ◌≤◌, length, Some, None, Ok, Err, IfSome, IfNone, IsSome, IfOk, IfErr, is_some};
+ghost use Rattle.std.specs.Prelude.{◌≡◌, ◌≤◌, length, None, Ok, Err, IfSome, is_some};
 ghost use Rattle.std.specs.Option.{option_map, option_and_then};
 ghost use Rattle.store_tables.specs.SlotTables.{IsGapless};
 ghost use Rattle.frame_counters.specs.PeerMarks.{peers};
@@ -11,7 +11,7 @@ ghost use Rattle.node_rules.specs.Coordinators as rules;
 ghost use Rattle.plc_station.specs.Sizes.{HasSizes};
 ghost use Rattle.coordinator.specs.CoordinatorReading.{if_read, read_answer};
 ghost use Rattle.coordinator.specs.CoordinatorStates.{node_of};
-ghost use Rattle.coordinator.specs.CoordinatorAgreement.{Holds, HasHome};
+ghost use Rattle.coordinator.specs.CoordinatorAgreement.{HasHome, Holds};
 ghost use Rattle.coordinator.specs.Tables.{session_in};
 
 use crate::sessions::Sessions;

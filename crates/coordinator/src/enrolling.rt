@@ -1,11 +1,11 @@
 //! Meters that the operator lets in.
-ghost use Rattle.std.specs.Prelude.{◌≡◌, is_ok, Err, Some, None, IfSome, IfNone, IfOk, IsSome};
+ghost use Rattle.std.specs.Prelude.{◌≡◌, is_ok, Err, Some, IfSome, IfNone, IfOk, IsSome};
 ghost use Rattle.group_keys.specs.KeyBook as book;
 ghost use Rattle.node_rules.specs.Drafts as drafts;
 ghost use Rattle.node_rules.specs.Coordinators as rules;
 ghost use Rattle.node_rules.specs.Carrying.{Carries, nothing};
 ghost use Rattle.coordinator.specs.CoordinatorStates.{node_of};
-ghost use Rattle.coordinator.specs.CoordinatorAgreement.{Holds};
+ghost use Rattle.coordinator.specs.CoordinatorAgreement.{CoordinatorReady, Holds};
 ghost use Rattle.coordinator.specs.DraftsCarriedOut.{Does};
 
 use crate::coordinator::Coordinator;
@@ -41,8 +41,7 @@ impl<K: Keeper + Drop> Coordinator<K> {
 
     // A meter that is allowed is granted its address and the keys of the ring, which are noted as issued to it.
     fn issue(&mut self, eui: Eui) -> Result<Grant, Failed>
-        requires running { IsSome (node_of self.old).memory }
-        requires holds { Holds (node_of self.old) }
+        requires ready { CoordinatorReady (node_of self.old) }
         requires allowed { IfSome (node_of self.old).memory (λ m. IsSome (rules.allowed_entry m eui)) }
         ensures granted { IfSome (node_of self.old).memory (λ m.
             IfOk result (λ granted. rules.grant_for m eui ≡ Some granted)) }

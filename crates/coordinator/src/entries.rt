@@ -1,11 +1,11 @@
 //! What the coordinator looks up, and the entries of its book.
-ghost use Rattle.std.specs.Prelude.{◌≡◌, ◌+◌, ◌≤◌, true, is_ok, is_some, Some, None, IfSome, IfOk, IsSome};
+ghost use Rattle.std.specs.Prelude.{◌≡◌, ◌+◌, true, is_ok, Some, None, IfSome, IfOk, IsSome};
 ghost use Rattle.std.specs.Bool.{MatchBool};
 ghost use Rattle.group_keys.specs.KeyBook as book;
 ghost use Rattle.node_rules.specs.Drafts as drafts;
 ghost use Rattle.node_rules.specs.Coordinators as rules;
 ghost use Rattle.coordinator.specs.CoordinatorStates.{node_of};
-ghost use Rattle.coordinator.specs.CoordinatorAgreement.{Holds};
+ghost use Rattle.coordinator.specs.CoordinatorAgreement.{CoordinatorReady, Holds};
 ghost use Rattle.coordinator.specs.DraftsCarriedOut.{Does};
 
 use crate::coordinator::Coordinator;
@@ -106,8 +106,7 @@ impl<K: Keeper + Drop> Coordinator<K> {
 
     // An entry becomes that of its meter in the book. It is halted where that is not stored.
     pub(crate) fn keep_entry(&mut self, entry: BookEntry) -> Result<Short, Failed>
-        requires running { IsSome (node_of self.old).memory }
-        requires holds { Holds (node_of self.old) }
+        requires ready { CoordinatorReady (node_of self.old) }
         requires room { IfSome (node_of self.old).memory (λ m. book.has_room m.book entry.eui ≡ true) }
         ensures address { IfSome (node_of self.old).memory (λ m.
             IfOk result (λ address. address ≡ book.place_for m.book entry.eui + 1)) }
@@ -135,8 +134,7 @@ impl<K: Keeper + Drop> Coordinator<K> {
 
     // An entry becomes that of its meter. The session of the meter ends where the book had another entry.
     pub(crate) fn enter(&mut self, entry: BookEntry) -> Result<Short, Failed>
-        requires running { IsSome (node_of self.old).memory }
-        requires holds { Holds (node_of self.old) }
+        requires ready { CoordinatorReady (node_of self.old) }
         requires room { IfSome (node_of self.old).memory (λ m. book.has_room m.book entry.eui ≡ true) }
         ensures address { IfSome (node_of self.old).memory (λ m.
             IfOk result (λ address. address ≡ book.place_for m.book entry.eui + 1)) }

@@ -1,6 +1,5 @@
 //! What the coordinator makes of a frame that it accepted.
-ghost use Rattle.std.specs.Prelude.{◌≡◌, Some, None, IfSome, IsSome};
-ghost use Rattle.joining_messages.specs.Messages.{IsMessage};
+ghost use Rattle.std.specs.Prelude.{◌≡◌, Some, None, IfSome};
 ghost use Rattle.joining_messages.specs.Reading.{join_in};
 ghost use Rattle.joining_messages.specs.declared.message.JoinBody.TheVariants as body;
 ghost use Rattle.plc_station.specs.Heard.{Fits};
@@ -10,7 +9,7 @@ ghost use Rattle.node_rules.specs.Carrying.{Carries, nothing};
 ghost use Rattle.node_rules.specs.MemoryDrafts.{unread};
 ghost use Rattle.node_rules.specs.Replies.{reply_sent};
 ghost use Rattle.coordinator.specs.CoordinatorStates.{node_of, identity_of};
-ghost use Rattle.coordinator.specs.CoordinatorAgreement.{Holds};
+ghost use Rattle.coordinator.specs.CoordinatorAgreement.{CoordinatorReady, CoordinatorReadyToAnswer, Holds};
 
 use crate::coordinator::Coordinator;
 use joining_base::{joining_command, read_message};
@@ -49,9 +48,7 @@ impl<K: Keeper + Drop> Coordinator<K> {
         now: u64,
         out: &mut Out,
     ) -> Result<CoordinatorHeard<'static>, Dropped>
-        requires running { IsSome (node_of self.old).memory }
-        requires holds { Holds (node_of self.old) }
-        requires empty { out.old ≡ nothing }
+        requires ready { CoordinatorReadyToAnswer (node_of self.old) out.old }
         ensures carries { IfSome (node_of self.old).memory (λ m. Carries (node_of self.old)
             (rules.hear_join (identity_of self.old) m way.now eui (body.Join packet.now) now)
             result out.new (node_of self.new)) }
@@ -72,9 +69,7 @@ impl<K: Keeper + Drop> Coordinator<K> {
         now: u64,
         out: &mut Out,
     ) -> Result<CoordinatorHeard<'static>, Dropped>
-        requires running { IsSome (node_of self.old).memory }
-        requires holds { Holds (node_of self.old) }
-        requires empty { out.old ≡ nothing }
+        requires ready { CoordinatorReadyToAnswer (node_of self.old) out.old }
         ensures carries { IfSome (node_of self.old).memory (λ m. Carries (node_of self.old)
             (rules.hear_join (identity_of self.old) m way.now eui body.now now) result out.new (node_of self.new)) }
         ensures holds { Holds (node_of self.new) }
@@ -97,9 +92,7 @@ impl<K: Keeper + Drop> Coordinator<K> {
         now: u64,
         out: &mut Out,
     ) -> Result<CoordinatorHeard<'static>, Dropped>
-        requires running { IsSome (node_of self.old).memory }
-        requires holds { Holds (node_of self.old) }
-        requires empty { out.old ≡ nothing }
+        requires ready { CoordinatorReadyToAnswer (node_of self.old) out.old }
         ensures carries { IfSome (node_of self.old).memory (λ m. Carries (node_of self.old)
             (rules.hear_join_in (identity_of self.old) m way.now (join_in octets.now) now)
             result out.new (node_of self.new)) }
@@ -124,8 +117,7 @@ impl<K: Keeper + Drop> Coordinator<K> {
         datagram: &'a mut DatagramBuf,
         out: &mut Out,
     ) -> Result<Heard<'a>, Dropped>
-        requires running { IsSome (node_of self.old).memory }
-        requires holds { Holds (node_of self.old) }
+        requires ready { CoordinatorReady (node_of self.old) }
         requires fits { Fits got.now }
         ensures carries { IfSome self.old.station.memory (λ l. Carries self.old.station
             (hearing.hear l got.now cost note now) result out.new self.new.station) }
@@ -154,8 +146,7 @@ impl<K: Keeper + Drop> Coordinator<K> {
         datagram: &'a mut DatagramBuf,
         out: &mut Out,
     ) -> Result<CoordinatorHeard<'a>, Dropped>
-        requires running { IsSome (node_of self.old).memory }
-        requires holds { Holds (node_of self.old) }
+        requires ready { CoordinatorReady (node_of self.old) }
         requires fits { Fits got.now }
         ensures carries { IfSome (node_of self.old).memory (λ m. Carries (node_of self.old)
             (rules.hear_coordinator (identity_of self.old) m got.now cost note now)

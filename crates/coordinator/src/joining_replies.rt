@@ -1,14 +1,14 @@
 //! What the coordinator says to a meter in answer, by the way of the meter's session.
-ghost use Rattle.std.specs.Prelude.{◌≡◌, ◌≤◌, Some, IfSome, IsSome, IfOk, IfErr, length};
+ghost use Rattle.std.specs.Prelude.{◌≡◌, ◌≤◌, Some, IfSome, IfOk, IfErr, length};
 ghost use Rattle.joining_messages.specs.Messages.{IsMessage};
 ghost use Rattle.node_rules.specs.declared.heard.Way.TheVariants as ways;
 ghost use Rattle.node_rules.specs.Joining.{command_of};
 ghost use Rattle.node_rules.specs.Hearing.{dropped, dropped_for};
 ghost use Rattle.node_rules.specs.Calls.{command_fault};
-ghost use Rattle.node_rules.specs.Carrying.{Carries, nothing};
+ghost use Rattle.node_rules.specs.Carrying.{Carries};
 ghost use Rattle.node_rules.specs.Composing.{HasRoom};
 ghost use Rattle.coordinator.specs.CoordinatorStates.{node_of};
-ghost use Rattle.coordinator.specs.CoordinatorAgreement.{Holds};
+ghost use Rattle.coordinator.specs.CoordinatorAgreement.{CoordinatorReady, CoordinatorReadyToAnswer, Holds};
 ghost use Rattle.coordinator.specs.MeshCommands as mesh_plans;
 ghost use Rattle.coordinator.specs.JoiningReplies as saying;
 ghost use Rattle.waiting_bodies.specs.declared.bodies.TheConstants.{LONGEST_COMMAND};
@@ -29,8 +29,7 @@ fn home() -> Short
 impl<K: Keeper + Drop> Coordinator<K> {
     // What a command of so many octets for an address would be dropped for.
     fn command_room(&self, to: Short, octets: u16) -> Result<(), Dropped>
-        requires running { IsSome (node_of self.now).memory }
-        requires holds { Holds (node_of self.now) }
+        requires ready { CoordinatorReady (node_of self.now) }
         requires fits { octets ≤ LONGEST_COMMAND }
         ensures room { IfOk result (λ _. IfSome (node_of self.now).memory (λ m. HasRoom m.station to octets)) }
         ensures refused { IfErr result (λ reason. IfSome (node_of self.now).memory (λ m.
@@ -44,8 +43,7 @@ impl<K: Keeper + Drop> Coordinator<K> {
 
     // What a message over the mesh would be dropped for.
     fn mesh_room(&self, to: Short, message: &JoinMessage) -> Result<(), Dropped>
-        requires running { IsSome (node_of self.now).memory }
-        requires holds { Holds (node_of self.now) }
+        requires ready { CoordinatorReady (node_of self.now) }
         requires message { IsMessage message.now }
         ensures room { IfOk result (λ _. IfSome (node_of self.now).memory (λ m. mesh_plans.RoomFor m to message.now)) }
         ensures refused { IfErr result (λ reason. IfSome (node_of self.now).memory (λ m.
@@ -58,8 +56,7 @@ impl<K: Keeper + Drop> Coordinator<K> {
 
     // What a message to a meter would be dropped for.
     pub(crate) fn say_room(&self, way: Way, message: &JoinMessage) -> Result<(), Dropped>
-        requires running { IsSome (node_of self.now).memory }
-        requires holds { Holds (node_of self.now) }
+        requires ready { CoordinatorReady (node_of self.now) }
         requires message { IsMessage message.now }
         ensures room { IfOk result (λ _. IfSome (node_of self.now).memory (λ m. saying.RoomToSay m way message.now)) }
         ensures refused { IfErr result (λ reason. IfSome (node_of self.now).memory (λ m.
@@ -81,8 +78,7 @@ impl<K: Keeper + Drop> Coordinator<K> {
         now: u64,
         out: &mut Out,
     ) -> Result<(), Dropped>
-        requires running { IsSome (node_of self.old).memory }
-        requires holds { Holds (node_of self.old) }
+        requires ready { CoordinatorReady (node_of self.old) }
         requires message { IsMessage message.now }
         requires room { IfSome (node_of self.old).memory (λ m. mesh_plans.RoomFor m to message.now) }
         ensures carries { IfSome (node_of self.old).memory (λ m. Carries (node_of self.old)
@@ -107,11 +103,9 @@ impl<K: Keeper + Drop> Coordinator<K> {
         now: u64,
         out: &mut Out,
     ) -> Result<(), Dropped>
-        requires running { IsSome (node_of self.old).memory }
-        requires holds { Holds (node_of self.old) }
+        requires ready { CoordinatorReadyToAnswer (node_of self.old) out.old }
         requires message { IsMessage message.now }
         requires room { IfSome (node_of self.old).memory (λ m. saying.RoomToSay m way message.now) }
-        requires empty { out.old ≡ nothing }
         ensures carries { IfSome (node_of self.old).memory (λ m. Carries (node_of self.old)
             (saying.saying m way message.now tags now) result out.new (node_of self.new)) }
         ensures holds { Holds (node_of self.new) }

@@ -1,14 +1,14 @@
 //! Meters that ask to be let in.
-ghost use Rattle.std.specs.Prelude.{◌≡◌, false, Some, None, IfSome, IsSome};
+ghost use Rattle.std.specs.Prelude.{◌≡◌, false, Some, IfSome, IsSome};
 ghost use Rattle.joining_messages.specs.Messages.{IsMessage};
 ghost use Rattle.joining_messages.specs.declared.message.JoinBody.TheVariants as body;
 ghost use Rattle.group_keys.specs.KeyBook as book;
 ghost use Rattle.node_rules.specs.Joining as joining;
 ghost use Rattle.node_rules.specs.MemoryDrafts as words;
 ghost use Rattle.node_rules.specs.Coordinators as rules;
-ghost use Rattle.node_rules.specs.Carrying.{Carries, nothing};
+ghost use Rattle.node_rules.specs.Carrying.{Carries};
 ghost use Rattle.coordinator.specs.CoordinatorStates.{node_of, identity_of};
-ghost use Rattle.coordinator.specs.CoordinatorAgreement.{Holds};
+ghost use Rattle.coordinator.specs.CoordinatorAgreement.{CoordinatorReadyToAnswer, Holds};
 
 use crate::coordinator::Coordinator;
 use crate::sessions::ServerSession;
@@ -33,9 +33,7 @@ impl<K: Keeper + Drop> Coordinator<K> {
         now: u64,
         out: &mut Out,
     ) -> Result<CoordinatorHeard<'static>, Dropped>
-        requires running { IsSome (node_of self.old).memory }
-        requires holds { Holds (node_of self.old) }
-        requires empty { out.old ≡ nothing }
+        requires ready { CoordinatorReadyToAnswer (node_of self.old) out.old }
         ensures carries { IfSome (node_of self.old).memory (λ m. Carries (node_of self.old)
             (rules.declines m way.now (joining.message eui body.Decline) now) result out.new (node_of self.new)) }
         ensures holds { Holds (node_of self.new) }
@@ -61,14 +59,12 @@ impl<K: Keeper + Drop> Coordinator<K> {
         message: &JoinMessage,
         out: &mut Out,
     ) -> Result<CoordinatorHeard<'static>, Dropped>
-        requires running { IsSome (node_of self.old).memory }
-        requires holds { Holds (node_of self.old) }
+        requires ready { CoordinatorReadyToAnswer (node_of self.old) out.old }
         requires room { IfSome (node_of self.old).memory (λ m. rules.sessions_full m session.server.eui ≡ false) }
         requires value { IfSome (node_of self.old).memory (λ m. IsSome (words.oldest m)) }
         requires message { IsMessage message.now }
         requires packet { message.now
             ≡ joining.message session.server.eui (body.Challenge (joining.first_packet session.server)) }
-        requires empty { out.old ≡ nothing }
         ensures carries { IfSome (node_of self.old).memory (λ m. Carries (node_of self.old)
             (rules.challenges m session.way session.server session.since) result out.new (node_of self.new)) }
         ensures holds { Holds (node_of self.new) }
@@ -93,11 +89,9 @@ impl<K: Keeper + Drop> Coordinator<K> {
         now: u64,
         out: &mut Out,
     ) -> Result<CoordinatorHeard<'static>, Dropped>
-        requires running { IsSome (node_of self.old).memory }
-        requires holds { Holds (node_of self.old) }
+        requires ready { CoordinatorReadyToAnswer (node_of self.old) out.old }
         requires room { IfSome (node_of self.old).memory (λ m. rules.sessions_full m eui ≡ false) }
         requires value { IfSome (node_of self.old).memory (λ m. Some value ≡ words.oldest m) }
-        requires empty { out.old ≡ nothing }
         ensures carries { IfSome (node_of self.old).memory (λ m. Carries (node_of self.old)
             (rules.challenges m way.now (joining.server_for eui self.old.station.eui value) now)
             result out.new (node_of self.new)) }
@@ -122,9 +116,7 @@ impl<K: Keeper + Drop> Coordinator<K> {
         now: u64,
         out: &mut Out,
     ) -> Result<CoordinatorHeard<'static>, Dropped>
-        requires running { IsSome (node_of self.old).memory }
-        requires holds { Holds (node_of self.old) }
-        requires empty { out.old ≡ nothing }
+        requires ready { CoordinatorReadyToAnswer (node_of self.old) out.old }
         ensures carries { IfSome (node_of self.old).memory (λ m. Carries (node_of self.old)
             (rules.open_session (identity_of self.old) m way.now eui now) result out.new (node_of self.new)) }
         ensures holds { Holds (node_of self.new) }
@@ -146,9 +138,7 @@ impl<K: Keeper + Drop> Coordinator<K> {
         now: u64,
         out: &mut Out,
     ) -> Result<CoordinatorHeard<'static>, Dropped>
-        requires running { IsSome (node_of self.old).memory }
-        requires holds { Holds (node_of self.old) }
-        requires empty { out.old ≡ nothing }
+        requires ready { CoordinatorReadyToAnswer (node_of self.old) out.old }
         ensures carries { IfSome (node_of self.old).memory (λ m. Carries (node_of self.old)
             (rules.asked (identity_of self.old) m way.now eui now) result out.new (node_of self.new)) }
         ensures holds { Holds (node_of self.new) }

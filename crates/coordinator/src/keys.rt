@@ -1,5 +1,5 @@
 //! The group keys that the coordinator draws and seals with.
-ghost use Rattle.std.specs.Prelude.{◌≡◌, ◌≤◌, ◌==◌, true, false, Err, Some, None, IfSome, IfNone, IsSome};
+ghost use Rattle.std.specs.Prelude.{◌≡◌, ◌==◌, true, false, Err, Some, None, IfSome, IfNone};
 ghost use Rattle.std.specs.Option.{option_map_or};
 ghost use Rattle.plc_base.specs.Grant as grants;
 ghost use Rattle.node_rules.specs.Calls as calls;
@@ -8,7 +8,7 @@ ghost use Rattle.node_rules.specs.MemoryDrafts as words;
 ghost use Rattle.node_rules.specs.Coordinators as rules;
 ghost use Rattle.node_rules.specs.Carrying.{Carries, nothing};
 ghost use Rattle.coordinator.specs.CoordinatorStates.{node_of};
-ghost use Rattle.coordinator.specs.CoordinatorAgreement.{Holds, HasHome};
+ghost use Rattle.coordinator.specs.CoordinatorAgreement.{CoordinatorReady, HasHome, Holds};
 
 use crate::coordinator::Coordinator;
 use node_rules::CoordinatorRefusal;
@@ -35,8 +35,7 @@ impl<K: Keeper + Drop> Coordinator<K> {
 
     // Keeps a key at an index.
     fn draw(&mut self, index: KeyIndex, key: &Key) -> Result<(), CoordinatorRefusal>
-        requires running { IsSome (node_of self.old).memory }
-        requires holds { Holds (node_of self.old) }
+        requires ready { CoordinatorReady (node_of self.old) }
         ensures carries { IfSome (node_of self.old).memory (λ m.
             Carries (node_of self.old) (drafts.sealing words.in_memory rules.orders
             (words.on_station (calls.with_key_at m.station index key.now) (drafts.empty_draft m)) tt)
@@ -52,8 +51,7 @@ impl<K: Keeper + Drop> Coordinator<K> {
 
     // Makes the key at an index, which is held, the one that seals.
     fn set_active(&mut self, index: KeyIndex) -> Result<(), CoordinatorRefusal>
-        requires running { IsSome (node_of self.old).memory }
-        requires holds { Holds (node_of self.old) }
+        requires ready { CoordinatorReady (node_of self.old) }
         requires held { IfSome (node_of self.old).memory (λ m. calls.has_key m.station index ≡ true) }
         ensures carries { IfSome (node_of self.old).memory (λ m.
             Carries (node_of self.old) (drafts.sealing words.in_memory rules.orders

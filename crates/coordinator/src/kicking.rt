@@ -1,11 +1,11 @@
 //! Meters that the operator shuts out.
-ghost use Rattle.std.specs.Prelude.{◌≡◌, true, is_ok, Err, Some, None, IfSome, IfNone, IsSome};
+ghost use Rattle.std.specs.Prelude.{◌≡◌, true, is_ok, Err, Some, IfSome, IfNone};
 ghost use Rattle.group_keys.specs.KeyBook as book;
 ghost use Rattle.node_rules.specs.Drafts as drafts;
 ghost use Rattle.node_rules.specs.Coordinators as rules;
 ghost use Rattle.node_rules.specs.Carrying.{Carries, nothing};
 ghost use Rattle.coordinator.specs.CoordinatorStates.{node_of};
-ghost use Rattle.coordinator.specs.CoordinatorAgreement.{Holds};
+ghost use Rattle.coordinator.specs.CoordinatorAgreement.{CoordinatorReady, CoordinatorReadyToAnswer, Holds};
 ghost use Rattle.coordinator.specs.DraftsCarriedOut.{Does};
 ghost use Rattle.coordinator.specs.MeshCommands as mesh_plans;
 ghost use Rattle.coordinator.specs.Kicking as kicking;
@@ -20,8 +20,7 @@ use plc_base::{Eui, Failed, Keeper, Out, Short};
 impl<K: Keeper + Drop> Coordinator<K> {
     // The entry of a meter is stored as kicked, and its session ends.
     fn shut_out(&mut self, entry: &BookEntry) -> Result<(), Failed>
-        requires running { IsSome (node_of self.old).memory }
-        requires holds { Holds (node_of self.old) }
+        requires ready { CoordinatorReady (node_of self.old) }
         requires room { IfSome (node_of self.old).memory (λ m. book.has_room m.book entry.now.eui ≡ true) }
         ensures does { IfSome (node_of self.old).memory (λ m.
             Does (node_of self.old) (kicking.shut_out m entry.now) (is_ok result) (node_of self.new)) }
@@ -36,8 +35,7 @@ impl<K: Keeper + Drop> Coordinator<K> {
 
     // A meter that is not reached is shut out.
     fn kick_silently(&mut self, entry: &BookEntry) -> Result<(), CoordinatorRefusal>
-        requires running { IsSome (node_of self.old).memory }
-        requires holds { Holds (node_of self.old) }
+        requires ready { CoordinatorReady (node_of self.old) }
         requires room { IfSome (node_of self.old).memory (λ m. book.has_room m.book entry.now.eui ≡ true) }
         ensures carries { IfSome (node_of self.old).memory (λ m.
             Carries (node_of self.old) (kicking.silently m entry.now) result nothing (node_of self.new)) }
@@ -56,11 +54,9 @@ impl<K: Keeper + Drop> Coordinator<K> {
         to: Short,
         out: &mut Out,
     ) -> Result<(), CoordinatorRefusal>
-        requires running { IsSome (node_of self.old).memory }
-        requires holds { Holds (node_of self.old) }
+        requires ready { CoordinatorReadyToAnswer (node_of self.old) out.old }
         requires room { IfSome (node_of self.old).memory (λ m. book.has_room m.book entry.eui ≡ true) }
         requires reached { IfSome (node_of self.old).memory (λ m. mesh_plans.reaches m to ≡ true) }
-        requires empty { out.old ≡ nothing }
         ensures carries { IfSome (node_of self.old).memory (λ m.
             Carries (node_of self.old) (rules.kick_by m entry to) result out.new (node_of self.new)) }
         ensures holds { Holds (node_of self.new) }

@@ -1,10 +1,10 @@
 //! Messages that go in a command for which there is room.
-ghost use Rattle.std.specs.Prelude.{◌≡◌, ◌≤◌, Some, None, Ok, Err, IfSome, IsSome, IfOk, IfErr, length, is_ok};
+ghost use Rattle.std.specs.Prelude.{◌≡◌, ◌≤◌, Some, Ok, Err, IfSome, IfOk, IfErr};
 ghost use Rattle.joining_messages.specs.Messages.{IsMessage};
 ghost use Rattle.node_rules.specs.Carrying.{Carries};
 ghost use Rattle.node_rules.specs.Composing.{HasRoom};
 ghost use Rattle.coordinator.specs.CoordinatorStates.{node_of};
-ghost use Rattle.coordinator.specs.CoordinatorAgreement.{Holds};
+ghost use Rattle.coordinator.specs.CoordinatorAgreement.{CoordinatorReady, Holds};
 ghost use Rattle.coordinator.specs.MeshCommands as mesh_plans;
 ghost use Rattle.waiting_bodies.specs.declared.bodies.TheConstants.{LONGEST_COMMAND};
 
@@ -18,8 +18,7 @@ use plc_base::{Keeper, Out, Short};
 impl<K: Keeper + Drop> Coordinator<K> {
     // What stands in the way of a command of so many octets for an address.
     pub(crate) fn room_for(&self, to: Short, octets: u16) -> Result<(), CoordinatorRefusal>
-        requires running { IsSome (node_of self.now).memory }
-        requires holds { Holds (node_of self.now) }
+        requires ready { CoordinatorReady (node_of self.now) }
         requires fits { octets ≤ LONGEST_COMMAND }
         ensures room { IfOk result (λ _. IfSome (node_of self.now).memory (λ m. HasRoom m.station to octets)) }
         ensures refused { IfErr result (λ reason.
@@ -33,8 +32,7 @@ impl<K: Keeper + Drop> Coordinator<K> {
 
     // Whether there is a route to an address, and a counter for a frame.
     pub(crate) fn reaches(&self, to: Short) -> bool
-        requires running { IsSome (node_of self.now).memory }
-        requires holds { Holds (node_of self.now) }
+        requires ready { CoordinatorReady (node_of self.now) }
         ensures { IfSome (node_of self.now).memory (λ m. result ≡ mesh_plans.reaches m to) }
     {
         let Some(_) = self.station.valid(to) else {
@@ -54,8 +52,7 @@ impl<K: Keeper + Drop> Coordinator<K> {
         now: u64,
         out: &mut Out,
     ) -> Result<(), CoordinatorRefusal>
-        requires running { IsSome (node_of self.old).memory }
-        requires holds { Holds (node_of self.old) }
+        requires ready { CoordinatorReady (node_of self.old) }
         requires message { IsMessage message.now }
         requires room { IfSome (node_of self.old).memory (λ m. mesh_plans.RoomFor m to message.now) }
         ensures carries { IfSome (node_of self.old).memory (λ m.

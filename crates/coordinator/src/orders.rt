@@ -1,12 +1,12 @@
 //! Orders of the operator that go to a meter in a command, and the random values that joinings use.
-ghost use Rattle.std.specs.Prelude.{◌≡◌, ◌≤◌, Err, Some, None, IfSome, IfNone, IsSome};
+ghost use Rattle.std.specs.Prelude.{◌≡◌, Err, Some, IfSome, IfNone};
 ghost use Rattle.joining_messages.specs.Messages.{IsMessage};
 ghost use Rattle.group_keys.specs.KeyBook as book;
 ghost use Rattle.node_rules.specs.MemoryDrafts as words;
 ghost use Rattle.node_rules.specs.Coordinators as rules;
 ghost use Rattle.node_rules.specs.Carrying.{Carries, nothing};
 ghost use Rattle.coordinator.specs.CoordinatorStates.{node_of};
-ghost use Rattle.coordinator.specs.CoordinatorAgreement.{Holds};
+ghost use Rattle.coordinator.specs.CoordinatorAgreement.{CoordinatorReady, Holds};
 ghost use Rattle.coordinator.specs.Ordering as ordering;
 
 use crate::coordinator::Coordinator;
@@ -55,8 +55,7 @@ fn issued_at(entry: &BookEntry, index: KeyIndex) -> Option<Key>
 impl<K: Keeper + Drop> Coordinator<K> {
     // Takes a random value in, after the others.
     fn take_random(&mut self, value: Rand) -> Result<(), RandomFault>
-        requires running { IsSome (node_of self.old).memory }
-        requires holds { Holds (node_of self.old) }
+        requires ready { CoordinatorReady (node_of self.old) }
         ensures carries { IfSome (node_of self.old).memory (λ m.
             Carries (node_of self.old) (words.give_random m value) result nothing (node_of self.new)) }
         ensures holds { Holds (node_of self.new) }
@@ -86,8 +85,7 @@ impl<K: Keeper + Drop> Coordinator<K> {
         now: u64,
         out: &mut Out,
     ) -> Result<(), CoordinatorRefusal>
-        requires running { IsSome (node_of self.old).memory }
-        requires holds { Holds (node_of self.old) }
+        requires ready { CoordinatorReady (node_of self.old) }
         requires message { IsMessage message.now }
         ensures carries { IfSome (node_of self.old).memory (λ m.
             Carries (node_of self.old) (rules.activate_at m to message.now now) result out.new (node_of self.new)) }

@@ -1,13 +1,13 @@
 //! The packets with which a meter answers.
-ghost use Rattle.std.specs.Prelude.{◌≡◌, ◌<◌, length, true, false, is_ok, Some, None, IfSome, IsSome};
+ghost use Rattle.std.specs.Prelude.{◌≡◌, ◌<◌, length, true, false, is_ok, Some, None, IfSome};
 ghost use Rattle.joining_messages.specs.Messages.{IsMessage};
 ghost use Rattle.joining_messages.specs.declared.message.JoinBody.TheVariants as body;
 ghost use Rattle.group_keys.specs.KeyBook as book;
 ghost use Rattle.node_rules.specs.Joining.{message};
 ghost use Rattle.node_rules.specs.Coordinators as rules;
-ghost use Rattle.node_rules.specs.Carrying.{Carries, nothing};
+ghost use Rattle.node_rules.specs.Carrying.{Carries};
 ghost use Rattle.coordinator.specs.CoordinatorStates.{node_of, identity_of};
-ghost use Rattle.coordinator.specs.CoordinatorAgreement.{Holds};
+ghost use Rattle.coordinator.specs.CoordinatorAgreement.{CoordinatorReady, CoordinatorReadyToAnswer, Holds};
 ghost use Rattle.coordinator.specs.DraftsCarriedOut.{Does};
 ghost use Rattle.coordinator.specs.Packets as answering;
 
@@ -54,8 +54,7 @@ impl<K: Keeper + Drop> Coordinator<K> {
 
     // A session takes the place of that of its meter.
     fn put_session(&mut self, session: ServerSession)
-        requires running { IsSome (node_of self.old).memory }
-        requires holds { Holds (node_of self.old) }
+        requires ready { CoordinatorReady (node_of self.old) }
         requires room { IfSome (node_of self.old).memory (λ m. rules.sessions_full m session.server.eui ≡ false) }
         ensures state { IfSome (node_of self.old).memory (λ m. node_of self.new
             ≡ record (node_of self.old) { memory = Some (rules.with_session session m) }) }
@@ -66,8 +65,7 @@ impl<K: Keeper + Drop> Coordinator<K> {
 
     // A session goes on, and this entry is that of its meter. It is halted where that is not stored.
     fn note_keys(&mut self, session: ServerSession, entry: BookEntry) -> Result<(), Failed>
-        requires running { IsSome (node_of self.old).memory }
-        requires holds { Holds (node_of self.old) }
+        requires ready { CoordinatorReady (node_of self.old) }
         requires session { IfSome (node_of self.old).memory (λ m. rules.sessions_full m session.server.eui ≡ false) }
         requires entry { IfSome (node_of self.old).memory (λ m. book.has_room m.book entry.eui ≡ true) }
         ensures does { IfSome (node_of self.old).memory (λ m.
@@ -92,12 +90,10 @@ impl<K: Keeper + Drop> Coordinator<K> {
         now: u64,
         out: &mut Out,
     ) -> Result<CoordinatorHeard<'static>, Dropped>
-        requires running { IsSome (node_of self.old).memory }
-        requires holds { Holds (node_of self.old) }
+        requires ready { CoordinatorReadyToAnswer (node_of self.old) out.old }
         requires session { IfSome (node_of self.old).memory (λ m. rules.sessions_full m session.server.eui ≡ false) }
         requires entry { IfSome (node_of self.old).memory (λ m. book.has_room m.book entry.eui ≡ true) }
         requires message { IsMessage message.now }
-        requires empty { out.old ≡ nothing }
         ensures carries { IfSome (node_of self.old).memory (λ m. Carries (node_of self.old)
             (answering.keying m session entry message.now grant tags now) result out.new (node_of self.new)) }
         ensures holds { Holds (node_of self.new) }
@@ -127,11 +123,9 @@ impl<K: Keeper + Drop> Coordinator<K> {
         now: u64,
         out: &mut Out,
     ) -> Result<CoordinatorHeard<'static>, Dropped>
-        requires running { IsSome (node_of self.old).memory }
-        requires holds { Holds (node_of self.old) }
+        requires ready { CoordinatorReadyToAnswer (node_of self.old) out.old }
         requires served { IfSome (node_of self.old).memory (λ m. answering.IsServed m session.now.server.eui) }
         requires awaits { session.now.server.rand_p ≡ None }
-        requires empty { out.old ≡ nothing }
         ensures carries { IfSome (node_of self.old).memory (λ m. Carries (node_of self.old)
             (rules.take_second (identity_of self.old) m session.now entry.now packet.now now)
             result out.new (node_of self.new)) }
@@ -172,9 +166,7 @@ impl<K: Keeper + Drop> Coordinator<K> {
         now: u64,
         out: &mut Out,
     ) -> Result<CoordinatorHeard<'static>, Dropped>
-        requires running { IsSome (node_of self.old).memory }
-        requires holds { Holds (node_of self.old) }
-        requires empty { out.old ≡ nothing }
+        requires ready { CoordinatorReadyToAnswer (node_of self.old) out.old }
         ensures carries { IfSome (node_of self.old).memory (λ m. Carries (node_of self.old)
             (answering.accepting m session.now agreed tags now) result out.new (node_of self.new)) }
         ensures holds { Holds (node_of self.new) }
@@ -204,10 +196,8 @@ impl<K: Keeper + Drop> Coordinator<K> {
         now: u64,
         out: &mut Out,
     ) -> Result<CoordinatorHeard<'static>, Dropped>
-        requires running { IsSome (node_of self.old).memory }
-        requires holds { Holds (node_of self.old) }
+        requires ready { CoordinatorReadyToAnswer (node_of self.old) out.old }
         requires awaits { session.now.server.rand_p ≡ Some rand_p }
-        requires empty { out.old ≡ nothing }
         ensures carries { IfSome (node_of self.old).memory (λ m. Carries (node_of self.old)
             (rules.take_fourth (identity_of self.old) m session.now entry.now packet.now rand_p now)
             result out.new (node_of self.new)) }
@@ -230,10 +220,8 @@ impl<K: Keeper + Drop> Coordinator<K> {
         now: u64,
         out: &mut Out,
     ) -> Result<CoordinatorHeard<'static>, Dropped>
-        requires running { IsSome (node_of self.old).memory }
-        requires holds { Holds (node_of self.old) }
+        requires ready { CoordinatorReadyToAnswer (node_of self.old) out.old }
         requires served { IfSome (node_of self.old).memory (λ m. answering.IsServed m session.now.server.eui) }
-        requires empty { out.old ≡ nothing }
         ensures carries { IfSome (node_of self.old).memory (λ m. Carries (node_of self.old)
             (rules.take_packet (identity_of self.old) m entry.now packet.now now session.now)
             result out.new (node_of self.new)) }
@@ -253,9 +241,7 @@ impl<K: Keeper + Drop> Coordinator<K> {
         now: u64,
         out: &mut Out,
     ) -> Result<CoordinatorHeard<'static>, Dropped>
-        requires running { IsSome (node_of self.old).memory }
-        requires holds { Holds (node_of self.old) }
-        requires empty { out.old ≡ nothing }
+        requires ready { CoordinatorReadyToAnswer (node_of self.old) out.old }
         ensures carries { IfSome (node_of self.old).memory (λ m. Carries (node_of self.old)
             (rules.answered (identity_of self.old) m eui packet.now now) result out.new (node_of self.new)) }
         ensures holds { Holds (node_of self.new) }

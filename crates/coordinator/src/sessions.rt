@@ -1,5 +1,5 @@
 //! The sessions of the meters that join.
-ghost use Rattle.std.specs.Prelude.{◌≡◌, ◌<◌, ◌≤◌, false, [], position, length, IfSome, Some, None};
+ghost use Rattle.std.specs.Prelude.{◌≡◌, ◌<◌, ◌≤◌, false, [], position, length, Some, None};
 ghost use Rattle.plc_base.specs.Times as times;
 ghost use Rattle.node_rules.specs.Coordinators.{is_of};
 ghost use Rattle.coordinator.specs.Tables.{session_in, placed, ended, is_full_for, unexpired};

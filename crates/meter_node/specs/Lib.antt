@@ -1,5 +1,6 @@
 pub mod Sessions
 pub mod MeterStates
+pub mod MeterCalls
 pub mod Reading
 pub mod Hearing
 pub mod Laws

@@ -3,8 +3,9 @@ ghost use Rattle.std.specs.Prelude.{◌≡◌, Some, None, Ok, Err, IfSome, IsSo
 ghost use Rattle.node_rules.specs.Joining as joining;
 ghost use Rattle.node_rules.specs.Memory as memory;
 ghost use Rattle.node_rules.specs.Meters as meters;
-ghost use Rattle.node_rules.specs.Carrying.{Carries, nothing};
-ghost use Rattle.node_rules.specs.Agreement.{Agrees};
+ghost use Rattle.node_rules.specs.Carrying.{Carries};
+ghost use Rattle.plc_station.specs.Ready.{ReadyToAnswer};
+ghost use Rattle.meter_node.specs.MeterCalls.{MeterAfter};
 ghost use Rattle.meter_node.specs.MeterStates.{identity_of, node_of};
 
 use crate::commanding::{coordinator, join_with, write_up};
@@ -34,14 +35,11 @@ impl<K: Keeper + Drop> Meter<K> {
         now: u64,
         out: &mut Out,
     ) -> Result<MeterHeard<'static>, Dropped>
-        requires running { IsSome self.old.station.memory }
-        requires agrees { Agrees self.old.station }
-        requires empty { out.old ≡ nothing }
+        requires ready { ReadyToAnswer self.old.station out.old }
         ensures carries { IfSome (node_of self.old).memory (λ m. Carries (node_of self.old)
             (meters.reply (identity_of self.old) m (memory.ByAgent agent) packet.now now)
             result out.new (node_of self.new)) }
-        ensures agrees { Agrees self.new.station }
-        ensures psk { self.new.psk ≡ self.old.psk }
+        ensures after { MeterAfter self.old self.new }
     {
         self.awaits(agent)?;
         let mut eap = EapBuf::new();
@@ -67,14 +65,11 @@ impl<K: Keeper + Drop> Meter<K> {
         now: u64,
         out: &mut Out,
     ) -> Result<MeterHeard<'static>, Dropped>
-        requires running { IsSome self.old.station.memory }
-        requires agrees { Agrees self.old.station }
+        requires ready { ReadyToAnswer self.old.station out.old }
         requires joined { IfSome self.old.station.memory (λ l. IsSome l.ring) }
-        requires empty { out.old ≡ nothing }
         ensures carries { IfSome (node_of self.old).memory (λ m. Carries (node_of self.old)
             (meters.reply (identity_of self.old) m memory.ByCommand packet.now now) result out.new (node_of self.new)) }
-        ensures agrees { Agrees self.new.station }
-        ensures psk { self.new.psk ≡ self.old.psk }
+        ensures after { MeterAfter self.old self.new }
     {
         let mut eap = EapBuf::new();
         let mut tags = TagList::new();
@@ -108,14 +103,11 @@ impl<K: Keeper + Drop> Meter<K> {
         now: u64,
         out: &mut Out,
     ) -> Result<MeterHeard<'static>, Dropped>
-        requires running { IsSome self.old.station.memory }
-        requires agrees { Agrees self.old.station }
-        requires empty { out.old ≡ nothing }
+        requires ready { ReadyToAnswer self.old.station out.old }
         ensures carries { IfSome (node_of self.old).memory (λ m. Carries (node_of self.old)
             (meters.take (identity_of self.old) m (memory.ByAgent agent) packet.now now)
             result out.new (node_of self.new)) }
-        ensures agrees { Agrees self.new.station }
-        ensures psk { self.new.psk ≡ self.old.psk }
+        ensures after { MeterAfter self.old self.new }
     {
         self.awaits(agent)?;
         let mut eap = EapBuf::new();
@@ -141,14 +133,11 @@ impl<K: Keeper + Drop> Meter<K> {
         now: u64,
         out: &mut Out,
     ) -> Result<MeterHeard<'static>, Dropped>
-        requires running { IsSome self.old.station.memory }
-        requires agrees { Agrees self.old.station }
+        requires ready { ReadyToAnswer self.old.station out.old }
         requires joined { IfSome self.old.station.memory (λ l. IsSome l.ring) }
-        requires empty { out.old ≡ nothing }
         ensures carries { IfSome (node_of self.old).memory (λ m. Carries (node_of self.old)
             (meters.take (identity_of self.old) m memory.ByCommand packet.now now) result out.new (node_of self.new)) }
-        ensures agrees { Agrees self.new.station }
-        ensures psk { self.new.psk ≡ self.old.psk }
+        ensures after { MeterAfter self.old self.new }
     {
         if !self.has_session(Course::ByCommand) {
             return Err(Dropped::NoSession);
@@ -187,14 +176,11 @@ impl<K: Keeper + Drop> Meter<K> {
         now: u64,
         out: &mut Out,
     ) -> Result<MeterHeard<'static>, Dropped>
-        requires running { IsSome self.old.station.memory }
-        requires agrees { Agrees self.old.station }
-        requires empty { out.old ≡ nothing }
+        requires ready { ReadyToAnswer self.old.station out.old }
         ensures carries { IfSome (node_of self.old).memory (λ m. Carries (node_of self.old)
             (meters.challenged (identity_of self.old) m (memory.ByAgent agent) packet.now now)
             result out.new (node_of self.new)) }
-        ensures agrees { Agrees self.new.station }
-        ensures psk { self.new.psk ≡ self.old.psk }
+        ensures after { MeterAfter self.old self.new }
     {
         if is_first(packet) {
             return self.reply_by_agent(agent, packet, now, out);
@@ -209,15 +195,12 @@ impl<K: Keeper + Drop> Meter<K> {
         now: u64,
         out: &mut Out,
     ) -> Result<MeterHeard<'static>, Dropped>
-        requires running { IsSome self.old.station.memory }
-        requires agrees { Agrees self.old.station }
+        requires ready { ReadyToAnswer self.old.station out.old }
         requires joined { IfSome self.old.station.memory (λ l. IsSome l.ring) }
-        requires empty { out.old ≡ nothing }
         ensures carries { IfSome (node_of self.old).memory (λ m. Carries (node_of self.old)
             (meters.challenged (identity_of self.old) m memory.ByCommand packet.now now)
             result out.new (node_of self.new)) }
-        ensures agrees { Agrees self.new.station }
-        ensures psk { self.new.psk ≡ self.old.psk }
+        ensures after { MeterAfter self.old self.new }
     {
         if is_first(packet) {
             return self.reply_by_command(packet, now, out);

@@ -5,8 +5,9 @@ ghost use Rattle.node_rules.specs.Joining.{command_of, message};
 ghost use Rattle.joining_messages.specs.declared.message.JoinBody.TheVariants as body;
 ghost use Rattle.node_rules.specs.Meters as meters;
 ghost use Rattle.node_rules.specs.Hearing.{dropped, dropped_for};
-ghost use Rattle.node_rules.specs.Carrying.{Carries, nothing};
-ghost use Rattle.node_rules.specs.Agreement.{Agrees};
+ghost use Rattle.node_rules.specs.Carrying.{Carries};
+ghost use Rattle.plc_station.specs.Ready.{ReadyToAnswer};
+ghost use Rattle.meter_node.specs.MeterCalls.{MeterAfter};
 ghost use Rattle.node_rules.specs.Calls.{command_fault};
 ghost use Rattle.node_rules.specs.Composing.{HasRoom};
 ghost use Rattle.meter_node.specs.MeterStates.{node_of};
@@ -77,15 +78,12 @@ impl<K: Keeper + Drop> Meter<K> {
         now: u64,
         out: &mut Out,
     ) -> Result<MeterHeard<'static>, Dropped>
-        requires running { IsSome self.old.station.memory }
-        requires agrees { Agrees self.old.station }
+        requires ready { ReadyToAnswer self.old.station out.old }
         requires joined { IfSome self.old.station.memory (λ l. IsSome l.ring) }
         requires message { IsMessage join.now }
-        requires empty { out.old ≡ nothing }
         ensures carries { IfSome (node_of self.old).memory (λ m. Carries (node_of self.old)
             (meters.carry_up m from join.now join.now.body now) result out.new (node_of self.new)) }
-        ensures agrees { Agrees self.new.station }
-        ensures psk { self.new.psk ≡ self.old.psk }
+        ensures after { MeterAfter self.old self.new }
     {
         if !goes_up(&join.body) {
             return Err(Dropped::BadUnit);

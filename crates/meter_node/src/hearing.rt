@@ -1,5 +1,5 @@
 //! What a meter makes of a frame that it accepted.
-ghost use Rattle.std.specs.Prelude.{◌≡◌, ◌≤◌, Some, None, Ok, Err, IfSome, IsSome, length};
+ghost use Rattle.std.specs.Prelude.{◌≡◌, Some, None, Ok, Err, IfSome, IsSome};
 ghost use Rattle.joining_messages.specs.Messages.{IsBody, IsMessage};
 ghost use Rattle.joining_messages.specs.Reading.{join_in};
 ghost use Rattle.node_rules.specs.Memory.{StationMemory};
@@ -7,7 +7,8 @@ ghost use Rattle.node_rules.specs.Memory as memory;
 ghost use Rattle.node_rules.specs.Meters as meters;
 ghost use Rattle.plc_station.specs.Heard.{Fits};
 ghost use Rattle.node_rules.specs.Carrying.{Carries, nothing};
-ghost use Rattle.node_rules.specs.Agreement.{Agrees};
+ghost use Rattle.plc_station.specs.Ready.{Ready, ReadyToAnswer};
+ghost use Rattle.meter_node.specs.MeterCalls.{MeterAfter};
 ghost use Rattle.node_rules.specs.Hearing.{hear};
 ghost use Rattle.node_rules.specs.MemoryDrafts.{unread};
 ghost use Rattle.node_rules.specs.Replies.{reply_sent};
@@ -74,12 +75,10 @@ impl<K: Keeper + Drop> Meter<K> {
 
     // The coordinator does not let the meter in, as an agent says.
     fn declined(&mut self, agent: Short) -> Result<MeterHeard<'static>, Dropped>
-        requires running { IsSome self.old.station.memory }
-        requires agrees { Agrees self.old.station }
+        requires ready { Ready self.old.station }
         ensures carries { IfSome (node_of self.old).memory (λ m. Carries (node_of self.old)
             (meters.declined m agent) result nothing (node_of self.new)) }
-        ensures agrees { Agrees self.new.station }
-        ensures psk { self.new.psk ≡ self.old.psk }
+        ensures after { MeterAfter self.old self.new }
     {
         if self.is_joined() {
             return Err(Dropped::BadUnit);
@@ -93,12 +92,10 @@ impl<K: Keeper + Drop> Meter<K> {
 
     // The coordinator shuts the meter out.
     fn kicked(&mut self) -> Result<MeterHeard<'static>, Dropped>
-        requires running { IsSome self.old.station.memory }
-        requires agrees { Agrees self.old.station }
+        requires ready { Ready self.old.station }
         ensures carries { IfSome (node_of self.old).memory (λ m. Carries (node_of self.old)
             (meters.kicked m) result nothing (node_of self.new)) }
-        ensures agrees { Agrees self.new.station }
-        ensures psk { self.new.psk ≡ self.old.psk }
+        ensures after { MeterAfter self.old self.new }
     {
         self.session = None;
         let Ok(()) = self.station.leave() else {
@@ -109,12 +106,10 @@ impl<K: Keeper + Drop> Meter<K> {
 
     // Another key seals from now on.
     fn activated(&mut self, index: KeyIndex) -> Result<MeterHeard<'static>, Dropped>
-        requires running { IsSome self.old.station.memory }
-        requires agrees { Agrees self.old.station }
+        requires ready { Ready self.old.station }
         ensures carries { IfSome (node_of self.old).memory (λ m. Carries (node_of self.old)
             (meters.activated m index) result nothing (node_of self.new)) }
-        ensures agrees { Agrees self.new.station }
-        ensures psk { self.new.psk ≡ self.old.psk }
+        ensures after { MeterAfter self.old self.new }
     {
         let done = self.station.activate(index);
         activated_as(done)
@@ -126,14 +121,11 @@ impl<K: Keeper + Drop> Meter<K> {
         join: &JoinMessage,
         out: &mut Out,
     ) -> Result<MeterHeard<'static>, Dropped>
-        requires running { IsSome self.old.station.memory }
-        requires agrees { Agrees self.old.station }
+        requires ready { ReadyToAnswer self.old.station out.old }
         requires message { IsMessage join.now }
-        requires empty { out.old ≡ nothing }
         ensures carries { IfSome (node_of self.old).memory (λ m. Carries (node_of self.old)
             (meters.carry_down m join.now join.now.body) result out.new (node_of self.new)) }
-        ensures agrees { Agrees self.new.station }
-        ensures psk { self.new.psk ≡ self.old.psk }
+        ensures after { MeterAfter self.old self.new }
     {
         let Some(own) = self.station.ring().joined() else {
             return Err(Dropped::BadUnit);
@@ -153,13 +145,10 @@ impl<K: Keeper + Drop> Meter<K> {
         now: u64,
         out: &mut Out,
     ) -> Result<MeterHeard<'static>, Dropped>
-        requires running { IsSome self.old.station.memory }
-        requires agrees { Agrees self.old.station }
-        requires empty { out.old ≡ nothing }
+        requires ready { ReadyToAnswer self.old.station out.old }
         ensures carries { IfSome (node_of self.old).memory (λ m. Carries (node_of self.old)
             (meters.hear_near (identity_of self.old) m agent body.now now) result out.new (node_of self.new)) }
-        ensures agrees { Agrees self.new.station }
-        ensures psk { self.new.psk ≡ self.old.psk }
+        ensures after { MeterAfter self.old self.new }
     {
         match body {
             JoinBody::Challenge { eap } => self.challenged_by_agent(agent, eap.octets(), now, out),
@@ -178,15 +167,12 @@ impl<K: Keeper + Drop> Meter<K> {
         now: u64,
         out: &mut Out,
     ) -> Result<MeterHeard<'static>, Dropped>
-        requires running { IsSome self.old.station.memory }
-        requires agrees { Agrees self.old.station }
+        requires ready { ReadyToAnswer self.old.station out.old }
         requires joined { IfSome self.old.station.memory (λ l. IsSome l.ring) }
         requires body { IsBody body.now }
-        requires empty { out.old ≡ nothing }
         ensures carries { IfSome (node_of self.old).memory (λ m. Carries (node_of self.old)
             (meters.hear_order (identity_of self.old) m body.now now) result out.new (node_of self.new)) }
-        ensures agrees { Agrees self.new.station }
-        ensures psk { self.new.psk ≡ self.old.psk }
+        ensures after { MeterAfter self.old self.new }
     {
         match body {
             JoinBody::Challenge { eap } => self.challenged_by_command(eap.octets(), now, out),
@@ -206,15 +192,12 @@ impl<K: Keeper + Drop> Meter<K> {
         now: u64,
         out: &mut Out,
     ) -> Result<MeterHeard<'static>, Dropped>
-        requires running { IsSome self.old.station.memory }
-        requires agrees { Agrees self.old.station }
+        requires ready { ReadyToAnswer self.old.station out.old }
         requires came { IfSome self.old.station.memory (λ l. hearing.CameBy way l) }
         requires message { IsMessage join.now }
-        requires empty { out.old ≡ nothing }
         ensures carries { IfSome (node_of self.old).memory (λ m. Carries (node_of self.old)
             (meters.hear_join (identity_of self.old) m way join.now now) result out.new (node_of self.new)) }
-        ensures agrees { Agrees self.new.station }
-        ensures psk { self.new.psk ≡ self.old.psk }
+        ensures after { MeterAfter self.old self.new }
     {
         let own = join.eui.number() == self.station.eui().number();
         match way {
@@ -245,15 +228,12 @@ impl<K: Keeper + Drop> Meter<K> {
         now: u64,
         out: &mut Out,
     ) -> Result<MeterHeard<'static>, Dropped>
-        requires running { IsSome self.old.station.memory }
-        requires agrees { Agrees self.old.station }
+        requires ready { ReadyToAnswer self.old.station out.old }
         requires came { IfSome self.old.station.memory (λ l. hearing.CameBy way l) }
-        requires empty { out.old ≡ nothing }
         ensures carries { IfSome (node_of self.old).memory (λ m. Carries (node_of self.old)
             (meters.hear_join_in (identity_of self.old) m way (join_in body.now) now)
             result out.new (node_of self.new)) }
-        ensures agrees { Agrees self.new.station }
-        ensures psk { self.new.psk ≡ self.old.psk }
+        ensures after { MeterAfter self.old self.new }
     {
         let Some(join) = read_message(body) else {
             return Err(Dropped::BadUnit);
@@ -278,16 +258,14 @@ impl<K: Keeper + Drop> Meter<K> {
         datagram: &'a mut DatagramBuf,
         out: &mut Out,
     ) -> Result<MeterHeard<'a>, Dropped>
-        requires running { IsSome self.old.station.memory }
-        requires agrees { Agrees self.old.station }
+        requires ready { Ready self.old.station }
         requires fits { Fits got.now }
         requires came { IfSome self.old.station.memory (λ l. hearing.CameUp got.now.path l) }
         ensures carries { IfSome (node_of self.old).memory (λ m. Carries (node_of self.old)
             (meters.hear_meter (identity_of self.old) m got.now cost note now) result out.new (node_of self.new)) }
-        ensures agrees { Agrees self.new.station }
+        ensures after { MeterAfter self.old self.new }
         ensures replied { IfSome (node_of self.old).memory (λ m. unread (hear m.station got.now cost note now).answer ≡ None
             → self.new.station.replied ≡ reply_sent (meters.hear_meter (identity_of self.old) m got.now cost note now) (node_of self.new).memory) }
-        ensures psk { self.new.psk ≡ self.old.psk }
     {
         let heard = self.station.hear(got, cost, note, now, datagram, out);
         match joining_command(&heard) {

@@ -1,9 +1,11 @@
 //! What a meter does about its joining by itself.
-ghost use Rattle.std.specs.Prelude.{◌≡◌, Some, None, Ok, Err, IfSome, IsSome, IfNone, is_some};
+ghost use Rattle.std.specs.Prelude.{◌≡◌, Some, None, Ok, Err, IfSome, IfNone, is_some};
 ghost use Rattle.node_rules.specs.MemoryDrafts as drafts;
 ghost use Rattle.node_rules.specs.Meters as meters;
 ghost use Rattle.node_rules.specs.Carrying.{Carries, nothing};
 ghost use Rattle.node_rules.specs.Agreement.{Agrees};
+ghost use Rattle.plc_station.specs.Ready.{Ready};
+ghost use Rattle.meter_node.specs.MeterCalls.{MeterAfter};
 ghost use Rattle.meter_node.specs.MeterStates.{identity_of, node_of};
 
 use crate::meter::Meter;
@@ -30,8 +32,7 @@ impl<K: Keeper + Drop> Meter<K> {
         ensures halted { IfNone self.old.station.memory ((result ≡ Err RandomFault.Halted) × (self.new ≡ self.old)) }
         ensures carries { IfSome (node_of self.old).memory (λ m.
             Carries (node_of self.old) (drafts.give_random m value) result nothing (node_of self.new)) }
-        ensures agrees { Agrees self.new.station }
-        ensures psk { self.new.psk ≡ self.old.psk }
+        ensures after { MeterAfter self.old self.new }
     {
         if self.station.halted() {
             return Err(RandomFault::Halted);
@@ -44,12 +45,10 @@ impl<K: Keeper + Drop> Meter<K> {
 
     /// Installs the grant of the workshop. Store, after which it is halted.
     pub fn provision(&mut self, grant: &Grant) -> Result<(), RingFault>
-        requires running { IsSome self.old.station.memory }
-        requires agrees { Agrees self.old.station }
+        requires ready { Ready self.old.station }
         ensures carries { IfSome (node_of self.old).memory (λ m.
             Carries (node_of self.old) (meters.provision m grant.now) result nothing (node_of self.new)) }
-        ensures agrees { Agrees self.new.station }
-        ensures psk { self.new.psk ≡ self.old.psk }
+        ensures after { MeterAfter self.old self.new }
     {
         self.station.install(grant)
     }
@@ -63,8 +62,7 @@ impl<K: Keeper + Drop> Meter<K> {
             ((result ≡ Err JoinRefusal.Halted) × (out.new ≡ nothing) × (self.new ≡ self.old)) }
         ensures carries { IfSome (node_of self.old).memory (λ m.
             Carries (node_of self.old) (meters.join (identity_of self.old) m agent now) result out.new (node_of self.new)) }
-        ensures agrees { Agrees self.new.station }
-        ensures psk { self.new.psk ≡ self.old.psk }
+        ensures after { MeterAfter self.old self.new }
     {
         out.clear();
         if self.station.halted() {
@@ -92,8 +90,7 @@ impl<K: Keeper + Drop> Meter<K> {
         ensures halted { IfNone self.old.station.memory ((result ≡ Err LeaveRefusal.Halted) × (self.new ≡ self.old)) }
         ensures carries { IfSome (node_of self.old).memory (λ m.
             Carries (node_of self.old) (meters.leave m) result nothing (node_of self.new)) }
-        ensures agrees { Agrees self.new.station }
-        ensures psk { self.new.psk ≡ self.old.psk }
+        ensures after { MeterAfter self.old self.new }
     {
         if self.station.halted() {
             return Err(LeaveRefusal::Halted);

@@ -9,6 +9,7 @@ ghost use Rattle.node_rules.specs.Memory as memory;
 ghost use Rattle.node_rules.specs.Meters as meters;
 ghost use Rattle.node_rules.specs.StoreReading.{memory_of};
 ghost use Rattle.node_rules.specs.Agreement.{Agrees};
+ghost use Rattle.meter_node.specs.MeterCalls.{MeterAfter};
 ghost use Rattle.plc_station.specs.Sizes.{HasSizes};
 ghost use Rattle.meter_node.specs.MeterStates.{node_of};
 ghost use Rattle.meter_node.specs.Sessions.{session_of};
@@ -145,8 +146,7 @@ impl<K: Keeper + Drop> Meter<K> {
         ensures halted { IfNone self.old.station.memory (self.new ≡ self.old) }
         ensures state { node_of self.new
             ≡ record (node_of self.old) { memory = option_map (meters.tick now) (node_of self.old).memory } }
-        ensures psk { self.new.psk ≡ self.old.psk }
-        ensures agrees { Agrees self.new.station }
+        ensures after { MeterAfter self.old self.new }
     {
         if self.station.halted() {
             return;

@@ -1,9 +1,7 @@
 //! What a meter answers to the packets of a joining.
-ghost use Rattle.std.specs.Prelude.{◌≡◌, None, Some, IfOk, IfSome, slice_get};
+ghost use Rattle.std.specs.Prelude.{◌≡◌, Some, IfOk, IfSome, slice_get};
 ghost use Rattle.std.specs.Result.{result_err};
-ghost use Rattle.std.specs.Option.{option_map};
 ghost use Rattle.eap_psk.specs.Keys.{keys_of};
-ghost use Rattle.eap_psk.specs.Faults.{third_fault};
 ghost use Rattle.eap_psk.specs.Sessions.{agreed_by, fourth_packet, granted_by, identifier_of, peer_for, second_packet};
 ghost use Rattle.eap_psk.specs.Tags.{first_tags, third_tags};
 ghost use Rattle.node_rules.specs.Memory as memory;

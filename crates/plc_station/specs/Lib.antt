@@ -5,4 +5,5 @@ pub mod Pieces
 pub mod Heard
 pub mod Rooms
 pub mod Hears
+pub mod Ready
 pub mod Sizes

@@ -1,5 +1,5 @@
 //! Commands that a station sends over the mesh.
-ghost use Rattle.std.specs.Prelude.{◌≡◌, ◌+◌, ◌<◌, ◌≤◌, false, Some, None, Ok, Err, IfSome, IfNone, IsSome, length};
+ghost use Rattle.std.specs.Prelude.{◌≡◌, ◌+◌, ◌<◌, ◌≤◌, false, Some, None, Ok, Err, IfSome, IfNone, length};
 ghost use Rattle.std.specs.Prelude.{drop};
 ghost use Rattle.mesh_header.specs.declared.unit.Unit.TheVariants as mesh;
 ghost use Rattle.mesh_header.specs.Grammar.{IsAllowed, spelled_length};
@@ -9,6 +9,7 @@ ghost use Rattle.node_rules.specs.Calls as calls;
 ghost use Rattle.node_rules.specs.declared.heard.SentHow.TheVariants as how;
 ghost use Rattle.node_rules.specs.Carrying.{Carries, nothing};
 ghost use Rattle.node_rules.specs.Agreement.{Agrees};
+ghost use Rattle.plc_station.specs.Ready.{After, ReadyToAnswer, ReadyToSend};
 ghost use Rattle.plc_station.specs.Rooms.{room_answer};
 ghost use Rattle.plc_base.specs.declared.limits.TheConstants.{GREATEST_COUNTER};
 ghost use Rattle.waiting_bodies.specs.declared.bodies.TheConstants.{LONGEST_COMMAND};
@@ -44,18 +45,14 @@ impl<K: Keeper + Drop> Station<K> {
         octets: &[u8],
         out: &mut Out,
     ) -> Result<SentHow, SendRefusal>
-        requires running { IsSome self.old.memory }
-        requires agrees { Agrees self.old }
-        requires ring { IfSome self.old.memory (λ l. l.ring ≡ Some grant.now) }
+        requires ready { ReadyToSend self.old grant.now out.old }
         requires some { 1 ≤ length octets.now }
         requires fits { length octets.now ≤ LONGEST_COMMAND }
         requires left { IfSome self.old.memory (λ l. l.counter.next + 1 ≤ GREATEST_COUNTER) }
-        requires empty { out.old ≡ nothing }
         ensures carries { IfSome self.old.memory (λ l. Carries self.old (drafts.sealing drafts.alone calls.sending_ends
             (drafts.body_goes grant.now.address hop to 0 (Command octets.now)
             (drafts.empty_draft l)) how.Sent) result out.new self.new) }
-        ensures agrees { Agrees self.new }
-        ensures replied { self.new.replied ≡ self.old.replied }
+        ensures after { After self.old self.new }
     {
         let unit = command_unit(grant, to, octets);
         match self.send_unit(grant, Destination::one(hop), &unit, 0, out) {
@@ -72,16 +69,13 @@ impl<K: Keeper + Drop> Station<K> {
         now: u64,
         out: &Out,
     ) -> Result<SentHow, SendRefusal>
-        requires running { IsSome self.old.memory }
-        requires agrees { Agrees self.old }
+        requires ready { ReadyToAnswer self.old out.now }
         requires some { 1 ≤ length octets.now }
         requires fits { length octets.now ≤ LONGEST_COMMAND }
         requires room { IfSome self.old.memory (λ l. drafts.no_room l (length octets.now) ≡ false) }
-        requires empty { out.now ≡ nothing }
         ensures carries { IfSome self.old.memory (λ l. Carries self.old (drafts.sealing drafts.alone calls.sending_ends
             (drafts.waits to 0 (Command octets.now) now (drafts.empty_draft l)) how.Waiting) result out.now self.new) }
-        ensures agrees { Agrees self.new }
-        ensures replied { self.new.replied ≡ self.old.replied }
+        ensures after { After self.old self.new }
     {
         self.bodies.push(to, 0, now, None, octets);
         Ok(SentHow::Waiting)
@@ -96,20 +90,16 @@ impl<K: Keeper + Drop> Station<K> {
         now: u64,
         out: &mut Out,
     ) -> Result<SentHow, SendRefusal>
-        requires running { IsSome self.old.memory }
-        requires agrees { Agrees self.old }
-        requires ring { IfSome self.old.memory (λ l. l.ring ≡ Some grant.now) }
+        requires ready { ReadyToSend self.old grant.now out.old }
         requires some { 1 ≤ length octets.now }
         requires fits { length octets.now ≤ LONGEST_COMMAND }
         requires room { IfSome self.old.memory (λ l. drafts.no_room l (length octets.now) ≡ false) }
         requires number { IfSome self.old.memory (λ l. l.own_number.last < 65535) }
         requires left { IfSome self.old.memory (λ l. l.counter.next + 1 ≤ GREATEST_COUNTER) }
-        requires empty { out.old ≡ nothing }
         ensures carries { IfSome self.old.memory (λ l. Carries self.old (drafts.sealing drafts.alone calls.sending_ends
             (drafts.waits to 0 (Command octets.now) now
             (drafts.seeks grant.now.address to (drafts.empty_draft l))) how.Waiting) result out.new self.new) }
-        ensures agrees { Agrees self.new }
-        ensures replied { self.new.replied ≡ self.old.replied }
+        ensures after { After self.old self.new }
     {
         self.halted = true;
         let Ok(number) = self.parts.own_number.advance(&mut self.keeper) else {
@@ -133,17 +123,13 @@ impl<K: Keeper + Drop> Station<K> {
         now: u64,
         out: &mut Out,
     ) -> Result<SentHow, SendRefusal>
-        requires running { IsSome self.old.memory }
-        requires agrees { Agrees self.old }
-        requires ring { IfSome self.old.memory (λ l. l.ring ≡ Some grant.now) }
+        requires ready { ReadyToSend self.old grant.now out.old }
         requires some { 1 ≤ length octets.now }
         requires fits { length octets.now ≤ LONGEST_COMMAND }
-        requires empty { out.old ≡ nothing }
         ensures carries { IfSome self.old.memory
             (λ l. Carries self.old
             (calls.command_from l grant.now.address to octets.now now) result out.new self.new) }
-        ensures agrees { Agrees self.new }
-        ensures replied { self.new.replied ≡ self.old.replied }
+        ensures after { After self.old self.new }
     {
         let left = self.parts.counter.left();
         if let Some(hop) = self.parts.routing.route(to) {
@@ -184,8 +170,7 @@ impl<K: Keeper + Drop> Station<K> {
             ((result ≡ Err SendRefusal.Halted) × (out.new ≡ nothing) × (self.new ≡ self.old)) }
         ensures carries { IfSome self.old.memory
             (λ l. Carries self.old (calls.send_command l to body.now now) result out.new self.new) }
-        ensures agrees { Agrees self.new }
-        ensures replied { self.new.replied ≡ self.old.replied }
+        ensures after { After self.old self.new }
     {
         out.clear();
         if self.halted {

@@ -1,7 +1,8 @@
 //! Which frames a station accepts.
-ghost use Rattle.std.specs.Prelude.{◌≡◌, ◌==◌, ◌||◌, ◌+◌, ◌<◌, ◌≤◌, true, false, Some, None, Ok, Err, IfSome, IsSome, ◌++◌, IfNone, IfOk, length};
+ghost use Rattle.std.specs.Prelude.{◌≡◌, ◌==◌, ◌||◌, ◌+◌, ◌<◌, ◌≤◌, true, false, Some, None, Ok, Err, IfSome, ◌++◌, IfNone, IfOk, length};
 ghost use Rattle.node_rules.specs.Carrying.{Carries, nothing};
 ghost use Rattle.node_rules.specs.Agreement.{Agrees};
+ghost use Rattle.plc_station.specs.Ready.{After, Ready};
 ghost use Rattle.plc_station.specs.Heard.{Fits};
 ghost use Rattle.group_keys.specs.KeyRing as ring;
 ghost use Rattle.mac_frames.specs.Grammar.{Frame, IsSealed};
@@ -77,12 +78,10 @@ impl<K: Keeper + Drop> Station<K> {
         path: Path,
         payload: &'a FrameBuf,
     ) -> Result<Accepted<'a>, FrameRefusal>
-        requires running { IsSome self.old.memory }
-        requires agrees { Agrees self.old }
+        requires ready { Ready self.old }
         ensures carries { IfSome self.old.memory
             (λ l. Carries self.old (accepting.admit l from counter (record { path = path; payload = payload.now })) result nothing self.new) }
-        ensures agrees { Agrees self.new }
-        ensures replied { self.new.replied ≡ self.old.replied }
+        ensures after { After self.old self.new }
         ensures same { IfOk result (λ got. got ≡ record { path = path; payload = payload.now }) }
     {
         if let Err(fault) = self.parts.marks.room(from, counter) {
@@ -109,8 +108,7 @@ impl<K: Keeper + Drop> Station<K> {
         index: KeyIndex,
         payload: &'a mut FrameBuf,
     ) -> Result<Accepted<'a>, FrameRefusal>
-        requires running { IsSome self.old.memory }
-        requires agrees { Agrees self.old }
+        requires ready { Ready self.old }
         requires sealed { IsSealed raw.now.head }
         requires frame { Frame raw.now.head raw.now.body.now (raw.now.header.now ++ raw.now.body.now) }
         ensures carries { IfSome self.old.memory (λ l. Carries self.old
@@ -118,8 +116,7 @@ impl<K: Keeper + Drop> Station<K> {
             (arrived_with network raw.now.head raw.now.header.now raw.now.body.now) to from counter
             (ring.key_in_ring l.ring index))
             result nothing self.new) }
-        ensures agrees { Agrees self.new }
-        ensures replied { self.new.replied ≡ self.old.replied }
+        ensures after { After self.old self.new }
         ensures fits { IfOk result (λ got. Fits got) }
     {
         let Some(key) = self.parts.ring.key(index) else {
@@ -142,13 +139,11 @@ impl<K: Keeper + Drop> Station<K> {
         raw: &RawFrame<'_>,
         payload: &'a mut FrameBuf,
     ) -> Result<Accepted<'a>, FrameRefusal>
-        requires running { IsSome self.old.memory }
-        requires agrees { Agrees self.old }
+        requires ready { Ready self.old }
         requires frame { Frame raw.now.head raw.now.body.now (raw.now.header.now ++ raw.now.body.now) }
         ensures carries { IfSome self.old.memory (λ l. Carries self.old
             (accepting.accept l self.old.eui (Some (arrived_with network raw.now.head raw.now.header.now raw.now.body.now))) result nothing self.new) }
-        ensures agrees { Agrees self.new }
-        ensures replied { self.new.replied ≡ self.old.replied }
+        ensures after { After self.old self.new }
         ensures fits { IfOk result (λ got. Fits got) }
     {
         if !self.is_for_me(&raw.head) {
@@ -184,8 +179,7 @@ impl<K: Keeper + Drop> Station<K> {
         ensures carries { IfSome self.old.memory
             (λ l. Carries self.old (accepting.accept l self.old.eui
             (arrived network octets.now)) result nothing self.new) }
-        ensures agrees { Agrees self.new }
-        ensures replied { self.new.replied ≡ self.old.replied }
+        ensures after { After self.old self.new }
         ensures fits { IfOk result (λ got. Fits got) }
     {
         if self.halted {
@@ -211,8 +205,7 @@ impl<K: Keeper + Drop> Station<K> {
         ensures carries { IfSome self.old.memory
             (λ l. Carries self.old (accepting.accept l self.old.eui
             (arrived network octets.now)) result nothing self.new) }
-        ensures agrees { Agrees self.new }
-        ensures replied { self.new.replied ≡ self.old.replied }
+        ensures after { After self.old self.new }
         ensures fits { IfOk result (λ got. Fits got) }
         ensures waits { IfSome self.new.memory (λ l. WaitingFits l) }
     {

@@ -1,5 +1,5 @@
 //! What a station makes of a frame that it accepted.
-ghost use Rattle.std.specs.Prelude.{◌≡◌, ◌==◌, not, ◌+◌, ◌<◌, ◌≤◌, Some, None, Ok, Err, IfSome, IsSome, length};
+ghost use Rattle.std.specs.Prelude.{◌≡◌, ◌==◌, not, ◌+◌, ◌<◌, ◌≤◌, Some, None, Ok, Err, IfSome, length};
 ghost use Rattle.mesh_header.specs.Grammar.{IsAllowed, spelled_length};
 ghost use Rattle.mesh_header.specs.Reading as units;
 ghost use Rattle.loadng_messages.specs.Grammar as messages;
@@ -8,6 +8,7 @@ ghost use Rattle.node_rules.specs.Hearing as hearing;
 ghost use Rattle.node_rules.specs.Carrying.{Carries, nothing};
 ghost use Rattle.plc_station.specs.Hears.{Hears};
 ghost use Rattle.node_rules.specs.Agreement.{Agrees};
+ghost use Rattle.plc_station.specs.Ready.{Ready, ReadyToAnswer, ReadyToSend};
 ghost use Rattle.loadng_messages.specs.Reading as reading;
 ghost use Rattle.plc_station.specs.Heard.{Fits};
 ghost use Rattle.node_rules.specs.Replies.{reply_sent};
@@ -73,11 +74,8 @@ impl<K: Keeper + Drop> Station<K> {
         now: u64,
         out: &mut Out,
     ) -> Result<Heard<'static>, Dropped>
-        requires running { IsSome self.old.memory }
-        requires agrees { Agrees self.old }
-        requires ring { IfSome self.old.memory (λ l. l.ring ≡ Some grant.now) }
+        requires ready { ReadyToSend self.old grant.now out.old }
         requires allowed { messages.IsAllowed message }
-        requires empty { out.old ≡ nothing }
         requires fresh { self.old.replied ≡ None }
         ensures hears { IfSome self.old.memory
             (λ l. Hears self.old
@@ -130,10 +128,7 @@ impl<K: Keeper + Drop> Station<K> {
         now: u64,
         out: &mut Out,
     ) -> Result<Heard<'a>, Dropped>
-        requires running { IsSome self.old.memory }
-        requires agrees { Agrees self.old }
-        requires ring { IfSome self.old.memory (λ l. l.ring ≡ Some grant.now) }
-        requires empty { out.old ≡ nothing }
+        requires ready { ReadyToSend self.old grant.now out.old }
         requires fresh { self.old.replied ≡ None }
         ensures hears { IfSome self.old.memory
             (λ l. Hears self.old
@@ -170,12 +165,9 @@ impl<K: Keeper + Drop> Station<K> {
         datagram: &'a mut DatagramBuf,
         out: &mut Out,
     ) -> Result<Heard<'a>, Dropped>
-        requires running { IsSome self.old.memory }
-        requires agrees { Agrees self.old }
-        requires ring { IfSome self.old.memory (λ l. l.ring ≡ Some grant.now) }
+        requires ready { ReadyToSend self.old grant.now out.old }
         requires allowed { IsAllowed unit.now }
         requires fits { spelled_length unit.now ≤ 381 }
-        requires empty { out.old ≡ nothing }
         requires fresh { self.old.replied ≡ None }
         ensures hears { IfSome self.old.memory
             (λ l. Hears self.old
@@ -217,10 +209,8 @@ impl<K: Keeper + Drop> Station<K> {
         datagram: &'a mut DatagramBuf,
         out: &mut Out,
     ) -> Result<Heard<'a>, Dropped>
-        requires running { IsSome self.old.memory }
-        requires agrees { Agrees self.old }
+        requires ready { ReadyToAnswer self.old out.old }
         requires fits { Fits got.now }
-        requires empty { out.old ≡ nothing }
         requires fresh { self.old.replied ≡ None }
         ensures hears { IfSome self.old.memory
             (λ l. Hears self.old (hearing.hear l got.now cost note now) result out.new self.new) }
@@ -272,8 +262,7 @@ impl<K: Keeper + Drop> Station<K> {
         datagram: &'a mut DatagramBuf,
         out: &mut Out,
     ) -> Result<Heard<'a>, Dropped>
-        requires running { IsSome self.old.memory }
-        requires agrees { Agrees self.old }
+        requires ready { Ready self.old }
         requires fits { Fits got.now }
         ensures carries { IfSome self.old.memory
             (λ l. Carries self.old (hearing.hear l got.now cost note now) result out.new self.new) }

@@ -24,14 +24,14 @@
 //! - Each call is its rule of `node_rules` carried out, whichever write to the store fails (`carries`; `state` of `tick` and
 //!   `restart`, `ended` of `broke`, `room`, `shown`). A refusal comes for the first reason that the rule names.
 //! - What it holds as stored is what its store gives: `open` begins so where no table of the store has a gap, and each call
-//!   keeps it (`agrees`); what is put through `keeper_mut` may end it. A halted station answers Halted and changes nothing
+//!   asks for it (`ready`, `agrees`) and keeps it (`after`); what is put through `keeper_mut` may end it. A halted station answers Halted and changes nothing
 //!   (`halted`).
 //! - `open` gives exactly what the store says, or its first fault (`opened`, `running`, `refused`).
 //!
 //! It takes memory in `open` alone, and has no `unsafe`; the pool of blocks below it is the one crate with pointers. It reads
 //! no clock and draws no random value: times are the caller's, in seconds. It sends nothing by itself. After a write that
 //! failed it is halted, with nothing sent, until `restart` has read the store again. `hear`, `install` and their like ask for a
-//! station that is not halted, which `halted` answers.
+//! station that is not halted (`ready`), which `halted` answers.
 //!
 //! For example, a node that is installed and gets a frame: `accept` refuses it as Replayed, or answers what is inside; `hear`
 //! then answers `Heard::Up` with the datagram for this node, or `Heard::Relayed` with the frame for the next hop in `out`.

@@ -1,5 +1,5 @@
 //! What a station makes of units over the mesh.
-ghost use Rattle.std.specs.Prelude.{◌≡◌, ◌≢◌, ◌==◌, ◌+◌, ◌<◌, ◌≤◌, true, false, Some, Ok, Err, IfSome, IsSome};
+ghost use Rattle.std.specs.Prelude.{◌≡◌, ◌==◌, ◌+◌, ◌<◌, ◌≤◌, true, false, Some, Ok, Err, IfSome};
 ghost use Rattle.mesh_header.specs.Grammar.{IsAllowed, header_length, spelled_length};
 ghost use Rattle.mesh_header.specs.declared.unit.Unit.TheVariants as local;
 ghost use Rattle.loadng_messages.specs.Grammar as messages;
@@ -11,9 +11,9 @@ ghost use Rattle.node_rules.specs.Memory.{next_hop};
 ghost use Rattle.node_rules.specs.Drafts as drafts;
 ghost use Rattle.node_rules.specs.Hearing as hearing;
 ghost use Rattle.routing_set.specs.RoutingSet as routing;
-ghost use Rattle.node_rules.specs.Carrying.{Carries, nothing};
+ghost use Rattle.node_rules.specs.Carrying.{Carries};
 ghost use Rattle.plc_station.specs.Hears.{Hears};
-ghost use Rattle.node_rules.specs.Agreement.{Agrees};
+ghost use Rattle.plc_station.specs.Ready.{After, ReadyToSend};
 ghost use Rattle.group_keys.specs.KeyRing as ring;
 ghost use Rattle.plc_base.specs.declared.limits.TheConstants.{GREATEST_COUNTER};
 
@@ -80,18 +80,14 @@ impl<K: Keeper + Drop> Station<K> {
         note: u32,
         out: &mut Out,
     ) -> Result<(), Dropped>
-        requires running { IsSome self.old.memory }
-        requires agrees { Agrees self.old }
-        requires ring { IfSome self.old.memory (λ l. l.ring ≡ Some grant.now) }
+        requires ready { ReadyToSend self.old grant.now out.old }
         requires allowed { IsAllowed unit.now }
         requires fits { spelled_length unit.now ≤ 381 }
         requires left { IfSome self.old.memory (λ l. l.counter.next + 1 ≤ GREATEST_COUNTER) }
-        requires empty { out.old ≡ nothing }
         ensures carries { IfSome self.old.memory
             (λ l. Carries self.old (drafts.sealing drafts.alone hearing.dropped
             (drafts.goes to unit.now note (drafts.empty_draft l)) tt) result out.new self.new) }
-        ensures agrees { Agrees self.new }
-        ensures replied { self.new.replied ≡ self.old.replied }
+        ensures after { After self.old self.new }
     {
         self.halted = true;
         let Ok(counter) = self.parts.counter.reserve(&mut self.keeper, 1) else {
@@ -110,16 +106,12 @@ impl<K: Keeper + Drop> Station<K> {
         mesh: &Mesh,
         out: &mut Out,
     ) -> Result<Heard<'static>, Dropped>
-        requires running { IsSome self.old.memory }
-        requires agrees { Agrees self.old }
-        requires ring { IfSome self.old.memory (λ l. l.ring ≡ Some grant.now) }
-        requires empty { out.old ≡ nothing }
+        requires ready { ReadyToSend self.old grant.now out.old }
         ensures carries { IfSome self.old.memory
             (λ l. Carries self.old (drafts.choose (mesh.now.origin == grant.now.address)
             (hearing.drop_it l hearing_drops.NoRoute)
             (hearing.report_by l mesh.now (next_hop l mesh.now.origin))) result out.new self.new) }
-        ensures agrees { Agrees self.new }
-        ensures replied { self.new.replied ≡ self.old.replied }
+        ensures after { After self.old self.new }
     {
         if mesh.origin.number() == grant.address.number() {
             return Err(Dropped::NoRoute);
@@ -148,17 +140,13 @@ impl<K: Keeper + Drop> Station<K> {
         note: u32,
         out: &mut Out,
     ) -> Result<Heard<'static>, Dropped>
-        requires running { IsSome self.old.memory }
-        requires agrees { Agrees self.old }
-        requires ring { IfSome self.old.memory (λ l. l.ring ≡ Some grant.now) }
+        requires ready { ReadyToSend self.old grant.now out.old }
         requires allowed { IsAllowed unit.now }
         requires fits { spelled_length unit.now ≤ 381 }
-        requires empty { out.old ≡ nothing }
         ensures carries { IfSome self.old.memory
             (λ l. Carries self.old
             (hearing.forward l grant.now.address mesh.now unit.now note) result out.new self.new) }
-        ensures agrees { Agrees self.new }
-        ensures replied { self.new.replied ≡ self.old.replied }
+        ensures after { After self.old self.new }
     {
         let left = self.parts.counter.left();
         let Some(hop) = self.parts.routing.route(mesh.to) else {
@@ -186,17 +174,13 @@ impl<K: Keeper + Drop> Station<K> {
         datagram: &'a mut DatagramBuf,
         out: &mut Out,
     ) -> Result<Heard<'a>, Dropped>
-        requires running { IsSome self.old.memory }
-        requires agrees { Agrees self.old }
-        requires ring { IfSome self.old.memory (λ l. l.ring ≡ Some grant.now) }
+        requires ready { ReadyToSend self.old grant.now out.old }
         requires allowed { IsAllowed unit.now }
         requires fits { spelled_length unit.now ≤ 381 }
-        requires empty { out.old ≡ nothing }
         ensures carries { IfSome self.old.memory
             (λ l. Carries self.old
             (hearing.hear_over_mesh l grant.now.address unit.now note now) result out.new self.new) }
-        ensures agrees { Agrees self.new }
-        ensures replied { self.new.replied ≡ self.old.replied }
+        ensures after { After self.old self.new }
     {
         match unit {
             Unit::Whole { mesh, octets } => {

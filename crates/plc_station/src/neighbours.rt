@@ -1,11 +1,11 @@
 //! What a station sends its neighbours by itself.
-ghost use Rattle.std.specs.Prelude.{◌≡◌, ◌≢◌, ◌+◌, ◌<◌, ◌≤◌, Some, IfSome, IsSome, length, unwrap_or};
+ghost use Rattle.std.specs.Prelude.{◌≡◌, ◌+◌, ◌<◌, ◌≤◌, Some, IfSome, IsSome, length, unwrap_or};
 ghost use Rattle.mesh_header.specs.declared.unit.Unit.TheVariants as units;
 ghost use Rattle.node_rules.specs.Frames.{to_all};
 ghost use Rattle.node_rules.specs.Drafts as drafts;
 ghost use Rattle.node_rules.specs.Neighbours as local;
 ghost use Rattle.node_rules.specs.Neighbours.{CarriesAfter};
-ghost use Rattle.node_rules.specs.Agreement.{Agrees};
+ghost use Rattle.plc_station.specs.Ready.{After, Ready};
 ghost use Rattle.plc_base.specs.declared.limits.TheConstants.{GREATEST_COUNTER, MOST_FRAMES};
 
 use crate::station::Station;
@@ -35,8 +35,7 @@ impl<K: Keeper + Drop> Station<K> {
         body: &[u8],
         out: &mut Out,
     ) -> Result<(), LocalRefusal>
-        requires running { IsSome self.old.memory }
-        requires agrees { Agrees self.old }
+        requires ready { Ready self.old }
         requires ring { IfSome self.old.memory (λ l. l.ring ≡ Some grant.now) }
         requires left { IfSome self.old.memory (λ l. l.counter.next + 1 ≤ GREATEST_COUNTER) }
         requires code { 1 ≤ code }
@@ -46,8 +45,7 @@ impl<K: Keeper + Drop> Station<K> {
         ensures carries { IfSome self.old.memory
             (λ l. CarriesAfter self.old (drafts.sealing drafts.alone local.local_ends
             (drafts.goes to (units.Local code body.now) 0 (drafts.empty_draft l)) tt) result out.old out.new self.new) }
-        ensures agrees { Agrees self.new }
-        ensures replied { self.new.replied ≡ self.old.replied }
+        ensures after { After self.old self.new }
     {
         self.halted = true;
         let Ok(counter) = self.parts.counter.reserve(&mut self.keeper, 1) else {
@@ -73,9 +71,8 @@ impl<K: Keeper + Drop> Station<K> {
         body: &[u8],
         out: &mut Out,
     ) -> Result<(), LocalRefusal>
-        requires running { IsSome self.old.memory }
+        requires ready { Ready self.old }
         requires joined { IfSome self.old.memory (λ l. IsSome l.ring) }
-        requires agrees { Agrees self.old }
         requires code { 3 ≤ code }
         requires last_code { code ≤ 5 }
         requires some { 1 ≤ length body.now }
@@ -83,8 +80,7 @@ impl<K: Keeper + Drop> Station<K> {
         requires room { length out.old.frames < MOST_FRAMES }
         ensures carries { IfSome self.old.memory
             (λ l. CarriesAfter self.old (local.send_local l code to body.now) result out.old out.new self.new) }
-        ensures agrees { Agrees self.new }
-        ensures replied { self.new.replied ≡ self.old.replied }
+        ensures after { After self.old self.new }
     {
         let Some(grant) = self.parts.ring.grant() else {
             unreachable!()

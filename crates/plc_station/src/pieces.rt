@@ -1,9 +1,9 @@
 //! What a station makes of pieces of datagrams.
-ghost use Rattle.std.specs.Prelude.{◌≡◌, ◌+◌, ◌<◌, Ok, Err, IfSome, IsSome};
+ghost use Rattle.std.specs.Prelude.{◌≡◌, ◌+◌, ◌<◌, Ok, Err, IfSome};
 ghost use Rattle.node_rules.specs.Hearing as hearing;
 ghost use Rattle.plc_station.specs.Pieces as pieces;
-ghost use Rattle.node_rules.specs.Carrying.{Carries, nothing};
-ghost use Rattle.node_rules.specs.Agreement.{Agrees};
+ghost use Rattle.node_rules.specs.Carrying.{Carries};
+ghost use Rattle.plc_station.specs.Ready.{After, ReadyToAnswer};
 
 use crate::station::Station;
 use fragment_buffers::{BufferFull, Taken};
@@ -41,13 +41,10 @@ impl<K: Keeper + Drop> Station<K> {
         datagram: &'a mut DatagramBuf,
         out: &Out,
     ) -> Result<Heard<'a>, Dropped>
-        requires running { IsSome self.old.memory }
-        requires agrees { Agrees self.old }
-        requires empty { out.now ≡ nothing }
+        requires ready { ReadyToAnswer self.old out.now }
         ensures carries { IfSome self.old.memory
             (λ l. Carries self.old (hearing.gather l from piece.now note now) result out.now self.new) }
-        ensures agrees { Agrees self.new }
-        ensures replied { self.new.replied ≡ self.old.replied }
+        ensures after { After self.old self.new }
     {
         let taken = self.bodies.gather(from, piece, note, now, datagram);
         came(from, taken, datagram.octets())

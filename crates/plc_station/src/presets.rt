@@ -1,10 +1,10 @@
 //! What the workshop sets at a station.
-ghost use Rattle.std.specs.Prelude.{◌≡◌, ◌≤◌, true, false, IfSome, IsSome};
+ghost use Rattle.std.specs.Prelude.{◌≡◌, ◌≤◌, true, false, IfSome};
 ghost use Rattle.node_rules.specs.Drafts as drafts;
 ghost use Rattle.node_rules.specs.Calls as calls;
 ghost use Rattle.routing_set.specs.RoutingSet as routing;
 ghost use Rattle.node_rules.specs.Carrying.{Carries, nothing};
-ghost use Rattle.node_rules.specs.Agreement.{Agrees};
+ghost use Rattle.plc_station.specs.Ready.{After, Ready};
 
 use crate::station::Station;
 use node_rules::PresetFault;
@@ -14,12 +14,10 @@ use routing_set::Rank;
 impl<K: Keeper + Drop> Station<K> {
     /// Sets the next counter. Store, after which it is halted.
     pub fn preset_counter(&mut self, value: u32) -> Result<(), PresetFault>
-        requires running { IsSome self.old.memory }
-        requires agrees { Agrees self.old }
+        requires ready { Ready self.old }
         ensures carries { IfSome self.old.memory
             (λ l. Carries self.old (calls.preset_counter l value) result nothing self.new) }
-        ensures agrees { Agrees self.new }
-        ensures replied { self.new.replied ≡ self.old.replied }
+        ensures after { After self.old self.new }
     {
         self.halted = true;
         let Ok(()) = self.parts.counter.set_limit(&mut self.keeper, value) else {
@@ -31,13 +29,11 @@ impl<K: Keeper + Drop> Station<K> {
 
     /// Sets the last own number. Store, after which it is halted.
     pub fn preset_number(&mut self, value: u16) -> Result<(), PresetFault>
-        requires running { IsSome self.old.memory }
-        requires agrees { Agrees self.old }
+        requires ready { Ready self.old }
         requires value { 1 ≤ value }
         ensures carries { IfSome self.old.memory
             (λ l. Carries self.old (calls.preset_number l value) result nothing self.new) }
-        ensures agrees { Agrees self.new }
-        ensures replied { self.new.replied ≡ self.old.replied }
+        ensures after { After self.old self.new }
     {
         self.halted = true;
         let Ok(()) = self.parts.own_number.set_limit(&mut self.keeper, value) else {
@@ -49,16 +45,14 @@ impl<K: Keeper + Drop> Station<K> {
 
     // Keeps the rank of a neighbour, which beats the one that is held.
     fn keep_near(&mut self, to: Short, cost: u16, now: u64) -> Result<(), PresetFault>
-        requires running { IsSome self.old.memory }
-        requires agrees { Agrees self.old }
+        requires ready { Ready self.old }
         requires better { IfSome self.old.memory (λ l. routing.is_better l.routing to (calls.near_rank cost) ≡ true) }
         requires room { IfSome self.old.memory (λ l. routing.is_full l.routing to now ≡ false) }
         ensures carries { IfSome self.old.memory (λ l. Carries self.old
             (drafts.sealing drafts.alone calls.presetting_ends
             (drafts.with_rank to (calls.near_rank cost) to now
             (drafts.empty_draft l)) tt) result nothing self.new) }
-        ensures agrees { Agrees self.new }
-        ensures replied { self.new.replied ≡ self.old.replied }
+        ensures after { After self.old self.new }
     {
         let rank = Rank { number: 1, cost };
         self.halted = true;
@@ -72,12 +66,10 @@ impl<K: Keeper + Drop> Station<K> {
     /// Offers the route of one hop to a neighbour, over a link of this cost. NotBetter, RoutesFull, Store, in this order; after Store
     /// it is halted.
     pub fn preset_near(&mut self, to: Short, cost: LinkCost, now: u64) -> Result<(), PresetFault>
-        requires running { IsSome self.old.memory }
-        requires agrees { Agrees self.old }
+        requires ready { Ready self.old }
         ensures carries { IfSome self.old.memory
             (λ l. Carries self.old (calls.preset_near l to cost now) result nothing self.new) }
-        ensures agrees { Agrees self.new }
-        ensures replied { self.new.replied ≡ self.old.replied }
+        ensures after { After self.old self.new }
     {
         let cost = u16::from(cost.number());
         if !self.parts.routing.is_better(to, 1, u32::from(cost)) {

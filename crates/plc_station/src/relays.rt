@@ -1,13 +1,13 @@
 //! How a station sends route messages on.
-ghost use Rattle.std.specs.Prelude.{◌≡◌, ◌≢◌, ◌+◌, ◌<◌, ◌≤◌, true, false, Some, Ok, Err, IfOk, IfSome, IsSome, length};
+ghost use Rattle.std.specs.Prelude.{◌≡◌, ◌+◌, ◌<◌, ◌≤◌, true, false, Ok, Err, IfOk, IfSome, IsSome, length};
 ghost use Rattle.loadng_messages.specs.Grammar as messages;
 ghost use Rattle.loadng_messages.specs.declared.message.Message.TheVariants as message;
 ghost use Rattle.node_rules.specs.Drafts as drafts;
 ghost use Rattle.node_rules.specs.Hearing as hearing;
 ghost use Rattle.routing_set.specs.RoutingSet as routing;
 ghost use Rattle.fragment_buffers.specs.Waiting.{leaving};
-ghost use Rattle.node_rules.specs.Carrying.{Carries, nothing};
-ghost use Rattle.node_rules.specs.Agreement.{Agrees};
+ghost use Rattle.node_rules.specs.Carrying.{Carries};
+ghost use Rattle.plc_station.specs.Ready.{After, ReadyToSend};
 ghost use Rattle.group_keys.specs.KeyRing as ring;
 ghost use Rattle.node_rules.specs.Frames.{to_all};
 ghost use Rattle.plc_base.specs.declared.limits.TheConstants.{GREATEST_COUNTER};
@@ -34,21 +34,17 @@ impl<K: Keeper + Drop> Station<K> {
         now: u64,
         out: &mut Out,
     ) -> Result<(), Dropped>
-        requires running { IsSome self.old.memory }
-        requires agrees { Agrees self.old }
-        requires ring { IfSome self.old.memory (λ l. l.ring ≡ Some grant.now) }
+        requires ready { ReadyToSend self.old grant.now out.old }
         requires allowed { messages.IsAllowed message.now }
         requires better { IfSome self.old.memory (λ l. routing.is_better l.routing origin rank ≡ true) }
         requires room { IfSome self.old.memory (λ l. routing.is_full l.routing origin now ≡ false) }
         requires valid { 1 ≤ rank.number }
         requires left { IfSome self.old.memory
             (λ l. l.counter.next + (length (leaving grant.now.address origin by l.waiting) + 1) ≤ GREATEST_COUNTER) }
-        requires empty { out.old ≡ nothing }
         ensures carries { IfSome self.old.memory (λ l. Carries self.old (drafts.sealing drafts.alone hearing.dropped
             (drafts.send_message to message.now (hearing.offers grant.now.address origin rank by now l)) tt)
             result out.new self.new) }
-        ensures agrees { Agrees self.new }
-        ensures replied { self.new.replied ≡ self.old.replied }
+        ensures after { After self.old self.new }
         ensures message { IfOk result (λ u. messages.IsMessage message.now) }
         ensures key { IfOk result (λ u. IsSome (drafts.sealing_key grant.now)) }
     {
@@ -85,20 +81,16 @@ impl<K: Keeper + Drop> Station<K> {
         now: u64,
         out: &mut Out,
     ) -> Result<(), Dropped>
-        requires running { IsSome self.old.memory }
-        requires agrees { Agrees self.old }
-        requires ring { IfSome self.old.memory (λ l. l.ring ≡ Some grant.now) }
+        requires ready { ReadyToSend self.old grant.now out.old }
         requires better { IfSome self.old.memory (λ l. routing.is_better l.routing origin rank ≡ true) }
         requires room { IfSome self.old.memory (λ l. routing.is_full l.routing origin now ≡ false) }
         requires valid { 1 ≤ rank.number }
         requires left { IfSome self.old.memory
             (λ l. l.counter.next + (length (leaving grant.now.address origin by l.waiting) + 1) ≤ GREATEST_COUNTER) }
-        requires empty { out.old ≡ nothing }
         ensures carries { IfSome self.old.memory (λ l. Carries self.old (drafts.sealing drafts.alone hearing.dropped
             (drafts.send_message to_all (message.Rreq rank.number rank.cost origin dest)
             (hearing.offers grant.now.address origin rank by now l)) tt) result out.new self.new) }
-        ensures agrees { Agrees self.new }
-        ensures replied { self.new.replied ≡ self.old.replied }
+        ensures after { After self.old self.new }
     {
         let request = Message::Rreq {
             number: rank.number,

@@ -1,10 +1,10 @@
 //! What a station does about its ring.
-ghost use Rattle.std.specs.Prelude.{◌≡◌, ◌≤◌, true, Some, None, IfSome, IsSome, is_some};
+ghost use Rattle.std.specs.Prelude.{◌≡◌, true, Some, None, IfSome, IsSome, is_some};
 ghost use Rattle.group_keys.specs.KeyRing as ring;
 ghost use Rattle.node_rules.specs.Drafts as drafts;
 ghost use Rattle.node_rules.specs.Calls as calls;
 ghost use Rattle.node_rules.specs.Carrying.{Carries, nothing};
-ghost use Rattle.node_rules.specs.Agreement.{Agrees};
+ghost use Rattle.plc_station.specs.Ready.{After, Ready};
 
 use crate::station::Station;
 use group_keys::RingFault;
@@ -13,12 +13,10 @@ use plc_base::{Grant, Keeper, Key, KeyIndex};
 impl<K: Keeper + Drop> Station<K> {
     /// Keeps a grant as its ring. Store, after which it is halted.
     pub fn install(&mut self, grant: &Grant) -> Result<(), RingFault>
-        requires running { IsSome self.old.memory }
-        requires agrees { Agrees self.old }
+        requires ready { Ready self.old }
         ensures carries { IfSome self.old.memory
             (λ l. Carries self.old (calls.install l grant.now) result nothing self.new) }
-        ensures agrees { Agrees self.new }
-        ensures replied { self.new.replied ≡ self.old.replied }
+        ensures after { After self.old self.new }
     {
         self.halted = true;
         let Ok(()) = self.parts.ring.keep(&mut self.keeper, Some(*grant)) else {
@@ -30,16 +28,14 @@ impl<K: Keeper + Drop> Station<K> {
 
     /// Keeps a key at an index of its ring. Store, after which it is halted.
     pub fn put_key(&mut self, index: KeyIndex, key: &Key) -> Result<(), RingFault>
-        requires running { IsSome self.old.memory }
-        requires agrees { Agrees self.old }
+        requires ready { Ready self.old }
         requires joined { IfSome self.old.memory (λ l. IsSome l.ring) }
         ensures carries { IfSome self.old.memory
             (λ l. Carries self.old (calls.put_key l index key.now) result nothing self.new) }
         // Whatever became of the put, the ring that the records give is the one before or the new one.
         ensures either { IfSome self.old.memory (λ l. ring.IsOldRingOrKept (ring.with_key l.ring index key.now)
             self.old.store.records self.new.store.records) }
-        ensures agrees { Agrees self.new }
-        ensures replied { self.new.replied ≡ self.old.replied }
+        ensures after { After self.old self.new }
     {
         self.halted = true;
         let Ok(()) = self.parts.ring.put(&mut self.keeper, index, key) else {
@@ -51,8 +47,7 @@ impl<K: Keeper + Drop> Station<K> {
 
     // Makes the key at an index the one that seals.
     fn set_active(&mut self, index: KeyIndex) -> Result<(), RingFault>
-        requires running { IsSome self.old.memory }
-        requires agrees { Agrees self.old }
+        requires ready { Ready self.old }
         requires held { IfSome self.old.memory (λ l. is_some (ring.key_in_ring l.ring index) ≡ true) }
         ensures carries { IfSome self.old.memory
             (λ l. Carries self.old
@@ -60,8 +55,7 @@ impl<K: Keeper + Drop> Station<K> {
             (drafts.empty_draft l))) result nothing self.new) }
         ensures either { IfSome self.old.memory (λ l. ring.IsOldRingOrKept (ring.with_active l.ring index)
             self.old.store.records self.new.store.records) }
-        ensures agrees { Agrees self.new }
-        ensures replied { self.new.replied ≡ self.old.replied }
+        ensures after { After self.old self.new }
     {
         self.halted = true;
         let Ok(()) = self.parts.ring.set_active(&mut self.keeper, index) else {
@@ -73,15 +67,13 @@ impl<K: Keeper + Drop> Station<K> {
 
     /// Seals with the key at an index from now on. NotHeld, where no key is there; Store, after which it is halted.
     pub fn activate(&mut self, index: KeyIndex) -> Result<(), RingFault>
-        requires running { IsSome self.old.memory }
-        requires agrees { Agrees self.old }
+        requires ready { Ready self.old }
         ensures carries { IfSome self.old.memory
             (λ l. Carries self.old (calls.activate l index) result nothing self.new) }
         // Whatever became of the put, the ring that the records give is the one before or the new one.
         ensures either { IfSome self.old.memory (λ l. ring.IsOldRingOrKept (ring.with_active l.ring index)
             self.old.store.records self.new.store.records) }
-        ensures agrees { Agrees self.new }
-        ensures replied { self.new.replied ≡ self.old.replied }
+        ensures after { After self.old self.new }
     {
         let Some(_) = self.parts.ring.key(index) else {
             return Err(RingFault::NotHeld);
@@ -91,11 +83,9 @@ impl<K: Keeper + Drop> Station<K> {
 
     /// Drops its ring, and with it all routes, what is gathered and what waits. Store, after which it is halted.
     pub fn leave(&mut self) -> Result<(), RingFault>
-        requires running { IsSome self.old.memory }
-        requires agrees { Agrees self.old }
+        requires ready { Ready self.old }
         ensures carries { IfSome self.old.memory (λ l. Carries self.old (calls.leave l) result nothing self.new) }
-        ensures agrees { Agrees self.new }
-        ensures replied { self.new.replied ≡ self.old.replied }
+        ensures after { After self.old self.new }
     {
         self.halted = true;
         let Ok(()) = self.parts.ring.keep(&mut self.keeper, None) else {

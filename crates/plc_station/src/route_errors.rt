@@ -1,12 +1,12 @@
 //! What a station makes of route errors.
-ghost use Rattle.std.specs.Prelude.{◌≡◌, ◌+◌, ◌≤◌, IfSome, IsSome, Some};
+ghost use Rattle.std.specs.Prelude.{◌≡◌, ◌+◌, ◌≤◌, IfSome, Some};
 ghost use Rattle.loadng_messages.specs.declared.message.Message.TheVariants as message;
 ghost use Rattle.node_rules.specs.declared.heard.Heard.TheVariants as heard;
 ghost use Rattle.node_rules.specs.Drafts as drafts;
 ghost use Rattle.node_rules.specs.Hearing as hearing;
 ghost use Rattle.routing_set.specs.RoutingSet as routes;
-ghost use Rattle.node_rules.specs.Carrying.{Carries, nothing};
-ghost use Rattle.node_rules.specs.Agreement.{Agrees};
+ghost use Rattle.node_rules.specs.Carrying.{Carries};
+ghost use Rattle.plc_station.specs.Ready.{After, ReadyToAnswer, ReadyToSend};
 ghost use Rattle.plc_base.specs.declared.limits.TheConstants.{GREATEST_COUNTER};
 
 use crate::sealing::seal_message;
@@ -36,14 +36,11 @@ fn hop_left(routing: &RoutingSet, by: Short, lost: Short, to: Short) -> Option<S
 impl<K: Keeper + Drop> Station<K> {
     // The route to the lost address ends, and the error ends here.
     fn lose(&mut self, by: Short, lost: Short, out: &Out) -> Result<Heard<'static>, Dropped>
-        requires running { IsSome self.old.memory }
-        requires agrees { Agrees self.old }
-        requires empty { out.now ≡ nothing }
+        requires ready { ReadyToAnswer self.old out.now }
         ensures carries { IfSome self.old.memory
             (λ l. Carries self.old (drafts.sealing drafts.alone hearing.dropped
             (hearing.loses lost by l) heard.Broken) result out.now self.new) }
-        ensures agrees { Agrees self.new }
-        ensures replied { self.new.replied ≡ self.old.replied }
+        ensures after { After self.old self.new }
     {
         self.parts.routing.invalidate(lost, by);
         Ok(Heard::Broken)
@@ -59,15 +56,11 @@ impl<K: Keeper + Drop> Station<K> {
         hop: Short,
         out: &mut Out,
     ) -> Result<Heard<'static>, Dropped>
-        requires running { IsSome self.old.memory }
-        requires agrees { Agrees self.old }
-        requires ring { IfSome self.old.memory (λ l. l.ring ≡ Some grant.now) }
+        requires ready { ReadyToSend self.old grant.now out.old }
         requires left { IfSome self.old.memory (λ l. l.counter.next + 1 ≤ GREATEST_COUNTER) }
-        requires empty { out.old ≡ nothing }
         ensures carries { IfSome self.old.memory (λ l. Carries self.old (drafts.sealing drafts.alone hearing.dropped
             (drafts.send_message hop (message.Rerr lost to) (hearing.loses lost by l)) heard.Broken) result out.new self.new) }
-        ensures agrees { Agrees self.new }
-        ensures replied { self.new.replied ≡ self.old.replied }
+        ensures after { After self.old self.new }
     {
         self.halted = true;
         let Ok(counter) = self.parts.counter.reserve(&mut self.keeper, 1) else {
@@ -99,14 +92,10 @@ impl<K: Keeper + Drop> Station<K> {
         to: Short,
         out: &mut Out,
     ) -> Result<Heard<'static>, Dropped>
-        requires running { IsSome self.old.memory }
-        requires agrees { Agrees self.old }
-        requires ring { IfSome self.old.memory (λ l. l.ring ≡ Some grant.now) }
-        requires empty { out.old ≡ nothing }
+        requires ready { ReadyToSend self.old grant.now out.old }
         ensures carries { IfSome self.old.memory
             (λ l. Carries self.old (hearing.hear_error l grant.now.address by lost to) result out.new self.new) }
-        ensures agrees { Agrees self.new }
-        ensures replied { self.new.replied ≡ self.old.replied }
+        ensures after { After self.old self.new }
     {
         let left = self.parts.counter.left();
         if to.number() == grant.address.number() {

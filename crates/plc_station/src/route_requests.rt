@@ -1,13 +1,14 @@
 //! What a station makes of route requests.
-ghost use Rattle.std.specs.Prelude.{◌≡◌, ◌==◌, ◌||◌, not, ◌+◌, ◌<◌, ◌≤◌, true, false, Some, None, Ok, Err, IfSome, IsSome, length};
+ghost use Rattle.std.specs.Prelude.{◌≡◌, ◌==◌, ◌||◌, not, ◌+◌, ◌<◌, ◌≤◌, true, false, Some, None, Ok, Err, IfSome, length};
 ghost use Rattle.loadng_messages.specs.declared.message.Message.TheVariants as message;
 ghost use Rattle.node_rules.specs.Drafts as drafts;
 ghost use Rattle.node_rules.specs.Hearing as hearing;
 ghost use Rattle.routing_set.specs.RoutingSet as routing;
 ghost use Rattle.fragment_buffers.specs.Waiting.{leaving};
-ghost use Rattle.node_rules.specs.Carrying.{Carries, nothing};
+ghost use Rattle.node_rules.specs.Carrying.{Carries};
 ghost use Rattle.plc_station.specs.Hears.{Hears, reply_sent_by};
 ghost use Rattle.node_rules.specs.Agreement.{Agrees};
+ghost use Rattle.plc_station.specs.Ready.{ReadyToSend};
 ghost use Rattle.group_keys.specs.KeyRing as ring;
 ghost use Rattle.plc_base.specs.declared.limits.TheConstants.{GREATEST_COUNTER};
 
@@ -31,16 +32,13 @@ impl<K: Keeper + Drop> Station<K> {
         now: u64,
         out: &mut Out,
     ) -> Result<(), Dropped>
-        requires running { IsSome self.old.memory }
-        requires agrees { Agrees self.old }
-        requires ring { IfSome self.old.memory (λ l. l.ring ≡ Some grant.now) }
+        requires ready { ReadyToSend self.old grant.now out.old }
         requires better { IfSome self.old.memory (λ l. routing.is_better l.routing origin rank ≡ true) }
         requires room { IfSome self.old.memory (λ l. routing.is_full l.routing origin now ≡ false) }
         requires valid { 1 ≤ rank.number }
         requires number { IfSome self.old.memory (λ l. l.own_number.last < 65535) }
         requires left { IfSome self.old.memory
             (λ l. l.counter.next + (length (leaving grant.now.address origin by l.waiting) + 1) ≤ GREATEST_COUNTER) }
-        requires empty { out.old ≡ nothing }
         requires fresh { self.old.replied ≡ None }
         ensures carries { IfSome self.old.memory (λ l. Carries self.old (drafts.sealing drafts.alone hearing.dropped
             (drafts.send_message by (message.Rrep (l.own_number.last + 1) 0 grant.now.address origin)
@@ -115,11 +113,8 @@ impl<K: Keeper + Drop> Station<K> {
         now: u64,
         out: &mut Out,
     ) -> Result<Heard<'static>, Dropped>
-        requires running { IsSome self.old.memory }
-        requires agrees { Agrees self.old }
-        requires ring { IfSome self.old.memory (λ l. l.ring ≡ Some grant.now) }
+        requires ready { ReadyToSend self.old grant.now out.old }
         requires valid { 1 ≤ number }
-        requires empty { out.old ≡ nothing }
         requires fresh { self.old.replied ≡ None }
         ensures hears { IfSome self.old.memory
             (λ l. Hears self.old (hearing.hear_request l grant.now.address by origin dest

@@ -1,5 +1,5 @@
 //! Seals what one call of a station sends.
-ghost use Rattle.std.specs.Prelude.{◌≡◌, ◌≢◌, ◌+◌, ◌<◌, ◌≤◌, ◌++◌, ◌∷◌, [], Some, length, map};
+ghost use Rattle.std.specs.Prelude.{◌≡◌, ◌+◌, ◌<◌, ◌≤◌, ◌++◌, ◌∷◌, [], Some, length, map};
 ghost use Rattle.mesh_header.specs.declared.unit.Unit.TheVariants as mesh;
 ghost use Rattle.loadng_messages.specs.Grammar as messages;
 ghost use Rattle.loadng_messages.specs.declared.message.Message.TheVariants as message;

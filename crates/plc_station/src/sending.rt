@@ -1,12 +1,13 @@
 //! What a station sends by itself.
-ghost use Rattle.std.specs.Prelude.{◌≡◌, ◌+◌, ◌<◌, ◌≤◌, ◌==◌, ◌||◌, nat_lt, true, false, Some, None, Ok, Err, IfSome, IfNone, IsSome, length, is_some};
+ghost use Rattle.std.specs.Prelude.{◌≡◌, ◌+◌, ◌<◌, ◌≤◌, ◌==◌, ◌||◌, nat_lt, true, false, Some, Ok, Err, IfSome, IfNone, length};
 ghost use Rattle.fragment_buffers.specs.Cutting.{pieces_of};
-ghost use Rattle.node_rules.specs.Memory.{Datagram, next_hop};
+ghost use Rattle.node_rules.specs.Memory.{Datagram};
 ghost use Rattle.node_rules.specs.Drafts as drafts;
 ghost use Rattle.node_rules.specs.Calls as calls;
 ghost use Rattle.node_rules.specs.declared.heard.SentHow.TheVariants as how;
 ghost use Rattle.node_rules.specs.Carrying.{Carries, nothing};
 ghost use Rattle.node_rules.specs.Agreement.{Agrees};
+ghost use Rattle.plc_station.specs.Ready.{After, ReadyToAnswer, ReadyToSend};
 ghost use Rattle.plc_base.specs.declared.limits.TheConstants.{GREATEST_COUNTER, LONGEST_DATAGRAM};
 
 use crate::sealing::{seal_datagram, seal_request};
@@ -33,18 +34,14 @@ impl<K: Keeper + Drop> Station<K> {
         note: u32,
         out: &mut Out,
     ) -> Result<SentHow, SendRefusal>
-        requires running { IsSome self.old.memory }
-        requires agrees { Agrees self.old }
-        requires ring { IfSome self.old.memory (λ l. l.ring ≡ Some grant.now) }
+        requires ready { ReadyToSend self.old grant.now out.old }
         requires some { 1 ≤ length datagram.now }
         requires fits { length datagram.now ≤ LONGEST_DATAGRAM }
         requires left { IfSome self.old.memory (λ l. l.counter.next + pieces_of (length datagram.now) ≤ GREATEST_COUNTER) }
-        requires empty { out.old ≡ nothing }
         ensures carries { IfSome self.old.memory (λ l. Carries self.old (drafts.sealing drafts.alone calls.sending_ends
             (drafts.body_goes grant.now.address hop to note (Datagram datagram.now l.next_tag)
             (calls.tag_taken datagram.now (drafts.empty_draft l))) how.Sent) result out.new self.new) }
-        ensures agrees { Agrees self.new }
-        ensures replied { self.new.replied ≡ self.old.replied }
+        ensures after { After self.old self.new }
     {
         self.halted = true;
         let Ok(tag) = self.parts.next_tag.take(&mut self.keeper, datagram.len()) else {
@@ -72,17 +69,14 @@ impl<K: Keeper + Drop> Station<K> {
         now: u64,
         out: &mut Out,
     ) -> Result<SentHow, SendRefusal>
-        requires running { IsSome self.old.memory }
-        requires agrees { Agrees self.old }
+        requires ready { ReadyToAnswer self.old out.old }
         requires some { 1 ≤ length datagram.now }
         requires fits { length datagram.now ≤ LONGEST_DATAGRAM }
         requires room { IfSome self.old.memory (λ l. drafts.no_room l (length datagram.now) ≡ false) }
-        requires empty { out.old ≡ nothing }
         ensures carries { IfSome self.old.memory (λ l. Carries self.old (drafts.sealing drafts.alone calls.sending_ends
             (drafts.waits to note (Datagram datagram.now l.next_tag) now
             (calls.tag_taken datagram.now (drafts.empty_draft l))) how.Waiting) result out.new self.new) }
-        ensures agrees { Agrees self.new }
-        ensures replied { self.new.replied ≡ self.old.replied }
+        ensures after { After self.old self.new }
     {
         self.halted = true;
         let Ok(tag) = self.parts.next_tag.take(&mut self.keeper, datagram.len()) else {
@@ -103,21 +97,17 @@ impl<K: Keeper + Drop> Station<K> {
         now: u64,
         out: &mut Out,
     ) -> Result<SentHow, SendRefusal>
-        requires running { IsSome self.old.memory }
-        requires agrees { Agrees self.old }
-        requires ring { IfSome self.old.memory (λ l. l.ring ≡ Some grant.now) }
+        requires ready { ReadyToSend self.old grant.now out.old }
         requires some { 1 ≤ length datagram.now }
         requires fits { length datagram.now ≤ LONGEST_DATAGRAM }
         requires room { IfSome self.old.memory (λ l. drafts.no_room l (length datagram.now) ≡ false) }
         requires number { IfSome self.old.memory (λ l. l.own_number.last < 65535) }
         requires left { IfSome self.old.memory (λ l. l.counter.next + 1 ≤ GREATEST_COUNTER) }
-        requires empty { out.old ≡ nothing }
         ensures carries { IfSome self.old.memory (λ l. Carries self.old (drafts.sealing drafts.alone calls.sending_ends
             (drafts.waits to note (Datagram datagram.now l.next_tag) now
             (drafts.seeks grant.now.address to
             (calls.tag_taken datagram.now (drafts.empty_draft l)))) how.Waiting) result out.new self.new) }
-        ensures agrees { Agrees self.new }
-        ensures replied { self.new.replied ≡ self.old.replied }
+        ensures after { After self.old self.new }
     {
         self.halted = true;
         let Ok(tag) = self.parts.next_tag.take(&mut self.keeper, datagram.len()) else {
@@ -145,15 +135,11 @@ impl<K: Keeper + Drop> Station<K> {
         now: u64,
         out: &mut Out,
     ) -> Result<SentHow, SendRefusal>
-        requires running { IsSome self.old.memory }
-        requires agrees { Agrees self.old }
-        requires ring { IfSome self.old.memory (λ l. l.ring ≡ Some grant.now) }
-        requires empty { out.old ≡ nothing }
+        requires ready { ReadyToSend self.old grant.now out.old }
         ensures carries { IfSome self.old.memory
             (λ l. Carries self.old
             (calls.send_from l grant.now.address to datagram.now note now) result out.new self.new) }
-        ensures agrees { Agrees self.new }
-        ensures replied { self.new.replied ≡ self.old.replied }
+        ensures after { After self.old self.new }
     {
         if has_bad_size(datagram) {
             return Err(SendRefusal::BadSize);
@@ -200,8 +186,7 @@ impl<K: Keeper + Drop> Station<K> {
             ((result ≡ Err SendRefusal.Halted) × (out.new ≡ nothing) × (self.new ≡ self.old)) }
         ensures carries { IfSome self.old.memory
             (λ l. Carries self.old (calls.send l to datagram.now note now) result out.new self.new) }
-        ensures agrees { Agrees self.new }
-        ensures replied { self.new.replied ≡ self.old.replied }
+        ensures after { After self.old self.new }
     {
         out.clear();
         if self.halted {

@@ -105,18 +105,18 @@ fn coordinator_hears(mut node: Coordinator<Flash>, count: usize) {
 
 #[test]
 fn a_halted_node_stops() {
-    stops("plc_station: hear: running", || station_hears(halted().station(), 1));
-    stops("plc_station: send_local: running", || halted().station().send_local(3, None, &[1], &mut Out::new()));
-    stops("plc_station: preset_counter: running", || halted().station().preset_counter(1));
-    stops("plc_station: preset_number: running", || halted().station().preset_number(1));
-    stops("plc_station: preset_near: running", || halted().station().preset_near(address(1), cost(), 0));
-    stops("plc_station: install: running", || halted().station().install(&grant()));
-    stops("plc_station: put_key: running", || halted().station().put_key(KeyIndex::first(), &key()));
-    stops("plc_station: activate: running", || halted().station().activate(KeyIndex::first()));
-    stops("plc_station: leave: running", || halted().station().leave());
-    stops("meter_node: hear: running", || meter_hears(halted(), sealed(), 1));
-    stops("meter_node: provision: running", || halted().provision(&grant()));
-    stops("coordinator: hear: running", || {
+    stops("plc_station: hear: ready", || station_hears(halted().station(), 1));
+    stops("plc_station: send_local: ready", || halted().station().send_local(3, None, &[1], &mut Out::new()));
+    stops("plc_station: preset_counter: ready", || halted().station().preset_counter(1));
+    stops("plc_station: preset_number: ready", || halted().station().preset_number(1));
+    stops("plc_station: preset_near: ready", || halted().station().preset_near(address(1), cost(), 0));
+    stops("plc_station: install: ready", || halted().station().install(&grant()));
+    stops("plc_station: put_key: ready", || halted().station().put_key(KeyIndex::first(), &key()));
+    stops("plc_station: activate: ready", || halted().station().activate(KeyIndex::first()));
+    stops("plc_station: leave: ready", || halted().station().leave());
+    stops("meter_node: hear: ready", || meter_hears(halted(), sealed(), 1));
+    stops("meter_node: provision: ready", || halted().provision(&grant()));
+    stops("coordinator: hear: ready", || {
         let mut node = coordinator();
         node.station().halt();
         coordinator_hears(node, 1);
@@ -132,7 +132,7 @@ fn a_node_without_an_address_stops() {
 
 #[test]
 fn a_coordinator_that_has_not_address_0000_stops() {
-    stops("coordinator: hear: holds", || coordinator_hears(homeless(), 1));
+    stops("coordinator: hear: ready", || coordinator_hears(homeless(), 1));
     stops("coordinator: challenge: holds", || homeless().challenge(Eui([2; 8]), 0, &mut Out::new()));
     stops("coordinator: tick: holds", || homeless().tick(0));
     stops("coordinator: allow: holds", || homeless().allow(Eui([2; 8]), &key()));

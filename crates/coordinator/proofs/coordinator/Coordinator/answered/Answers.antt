@@ -10,19 +10,20 @@ pub returns-in_default-clause-carries : goal.returns-in_default-clause-carries
 returns-in_default-clause-carries g c =
     if_some (node_of c.args.self.now).memory _ (λ m running. refusal dropped (node_of c.args.self.now) m NotAllowed _ _ running
     (not_allowed (identity_of c.args.self.now) m c.args.eui c.args.packet.now c.args.now
-    (at_some (node_of c.args.self.now).memory _ m running c.in_default.ensures.entry)) c.requires.empty)
+    (at_some (node_of c.args.self.now).memory _ m running c.in_default.ensures.entry)) c.requires.ready.empty)
 
 pub returns-in_default-session_of-clause-carries : goal.returns-in_default-session_of-clause-carries
 returns-in_default-session_of-clause-carries g c =
     if_some (node_of c.args.self.now).memory _ (λ m running. refusal dropped (node_of c.args.self.now) m NoSession _ _ running
     (no_session (identity_of c.args.self.now) m c.args.eui c.args.packet.now c.args.now _
     (at_some (node_of c.args.self.now).memory _ m running c.in-Some.ensures.entry)
-    (at_some (node_of c.args.self.now).memory _ m running c.in_default-session_of.ensures)) c.requires.empty)
+    (at_some (node_of c.args.self.now).memory _ m running c.in_default-session_of.ensures)) c.requires.ready.empty)
 
 pub take_packet-requires-clause-served : goal.take_packet-requires-clause-served
 take_packet-requires-clause-served g c =
     if_some (node_of c.args.self.now).memory _ (λ m running. served m c.args.eui _ _
-    (at_some (node_of c.args.self.now).memory _ m running c.requires.holds).home (at_some (node_of c.args.self.now).memory _ m running c.in-Some.ensures.entry)
+    (at_some (node_of c.args.self.now).memory _ m running c.requires.ready.holds).home
+    (at_some (node_of c.args.self.now).memory _ m running c.in-Some.ensures.entry)
     (at_some (node_of c.args.self.now).memory _ m running c.in-Some-session_of.ensures))
 
 pub returns-clause-carries : goal.returns-clause-carries

@@ -9,17 +9,18 @@ use Rattle.coordinator.proofs.coordinator.Coordinator.decline.Goals as goal
 pub returns-in-Err-clause-carries : goal.returns-in-Err-clause-carries
 returns-in-Err-clause-carries g c =
     if_some (node_of c.args.self.now).memory _ (λ m running. refusal dropped (node_of c.args.self.now) m _ _ _ running
-    (decline_lacks m c.args.way.now c.args.eui c.args.now (node_of c.args.self.now) _ (at_some (node_of c.args.self.now).memory _ m running c.requires.holds)
-    (at_some (node_of c.args.self.now).memory _ m running c.in-Err.ensures.refused)) c.requires.empty)
+    (decline_lacks m c.args.way.now c.args.eui c.args.now (node_of c.args.self.now) _
+    (at_some (node_of c.args.self.now).memory _ m running c.requires.ready.holds)
+    (at_some (node_of c.args.self.now).memory _ m running c.in-Err.ensures.refused)) c.requires.ready.empty)
 
 pub returns-in_default-clause-carries : goal.returns-in_default-clause-carries
 returns-in_default-clause-carries g c =
     if_some (node_of c.args.self.now).memory _ (λ m running. declined m c.args.way.now c.args.eui c.args.now (node_of c.args.self.now) _ c.new.result (Err _) _
-    (at_some (node_of c.args.self.now).memory _ m running c.requires.holds) running c.new.ensures
+    (at_some (node_of c.args.self.now).memory _ m running c.requires.ready.holds) running c.new.ensures
     (at_some (node_of c.args.self.now).memory _ m running c.in-Ok.ensures.room) c.in_default.ensures.carries)
 
 pub returns-clause-carries : goal.returns-clause-carries
 returns-clause-carries g c =
     if_some (node_of c.args.self.now).memory _ (λ m running. declined m c.args.way.now c.args.eui c.args.now (node_of c.args.self.now) _ c.new.result (Ok _) _
-    (at_some (node_of c.args.self.now).memory _ m running c.requires.holds) running c.new.ensures
+    (at_some (node_of c.args.self.now).memory _ m running c.requires.ready.holds) running c.new.ensures
     (at_some (node_of c.args.self.now).memory _ m running c.in-Ok.ensures.room) c.in-Ok-say.ensures.carries)

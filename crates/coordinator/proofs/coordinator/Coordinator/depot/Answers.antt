@@ -28,11 +28,15 @@ returns-in_default-clause-carries g c =
     (c.allowed-entry.ensures ∙ ap (book.allowed_entry c.args.eui c.args.psk.now) (at_some (node_of c.args.self.now).memory _ m running c.entry.ensures))
     (at_some (node_of c.args.self.now).memory _ m running c.in_default.ensures.does))
 
-pub issue-requires-clause-running : goal.issue-requires-clause-running
-issue-requires-clause-running g c =
-    by_some (node_of c.args.self.now).memory _ c.if-halted.ensures
-    (λ m running. runs (node_of c.args.self.now) _ (changed m c.allowed-entry.result)
-    (at_some (node_of c.args.self.now).memory _ m running c.in-Ok.ensures.does))
+pub issue-requires-clause-ready : goal.issue-requires-clause-ready
+issue-requires-clause-ready g c =
+    record {
+      running =
+          by_some (node_of c.args.self.now).memory _ c.if-halted.ensures
+          (λ m running. runs (node_of c.args.self.now) _ (changed m c.allowed-entry.result)
+          (at_some (node_of c.args.self.now).memory _ m running c.in-Ok.ensures.does));
+      holds = c.in-Ok.ensures.holds;
+    }
 
 pub issue-requires-clause-allowed : goal.issue-requires-clause-allowed
 issue-requires-clause-allowed g c =

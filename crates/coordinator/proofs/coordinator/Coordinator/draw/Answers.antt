@@ -12,16 +12,18 @@ use Rattle.coordinator.proofs.Parts.{part_runs, part_agrees, part_joined, part_h
 use Rattle.coordinator.proofs.Within.{within_carried, ring_plan, home_holds, ring_keeps, ring_home, keyed_home}
 use Rattle.coordinator.proofs.coordinator.Coordinator.draw.Goals as goal
 
-pub put_key-requires-clause-running : goal.put_key-requires-clause-running
-put_key-requires-clause-running g c = part_runs c.self.inside.station.memory _ (rw (← c.self.view_is) at c.requires.running)
-
-pub put_key-requires-clause-agrees : goal.put_key-requires-clause-agrees
-put_key-requires-clause-agrees g c =
-    part_agrees c.self.inside.randoms c.self.inside.sessions c.self.inside.book _ c.self.inside.station.memory (rw (← c.self.view_is) at c.requires.holds)
+pub put_key-requires-clause-ready : goal.put_key-requires-clause-ready
+put_key-requires-clause-ready g c =
+    record {
+      running = part_runs c.self.inside.station.memory _ (rw (← c.self.view_is) at c.requires.ready.running);
+      agrees =
+          part_agrees c.self.inside.randoms c.self.inside.sessions c.self.inside.book _ c.self.inside.station.memory
+          (rw (← c.self.view_is) at c.requires.ready.holds);
+    }
 
 pub put_key-requires-clause-joined : goal.put_key-requires-clause-joined
 put_key-requires-clause-joined g c =
-    part_joined c.self.inside.randoms c.self.inside.sessions c.self.inside.book _ c.self.inside.station.memory (rw (← c.self.view_is) at c.requires.holds)
+    part_joined c.self.inside.randoms c.self.inside.sessions c.self.inside.book _ c.self.inside.station.memory (rw (← c.self.view_is) at c.requires.ready.holds)
 
 pub returns-in_default-clause-carries : goal.returns-in_default-clause-carries
 returns-in_default-clause-carries g c =
@@ -43,36 +45,38 @@ returns-clause-carries g c =
 
 pub returns-in_default-clause-holds : goal.returns-in_default-clause-holds
 returns-in_default-clause-holds g c =
-    by_some c.self.inside.station.memory _ (part_runs c.self.inside.station.memory _ (rw (← c.self.view_is) at c.requires.running)) (λ l running.
+    by_some c.self.inside.station.memory _ (part_runs c.self.inside.station.memory _ (rw (← c.self.view_is) at c.requires.ready.running)) (λ l running.
     home_holds c.self.inside.station _ _ (memory_in c.self.inside.randoms c.self.inside.sessions c.self.inside.book) _ nothing c.self.inside.book (λ n. refl)
     (λ n. refl) (at_some c.self.inside.station.memory _ l running c.in_default.ensures.carries)
     (ring_keeps ringing_ends tt l (with_key l.ring c.args.index c.args.key.now)
     (keyed_home l.ring c.args.index c.args.key.now (part_home c.self.inside.randoms c.self.inside.sessions c.self.inside.book _ c.self.inside.station.memory l
-    running (rw (← c.self.view_is) at c.requires.holds)))) (part_book c.self.inside.randoms c.self.inside.sessions c.self.inside.book _
-    c.self.inside.station.memory (rw (← c.self.view_is) at c.requires.running) (rw (← c.self.view_is) at c.requires.holds)) c.in_default.ensures.agrees)
+    running (rw (← c.self.view_is) at c.requires.ready.holds)))) (part_book c.self.inside.randoms c.self.inside.sessions c.self.inside.book _
+    c.self.inside.station.memory (rw (← c.self.view_is) at c.requires.ready.running) (rw (← c.self.view_is) at c.requires.ready.holds))
+    c.in_default.ensures.after.agrees)
 
 pub returns-clause-holds : goal.returns-clause-holds
 returns-clause-holds g c =
-    by_some c.self.inside.station.memory _ (part_runs c.self.inside.station.memory _ (rw (← c.self.view_is) at c.requires.running)) (λ l running.
+    by_some c.self.inside.station.memory _ (part_runs c.self.inside.station.memory _ (rw (← c.self.view_is) at c.requires.ready.running)) (λ l running.
     home_holds c.self.inside.station _ _ (memory_in c.self.inside.randoms c.self.inside.sessions c.self.inside.book) _ nothing c.self.inside.book (λ n. refl)
     (λ n. refl) (at_some c.self.inside.station.memory _ l running c.in-Ok.ensures.carries)
     (ring_keeps ringing_ends tt l (with_key l.ring c.args.index c.args.key.now)
     (keyed_home l.ring c.args.index c.args.key.now (part_home c.self.inside.randoms c.self.inside.sessions c.self.inside.book _ c.self.inside.station.memory l
-    running (rw (← c.self.view_is) at c.requires.holds)))) (part_book c.self.inside.randoms c.self.inside.sessions c.self.inside.book _
-    c.self.inside.station.memory (rw (← c.self.view_is) at c.requires.running) (rw (← c.self.view_is) at c.requires.holds)) c.in-Ok.ensures.agrees)
+    running (rw (← c.self.view_is) at c.requires.ready.holds)))) (part_book c.self.inside.randoms c.self.inside.sessions c.self.inside.book _
+    c.self.inside.station.memory (rw (← c.self.view_is) at c.requires.ready.running) (rw (← c.self.view_is) at c.requires.ready.holds))
+    c.in-Ok.ensures.after.agrees)
 
 pub returns-in_default-clause-home : goal.returns-in_default-clause-home
 returns-in_default-clause-home g c =
-    rw (← c.self.view_is) (by_some c.self.inside.station.memory _ (part_runs c.self.inside.station.memory _ (rw (← c.self.view_is) at c.requires.running))
+    rw (← c.self.view_is) (by_some c.self.inside.station.memory _ (part_runs c.self.inside.station.memory _ (rw (← c.self.view_is) at c.requires.ready.running))
     (λ l running.
     ring_home (with_key l.ring c.args.index c.args.key.now) _ _ (keyed_home l.ring c.args.index c.args.key.now
     (part_home c.self.inside.randoms c.self.inside.sessions c.self.inside.book _ c.self.inside.station.memory l running
-    (rw (← c.self.view_is) at c.requires.holds))) (at_some c.self.inside.station.memory _ l running c.in_default.ensures.either)))
+    (rw (← c.self.view_is) at c.requires.ready.holds))) (at_some c.self.inside.station.memory _ l running c.in_default.ensures.either)))
 
 pub returns-clause-home : goal.returns-clause-home
 returns-clause-home g c =
-    rw (← c.self.view_is) (by_some c.self.inside.station.memory _ (part_runs c.self.inside.station.memory _ (rw (← c.self.view_is) at c.requires.running))
+    rw (← c.self.view_is) (by_some c.self.inside.station.memory _ (part_runs c.self.inside.station.memory _ (rw (← c.self.view_is) at c.requires.ready.running))
     (λ l running.
     ring_home (with_key l.ring c.args.index c.args.key.now) _ _ (keyed_home l.ring c.args.index c.args.key.now
     (part_home c.self.inside.randoms c.self.inside.sessions c.self.inside.book _ c.self.inside.station.memory l running
-    (rw (← c.self.view_is) at c.requires.holds))) (at_some c.self.inside.station.memory _ l running c.in-Ok.ensures.either)))
+    (rw (← c.self.view_is) at c.requires.ready.holds))) (at_some c.self.inside.station.memory _ l running c.in-Ok.ensures.either)))

@@ -15,29 +15,36 @@ returns-in-Err-clause-carries g c =
     rw (← c.session.view_is) (if_some (node_of c.args.self.now).memory _
     (λ m running. refusal dropped (node_of c.args.self.now) m _ _ _ running
     (keys_lack (node_of c.args.self.now) m s c.args.entry c.args.message.now c.args.grant c.args.tags c.args.now
-    (at_some (node_of c.args.self.now).memory _ m running c.requires.holds) _ (at_some (node_of c.args.self.now).memory _ m running c.in-Err.ensures.refused))
-    c.requires.empty))
+    (at_some (node_of c.args.self.now).memory _ m running c.requires.ready.holds) _
+    (at_some (node_of c.args.self.now).memory _ m running c.in-Err.ensures.refused))
+    c.requires.ready.empty))
 
 pub returns-in_default-clause-carries : goal.returns-in_default-clause-carries
 returns-in_default-clause-carries g c =
     let s : CoordinatorSession = record { server = c.session.inside.server; way = c.session.inside.way; since = c.session.inside.since } in
     rw (← c.session.view_is) (if_some (node_of c.args.self.now).memory _
     (λ m running. keys_stopped (node_of c.args.self.now) m s c.args.entry c.args.message.now c.args.grant c.args.tags c.args.now
-    (at_some (node_of c.args.self.now).memory _ m running c.requires.holds) _ _ (at_some (node_of c.args.self.now).memory _ m running c.in-Ok.ensures.room)
+    (at_some (node_of c.args.self.now).memory _ m running c.requires.ready.holds) _ _
+    (at_some (node_of c.args.self.now).memory _ m running c.in-Ok.ensures.room)
     (at_some (node_of c.args.self.now).memory _ m running (rw (← c.session.view_is) at c.in_default.ensures.does))
-    (λ i. record { frames = (c.requires.empty i).frames; tags = record { made = c.clear.ensures i; opened = c.args.tags.opened } })))
+    (λ i. record { frames = (c.requires.ready.empty i).frames; tags = record { made = c.clear.ensures i; opened = c.args.tags.opened } })))
 
-pub say-requires-clause-running : goal.say-requires-clause-running
-say-requires-clause-running g c =
-    let s : CoordinatorSession = record { server = c.session.inside.server; way = c.session.inside.way; since = c.session.inside.since } in
-    by_some (node_of c.args.self.now).memory _ c.requires.running (λ m running. runs (node_of c.args.self.now) _ (noting m s c.args.entry)
-    (at_some (node_of c.args.self.now).memory _ m running (rw (← c.session.view_is) at c.in-Ok-note_keys.ensures.does)))
+pub say-requires-clause-ready : goal.say-requires-clause-ready
+say-requires-clause-ready g c =
+    record {
+      running =
+          let s : CoordinatorSession = record { server = c.session.inside.server; way = c.session.inside.way; since = c.session.inside.since } in
+          by_some (node_of c.args.self.now).memory _ c.requires.ready.running (λ m running. runs (node_of c.args.self.now) _ (noting m s c.args.entry)
+          (at_some (node_of c.args.self.now).memory _ m running (rw (← c.session.view_is) at c.in-Ok-note_keys.ensures.does)));
+      holds = c.in-Ok-note_keys.ensures.holds;
+      empty = c.requires.ready.empty;
+    }
 
 pub say-requires-clause-room : goal.say-requires-clause-room
 say-requires-clause-room g c =
     let s : CoordinatorSession = record { server = c.session.inside.server; way = c.session.inside.way; since = c.session.inside.since } in
-    by_some (node_of c.args.self.now).memory _ c.requires.running (λ m running. keys_room_by (node_of c.args.self.now) m s c.args.entry c.args.message.now
-    c.args.grant c.args.tags c.args.now (at_some (node_of c.args.self.now).memory _ m running c.requires.holds)
+    by_some (node_of c.args.self.now).memory _ c.requires.ready.running (λ m running. keys_room_by (node_of c.args.self.now) m s c.args.entry c.args.message.now
+    c.args.grant c.args.tags c.args.now (at_some (node_of c.args.self.now).memory _ m running c.requires.ready.holds)
     (record { server = c.session-2.inside.server; way = c.session-2.inside.way; since = c.session-2.inside.since })
     (c.session.view_is ∙ sym c.session-2.view_is) _ (at_some (node_of c.args.self.now).memory _ m running
     (rw (← c.session.view_is) at c.in-Ok-note_keys.ensures.does)) (at_some (node_of c.args.self.now).memory _ m running c.in-Ok.ensures.room))
@@ -47,7 +54,7 @@ returns-in_default-say-clause-carries g c =
     let s : CoordinatorSession = record { server = c.session.inside.server; way = c.session.inside.way; since = c.session.inside.since } in
     rw (← c.session.view_is) (if_some (node_of c.args.self.now).memory _
     (λ m running. keys_given_by (node_of c.args.self.now) m s c.args.entry c.args.message.now c.args.grant c.args.tags c.args.now
-    (at_some (node_of c.args.self.now).memory _ m running c.requires.holds)
+    (at_some (node_of c.args.self.now).memory _ m running c.requires.ready.holds)
     (record { server = c.session-2.inside.server; way = c.session-2.inside.way; since = c.session-2.inside.since })
     (c.session.view_is ∙ sym c.session-2.view_is) _ _ (Err _) _ (at_some (node_of c.args.self.now).memory _ m running c.in-Ok.ensures.room)
     (at_some (node_of c.args.self.now).memory _ m running (rw (← c.session.view_is) at c.in-Ok-note_keys.ensures.does)) c.in_default-say.ensures.carries))
@@ -57,7 +64,7 @@ returns-clause-carries g c =
     let s : CoordinatorSession = record { server = c.session.inside.server; way = c.session.inside.way; since = c.session.inside.since } in
     rw (← c.session.view_is) (if_some (node_of c.args.self.now).memory _
     (λ m running. keys_given_by (node_of c.args.self.now) m s c.args.entry c.args.message.now c.args.grant c.args.tags c.args.now
-    (at_some (node_of c.args.self.now).memory _ m running c.requires.holds)
+    (at_some (node_of c.args.self.now).memory _ m running c.requires.ready.holds)
     (record { server = c.session-2.inside.server; way = c.session-2.inside.way; since = c.session-2.inside.since })
     (c.session.view_is ∙ sym c.session-2.view_is) _ _ (Ok _) _ (at_some (node_of c.args.self.now).memory _ m running c.in-Ok.ensures.room)
     (at_some (node_of c.args.self.now).memory _ m running (rw (← c.session.view_is) at c.in-Ok-note_keys.ensures.does)) c.in-Ok-say.ensures.carries))

@@ -10,19 +10,26 @@ use Rattle.coordinator.proofs.Parts.{part_runs}
 use Rattle.coordinator.proofs.HearingRules.{runs_on, nothing_out, heard_joining, heard_other, never_itself, replied_other}
 use Rattle.coordinator.proofs.coordinator.Coordinator.hear.Goals as goal
 
-pub hear_joining-requires-clause-running : goal.hear_joining-requires-clause-running
-hear_joining-requires-clause-running g c =
-    by_some c.args.self.now.station.memory _ (part_runs c.args.self.now.station.memory _ c.requires.running) (λ l running.
-    runs_on c.args.self.now c.hear_frame-heard.new.self c.args.got.now c.args.cost c.args.note c.args.now c.hear_frame-heard.result c.hear_frame-heard.new.out
-    c.hear_frame-heard.ensures.beside l running (at_some c.args.self.now.station.memory _ l running c.hear_frame-heard.ensures.carries) c.in-Some.command.way
-    c.in-Some.command.body c.in-Some.ensures)
-
-pub hear_joining-requires-clause-empty : goal.hear_joining-requires-clause-empty
-hear_joining-requires-clause-empty g c =
-    by_some c.args.self.now.station.memory _ (part_runs c.args.self.now.station.memory _ c.requires.running) (λ l running.
-    nothing_out c.args.self.now c.hear_frame-heard.new.self c.args.got.now c.args.cost c.args.note c.args.now c.hear_frame-heard.result
-    c.hear_frame-heard.new.out c.hear_frame-heard.ensures.beside l running
-    (at_some c.args.self.now.station.memory _ l running c.hear_frame-heard.ensures.carries) c.in-Some.command.way c.in-Some.command.body c.in-Some.ensures)
+pub hear_joining-requires : goal.hear_joining-requires
+hear_joining-requires g c =
+    record {
+      ready = record {
+        running =
+            by_some c.args.self.now.station.memory _ (part_runs c.args.self.now.station.memory _ c.requires.ready.running) (λ l running.
+            runs_on c.args.self.now c.hear_frame-heard.new.self c.args.got.now c.args.cost c.args.note c.args.now c.hear_frame-heard.result
+            c.hear_frame-heard.new.out
+            c.hear_frame-heard.ensures.beside l running (at_some c.args.self.now.station.memory _ l running c.hear_frame-heard.ensures.carries)
+            c.in-Some.command.way
+            c.in-Some.command.body c.in-Some.ensures);
+        holds = c.hear_frame-heard.ensures.holds;
+        empty =
+            by_some c.args.self.now.station.memory _ (part_runs c.args.self.now.station.memory _ c.requires.ready.running) (λ l running.
+            nothing_out c.args.self.now c.hear_frame-heard.new.self c.args.got.now c.args.cost c.args.note c.args.now c.hear_frame-heard.result
+            c.hear_frame-heard.new.out c.hear_frame-heard.ensures.beside l running
+            (at_some c.args.self.now.station.memory _ l running c.hear_frame-heard.ensures.carries) c.in-Some.command.way c.in-Some.command.body
+            c.in-Some.ensures);
+      };
+    }
 
 pub returns-in-Some-clause-carries : goal.returns-in-Some-clause-carries
 returns-in-Some-clause-carries g c =

@@ -18,24 +18,24 @@ returns-clause-carries g c =
 pub returns-in-Challenge-clause-carries : goal.returns-in-Challenge-clause-carries
 returns-in-Challenge-clause-carries g c =
     if_some (node_of c.args.self.now).memory _ (λ m running. refusal dropped (node_of c.args.self.now) m BadUnit _ _ running
-    (ap (λ b. hear_join (identity_of c.args.self.now) m c.args.way.now c.args.eui b c.args.now) (sym c.in-Challenge.is)) c.requires.empty)
+    (ap (λ b. hear_join (identity_of c.args.self.now) m c.args.way.now c.args.eui b c.args.now) (sym c.in-Challenge.is)) c.requires.ready.empty)
 
 pub returns-in-Accept-clause-carries : goal.returns-in-Accept-clause-carries
 returns-in-Accept-clause-carries g c =
     if_some (node_of c.args.self.now).memory _ (λ m running. refusal dropped (node_of c.args.self.now) m BadUnit _ _ running
-    (ap (λ b. hear_join (identity_of c.args.self.now) m c.args.way.now c.args.eui b c.args.now) (sym c.in-Accept.is)) c.requires.empty)
+    (ap (λ b. hear_join (identity_of c.args.self.now) m c.args.way.now c.args.eui b c.args.now) (sym c.in-Accept.is)) c.requires.ready.empty)
 
 pub returns-in-Decline-clause-carries : goal.returns-in-Decline-clause-carries
 returns-in-Decline-clause-carries g c =
     if_some (node_of c.args.self.now).memory _ (λ m running. refusal dropped (node_of c.args.self.now) m BadUnit _ _ running
-    (ap (λ b. hear_join (identity_of c.args.self.now) m c.args.way.now c.args.eui b c.args.now) (sym c.in-Decline.is)) c.requires.empty)
+    (ap (λ b. hear_join (identity_of c.args.self.now) m c.args.way.now c.args.eui b c.args.now) (sym c.in-Decline.is)) c.requires.ready.empty)
 
 pub returns-in-Kick-clause-carries : goal.returns-in-Kick-clause-carries
 returns-in-Kick-clause-carries g c =
     if_some (node_of c.args.self.now).memory _ (λ m running. refusal dropped (node_of c.args.self.now) m BadUnit _ _ running
-    (ap (λ b. hear_join (identity_of c.args.self.now) m c.args.way.now c.args.eui b c.args.now) (sym c.in-Kick.is)) c.requires.empty)
+    (ap (λ b. hear_join (identity_of c.args.self.now) m c.args.way.now c.args.eui b c.args.now) (sym c.in-Kick.is)) c.requires.ready.empty)
 
 pub returns-in-Activate-clause-carries : goal.returns-in-Activate-clause-carries
 returns-in-Activate-clause-carries g c =
     if_some (node_of c.args.self.now).memory _ (λ m running. refusal dropped (node_of c.args.self.now) m BadUnit _ _ running
-    (ap (λ b. hear_join (identity_of c.args.self.now) m c.args.way.now c.args.eui b c.args.now) (sym c.in-Activate.is)) c.requires.empty)
+    (ap (λ b. hear_join (identity_of c.args.self.now) m c.args.way.now c.args.eui b c.args.now) (sym c.in-Activate.is)) c.requires.ready.empty)

@@ -7,22 +7,24 @@ use Rattle.coordinator.proofs.Within.{home_holds}
 use Rattle.coordinator.proofs.LineRules.{hear_keeps}
 use Rattle.coordinator.proofs.coordinator.Coordinator.hear_frame.Goals as goal
 
-pub hear-requires-clause-running : goal.hear-requires-clause-running
-hear-requires-clause-running g c =
-    part_runs c.self.inside.station.memory _ (rw (← c.self.view_is) at c.requires.running)
-
-pub hear-requires-clause-agrees : goal.hear-requires-clause-agrees
-hear-requires-clause-agrees g c =
-    part_agrees c.self.inside.randoms c.self.inside.sessions c.self.inside.book _ c.self.inside.station.memory (rw (← c.self.view_is) at c.requires.holds)
+pub hear-requires-clause-ready : goal.hear-requires-clause-ready
+hear-requires-clause-ready g c =
+    record {
+      running = part_runs c.self.inside.station.memory _ (rw (← c.self.view_is) at c.requires.ready.running);
+      agrees =
+          part_agrees c.self.inside.randoms c.self.inside.sessions c.self.inside.book _ c.self.inside.station.memory
+          (rw (← c.self.view_is) at c.requires.ready.holds);
+    }
 
 pub returns-clause-holds : goal.returns-clause-holds
 returns-clause-holds g c =
-    by_some c.self.inside.station.memory _ (part_runs c.self.inside.station.memory _ (rw (← c.self.view_is) at c.requires.running)) (λ l running.
+    by_some c.self.inside.station.memory _ (part_runs c.self.inside.station.memory _ (rw (← c.self.view_is) at c.requires.ready.running)) (λ l running.
     home_holds c.self.inside.station _ _ (memory_in c.self.inside.randoms c.self.inside.sessions c.self.inside.book) _ _ c.self.inside.book (λ n. refl)
     (λ n. refl) (at_some c.self.inside.station.memory _ l running c.hear.ensures.carries)
     (hear_keeps l (part_home c.self.inside.randoms c.self.inside.sessions c.self.inside.book _ c.self.inside.station.memory l running
-    (rw (← c.self.view_is) at c.requires.holds))
+    (rw (← c.self.view_is) at c.requires.ready.holds))
     (at_some c.self.inside.station.memory _ l running (part_agrees c.self.inside.randoms c.self.inside.sessions c.self.inside.book _
-    c.self.inside.station.memory (rw (← c.self.view_is) at c.requires.holds))).routing.ranks.short _ _ _ _)
-    (part_book c.self.inside.randoms c.self.inside.sessions c.self.inside.book _ c.self.inside.station.memory (rw (← c.self.view_is) at c.requires.running)
-    (rw (← c.self.view_is) at c.requires.holds)) c.hear.ensures.agrees)
+    c.self.inside.station.memory (rw (← c.self.view_is) at c.requires.ready.holds))).routing.ranks.short _ _ _ _)
+    (part_book c.self.inside.randoms c.self.inside.sessions c.self.inside.book _ c.self.inside.station.memory
+    (rw (← c.self.view_is) at c.requires.ready.running)
+    (rw (← c.self.view_is) at c.requires.ready.holds)) c.hear.ensures.agrees)

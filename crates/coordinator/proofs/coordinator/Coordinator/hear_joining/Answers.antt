@@ -9,12 +9,12 @@ use Rattle.coordinator.proofs.coordinator.Coordinator.hear_joining.Goals as goal
 pub returns-in_default-clause-carries : goal.returns-in_default-clause-carries
 returns-in_default-clause-carries g c =
     if_some (node_of c.args.self.now).memory _ (λ m running. refusal dropped (node_of c.args.self.now) m BadUnit _ _ running
-    (no_message (identity_of c.args.self.now) m c.args.way.now c.args.now _ c.in_default.ensures.message) c.requires.empty)
+    (no_message (identity_of c.args.self.now) m c.args.way.now c.args.now _ c.in_default.ensures.message) c.requires.ready.empty)
 
 pub returns-then-not-may_come-clause-carries : goal.returns-then-not-may_come-clause-carries
 returns-then-not-may_come-clause-carries g c =
     if_some (node_of c.args.self.now).memory _ (λ m running. refusal dropped (node_of c.args.self.now) m BadUnit _ _ running
-    (may_not_come (identity_of c.args.self.now) m c.args.way.now c.args.now _ _ c.in-Some.ensures.message c.if-not-may_come.ensures) c.requires.empty)
+    (may_not_come (identity_of c.args.self.now) m c.args.way.now c.args.now _ _ c.in-Some.ensures.message c.if-not-may_come.ensures) c.requires.ready.empty)
 
 pub returns-clause-carries : goal.returns-clause-carries
 returns-clause-carries g c =

@@ -9,21 +9,25 @@ use Rattle.coordinator.proofs.coordinator.Coordinator.kick_by_command.Goals as g
 pub returns-in_default-clause-carries : goal.returns-in_default-clause-carries
 returns-in_default-clause-carries g c =
     if_some (node_of c.args.self.now).memory _ (λ m running. ordered_stopped (node_of c.args.self.now) m c.args.entry _ c.args.to _
-    (at_some (node_of c.args.self.now).memory _ m running c.requires.holds) (at_some (node_of c.args.self.now).memory _ m running c.requires.reached)
-    c.requires.empty (at_some (node_of c.args.self.now).memory _ m running c.in_default.ensures.does))
+    (at_some (node_of c.args.self.now).memory _ m running c.requires.ready.holds) (at_some (node_of c.args.self.now).memory _ m running c.requires.reached)
+    c.requires.ready.empty (at_some (node_of c.args.self.now).memory _ m running c.in_default.ensures.does))
 
-pub send_join_message-requires-clause-running : goal.send_join_message-requires-clause-running
-send_join_message-requires-clause-running g c =
-    by_some (node_of c.args.self.now).memory _ c.requires.running
-    (λ m running. runs (node_of c.args.self.now) _ (shut_out m c.args.entry) (at_some (node_of c.args.self.now).memory _ m running c.in-Ok.ensures.does))
+pub send_join_message-requires-clause-ready : goal.send_join_message-requires-clause-ready
+send_join_message-requires-clause-ready g c =
+    record {
+      running =
+          by_some (node_of c.args.self.now).memory _ c.requires.ready.running
+          (λ m running. runs (node_of c.args.self.now) _ (shut_out m c.args.entry) (at_some (node_of c.args.self.now).memory _ m running c.in-Ok.ensures.does));
+      holds = c.in-Ok.ensures.holds;
+    }
 
 pub send_join_message-requires-clause-room : goal.send_join_message-requires-clause-room
 send_join_message-requires-clause-room g c =
-    by_some (node_of c.args.self.now).memory _ c.requires.running (λ m running. room_left (node_of c.args.self.now) m c.args.entry _ c.args.to
+    by_some (node_of c.args.self.now).memory _ c.requires.ready.running (λ m running. room_left (node_of c.args.self.now) m c.args.entry _ c.args.to
     (at_some (node_of c.args.self.now).memory _ m running c.requires.reached) (at_some (node_of c.args.self.now).memory _ m running c.in-Ok.ensures.does))
 
 pub returns-clause-carries : goal.returns-clause-carries
 returns-clause-carries g c =
     if_some (node_of c.args.self.now).memory _ (λ m running. ordered_done (node_of c.args.self.now) m c.args.entry _ _ c.args.to _ _
-    (at_some (node_of c.args.self.now).memory _ m running c.requires.holds) (at_some (node_of c.args.self.now).memory _ m running c.requires.reached)
+    (at_some (node_of c.args.self.now).memory _ m running c.requires.ready.holds) (at_some (node_of c.args.self.now).memory _ m running c.requires.reached)
     (at_some (node_of c.args.self.now).memory _ m running c.in-Ok.ensures.does) c.send_join_message.ensures.carries)

@@ -11,4 +11,4 @@ returns-in_default-clause-carries g c =
 pub returns-clause-carries : goal.returns-clause-carries
 returns-clause-carries g c =
     if_some (node_of c.args.self.now).memory _ (λ m running. silent_done (node_of c.args.self.now) m c.args.entry.now _
-    (at_some (node_of c.args.self.now).memory _ m running c.requires.holds) (at_some (node_of c.args.self.now).memory _ m running c.in-Ok.ensures.does))
+    (at_some (node_of c.args.self.now).memory _ m running c.requires.ready.holds) (at_some (node_of c.args.self.now).memory _ m running c.in-Ok.ensures.does))

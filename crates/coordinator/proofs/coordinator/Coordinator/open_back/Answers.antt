@@ -13,18 +13,23 @@ returns-in-Err-clause-carries g c =
     let s : CoordinatorSession = record { server = c.session.inside.server; way = c.session.inside.way; since = c.session.inside.since } in
     rw (← c.session.view_is) (if_some (node_of c.args.self.now).memory _ (λ m running. refusal dropped (node_of c.args.self.now) m _ _ _ running
     (challenge_lacks m s.way s.server s.since (node_of c.args.self.now) c.args.message.now _
-    (at_some (node_of c.args.self.now).memory _ m running c.requires.holds) (rw (← c.session.view_is) at c.requires.packet)
-    (at_some (node_of c.args.self.now).memory _ m running c.in-Err.ensures.refused)) c.requires.empty))
+    (at_some (node_of c.args.self.now).memory _ m running c.requires.ready.holds) (rw (← c.session.view_is) at c.requires.packet)
+    (at_some (node_of c.args.self.now).memory _ m running c.in-Err.ensures.refused)) c.requires.ready.empty))
 
-pub say-requires-clause-running : goal.say-requires-clause-running
-say-requires-clause-running g c =
-    by_some (node_of c.args.self.now).memory _ c.requires.running
-    (λ m running. session_runs (node_of c.args.self.now) _ _ (at_some (node_of c.args.self.now).memory _ m running c.begin_session.ensures.state))
+pub say-requires-clause-ready : goal.say-requires-clause-ready
+say-requires-clause-ready g c =
+    record {
+      running =
+          by_some (node_of c.args.self.now).memory _ c.requires.ready.running
+          (λ m running. session_runs (node_of c.args.self.now) _ _ (at_some (node_of c.args.self.now).memory _ m running c.begin_session.ensures.state));
+      holds = c.begin_session.ensures.holds;
+      empty = c.requires.ready.empty;
+    }
 
 pub say-requires-clause-room : goal.say-requires-clause-room
 say-requires-clause-room g c =
     let s : CoordinatorSession = record { server = c.session.inside.server; way = c.session.inside.way; since = c.session.inside.since } in
-    by_some (node_of c.args.self.now).memory _ c.requires.running (λ m running. opened_room_by m s.way s.server s.since
+    by_some (node_of c.args.self.now).memory _ c.requires.ready.running (λ m running. opened_room_by m s.way s.server s.since
     (record { server = c.session-2.inside.server; way = c.session-2.inside.way; since = c.session-2.inside.since })
     (c.session.view_is ∙ sym c.session-2.view_is) (node_of c.args.self.now) _ c.args.message.now
     (at_some (node_of c.args.self.now).memory _ m running (rw (← c.session.view_is) at c.begin_session.ensures.state))
@@ -39,7 +44,7 @@ returns-in_default-clause-carries g c =
       way = c.session-2.inside.way;
       since = c.session-2.inside.since;
     }) (c.session.view_is ∙ sym c.session-2.view_is) (node_of c.args.self.now) _ _ c.args.message.now c.new.result (Err _) _
-    (at_some (node_of c.args.self.now).memory _ m running c.requires.holds) (rw (← c.session.view_is) at c.requires.packet) c.new.ensures
+    (at_some (node_of c.args.self.now).memory _ m running c.requires.ready.holds) (rw (← c.session.view_is) at c.requires.packet) c.new.ensures
     (at_some (node_of c.args.self.now).memory _ m running c.in-Ok.ensures.room)
     (at_some (node_of c.args.self.now).memory _ m running (rw (← c.session.view_is) at c.begin_session.ensures.state)) c.in_default.ensures.carries))
 
@@ -52,6 +57,6 @@ returns-clause-carries g c =
       way = c.session-2.inside.way;
       since = c.session-2.inside.since;
     }) (c.session.view_is ∙ sym c.session-2.view_is) (node_of c.args.self.now) _ _ c.args.message.now c.new.result (Ok _) _
-    (at_some (node_of c.args.self.now).memory _ m running c.requires.holds) (rw (← c.session.view_is) at c.requires.packet) c.new.ensures
+    (at_some (node_of c.args.self.now).memory _ m running c.requires.ready.holds) (rw (← c.session.view_is) at c.requires.packet) c.new.ensures
     (at_some (node_of c.args.self.now).memory _ m running c.in-Ok.ensures.room)
     (at_some (node_of c.args.self.now).memory _ m running (rw (← c.session.view_is) at c.begin_session.ensures.state)) c.in-Ok-say.ensures.carries))

@@ -13,17 +13,21 @@ returns-in_err-message_room-clause-carries g c =
     let p = err_from_is_err_and c.from_residual.result c.from_residual.ensures.1 in
     rw p.1 (if_some (node_of c.args.self.now).memory _ (λ m running. refusal orders (node_of c.args.self.now) m p.0 _ _ running
     (lacking_plan c.args.self.now.station.eui m c.args.to c.args.now c.args.server c.args.message.now p.0 c.requires.packet
-    (at_some (node_of c.args.self.now).memory _ m running c.requires.holds).home
-    (at_some (node_of c.args.self.now).memory _ m running c.in_err-message_room.ensures.refused ∙ ap Some (sym p.2))) c.requires.empty))
+    (at_some (node_of c.args.self.now).memory _ m running c.requires.ready.holds).home
+    (at_some (node_of c.args.self.now).memory _ m running c.in_err-message_room.ensures.refused ∙ ap Some (sym p.2))) c.requires.ready.empty))
 
-pub send_join_message-requires-clause-running : goal.send_join_message-requires-clause-running
-send_join_message-requires-clause-running g c =
-    by_some (node_of c.args.self.now).memory _ c.requires.running
-    (λ m running. session_runs (node_of c.args.self.now) _ _ (at_some (node_of c.args.self.now).memory _ m running c.begin_session.ensures.state))
+pub send_join_message-requires-clause-ready : goal.send_join_message-requires-clause-ready
+send_join_message-requires-clause-ready g c =
+    record {
+      running =
+          by_some (node_of c.args.self.now).memory _ c.requires.ready.running
+          (λ m running. session_runs (node_of c.args.self.now) _ _ (at_some (node_of c.args.self.now).memory _ m running c.begin_session.ensures.state));
+      holds = c.begin_session.ensures.holds;
+    }
 
 pub send_join_message-requires-clause-room : goal.send_join_message-requires-clause-room
 send_join_message-requires-clause-room g c =
-    by_some (node_of c.args.self.now).memory _ c.requires.running (λ m running. session_room (node_of c.args.self.now) _ m
+    by_some (node_of c.args.self.now).memory _ c.requires.ready.running (λ m running. session_room (node_of c.args.self.now) _ m
     (record { server = c.args.server; way = Mesh c.args.to; since = c.args.now }) c.args.to c.args.message.now
     (at_some (node_of c.args.self.now).memory _ m running c.in_ok-message_room.ensures.room)
     (at_some (node_of c.args.self.now).memory _ m running c.begin_session.ensures.state))
@@ -31,6 +35,6 @@ send_join_message-requires-clause-room g c =
 pub returns-clause-carries : goal.returns-clause-carries
 returns-clause-carries g c =
     if_some (node_of c.args.self.now).memory _ (λ m running. ordered_done c.args.self.now.station.eui m c.args.to c.args.now c.args.server c.args.message.now
-    (node_of c.args.self.now) _ _ _ _ c.requires.packet (at_some (node_of c.args.self.now).memory _ m running c.requires.holds)
+    (node_of c.args.self.now) _ _ _ _ c.requires.packet (at_some (node_of c.args.self.now).memory _ m running c.requires.ready.holds)
     (at_some (node_of c.args.self.now).memory _ m running c.in_ok-message_room.ensures.room)
     (at_some (node_of c.args.self.now).memory _ m running c.begin_session.ensures.state) c.send_join_message.ensures.carries)

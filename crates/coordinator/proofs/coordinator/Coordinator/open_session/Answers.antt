@@ -10,14 +10,14 @@ pub returns-then-sessions_full-clause-carries : goal.returns-then-sessions_full-
 returns-then-sessions_full-clause-carries g c =
     if_some (node_of c.args.self.now).memory _ (λ m running. refusal dropped (node_of c.args.self.now) m SessionsFull _ _ running
     (full (identity_of c.args.self.now) m c.args.way.now c.args.eui c.args.now
-    (at_some (node_of c.args.self.now).memory _ m running c.if-sessions_full.ensures)) c.requires.empty)
+    (at_some (node_of c.args.self.now).memory _ m running c.if-sessions_full.ensures)) c.requires.ready.empty)
 
 pub returns-in_default-clause-carries : goal.returns-in_default-clause-carries
 returns-in_default-clause-carries g c =
     if_some (node_of c.args.self.now).memory _ (λ m running. refusal dropped (node_of c.args.self.now) m NoRandom _ _ running
     (no_random (identity_of c.args.self.now) m c.args.way.now c.args.eui c.args.now
     (at_some (node_of c.args.self.now).memory _ m running c.if-sessions_full.ensures)
-    (at_some (node_of c.args.self.now).memory _ m running c.in_default.ensures)) c.requires.empty)
+    (at_some (node_of c.args.self.now).memory _ m running c.in_default.ensures)) c.requires.ready.empty)
 
 pub returns-clause-carries : goal.returns-clause-carries
 returns-clause-carries g c =

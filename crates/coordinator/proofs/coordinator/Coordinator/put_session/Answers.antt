@@ -6,7 +6,7 @@ use Rattle.coordinator.proofs.coordinator.Coordinator.put_session.Goals as goal
 
 pub put-requires : goal.put-requires
 put-requires g c =
-    by_some c.self.inside.station.memory _ (part_runs c.self.inside.station.memory _ (rw (← c.self.view_is) at c.requires.running)) (λ l running.
+    by_some c.self.inside.station.memory _ (part_runs c.self.inside.station.memory _ (rw (← c.self.view_is) at c.requires.ready.running)) (λ l running.
     part_says c.self.inside.randoms c.self.inside.sessions c.self.inside.book c.self.inside.station.store.records c.self.inside.station.memory _ l running
     (rw (← c.self.view_is) at c.requires.room))
 
@@ -18,4 +18,4 @@ returns-clause-state g c =
 pub returns-clause-holds : goal.returns-clause-holds
 returns-clause-holds g c =
     beside_holds c.self.inside.station c.self.inside.randoms c.self.inside.randoms c.self.inside.sessions _ c.self.inside.book
-    (rw (← c.self.view_is) at c.requires.holds)
+    (rw (← c.self.view_is) at c.requires.ready.holds)

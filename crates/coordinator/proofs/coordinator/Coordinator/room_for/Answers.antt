@@ -8,10 +8,11 @@ pub returns-in-Ok-clause-room : goal.returns-in-Ok-clause-room
 returns-in-Ok-clause-room g c =
     rw (← c.self.view_is) (on_parts c.self.inside.station.memory _ _ (λ l running.
     command_room l c.args.to c.args.octets _ (part_home c.self.inside.randoms c.self.inside.sessions c.self.inside.book _ c.self.inside.station.memory l running
-    (rw (← c.self.view_is) at c.requires.holds)) (at_some c.self.inside.station.memory _ l running c.in-Ok.ensures.room)))
+    (rw (← c.self.view_is) at c.requires.ready.holds)) (at_some c.self.inside.station.memory _ l running c.in-Ok.ensures.room)))
 
 pub returns-in-Err-clause-refused : goal.returns-in-Err-clause-refused
 returns-in-Err-clause-refused g c =
     rw (← c.self.view_is) (on_parts c.self.inside.station.memory _ _ (λ l running.
     command_lacks l c.args.to c.args.octets _ _ (part_home c.self.inside.randoms c.self.inside.sessions c.self.inside.book _ c.self.inside.station.memory l
-    running (rw (← c.self.view_is) at c.requires.holds)) (at_some c.self.inside.station.memory _ l running c.in-Err.ensures.room) c.order_refusal.ensures))
+    running (rw (← c.self.view_is) at c.requires.ready.holds)) (at_some c.self.inside.station.memory _ l running c.in-Err.ensures.room)
+    c.order_refusal.ensures))

@@ -15,7 +15,7 @@ use Rattle.coordinator.proofs.coordinator.Coordinator.send_join_message.Goals as
 
 pub send_command-requires-clause-agrees : goal.send_command-requires-clause-agrees
 send_command-requires-clause-agrees g c =
-    part_agrees c.self.inside.randoms c.self.inside.sessions c.self.inside.book _ c.self.inside.station.memory (rw (← c.self.view_is) at c.requires.holds)
+    part_agrees c.self.inside.randoms c.self.inside.sessions c.self.inside.book _ c.self.inside.station.memory (rw (← c.self.view_is) at c.requires.ready.holds)
 
 pub returns-in_default-clause-carries : goal.returns-in_default-clause-carries
 returns-in_default-clause-carries g c =
@@ -23,7 +23,7 @@ returns-in_default-clause-carries g c =
     (within_carried (memory_in c.self.inside.randoms c.self.inside.sessions c.self.inside.book) (answer_if_sent orders tt) c.self.inside.station _ _ _ _
     (station_by c.self.inside.station _ _ _ _ _ (sym (command_sent 0 c.args.to (command_of c.args.message.now) c.args.now l
     (part_home c.self.inside.randoms c.self.inside.sessions c.self.inside.book _ c.self.inside.station.memory l running
-    (rw (← c.self.view_is) at c.requires.holds))
+    (rw (← c.self.view_is) at c.requires.ready.holds))
     (at_some _ _ (memory_in c.self.inside.randoms c.self.inside.sessions c.self.inside.book l)
     (ap (option_map (memory_in c.self.inside.randoms c.self.inside.sessions c.self.inside.book)) running) (rw (← c.self.view_is) at c.requires.room))))
     (rw (c.octets.ensures.value ∙ c.write_command.ensures.command) at (at_some c.self.inside.station.memory _ l running c.in_default.ensures.carries))))))
@@ -34,27 +34,29 @@ returns-clause-carries g c =
     (within_carried (memory_in c.self.inside.randoms c.self.inside.sessions c.self.inside.book) (answer_if_sent orders tt) c.self.inside.station _ _ _ _
     (station_by c.self.inside.station _ _ _ _ _ (sym (command_sent 0 c.args.to (command_of c.args.message.now) c.args.now l
     (part_home c.self.inside.randoms c.self.inside.sessions c.self.inside.book _ c.self.inside.station.memory l running
-    (rw (← c.self.view_is) at c.requires.holds))
+    (rw (← c.self.view_is) at c.requires.ready.holds))
     (at_some _ _ (memory_in c.self.inside.randoms c.self.inside.sessions c.self.inside.book l)
     (ap (option_map (memory_in c.self.inside.randoms c.self.inside.sessions c.self.inside.book)) running) (rw (← c.self.view_is) at c.requires.room))))
     (rw (c.octets.ensures.value ∙ c.write_command.ensures.command) at (at_some c.self.inside.station.memory _ l running c.in-Ok.ensures.carries))))))
 
 pub returns-in_default-clause-holds : goal.returns-in_default-clause-holds
 returns-in_default-clause-holds g c =
-    by_some c.self.inside.station.memory _ (part_runs c.self.inside.station.memory _ (rw (← c.self.view_is) at c.requires.running)) (λ l running.
+    by_some c.self.inside.station.memory _ (part_runs c.self.inside.station.memory _ (rw (← c.self.view_is) at c.requires.ready.running)) (λ l running.
     home_holds c.self.inside.station _ _ (memory_in c.self.inside.randoms c.self.inside.sessions c.self.inside.book) _ _ c.self.inside.book (λ n. refl)
     (λ n. refl) (at_some c.self.inside.station.memory _ l running c.in_default.ensures.carries)
     (command_keeps l (part_home c.self.inside.randoms c.self.inside.sessions c.self.inside.book _ c.self.inside.station.memory l running
-    (rw (← c.self.view_is) at c.requires.holds)) c.args.to _ c.args.now)
-    (part_book c.self.inside.randoms c.self.inside.sessions c.self.inside.book _ c.self.inside.station.memory (rw (← c.self.view_is) at c.requires.running)
-    (rw (← c.self.view_is) at c.requires.holds)) c.in_default.ensures.agrees)
+    (rw (← c.self.view_is) at c.requires.ready.holds)) c.args.to _ c.args.now)
+    (part_book c.self.inside.randoms c.self.inside.sessions c.self.inside.book _ c.self.inside.station.memory
+    (rw (← c.self.view_is) at c.requires.ready.running)
+    (rw (← c.self.view_is) at c.requires.ready.holds)) c.in_default.ensures.after.agrees)
 
 pub returns-clause-holds : goal.returns-clause-holds
 returns-clause-holds g c =
-    by_some c.self.inside.station.memory _ (part_runs c.self.inside.station.memory _ (rw (← c.self.view_is) at c.requires.running)) (λ l running.
+    by_some c.self.inside.station.memory _ (part_runs c.self.inside.station.memory _ (rw (← c.self.view_is) at c.requires.ready.running)) (λ l running.
     home_holds c.self.inside.station _ _ (memory_in c.self.inside.randoms c.self.inside.sessions c.self.inside.book) _ _ c.self.inside.book (λ n. refl)
     (λ n. refl) (at_some c.self.inside.station.memory _ l running c.in-Ok.ensures.carries)
     (command_keeps l (part_home c.self.inside.randoms c.self.inside.sessions c.self.inside.book _ c.self.inside.station.memory l running
-    (rw (← c.self.view_is) at c.requires.holds)) c.args.to _ c.args.now)
-    (part_book c.self.inside.randoms c.self.inside.sessions c.self.inside.book _ c.self.inside.station.memory (rw (← c.self.view_is) at c.requires.running)
-    (rw (← c.self.view_is) at c.requires.holds)) c.in-Ok.ensures.agrees)
+    (rw (← c.self.view_is) at c.requires.ready.holds)) c.args.to _ c.args.now)
+    (part_book c.self.inside.randoms c.self.inside.sessions c.self.inside.book _ c.self.inside.station.memory
+    (rw (← c.self.view_is) at c.requires.ready.running)
+    (rw (← c.self.view_is) at c.requires.ready.holds)) c.in-Ok.ensures.after.agrees)

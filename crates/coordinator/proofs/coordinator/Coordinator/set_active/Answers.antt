@@ -15,12 +15,16 @@ use Rattle.coordinator.proofs.RingOrders.{active_plan}
 use Rattle.coordinator.proofs.Within.{within_carried, ring_plan, KeepsHome, home_holds, ring_keeps, ring_home, active_home}
 use Rattle.coordinator.proofs.coordinator.Coordinator.set_active.Goals as goal
 
-pub activate-requires-clause-running : goal.activate-requires-clause-running
-activate-requires-clause-running g c = part_runs c.self.inside.station.memory _ (rw (← c.self.view_is) at c.requires.running)
-
-pub activate-requires-clause-agrees : goal.activate-requires-clause-agrees
-activate-requires-clause-agrees g c =
-    part_agrees c.self.inside.randoms c.self.inside.sessions c.self.inside.book _ c.self.inside.station.memory (rw (← c.self.view_is) at c.requires.holds)
+pub activate-requires : goal.activate-requires
+activate-requires g c =
+    record {
+      ready = record {
+        running = part_runs c.self.inside.station.memory _ (rw (← c.self.view_is) at c.requires.ready.running);
+        agrees =
+            part_agrees c.self.inside.randoms c.self.inside.sessions c.self.inside.book _ c.self.inside.station.memory
+            (rw (← c.self.view_is) at c.requires.ready.holds);
+      };
+    }
 
 pub returns-in_default-clause-carries : goal.returns-in_default-clause-carries
 returns-in_default-clause-carries g c =
@@ -46,40 +50,42 @@ returns-clause-carries g c =
 
 pub returns-in_default-clause-holds : goal.returns-in_default-clause-holds
 returns-in_default-clause-holds g c =
-    by_some c.self.inside.station.memory _ (part_runs c.self.inside.station.memory _ (rw (← c.self.view_is) at c.requires.running)) (λ l running.
+    by_some c.self.inside.station.memory _ (part_runs c.self.inside.station.memory _ (rw (← c.self.view_is) at c.requires.ready.running)) (λ l running.
     home_holds c.self.inside.station _ _ (memory_in c.self.inside.randoms c.self.inside.sessions c.self.inside.book) _ nothing c.self.inside.book (λ n. refl)
     (λ n. refl) (at_some c.self.inside.station.memory _ l running c.in_default.ensures.carries)
     (subst (λ p. KeepsHome p) (sym (active_plan l c.args.index (at_some _ _ (memory_in c.self.inside.randoms c.self.inside.sessions c.self.inside.book l)
     (ap (option_map (memory_in c.self.inside.randoms c.self.inside.sessions c.self.inside.book)) running) (rw (← c.self.view_is) at c.requires.held))))
     (ring_keeps ringing_ends tt l (with_active l.ring c.args.index)
     (active_home l.ring c.args.index (part_home c.self.inside.randoms c.self.inside.sessions c.self.inside.book _ c.self.inside.station.memory l running
-    (rw (← c.self.view_is) at c.requires.holds))))) (part_book c.self.inside.randoms c.self.inside.sessions c.self.inside.book _ c.self.inside.station.memory
-    (rw (← c.self.view_is) at c.requires.running) (rw (← c.self.view_is) at c.requires.holds)) c.in_default.ensures.agrees)
+    (rw (← c.self.view_is) at c.requires.ready.holds)))))
+    (part_book c.self.inside.randoms c.self.inside.sessions c.self.inside.book _ c.self.inside.station.memory
+    (rw (← c.self.view_is) at c.requires.ready.running) (rw (← c.self.view_is) at c.requires.ready.holds)) c.in_default.ensures.after.agrees)
 
 pub returns-clause-holds : goal.returns-clause-holds
 returns-clause-holds g c =
-    by_some c.self.inside.station.memory _ (part_runs c.self.inside.station.memory _ (rw (← c.self.view_is) at c.requires.running)) (λ l running.
+    by_some c.self.inside.station.memory _ (part_runs c.self.inside.station.memory _ (rw (← c.self.view_is) at c.requires.ready.running)) (λ l running.
     home_holds c.self.inside.station _ _ (memory_in c.self.inside.randoms c.self.inside.sessions c.self.inside.book) _ nothing c.self.inside.book (λ n. refl)
     (λ n. refl) (at_some c.self.inside.station.memory _ l running c.in-Ok.ensures.carries)
     (subst (λ p. KeepsHome p) (sym (active_plan l c.args.index (at_some _ _ (memory_in c.self.inside.randoms c.self.inside.sessions c.self.inside.book l)
     (ap (option_map (memory_in c.self.inside.randoms c.self.inside.sessions c.self.inside.book)) running) (rw (← c.self.view_is) at c.requires.held))))
     (ring_keeps ringing_ends tt l (with_active l.ring c.args.index)
     (active_home l.ring c.args.index (part_home c.self.inside.randoms c.self.inside.sessions c.self.inside.book _ c.self.inside.station.memory l running
-    (rw (← c.self.view_is) at c.requires.holds))))) (part_book c.self.inside.randoms c.self.inside.sessions c.self.inside.book _ c.self.inside.station.memory
-    (rw (← c.self.view_is) at c.requires.running) (rw (← c.self.view_is) at c.requires.holds)) c.in-Ok.ensures.agrees)
+    (rw (← c.self.view_is) at c.requires.ready.holds)))))
+    (part_book c.self.inside.randoms c.self.inside.sessions c.self.inside.book _ c.self.inside.station.memory
+    (rw (← c.self.view_is) at c.requires.ready.running) (rw (← c.self.view_is) at c.requires.ready.holds)) c.in-Ok.ensures.after.agrees)
 
 pub returns-in_default-clause-home : goal.returns-in_default-clause-home
 returns-in_default-clause-home g c =
-    rw (← c.self.view_is) (by_some c.self.inside.station.memory _ (part_runs c.self.inside.station.memory _ (rw (← c.self.view_is) at c.requires.running))
+    rw (← c.self.view_is) (by_some c.self.inside.station.memory _ (part_runs c.self.inside.station.memory _ (rw (← c.self.view_is) at c.requires.ready.running))
     (λ l running.
     ring_home (with_active l.ring c.args.index) _ _ (active_home l.ring c.args.index
     (part_home c.self.inside.randoms c.self.inside.sessions c.self.inside.book _ c.self.inside.station.memory l running
-    (rw (← c.self.view_is) at c.requires.holds))) (at_some c.self.inside.station.memory _ l running c.in_default.ensures.either)))
+    (rw (← c.self.view_is) at c.requires.ready.holds))) (at_some c.self.inside.station.memory _ l running c.in_default.ensures.either)))
 
 pub returns-clause-home : goal.returns-clause-home
 returns-clause-home g c =
-    rw (← c.self.view_is) (by_some c.self.inside.station.memory _ (part_runs c.self.inside.station.memory _ (rw (← c.self.view_is) at c.requires.running))
+    rw (← c.self.view_is) (by_some c.self.inside.station.memory _ (part_runs c.self.inside.station.memory _ (rw (← c.self.view_is) at c.requires.ready.running))
     (λ l running.
     ring_home (with_active l.ring c.args.index) _ _ (active_home l.ring c.args.index
     (part_home c.self.inside.randoms c.self.inside.sessions c.self.inside.book _ c.self.inside.station.memory l running
-    (rw (← c.self.view_is) at c.requires.holds))) (at_some c.self.inside.station.memory _ l running c.in-Ok.ensures.either)))
+    (rw (← c.self.view_is) at c.requires.ready.holds))) (at_some c.self.inside.station.memory _ l running c.in-Ok.ensures.either)))

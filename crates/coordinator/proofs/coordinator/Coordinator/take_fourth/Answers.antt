@@ -17,7 +17,7 @@ returns-in-Err-clause-carries g c =
     (ap (λ r. refused {H = CoordinatorHeard} dropped m r) c.dropped_packet.ensures
     ∙ fourth_refused c.args.self.now.station.eui m s c.args.entry.now c.args.packet.now c.args.rand_p c.args.now _
     (ap (λ k. fourth_fault k s.server c.args.rand_p.0 c.args.packet.now) (sym c.of-keys.ensures)
-    ∙ at_some _ _ c.args.rand_p (rw (← c.session.view_is) at c.requires.awaits) c.in-Err.ensures.exact)) c.requires.empty))
+    ∙ at_some _ _ c.args.rand_p (rw (← c.session.view_is) at c.requires.awaits) c.in-Err.ensures.exact)) c.requires.ready.empty))
 
 pub returns-in-Ok-clause-carries : goal.returns-in-Ok-clause-carries
 returns-in-Ok-clause-carries g c =

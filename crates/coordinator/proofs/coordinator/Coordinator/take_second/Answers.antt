@@ -21,7 +21,7 @@ returns-in-Err-clause-carries g c =
     rw (← c.session.view_is) (if_some (node_of c.args.self.now).memory _ (λ m running. refusal dropped (node_of c.args.self.now) m _ _ _ running
     (ap (λ r. refused {H = CoordinatorHeard} dropped m r) c.dropped_packet.ensures
     ∙ second_refused c.args.self.now.station.eui m s c.args.entry.now c.args.packet.now c.args.now _
-    (ap (λ k. second_fault k s.server c.args.packet.now) (sym c.of-keys.ensures) ∙ c.in-Err.ensures.exact)) c.requires.empty))
+    (ap (λ k. second_fault k s.server c.args.packet.now) (sym c.of-keys.ensures) ∙ c.in-Err.ensures.exact)) c.requires.ready.empty))
 
 pub give_keys-requires-clause-session : goal.give_keys-requires-clause-session
 give_keys-requires-clause-session g c =

@@ -43,7 +43,7 @@ returns-in_default-clause-carries g c =
       randoms = c.self.inside.randoms;
       session = option_map session_of c.self.inside.session;
     }) l c.args.join.now c.args.join.now.body (c.in_default.ensures ∙ ap (option_map (λ g. g.address)) (at_some _ _ l running c.ring.ensures)))
-    c.requires.empty))
+    c.requires.ready.empty))
 
 pub returns-then-not-goes_down-clause-carries : goal.returns-then-not-goes_down-clause-carries
 returns-then-not-goes_down-clause-carries g c =
@@ -74,7 +74,7 @@ returns-then-not-goes_down-clause-carries g c =
       psk = c.self.inside.pair_key;
       randoms = c.self.inside.randoms;
       session = option_map session_of c.self.inside.session;
-    }) l c.args.join.now c.args.join.now.body (sym c.if-not-goes_down.ensures)) c.requires.empty))
+    }) l c.args.join.now c.args.join.now.body (sym c.if-not-goes_down.ensures)) c.requires.ready.empty))
 
 pub returns-clause-carries : goal.returns-clause-carries
 returns-clause-carries g c =
@@ -100,7 +100,7 @@ returns-clause-carries g c =
       psk = c.self.inside.pair_key;
       randoms = c.self.inside.randoms;
       session = option_map session_of c.self.inside.session;
-    }) l) c.args.join.now c.args.join.now.body) _ running (rw (← c.self.view_is) at c.requires.agrees) refl
+    }) l) c.args.join.now c.args.join.now.body) _ running (rw (← c.self.view_is) at c.requires.ready.agrees) refl
     (carries_down (record {
       station = c.self.inside.station;
       psk = c.self.inside.pair_key;
@@ -109,6 +109,6 @@ returns-clause-carries g c =
     }) l c.args.join.now c.in-Some.own c.args.join.now.body (c.in-Some.ensures ∙ ap (option_map (λ g. g.address)) (at_some _ _ l running c.ring.ensures))
     (sym c.if-not-goes_down.ensures))
     (c.push_down.ensures ∙ (λ i. record {
-      frames = (c.requires.empty i).frames ++ spelled network (Down c.in-Some.own c.args.join.now) ∷ [];
-      tags = (c.requires.empty i).tags;
+      frames = (c.requires.ready.empty i).frames ++ spelled network (Down c.in-Some.own c.args.join.now) ∷ [];
+      tags = (c.requires.ready.empty i).tags;
     }))))

@@ -20,7 +20,8 @@ returns-then-not-goes_up-clause-carries g c =
     on_node c.args.self.now _ (λ l running.
     refuses dropped c.args.self.now c.args.self.now l BadUnit
     (meters.carry_up (memory_with c.args.self.now l) c.args.from c.args.join.now c.args.join.now.body c.args.now) c.args.out.now running refl
-    (not_up (memory_with c.args.self.now l) c.args.join.now c.args.from c.args.now 0 c.args.join.now.body (sym c.if-not-goes_up.ensures)) c.requires.empty)
+    (not_up (memory_with c.args.self.now l) c.args.join.now c.args.from c.args.now 0 c.args.join.now.body (sym c.if-not-goes_up.ensures))
+    c.requires.ready.empty)
 
 pub returns-then-number-clause-carries : goal.returns-then-number-clause-carries
 returns-then-number-clause-carries g c =
@@ -29,7 +30,7 @@ returns-then-number-clause-carries g c =
     (meters.carry_up (memory_with c.args.self.now l) c.args.from c.args.join.now c.args.join.now.body c.args.now) c.args.out.now running refl
     (not_own (memory_with c.args.self.now l) c.args.join.now c.args.from c.args.now 0 c.args.join.now.body
     (other_number (eui_number c.args.join.now.eui) (eui_number c.args.from) c.number.result c.number-2.result c.number.ensures c.number-2.ensures
-    c.if-number.true)) c.requires.empty)
+    c.if-number.true)) c.requires.ready.empty)
 
 pub returns-in_err-room-clause-carries : goal.returns-in_err-room-clause-carries
 returns-in_err-room-clause-carries g c =
@@ -41,7 +42,7 @@ returns-in_err-room-clause-carries g c =
     (same_number (eui_number c.args.join.now.eui) (eui_number c.args.from) c.number.result c.number-2.result c.number.ensures c.number-2.ensures
     c.if-number.false)
     (ap (λ (k : List ℕ). command_fault dropped dropped_for l 0 (length k)) (sym c.write_up.ensures.command) ∙ at_some _ _ l running c.in_err-room.ensures
-    ∙ ap Some (sym p.2))) c.requires.empty))
+    ∙ ap Some (sym p.2))) c.requires.ready.empty))
 
 pub returns-in_default-clause-carries : goal.returns-in_default-clause-carries
 returns-in_default-clause-carries g c =

@@ -50,7 +50,7 @@ returns-clause-carries g c =
       psk = c.self.inside.pair_key;
       randoms = c.self.inside.randoms;
       session = option_map session_of c.self.inside.session;
-    }) l) c.args.agent) nothing running (rw (← c.self.view_is) at c.requires.agrees) refl
+    }) l) c.args.agent) nothing running (rw (← c.self.view_is) at c.requires.ready.agrees) refl
     (declines (record {
       station = c.self.inside.station;
       psk = c.self.inside.pair_key;

@@ -11,30 +11,32 @@ use Rattle.meter_node.proofs.Carried.{on_node}
 use Rattle.meter_node.proofs.HearingRules.{some_at, running_on, came, at_rest, heard_joining, heard_other, never_itself, replied_other}
 use Rattle.meter_node.proofs.meter.Meter.hear.Goals as goal
 
-pub hear_joining-requires-clause-running : goal.hear_joining-requires-clause-running
-hear_joining-requires-clause-running g c =
-    let running = rw (← c.self.view_is) at c.requires.running in
-    let m = some_at c.self.inside.station.memory running in
-    running_on m.0 c.args.got.now c.args.cost c.args.note c.args.now c.self.inside.station c.hear-heard.new.self c.hear-heard.result c.hear-heard.new.out
-    (at_some _ _ m.0 m.1 c.hear-heard.ensures.carries)
-    c.in-Some.command.way c.in-Some.command.body c.in-Some.ensures
+pub hear_joining-requires-clause-ready : goal.hear_joining-requires-clause-ready
+hear_joining-requires-clause-ready g c =
+    record {
+      running =
+          let running = rw (← c.self.view_is) at c.requires.ready.running in
+          let m = some_at c.self.inside.station.memory running in
+          running_on m.0 c.args.got.now c.args.cost c.args.note c.args.now c.self.inside.station c.hear-heard.new.self c.hear-heard.result c.hear-heard.new.out
+          (at_some _ _ m.0 m.1 c.hear-heard.ensures.carries)
+          c.in-Some.command.way c.in-Some.command.body c.in-Some.ensures;
+      agrees = c.hear-heard.ensures.agrees;
+      empty =
+          let running = rw (← c.self.view_is) at c.requires.ready.running in
+          let m = some_at c.self.inside.station.memory running in
+          (at_rest m.0 c.args.got.now c.args.cost c.args.note c.args.now c.self.inside.station c.hear-heard.new.self c.hear-heard.result c.hear-heard.new.out
+          (at_some _ _ m.0 m.1 c.hear-heard.ensures.carries)
+          c.in-Some.command.way c.in-Some.command.body c.in-Some.ensures).out_is;
+    }
 
 pub hear_joining-requires-clause-came : goal.hear_joining-requires-clause-came
 hear_joining-requires-clause-came g c =
-    let running = rw (← c.self.view_is) at c.requires.running in
+    let running = rw (← c.self.view_is) at c.requires.ready.running in
     let up = rw (← c.self.view_is) at c.requires.came in
     let m = some_at c.self.inside.station.memory running in
     came m.0 c.args.got.now c.args.cost c.args.note c.args.now c.self.inside.station c.hear-heard.new.self c.hear-heard.result c.hear-heard.new.out
     (at_some _ _ m.0 m.1 c.hear-heard.ensures.carries)
     c.in-Some.command.way c.in-Some.command.body c.in-Some.ensures (at_some _ _ m.0 m.1 up)
-
-pub hear_joining-requires-clause-empty : goal.hear_joining-requires-clause-empty
-hear_joining-requires-clause-empty g c =
-    let running = rw (← c.self.view_is) at c.requires.running in
-    let m = some_at c.self.inside.station.memory running in
-    (at_rest m.0 c.args.got.now c.args.cost c.args.note c.args.now c.self.inside.station c.hear-heard.new.self c.hear-heard.result c.hear-heard.new.out
-    (at_some _ _ m.0 m.1 c.hear-heard.ensures.carries)
-    c.in-Some.command.way c.in-Some.command.body c.in-Some.ensures).out_is
 
 pub returns-in-Some-clause-carries : goal.returns-in-Some-clause-carries
 returns-in-Some-clause-carries g c =

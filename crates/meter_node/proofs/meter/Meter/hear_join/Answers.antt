@@ -25,7 +25,7 @@ returns-then-not-own-clause-carries g c =
       randoms = c.self.inside.randoms;
       session = option_map session_of c.self.inside.session;
     } in
-    rw (← c.self.view_is) (drops x (λ m. meters.hear_join (identity_of x) m c.args.way c.args.join.now c.args.now) BadUnit c.args.out.now c.requires.empty
+    rw (← c.self.view_is) (drops x (λ m. meters.hear_join (identity_of x) m c.args.way c.args.join.now c.args.now) BadUnit c.args.out.now c.requires.ready.empty
     (λ l. near_other x l c.args.join.now c.args.now c.in-Near.agent
     (other_number (eui_number c.args.join.now.eui) (eui_number c.self.inside.station.eui) c.number.result c.number-2.result c.number.ensures
     (c.number-2.ensures ∙ ap eui_number c.eui.ensures) c.if-not-own.true)
@@ -54,7 +54,7 @@ returns-then-number-ne0-clause-carries g c =
       randoms = c.self.inside.randoms;
       session = option_map session_of c.self.inside.session;
     } in
-    rw (← c.self.view_is) (drops x (λ m. meters.hear_join (identity_of x) m c.args.way c.args.join.now c.args.now) BadUnit c.args.out.now c.requires.empty
+    rw (← c.self.view_is) (drops x (λ m. meters.hear_join (identity_of x) m c.args.way c.args.join.now c.args.now) BadUnit c.args.out.now c.requires.ready.empty
     (λ l. mesh_far x l c.args.join.now c.args.now c.in-Mesh.origin
     (other_number c.in-Mesh.origin 0 c.number-in-Mesh.result 0 c.number-in-Mesh.ensures.value refl c.if-number-ne0.true)
     ∙ ap (λ w. meters.hear_join (identity_of x) (memory_with x l) w c.args.join.now c.args.now) (sym c.in-Mesh.is)))

@@ -14,7 +14,7 @@ returns-in_default-clause-carries g c =
     refuses dropped c.args.self.now c.args.self.now l BadUnit (meters.hear_join_in (identity_of c.args.self.now) (memory_with c.args.self.now l) c.args.way
     (join_in c.args.body.now) c.args.now) c.args.out.now running refl
     (ap (λ o. meters.hear_join_in (identity_of c.args.self.now) (memory_with c.args.self.now l) c.args.way o c.args.now) c.in_default.ensures.message)
-    c.requires.empty)
+    c.requires.ready.empty)
 
 pub returns-clause-carries : goal.returns-clause-carries
 returns-clause-carries g c =

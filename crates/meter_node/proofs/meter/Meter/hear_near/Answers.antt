@@ -18,31 +18,31 @@ returns-in-Challenge-clause-carries g c =
 
 pub returns-in-Accept-clause-carries : goal.returns-in-Accept-clause-carries
 returns-in-Accept-clause-carries g c =
-    noted c.args.self.now (λ m. meters.hear_near (identity_of c.args.self.now) m c.args.agent c.args.body.now c.args.now) c.args.out.now c.requires.agrees
-    c.requires.empty (λ l. ap (λ b. meters.hear_near (identity_of c.args.self.now) (memory_with c.args.self.now l) c.args.agent b c.args.now)
+    noted c.args.self.now (λ m. meters.hear_near (identity_of c.args.self.now) m c.args.agent c.args.body.now c.args.now) c.args.out.now c.requires.ready.agrees
+    c.requires.ready.empty (λ l. ap (λ b. meters.hear_near (identity_of c.args.self.now) (memory_with c.args.self.now l) c.args.agent b c.args.now)
     (sym c.in-Accept.is))
 
 pub returns-in-Decline-clause-carries : goal.returns-in-Decline-clause-carries
 returns-in-Decline-clause-carries g c =
     quietly c.args.self.now c.declined.new.self (λ m. meters.declined m c.args.agent)
-    (λ m. meters.hear_near (identity_of c.args.self.now) m c.args.agent c.args.body.now c.args.now) c.declined.result c.args.out.now c.requires.empty
+    (λ m. meters.hear_near (identity_of c.args.self.now) m c.args.agent c.args.body.now c.args.now) c.declined.result c.args.out.now c.requires.ready.empty
     (λ l. ap (λ b. meters.hear_near (identity_of c.args.self.now) (memory_with c.args.self.now l) c.args.agent b c.args.now) (sym c.in-Decline.is))
     c.declined.ensures.carries
 
 pub returns-in-Join-clause-carries : goal.returns-in-Join-clause-carries
 returns-in-Join-clause-carries g c =
     drops c.args.self.now (λ m. meters.hear_near (identity_of c.args.self.now) m c.args.agent c.args.body.now c.args.now) BadUnit c.args.out.now
-    c.requires.empty (λ l. ap (λ b. meters.hear_near (identity_of c.args.self.now) (memory_with c.args.self.now l) c.args.agent b c.args.now)
+    c.requires.ready.empty (λ l. ap (λ b. meters.hear_near (identity_of c.args.self.now) (memory_with c.args.self.now l) c.args.agent b c.args.now)
     (sym c.in-Join.is))
 
 pub returns-in-Kick-clause-carries : goal.returns-in-Kick-clause-carries
 returns-in-Kick-clause-carries g c =
     drops c.args.self.now (λ m. meters.hear_near (identity_of c.args.self.now) m c.args.agent c.args.body.now c.args.now) BadUnit c.args.out.now
-    c.requires.empty (λ l. ap (λ b. meters.hear_near (identity_of c.args.self.now) (memory_with c.args.self.now l) c.args.agent b c.args.now)
+    c.requires.ready.empty (λ l. ap (λ b. meters.hear_near (identity_of c.args.self.now) (memory_with c.args.self.now l) c.args.agent b c.args.now)
     (sym c.in-Kick.is))
 
 pub returns-in-Activate-clause-carries : goal.returns-in-Activate-clause-carries
 returns-in-Activate-clause-carries g c =
     drops c.args.self.now (λ m. meters.hear_near (identity_of c.args.self.now) m c.args.agent c.args.body.now c.args.now) BadUnit c.args.out.now
-    c.requires.empty (λ l. ap (λ b. meters.hear_near (identity_of c.args.self.now) (memory_with c.args.self.now l) c.args.agent b c.args.now)
+    c.requires.ready.empty (λ l. ap (λ b. meters.hear_near (identity_of c.args.self.now) (memory_with c.args.self.now l) c.args.agent b c.args.now)
     (sym c.in-Activate.is))

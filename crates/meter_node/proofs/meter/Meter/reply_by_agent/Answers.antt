@@ -27,7 +27,7 @@ returns-in_err-awaits-clause-carries g c =
     (memory.ByAgent c.args.agent) c.args.packet.now c.args.now) c.args.out.now running refl
     (reply_refused c.args.self.now l (memory.ByAgent c.args.agent) c.args.packet.now c.args.now p.0
     (ap (λ f. f then first_refusal c.args.self.now.randoms c.args.packet.now) (at_some _ _ l running c.in_err-awaits.ensures ∙ ap Some (sym p.2))))
-    c.requires.empty))
+    c.requires.ready.empty))
 
 pub returns-in_err-peer-clause-carries : goal.returns-in_err-peer-clause-carries
 returns-in_err-peer-clause-carries g c =
@@ -37,11 +37,11 @@ returns-in_err-peer-clause-carries g c =
     (memory.ByAgent c.args.agent) c.args.packet.now c.args.now) c.args.out.now running refl
     (reply_refused c.args.self.now l (memory.ByAgent c.args.agent) c.args.packet.now c.args.now p.0
     (ap (λ f. f then first_refusal c.args.self.now.randoms c.args.packet.now) (at_some _ _ l running c.in_ok-awaits.ensures) ∙ c.in_err-peer.ensures.exact
-    ∙ ap Some (sym p.2))) c.requires.empty))
+    ∙ ap Some (sym p.2))) c.requires.ready.empty))
 
 pub returns-clause-carries : goal.returns-clause-carries
 returns-clause-carries g c =
-    let agrees = rw (← c.self.view_is) at c.requires.agrees in
+    let agrees = rw (← c.self.view_is) at c.requires.ready.agrees in
     let free = rw (← c.self.view_is) at c.in_ok-awaits.ensures in
     let fine = rw (← c.self.view_is) at c.in_ok-peer.ensures.exact in
     let value = rw (← c.self.view_is) at c.in_ok-peer.ensures.value in
@@ -58,7 +58,7 @@ returns-clause-carries g c =
     (at_some _ _ l running free) c.drop_oldest.ensures
     (λ i. record {
       frames = (ap (λ (o : Out). o.frames) c.push_up.ensures
-          ∙ (λ j. (c.requires.empty j).frames ++ spelled network (Up c.args.agent (c.eui-eui.ensures j)
+          ∙ (λ j. (c.requires.ready.empty j).frames ++ spelled network (Up c.args.agent (c.eui-eui.ensures j)
           ((c.join_with-join.ensures.value ∙ (λ j. message (c.eui-eui.ensures j) (body.Join (written j)))) j)) ∷ [])) i;
       tags = c.in_ok-peer.ensures.tags i;
     })))

@@ -23,7 +23,8 @@ returns-in_err-peer-clause-carries g c =
     rw p.1 (on_node c.args.self.now _ (λ l running.
     refuses dropped c.args.self.now c.args.self.now l p.0
     (meters.reply (identity_of c.args.self.now) (memory_with c.args.self.now l) memory.ByCommand c.args.packet.now c.args.now) c.args.out.now running refl
-    (reply_refused c.args.self.now l memory.ByCommand c.args.packet.now c.args.now p.0 (c.in_err-peer.ensures.exact ∙ ap Some (sym p.2))) c.requires.empty))
+    (reply_refused c.args.self.now l memory.ByCommand c.args.packet.now c.args.now p.0 (c.in_err-peer.ensures.exact ∙ ap Some (sym p.2)))
+    c.requires.ready.empty))
 
 pub returns-in_err-room-clause-carries : goal.returns-in_err-room-clause-carries
 returns-in_err-room-clause-carries g c =
@@ -45,7 +46,7 @@ returns-in_err-room-clause-carries g c =
     (reply_lacks x l c.args.packet.now c.args.now c.in_ok-peer.peer fine value is p.0 (at_some _ _ l running joined)
     (ap (λ (k : List ℕ). command_fault dropped dropped_for l 0 (length k))
     (sym (c.write_up.ensures.command ∙ ap command_of (c.join_with-join.ensures.value ∙ (λ j. message (c.eui-eui.ensures j) (body.Join (written j))))))
-    ∙ at_some _ _ l running fault ∙ ap Some (sym p.2))) c.requires.empty))
+    ∙ at_some _ _ l running fault ∙ ap Some (sym p.2))) c.requires.ready.empty))
 
 pub returns-in_default-clause-carries : goal.returns-in_default-clause-carries
 returns-in_default-clause-carries g c =

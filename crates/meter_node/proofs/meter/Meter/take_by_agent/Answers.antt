@@ -29,7 +29,7 @@ returns-in_err-awaits-clause-carries g c =
     (memory.ByAgent c.args.agent) c.args.packet.now c.args.now) c.args.out.now running refl
     (take_refused c.args.self.now l (memory.ByAgent c.args.agent) c.args.packet.now c.args.now p.0
     (ap (λ f. f then third_refusal (keys_of c.args.self.now.psk.0) c.args.self.now.session c.args.packet.now)
-    (at_some _ _ l running c.in_err-awaits.ensures ∙ ap Some (sym p.2)))) c.requires.empty))
+    (at_some _ _ l running c.in_err-awaits.ensures ∙ ap Some (sym p.2)))) c.requires.ready.empty))
 
 pub returns-in_err-taken-clause-carries : goal.returns-in_err-taken-clause-carries
 returns-in_err-taken-clause-carries g c =
@@ -39,11 +39,11 @@ returns-in_err-taken-clause-carries g c =
     (memory.ByAgent c.args.agent) c.args.packet.now c.args.now) c.args.out.now running refl
     (take_refused c.args.self.now l (memory.ByAgent c.args.agent) c.args.packet.now c.args.now p.0
     (ap (λ f. f then third_refusal (keys_of c.args.self.now.psk.0) c.args.self.now.session c.args.packet.now) (at_some _ _ l running c.in_ok-awaits.ensures)
-    ∙ c.in_err-taken.ensures.exact ∙ ap Some (sym p.2))) c.requires.empty))
+    ∙ c.in_err-taken.ensures.exact ∙ ap Some (sym p.2))) c.requires.ready.empty))
 
 pub returns-in_default-clause-carries : goal.returns-in_default-clause-carries
 returns-in_default-clause-carries g c =
-    let agrees = rw (← c.self.view_is) at c.requires.agrees in
+    let agrees = rw (← c.self.view_is) at c.requires.ready.agrees in
     let fine = rw (← c.self.view_is) at c.in_ok-taken.ensures.exact in
     let held = rw (← c.self.view_is) at c.in_ok-taken.ensures.peer in
     let is = rw (← c.self.view_is) at c.in_ok-taken.ensures.grant in
@@ -59,11 +59,11 @@ returns-in_default-clause-carries g c =
     agent_cut x l c.args.packet.now c.args.now c.in_ok-taken.taken.peer c.in_ok-taken.taken.grant is held fine c.args.agent c.install.new.self _ running agrees
     (at_some _ _ l running free) _
     (at_some _ _ l running c.in_default.ensures.carries)
-    (λ i. record { frames = (c.requires.empty i).frames; tags = record { made = c.clear.ensures i; opened = (c.in_ok-taken.ensures.tags i).opened } })))
+    (λ i. record { frames = (c.requires.ready.empty i).frames; tags = record { made = c.clear.ensures i; opened = (c.in_ok-taken.ensures.tags i).opened } })))
 
 pub returns-clause-carries : goal.returns-clause-carries
 returns-clause-carries g c =
-    let agrees = rw (← c.self.view_is) at c.requires.agrees in
+    let agrees = rw (← c.self.view_is) at c.requires.ready.agrees in
     let fine = rw (← c.self.view_is) at c.in_ok-taken.ensures.exact in
     let held = rw (← c.self.view_is) at c.in_ok-taken.ensures.peer in
     let is = rw (← c.self.view_is) at c.in_ok-taken.ensures.grant in
@@ -82,7 +82,7 @@ returns-clause-carries g c =
     c.in_ok-taken.taken.agreed tt c.in_ok-taken.ensures.agreed (at_some _ _ l running c.in-Ok.ensures.carries)
     (λ i. record {
       frames = (ap (λ (o : Out). o.frames) c.push_up.ensures
-          ∙ (λ j. (c.requires.empty j).frames ++ spelled network
+          ∙ (λ j. (c.requires.ready.empty j).frames ++ spelled network
           (Up c.args.agent c.in_ok-taken.taken.peer.eui ((c.join_with-join.ensures.value ∙ (λ j. message (eui j) (body.Join (written j)))) j)) ∷ [])) i;
       tags = c.in_ok-taken.ensures.tags i;
     })))

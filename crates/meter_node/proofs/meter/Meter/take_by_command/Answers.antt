@@ -28,7 +28,7 @@ returns-then-not-has_session-clause-carries g c =
     (meters.take (identity_of c.args.self.now) (memory_with c.args.self.now l) memory.ByCommand c.args.packet.now c.args.now) c.args.out.now running refl
     (take_refused c.args.self.now l memory.ByCommand c.args.packet.now c.args.now NoSession
     (ap (λ (b : Bool). (Some NoSession unless b) then third_refusal (keys_of c.args.self.now.psk.0) c.args.self.now.session c.args.packet.now)
-    (sym (c.if-not-has_session.ensures l)))) c.requires.empty)
+    (sym (c.if-not-has_session.ensures l)))) c.requires.ready.empty)
 
 pub returns-in_err-taken-clause-carries : goal.returns-in_err-taken-clause-carries
 returns-in_err-taken-clause-carries g c =
@@ -38,12 +38,12 @@ returns-in_err-taken-clause-carries g c =
     (meters.take (identity_of c.args.self.now) (memory_with c.args.self.now l) memory.ByCommand c.args.packet.now c.args.now) c.args.out.now running refl
     (take_refused c.args.self.now l memory.ByCommand c.args.packet.now c.args.now p.0
     (ap (λ (b : Bool). (Some NoSession unless b) then third_refusal (keys_of c.args.self.now.psk.0) c.args.self.now.session c.args.packet.now)
-    (sym (c.if-not-has_session.ensures l)) ∙ c.in_err-taken.ensures.exact ∙ ap Some (sym p.2))) c.requires.empty))
+    (sym (c.if-not-has_session.ensures l)) ∙ c.in_err-taken.ensures.exact ∙ ap Some (sym p.2))) c.requires.ready.empty))
 
 pub returns-in_err-room-clause-carries : goal.returns-in_err-room-clause-carries
 returns-in_err-room-clause-carries g c =
     let p = err_from_is_err_and c.from_residual-in_err-room.result c.from_residual-in_err-room.ensures.1 in
-    let agrees = rw (← c.self.view_is) at c.requires.agrees in
+    let agrees = rw (← c.self.view_is) at c.requires.ready.agrees in
     let fine = rw (← c.self.view_is) at c.in_ok-taken.ensures.exact in
     let held = rw (← c.self.view_is) at c.in_ok-taken.ensures.peer in
     let is = rw (← c.self.view_is) at c.in_ok-taken.ensures.grant in
@@ -62,11 +62,11 @@ returns-in_err-room-clause-carries g c =
     (ap (λ (b : Bool). Some NoSession unless b) (sym (has l)))
     (ap (λ (k : List ℕ). command_fault dropped dropped_for l 0 (length k))
     (sym (c.write_up.ensures.command ∙ ap command_of (c.join_with-join.ensures.value ∙ (λ j. message (c.eui-eui.ensures j) (body.Join (written j))))))
-    ∙ at_some _ _ l running fault ∙ ap Some (sym p.2))) c.requires.empty))
+    ∙ at_some _ _ l running fault ∙ ap Some (sym p.2))) c.requires.ready.empty))
 
 pub returns-in_default-clause-carries : goal.returns-in_default-clause-carries
 returns-in_default-clause-carries g c =
-    let agrees = rw (← c.self.view_is) at c.requires.agrees in
+    let agrees = rw (← c.self.view_is) at c.requires.ready.agrees in
     let fine = rw (← c.self.view_is) at c.in_ok-taken.ensures.exact in
     let held = rw (← c.self.view_is) at c.in_ok-taken.ensures.peer in
     let is = rw (← c.self.view_is) at c.in_ok-taken.ensures.grant in
@@ -85,11 +85,11 @@ returns-in_default-clause-carries g c =
     (subst (λ (k : List ℕ). HasRoom l 0 (length k)) (c.write_up.ensures.command
     ∙ ap command_of (c.join_with-join.ensures.value ∙ (λ j. message (c.eui-eui.ensures j) (body.Join (written j))))) (at_some _ _ l running room)) _
     (at_some _ _ l running c.in_default.ensures.carries)
-    (λ i. record { frames = (c.requires.empty i).frames; tags = record { made = c.clear.ensures i; opened = (c.in_ok-taken.ensures.tags i).opened } })))
+    (λ i. record { frames = (c.requires.ready.empty i).frames; tags = record { made = c.clear.ensures i; opened = (c.in_ok-taken.ensures.tags i).opened } })))
 
 pub returns-in_default-send_command-clause-carries : goal.returns-in_default-send_command-clause-carries
 returns-in_default-send_command-clause-carries g c =
-    let agrees = rw (← c.self.view_is) at c.requires.agrees in
+    let agrees = rw (← c.self.view_is) at c.requires.ready.agrees in
     let fine = rw (← c.self.view_is) at c.in_ok-taken.ensures.exact in
     let held = rw (← c.self.view_is) at c.in_ok-taken.ensures.peer in
     let is = rw (← c.self.view_is) at c.in_ok-taken.ensures.grant in
@@ -117,7 +117,7 @@ returns-in_default-send_command-clause-carries g c =
 
 pub returns-clause-carries : goal.returns-clause-carries
 returns-clause-carries g c =
-    let agrees = rw (← c.self.view_is) at c.requires.agrees in
+    let agrees = rw (← c.self.view_is) at c.requires.ready.agrees in
     let fine = rw (← c.self.view_is) at c.in_ok-taken.ensures.exact in
     let held = rw (← c.self.view_is) at c.in_ok-taken.ensures.peer in
     let is = rw (← c.self.view_is) at c.in_ok-taken.ensures.grant in

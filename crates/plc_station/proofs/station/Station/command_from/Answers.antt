@@ -15,7 +15,7 @@ unfolding next_hop
 returns-then-left-lt1-clause-carries g c =
     rw (← c.self.view_is) (on_memory c.self.inside.halted _ _ (λ running. refusal sending_ends _ (station_in c.self.inside.parts c.self.inside.bodies)
     CounterSpent _ _ running (ways.goes_spent (station_in c.self.inside.parts c.self.inside.bodies) c.args.grant.now.address c.args.to c.args.octets.now
-    c.args.now c.in-Some.hop c.in-Some.ensures (too_few _ _ _ c.left-left.ensures (omega (arith, c.if-left-lt1.true)))) c.requires.empty))
+    c.args.now c.in-Some.hop c.in-Some.ensures (too_few _ _ _ c.left-left.ensures (omega (arith, c.if-left-lt1.true)))) c.requires.ready.empty))
 
 pub returns-in-Some-clause-carries : goal.returns-in-Some-clause-carries
 unfolding next_hop
@@ -30,7 +30,7 @@ unfolding next_hop
 returns-then-no_room-clause-carries g c =
     rw (← c.self.view_is) (on_memory c.self.inside.halted _ _ (λ running. refusal sending_ends _ (station_in c.self.inside.parts c.self.inside.bodies)
     WaitingFull _ _ running (ways.full (station_in c.self.inside.parts c.self.inside.bodies) c.args.grant.now.address c.args.to c.args.octets.now c.args.now
-    c.in_default.ensures c.if-no_room.ensures) c.requires.empty))
+    c.in_default.ensures c.if-no_room.ensures) c.requires.ready.empty))
 
 pub returns-then-is_awaited-clause-carries : goal.returns-then-is_awaited-clause-carries
 unfolding next_hop
@@ -45,7 +45,7 @@ unfolding next_hop
 returns-then-last-clause-carries g c =
     rw (← c.self.view_is) (on_memory c.self.inside.halted _ _ (λ running. refusal sending_ends _ (station_in c.self.inside.parts c.self.inside.bodies) SeqSpent
     _ _ running (ways.seq_spent (station_in c.self.inside.parts c.self.inside.bodies) c.args.grant.now.address c.args.to c.args.octets.now c.args.now
-    c.in_default.ensures c.if-no_room.ensures c.if-is_awaited.ensures (grind (arith, nat_tests, c.last.ensures, c.if-last.true))) c.requires.empty))
+    c.in_default.ensures c.if-no_room.ensures c.if-is_awaited.ensures (grind (arith, nat_tests, c.last.ensures, c.if-last.true))) c.requires.ready.empty))
 
 pub returns-then-left-lt1-2-clause-carries : goal.returns-then-left-lt1-2-clause-carries
 unfolding next_hop
@@ -53,7 +53,7 @@ returns-then-left-lt1-2-clause-carries g c =
     rw (← c.self.view_is) (on_memory c.self.inside.halted _ _ (λ running. refusal sending_ends _ (station_in c.self.inside.parts c.self.inside.bodies)
     CounterSpent _ _ running (ways.seeks_spent (station_in c.self.inside.parts c.self.inside.bodies) c.args.grant.now.address c.args.to c.args.octets.now
     c.args.now c.in_default.ensures c.if-no_room.ensures c.if-is_awaited.ensures (grind (arith, nat_tests, c.last.ensures, c.if-last.false))
-    (too_few _ _ _ c.left-left.ensures (omega (arith, c.if-left-lt1-2.true)))) c.requires.empty))
+    (too_few _ _ _ c.left-left.ensures (omega (arith, c.if-left-lt1-2.true)))) c.requires.ready.empty))
 
 pub returns-clause-carries : goal.returns-clause-carries
 unfolding next_hop

@@ -29,7 +29,7 @@ returns-in_default-clause-carries g c =
     (empty_draft (station_in c.self.inside.parts c.self.inside.bodies))))
     (waits c.args.to 0 (Command c.args.octets.now) c.args.now (seeks c.args.grant.now.address c.args.to
     (empty_draft (station_in c.self.inside.parts c.self.inside.bodies)))) Waiting _ refl
-    (wrote_one _ _ (advance_write c.self.inside.parts.own_number) _ c.in_default.ensures.store) c.requires.empty refl))
+    (wrote_one _ _ (advance_write c.self.inside.parts.own_number) _ c.in_default.ensures.store) c.requires.ready.empty refl))
 
 pub returns-in_default-reserve-clause-carries : goal.returns-in_default-reserve-clause-carries
 unfolding waits goes with_own_number empty_draft
@@ -39,7 +39,7 @@ returns-in_default-reserve-clause-carries g c =
     (empty_draft (station_in c.self.inside.parts c.self.inside.bodies))))
     (waits c.args.to 0 (Command c.args.octets.now) c.args.now (seeks c.args.grant.now.address c.args.to
     (empty_draft (station_in c.self.inside.parts c.self.inside.bodies)))) Waiting _ _ _ refl
-    (wrote_one _ _ (advance_write c.self.inside.parts.own_number) _ c.in-Ok.ensures.store) refl c.in_default-reserve.ensures.store c.requires.empty refl))
+    (wrote_one _ _ (advance_write c.self.inside.parts.own_number) _ c.in-Ok.ensures.store) refl c.in_default-reserve.ensures.store c.requires.ready.empty refl))
 
 pub returns-clause-carries : goal.returns-clause-carries
 unfolding waits goes with_own_number empty_draft
@@ -52,17 +52,20 @@ returns-clause-carries g c =
     (wrote_one _ _ (advance_write c.self.inside.parts.own_number) _ c.in-Ok.ensures.store) refl c.in-Ok-reserve.ensures.store
     (c.seal_request.ensures ∙ (λ i. only_frames (map (spelled network)
     (sealed_by ((sym (at_some c.args.self.now.memory (λ l. l.ring ≡ Some c.args.grant.now) (station_in c.self.inside.parts c.self.inside.bodies)
-    (ap (λ (s : State StationMemory). s.memory) (sym c.self.view_is) ∙ running) c.requires.ring)) i) (c.in-Ok-reserve.ensures.number i)
+    (ap (λ (s : State StationMemory). s.memory) (sym c.self.view_is) ∙ running) c.requires.ready.ring)) i) (c.in-Ok-reserve.ensures.number i)
     (record { to = 0xFFFF; unit = Local 1 (messages.spelling (Rreq (c.in-Ok.ensures.number i) 0 c.args.grant.now.address c.args.to)); note = 0 } ∷ [])))))
     (lines_are _ _ _ _ refl c.in-Ok-reserve.ensures.counter refl refl c.in-Ok.ensures.numbering refl (ap (λ (h : Held). h.reassemblies) c.push.ensures)
     (ap (λ (h : Held). h.waiting) c.push.ensures))))
 
-pub returns-clause-agrees : goal.returns-clause-agrees
-returns-clause-agrees g c =
-    let before : IfSome (unless_halted c.self.inside.halted (station_in c.self.inside.parts c.self.inside.bodies))
-    (λ l. AgreesWith l (g.K.Keeper.store c.self.inside.keeper).records) = rw (← c.self.view_is) at c.requires.agrees in
-    let running = rw (← c.self.view_is) at c.requires.running in
-    let numbered = agrees_numbered (station_in c.self.inside.parts c.self.inside.bodies) _ _ _ (of_some _ _ _ running before) c.in-Ok.ensures.kept
-    c.in-Ok.ensures.elsewhere in
-    let a = agrees_counted _ _ _ _ numbered c.in-Ok-reserve.ensures.kept c.in-Ok-reserve.ensures.elsewhere in
-    record { ring = a.ring; counter = a.counter; marks = a.marks; routing = a.routing; own_number = a.own_number; tag = a.tag }
+pub returns-clause-after : goal.returns-clause-after
+returns-clause-after g c = record {
+  agrees =
+      let before : IfSome (unless_halted c.self.inside.halted (station_in c.self.inside.parts c.self.inside.bodies))
+      (λ l. AgreesWith l (g.K.Keeper.store c.self.inside.keeper).records) = rw (← c.self.view_is) at c.requires.ready.agrees in
+      let running = rw (← c.self.view_is) at c.requires.ready.running in
+      let numbered = agrees_numbered (station_in c.self.inside.parts c.self.inside.bodies) _ _ _ (of_some _ _ _ running before) c.in-Ok.ensures.kept
+      c.in-Ok.ensures.elsewhere in
+      let a = agrees_counted _ _ _ _ numbered c.in-Ok-reserve.ensures.kept c.in-Ok-reserve.ensures.elsewhere in
+      record { ring = a.ring; counter = a.counter; marks = a.marks; routing = a.routing; own_number = a.own_number; tag = a.tag };
+  replied = rw (← c.self.view_is) refl;
+}

@@ -25,7 +25,7 @@ returns-then-mesh-lt2-clause-carries g c =
     rw (← c.self.view_is) (on_memory c.self.inside.halted _ _
     (λ running. refusal dropped _ (station_in c.self.inside.parts c.self.inside.bodies) HopsSpent _ _ running
     (hops_spent (station_in c.self.inside.parts c.self.inside.bodies) c.args.grant.now.address c.args.mesh.now c.args.unit.now c.args.note c.in-Some.hop
-    c.in-Some.ensures (grind (arith, nat_tests, c.if-mesh-lt2.true))) c.requires.empty))
+    c.in-Some.ensures (grind (arith, nat_tests, c.if-mesh-lt2.true))) c.requires.ready.empty))
 
 pub returns-then-left-lt1-clause-carries : goal.returns-then-left-lt1-clause-carries
 unfolding next_hop
@@ -34,7 +34,7 @@ returns-then-left-lt1-clause-carries g c =
     (λ running. refusal dropped _ (station_in c.self.inside.parts c.self.inside.bodies) CounterSpent _ _ running
     (forward_spent (station_in c.self.inside.parts c.self.inside.bodies) c.args.grant.now.address c.args.mesh.now c.args.unit.now c.args.note c.in-Some.hop
     c.in-Some.ensures (grind (arith, nat_tests, c.if-mesh-lt2.false)) (too_few _ _ _ c.left-left.ensures (omega (arith, c.if-left-lt1.true))))
-    c.requires.empty))
+    c.requires.ready.empty))
 
 pub returns-in-Ok-clause-carries : goal.returns-in-Ok-clause-carries
 unfolding next_hop

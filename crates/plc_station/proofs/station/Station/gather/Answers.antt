@@ -16,7 +16,7 @@ returns-clause-carries g c =
       c.octets.ensures.value,
       c.gather-taken.ensures.answer,
       c.gather-taken.ensures.datagram,
-      c.requires.empty,
+      c.requires.ready.empty,
     )
     (changed _ _ _ _ _ refl refl
     (still c.self.inside.halted _ _ running

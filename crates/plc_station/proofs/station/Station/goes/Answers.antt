@@ -26,7 +26,7 @@ returns-in_default-clause-carries g c =
     (tag_taken c.args.datagram.now (empty_draft (station_in c.self.inside.parts c.self.inside.bodies)))) Sent _
     (ap (body_goes c.args.grant.now.address c.args.hop c.args.to c.args.note (Datagram c.args.datagram.now c.self.inside.parts.next_tag))
     (tagged_is (station_in c.self.inside.parts c.self.inside.bodies) c.args.datagram.now))
-    (wrote_one _ _ _ _ c.in_default.ensures.store) c.requires.empty refl))
+    (wrote_one _ _ _ _ c.in_default.ensures.store) c.requires.ready.empty refl))
 
 pub returns-in_default-reserve-clause-carries : goal.returns-in_default-reserve-clause-carries
 unfolding body_goes
@@ -41,7 +41,7 @@ returns-in_default-reserve-clause-carries g c =
     (tag_taken c.args.datagram.now (empty_draft (station_in c.self.inside.parts c.self.inside.bodies)))) Sent _ _ _
     (ap (body_goes c.args.grant.now.address c.args.hop c.args.to c.args.note (Datagram c.args.datagram.now c.self.inside.parts.next_tag))
     (tagged_is (station_in c.self.inside.parts c.self.inside.bodies) c.args.datagram.now))
-    (wrote_one _ _ _ _ c.in-Ok.ensures.store) count c.in_default-reserve.ensures.store c.requires.empty refl))
+    (wrote_one _ _ _ _ c.in-Ok.ensures.store) count c.in_default-reserve.ensures.store c.requires.ready.empty refl))
 
 pub returns-clause-carries : goal.returns-clause-carries
 unfolding body_goes
@@ -59,6 +59,6 @@ returns-clause-carries g c =
     (wrote_one _ _ _ _ c.in-Ok.ensures.store) count c.in-Ok-reserve.ensures.store
     (c.seal_datagram.ensures ∙ (λ i. only_frames (map (spelled network)
     (sealed_by ((sym (at_some c.args.self.now.memory (λ l. l.ring ≡ Some c.args.grant.now) (station_in c.self.inside.parts c.self.inside.bodies)
-    (ap (λ (s : State StationMemory). s.memory) (sym c.self.view_is) ∙ running) c.requires.ring)) i) (c.in-Ok-reserve.ensures.number i)
+    (ap (λ (s : State StationMemory). s.memory) (sym c.self.view_is) ∙ running) c.requires.ready.ring)) i) (c.in-Ok-reserve.ensures.number i)
     (all_go c.args.hop c.args.note (units_of c.args.grant.now.address c.args.to (Datagram c.args.datagram.now (c.in-Ok.ensures.tag i))))))))
     (lines_are _ _ _ _ refl c.in-Ok-reserve.ensures.counter refl refl refl c.in-Ok.ensures.next refl refl)))

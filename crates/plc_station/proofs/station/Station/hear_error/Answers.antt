@@ -35,7 +35,7 @@ returns-then-left-lt1-clause-carries g c =
     (λ running. refusal dropped _ (station_in c.self.inside.parts c.self.inside.bodies) CounterSpent _ _ running
     (error_spent (station_in c.self.inside.parts c.self.inside.bodies) c.args.grant.now.address c.args.by c.args.lost c.args.to c.in-Some.hop
     (grind (arith, nat_tests, c.if-number.false, c.number.ensures.value, c.number-2.ensures.value, ap (λ (g : Granted). g.address) c.grant.view_is))
-    c.in-Some.ensures (too_few _ _ _ c.left-left.ensures (omega (arith, c.if-left-lt1.true)))) c.requires.empty))
+    c.in-Some.ensures (too_few _ _ _ c.left-left.ensures (omega (arith, c.if-left-lt1.true)))) c.requires.ready.empty))
 
 pub returns-clause-carries : goal.returns-clause-carries
 unfolding next_hop with_routing_by empty_draft

@@ -21,7 +21,7 @@ returns-then-number-clause-carries g c =
     if_some _ _ (λ l m. rested c.args.self.now l _ (Err Store) _ _ m
     (ap (λ (h : Heard). resting l (Ok h) (Err Store))
     (c.handed_up.ensures ∙ ap (λ (os : List ℕ). Up c.in-Whole.mesh.origin c.args.note os) (c.new-octets.ensures ∙ c.octets.ensures))
-    ∙ whole_here l c.args.grant.now.address c.args.unit.now c.in-Whole.mesh c.in-Whole.octets c.args.note c.args.now c.in-Whole.is here) c.requires.empty)
+    ∙ whole_here l c.args.grant.now.address c.args.unit.now c.in-Whole.mesh c.in-Whole.octets c.args.note c.args.now c.in-Whole.is here) c.requires.ready.empty)
 
 pub returns-then-number-2-clause-carries : goal.returns-then-number-2-clause-carries
 returns-then-number-2-clause-carries g c =
@@ -43,7 +43,8 @@ returns-then-number-3-clause-carries g c =
     if_some _ _ (λ l m. rested c.args.self.now l _ (Err Store) _ _ m
     (ap (λ (h : Heard). resting l (Ok h) (Err Store))
     (c.joining_over.ensures ∙ ap (λ (os : List ℕ). Joining (Mesh c.in-Carried.mesh.origin) os) (c.new-body.ensures ∙ c.octets-in-Carried.ensures))
-    ∙ carried_here l c.args.grant.now.address c.args.unit.now c.in-Carried.mesh c.in-Carried.body c.args.note c.args.now c.in-Carried.is here) c.requires.empty)
+    ∙ carried_here l c.args.grant.now.address c.args.unit.now c.in-Carried.mesh c.in-Carried.body c.args.note c.args.now c.in-Carried.is here)
+    c.requires.ready.empty)
 
 pub returns-else-number-clause-carries : goal.returns-else-number-clause-carries
 returns-else-number-clause-carries g c =
@@ -88,4 +89,4 @@ returns-else-number-3-clause-carries g c =
 pub returns-in-Local-clause-carries : goal.returns-in-Local-clause-carries
 returns-in-Local-clause-carries g c =
     if_some _ _ (λ l m. refusal dropped c.args.self.now l BadUnit _ _ m
-    (local_bad l c.args.grant.now.address c.args.unit.now _ _ c.args.note c.args.now c.in-Local.is) c.requires.empty)
+    (local_bad l c.args.grant.now.address c.args.unit.now _ _ c.args.note c.args.now c.in-Local.is) c.requires.ready.empty)

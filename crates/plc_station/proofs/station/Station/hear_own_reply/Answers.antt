@@ -22,7 +22,7 @@ returns-then-is_no_better-clause-carries g c =
     (learns (station_in c.self.inside.parts c.self.inside.bodies) c.args.grant.now.address c.args.by c.args.origin
     (record { number = c.args.number; cost = c.args.cost }) c.args.now)
     (rw (ap (λ (g : Granted). g.address) c.grant.view_is) at (at_some c.args.self.now.memory _ (station_in c.self.inside.parts c.self.inside.bodies)
-    (ap (λ (s : State StationMemory). s.memory) (sym c.self.view_is) ∙ running) c.if-is_no_better.ensures))) c.requires.empty))
+    (ap (λ (s : State StationMemory). s.memory) (sym c.self.view_is) ∙ running) c.if-is_no_better.ensures))) c.requires.ready.empty))
 
 pub returns-in_default-clause-carries : goal.returns-in_default-clause-carries
 returns-in_default-clause-carries g c =
@@ -33,7 +33,8 @@ returns-in_default-clause-carries g c =
     (learns (station_in c.self.inside.parts c.self.inside.bodies) c.args.grant.now.address c.args.by c.args.origin
     (record { number = c.args.number; cost = c.args.cost }) c.args.now)
     (rw (ap (λ (g : Granted). g.address) c.grant.view_is) at (at_some c.args.self.now.memory _ (station_in c.self.inside.parts c.self.inside.bodies)
-    (ap (λ (s : State StationMemory). s.memory) (sym c.self.view_is) ∙ running) c.if-is_no_better.ensures)) (big _ c.in_default.ensures)) c.requires.empty))
+    (ap (λ (s : State StationMemory). s.memory) (sym c.self.view_is) ∙ running) c.if-is_no_better.ensures)) (big _ c.in_default.ensures))
+    c.requires.ready.empty))
 
 pub returns-then-full-clause-carries : goal.returns-then-full-clause-carries
 returns-then-full-clause-carries g c =
@@ -45,7 +46,7 @@ returns-then-full-clause-carries g c =
     (record { number = c.args.number; cost = c.args.cost }) c.args.now)
     (rw (ap (λ (g : Granted). g.address) c.grant.view_is) at (at_some c.args.self.now.memory _ (station_in c.self.inside.parts c.self.inside.bodies)
     (ap (λ (s : State StationMemory). s.memory) (sym c.self.view_is) ∙ running) c.if-is_no_better.ensures)) (small _ c.in-Ok.ensures.0) c.if-full.ensures)
-    c.requires.empty))
+    c.requires.ready.empty))
 
 pub returns-then-left-units-clause-carries : goal.returns-then-left-units-clause-carries
 returns-then-left-units-clause-carries g c =
@@ -60,7 +61,7 @@ returns-then-left-units-clause-carries g c =
       cost = (small _ c.in-Ok.ensures.0);
       room = c.if-full.ensures;
     }) (too_few _ _ _ c.left-left.ensures (omega (arith, c.if-left-units.true, c.units_for-units.ensures.units c.args.grant.now.address c.args.by))))
-    c.requires.empty))
+    c.requires.ready.empty))
 
 pub returns-in-Ok-learn-clause-carries : goal.returns-in-Ok-learn-clause-carries
 returns-in-Ok-learn-clause-carries g c =

@@ -17,7 +17,7 @@ returns-then-number-clause-hears g c =
     (grind (arith, nat_tests, c.if-number.true, c.number.ensures.value, c.number-2.ensures.value, ap (λ (g : Granted). g.address) c.grant.view_is)) in
     if_some c.args.self.now.memory _ (λ l m. heard_by _ _ _ _ _ _ (reply_here l c.args.grant.now.address c.args.by c.args.origin c.args.to
     (record { number = c.args.number; cost = c.args.cost }) c.args.now here)
-    (quiet _ _ _ _ _ (at_some c.args.self.now.memory _ l m c.hear_own_reply.ensures.carries) c.requires.fresh c.hear_own_reply.ensures.replied
+    (quiet _ _ _ _ _ (at_some c.args.self.now.memory _ l m c.hear_own_reply.ensures.carries) c.requires.fresh c.hear_own_reply.ensures.after.replied
     (learned_quiet l c.args.grant.now.address c.args.by c.args.origin (record { number = c.args.number; cost = c.args.cost }) c.args.now)))
 
 pub returns-in_default-clause-hears : goal.returns-in_default-clause-hears
@@ -28,7 +28,7 @@ returns-in_default-clause-hears g c =
     (reply_lost (station_in c.self.inside.parts c.self.inside.bodies) c.args.grant.now.address c.args.by c.args.origin c.args.to
     (record { number = c.args.number; cost = c.args.cost }) c.args.now
     (grind (arith, nat_tests, c.if-number.false, c.number.ensures.value, c.number-2.ensures.value, ap (λ (g : Granted). g.address) c.grant.view_is))
-    c.in_default.ensures) c.requires.empty (rw (← c.self.view_is) at c.requires.fresh)))
+    c.in_default.ensures) c.requires.ready.empty (rw (← c.self.view_is) at c.requires.fresh)))
 
 pub returns-clause-hears : goal.returns-clause-hears
 unfolding next_hop

@@ -24,7 +24,7 @@ returns-then-is_no_better-clause-hears g c =
     (passes_on (station_in c.self.inside.parts c.self.inside.bodies) c.args.grant.now.address c.args.by c.args.origin c.args.to c.args.hop
     (record { number = c.args.number; cost = c.args.cost }) c.args.now)
     (rw (ap (λ (g : Granted). g.address) c.grant.view_is) at (at_some c.args.self.now.memory _ (station_in c.self.inside.parts c.self.inside.bodies)
-    (ap (λ (s : State StationMemory). s.memory) (sym c.self.view_is) ∙ running) c.if-is_no_better.ensures))) c.requires.empty
+    (ap (λ (s : State StationMemory). s.memory) (sym c.self.view_is) ∙ running) c.if-is_no_better.ensures))) c.requires.ready.empty
     (rw (← c.self.view_is) at c.requires.fresh)))
 
 pub returns-in_default-clause-hears : goal.returns-in_default-clause-hears
@@ -36,7 +36,7 @@ returns-in_default-clause-hears g c =
     (passes_on (station_in c.self.inside.parts c.self.inside.bodies) c.args.grant.now.address c.args.by c.args.origin c.args.to c.args.hop
     (record { number = c.args.number; cost = c.args.cost }) c.args.now)
     (rw (ap (λ (g : Granted). g.address) c.grant.view_is) at (at_some c.args.self.now.memory _ (station_in c.self.inside.parts c.self.inside.bodies)
-    (ap (λ (s : State StationMemory). s.memory) (sym c.self.view_is) ∙ running) c.if-is_no_better.ensures)) (big _ c.in_default.ensures)) c.requires.empty
+    (ap (λ (s : State StationMemory). s.memory) (sym c.self.view_is) ∙ running) c.if-is_no_better.ensures)) (big _ c.in_default.ensures)) c.requires.ready.empty
     (rw (← c.self.view_is) at c.requires.fresh)))
 
 pub returns-then-full-clause-hears : goal.returns-then-full-clause-hears
@@ -49,7 +49,7 @@ returns-then-full-clause-hears g c =
     (record { number = c.args.number; cost = c.args.cost }) c.args.now)
     (rw (ap (λ (g : Granted). g.address) c.grant.view_is) at (at_some c.args.self.now.memory _ (station_in c.self.inside.parts c.self.inside.bodies)
     (ap (λ (s : State StationMemory). s.memory) (sym c.self.view_is) ∙ running) c.if-is_no_better.ensures)) (small _ c.in-Ok.ensures.0) c.if-full.ensures)
-    c.requires.empty (rw (← c.self.view_is) at c.requires.fresh)))
+    c.requires.ready.empty (rw (← c.self.view_is) at c.requires.fresh)))
 
 pub returns-then-left-units-clause-hears : goal.returns-then-left-units-clause-hears
 returns-then-left-units-clause-hears g c =
@@ -64,7 +64,7 @@ returns-then-left-units-clause-hears g c =
       cost = (small _ c.in-Ok.ensures.0);
       room = c.if-full.ensures;
     }) (too_few _ _ _ c.left-left.ensures (omega (arith, c.if-left-units.true, c.units_for-units.ensures.units c.args.grant.now.address c.args.by))))
-    c.requires.empty (rw (← c.self.view_is) at c.requires.fresh)))
+    c.requires.ready.empty (rw (← c.self.view_is) at c.requires.fresh)))
 
 pub returns-in-Ok-pass_on-clause-hears : goal.returns-in-Ok-pass_on-clause-hears
 returns-in-Ok-pass_on-clause-hears g c =

@@ -22,7 +22,7 @@ returns-then-is_no_better-clause-hears g c =
     (not_better (station_in c.self.inside.parts c.self.inside.bodies) c.args.grant.now.address c.args.by c.args.origin c.args.dest
     (record { number = c.args.number; cost = c.args.cost }) c.args.now
     (rw (ap (λ (g : Granted). g.address) c.grant.view_is) at (at_some c.args.self.now.memory _ (station_in c.self.inside.parts c.self.inside.bodies)
-    (ap (λ (s : State StationMemory). s.memory) (sym c.self.view_is) ∙ running) c.if-is_no_better.ensures))) c.requires.empty
+    (ap (λ (s : State StationMemory). s.memory) (sym c.self.view_is) ∙ running) c.if-is_no_better.ensures))) c.requires.ready.empty
     (rw (← c.self.view_is) at c.requires.fresh)))
 
 pub returns-in_default-clause-hears : goal.returns-in_default-clause-hears
@@ -32,7 +32,7 @@ returns-in_default-clause-hears g c =
     (cost_spent (station_in c.self.inside.parts c.self.inside.bodies) c.args.grant.now.address c.args.by c.args.origin c.args.dest
     (record { number = c.args.number; cost = c.args.cost }) c.args.now
     (rw (ap (λ (g : Granted). g.address) c.grant.view_is) at (at_some c.args.self.now.memory _ (station_in c.self.inside.parts c.self.inside.bodies)
-    (ap (λ (s : State StationMemory). s.memory) (sym c.self.view_is) ∙ running) c.if-is_no_better.ensures)) (big _ c.in_default.ensures)) c.requires.empty
+    (ap (λ (s : State StationMemory). s.memory) (sym c.self.view_is) ∙ running) c.if-is_no_better.ensures)) (big _ c.in_default.ensures)) c.requires.ready.empty
     (rw (← c.self.view_is) at c.requires.fresh)))
 
 pub returns-then-full-clause-hears : goal.returns-then-full-clause-hears
@@ -43,7 +43,7 @@ returns-then-full-clause-hears g c =
     (record { number = c.args.number; cost = c.args.cost }) c.args.now
     (rw (ap (λ (g : Granted). g.address) c.grant.view_is) at (at_some c.args.self.now.memory _ (station_in c.self.inside.parts c.self.inside.bodies)
     (ap (λ (s : State StationMemory). s.memory) (sym c.self.view_is) ∙ running) c.if-is_no_better.ensures)) (small _ c.in-Ok.ensures.0) c.if-full.ensures)
-    c.requires.empty (rw (← c.self.view_is) at c.requires.fresh)))
+    c.requires.ready.empty (rw (← c.self.view_is) at c.requires.fresh)))
 
 pub returns-then-last-clause-hears : goal.returns-then-last-clause-hears
 returns-then-last-clause-hears g c =
@@ -58,7 +58,7 @@ returns-then-last-clause-hears g c =
       cost = (small _ c.in-Ok.ensures.0);
       room = c.if-full.ensures;
     }) (grind (arith, nat_tests, c.if-number.true, c.number.ensures.value, c.number-2.ensures.value, ap (λ (g : Granted). g.address) c.grant.view_is))
-    (grind (arith, nat_tests, c.last.ensures, c.if-last.true))) c.requires.empty (rw (← c.self.view_is) at c.requires.fresh)))
+    (grind (arith, nat_tests, c.last.ensures, c.if-last.true))) c.requires.ready.empty (rw (← c.self.view_is) at c.requires.fresh)))
 
 pub returns-then-left-units-clause-hears : goal.returns-then-left-units-clause-hears
 returns-then-left-units-clause-hears g c =
@@ -74,7 +74,7 @@ returns-then-left-units-clause-hears g c =
       room = c.if-full.ensures;
     }) (grind (arith, nat_tests, c.if-number.true, c.number.ensures.value, c.number-2.ensures.value, ap (λ (g : Granted). g.address) c.grant.view_is))
     (grind (arith, nat_tests, c.last.ensures, c.if-last.false)) (too_few _ _ _ c.left-left.ensures
-    (omega (arith, c.if-left-units.true, c.units_for-units.ensures.units c.args.grant.now.address c.args.by)))) c.requires.empty
+    (omega (arith, c.if-left-units.true, c.units_for-units.ensures.units c.args.grant.now.address c.args.by)))) c.requires.ready.empty
     (rw (← c.self.view_is) at c.requires.fresh)))
 
 pub returns-then-left-units-2-clause-hears : goal.returns-then-left-units-2-clause-hears
@@ -91,7 +91,7 @@ returns-then-left-units-2-clause-hears g c =
       room = c.if-full.ensures;
     }) (grind (arith, nat_tests, c.if-number.false, c.number.ensures.value, c.number-2.ensures.value, ap (λ (g : Granted). g.address) c.grant.view_is))
     (too_few _ _ _ c.left-left.ensures (omega (arith, c.if-left-units-2.true, c.units_for-units.ensures.units c.args.grant.now.address c.args.by))))
-    c.requires.empty (rw (← c.self.view_is) at c.requires.fresh)))
+    c.requires.ready.empty (rw (← c.self.view_is) at c.requires.fresh)))
 
 pub returns-in-Ok-answer-clause-hears : goal.returns-in-Ok-answer-clause-hears
 returns-in-Ok-answer-clause-hears g c =
@@ -155,7 +155,7 @@ returns-in-Ok-send_on-clause-hears g c =
     (rw c.in-Ok.ensures.1 at (rw (← c.self.view_is) at c.in-Ok-send_on.ensures.carries)))
     (sent_on_kept _ _ _ (station_in c.self.inside.parts c.self.inside.bodies) c.args.grant.now.address c.args.by c.args.origin c.args.dest
     (record { number = c.args.number; cost = c.args.cost }) c.args.now (rw (← c.self.view_is) at c.requires.fresh)
-    (rw (← c.self.view_is) at c.in-Ok-send_on.ensures.replied)))))
+    (rw (← c.self.view_is) at c.in-Ok-send_on.ensures.after.replied)))))
 
 pub returns-in-Err-send_on-clause-hears : goal.returns-in-Err-send_on-clause-hears
 returns-in-Err-send_on-clause-hears g c =
@@ -177,4 +177,4 @@ returns-in-Err-send_on-clause-hears g c =
     (rw c.in-Ok.ensures.1 at (rw (← c.self.view_is) at c.in-Err-send_on.ensures.carries)))
     (sent_on_kept _ _ _ (station_in c.self.inside.parts c.self.inside.bodies) c.args.grant.now.address c.args.by c.args.origin c.args.dest
     (record { number = c.args.number; cost = c.args.cost }) c.args.now (rw (← c.self.view_is) at c.requires.fresh)
-    (rw (← c.self.view_is) at c.in-Err-send_on.ensures.replied)))))
+    (rw (← c.self.view_is) at c.in-Err-send_on.ensures.after.replied)))))

@@ -24,7 +24,7 @@ returns-in_default-clause-carries g c =
 pub returns-clause-carries : goal.returns-clause-carries
 unfolding with_ring empty_draft
 returns-clause-carries g c =
-    let before = rw (← c.self.view_is) at c.requires.agrees in
+    let before = rw (← c.self.view_is) at c.requires.ready.agrees in
     rw (← c.self.view_is) (on_memory c.self.inside.halted _ _ (λ running. settled ringing_ends _ _ (puts_of (ring_write (Some c.args.grant.now)))
     (record (station_in c.self.inside.parts c.self.inside.bodies) { ring = Some c.args.grant.now })
     (with_ring (Some c.args.grant.now) (empty_draft (station_in c.self.inside.parts c.self.inside.bodies))) tt _ refl
@@ -33,10 +33,13 @@ returns-clause-carries g c =
     before).counter.below refl
     (lines_are _ _ _ _ c.in-Ok.ensures.ring refl refl refl refl refl refl refl)))
 
-pub returns-clause-agrees : goal.returns-clause-agrees
-returns-clause-agrees g c =
-    let before : IfSome (unless_halted c.self.inside.halted (station_in c.self.inside.parts c.self.inside.bodies))
-    (λ l. AgreesWith l (g.K.Keeper.store c.self.inside.keeper).records) = rw (← c.self.view_is) at c.requires.agrees in
-    let running = rw (← c.self.view_is) at c.requires.running in
-    agrees_ringed (station_in c.self.inside.parts c.self.inside.bodies) _ _ _ (of_some _ _ _ running before) c.in-Ok.ensures.kept
-    c.in-Ok.ensures.elsewhere
+pub returns-clause-after : goal.returns-clause-after
+returns-clause-after g c = record {
+  agrees =
+      let before : IfSome (unless_halted c.self.inside.halted (station_in c.self.inside.parts c.self.inside.bodies))
+      (λ l. AgreesWith l (g.K.Keeper.store c.self.inside.keeper).records) = rw (← c.self.view_is) at c.requires.ready.agrees in
+      let running = rw (← c.self.view_is) at c.requires.ready.running in
+      agrees_ringed (station_in c.self.inside.parts c.self.inside.bodies) _ _ _ (of_some _ _ _ running before) c.in-Ok.ensures.kept
+      c.in-Ok.ensures.elsewhere;
+  replied = rw (← c.self.view_is) refl;
+}

@@ -18,7 +18,7 @@ returns-in_default-clause-carries g c =
 pub returns-clause-carries : goal.returns-clause-carries
 unfolding with_rank empty_draft
 returns-clause-carries g c =
-    let before = rw (← c.self.view_is) at c.requires.agrees in
+    let before = rw (← c.self.view_is) at c.requires.ready.agrees in
     rw (← c.self.view_is) (on_memory c.self.inside.halted _ _ (λ running. settled presetting_ends _ _
     (with_rank c.args.to (near_rank c.args.cost) c.args.to c.args.now (empty_draft (station_in c.self.inside.parts c.self.inside.bodies))).puts
     (with_rank c.args.to (near_rank c.args.cost) c.args.to c.args.now (empty_draft (station_in c.self.inside.parts c.self.inside.bodies))).memory

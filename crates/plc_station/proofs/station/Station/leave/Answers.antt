@@ -25,7 +25,7 @@ returns-in_default-clause-carries g c =
 pub returns-clause-carries : goal.returns-clause-carries
 unfolding with_ring empty_draft
 returns-clause-carries g c =
-    let before = rw (← c.self.view_is) at c.requires.agrees in
+    let before = rw (← c.self.view_is) at c.requires.ready.agrees in
     rw (← c.self.view_is) (on_memory c.self.inside.halted _ _ (λ running. settled ringing_ends _ _ (puts_of (ring_write None))
     (without_ring (empty_draft (station_in c.self.inside.parts c.self.inside.bodies))).memory
     (without_ring (empty_draft (station_in c.self.inside.parts c.self.inside.bodies))) tt _ refl
@@ -34,11 +34,14 @@ returns-clause-carries g c =
     (lines_are _ _ _ _ c.in-Ok.ensures.ring refl refl c.invalidate_all.ensures.routing refl refl
     (ap (λ (h : Held). h.reassemblies) c.clear.ensures) (ap (λ (h : Held). h.waiting) c.clear.ensures))))
 
-pub returns-clause-agrees : goal.returns-clause-agrees
-returns-clause-agrees g c =
-    let before : IfSome (unless_halted c.self.inside.halted (station_in c.self.inside.parts c.self.inside.bodies))
-    (λ l. AgreesWith l (g.K.Keeper.store c.self.inside.keeper).records) = rw (← c.self.view_is) at c.requires.agrees in
-    let running = rw (← c.self.view_is) at c.requires.running in
-    agrees_holding _ c.self.inside.bodies c.clear.new.self _ (agrees_routed _ _ _
-    (agrees_ringed (station_in c.self.inside.parts c.self.inside.bodies) _ _ _ (of_some _ _ _ running before) c.in-Ok.ensures.kept
-    c.in-Ok.ensures.elsewhere) c.invalidate_all.ensures.kept)
+pub returns-clause-after : goal.returns-clause-after
+returns-clause-after g c = record {
+  agrees =
+      let before : IfSome (unless_halted c.self.inside.halted (station_in c.self.inside.parts c.self.inside.bodies))
+      (λ l. AgreesWith l (g.K.Keeper.store c.self.inside.keeper).records) = rw (← c.self.view_is) at c.requires.ready.agrees in
+      let running = rw (← c.self.view_is) at c.requires.ready.running in
+      agrees_holding _ c.self.inside.bodies c.clear.new.self _ (agrees_routed _ _ _
+      (agrees_ringed (station_in c.self.inside.parts c.self.inside.bodies) _ _ _ (of_some _ _ _ running before) c.in-Ok.ensures.kept
+      c.in-Ok.ensures.elsewhere) c.invalidate_all.ensures.kept);
+  replied = rw (← c.self.view_is) refl;
+}

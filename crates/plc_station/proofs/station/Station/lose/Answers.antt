@@ -15,18 +15,21 @@ use Rattle.plc_station.proofs.station.Station.lose.Goals as goal
 pub returns-clause-carries : goal.returns-clause-carries
 unfolding empty_draft with_routing_by
 returns-clause-carries g c =
-    let before = rw (← c.self.view_is) at c.requires.agrees in
+    let before = rw (← c.self.view_is) at c.requires.ready.agrees in
     rw (← c.self.view_is) (on_memory c.self.inside.halted _ _
     (λ running. unsealed dropped _ _ (loses c.args.lost c.args.by (station_in c.self.inside.parts c.self.inside.bodies)).memory
     (loses c.args.lost c.args.by (station_in c.self.inside.parts c.self.inside.bodies)) Broken _ refl refl refl
     (still c.self.inside.halted _ _ running ∙ ap Some (station_is _ _ refl refl refl c.invalidate.ensures.routing refl refl refl refl))
     (at_some _ (λ l. AgreesWith l (g.K.Keeper.store c.self.inside.keeper).records) (station_in c.self.inside.parts c.self.inside.bodies) running
-    before).counter.below c.requires.empty))
+    before).counter.below c.requires.ready.empty))
 
-pub returns-clause-agrees : goal.returns-clause-agrees
-returns-clause-agrees g c =
-    let before : IfSome (unless_halted c.self.inside.halted (station_in c.self.inside.parts c.self.inside.bodies))
-    (λ l. AgreesWith l (g.K.Keeper.store c.self.inside.keeper).records) = rw (← c.self.view_is) at c.requires.agrees in
-    let running = rw (← c.self.view_is) at c.requires.running in
-    on_memory c.self.inside.halted _ _ (λ _. agrees_routed (station_in c.self.inside.parts c.self.inside.bodies) _ _
-    (of_some _ _ (λ l. AgreesWith l (g.K.Keeper.store c.self.inside.keeper).records) running before) c.invalidate.ensures.kept)
+pub returns-clause-after : goal.returns-clause-after
+returns-clause-after g c = record {
+  agrees =
+      let before : IfSome (unless_halted c.self.inside.halted (station_in c.self.inside.parts c.self.inside.bodies))
+      (λ l. AgreesWith l (g.K.Keeper.store c.self.inside.keeper).records) = rw (← c.self.view_is) at c.requires.ready.agrees in
+      let running = rw (← c.self.view_is) at c.requires.ready.running in
+      on_memory c.self.inside.halted _ _ (λ _. agrees_routed (station_in c.self.inside.parts c.self.inside.bodies) _ _
+      (of_some _ _ (λ l. AgreesWith l (g.K.Keeper.store c.self.inside.keeper).records) running before) c.invalidate.ensures.kept);
+  replied = rw (← c.self.view_is) refl;
+}

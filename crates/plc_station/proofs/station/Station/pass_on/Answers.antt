@@ -17,7 +17,7 @@ returns-in_err-relay-clause-replied g c =
     if_some c.args.self.now.memory _ (λ l m. kept_failed dropped _ _
     (send_message c.args.hop (Rrep c.args.rank.number c.args.rank.cost c.args.origin c.args.to)
     (offers c.args.grant.now.address c.args.origin c.args.rank c.args.by c.args.now l)) _ _ _
-    (at_some _ _ l m (rw c.one.ensures.value at c.in_err-relay.ensures.carries)) (c.in_err-relay.ensures.replied ∙ c.requires.fresh))
+    (at_some _ _ l m (rw c.one.ensures.value at c.in_err-relay.ensures.carries)) (c.in_err-relay.ensures.after.replied ∙ c.requires.fresh))
 
 pub returns-clause-carries : goal.returns-clause-carries
 returns-clause-carries g c =
@@ -25,7 +25,7 @@ returns-clause-carries g c =
     (at_some _ _ l m (rw (c.one.ensures.value, ← c.self.view_is) at c.in_ok-relay.ensures.carries)))
 
 pub returns-clause-agrees : goal.returns-clause-agrees
-returns-clause-agrees g c = rw (← c.self.view_is) at c.in_ok-relay.ensures.agrees
+returns-clause-agrees g c = rw (← c.self.view_is) at c.in_ok-relay.ensures.after.agrees
 
 pub returns-clause-replied : goal.returns-clause-replied
 returns-clause-replied g c =
@@ -34,4 +34,4 @@ returns-clause-replied g c =
     (offers c.args.grant.now.address c.args.origin c.args.rank c.args.by c.args.now l)) _ _ _
     (at_some _ _ l m (rw (c.one.ensures.value, ← c.self.view_is) at c.in_ok-relay.ensures.carries))
     (passed_told l c.args.grant.now c.args.grant.now.address c.args.by c.args.hop c.args.origin c.args.to c.args.rank c.args.now
-    (at_some _ _ l m c.requires.ring) c.in_ok-relay.ensures.key c.in_ok-relay.ensures.message))
+    (at_some _ _ l m c.requires.ready.ring) c.in_ok-relay.ensures.key c.in_ok-relay.ensures.message))

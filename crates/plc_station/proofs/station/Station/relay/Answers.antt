@@ -31,7 +31,7 @@ returns-in_default-clause-carries g c =
     (send_message c.args.to c.args.message.now (offers c.args.grant.now.address c.args.origin c.args.rank c.args.by c.args.now
     (station_in c.self.inside.parts c.self.inside.bodies))) (send_message c.args.to c.args.message.now
     (offers c.args.grant.now.address c.args.origin c.args.rank c.args.by c.args.now (station_in c.self.inside.parts c.self.inside.bodies))) tt _ refl
-    c.in_default.ensures.store c.requires.empty refl))
+    c.in_default.ensures.store c.requires.ready.empty refl))
 
 pub returns-in_default-reserve-clause-carries : goal.returns-in_default-reserve-clause-carries
 unfolding goes leave with_own_number with_rank empty_draft leaving
@@ -47,14 +47,14 @@ returns-in_default-reserve-clause-carries g c =
     (send_message c.args.to c.args.message.now (offers c.args.grant.now.address c.args.origin c.args.rank c.args.by c.args.now
     (station_in c.self.inside.parts c.self.inside.bodies))) (send_message c.args.to c.args.message.now
     (offers c.args.grant.now.address c.args.origin c.args.rank c.args.by c.args.now (station_in c.self.inside.parts c.self.inside.bodies))) tt _ _ _ refl
-    c.in-Ok.ensures.store count c.in_default-reserve.ensures.store c.requires.empty refl))
+    c.in-Ok.ensures.store count c.in_default-reserve.ensures.store c.requires.ready.empty refl))
 
 pub seal_message-requires-clause-room : goal.seal_message-requires-clause-room
 seal_message-requires-clause-room g c =
     omega (
       arith,
       ap (λ (o : Out). length o.frames) c.seal_leaving.ensures,
-      ap (λ (o : Out). length o.frames) c.requires.empty,
+      ap (λ (o : Out). length o.frames) c.requires.ready.empty,
       length-append c.args.out.now.frames (frames_of c.args.grant.now c.sealing_key-key.result c.in-Ok-reserve.first
           (leaving c.args.grant.now.address c.args.origin c.args.by c.self.inside.bodies.waiting)),
       length-frames c.args.grant.now c.sealing_key-key.result c.in-Ok-reserve.first
@@ -87,29 +87,32 @@ returns-clause-carries g c =
       tags = (c.seal_leaving.ensures i).tags;
     })
     ∙ (λ i. record {
-      frames = ((c.requires.empty i).frames ++ frames_of c.args.grant.now c.sealing_key-key.result (c.in-Ok-reserve.ensures.number i)
+      frames = ((c.requires.ready.empty i).frames ++ frames_of c.args.grant.now c.sealing_key-key.result (c.in-Ok-reserve.ensures.number i)
           (leaving c.args.grant.now.address c.args.origin c.args.by c.self.inside.bodies.waiting))
           ++ map (spelled network) (sealed_by (Some c.args.grant.now) (c.in-Ok-reserve.ensures.number i
           + length (leaving c.args.grant.now.address c.args.origin c.args.by c.self.inside.bodies.waiting))
           ((record { to = c.args.to; unit = Local 1 (messages.spelling c.args.message.now); note = 0 }) ∷ []));
-      tags = (c.requires.empty i).tags;
+      tags = (c.requires.ready.empty i).tags;
     })
     ∙ ap only_frames (sealed_then c.args.grant.now c.sealing_key-key.result c.self.inside.parts.counter.next
     (leaving c.args.grant.now.address c.args.origin c.args.by c.self.inside.bodies.waiting)
     ((record { to = c.args.to; unit = Local 1 (messages.spelling c.args.message.now); note = 0 }) ∷ []) c.sealing_key-key.ensures)
     ∙ (λ i. only_frames (map (spelled network) (sealed_by ((sym (at_some c.args.self.now.memory (λ l. l.ring ≡ Some c.args.grant.now)
-    (station_in c.self.inside.parts c.self.inside.bodies) (ap (λ (s : State StationMemory). s.memory) (sym c.self.view_is) ∙ running) c.requires.ring)) i)
+    (station_in c.self.inside.parts c.self.inside.bodies) (ap (λ (s : State StationMemory). s.memory) (sym c.self.view_is) ∙ running) c.requires.ready.ring)) i)
     c.self.inside.parts.counter.next ((leaving c.args.grant.now.address c.args.origin c.args.by c.self.inside.bodies.waiting)
     ++ (record { to = c.args.to; unit = Local 1 (messages.spelling c.args.message.now); note = 0 }) ∷ [])))))
     (lines_are _ _ _ _ refl c.in-Ok-reserve.ensures.counter refl c.in-Ok.ensures.routing refl refl (ap (λ (h : Held). h.reassemblies) c.drop_for.ensures)
     (ap (λ (h : Held). h.waiting) c.drop_for.ensures))))
 
-pub returns-clause-agrees : goal.returns-clause-agrees
-returns-clause-agrees g c =
-    let before : IfSome (unless_halted c.self.inside.halted (station_in c.self.inside.parts c.self.inside.bodies))
-    (λ l. AgreesWith l (g.K.Keeper.store c.self.inside.keeper).records) = rw (← c.self.view_is) at c.requires.agrees in
-    let running = rw (← c.self.view_is) at c.requires.running in
-    agrees_holding _ c.self.inside.bodies c.drop_for.new.self _
-    (agrees_counted _ _ _ _ (agrees_ranked (station_in c.self.inside.parts c.self.inside.bodies) _ _ _ (of_some _ _ _ running before) c.in-Ok.ensures.kept
-    c.in-Ok.ensures.elsewhere)
-    c.in-Ok-reserve.ensures.kept c.in-Ok-reserve.ensures.elsewhere)
+pub returns-clause-after : goal.returns-clause-after
+returns-clause-after g c = record {
+  agrees =
+      let before : IfSome (unless_halted c.self.inside.halted (station_in c.self.inside.parts c.self.inside.bodies))
+      (λ l. AgreesWith l (g.K.Keeper.store c.self.inside.keeper).records) = rw (← c.self.view_is) at c.requires.ready.agrees in
+      let running = rw (← c.self.view_is) at c.requires.ready.running in
+      agrees_holding _ c.self.inside.bodies c.drop_for.new.self _
+      (agrees_counted _ _ _ _ (agrees_ranked (station_in c.self.inside.parts c.self.inside.bodies) _ _ _ (of_some _ _ _ running before) c.in-Ok.ensures.kept
+      c.in-Ok.ensures.elsewhere)
+      c.in-Ok-reserve.ensures.kept c.in-Ok-reserve.ensures.elsewhere);
+  replied = rw (← c.self.view_is) refl;
+}

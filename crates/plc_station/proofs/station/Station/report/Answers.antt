@@ -24,7 +24,7 @@ returns-then-number-clause-carries g c =
       c.number.ensures.value,
       c.number-2.ensures.value,
       (ap (λ (g : Granted). g.address) c.grant.view_is),
-    ))) c.requires.empty)
+    ))) c.requires.ready.empty)
 
 pub returns-in_default-clause-carries : goal.returns-in_default-clause-carries
 unfolding next_hop
@@ -33,7 +33,7 @@ returns-in_default-clause-carries g c =
     (λ running. refusal dropped _ (station_in c.self.inside.parts c.self.inside.bodies) NoRoute _ _ running
     (origin_lost (station_in c.self.inside.parts c.self.inside.bodies) c.args.grant.now.address c.args.mesh.now
     (grind (arith, nat_tests, c.if-number.false, c.number.ensures.value, c.number-2.ensures.value, (ap (λ (g : Granted). g.address) c.grant.view_is)))
-    c.in_default.ensures) c.requires.empty))
+    c.in_default.ensures) c.requires.ready.empty))
 
 pub returns-then-left-lt1-clause-carries : goal.returns-then-left-lt1-clause-carries
 unfolding next_hop
@@ -42,7 +42,7 @@ returns-then-left-lt1-clause-carries g c =
     (λ running. refusal dropped _ (station_in c.self.inside.parts c.self.inside.bodies) CounterSpent _ _ running
     (report_spent (station_in c.self.inside.parts c.self.inside.bodies) c.args.grant.now.address c.args.mesh.now c.in-Some.hop
     (grind (arith, nat_tests, c.if-number.false, c.number.ensures.value, c.number-2.ensures.value, (ap (λ (g : Granted). g.address) c.grant.view_is)))
-    c.in-Some.ensures (too_few _ _ _ c.left-left.ensures (omega (arith, c.if-left-lt1.true)))) c.requires.empty))
+    c.in-Some.ensures (too_few _ _ _ c.left-left.ensures (omega (arith, c.if-left-lt1.true)))) c.requires.ready.empty))
 
 pub returns-in-Ok-clause-carries : goal.returns-in-Ok-clause-carries
 unfolding next_hop

@@ -29,7 +29,7 @@ returns-in_default-clause-carries g c =
     (seeks c.args.grant.now.address c.args.to e)) (tag_taken c.args.datagram.now (empty_draft (station_in c.self.inside.parts c.self.inside.bodies)))) Waiting _
     (ap ((λ (e : Draft StationMemory). waits c.args.to c.args.note (Datagram c.args.datagram.now c.self.inside.parts.next_tag) c.args.now
     (seeks c.args.grant.now.address c.args.to e))) (tagged_is (station_in c.self.inside.parts c.self.inside.bodies) c.args.datagram.now))
-    (wrote_stop _ _ _ _ c.in_default.ensures.store) c.requires.empty refl))
+    (wrote_stop _ _ _ _ c.in_default.ensures.store) c.requires.ready.empty refl))
 
 pub returns-in_default-advance-clause-carries : goal.returns-in_default-advance-clause-carries
 unfolding waits goes with_own_number
@@ -42,7 +42,7 @@ returns-in_default-advance-clause-carries g c =
     (seeks c.args.grant.now.address c.args.to e)) (tag_taken c.args.datagram.now (empty_draft (station_in c.self.inside.parts c.self.inside.bodies)))) Waiting _
     (ap ((λ (e : Draft StationMemory). waits c.args.to c.args.note (Datagram c.args.datagram.now c.self.inside.parts.next_tag) c.args.now
     (seeks c.args.grant.now.address c.args.to e))) (tagged_is (station_in c.self.inside.parts c.self.inside.bodies) c.args.datagram.now))
-    (wrote_then _ _ _ _ _ _ c.in-Ok.ensures.store (wrote_one _ _ _ _ c.in_default-advance.ensures.store)) c.requires.empty refl))
+    (wrote_then _ _ _ _ _ _ c.in-Ok.ensures.store (wrote_one _ _ _ _ c.in_default-advance.ensures.store)) c.requires.ready.empty refl))
 
 pub returns-in_default-reserve-clause-carries : goal.returns-in_default-reserve-clause-carries
 unfolding waits goes with_own_number
@@ -56,7 +56,8 @@ returns-in_default-reserve-clause-carries g c =
     _ _
     (ap ((λ (e : Draft StationMemory). waits c.args.to c.args.note (Datagram c.args.datagram.now c.self.inside.parts.next_tag) c.args.now
     (seeks c.args.grant.now.address c.args.to e))) (tagged_is (station_in c.self.inside.parts c.self.inside.bodies) c.args.datagram.now))
-    (wrote_then _ _ _ _ _ _ c.in-Ok.ensures.store (wrote_one _ _ _ _ c.in-Ok-advance.ensures.store)) refl c.in_default-reserve.ensures.store c.requires.empty
+    (wrote_then _ _ _ _ _ _ c.in-Ok.ensures.store (wrote_one _ _ _ _ c.in-Ok-advance.ensures.store)) refl c.in_default-reserve.ensures.store
+    c.requires.ready.empty
     refl))
 
 pub returns-clause-carries : goal.returns-clause-carries
@@ -74,7 +75,7 @@ returns-clause-carries g c =
     (wrote_then _ _ _ _ _ _ c.in-Ok.ensures.store (wrote_one _ _ _ _ c.in-Ok-advance.ensures.store)) refl c.in-Ok-reserve.ensures.store
     (c.seal_request.ensures ∙ (λ i. only_frames (map (spelled network)
     (sealed_by ((sym (at_some c.args.self.now.memory (λ l. l.ring ≡ Some c.args.grant.now) (station_in c.self.inside.parts c.self.inside.bodies)
-    (ap (λ (s : State StationMemory). s.memory) (sym c.self.view_is) ∙ running) c.requires.ring)) i) (c.in-Ok-reserve.ensures.number i)
+    (ap (λ (s : State StationMemory). s.memory) (sym c.self.view_is) ∙ running) c.requires.ready.ring)) i) (c.in-Ok-reserve.ensures.number i)
     (record { to = 0xFFFF; unit = Local 1 (messages.spelling (Rreq (c.in-Ok-advance.ensures.number i) 0 c.args.grant.now.address c.args.to)); note = 0 }
     ∷ [])))))
     (lines_are _ _ _ _ refl c.in-Ok-reserve.ensures.counter refl refl c.in-Ok-advance.ensures.numbering c.in-Ok.ensures.next

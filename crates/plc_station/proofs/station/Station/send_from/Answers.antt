@@ -12,14 +12,14 @@ use Rattle.plc_station.proofs.station.Station.send_from.Goals as goal
 pub returns-then-has_bad_size-clause-carries : goal.returns-then-has_bad_size-clause-carries
 returns-then-has_bad_size-clause-carries g c =
     if_some c.args.self.now.memory _ (λ l m. refused_as c.args.self.now l BadSize _ _ m
-    (bad_size l c.args.grant.now.address c.args.to c.args.datagram.now c.args.note c.args.now c.if-has_bad_size.ensures) c.requires.empty)
+    (bad_size l c.args.grant.now.address c.args.to c.args.datagram.now c.args.note c.args.now c.if-has_bad_size.ensures) c.requires.ready.empty)
 
 pub returns-then-is_own-clause-carries : goal.returns-then-is_own-clause-carries
 returns-then-is_own-clause-carries g c =
     rw (← c.self.view_is) (on_memory c.self.inside.halted _ _ (λ running. refused_as _ (station_in c.self.inside.parts c.self.inside.bodies) ToSelf _ _ running
     (to_self (station_in c.self.inside.parts c.self.inside.bodies) c.args.grant.now.address c.args.to c.args.datagram.now c.args.note c.args.now
     c.if-has_bad_size.ensures (rw c.number.ensures.value at (at_some c.args.self.now.memory _ (station_in c.self.inside.parts c.self.inside.bodies)
-    (ap (λ (s : State StationMemory). s.memory) (sym c.self.view_is) ∙ running) c.if-is_own.ensures))) c.requires.empty))
+    (ap (λ (s : State StationMemory). s.memory) (sym c.self.view_is) ∙ running) c.if-is_own.ensures))) c.requires.ready.empty))
 
 pub returns-then-left-from-clause-carries : goal.returns-then-left-from-clause-carries
 unfolding next_hop
@@ -31,7 +31,7 @@ returns-then-left-from-clause-carries g c =
       size = c.if-has_bad_size.ensures;
       other = (rw c.number.ensures.value at (at_some c.args.self.now.memory _ (station_in c.self.inside.parts c.self.inside.bodies)
           (ap (λ (s : State StationMemory). s.memory) (sym c.self.view_is) ∙ running) c.if-is_own.ensures));
-    }) c.in-Some.ensures (too_few _ _ _ c.left-left.ensures (omega (arith, c.if-left-from.true, c.from.ensures, c.pieces.ensures)))) c.requires.empty))
+    }) c.in-Some.ensures (too_few _ _ _ c.left-left.ensures (omega (arith, c.if-left-from.true, c.from.ensures, c.pieces.ensures)))) c.requires.ready.empty))
 
 pub returns-in-Some-clause-carries : goal.returns-in-Some-clause-carries
 unfolding next_hop
@@ -55,7 +55,7 @@ returns-then-no_room-clause-carries g c =
       size = c.if-has_bad_size.ensures;
       other = (rw c.number.ensures.value at (at_some c.args.self.now.memory _ (station_in c.self.inside.parts c.self.inside.bodies)
           (ap (λ (s : State StationMemory). s.memory) (sym c.self.view_is) ∙ running) c.if-is_own.ensures));
-    }) c.in_default.ensures c.if-no_room.ensures) c.requires.empty))
+    }) c.in_default.ensures c.if-no_room.ensures) c.requires.ready.empty))
 
 pub returns-then-is_awaited-clause-carries : goal.returns-then-is_awaited-clause-carries
 unfolding next_hop
@@ -79,7 +79,7 @@ returns-then-last-clause-carries g c =
       size = c.if-has_bad_size.ensures;
       other = (rw c.number.ensures.value at (at_some c.args.self.now.memory _ (station_in c.self.inside.parts c.self.inside.bodies)
           (ap (λ (s : State StationMemory). s.memory) (sym c.self.view_is) ∙ running) c.if-is_own.ensures));
-    }) c.in_default.ensures c.if-no_room.ensures c.if-is_awaited.ensures (grind (arith, nat_tests, c.last.ensures, c.if-last.true))) c.requires.empty))
+    }) c.in_default.ensures c.if-no_room.ensures c.if-is_awaited.ensures (grind (arith, nat_tests, c.last.ensures, c.if-last.true))) c.requires.ready.empty))
 
 pub returns-then-left-lt1-clause-carries : goal.returns-then-left-lt1-clause-carries
 unfolding next_hop
@@ -92,7 +92,7 @@ returns-then-left-lt1-clause-carries g c =
       other = (rw c.number.ensures.value at (at_some c.args.self.now.memory _ (station_in c.self.inside.parts c.self.inside.bodies)
           (ap (λ (s : State StationMemory). s.memory) (sym c.self.view_is) ∙ running) c.if-is_own.ensures));
     }) c.in_default.ensures c.if-no_room.ensures c.if-is_awaited.ensures (grind (arith, nat_tests, c.last.ensures, c.if-last.false))
-    (too_few _ _ _ c.left-left.ensures (omega (arith, c.if-left-lt1.true)))) c.requires.empty))
+    (too_few _ _ _ c.left-left.ensures (omega (arith, c.if-left-lt1.true)))) c.requires.ready.empty))
 
 pub returns-clause-carries : goal.returns-clause-carries
 unfolding next_hop

@@ -23,12 +23,12 @@ returns-in_default-clause-carries g c =
     (tag_taken c.args.datagram.now (empty_draft (station_in c.self.inside.parts c.self.inside.bodies)))) Waiting _
     (ap (waits c.args.to c.args.note (Datagram c.args.datagram.now c.self.inside.parts.next_tag) c.args.now)
     (tagged_is (station_in c.self.inside.parts c.self.inside.bodies) c.args.datagram.now))
-    (wrote_one _ _ _ _ c.in_default.ensures.store) c.requires.empty refl))
+    (wrote_one _ _ _ _ c.in_default.ensures.store) c.requires.ready.empty refl))
 
 pub returns-clause-carries : goal.returns-clause-carries
 unfolding waits
 returns-clause-carries g c =
-    let before = rw (← c.self.view_is) at c.requires.agrees in
+    let before = rw (← c.self.view_is) at c.requires.ready.agrees in
     rw (← c.self.view_is)
     (on_memory c.self.inside.halted _ _
     (λ running. settled sending_ends _ _ (waits c.args.to c.args.note (Datagram c.args.datagram.now c.self.inside.parts.next_tag) c.args.now
@@ -41,7 +41,7 @@ returns-clause-carries g c =
     (tagged_is (station_in c.self.inside.parts c.self.inside.bodies) c.args.datagram.now))
     (wrote_one _ _ _ _ c.in-Ok.ensures.store)
     (at_some _ (λ l. AgreesWith l (g.K.Keeper.store c.self.inside.keeper).records) (station_in c.self.inside.parts c.self.inside.bodies) running
-    before).counter.below c.requires.empty
+    before).counter.below c.requires.ready.empty
     (lines_are _ _ _ _ refl refl refl refl refl c.in-Ok.ensures.next (ap (λ (h : Held). h.reassemblies) c.push.ensures)
     (ap (λ (h : Held). h.waiting) c.push.ensures
     ∙ (λ i. c.self.inside.bodies.waiting

@@ -33,4 +33,4 @@ invariant_of-self c =
     station_sound c.self.inside.coordinator c.station.result.now c.accept.new.self (Err frames.Halted)
     (λ own l. accepting.accept l own (arrived network c.args.octets.now)) c.accept.result nothing (accepts_own _ (arrived network c.args.octets.now))
     c.station.ensures.value c.self.invariant
-    (gives_nothing c.station.result.now.memory _ _ c.accept.ensures.halted) c.accept.ensures.carries c.accept.ensures.agrees
+    (gives_nothing c.station.result.now.memory _ _ c.accept.ensures.halted) c.accept.ensures.carries c.accept.ensures.after.agrees

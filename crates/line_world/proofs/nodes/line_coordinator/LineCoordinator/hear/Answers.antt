@@ -12,11 +12,12 @@ use Rattle.line_world.proofs.Places.{seen_answering}
 use Rattle.line_world.proofs.ToldReplies.{tells_with}
 use Rattle.line_world.proofs.nodes.line_coordinator.LineCoordinator.hear.Goals as goal
 
-pub hear-heard-requires-clause-running : goal.hear-heard-requires-clause-running
-hear-heard-requires-clause-running c = (subst (λ (n : Node). MayHear n c.args.got.now) (sym c.self.view_is) c.requires.accepted).running
-
-pub hear-heard-requires-clause-holds : goal.hear-heard-requires-clause-holds
-hear-heard-requires-clause-holds c = holds c.self.inside.coordinator c.self.invariant
+pub hear-heard-requires-clause-ready : goal.hear-heard-requires-clause-ready
+hear-heard-requires-clause-ready c =
+    record {
+      running = (subst (λ (n : Node). MayHear n c.args.got.now) (sym c.self.view_is) c.requires.accepted).running;
+      holds = holds c.self.inside.coordinator c.self.invariant;
+    }
 
 pub hear-heard-requires-clause-fits : goal.hear-heard-requires-clause-fits
 hear-heard-requires-clause-fits c = c.requires.accepted.fits

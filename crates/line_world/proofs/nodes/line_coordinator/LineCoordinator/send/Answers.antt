@@ -23,4 +23,4 @@ invariant_of-self c =
     station_sound c.self.inside.coordinator c.station.result.now c.send.new.self (Err sends.Halted)
     (λ _ l. calls.send l c.args.to c.args.datagram.now c.args.note c.args.now) c.send.result c.send.new.out
     (sends_own _ c.args.to c.args.datagram.now c.args.note c.args.now) c.station.ensures.value c.self.invariant
-    c.send.ensures.halted c.send.ensures.carries c.send.ensures.agrees
+    c.send.ensures.halted c.send.ensures.carries c.send.ensures.after.agrees

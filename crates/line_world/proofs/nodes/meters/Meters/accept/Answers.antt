@@ -36,4 +36,4 @@ invariant_of-self c =
     c.index_mut.result.now c.station.result.now c.accept.new.self
     c.accept.result nothing c.self.view_is c.requires.there c.index_mut.ensures.value c.self.invariant c.station.ensures.value
     (gives_nothing c.station.result.now.memory _ _ c.accept.ensures.halted) c.accept.ensures.carries
-    (accepts_own _ (arrived network c.args.octets.now)) c.accept.ensures.agrees
+    (accepts_own _ (arrived network c.args.octets.now)) c.accept.ensures.after.agrees

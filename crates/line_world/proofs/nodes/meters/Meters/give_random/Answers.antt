@@ -25,7 +25,7 @@ returns c =
     c.give_random.new.self c.give_random.result nothing c.self.view_is c.requires.there c.index_mut.ensures.value
     (meter_took c.index_mut.result.now c.give_random.new.self (Err randoms.Halted) (λ m. drafts.give_random m c.args.value) c.give_random.result nothing
     (sound_at c.self.inside.meters.items _ c.args.place c.index_mut.result.now c.self.view_is c.requires.there c.index_mut.ensures.value c.self.invariant)
-    c.give_random.ensures.psk
+    c.give_random.ensures.after.psk
     (meter_stayed c.index_mut.result.now c.give_random.new.self (Err randoms.Halted) c.give_random.result nothing
     (gives_nothing c.index_mut.result.now.station.memory _ _ c.give_random.ensures.halted)) c.give_random.ensures.carries)
 
@@ -36,5 +36,5 @@ invariant_of-self c =
     (λ m short. (meters_in_place (identity_of c.index_mut.result.now) m short).takes_random c.args.value)
     (sound_at c.self.inside.meters.items _ c.args.place c.index_mut.result.now c.self.view_is c.requires.there c.index_mut.ensures.value c.self.invariant)
     (meter_stayed c.index_mut.result.now c.give_random.new.self (Err randoms.Halted) c.give_random.result nothing
-    (gives_nothing c.index_mut.result.now.station.memory _ _ c.give_random.ensures.halted)) c.give_random.ensures.carries c.give_random.ensures.agrees)
+    (gives_nothing c.index_mut.result.now.station.memory _ _ c.give_random.ensures.halted)) c.give_random.ensures.carries c.give_random.ensures.after.agrees)
     c.self.invariant

@@ -9,14 +9,16 @@ use Rattle.line_world.proofs.ToldReplies.{tells_with}
 use Rattle.line_world.proofs.Places.{agrees_at, at_place, did, found_at, sound_at}
 use Rattle.line_world.proofs.nodes.meters.Meters.hear.Goals as goal
 
-pub hear-heard-requires-clause-running : goal.hear-heard-requires-clause-running
-hear-heard-requires-clause-running c =
-    running c.index_mut-meter.result.now c.args.got.now (at_place c.self.inside.meters.items _ c.args.place c.index_mut-meter.result.now _ c.self.view_is
-    c.requires.there c.index_mut-meter.ensures.value c.requires.accepted)
-
-pub hear-heard-requires-clause-agrees : goal.hear-heard-requires-clause-agrees
-hear-heard-requires-clause-agrees c = agrees_at c.self.inside.meters.items _ c.args.place c.index_mut-meter.result.now c.self.view_is c.requires.there
-    c.index_mut-meter.ensures.value c.self.invariant
+pub hear-heard-requires-clause-ready : goal.hear-heard-requires-clause-ready
+hear-heard-requires-clause-ready c =
+    record {
+      running =
+          running c.index_mut-meter.result.now c.args.got.now (at_place c.self.inside.meters.items _ c.args.place c.index_mut-meter.result.now _ c.self.view_is
+          c.requires.there c.index_mut-meter.ensures.value c.requires.accepted);
+      agrees =
+          agrees_at c.self.inside.meters.items _ c.args.place c.index_mut-meter.result.now c.self.view_is c.requires.there
+          c.index_mut-meter.ensures.value c.self.invariant;
+    }
 
 pub hear-heard-requires-clause-fits : goal.hear-heard-requires-clause-fits
 hear-heard-requires-clause-fits c = (at_place c.self.inside.meters.items _ c.args.place c.index_mut-meter.result.now (λ x. MayHear x c.args.got.now)
@@ -36,12 +38,12 @@ returns-clause-received c =
     let may = at_place c.self.inside.meters.items _ c.args.place c.index_mut-meter.result.now (λ n. MayHear n c.args.got.now) c.self.view_is c.requires.there
     c.index_mut-meter.ensures.value c.requires.accepted in
     found_at c.self.inside.meters.items _ c.args.place c.index_mut-meter.result.now _ c.self.view_is c.requires.there c.index_mut-meter.ensures.value (record {
-      reports = told x y c.args.got.now c.args.cost c.args.note c.args.now c.hear-heard.result c.hear-heard.new.out sound may c.hear-heard.ensures.psk
+      reports = told x y c.args.got.now c.args.cost c.args.note c.args.now c.hear-heard.result c.hear-heard.new.out sound may c.hear-heard.ensures.after.psk
           c.hear-heard.ensures.carries
           c.with_reply.result (tells_with c.reception_of_meter.result c.with_reply.result c.reply_of-replied.result _ c.with_reply.ensures
           c.reception_of_meter.ensures);
       did = did _ c.self.inside.meters.items _ c.args.place y _ _ c.self.view_is
-          (heard x y c.args.got.now c.args.cost c.args.note c.args.now c.hear-heard.result c.hear-heard.new.out sound may c.hear-heard.ensures.psk
+          (heard x y c.args.got.now c.args.cost c.args.note c.args.now c.hear-heard.result c.hear-heard.new.out sound may c.hear-heard.ensures.after.psk
           c.hear-heard.ensures.carries);
     })
 
@@ -55,7 +57,7 @@ returns-clause-replied c is =
     c.index_mut-meter.ensures.value c.requires.accepted in
     found_at c.self.inside.meters.items _ c.args.place c.index_mut-meter.result.now _ c.self.view_is c.requires.there c.index_mut-meter.ensures.value
     (ap (λ (w : Reception). w.replied) c.with_reply.ensures
-    ∙ told_replied x y c.args.got.now c.args.cost c.args.note c.args.now c.hear-heard.result c.hear-heard.new.out sound may c.hear-heard.ensures.psk
+    ∙ told_replied x y c.args.got.now c.args.cost c.args.note c.args.now c.hear-heard.result c.hear-heard.new.out sound may c.hear-heard.ensures.after.psk
     c.hear-heard.ensures.carries
     y.station.replied c.reply_of-replied.result (c.reply_of-replied.ensures ∙ c.last_reply.ensures) c.hear-heard.ensures.replied is)
 
@@ -68,4 +70,4 @@ invariant_of-self c =
     All-set IsSoundMeter c.self.inside.meters.items c.args.place c.hear-heard.new.self
     (heard_sound c.index_mut-meter.result.now c.hear-heard.new.self c.args.got.now c.args.cost c.args.note c.args.now c.hear-heard.result c.hear-heard.new.out
     sound may
-    c.hear-heard.ensures.carries c.hear-heard.ensures.agrees) c.self.invariant
+    c.hear-heard.ensures.carries c.hear-heard.ensures.after.agrees) c.self.invariant

@@ -28,7 +28,7 @@ returns-clause-did c =
     (did _ c.self.inside.meters.items _ c.args.place c.join.new.self _ _ c.self.view_is
     (meter_took c.index_mut.result.now c.join.new.self (Err joins.Halted) (λ m. meters.join (identity_of c.index_mut.result.now) m c.args.agent c.args.now)
     c.join.result c.join.new.out (sound_at c.self.inside.meters.items _ c.args.place c.index_mut.result.now c.self.view_is c.requires.there
-    c.index_mut.ensures.value c.self.invariant) c.join.ensures.psk
+    c.index_mut.ensures.value c.self.invariant) c.join.ensures.after.psk
     (meter_stayed c.index_mut.result.now c.join.new.self (Err joins.Halted) c.join.result c.join.new.out c.join.ensures.halted) c.join.ensures.carries))
 
 pub invariant_of-self : goal.invariant_of-self
@@ -39,4 +39,4 @@ invariant_of-self c =
     (λ m short. (meters_in_place (identity_of c.index_mut.result.now) m short).joins c.args.agent c.args.now)
     (sound_at c.self.inside.meters.items _ c.args.place c.index_mut.result.now c.self.view_is c.requires.there c.index_mut.ensures.value c.self.invariant)
     (meter_stayed c.index_mut.result.now c.join.new.self (Err joins.Halted) c.join.result c.join.new.out c.join.ensures.halted) c.join.ensures.carries
-    c.join.ensures.agrees) c.self.invariant
+    c.join.ensures.after.agrees) c.self.invariant

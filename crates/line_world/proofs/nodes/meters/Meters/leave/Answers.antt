@@ -25,7 +25,7 @@ returns c =
     nothing c.self.view_is c.requires.there c.index_mut.ensures.value
     (meter_took c.index_mut.result.now c.leave.new.self (Err leaves.Halted) meters.leave c.leave.result nothing
     (sound_at c.self.inside.meters.items _ c.args.place c.index_mut.result.now c.self.view_is c.requires.there c.index_mut.ensures.value c.self.invariant)
-    c.leave.ensures.psk
+    c.leave.ensures.after.psk
     (meter_stayed c.index_mut.result.now c.leave.new.self (Err leaves.Halted) c.leave.result nothing
     (gives_nothing c.index_mut.result.now.station.memory _ _ c.leave.ensures.halted)) c.leave.ensures.carries)
 
@@ -36,4 +36,4 @@ invariant_of-self c =
     (λ m short. (meters_in_place (identity_of c.index_mut.result.now) m short).leaves)
     (sound_at c.self.inside.meters.items _ c.args.place c.index_mut.result.now c.self.view_is c.requires.there c.index_mut.ensures.value c.self.invariant)
     (meter_stayed c.index_mut.result.now c.leave.new.self (Err leaves.Halted) c.leave.result nothing
-    (gives_nothing c.index_mut.result.now.station.memory _ _ c.leave.ensures.halted)) c.leave.ensures.carries c.leave.ensures.agrees) c.self.invariant
+    (gives_nothing c.index_mut.result.now.station.memory _ _ c.leave.ensures.halted)) c.leave.ensures.carries c.leave.ensures.after.agrees) c.self.invariant

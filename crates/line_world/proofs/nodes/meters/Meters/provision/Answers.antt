@@ -11,12 +11,16 @@ use Rattle.line_world.proofs.MeterActing.{rests, running_took, running_sound, so
 use Rattle.line_world.proofs.Places.{did_at, sound_at, station_agrees_at}
 use Rattle.line_world.proofs.nodes.meters.Meters.provision.Goals as goal
 
-pub provision-requires-clause-running : goal.provision-requires-clause-running
-provision-requires-clause-running c = c.if-halted.ensures
-
-pub provision-requires-clause-agrees : goal.provision-requires-clause-agrees
-provision-requires-clause-agrees c = station_agrees_at c.self.inside.meters.items _ c.args.place c.index_mut-meter.result.now c.station.result.now
-    c.self.view_is c.requires.there c.index_mut-meter.ensures.value c.self.invariant c.station.ensures.value
+pub provision-requires : goal.provision-requires
+provision-requires c =
+    record {
+      ready = record {
+        running = c.if-halted.ensures;
+        agrees =
+            station_agrees_at c.self.inside.meters.items _ c.args.place c.index_mut-meter.result.now c.station.result.now
+            c.self.view_is c.requires.there c.index_mut-meter.ensures.value c.self.invariant c.station.ensures.value;
+      };
+    }
 
 pub returns-then-halted : goal.returns-then-halted
 returns-then-halted c =
@@ -41,7 +45,7 @@ returns c =
     (running_took c.index_mut-meter.result.now c.provision.new.self c.station.result.now (Ok tt) (λ m. meters.provision m c.args.grant.now) c.provision.result
     nothing
     c.station.ensures.value (sound_at c.self.inside.meters.items _ c.args.place c.index_mut-meter.result.now c.self.view_is c.requires.there
-    c.index_mut-meter.ensures.value c.self.invariant) c.provision.ensures.psk c.if-halted.ensures c.provision.ensures.carries)
+    c.index_mut-meter.ensures.value c.self.invariant) c.provision.ensures.after.psk c.if-halted.ensures c.provision.ensures.carries)
 
 pub invariant_of-self-2 : goal.invariant_of-self-2
 invariant_of-self-2 c =
@@ -50,4 +54,4 @@ invariant_of-self-2 c =
     nothing
     (λ m short. (meters_in_place (identity_of c.index_mut-meter.result.now) m short).provisions c.args.grant.now)
     c.station.ensures.value (sound_at c.self.inside.meters.items _ c.args.place c.index_mut-meter.result.now c.self.view_is c.requires.there
-    c.index_mut-meter.ensures.value c.self.invariant) c.if-halted.ensures c.provision.ensures.carries c.provision.ensures.agrees) c.self.invariant
+    c.index_mut-meter.ensures.value c.self.invariant) c.if-halted.ensures c.provision.ensures.carries c.provision.ensures.after.agrees) c.self.invariant

@@ -25,4 +25,4 @@ invariant_of-self c =
     c.index_mut.result.now c.station.result.now c.send.new.self
     c.send.result c.send.new.out c.self.view_is c.requires.there c.index_mut.ensures.value c.self.invariant c.station.ensures.value
     c.send.ensures.halted c.send.ensures.carries
-    (sends_own _ c.args.to c.args.datagram.now c.args.note c.args.now) c.send.ensures.agrees
+    (sends_own _ c.args.to c.args.datagram.now c.args.note c.args.now) c.send.ensures.after.agrees

@@ -18,11 +18,11 @@ pub returns : goal.returns
 returns c =
     found_at c.self.inside.meters.items _ c.args.place c.index_mut.result.now _ c.self.view_is c.requires.there c.index_mut.ensures.value
     (set_at c.self.inside.meters.items _ c.args.place _ _ c.self.view_is
-    (ended c.args.now c.index_mut.result.now c.tick.new.self c.tick.ensures.state c.tick.ensures.psk))
+    (ended c.args.now c.index_mut.result.now c.tick.new.self c.tick.ensures.state c.tick.ensures.after.psk))
 
 pub invariant_of-self : goal.invariant_of-self
 invariant_of-self c =
     All-set IsSoundMeter c.self.inside.meters.items c.args.place c.tick.new.self
     (stored_sound c.index_mut.result.now c.tick.new.self (sound_at c.self.inside.meters.items _ c.args.place c.index_mut.result.now c.self.view_is
-    c.requires.there c.index_mut.ensures.value c.self.invariant) (ap (λ (s : State Memory). s.store) c.tick.ensures.state) c.tick.ensures.agrees)
+    c.requires.there c.index_mut.ensures.value c.self.invariant) (ap (λ (s : State Memory). s.store) c.tick.ensures.state) c.tick.ensures.after.agrees)
     c.self.invariant
