@@ -1,6 +1,6 @@
 -- What hearing a route reply comes to, by what is tested.
-use Rattle.std.proofs.Common.{◌≡◌, ℕ, ◌+◌, true, false, not, [], ◌∷◌, length, Some, None, Result, refl, sym, ◌∙◌}
-use Rattle.std.specs.Prelude.{◌==◌, ◌||◌, nat_lt}
+use Rattle.std.proofs.Common.{◌≡◌, ℕ, ◌+◌, true, false, [], ◌∷◌, length, Some, None, refl, sym, ◌∙◌}
+use Rattle.std.specs.Prelude.{◌==◌, nat_lt}
 use Rattle.std.proofs.lemmas.List.{length-append}
 use Rattle.loadng_messages.specs.Grammar as messages
 use Rattle.loadng_messages.specs.declared.message.Message.TheVariants.{Rrep}
@@ -9,41 +9,13 @@ use Rattle.routing_set.specs.declared.rank.Rank.{Rank}
 use Rattle.routing_set.specs.RoutingSet as routing
 use Rattle.node_rules.specs.declared.heard.Heard.{Heard}
 use Rattle.node_rules.specs.declared.heard.Heard.TheVariants.{Learned, Relayed}
-use Rattle.node_rules.specs.declared.refusal.Dropped.{Dropped}
-use Rattle.node_rules.specs.declared.refusal.Dropped.TheVariants.{NotBetter, CostSpent, RoutesFull, CounterSpent, NoRoute}
+use Rattle.node_rules.specs.declared.refusal.Dropped.TheVariants.{CounterSpent, NoRoute}
 use Rattle.node_rules.specs.Memory.{StationMemory, next_hop}
-use Rattle.node_rules.specs.Plans.{Plan}
-use Rattle.node_rules.specs.Drafts.{alone, empty_draft, choose, checked, goes, send_message, leave, with_rank, counters_left, refused, sealing}
+use Rattle.node_rules.specs.Drafts.{alone, empty_draft, choose, goes, send_message, leave, with_rank, counters_left, refused, sealing}
 use Rattle.node_rules.specs.Hearing.{dropped, rank_fault, learns, hear_reply, hear_reply_for, offers}
 use Rattle.fragment_buffers.specs.Waiting.{leaving}
-use Rattle.plc_station.proofs.Requests.{IsTaken}
+use Rattle.plc_station.proofs.Offering.{taking, taken}
 use Rattle.plc_station.proofs.Ways.{sealed_spent, sealed_fits}
-
--- what is done about a rank that is taken
-abbrev pub taking : StationMemory → ℕ → ℕ → Rank → ℕ → Plan StationMemory (Result Heard Dropped) → Plan StationMemory (Result Heard Dropped)
-taking l own origin rank now plan = checked dropped l (rank_fault l own origin rank now) plan
-
-pub not_better : (l : StationMemory) (own origin : ℕ) (rank : Rank) (now : ℕ) (p : Plan StationMemory (Result Heard Dropped))
-    → true ≡ ((origin == own) || not (routing.is_better l.routing origin rank)) → refused {H = Heard} dropped l NotBetter ≡ taking l own origin rank now p
-unfolding checked rank_fault
-not_better l own origin rank now p e = rw (← e) refl
-
-pub cost_spent : (l : StationMemory) (own origin : ℕ) (rank : Rank) (now : ℕ) (p : Plan StationMemory (Result Heard Dropped))
-    → false ≡ ((origin == own) || not (routing.is_better l.routing origin rank)) → true ≡ nat_lt 65535 rank.cost
-    → refused {H = Heard} dropped l CostSpent ≡ taking l own origin rank now p
-unfolding checked rank_fault
-cost_spent l own origin rank now p b e = rw (← b, ← e) refl
-
-pub routes_full : (l : StationMemory) (own origin : ℕ) (rank : Rank) (now : ℕ) (p : Plan StationMemory (Result Heard Dropped))
-    → false ≡ ((origin == own) || not (routing.is_better l.routing origin rank)) → false ≡ nat_lt 65535 rank.cost → true ≡ routing.is_full l.routing origin now
-    → refused {H = Heard} dropped l RoutesFull ≡ taking l own origin rank now p
-unfolding checked rank_fault
-routes_full l own origin rank now p b k e = rw (← b, ← k, ← e) refl
-
-pub taken : (l : StationMemory) (own origin : ℕ) (rank : Rank) (now : ℕ) (p : Plan StationMemory (Result Heard Dropped)) → IsTaken l own origin rank now
-    → p ≡ taking l own origin rank now p
-unfolding checked rank_fault
-taken l own origin rank now p t = rw (← t.better, ← t.cost, ← t.room) refl
 
 learn_long : (l : StationMemory) (own by origin : ℕ) (rank : Rank) (now : ℕ)
     → length (leaving own origin by l.waiting) ≡ length (offers own origin rank by now l).units
@@ -56,26 +28,26 @@ unfolding goes leave with_rank empty_draft leaving
 pass_long l own by origin to hop rank now = sym (length-append (leaving own origin by l.waiting)
     (record { to = hop; unit = Local 1 (messages.spelling (Rrep rank.number rank.cost origin to)); note = 0 } ∷ []))
 
-pub learn_spent : (l : StationMemory) (own by origin : ℕ) (rank : Rank) (now : ℕ) → IsTaken l own origin rank now
+pub learn_spent : (l : StationMemory) (own by origin : ℕ) (rank : Rank) (now : ℕ) → rank_fault l own origin rank now ≡ None
     → true ≡ nat_lt (counters_left l) (length (leaving own origin by l.waiting))
     → refused {H = Heard} dropped l CounterSpent ≡ taking l own origin rank now (learns l own by origin rank now)
 learn_spent l own by origin rank now t few = sealed_spent dropped l (offers own origin rank by now l) Learned (length (leaving own origin by l.waiting))
     (learn_long l own by origin rank now) few ∙ taken l own origin rank now _ t
 
-pub learning : (l : StationMemory) (own by origin : ℕ) (rank : Rank) (now : ℕ) → IsTaken l own origin rank now
+pub learning : (l : StationMemory) (own by origin : ℕ) (rank : Rank) (now : ℕ) → rank_fault l own origin rank now ≡ None
     → false ≡ nat_lt (counters_left l) (length (leaving own origin by l.waiting))
     → sealing alone dropped (offers own origin rank by now l) Learned ≡ taking l own origin rank now (learns l own by origin rank now)
 learning l own by origin rank now t few = sealed_fits dropped l (offers own origin rank by now l) Learned (length (leaving own origin by l.waiting))
     (learn_long l own by origin rank now) few ∙ taken l own origin rank now _ t
 
-pub pass_spent : (l : StationMemory) (own by origin to hop : ℕ) (rank : Rank) (now : ℕ) → IsTaken l own origin rank now
+pub pass_spent : (l : StationMemory) (own by origin to hop : ℕ) (rank : Rank) (now : ℕ) → rank_fault l own origin rank now ≡ None
     → true ≡ nat_lt (counters_left l) (length (leaving own origin by l.waiting) + 1)
     → refused {H = Heard} dropped l CounterSpent ≡ hear_reply_for l own by origin to rank now (Some hop)
 pass_spent l own by origin to hop rank now t few =
     sealed_spent dropped l (send_message hop (Rrep rank.number rank.cost origin to) (offers own origin rank by now l)) Relayed
     (length (leaving own origin by l.waiting) + 1) (pass_long l own by origin to hop rank now) few ∙ taken l own origin rank now _ t
 
-pub passing : (l : StationMemory) (own by origin to hop : ℕ) (rank : Rank) (now : ℕ) → IsTaken l own origin rank now
+pub passing : (l : StationMemory) (own by origin to hop : ℕ) (rank : Rank) (now : ℕ) → rank_fault l own origin rank now ≡ None
     → false ≡ nat_lt (counters_left l) (length (leaving own origin by l.waiting) + 1)
     → sealing alone dropped (send_message hop (Rrep rank.number rank.cost origin to) (offers own origin rank by now l)) Relayed
     ≡ hear_reply_for l own by origin to rank now (Some hop)

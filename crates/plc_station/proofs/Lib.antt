@@ -6,6 +6,7 @@ pub mod Ways
 pub mod Forwarding
 pub mod Gathering
 pub mod Agreeing
+pub mod Offering
 pub mod Requests
 pub mod Learning
 pub mod Losing

@@ -1,8 +1,6 @@
 -- What hearing a route request comes to, by what is tested.
-use Rattle.std.proofs.Common.{◌≡◌, ℕ, ◌+◌, ◌<◌, inl, inr, true, false, not, List, [], ◌∷◌, length, refl, sym, arith}
-use Rattle.std.specs.Prelude.{◌==◌, ◌||◌, nat_lt}
-use Rattle.std.proofs.lemmas.Bool.{cases_lt}
-use Rattle.std.proofs.lemmas.Bool.Decides.{nat_tests}
+use Rattle.std.proofs.Common.{◌≡◌, ℕ, ◌+◌, true, false, None, List, [], ◌∷◌, length, refl, sym}
+use Rattle.std.specs.Prelude.{◌==◌, nat_lt}
 use Rattle.std.proofs.lemmas.List.{length-append}
 use Rattle.loadng_messages.specs.Grammar as messages
 use Rattle.loadng_messages.specs.declared.message.Message.{Message}
@@ -12,7 +10,7 @@ use Rattle.routing_set.specs.declared.rank.Rank.{Rank}
 use Rattle.routing_set.specs.RoutingSet as routing
 use Rattle.node_rules.specs.declared.heard.Heard.{Heard}
 use Rattle.node_rules.specs.declared.heard.Heard.TheVariants.{Answered, Relayed}
-use Rattle.node_rules.specs.declared.refusal.Dropped.TheVariants.{NotBetter, CostSpent, RoutesFull, SeqSpent, CounterSpent}
+use Rattle.node_rules.specs.declared.refusal.Dropped.TheVariants.{SeqSpent, CounterSpent}
 use Rattle.node_rules.specs.Frames.{to_all}
 use Rattle.node_rules.specs.Memory.{StationMemory}
 use Rattle.node_rules.specs.Drafts.{Outgoing, alone, empty_draft, choose, checked, goes, send_message, leave, with_own_number, with_rank, numbers_spent}
@@ -21,12 +19,6 @@ use Rattle.node_rules.specs.Drafts.{refused, sealing}
 use Rattle.node_rules.specs.Hearing.{dropped, rank_fault, hear_request, offers, offers_numbered}
 use Rattle.fragment_buffers.specs.Waiting.{leaving}
 use Rattle.plc_station.proofs.Ways.{sealed_spent, sealed_fits}
-
--- the rank that is offered is taken
-pub record IsTaken (l : StationMemory) (own origin : ℕ) (rank : Rank) (now : ℕ) : Type 0 where
-  pub better : false ≡ ((origin == own) || not (routing.is_better l.routing origin rank))
-  pub cost : false ≡ nat_lt 65535 rank.cost
-  pub room : false ≡ routing.is_full l.routing origin now
 
 abbrev one : ℕ → Message → List Outgoing
 one to message = record { to = to; unit = Local 1 (messages.spelling message); note = 0 } ∷ []
@@ -43,65 +35,41 @@ relay_long : (l : StationMemory) (own by origin dest : ℕ) (rank : Rank) (now :
 unfolding goes leave with_rank empty_draft leaving
 relay_long l own by origin dest rank now = sym (length-append (leaving own origin by l.waiting) (one to_all (Rreq rank.number rank.cost origin dest)))
 
-pub not_better : (l : StationMemory) (own by origin dest : ℕ) (rank : Rank) (now : ℕ)
-    → true ≡ ((origin == own) || not (routing.is_better l.routing origin rank))
-    → refused {H = Heard} dropped l NotBetter ≡ hear_request l own by origin dest rank now
-unfolding checked rank_fault choose
-not_better l own by origin dest rank now e = rw (← e) refl
-
-pub cost_spent : (l : StationMemory) (own by origin dest : ℕ) (rank : Rank) (now : ℕ)
-    → false ≡ ((origin == own) || not (routing.is_better l.routing origin rank)) → true ≡ nat_lt 65535 rank.cost
-    → refused {H = Heard} dropped l CostSpent ≡ hear_request l own by origin dest rank now
-unfolding checked rank_fault choose
-cost_spent l own by origin dest rank now b e = rw (← b, ← e) refl
-
-pub routes_full : (l : StationMemory) (own by origin dest : ℕ) (rank : Rank) (now : ℕ)
-    → false ≡ ((origin == own) || not (routing.is_better l.routing origin rank)) → false ≡ nat_lt 65535 rank.cost → true ≡ routing.is_full l.routing origin now
-    → refused {H = Heard} dropped l RoutesFull ≡ hear_request l own by origin dest rank now
-unfolding checked rank_fault choose
-routes_full l own by origin dest rank now b k e = rw (← b, ← k, ← e) refl
-
-pub seq_spent : (l : StationMemory) (own by origin dest : ℕ) (rank : Rank) (now : ℕ) → IsTaken l own origin rank now → true ≡ (dest == own)
+pub seq_spent : (l : StationMemory) (own by origin dest : ℕ) (rank : Rank) (now : ℕ) → rank_fault l own origin rank now ≡ None → true ≡ (dest == own)
     → true ≡ numbers_spent l → refused {H = Heard} dropped l SeqSpent ≡ hear_request l own by origin dest rank now
-unfolding checked rank_fault choose
-seq_spent l own by origin dest rank now t h e = rw (← t.better, ← t.cost, ← t.room, ← h, ← e) refl
+unfolding checked choose
+seq_spent l own by origin dest rank now t h e = rw (t, ← h, ← e) refl
 
-pub answer_spent : (l : StationMemory) (own by origin dest : ℕ) (rank : Rank) (now : ℕ) → IsTaken l own origin rank now → true ≡ (dest == own)
+pub answer_spent : (l : StationMemory) (own by origin dest : ℕ) (rank : Rank) (now : ℕ) → rank_fault l own origin rank now ≡ None → true ≡ (dest == own)
     → false ≡ numbers_spent l → true ≡ nat_lt (counters_left l) (length (leaving own origin by l.waiting) + 1)
     → refused {H = Heard} dropped l CounterSpent ≡ hear_request l own by origin dest rank now
-unfolding checked rank_fault choose
-answer_spent l own by origin dest rank now t h e few = rw (← t.better, ← t.cost, ← t.room, ← h, ← e)
+unfolding checked choose
+answer_spent l own by origin dest rank now t h e few = rw (t, ← h, ← e)
     (sealed_spent dropped l (send_message by (Rrep (l.own_number.last + 1) 0 own origin) (offers_numbered own origin rank by now l)) Answered
     (length (leaving own origin by l.waiting) + 1) (answer_long l own by origin dest rank now) few)
 
-pub answering : (l : StationMemory) (own by origin dest : ℕ) (rank : Rank) (now : ℕ) → IsTaken l own origin rank now → true ≡ (dest == own)
+pub answering : (l : StationMemory) (own by origin dest : ℕ) (rank : Rank) (now : ℕ) → rank_fault l own origin rank now ≡ None → true ≡ (dest == own)
     → false ≡ numbers_spent l → false ≡ nat_lt (counters_left l) (length (leaving own origin by l.waiting) + 1)
     → sealing alone dropped (send_message by (Rrep (l.own_number.last + 1) 0 own origin) (offers_numbered own origin rank by now l)) Answered
     ≡ hear_request l own by origin dest rank now
-unfolding checked rank_fault choose
-answering l own by origin dest rank now t h e few = rw (← t.better, ← t.cost, ← t.room, ← h, ← e)
+unfolding checked choose
+answering l own by origin dest rank now t h e few = rw (t, ← h, ← e)
     (sealed_fits dropped l (send_message by (Rrep (l.own_number.last + 1) 0 own origin) (offers_numbered own origin rank by now l)) Answered
     (length (leaving own origin by l.waiting) + 1) (answer_long l own by origin dest rank now) few)
 
-pub relay_spent : (l : StationMemory) (own by origin dest : ℕ) (rank : Rank) (now : ℕ) → IsTaken l own origin rank now → false ≡ (dest == own)
+pub relay_spent : (l : StationMemory) (own by origin dest : ℕ) (rank : Rank) (now : ℕ) → rank_fault l own origin rank now ≡ None → false ≡ (dest == own)
     → true ≡ nat_lt (counters_left l) (length (leaving own origin by l.waiting) + 1)
     → refused {H = Heard} dropped l CounterSpent ≡ hear_request l own by origin dest rank now
-unfolding checked rank_fault choose
-relay_spent l own by origin dest rank now t h few = rw (← t.better, ← t.cost, ← t.room, ← h)
+unfolding checked choose
+relay_spent l own by origin dest rank now t h few = rw (t, ← h)
     (sealed_spent dropped l (send_message to_all (Rreq rank.number rank.cost origin dest) (offers own origin rank by now l)) Relayed
     (length (leaving own origin by l.waiting) + 1) (relay_long l own by origin dest rank now) few)
 
-pub relaying : (l : StationMemory) (own by origin dest : ℕ) (rank : Rank) (now : ℕ) → IsTaken l own origin rank now → false ≡ (dest == own)
+pub relaying : (l : StationMemory) (own by origin dest : ℕ) (rank : Rank) (now : ℕ) → rank_fault l own origin rank now ≡ None → false ≡ (dest == own)
     → false ≡ nat_lt (counters_left l) (length (leaving own origin by l.waiting) + 1)
     → sealing alone dropped (send_message to_all (Rreq rank.number rank.cost origin dest) (offers own origin rank by now l)) Relayed
     ≡ hear_request l own by origin dest rank now
-unfolding checked rank_fault choose
-relaying l own by origin dest rank now t h few = rw (← t.better, ← t.cost, ← t.room, ← h)
+unfolding checked choose
+relaying l own by origin dest rank now t h few = rw (t, ← h)
     (sealed_fits dropped l (send_message to_all (Rreq rank.number rank.cost origin dest) (offers own origin rank by now l)) Relayed
     (length (leaving own origin by l.waiting) + 1) (relay_long l own by origin dest rank now) few)
-
-pub big : (n : ℕ) → (n < 65536 → ⊥) → true ≡ nat_lt 65535 n
-big n h = elim (cases_lt n 65536) [ inl less ↦ absurd (h less) | inr more ↦ grind (arith, nat_tests) ]
-
-pub small : (n : ℕ) → n < 65536 → false ≡ nat_lt 65535 n
-small n h = grind (arith, nat_tests)

@@ -7,3 +7,4 @@ pub mod Rooms
 pub mod Hears
 pub mod Ready
 pub mod Sizes
+pub mod Offers

@@ -15,6 +15,7 @@ ghost use Rattle.node_rules.specs.Replies.{reply_sent};
 ghost use Rattle.group_keys.specs.KeyRing as ring;
 ghost use Rattle.plc_base.specs.declared.limits.TheConstants.{LONGEST_FRAME};
 
+use crate::offers::{LastHop, Offered};
 use crate::station::Station;
 use loadng_messages::{Message, read_message};
 use mesh_header::{Unit, read_unit};
@@ -67,11 +68,8 @@ impl<K: Keeper + Drop> Station<K> {
     fn hear_message(
         &mut self,
         grant: &Grant,
-        by: Short,
-        all: bool,
+        last: &LastHop,
         message: Message,
-        link: LinkCost,
-        now: u64,
         out: &mut Out,
     ) -> Result<Heard<'static>, Dropped>
         requires ready { ReadyToSend self.old grant.now out.old }
@@ -79,7 +77,7 @@ impl<K: Keeper + Drop> Station<K> {
         requires fresh { self.old.replied ≡ None }
         ensures hears { IfSome self.old.memory
             (λ l. Hears self.old
-            (hearing.hear_message l grant.now.address by all link now message) result out.new self.new) }
+            (hearing.hear_message l grant.now.address last.now.by last.now.to_all last.now.link last.now.time message) result out.new self.new) }
         ensures agrees { Agrees self.new }
     {
         match message {
@@ -89,11 +87,16 @@ impl<K: Keeper + Drop> Station<K> {
                 origin,
                 dest,
             } => {
-                if !all {
+                if !last.to_all {
                     return Err(Dropped::BadUnit);
                 }
-                let cost = u32::from(cost) + u32::from(link.number());
-                self.hear_request(grant, by, number, cost, origin, dest, now, out)
+                let cost = u32::from(cost) + u32::from(last.link.number());
+                let offered = Offered {
+                    origin,
+                    number,
+                    cost,
+                };
+                self.hear_request(grant, last, &offered, dest, out)
             }
             Message::Rrep {
                 number,
@@ -101,17 +104,22 @@ impl<K: Keeper + Drop> Station<K> {
                 origin,
                 to,
             } => {
-                if all {
+                if last.to_all {
                     return Err(Dropped::BadUnit);
                 }
-                let cost = u32::from(cost) + u32::from(link.number());
-                self.hear_reply(grant, by, number, cost, origin, to, now, out)
+                let cost = u32::from(cost) + u32::from(last.link.number());
+                let offered = Offered {
+                    origin,
+                    number,
+                    cost,
+                };
+                self.hear_reply(grant, last, &offered, to, out)
             }
             Message::Rerr { lost, to } => {
-                if all {
+                if last.to_all {
                     return Err(Dropped::BadUnit);
                 }
-                self.hear_error(grant, by, lost, to, out)
+                self.hear_error(grant, last.by, lost, to, out)
             }
         }
     }
@@ -120,33 +128,30 @@ impl<K: Keeper + Drop> Station<K> {
     fn hear_command<'a>(
         &mut self,
         grant: &Grant,
-        by: Short,
-        all: bool,
+        last: &LastHop,
         code: u8,
         body: &'a [u8],
-        link: LinkCost,
-        now: u64,
         out: &mut Out,
     ) -> Result<Heard<'a>, Dropped>
         requires ready { ReadyToSend self.old grant.now out.old }
         requires fresh { self.old.replied ≡ None }
         ensures hears { IfSome self.old.memory
             (λ l. Hears self.old
-            (hearing.hear_command l grant.now.address by all code body.now link now) result out.new self.new) }
+            (hearing.hear_command l grant.now.address last.now.by last.now.to_all code body.now last.now.link last.now.time) result out.new self.new) }
         ensures agrees { Agrees self.new }
     {
         if code == 1 {
             let Some(message) = message_in(body) else {
                 return Err(Dropped::BadUnit);
             };
-            return self.hear_message(grant, by, all, message, link, now, out);
+            return self.hear_message(grant, last, message, out);
         }
         if code == 2 {
             return Err(Dropped::BadUnit);
         }
         Ok(Heard::Local {
-            from: by,
-            to_all: all,
+            from: last.by,
+            to_all: last.to_all,
             code,
             body: OctetRef::new(body),
         })
@@ -156,12 +161,8 @@ impl<K: Keeper + Drop> Station<K> {
     fn hear_sealed<'a>(
         &mut self,
         grant: &Grant,
-        by: Short,
-        all: bool,
+        last: &LastHop,
         unit: &Unit<'a>,
-        link: LinkCost,
-        note: u32,
-        now: u64,
         datagram: &'a mut DatagramBuf,
         out: &mut Out,
     ) -> Result<Heard<'a>, Dropped>
@@ -171,30 +172,30 @@ impl<K: Keeper + Drop> Station<K> {
         requires fresh { self.old.replied ≡ None }
         ensures hears { IfSome self.old.memory
             (λ l. Hears self.old
-            (hearing.hear_sealed l grant.now.address by all unit.now link note now) result out.new self.new) }
+            (hearing.hear_sealed l grant.now.address last.now.by last.now.to_all unit.now last.now.link last.now.note last.now.time) result out.new self.new) }
         ensures agrees { Agrees self.new }
     {
         match unit {
             Unit::Local { code, body } => {
-                self.hear_command(grant, by, all, *code, body.octets(), link, now, out)
+                self.hear_command(grant, last, *code, body.octets(), out)
             }
             Unit::Whole { .. } => {
-                if all {
+                if last.to_all {
                     return Err(Dropped::BadUnit);
                 }
-                self.hear_over_mesh(grant, unit, note, now, datagram, out)
+                self.hear_over_mesh(grant, last, unit, datagram, out)
             }
             Unit::Part { .. } => {
-                if all {
+                if last.to_all {
                     return Err(Dropped::BadUnit);
                 }
-                self.hear_over_mesh(grant, unit, note, now, datagram, out)
+                self.hear_over_mesh(grant, last, unit, datagram, out)
             }
             Unit::Carried { .. } => {
-                if all {
+                if last.to_all {
                     return Err(Dropped::BadUnit);
                 }
-                self.hear_over_mesh(grant, unit, note, now, datagram, out)
+                self.hear_over_mesh(grant, last, unit, datagram, out)
             }
         }
     }
@@ -224,7 +225,14 @@ impl<K: Keeper + Drop> Station<K> {
                 let Some(grant) = self.parts.ring.grant() else {
                     return Err(Dropped::BadUnit);
                 };
-                self.hear_sealed(&grant, from, to_all, &unit, cost, note, now, datagram, out)
+                let last = LastHop {
+                    by: from,
+                    to_all,
+                    link: cost,
+                    note,
+                    time: now,
+                };
+                self.hear_sealed(&grant, &last, &unit, datagram, out)
             }
             Path::Up { from } => {
                 let Some(body) = joining_body(&unit) else {

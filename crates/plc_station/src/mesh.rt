@@ -17,6 +17,7 @@ ghost use Rattle.plc_station.specs.Ready.{After, ReadyToSend};
 ghost use Rattle.group_keys.specs.KeyRing as ring;
 ghost use Rattle.plc_base.specs.declared.limits.TheConstants.{GREATEST_COUNTER};
 
+use crate::offers::LastHop;
 use crate::station::Station;
 use aes_modes::Aes;
 use loadng_messages::{Message, MessageBuf, write_message};
@@ -168,9 +169,8 @@ impl<K: Keeper + Drop> Station<K> {
     pub(crate) fn hear_over_mesh<'a>(
         &mut self,
         grant: &Grant,
+        last: &LastHop,
         unit: &Unit<'a>,
-        note: u32,
-        now: u64,
         datagram: &'a mut DatagramBuf,
         out: &mut Out,
     ) -> Result<Heard<'a>, Dropped>
@@ -179,30 +179,30 @@ impl<K: Keeper + Drop> Station<K> {
         requires fits { spelled_length unit.now ≤ 381 }
         ensures carries { IfSome self.old.memory
             (λ l. Carries self.old
-            (hearing.hear_over_mesh l grant.now.address unit.now note now) result out.new self.new) }
+            (hearing.hear_over_mesh l grant.now.address unit.now last.now.note last.now.time) result out.new self.new) }
         ensures after { After self.old self.new }
     {
         match unit {
             Unit::Whole { mesh, octets } => {
                 let octets = OctetRef::new(octets.octets());
                 if mesh.to.number() == grant.address.number() {
-                    return Ok(handed_up(mesh, note, octets));
+                    return Ok(handed_up(mesh, last.note, octets));
                 }
                 let on = Unit::Whole {
                     mesh: hop_less(mesh),
                     octets,
                 };
-                self.forward(grant, mesh, &on, note, out)
+                self.forward(grant, mesh, &on, last.note, out)
             }
             Unit::Part { mesh, piece } => {
                 if mesh.to.number() == grant.address.number() {
-                    return self.gather(mesh.origin, piece, note, now, datagram, out);
+                    return self.gather(mesh.origin, piece, last.note, last.time, datagram, out);
                 }
                 let on = Unit::Part {
                     mesh: hop_less(mesh),
                     piece: piece.again(),
                 };
-                self.forward(grant, mesh, &on, note, out)
+                self.forward(grant, mesh, &on, last.note, out)
             }
             Unit::Carried { mesh, body } => {
                 let body = OctetRef::new(body.octets());
@@ -213,7 +213,7 @@ impl<K: Keeper + Drop> Station<K> {
                     mesh: hop_less(mesh),
                     body,
                 };
-                self.forward(grant, mesh, &on, note, out)
+                self.forward(grant, mesh, &on, last.note, out)
             }
             Unit::Local { .. } => Err(Dropped::BadUnit),
         }

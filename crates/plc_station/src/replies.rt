@@ -1,5 +1,5 @@
 //! What a station makes of route replies.
-ghost use Rattle.std.specs.Prelude.{◌≡◌, ◌==◌, ◌+◌, ◌<◌, ◌≤◌, true, false, Some, None, Ok, Err, IfSome, length};
+ghost use Rattle.std.specs.Prelude.{◌≡◌, ◌==◌, ◌+◌, ◌<◌, ◌≤◌, Some, None, Ok, Err, IfSome, length};
 ghost use Rattle.loadng_messages.specs.declared.message.Message.TheVariants as message;
 ghost use Rattle.node_rules.specs.Drafts as drafts;
 ghost use Rattle.node_rules.specs.Hearing as hearing;
@@ -9,63 +9,50 @@ ghost use Rattle.node_rules.specs.Carrying.{Carries};
 ghost use Rattle.plc_station.specs.Hears.{Hears, reply_sent_by};
 ghost use Rattle.node_rules.specs.Agreement.{Agrees};
 ghost use Rattle.plc_station.specs.Ready.{ReadyToSend};
+ghost use Rattle.plc_station.specs.Offers.{CanBeKept, offered_rank};
 ghost use Rattle.group_keys.specs.KeyRing as ring;
 ghost use Rattle.plc_base.specs.declared.limits.TheConstants.{GREATEST_COUNTER};
 
+use crate::offers::{LastHop, Offer, Offered};
 use crate::station::Station;
 use loadng_messages::Message;
 use node_rules::{Dropped, Heard, Reply};
 use plc_base::{Destination, Grant, Keeper, Out, Short};
-use routing_set::Rank;
 
 impl<K: Keeper + Drop> Station<K> {
     // Sends a reply for another address on, to the hop.
     fn pass_on(
         &mut self,
         grant: &Grant,
-        by: Short,
+        offer: &Offer,
         hop: Short,
-        origin: Short,
         to: Short,
-        rank: Rank,
-        now: u64,
         out: &mut Out,
     ) -> Result<(), Dropped>
         requires ready { ReadyToSend self.old grant.now out.old }
-        requires better { IfSome self.old.memory (λ l. routing.is_better l.routing origin rank ≡ true) }
-        requires room { IfSome self.old.memory (λ l. routing.is_full l.routing origin now ≡ false) }
-        requires valid { 1 ≤ rank.number }
+        requires offer { IfSome self.old.memory (λ l. CanBeKept l.routing offer.now) }
         requires left { IfSome self.old.memory
-            (λ l. l.counter.next + (length (leaving grant.now.address origin by l.waiting) + 1) ≤ GREATEST_COUNTER) }
+            (λ l. l.counter.next + (length (leaving grant.now.address offer.now.origin offer.now.by l.waiting) + 1) ≤ GREATEST_COUNTER) }
         requires fresh { self.old.replied ≡ None }
         ensures carries { IfSome self.old.memory (λ l. Carries self.old (drafts.sealing drafts.alone hearing.dropped
-            (drafts.send_message hop (message.Rrep rank.number rank.cost origin to)
-            (hearing.offers grant.now.address origin rank by now l)) tt) result out.new self.new) }
+            (drafts.send_message hop (message.Rrep offer.now.rank.number offer.now.rank.cost offer.now.origin to)
+            (hearing.offers grant.now.address offer.now.origin offer.now.rank offer.now.by offer.now.time l)) tt) result out.new self.new) }
         ensures agrees { Agrees self.new }
         ensures replied { IfSome self.old.memory (λ l. self.new.replied ≡ reply_sent_by
-            (drafts.send_message hop (message.Rrep rank.number rank.cost origin to)
-            (hearing.offers grant.now.address origin rank by now l)) self.new.memory) }
+            (drafts.send_message hop (message.Rrep offer.now.rank.number offer.now.rank.cost offer.now.origin to)
+            (hearing.offers grant.now.address offer.now.origin offer.now.rank offer.now.by offer.now.time l)) self.new.memory) }
     {
         let reply = Message::Rrep {
-            number: rank.number,
-            cost: rank.cost,
-            origin,
+            number: offer.rank.number,
+            cost: offer.rank.cost,
+            origin: offer.origin,
             to,
         };
-        self.relay(
-            grant,
-            by,
-            Destination::one(hop),
-            &reply,
-            origin,
-            rank,
-            now,
-            out,
-        )?;
+        self.relay(grant, offer, Destination::one(hop), &reply, out)?;
         self.replied = Some(Reply {
             to: hop,
-            number: rank.number,
-            origin,
+            number: offer.rank.number,
+            origin: offer.origin,
         });
         Ok(())
     }
@@ -74,38 +61,27 @@ impl<K: Keeper + Drop> Station<K> {
     fn hear_reply_for(
         &mut self,
         grant: &Grant,
-        by: Short,
+        last: &LastHop,
         hop: Short,
-        number: u16,
-        cost: u32,
-        origin: Short,
+        offered: &Offered,
         to: Short,
-        now: u64,
         out: &mut Out,
     ) -> Result<Heard<'static>, Dropped>
         requires ready { ReadyToSend self.old grant.now out.old }
-        requires valid { 1 ≤ number }
+        requires valid { 1 ≤ offered.now.number }
         requires fresh { self.old.replied ≡ None }
         ensures hears { IfSome self.old.memory (λ l. Hears self.old
-            (hearing.hear_reply_for l grant.now.address by origin to (record { number = number; cost = cost }) now
+            (hearing.hear_reply_for l grant.now.address last.now.by offered.now.origin to (offered_rank offered.now) last.now.time
             (Some hop)) result out.new self.new) }
         ensures agrees { Agrees self.new }
     {
-        if self.is_no_better(grant.address, origin, number, cost) {
-            return Err(Dropped::NotBetter);
-        }
-        let Ok(cost) = u16::try_from(cost) else {
-            return Err(Dropped::CostSpent);
-        };
-        if self.parts.routing.full(origin, now) {
-            return Err(Dropped::RoutesFull);
-        }
-        let units = self.bodies.units_for(origin);
+        let offer = self.take_offer(grant, last, offered)?;
+        let units = self.bodies.units_for(offered.origin);
         let left = self.parts.counter.left();
         if left < units + 1 {
             return Err(Dropped::CounterSpent);
         }
-        match self.pass_on(grant, by, hop, origin, to, Rank { number, cost }, now, out) {
+        match self.pass_on(grant, &offer, hop, to, out) {
             Ok(()) => Ok(Heard::Relayed),
             Err(reason) => Err(reason),
         }
@@ -115,28 +91,25 @@ impl<K: Keeper + Drop> Station<K> {
     pub(crate) fn hear_reply(
         &mut self,
         grant: &Grant,
-        by: Short,
-        number: u16,
-        cost: u32,
-        origin: Short,
+        last: &LastHop,
+        offered: &Offered,
         to: Short,
-        now: u64,
         out: &mut Out,
     ) -> Result<Heard<'static>, Dropped>
         requires ready { ReadyToSend self.old grant.now out.old }
-        requires valid { 1 ≤ number }
+        requires valid { 1 ≤ offered.now.number }
         requires fresh { self.old.replied ≡ None }
         ensures hears { IfSome self.old.memory
-            (λ l. Hears self.old (hearing.hear_reply l grant.now.address by origin to
-            (record { number = number; cost = cost }) now) result out.new self.new) }
+            (λ l. Hears self.old (hearing.hear_reply l grant.now.address last.now.by offered.now.origin to
+            (offered_rank offered.now) last.now.time) result out.new self.new) }
         ensures agrees { Agrees self.new }
     {
         if to.number() == grant.address.number() {
-            return self.hear_own_reply(grant, by, number, cost, origin, now, out);
+            return self.hear_own_reply(grant, last, offered, out);
         }
         let Some(hop) = self.parts.routing.route(to) else {
             return Err(Dropped::NoRoute);
         };
-        self.hear_reply_for(grant, by, hop, number, cost, origin, to, now, out)
+        self.hear_reply_for(grant, last, hop, offered, to, out)
     }
 }

@@ -12,24 +12,25 @@ use Rattle.plc_station.proofs.station.Station.hear_command.Goals as goal
 pub returns-in_default-clause-hears : goal.returns-in_default-clause-hears
 returns-in_default-clause-hears g c =
     if_some c.args.self.now.memory _ (λ l m. refusal_heard dropped c.args.self.now l BadUnit _ _ m
-    (message_bad l c.args.grant.now.address c.args.by c.args.all c.args.code c.args.body.now c.args.link c.args.now
+    (message_bad l c.args.grant.now.address c.args.last.now.by c.args.last.now.to_all c.args.code c.args.body.now c.args.last.now.link c.args.last.now.time
     (grind (arith, nat_tests, c.if-code-eq1.true)) c.in_default.ensures.message) c.requires.ready.empty c.requires.fresh)
 
 pub returns-then-code-eq1-clause-hears : goal.returns-then-code-eq1-clause-hears
 returns-then-code-eq1-clause-hears g c =
-    if_some c.args.self.now.memory _ (λ l m. heard_by _ _ _ _ _ _ (message_is l c.args.grant.now.address c.args.by c.args.all c.args.code c.args.body.now
-    c.args.link c.args.now c.in-Some.message (grind (arith, nat_tests, c.if-code-eq1.true)) c.in-Some.ensures.message)
+    if_some c.args.self.now.memory _
+    (λ l m. heard_by _ _ _ _ _ _ (message_is l c.args.grant.now.address c.args.last.now.by c.args.last.now.to_all c.args.code c.args.body.now
+    c.args.last.now.link c.args.last.now.time c.in-Some.message (grind (arith, nat_tests, c.if-code-eq1.true)) c.in-Some.ensures.message)
     (at_some c.args.self.now.memory _ l m c.hear_message.ensures.hears))
 
 pub returns-then-code-eq2-clause-hears : goal.returns-then-code-eq2-clause-hears
 returns-then-code-eq2-clause-hears g c =
     if_some c.args.self.now.memory _ (λ l m. refusal_heard dropped c.args.self.now l BadUnit _ _ m
-    (joining_bad l c.args.grant.now.address c.args.by c.args.all c.args.code c.args.body.now c.args.link c.args.now
+    (joining_bad l c.args.grant.now.address c.args.last.now.by c.args.last.now.to_all c.args.code c.args.body.now c.args.last.now.link c.args.last.now.time
     (grind (arith, nat_tests, c.if-code-eq1.false)) (grind (arith, nat_tests, c.if-code-eq2.true))) c.requires.ready.empty c.requires.fresh)
 
 pub returns-clause-hears : goal.returns-clause-hears
 returns-clause-hears g c =
     if_some c.args.self.now.memory _ (λ l m. rested_heard c.args.self.now l _ (Err Store) _ _ m
-    (ap (λ (os : List ℕ). resting l (Ok (Local c.args.by c.args.all c.args.code os)) (Err Store)) c.new.ensures
-    ∙ local_is l c.args.grant.now.address c.args.by c.args.all c.args.code c.args.body.now c.args.link c.args.now
+    (ap (λ (os : List ℕ). resting l (Ok (Local c.args.last.now.by c.args.last.now.to_all c.args.code os)) (Err Store)) c.new.ensures
+    ∙ local_is l c.args.grant.now.address c.args.last.now.by c.args.last.now.to_all c.args.code c.args.body.now c.args.last.now.link c.args.last.now.time
     (grind (arith, nat_tests, c.if-code-eq1.false)) (grind (arith, nat_tests, c.if-code-eq2.false))) c.requires.ready.empty c.requires.fresh)

@@ -15,13 +15,14 @@ returns-in_err-relay-clause-carries g c =
 pub returns-in_err-relay-clause-replied : goal.returns-in_err-relay-clause-replied
 returns-in_err-relay-clause-replied g c =
     if_some c.args.self.now.memory _ (λ l m. kept_failed dropped _ _
-    (send_message c.args.hop (Rrep c.args.rank.number c.args.rank.cost c.args.origin c.args.to)
-    (offers c.args.grant.now.address c.args.origin c.args.rank c.args.by c.args.now l)) _ _ _
+    (send_message c.args.hop (Rrep c.args.offer.now.rank.number c.args.offer.now.rank.cost c.args.offer.now.origin c.args.to)
+    (offers c.args.grant.now.address c.args.offer.now.origin c.args.offer.now.rank c.args.offer.now.by c.args.offer.now.time l)) _ _ _
     (at_some _ _ l m (rw c.one.ensures.value at c.in_err-relay.ensures.carries)) (c.in_err-relay.ensures.after.replied ∙ c.requires.fresh))
 
 pub returns-clause-carries : goal.returns-clause-carries
 returns-clause-carries g c =
-    if_some c.args.self.now.memory _ (λ l m. retold _ _ (Some (record { to = c.args.hop; number = c.args.rank.number; origin = c.args.origin })) _ _ _
+    if_some c.args.self.now.memory _
+    (λ l m. retold _ _ (Some (record { to = c.args.hop; number = c.args.offer.now.rank.number; origin = c.args.offer.now.origin })) _ _ _
     (at_some _ _ l m (rw (c.one.ensures.value, ← c.self.view_is) at c.in_ok-relay.ensures.carries)))
 
 pub returns-clause-agrees : goal.returns-clause-agrees
@@ -30,8 +31,9 @@ returns-clause-agrees g c = rw (← c.self.view_is) at c.in_ok-relay.ensures.aft
 pub returns-clause-replied : goal.returns-clause-replied
 returns-clause-replied g c =
     if_some c.args.self.now.memory _ (λ l m. kept_done dropped _ _
-    (send_message c.args.hop (Rrep c.args.rank.number c.args.rank.cost c.args.origin c.args.to)
-    (offers c.args.grant.now.address c.args.origin c.args.rank c.args.by c.args.now l)) _ _ _
+    (send_message c.args.hop (Rrep c.args.offer.now.rank.number c.args.offer.now.rank.cost c.args.offer.now.origin c.args.to)
+    (offers c.args.grant.now.address c.args.offer.now.origin c.args.offer.now.rank c.args.offer.now.by c.args.offer.now.time l)) _ _ _
     (at_some _ _ l m (rw (c.one.ensures.value, ← c.self.view_is) at c.in_ok-relay.ensures.carries))
-    (passed_told l c.args.grant.now c.args.grant.now.address c.args.by c.args.hop c.args.origin c.args.to c.args.rank c.args.now
+    (passed_told l c.args.grant.now c.args.grant.now.address c.args.offer.now.by c.args.hop c.args.offer.now.origin c.args.to c.args.offer.now.rank
+    c.args.offer.now.time
     (at_some _ _ l m c.requires.ready.ring) c.in_ok-relay.ensures.key c.in_ok-relay.ensures.message))

@@ -12,6 +12,7 @@ use Rattle.waiting_bodies.specs.Bodies.{Held}
 use Rattle.fragment_buffers.specs.Waiting.{leaving}
 use Rattle.waiting_bodies.specs.Frames.{frames_of}
 use Rattle.node_rules.specs.Agreement.{AgreesWith}
+use Rattle.plc_station.specs.Offers.{CanBeKept}
 use Rattle.plc_station.specs.StationReading.{station_in}
 use Rattle.plc_station.specs.Sealing.{only_frames}
 use Rattle.node_rules.specs.States.{State}
@@ -24,29 +25,49 @@ use Rattle.waiting_bodies.proofs.Letters.{length-frames}
 use Rattle.plc_station.proofs.Sealed.{sealed_then}
 use Rattle.plc_station.proofs.station.Station.relay.Goals as goal
 
+pub keep-requires-clause-valid : goal.keep-requires-clause-valid
+keep-requires-clause-valid g c =
+    (of_some c.self.inside.halted (station_in c.self.inside.parts c.self.inside.bodies) (λ l. CanBeKept l.routing c.args.offer.now)
+    (rw (← c.self.view_is) at c.requires.ready.running) (rw (← c.self.view_is) at c.requires.offer)).valid
+
+pub keep-requires-clause-better : goal.keep-requires-clause-better
+keep-requires-clause-better g c =
+    (of_some c.self.inside.halted (station_in c.self.inside.parts c.self.inside.bodies) (λ l. CanBeKept l.routing c.args.offer.now)
+    (rw (← c.self.view_is) at c.requires.ready.running) (rw (← c.self.view_is) at c.requires.offer)).better
+
+pub keep-requires-clause-room : goal.keep-requires-clause-room
+keep-requires-clause-room g c =
+    (of_some c.self.inside.halted (station_in c.self.inside.parts c.self.inside.bodies) (λ l. CanBeKept l.routing c.args.offer.now)
+    (rw (← c.self.view_is) at c.requires.ready.running) (rw (← c.self.view_is) at c.requires.offer)).room
+
 pub returns-in_default-clause-carries : goal.returns-in_default-clause-carries
 unfolding goes leave with_own_number with_rank empty_draft leaving
 returns-in_default-clause-carries g c =
     rw (← c.self.view_is) (on_memory c.self.inside.halted _ _ (λ running. stopped dropped _ _
-    (send_message c.args.to c.args.message.now (offers c.args.grant.now.address c.args.origin c.args.rank c.args.by c.args.now
+    (send_message c.args.to c.args.message.now
+    (offers c.args.grant.now.address c.args.offer.now.origin c.args.offer.now.rank c.args.offer.now.by c.args.offer.now.time
     (station_in c.self.inside.parts c.self.inside.bodies))) (send_message c.args.to c.args.message.now
-    (offers c.args.grant.now.address c.args.origin c.args.rank c.args.by c.args.now (station_in c.self.inside.parts c.self.inside.bodies))) tt _ refl
+    (offers c.args.grant.now.address c.args.offer.now.origin c.args.offer.now.rank c.args.offer.now.by c.args.offer.now.time
+    (station_in c.self.inside.parts c.self.inside.bodies))) tt _ refl
     c.in_default.ensures.store c.requires.ready.empty refl))
 
 pub returns-in_default-reserve-clause-carries : goal.returns-in_default-reserve-clause-carries
 unfolding goes leave with_own_number with_rank empty_draft leaving
 returns-in_default-reserve-clause-carries g c =
     let count : c.units_for-units.result + 1 ≡ length (send_message c.args.to c.args.message.now
-    (offers c.args.grant.now.address c.args.origin c.args.rank c.args.by c.args.now (station_in c.self.inside.parts c.self.inside.bodies))).units = omega (
+    (offers c.args.grant.now.address c.args.offer.now.origin c.args.offer.now.rank c.args.offer.now.by c.args.offer.now.time
+    (station_in c.self.inside.parts c.self.inside.bodies))).units = omega (
       arith,
-      c.units_for-units.ensures.units c.args.grant.now.address c.args.by,
-      length-append (leaving c.args.grant.now.address c.args.origin c.args.by c.self.inside.bodies.waiting)
+      c.units_for-units.ensures.units c.args.grant.now.address c.args.offer.now.by,
+      length-append (leaving c.args.grant.now.address c.args.offer.now.origin c.args.offer.now.by c.self.inside.bodies.waiting)
           ((record { to = c.args.to; unit = Local 1 (messages.spelling c.args.message.now); note = 0 }) ∷ []),
     ) in
     rw (← c.self.view_is) (on_memory c.self.inside.halted _ _ (λ running. uncounted dropped _ _
-    (send_message c.args.to c.args.message.now (offers c.args.grant.now.address c.args.origin c.args.rank c.args.by c.args.now
+    (send_message c.args.to c.args.message.now
+    (offers c.args.grant.now.address c.args.offer.now.origin c.args.offer.now.rank c.args.offer.now.by c.args.offer.now.time
     (station_in c.self.inside.parts c.self.inside.bodies))) (send_message c.args.to c.args.message.now
-    (offers c.args.grant.now.address c.args.origin c.args.rank c.args.by c.args.now (station_in c.self.inside.parts c.self.inside.bodies))) tt _ _ _ refl
+    (offers c.args.grant.now.address c.args.offer.now.origin c.args.offer.now.rank c.args.offer.now.by c.args.offer.now.time
+    (station_in c.self.inside.parts c.self.inside.bodies))) tt _ _ _ refl
     c.in-Ok.ensures.store count c.in_default-reserve.ensures.store c.requires.ready.empty refl))
 
 pub seal_message-requires-clause-room : goal.seal_message-requires-clause-room
@@ -56,10 +77,10 @@ seal_message-requires-clause-room g c =
       ap (λ (o : Out). length o.frames) c.seal_leaving.ensures,
       ap (λ (o : Out). length o.frames) c.requires.ready.empty,
       length-append c.args.out.now.frames (frames_of c.args.grant.now c.sealing_key-key.result c.in-Ok-reserve.first
-          (leaving c.args.grant.now.address c.args.origin c.args.by c.self.inside.bodies.waiting)),
+          (leaving c.args.grant.now.address c.args.offer.now.origin c.args.offer.now.by c.self.inside.bodies.waiting)),
       length-frames c.args.grant.now c.sealing_key-key.result c.in-Ok-reserve.first
-          (leaving c.args.grant.now.address c.args.origin c.args.by c.self.inside.bodies.waiting),
-      c.units_for-units.ensures.units c.args.grant.now.address c.args.by,
+          (leaving c.args.grant.now.address c.args.offer.now.origin c.args.offer.now.by c.self.inside.bodies.waiting),
+      c.units_for-units.ensures.units c.args.grant.now.address c.args.offer.now.by,
       c.units_for-units.ensures.few,
     )
 
@@ -67,39 +88,42 @@ pub returns-clause-carries : goal.returns-clause-carries
 unfolding goes leave with_own_number with_rank empty_draft leaving
 returns-clause-carries g c =
     let count : c.units_for-units.result + 1 ≡ length (send_message c.args.to c.args.message.now
-    (offers c.args.grant.now.address c.args.origin c.args.rank c.args.by c.args.now (station_in c.self.inside.parts c.self.inside.bodies))).units = omega (
+    (offers c.args.grant.now.address c.args.offer.now.origin c.args.offer.now.rank c.args.offer.now.by c.args.offer.now.time
+    (station_in c.self.inside.parts c.self.inside.bodies))).units = omega (
       arith,
-      c.units_for-units.ensures.units c.args.grant.now.address c.args.by,
-      length-append (leaving c.args.grant.now.address c.args.origin c.args.by c.self.inside.bodies.waiting)
+      c.units_for-units.ensures.units c.args.grant.now.address c.args.offer.now.by,
+      length-append (leaving c.args.grant.now.address c.args.offer.now.origin c.args.offer.now.by c.self.inside.bodies.waiting)
           ((record { to = c.args.to; unit = Local 1 (messages.spelling c.args.message.now); note = 0 }) ∷ []),
     ) in
     rw (← c.self.view_is) (on_memory c.self.inside.halted _ _ (λ running. ended dropped _ _
-    (send_message c.args.to c.args.message.now (offers c.args.grant.now.address c.args.origin c.args.rank c.args.by c.args.now
+    (send_message c.args.to c.args.message.now
+    (offers c.args.grant.now.address c.args.offer.now.origin c.args.offer.now.rank c.args.offer.now.by c.args.offer.now.time
     (station_in c.self.inside.parts c.self.inside.bodies))) (send_message c.args.to c.args.message.now
-    (offers c.args.grant.now.address c.args.origin c.args.rank c.args.by c.args.now (station_in c.self.inside.parts c.self.inside.bodies))) tt _ _ _ refl
+    (offers c.args.grant.now.address c.args.offer.now.origin c.args.offer.now.rank c.args.offer.now.by c.args.offer.now.time
+    (station_in c.self.inside.parts c.self.inside.bodies))) tt _ _ _ refl
     c.in-Ok.ensures.store count c.in-Ok-reserve.ensures.store
     (c.seal_message.ensures.sent
     ∙ (λ i. record {
       frames = (c.seal_leaving.ensures i).frames
           ++ map (spelled network) (sealed_by (Some c.args.grant.now) (c.in-Ok-reserve.first
-          + c.units_for-units.ensures.units c.args.grant.now.address c.args.by i)
+          + c.units_for-units.ensures.units c.args.grant.now.address c.args.offer.now.by i)
           (record { to = c.args.to; unit = Local 1 (messages.spelling c.args.message.now); note = 0 } ∷ []));
       tags = (c.seal_leaving.ensures i).tags;
     })
     ∙ (λ i. record {
       frames = ((c.requires.ready.empty i).frames ++ frames_of c.args.grant.now c.sealing_key-key.result (c.in-Ok-reserve.ensures.number i)
-          (leaving c.args.grant.now.address c.args.origin c.args.by c.self.inside.bodies.waiting))
+          (leaving c.args.grant.now.address c.args.offer.now.origin c.args.offer.now.by c.self.inside.bodies.waiting))
           ++ map (spelled network) (sealed_by (Some c.args.grant.now) (c.in-Ok-reserve.ensures.number i
-          + length (leaving c.args.grant.now.address c.args.origin c.args.by c.self.inside.bodies.waiting))
+          + length (leaving c.args.grant.now.address c.args.offer.now.origin c.args.offer.now.by c.self.inside.bodies.waiting))
           ((record { to = c.args.to; unit = Local 1 (messages.spelling c.args.message.now); note = 0 }) ∷ []));
       tags = (c.requires.ready.empty i).tags;
     })
     ∙ ap only_frames (sealed_then c.args.grant.now c.sealing_key-key.result c.self.inside.parts.counter.next
-    (leaving c.args.grant.now.address c.args.origin c.args.by c.self.inside.bodies.waiting)
+    (leaving c.args.grant.now.address c.args.offer.now.origin c.args.offer.now.by c.self.inside.bodies.waiting)
     ((record { to = c.args.to; unit = Local 1 (messages.spelling c.args.message.now); note = 0 }) ∷ []) c.sealing_key-key.ensures)
     ∙ (λ i. only_frames (map (spelled network) (sealed_by ((sym (at_some c.args.self.now.memory (λ l. l.ring ≡ Some c.args.grant.now)
     (station_in c.self.inside.parts c.self.inside.bodies) (ap (λ (s : State StationMemory). s.memory) (sym c.self.view_is) ∙ running) c.requires.ready.ring)) i)
-    c.self.inside.parts.counter.next ((leaving c.args.grant.now.address c.args.origin c.args.by c.self.inside.bodies.waiting)
+    c.self.inside.parts.counter.next ((leaving c.args.grant.now.address c.args.offer.now.origin c.args.offer.now.by c.self.inside.bodies.waiting)
     ++ (record { to = c.args.to; unit = Local 1 (messages.spelling c.args.message.now); note = 0 }) ∷ [])))))
     (lines_are _ _ _ _ refl c.in-Ok-reserve.ensures.counter refl c.in-Ok.ensures.routing refl refl (ap (λ (h : Held). h.reassemblies) c.drop_for.ensures)
     (ap (λ (h : Held). h.waiting) c.drop_for.ensures))))
