@@ -7,6 +7,7 @@ pub mod Forwarding
 pub mod Gathering
 pub mod Agreeing
 pub mod Offering
+pub mod Stepping
 pub mod Requests
 pub mod Learning
 pub mod Losing

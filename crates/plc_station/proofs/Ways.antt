@@ -18,6 +18,10 @@ use Rattle.node_rules.specs.Drafts.{Draft, Ends, alone, empty_draft, body_goes, 
 use Rattle.node_rules.specs.Drafts.{counters_left, refused, sealing, sealed, checked, goes, with_own_number}
 use Rattle.node_rules.specs.Calls.{sending_ends, send, send_from, tag_taken}
 use Rattle.node_rules.proofs.Sizes.{length-all_go, length-units_of}
+use Rattle.plc_station.specs.declared.next_steps.NextStep.{NextStep}
+use Rattle.plc_station.specs.NextSteps.{next_step}
+use Rattle.plc_station.proofs.Stepping as step
+use Rattle.plc_station.proofs.Stepping.{stepping}
 use Rattle.plc_station.proofs.Tagging.{tagged_is}
 
 -- # Sealing, by the counters that are left
@@ -89,7 +93,7 @@ pub to_self : (l : StationMemory) (own to : ℕ) (datagram : List ℕ) (note now
 unfolding checked
 to_self l own to datagram note now size own_is = rw (← size, ← own_is) refl
 
-pub goes_spent : (l : StationMemory) (own to : ℕ) (datagram : List ℕ) (note now hop : ℕ) → IsSendable l to datagram → Some hop ≡ next_hop l to
+goes_spent : (l : StationMemory) (own to : ℕ) (datagram : List ℕ) (note now hop : ℕ) → IsSendable l to datagram → Some hop ≡ next_hop l to
     → true ≡ nat_lt (counters_left l) (pieces_of (length datagram))
     → refused sending_ends l CounterSpent ≡ send_from l own to datagram note now
 unfolding checked lack
@@ -98,7 +102,7 @@ goes_spent l own to datagram note now hop t by few =
     (sealed_spent sending_ends l (body_goes own hop to note (Datagram datagram l.next_tag) (tag_taken datagram (empty_draft l))) Sent
     (pieces_of (length datagram)) (goes_long l own hop to note datagram l.next_tag) few)
 
-pub goes_by : (l : StationMemory) (own to : ℕ) (datagram : List ℕ) (note now hop : ℕ) → IsSendable l to datagram → Some hop ≡ next_hop l to
+goes_by : (l : StationMemory) (own to : ℕ) (datagram : List ℕ) (note now hop : ℕ) → IsSendable l to datagram → Some hop ≡ next_hop l to
     → false ≡ nat_lt (counters_left l) (pieces_of (length datagram))
     → sealing alone sending_ends (body_goes own hop to note (Datagram datagram l.next_tag) (tag_taken datagram (empty_draft l))) Sent
     ≡ send_from l own to datagram note now
@@ -108,13 +112,13 @@ goes_by l own to datagram note now hop t by few =
     (sealed_fits sending_ends l (body_goes own hop to note (Datagram datagram l.next_tag) (tag_taken datagram (empty_draft l))) Sent
     (pieces_of (length datagram)) (goes_long l own hop to note datagram l.next_tag) few)
 
-pub full : (l : StationMemory) (own to : ℕ) (datagram : List ℕ) (note now : ℕ) → IsSendable l to datagram → None ≡ next_hop l to
+full : (l : StationMemory) (own to : ℕ) (datagram : List ℕ) (note now : ℕ) → IsSendable l to datagram → None ≡ next_hop l to
     → true ≡ no_room l (length datagram)
     → refused sending_ends l WaitingFull ≡ send_from l own to datagram note now
 unfolding checked lack
 full l own to datagram note now t by room = rw (← t.size, ← t.other, ← by, ← room) refl
 
-pub quiet : (l : StationMemory) (own to : ℕ) (datagram : List ℕ) (note now : ℕ) → IsSendable l to datagram → None ≡ next_hop l to
+quiet : (l : StationMemory) (own to : ℕ) (datagram : List ℕ) (note now : ℕ) → IsSendable l to datagram → None ≡ next_hop l to
     → false ≡ no_room l (length datagram) → true ≡ is_awaited l to
     → sealing alone sending_ends (waits to note (Datagram datagram l.next_tag) now (tag_taken datagram (empty_draft l))) Waiting
     ≡ send_from l own to datagram note now
@@ -124,13 +128,13 @@ quiet l own to datagram note now t by room awaited =
     (sealed_fits sending_ends l (waits to note (Datagram datagram l.next_tag) now (tag_taken datagram (empty_draft l))) Waiting 0
     (waits_long l to note datagram l.next_tag now) (never_less (counters_left l)))
 
-pub seq_spent : (l : StationMemory) (own to : ℕ) (datagram : List ℕ) (note now : ℕ) → IsSendable l to datagram → None ≡ next_hop l to
+seq_spent : (l : StationMemory) (own to : ℕ) (datagram : List ℕ) (note now : ℕ) → IsSendable l to datagram → None ≡ next_hop l to
     → false ≡ no_room l (length datagram) → false ≡ is_awaited l to
     → true ≡ numbers_spent l → refused sending_ends l SeqSpent ≡ send_from l own to datagram note now
 unfolding checked lack
 seq_spent l own to datagram note now t by room awaited spent = rw (← t.size, ← t.other, ← by, ← room, ← awaited, ← spent) refl
 
-pub seeks_spent : (l : StationMemory) (own to : ℕ) (datagram : List ℕ) (note now : ℕ) → IsSendable l to datagram → None ≡ next_hop l to
+seeks_spent : (l : StationMemory) (own to : ℕ) (datagram : List ℕ) (note now : ℕ) → IsSendable l to datagram → None ≡ next_hop l to
     → false ≡ no_room l (length datagram) → false ≡ is_awaited l to
     → false ≡ numbers_spent l → true ≡ nat_lt (counters_left l) 1 → refused sending_ends l CounterSpent ≡ send_from l own to datagram note now
 unfolding checked lack seeks_once
@@ -139,7 +143,7 @@ seeks_spent l own to datagram note now t by room awaited spent few =
     (sealed_spent sending_ends l (waits to note (Datagram datagram l.next_tag) now (seeks own to (tag_taken datagram (empty_draft l)))) Waiting 1
     (seeks_long l own to note datagram l.next_tag now) few)
 
-pub seeking : (l : StationMemory) (own to : ℕ) (datagram : List ℕ) (note now : ℕ) → IsSendable l to datagram → None ≡ next_hop l to
+seeking : (l : StationMemory) (own to : ℕ) (datagram : List ℕ) (note now : ℕ) → IsSendable l to datagram → None ≡ next_hop l to
     → false ≡ no_room l (length datagram) → false ≡ is_awaited l to
     → false ≡ numbers_spent l → false ≡ nat_lt (counters_left l) 1
     → sealing alone sending_ends (waits to note (Datagram datagram l.next_tag) now (seeks own to (tag_taken datagram (empty_draft l)))) Waiting
@@ -149,6 +153,24 @@ seeking l own to datagram note now t by room awaited spent few =
     rw (← t.size, ← t.other, hop_kept l datagram to, ← by, ← room, awaited_kept l datagram to, ← awaited, ← spent)
     (sealed_fits sending_ends l (waits to note (Datagram datagram l.next_tag) now (seeks own to (tag_taken datagram (empty_draft l)))) Waiting 1
     (seeks_long l own to note datagram l.next_tag now) few)
+
+-- # The way, by the next step
+
+pub send_step : (l : StationMemory) (own to : ℕ) (datagram : List ℕ) (note now : ℕ) → IsSendable l to datagram
+    → stepping l own to note now (Datagram datagram l.next_tag) (tag_taken datagram (empty_draft l))
+    (next_step l to (length datagram) (pieces_of (length datagram)))
+    ≡ send_from l own to datagram note now
+send_step l own to datagram note now t = by_tests _ (step.tested l to (length datagram) (pieces_of (length datagram)))
+  where
+    by_tests : (r : Result NextStep SendRefusal) → step.Tests l to (length datagram) (pieces_of (length datagram)) r
+        → stepping l own to note now (Datagram datagram l.next_tag) (tag_taken datagram (empty_draft l)) r ≡ send_from l own to datagram note now
+    by_tests r (step.goes_spent hop e few) = goes_spent l own to datagram note now hop t e few
+    by_tests r (step.goes hop e few) = goes_by l own to datagram note now hop t e few
+    by_tests r (step.full e p) = full l own to datagram note now t e p
+    by_tests r (step.waits e p q) = quiet l own to datagram note now t e p q
+    by_tests r (step.numbers e p q n) = seq_spent l own to datagram note now t e p q n
+    by_tests r (step.seeks_spent e p q n s) = seeks_spent l own to datagram note now t e p q n s
+    by_tests r (step.seeks e p q n s) = seeking l own to datagram note now t e p q n s
 
 -- # Carried out
 

@@ -8,3 +8,4 @@ pub mod Hears
 pub mod Ready
 pub mod Sizes
 pub mod Offers
+pub mod NextSteps

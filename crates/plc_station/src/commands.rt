@@ -14,6 +14,7 @@ ghost use Rattle.plc_station.specs.Rooms.{room_answer};
 ghost use Rattle.plc_base.specs.declared.limits.TheConstants.{GREATEST_COUNTER};
 ghost use Rattle.waiting_bodies.specs.declared.bodies.TheConstants.{LONGEST_COMMAND};
 
+use crate::next_steps::{NextStep, refusal_of};
 use crate::sealing::seal_request;
 use crate::station::Station;
 use mesh_header::Unit;
@@ -131,26 +132,12 @@ impl<K: Keeper + Drop> Station<K> {
             (calls.command_from l grant.now.address to octets.now now) result out.new self.new) }
         ensures after { After self.old self.new }
     {
-        let left = self.parts.counter.left();
-        if let Some(hop) = self.parts.routing.route(to) {
-            if left < 1 {
-                return Err(SendRefusal::CounterSpent);
-            }
-            return self.command_goes(grant, hop, to, octets, out);
+        let step = self.next_step(to, octets.len(), 1)?;
+        match step {
+            NextStep::Goes(hop) => self.command_goes(grant, hop, to, octets, out),
+            NextStep::Waits => self.command_waits(to, octets, now, out),
+            NextStep::Seeks => self.command_seeks(grant, to, octets, now, out),
         }
-        if self.bodies.no_room(octets.len()) {
-            return Err(SendRefusal::WaitingFull);
-        }
-        if self.bodies.is_awaited(to) {
-            return self.command_waits(to, octets, now, out);
-        }
-        if self.parts.own_number.last() == u16::MAX {
-            return Err(SendRefusal::SeqSpent);
-        }
-        if left < 1 {
-            return Err(SendRefusal::CounterSpent);
-        }
-        self.command_seeks(grant, to, octets, now, out)
     }
 
     /// Sends a command, whose code stands first, to an address, at a time in seconds. The own address is treated as any other.
@@ -187,26 +174,7 @@ impl<K: Keeper + Drop> Station<K> {
         requires fits { octets ≤ LONGEST_COMMAND }
         ensures { IfSome self.now.memory (λ l. result ≡ room_answer (calls.room_fault l to octets)) }
     {
-        let left = self.parts.counter.left();
-        if let Some(_) = self.parts.routing.route(to) {
-            if left < 1 {
-                return Err(SendRefusal::CounterSpent);
-            }
-            return Ok(());
-        }
-        if self.bodies.no_room(usize::from(octets)) {
-            return Err(SendRefusal::WaitingFull);
-        }
-        if self.bodies.is_awaited(to) {
-            return Ok(());
-        }
-        if self.parts.own_number.last() == u16::MAX {
-            return Err(SendRefusal::SeqSpent);
-        }
-        if left < 1 {
-            return Err(SendRefusal::CounterSpent);
-        }
-        Ok(())
+        refusal_of(self.next_step(to, usize::from(octets), 1))
     }
 
     /// What a command of so many octets for an address would be refused for. The own address is treated as any other.

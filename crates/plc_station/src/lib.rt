@@ -44,6 +44,7 @@ mod frames;
 mod hearing;
 mod mesh;
 mod neighbours;
+mod next_steps;
 mod offers;
 mod own_replies;
 mod parts;

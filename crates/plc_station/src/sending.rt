@@ -10,6 +10,7 @@ ghost use Rattle.node_rules.specs.Agreement.{Agrees};
 ghost use Rattle.plc_station.specs.Ready.{After, ReadyToAnswer, ReadyToSend};
 ghost use Rattle.plc_base.specs.declared.limits.TheConstants.{GREATEST_COUNTER, LONGEST_DATAGRAM};
 
+use crate::next_steps::NextStep;
 use crate::sealing::{seal_datagram, seal_request};
 use crate::station::Station;
 use fragment_buffers::pieces;
@@ -147,26 +148,13 @@ impl<K: Keeper + Drop> Station<K> {
         if self.is_own(to.number()) {
             return Err(SendRefusal::ToSelf);
         }
-        let left = self.parts.counter.left();
-        if let Some(hop) = self.parts.routing.route(to) {
-            if left < u32::from(pieces(datagram.len() as u16)) {
-                return Err(SendRefusal::CounterSpent);
-            }
-            return self.goes(grant, hop, to, datagram, note, out);
+        let frames = u32::from(pieces(datagram.len() as u16));
+        let step = self.next_step(to, datagram.len(), frames)?;
+        match step {
+            NextStep::Goes(hop) => self.goes(grant, hop, to, datagram, note, out),
+            NextStep::Waits => self.waits(to, datagram, note, now, out),
+            NextStep::Seeks => self.seeks(grant, to, datagram, note, now, out),
         }
-        if self.bodies.no_room(datagram.len()) {
-            return Err(SendRefusal::WaitingFull);
-        }
-        if self.bodies.is_awaited(to) {
-            return self.waits(to, datagram, note, now, out);
-        }
-        if self.parts.own_number.last() == u16::MAX {
-            return Err(SendRefusal::SeqSpent);
-        }
-        if left < 1 {
-            return Err(SendRefusal::CounterSpent);
-        }
-        self.seeks(grant, to, datagram, note, now, out)
     }
 
     /// Sends a datagram to an address, at a time in seconds, under a number of the caller's: its frames, sealed, are in `out`; or

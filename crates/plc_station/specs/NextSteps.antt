@@ -1,0 +1,42 @@
+-- What a body for an address would do.
+use Rattle.std.specs.Prelude.{◌≡◌, ◌+◌, ◌<◌, ◌≤◌, ℕ, Bool, false, nat_lt, if◌then◌else◌, Option, Some, None, Result, Ok, Err}
+use Rattle.plc_base.specs.declared.limits.TheConstants.{GREATEST_COUNTER}
+use Rattle.node_rules.specs.declared.refusal.SendRefusal.{SendRefusal}
+use Rattle.node_rules.specs.declared.refusal.SendRefusal.TheVariants.{WaitingFull, SeqSpent, CounterSpent}
+use Rattle.node_rules.specs.Memory.{StationMemory, next_hop}
+use Rattle.node_rules.specs.Drafts.{counters_left, is_awaited, no_room, numbers_spent}
+use Rattle.plc_station.specs.declared.next_steps.NextStep.{NextStep}
+use Rattle.plc_station.specs.declared.next_steps.NextStep.TheVariants.{Goes, Waits, Seeks}
+
+-- without a route, by what is tested in turn: it waits, and where nothing waits for the address yet a route is sought
+abbrev pub step_without : (full awaited numbers counters : Bool) → Result NextStep SendRefusal
+step_without full awaited numbers counters =
+    if full then Err WaitingFull
+    else (if awaited then Ok Waits else (if numbers then Err SeqSpent else (if counters then Err CounterSpent else Ok Seeks)))
+
+-- by the route to its address
+abbrev pub step_by : StationMemory → (to octets frames : ℕ) → Option ℕ → Result NextStep SendRefusal
+step_by l to octets frames (Some hop) = if nat_lt (counters_left l) frames then Err CounterSpent else Ok (Goes hop)
+step_by l to octets frames None =
+    step_without (no_room l octets) (is_awaited l to) (numbers_spent l) (nat_lt (counters_left l) 1)
+
+-- what a body of so many octets for an address would do, where it goes out in so many frames
+abbrev pub next_step : StationMemory → (to octets frames : ℕ) → Result NextStep SendRefusal
+next_step l to octets frames = step_by l to octets frames (next_hop l to)
+
+-- There is room for a body of so many octets, an own number, and a counter.
+pub record CanSeek (l : StationMemory) (octets : ℕ) : Type 0 where
+  pub room : no_room l octets ≡ false
+  pub number : l.own_number.last < 65535
+  pub left : l.counter.next + 1 ≤ GREATEST_COUNTER
+
+-- what each step needs is there
+abbrev pub CanStep : StationMemory → (octets frames : ℕ) → NextStep → Type 0
+CanStep l octets frames (Goes hop) = l.counter.next + frames ≤ GREATEST_COUNTER
+CanStep l octets frames Waits = no_room l octets ≡ false
+CanStep l octets frames Seeks = CanSeek l octets
+
+-- whether there is a step
+abbrev pub step_answer : Result NextStep SendRefusal → Result (Unit {0}) SendRefusal
+step_answer (Ok step) = Ok tt
+step_answer (Err reason) = Err reason
