@@ -16,7 +16,7 @@
 //! - Each call is its rule of `node_rules` carried out, whichever write to the store fails (`carries`; `state` of `tick`, `answer` and
 //!   `memory` of `restart`). A refusal comes for the first reason that the rule names, and but for Store nothing has changed then.
 //! - What it holds as stored is what its store gives; `open` begins so where no table of the store has a gap, and each call asks for it
-//!   (`ready`, `agrees`) and keeps it, with the pair key (`after`).
+//!   (`ready`, `agrees`) and keeps it, with the pair key (`after`; `agrees` and `psk` of `restart`).
 //! - `open` gives exactly what the store says, or its first fault (`opened`, `running`, `refused`).
 //!
 //! It takes memory in `open` alone, and has no `unsafe`. It reads no clock and draws no random value, and sends nothing by itself: what
