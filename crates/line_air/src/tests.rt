@@ -1,5 +1,7 @@
 //! The air by itself, with times worked out by hand.
 
+ghost use Rattle.std.specs.Prelude.{◌<◌};
+
 use super::*;
 use line_place::{Costs, Layout, Losses, Place, Street};
 use std::alloc::{AllocError, Global};
@@ -32,7 +34,7 @@ struct Course {
 
 impl Course {
     fn note(&mut self, now: u64, flight: u32, what: u32) {
-        let entry = (now as u32)
+        let entry = ((now % 0x1_0000_0000) as u32)
             .wrapping_mul(7)
             .wrapping_add(flight.wrapping_mul(3))
             .wrapping_add(what);
@@ -41,8 +43,10 @@ impl Course {
     }
 }
 
-// The kth frame: every third one to all, the others to the next node or the one after it.
-fn frame_of(k: u32) -> Frame {
+// The kth frame of 39: every third one to all, the others to the next node or the one after it.
+fn frame_of(k: u32) -> Frame
+    requires { k < 39 }
+{
     let node = k % 13;
     let to = if k % 3 == 1 { node + 1 } else { node + 2 };
     let target = if k % 3 == 0 {
@@ -109,7 +113,7 @@ fn end_of(
     } = ended
     {
         if let Target::Node(to) = frame.target {
-            course.note(end.at, 0, end.node * 1_000 + to);
+            course.note(end.at, 0, end.node.wrapping_mul(1_000).wrapping_add(to));
         }
     }
     air.go_on(calendar, end.at, end.node)
@@ -142,7 +146,7 @@ fn course_of(
         let now = due.at;
         course.end = now;
         match due.moment {
-            Moment::Task(k) => air.send(&mut calendar, now, k % 13, frame_of(k))?,
+            Moment::Task(k) => air.send(&mut calendar, now, k % 13, frame_of(k % 39))?,
             Moment::Attempt { node } => {
                 air.attempt(&mut calendar, now, node)?;
             }
