@@ -1,4 +1,5 @@
 use frame_words::{PayloadKind, kind_word, payload_kind, push_payload_words};
+use plc_base::LONGEST_FRAME;
 use std::test::Fail;
 
 // Payloads of `docs/FORMATS.md`, each with the word for its kind and its line.
@@ -30,6 +31,7 @@ fn has_a_word_and_a_line(rt: HostRuntime) -> Result<(), Fail> {
     for (text, word, line) in PAYLOADS {
         let payload = hex::decode(rt.alloc(), text)?;
         let mut words = String::new(rt.alloc());
+        assert!(rt; payload.len() <= LONGEST_FRAME);
         push_payload_words(&mut words, rt.alloc(), payload.as_slice())?;
         assert_eq!(rt; kind_word(payload_kind(payload.as_slice())), word);
         assert_eq!(rt; words.as_str(), line);
