@@ -132,12 +132,12 @@ module _ (s : State Memory) (m : Memory) (e : BookEntry) where
       → reaches m to ≡ true
       → Does s (shut_out m e) true mid → IfSome mid.memory (λ n. Carries mid (sent_command n to (message e.eui Kick) 0) answer out t)
       → Carries s (kick_by m e to) answer out t
-  ordered_done mid t to answer out h reached does tells =
+  ordered_done mid t to answer out h reached does goes_out =
       carried_by s t _ (kick_by m e to) answer out (ordered_plan m e to h.home reached)
       (carries_behind s mid t (shut_out m e).puts (sent_command (shut_out m e).memory to (message e.eui Kick) 0) answer out does.wrote
       (sym (ap (λ (x : State Memory). x.eui) does.state))
       (at_some mid.memory (λ n. Carries mid (sent_command n to (message e.eui Kick) 0) answer out t) (shut_out m e).memory
-      (ap (λ (x : State Memory). x.memory) does.state) tells))
+      (ap (λ (x : State Memory). x.memory) does.state) goes_out))
 
   pub room_left : (mid : State Memory) (to : ℕ) → reaches m to ≡ true → Does s (shut_out m e) true mid
       → IfSome mid.memory (λ n. RoomFor n to (message e.eui Kick))

@@ -20,11 +20,11 @@ abbrev pub origin_of : List Flight → List ℕ → Key → Origin
 origin_of fs octets key = record { is_forged = is_forged_frame fs octets key; note = note_of fs octets key }
 
 -- what one flight gives, where `later` is what those after it give
-abbrev pub told_by : Bool → ℕ → Origin → Origin
-told_by b note later = if b then record { is_forged = false; note = note } else later
+abbrev pub origin_by : Bool → ℕ → Origin → Origin
+origin_by b note later = if b then record { is_forged = false; note = note } else later
 
 cons_by : (b any : Bool) (note rest : ℕ)
-    → ◌≡◌ {A = Origin} (record { is_forged = not (b || any); note = if b then note else rest }) (told_by b note (record { is_forged = not any; note = rest }))
+    → ◌≡◌ {A = Origin} (record { is_forged = not (b || any); note = if b then note else rest }) (origin_by b note (record { is_forged = not any; note = rest }))
 cons_by true any note rest = refl
 cons_by false any note rest = refl
 
@@ -33,7 +33,7 @@ unfolding note_of
 origin_none octets key = refl
 
 origin_cons : (f : Flight) (fs : List Flight) (octets : List ℕ) (key : Key)
-    → origin_of (f ∷ fs) octets key ≡ told_by (has_octets octets key f) f.note (origin_of fs octets key)
+    → origin_of (f ∷ fs) octets key ≡ origin_by (has_octets octets key f) f.note (origin_of fs octets key)
 unfolding note_of
 origin_cons f fs octets key = cons_by (has_octets octets key f) (list_any (has_octets octets key) fs) f.note (note_of fs octets key)
 
@@ -54,19 +54,19 @@ module _ (octets : List ℕ) (key : Key) where
   skip [] p q none order = ap (λ (l : List Flight). origin_of l octets key) (drop_all p [] (omega arith) ∙ sym (drop_all q [] (omega arith)))
   skip (f ∷ fs) zero zero none order = refl
   skip (f ∷ fs) zero (suc q) none order =
-      origin_cons f fs octets key ∙ ap (λ b. told_by b f.note (origin_of fs octets key)) (other f (none 0 (omega arith) (omega arith) f refl))
+      origin_cons f fs octets key ∙ ap (λ b. origin_by b f.note (origin_of fs octets key)) (other f (none 0 (omega arith) (omega arith) f refl))
       ∙ skip fs zero q (λ k low high g e. none (suc k) (omega arith) (omega (arith, high)) g e) (omega arith)
   skip (f ∷ fs) (suc p) zero none order = absurd (omega (arith, order))
   skip (f ∷ fs) (suc p) (suc q) none order = skip fs p q (λ k low high g e. none (suc k) (omega (arith, low)) (omega (arith, high)) g e) (omega (arith, order))
 
   -- what a flight with these octets gives
   here : (fs : List Flight) (k : ℕ) (f : Flight) → slice_get fs k ≡ Some f → f.octets ≡ octets
-      → origin_of (drop k fs) octets key ≡ told_by (is_under f.key key) f.note (origin_of (drop (suc k) fs) octets key)
+      → origin_of (drop k fs) octets key ≡ origin_by (is_under f.key key) f.note (origin_of (drop (suc k) fs) octets key)
   here [] k f there same = absurd cc
   here (g ∷ fs) zero f there same =
       let is : g ≡ f = cc in
       ap (λ (h : Flight). origin_of (h ∷ fs) octets key) is ∙ origin_cons f fs octets key
-      ∙ ap (λ b. told_by b f.note (origin_of fs octets key)) (own f same)
+      ∙ ap (λ b. origin_by b f.note (origin_of fs octets key)) (own f same)
   here (g ∷ fs) (suc k) f there same = here fs k f there same
 
   -- no flight after the last of these octets has them
@@ -84,7 +84,7 @@ module _ (octets : List ℕ) (key : Key) where
       → slice_get (flights_of strings items) (n - 1) ≡ Some f → f.octets ≡ octets
       → IsLast (take (n - 1) strings) octets p
       → origin_of (drop p (flights_of strings items)) octets key
-      ≡ told_by (is_under f.key key) f.note (origin_of (drop n (flights_of strings items)) octets key)
+      ≡ origin_by (is_under f.key key) f.note (origin_of (drop n (flights_of strings items)) octets key)
   from_before strings items n p f some within there same is =
       let fs = flights_of strings items in
       let cut : length (take (n - 1) strings) ≡ n - 1 = omega (arith, length-take (n - 1) strings, within) in
@@ -92,4 +92,4 @@ module _ (octets : List ℕ) (key : Key) where
       skip fs p (n - 1)
       (λ k low high g at own. is.none k low (got_take (n - 1) strings k high ∙ octets_at strings items k g at ∙ ap Some own)) (omega (arith, is.within, cut))
       ∙ here fs (n - 1) f there same
-      ∙ ap (λ m. told_by (is_under f.key key) f.note (origin_of (drop m fs) octets key)) next
+      ∙ ap (λ m. origin_by (is_under f.key key) f.note (origin_of (drop m fs) octets key)) next

@@ -157,15 +157,15 @@ set_lasts nodes number x y there eui n z is = ⊎_elim
 
 module _ {A : Type 0} (ciphers : Ciphers) (w : World) (number : ℕ) (x : Node) (d : NodeStep A) (there : node_at w number ≡ Some x)
     (eui : d.node.eui ≡ x.eui) where
-  pub told_confirmed : (taken more : List Pairing) → Confirmed w taken → Each (TagTaken (slice_set w.nodes number d.node) (taken ++ more)) d.made
+  pub after_confirmed : (taken more : List Pairing) → Confirmed w taken → Each (TagTaken (slice_set w.nodes number d.node) (taken ++ more)) d.made
       → Confirmed (world_after ciphers w number d) (taken ++ more)
   unfolding world_after
-  told_confirmed taken more c new = each_append (TagTaken (slice_set w.nodes number d.node) (taken ++ more)) w.made d.made
+  after_confirmed taken more c new = each_append (TagTaken (slice_set w.nodes number d.node) (taken ++ more)) w.made d.made
       (each_weaker (TagTaken w.nodes taken) (TagTaken (slice_set w.nodes number d.node) (taken ++ more))
       (tag_on w.nodes (slice_set w.nodes number d.node) taken more (set_lasts w.nodes number x d.node there eui)) w.made c) new
 
-  pub told_nothing : (taken : List Pairing) → Confirmed w taken → d.made ≡ [] → Confirmed (world_after ciphers w number d) taken
-  told_nothing taken c none = subst (Confirmed (world_after ciphers w number d)) (append-nil taken) (told_confirmed taken [] c (subst (Each _) (sym none) tt))
+  pub after_nothing : (taken : List Pairing) → Confirmed w taken → d.made ≡ [] → Confirmed (world_after ciphers w number d) taken
+  after_nothing taken c none = subst (Confirmed (world_after ciphers w number d)) (append-nil taken) (after_confirmed taken [] c (subst (Each _) (sym none) tt))
 
 -- a node that carries out a plan keeps its EUI, and makes what the plan makes or nothing
 pub acts_eui : {A : Type 0} (x : Node) (halted : A) (plan : Memory → Plan Memory A) → (acts x halted plan).node.eui ≡ x.eui
@@ -276,21 +276,21 @@ module _ (ciphers : Ciphers) (fits : KeepsRanges ciphers) (w : World) (ok : Worl
   sized_of x m good there = subst (λ o. IfSome o IsMemorySized) there good.sized
 
   -- what a node did without a tag
-  plain_told : {A B : Type 0} (v : World) → Confirmed v taken → (number : ℕ) (x : Node) → node_at v number ≡ Some x
+  plain_after : {A B : Type 0} (v : World) → Confirmed v taken → (number : ℕ) (x : Node) → node_at v number ≡ Some x
       → (reads : A → B) (halted : A) (plan : Memory → Plan Memory A) → ((m : Memory) → x.memory ≡ Some m → (plan m).made ≡ [])
       → Confirmed (world_after ciphers v number (answering reads (acts x halted plan))) taken
-  plain_told v cv number x there reads halted plan none =
-      told_nothing ciphers v number x (answering reads (acts x halted plan)) there (acts_eui x halted plan) taken cv (acts_nothing x halted plan none)
+  plain_after v cv number x there reads halted plan none =
+      after_nothing ciphers v number x (answering reads (acts x halted plan)) there (acts_eui x halted plan) taken cv (acts_nothing x halted plan none)
 
   plain_acts : {A : Type 0} (v : World) → Confirmed v taken → (number : ℕ) (x : Node) → node_at v number ≡ Some x → (halted : A) (plan : Memory → Plan Memory A)
       → ((m : Memory) → x.memory ≡ Some m → (plan m).made ≡ []) → Confirmed (world_after ciphers v number (acts x halted plan)) taken
   plain_acts v cv number x there halted plan none =
-      told_nothing ciphers v number x (acts x halted plan) there (acts_eui x halted plan) taken cv (acts_nothing x halted plan none)
+      after_nothing ciphers v number x (acts x halted plan) there (acts_eui x halted plan) taken cv (acts_nothing x halted plan none)
 
   rand_agrees : (number : ℕ) (value : Rand) → Good (rand ciphers w number value)
   unfolding rand
   rand_agrees number value = once _ (at_node number _ (λ x there. quiet _ refl refl
-      (plain_told (ran w) c number x there random_word (Err randoms.Halted) _
+      (plain_after (ran w) c number x there random_word (Err randoms.Halted) _
       (λ m here. (random_quietly m (sized_of x m (node_ok number x there) here) value).made))))
 
   sent_agrees : (from to : ℕ) (datagram : List ℕ) (tag : ℕ) (b : Bool) (r : World × Trace) → r.1.taken ≡ None → r.1.done ≡ None → Confirmed r.0 taken
@@ -305,7 +305,7 @@ module _ (ciphers : Ciphers) (fits : KeepsRanges ciphers) (w : World) (ok : Worl
       let plan : Memory → Plan Memory (Result _ _) = λ m. of_station m (calls.send m.station a datagram (w.sends + 1) w.clock) in
       let d : NodeStep Answer = answering sent_word (acts x (Err sends.Halted) plan) in
       sent_agrees from to datagram (tag_of x) (is_taken d.answer) (acted ciphers w from d) refl refl
-      (plain_told (ran w) c from x there sent_word (Err sends.Halted) plan
+      (plain_after (ran w) c from x there sent_word (Err sends.Halted) plan
       (λ m here. (send_quietly m (sized_of x m (node_ok from x there) here) a datagram (w.sends + 1) w.clock).made))
 
   send_agrees : (from to : ℕ) (datagram : List ℕ) → Good (send ciphers w from to datagram)
@@ -326,7 +326,7 @@ module _ (ciphers : Ciphers) (fits : KeepsRanges ciphers) (w : World) (ok : Worl
   joins_agrees number agent x None psk there = rests _ refl refl
   joins_agrees number agent x (Some a) None there = rests _ refl refl
   joins_agrees number agent x (Some a) (Some psk) there = quiet _ refl refl
-      (plain_told (ran w) c number x there join_word (Err joins.Halted) (λ m. meters.join (identity ciphers x psk) m a w.clock)
+      (plain_after (ran w) c number x there join_word (Err joins.Halted) (λ m. meters.join (identity ciphers x psk) m a w.clock)
       (λ m here. joins_made (identity ciphers x psk) m a w.clock))
 
   join_agrees : (number agent : ℕ) → Good (join ciphers w number agent)
@@ -337,7 +337,7 @@ module _ (ciphers : Ciphers) (fits : KeepsRanges ciphers) (w : World) (ok : Worl
   leave_agrees : (number : ℕ) → Good (leave ciphers w number)
   unfolding leave
   leave_agrees number = once _ (at_meter number _
-      (λ ne x there. quiet _ refl refl (plain_told (ran w) c number x there leave_word (Err leaves.Halted) meters.leave (λ m here. leaves_made m))))
+      (λ ne x there. quiet _ refl refl (plain_after (ran w) c number x there leave_word (Err leaves.Halted) meters.leave (λ m here. leaves_made m))))
 
   lose_agrees : (number : ℕ) → Good (lose w number)
   unfolding lose
@@ -350,7 +350,7 @@ module _ (ciphers : Ciphers) (fits : KeepsRanges ciphers) (w : World) (ok : Worl
 
   same_agrees : (number : ℕ) (x : Node) (d : NodeStep Answer) → node_at w number ≡ Some x → d.node.eui ≡ x.eui → d.made ≡ []
       → Good (Ok (acted ciphers w number d))
-  same_agrees number x d there eui none = quiet _ refl refl (told_nothing ciphers (ran w) number x d there eui taken c none)
+  same_agrees number x d there eui none = quiet _ refl refl (after_nothing ciphers (ran w) number x d there eui taken c none)
 
   restart_agrees : (number : ℕ) → Good (restart ciphers w number)
   unfolding restart
@@ -374,7 +374,7 @@ module _ (ciphers : Ciphers) (fits : KeepsRanges ciphers) (w : World) (ok : Worl
 
   order_agrees : {A : Type 0} (x : Node) (answer : Answer) (order : Memory → Plan Memory (Result A CoordinatorRefusal)) → node_at w 0 ≡ Some x
       → ((m : Memory) → (order m).made ≡ []) → Good (Ok (by_coordinator ciphers w x answer order))
-  order_agrees x answer order there none = quiet _ refl refl (plain_told (ran w) c 0 x there (ordered_word answer) (Err orders.Halted) order (λ m here. none m))
+  order_agrees x answer order there none = quiet _ refl refl (plain_after (ran w) c 0 x there (ordered_word answer) (Err orders.Halted) order (λ m here. none m))
 
   activate_agrees : (number index : ℕ) → Good (activate ciphers w number index)
   unfolding activate
@@ -414,7 +414,7 @@ module _ (ciphers : Ciphers) (fits : KeepsRanges ciphers) (w : World) (ok : Worl
 
   offered_agrees : (v : World) → Confirmed v taken → (number : ℕ) (x : Node) → node_at v number ≡ Some x → NodeOk x → (to cost : ℕ) → to < 0xFFFE → cost ≤ 255
       → Confirmed (world_after ciphers v number (offered_near x to cost w.clock)) taken
-  offered_agrees v cv number x there good to cost short low = plain_told v cv number x there (λ _. tt) (Ok tt)
+  offered_agrees v cv number x there good to cost short low = plain_after v cv number x there (λ _. tt) (Ok tt)
       (λ m. of_station m (calls.preset_near m.station to cost w.clock))
       (λ m here. (near_quietly m (sized_of x m good here) to cost w.clock short (omega arith)).made)
 
@@ -463,7 +463,7 @@ module _ (ciphers : Ciphers) (fits : KeepsRanges ciphers) (w : World) (ok : Worl
       by_answer (Err reason) e = rw e (Refused faults.Setup)
       by_answer (Ok g) e =
           let d : NodeStep (Result Granted CoordinatorRefusal) = record (acts y (Err orders.Halted) plan) { answer = Ok g } in
-          let first : Confirmed (world_after ciphers (set_up w) 0 d) taken = told_nothing ciphers (set_up w) 0 y d hy (acts_eui y (Err orders.Halted) plan)
+          let first : Confirmed (world_after ciphers (set_up w) 0 d) taken = after_nothing ciphers (set_up w) 0 y d hy (acts_eui y (Err orders.Halted) plan)
           taken c
           (acts_nothing y (Err orders.Halted) plan (λ m here. (depot_untagged m x.eui psk).0)) in
           rw e (quiet (provisioned ciphers (world_after ciphers (set_up w) 0 d) number x g) refl refl
@@ -482,11 +482,11 @@ module _ (ciphers : Ciphers) (fits : KeepsRanges ciphers) (w : World) (ok : Worl
   abbrev paired : ℕ → Option Agreed → Option Pairing
   paired number took = option_map (λ (a : Agreed). record { node = number; agreed = a }) took
 
-  meter_told : (number : ℕ) (x y : Node) (psk : Key) → y.role ≡ Meter psk → (got : Accepted) (cost note now : ℕ) → node_at w number ≡ Some x → NodeOk y
+  meter_after : (number : ℕ) (x y : Node) (psk : Key) → y.role ≡ Meter psk → (got : Accepted) (cost note now : ℕ) → node_at w number ≡ Some x → NodeOk y
       → y.eui ≡ x.eui → IfSome y.memory (λ m. PeerIs y.eui m.session) → RoutesFit got
       → let d : NodeStep (Result MeterHeard Dropped) = acts y (Err drops.Store) (λ m. meters.hear_meter (identity ciphers y psk) m got cost note now) in
       Confirmed (world_after ciphers (ran w) number d) (taken ++ one_of (paired number (meter_reception d.answer).took))
-  meter_told number x y psk role got cost note now there good eui peer routes =
+  meter_after number x y psk role got cost note now there good eui peer routes =
       let plan : Memory → Plan Memory (Result MeterHeard Dropped) = λ m. meters.hear_meter (identity ciphers y psk) m got cost note now in
       let d = acts y (Err drops.Store) plan in
       let same : d.node.eui ≡ y.eui = acts_eui y (Err drops.Store) plan in
@@ -499,7 +499,7 @@ module _ (ciphers : Ciphers) (fits : KeepsRanges ciphers) (w : World) (ok : Worl
       (λ p packet granted are right is. fits.granted psk p packet granted (pair_octets y m psk kept role) are right is)
       (λ octets join index read e. (read_fits join octets read).index index e) got routes.payload refl)).made) in
       let here : slice_get (slice_set w.nodes number d.node) number ≡ Some d.node = slice_get-set w.nodes number d.node (place_within w.nodes number x there) in
-      told_confirmed ciphers (ran w) number x d there (same ∙ eui) taken (one_of (paired number (meter_reception d.answer).took)) c
+      after_confirmed ciphers (ran w) number x d there (same ∙ eui) taken (one_of (paired number (meter_reception d.answer).took)) c
       (each_weaker (MeterTag y.eui (meter_reception d.answer).took)
       (TagTaken (slice_set w.nodes number d.node) (taken ++ one_of (paired number (meter_reception d.answer).took)))
       (λ t h. meter_taken number d.node (slice_set w.nodes number d.node) taken (meter_reception d.answer).took here t
@@ -640,7 +640,7 @@ module _ (ciphers : Ciphers) (fits : KeepsRanges ciphers) (w : World) (ok : Worl
           (λ m here. each_weaker (CoordinatorTag m (coordinator_reception (plan m).answer).keyed) (TagTaken (slice_set w.nodes number d.node) (taken ++ []))
           (coordinator_taken m _ _ _) (plan m).made (says m).made) in (
             subst (λ o. Confirmed (world_after ciphers (ran w) number d) (taken ++ one_of (paired number o))) (sym (took_none d.answer))
-                (told_confirmed ciphers (ran w) number x d there (acts_eui y (Err drops.Store) plan ∙ eui) taken [] c made),
+                (after_confirmed ciphers (ran w) number x d there (acts_eui y (Err drops.Store) plan ∙ eui) taken [] c made),
             was_among (coordinator_reception d.answer).done d.opened (acts_done y plan
                 (λ m. planned_failed (plan m) (coordinator_hears own m (heard_given got cost note now) got refl)) (λ m. (says m).right))
                 (all_made w.made d.opened honest),
@@ -648,7 +648,7 @@ module _ (ciphers : Ciphers) (fits : KeepsRanges ciphers) (w : World) (ok : Worl
       by_role (Meter psk) is honest =
           let d = acts y (Err drops.Store) (λ m. meters.hear_meter (identity ciphers y psk) m got cost note now) in
           let ne : number ≢ 0 = λ e. not_meter psk (sym (k.coordinator x (ap (slice_get w.nodes) (sym e) ∙ there)).role ∙ sym role ∙ is) in (
-            meter_told number x y psk is got cost note now there good eui (peer ne) routes,
+            meter_after number x y psk is got cost note now there good eui (peer ne) routes,
             subst (λ o. IfSome (done_by w o) (λ p. Among p taken)) (sym (meter_done d.answer)) tt,
           )
 
@@ -675,7 +675,7 @@ module _ (ciphers : Ciphers) (fits : KeepsRanges ciphers) (w : World) (ok : Worl
       by_answer (Err reason) e =
           let d : NodeStep (Result Accepted FrameRefusal) = record (acts x (Err frames.Halted) plan) { answer = Err reason } in
           rw e (quiet (world_after ciphers (ran w) number d, trace_of (happened w (frame_word reason))) refl refl
-          (told_nothing ciphers (ran w) number x d there (acts_eui x (Err frames.Halted) plan) taken c
+          (after_nothing ciphers (ran w) number x d there (acts_eui x (Err frames.Halted) plan) taken c
           (acts_nothing x (Err frames.Halted) plan (λ m here. (accept_quietly ciphers fits octets are m x.eui).made))))
       by_answer (Ok got) e =
           let y = (acts x (Err frames.Halted) plan).node in

@@ -373,10 +373,10 @@ module _ (ciphers : Ciphers) (w : World) where
   line_says U D event s (Known e z old) = step_says event s old.is
   line_says U D event s (Opens begun) = of_none _ refl refl
   line_says U D event s (Anew e v t moves silent) = of_none t silent.taken silent.done
-  line_says U D event s (After e r v t old good runs moves tells) =
-      of_same r.1 t tells.taken tells.done tells.opened (step_says event (Ok r) old.is)
-  line_says U D event s (Unsends e r v t old good runs moves tells) =
-      let h = of_same r.1 t tells.taken tells.done tells.opened (step_says event (Ok r) old.is) in record { taken = h.taken; done = h.done }
+  line_says U D event s (After e r v t old good runs moves same_words) =
+      of_same r.1 t same_words.taken same_words.done same_words.opened (step_says event (Ok r) old.is)
+  line_says U D event s (Unsends e r v t old good runs moves same_words) =
+      let h = of_same r.1 t same_words.taken same_words.done same_words.opened (step_says event (Ok r) old.is) in record { taken = h.taken; done = h.done }
   line_says U D event s (Unbelieves e number x octets got there known comes is) = of_none _ refl refl
   line_says U D event s (Chooses number count x psk ne there pair) = of_none _ refl refl
 

@@ -206,9 +206,9 @@ module _ (ciphers : Ciphers) (fits : KeepsRanges ciphers) (w : World) (ok : Worl
     euis = λ n y lt there. g.euis n y lt (sym (ap (λ ns. slice_get ns n) e) ∙ there);
   }
 
-  pub told_goes : {A : Type 0} (u v : World) (number : ℕ) (x : Node) (d : NodeStep A) → Goes u → v.nodes ≡ slice_set u.nodes number d.node
+  pub goes_after : {A : Type 0} (u v : World) (number : ℕ) (x : Node) (d : NodeStep A) → Goes u → v.nodes ≡ slice_set u.nodes number d.node
       → node_at u number ≡ Some x → d.node.eui ≡ x.eui → (number ≡ 0 → BookGrows d.node) → Goes v
-  told_goes u v number x d g nodes there eui book = record { grows = grows; euis = euis }
+  goes_after u v number x d g nodes there eui book = record { grows = grows; euis = euis }
     where
       here_is : (y : Node) → node_at v number ≡ Some y → d.node ≡ y
       here_is y is =
@@ -236,9 +236,9 @@ module _ (ciphers : Ciphers) (fits : KeepsRanges ciphers) (w : World) (ok : Worl
           (λ (ne : n ≢ number). g.euis n y lt (other_is n y ne is))
           (cases_eq n number)
 
-  told_nodes : {A : Type 0} (u : World) (number : ℕ) (d : NodeStep A) → (world_after ciphers u number d).nodes ≡ slice_set u.nodes number d.node
+  after_nodes : {A : Type 0} (u : World) (number : ℕ) (d : NodeStep A) → (world_after ciphers u number d).nodes ≡ slice_set u.nodes number d.node
   unfolding world_after
-  told_nodes u number d = refl
+  after_nodes u number d = refl
 
   abbrev pub GoesBy : Step → Type 0
   GoesBy (Ok r) = 0 < length w.nodes → Goes r.0
@@ -250,7 +250,7 @@ module _ (ciphers : Ciphers) (fits : KeepsRanges ciphers) (w : World) (ok : Worl
       → IsCall ciphers w number x A halted plan
       → Goes v
   called u v number x A B reads halted plan e f there call =
-      told_goes u v number x (answering reads (acts x halted plan)) (same_goes w u e self_goes) (f ∙ told_nodes u number (answering reads (acts x halted plan)))
+      goes_after u v number x (answering reads (acts x halted plan)) (same_goes w u e self_goes) (f ∙ after_nodes u number (answering reads (acts x halted plan)))
       (ap (λ ns. slice_get ns number) e ∙ there) (acts_eui x halted plan) (call_grows number x A halted plan there call)
 
   sent_nodes : (from to : ℕ) (datagram : List ℕ) (tag : ℕ) (d : NodeStep Answer)
@@ -274,7 +274,7 @@ module _ (ciphers : Ciphers) (fits : KeepsRanges ciphers) (w : World) (ok : Worl
       (accept_is a.memory.station x.eui (arrived ciphers octets)) a.is in
       let y = (accepting ciphers x octets).node in
       let d = hears ciphers y got cost (note_by w octets got.path) w.clock in
-      told_goes (ran w) _ number x d (same_goes w (ran w) refl self_goes) (told_nodes (ran w) number d) there
+      goes_after (ran w) _ number x d (same_goes w (ran w) refl self_goes) (after_nodes (ran w) number d) there
       (hears_eui y got cost (note_by w octets got.path) w.clock ∙ acts_eui x (Err frames.Halted) plan)
       (λ first.
       let c = coordinator_at number x first there in
@@ -303,27 +303,27 @@ module _ (ciphers : Ciphers) (fits : KeepsRanges ciphers) (w : World) (ok : Worl
       λ some. called (set_up w) _ number x _ _ (λ a. a) (Ok tt) _ refl refl there (preset_call ciphers w number x plan open_is is)
   goes event s (SetsTwo e quiet a b cost x y p q hx hy apart open_is first second fresh near) = λ some.
       let d = offered_near x q cost w.clock in
-      let one = told_goes (set_up w) (world_after ciphers (set_up w) a d) a x d (same_goes w (set_up w) refl self_goes) (told_nodes (set_up w) a d) hx
+      let one = goes_after (set_up w) (world_after ciphers (set_up w) a d) a x d (same_goes w (set_up w) refl self_goes) (after_nodes (set_up w) a d) hx
       (acts_eui x (Ok tt) _) (call_grows a x _ (Ok tt) _ hx first) in
-      told_goes (world_after ciphers (set_up w) a d) _ b y (offered_near y p cost w.clock) one
-      (told_nodes (world_after ciphers (set_up w) a d) b (offered_near y p cost w.clock))
-      (ap (λ ns. slice_get ns b) (told_nodes (set_up w) a d) ∙ slice_get-set_other w.nodes a b d.node apart ∙ hy) (acts_eui y (Ok tt) _)
+      goes_after (world_after ciphers (set_up w) a d) _ b y (offered_near y p cost w.clock) one
+      (after_nodes (world_after ciphers (set_up w) a d) b (offered_near y p cost w.clock))
+      (ap (λ ns. slice_get ns b) (after_nodes (set_up w) a d) ∙ slice_get-set_other w.nodes a b d.node apart ∙ hy) (acts_eui y (Ok tt) _)
       (call_grows b y _ (Ok tt) _ hy second)
   goes event s (Provides number x c psk g d ne open_is hx hc pair same is) = λ some.
       let kind : IsCall ciphers w 0 c _ (Err orders.Halted) (λ m. coordinator_rules.depot m x.eui psk) = Depots number x psk refl open_is
       (record { other = ne; there = hx }) pair in
       let eui : d.node.eui ≡ c.eui = ap (λ (z : NodeStep _). z.node.eui) same ∙ acts_eui c (Err orders.Halted) _ in
       let grown : BookGrows d.node = subst (λ (z : NodeStep _). BookGrows z.node) (sym same) (call_grows 0 c _ (Err orders.Halted) _ hc kind refl) in
-      let one = told_goes (set_up w) (world_after ciphers (set_up w) 0 d) 0 c d (same_goes w (set_up w) refl self_goes) (told_nodes (set_up w) 0 d) hc eui
+      let one = goes_after (set_up w) (world_after ciphers (set_up w) 0 d) 0 c d (same_goes w (set_up w) refl self_goes) (after_nodes (set_up w) 0 d) hc eui
       (λ e. grown) in
-      told_goes (world_after ciphers (set_up w) 0 d) _ number x (acts x (Ok tt) (λ m. meters.provision m g)) one
-      (told_nodes (world_after ciphers (set_up w) 0 d) number (acts x (Ok tt) (λ m. meters.provision m g)))
-      (ap (λ ns. slice_get ns number) (told_nodes (set_up w) 0 d) ∙ slice_get-set_other w.nodes 0 number d.node ne ∙ hx) (acts_eui x (Ok tt) _)
+      goes_after (world_after ciphers (set_up w) 0 d) _ number x (acts x (Ok tt) (λ m. meters.provision m g)) one
+      (after_nodes (world_after ciphers (set_up w) 0 d) number (acts x (Ok tt) (λ m. meters.provision m g)))
+      (ap (λ ns. slice_get ns number) (after_nodes (set_up w) 0 d) ∙ slice_get-set_other w.nodes 0 number d.node ne ∙ hx) (acts_eui x (Ok tt) _)
       (λ first. absurd (ne first))
   goes event s (TurnsDown e number x octets reason d there says comes same is) = λ some.
       let kind : IsCall ciphers w number x _ (Err frames.Halted) (λ m. of_station m (accept m.station x.eui (arrived ciphers octets))) = Accepts octets e says
       comes in
-      told_goes (ran w) _ number x d (same_goes w (ran w) refl self_goes) (told_nodes (ran w) number d) there
+      goes_after (ran w) _ number x d (same_goes w (ran w) refl self_goes) (after_nodes (ran w) number d) there
       (ap (λ (z : NodeStep _). z.node.eui) same ∙ acts_eui x (Err frames.Halted) _)
       (λ first. subst (λ (z : NodeStep _). BookGrows z.node) (sym same) (call_grows number x _ (Err frames.Halted) _ there kind first))
   goes event s (Hears e number x octets cost got there says comes low is) = λ some. heard_goes e number x octets cost got there says comes is
@@ -342,10 +342,10 @@ module _ (ciphers : Ciphers) (fits : KeepsRanges ciphers) (w : World) (ok : Worl
           → (x : Node) × (node_at w n ≡ Some x) × (x.eui ≡ y.eui)
       ticked_eui n y None at e = absurd (cc)
       ticked_eui n y (Some x) at e = (x, at, ap (λ (z : Node). z.eui) (same_Some _ _ e))
-  goes event s (Restarts number x there) = λ some. told_goes (ran w) _ number x (restarts x) (same_goes w (ran w) refl self_goes)
-      (told_nodes (ran w) number (restarts x)) there refl
+  goes event s (Restarts number x there) = λ some. goes_after (ran w) _ number x (restarts x) (same_goes w (ran w) refl self_goes)
+      (after_nodes (ran w) number (restarts x)) there refl
       (λ first. let c = coordinator_at number x first there in record { book = k.book; kept = c.book_kept; grows = λ u a h. h })
   goes event s (Cuts number nth keeps_new x there) = λ some.
       let d : NodeStep Answer = stays (record x { store = record x.store { cut = Some (record { nth = nth; keeps_new = keeps_new }) } }) said.Set in
-      told_goes (ran w) _ number x d (same_goes w (ran w) refl self_goes) (told_nodes (ran w) number d) there refl
+      goes_after (ran w) _ number x d (same_goes w (ran w) refl self_goes) (after_nodes (ran w) number d) there refl
       (λ first. let c = coordinator_at number x first there in record { book = k.book; kept = c.book_kept; grows = λ u a h. h })

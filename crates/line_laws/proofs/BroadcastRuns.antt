@@ -80,7 +80,7 @@ use Rattle.line_laws.specs.Lines.{NodeOk, WorldOk}
 use Rattle.line_laws.specs.Reach.{AreAtHome, HoldsAlong, IsHeard, IsInRange}
 use Rattle.line_laws.proofs.CommandsCome.{CommandCame, address_stays, command_came, command_says}
 use Rattle.line_laws.proofs.FlightFolds.{address_low, came_octets}
-use Rattle.line_laws.proofs.FlightsSay.{FlightSays, FrameSays, discovery_says, heard_says, old_flights, told_as_before, told_says, told_silently}
+use Rattle.line_laws.proofs.FlightsSay.{FlightSays, FrameSays, discovery_says, heard_says, old_flights, after_as_before, after_says, after_silently}
 use Rattle.line_laws.proofs.FurtherLogs.{commands_fit}
 use Rattle.line_laws.proofs.FurtherOctets.{line_speaks, octets_speak, Octets, Spelled}
 use Rattle.line_laws.proofs.FurtherStepKinds.{line_step_is}
@@ -580,7 +580,7 @@ module _ (w : World) (ok : WorldOk w) (s : WorldSpeaks w) (logs : LogsKept w) (r
         fits (Err reason) f = tt
 
         flown : All (FlightSays (UnitSent (sent ++ []))) (world_after network h.0 number d).flights
-        flown = wider sent [] (world_after network h.0 number d).flights (told_says P h.0 number d
+        flown = wider sent [] (world_after network h.0 number d).flights (after_says P h.0 number d
             (r.sends.commands event number x octets got cost c (is_heard unforged) e) by.1 (heard_flights unforged))
 
     abbrev noted : World × Trace
@@ -599,7 +599,7 @@ module _ (w : World) (ok : WorldOk w) (s : WorldSpeaks w) (logs : LogsKept w) (r
             else
             sends_nothing w (world_after network noted.0 number (acknowledging left reply), noted.1)) in CastsOn sent ups home q.0 q.1
         by_memory reply e true = silent _ _ (record { bup = refl; broadcast = refl })
-            (told_says P noted.0 number (acknowledging left reply) (r.sends.acknowledges event number x octets got cost reply (is_heard unforged) e)
+            (after_says P noted.0 number (acknowledging left reply) (r.sends.acknowledges event number x octets got cost reply (is_heard unforged) e)
             (ack_casts_at left reply) (heard_flights unforged))
         by_memory reply e false = silent _ _ (record { bup = refl; broadcast = refl }) before
 
@@ -672,24 +672,24 @@ module _ (w : World) (ok : WorldOk w) (s : WorldSpeaks w) (logs : LogsKept w) (r
       record {
         up = tt;
         from = own_home number x (beside_at w number) datagram d.answer there;
-        flights = told_says (UnitSent (sent ++ one_of (broadcast_sent number x (beside_at w number) datagram d.answer))) (ran w) number d
+        flights = after_says (UnitSent (sent ++ one_of (broadcast_sent number x (beside_at w number) datagram d.answer))) (ran w) number d
             (r.sends.broadcasts number x datagram there are) by (wider sent (one_of (broadcast_sent number x (beside_at w number) datagram d.answer)) w.flights
             before);
       }
   casts_on event st (Asks from to x y target there other address) = λ honest.
-      silent _ _ (record { bup = refl; broadcast = refl }) (told_says P (ran w) from
+      silent _ _ (record { bup = refl; broadcast = refl }) (after_says P (ran w) from
       (reaches x (beside_at w from) (Err ask_faults.Halted) (λ z. ask_path in_memory z target)) (r.sends.asks from x target there)
       (ask_casts x (beside_at w from) target) before)
   casts_on event st (Scans number x m there here) = λ honest. discovered_casts number scan_word (scanning number) (begin_scan m (beside_at w number).scan)
   casts_on event st (Chooses number k x psk there pair) = λ honest.
-      silent _ _ (record { bup = refl; broadcast = refl }) (told_as_before P any (ran w) number
+      silent _ _ (record { bup = refl; broadcast = refl }) (after_as_before P any (ran w) number
       (reaches x (beside_at w number) (Err choices.Halted) (λ y. choose_agent (identity network x psk) y k w.clock))
       (r.sends.choices number k x psk there pair) (choice_old x (beside_at w number) (identity network x psk) k w.clock) before)
   casts_on event st (Discovers e number x m octets link other there here comes over is) = λ honest.
       discovered_casts number discovery_word (beacon_taken number (discovery_in octets) link)
       (hear_discovery x.role m.station (beside_at w number).scan octets link)
   casts_on event st (Unbelieves e number x octets got a is) = λ honest. silent _ _ (record { bup = refl; broadcast = refl })
-      (told_silently P (ran w) number (stays (after_accepting network x octets) (only said.Blacklisted)) refl before)
+      (after_silently P (ran w) number (stays (after_accepting network x octets) (only said.Blacklisted)) refl before)
   casts_on event st (Commands e number x octets cost got c a low passes is) = λ honest. commanded_casts event number x octets cost got a c is honest
   casts_on event st (Checked e number x octets cost got a low passes none on) = λ honest. checked_casts event number x octets cost got a
       (checked_honest event number x octets cost got a honest)
@@ -697,7 +697,7 @@ module _ (w : World) (ok : WorldOk w) (s : WorldSpeaks w) (logs : LogsKept w) (r
       (heard_flights event number x octets cost got a (or_parts _ _ honest).0)
   casts_on event st (Ticks seconds) = λ honest. silent _ _ (record { bup = refl; broadcast = refl }) before
   casts_on event st (Restarts number x b there read) = λ honest. silent _ _ (record { bup = refl; broadcast = refl })
-      (told_silently P (ran w) number (restarts x) refl before)
+      (after_silently P (ran w) number (restarts x) refl before)
 
 -- # Runs
 

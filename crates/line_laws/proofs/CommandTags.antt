@@ -98,14 +98,14 @@ module _ (x : Reaching Memory) where
       by_fault None = seals (goes_further c (with_broadcast_mark c.origin c.number (empty_draft x))) (heard_of.Broadcast c.origin c.number c.octets) (goes_on c)
       by_fault (Some reason) = drops reason
 
-  tells : (to : ℕ) (message : PathMessage) → (adds_local to 5 (path_spelling message) (empty_draft x)).made ≡ []
+  sends_untagged : (to : ℕ) (message : PathMessage) → (adds_local to 5 (path_spelling message) (empty_draft x)).made ≡ []
   unfolding adds_local empty_draft
-  tells to message = refl
+  sends_untagged to message = refl
 
   follows : (o : Result PathStep PathRefusal) → MakesNone (follows_path in_memory x o)
   follows (Err reason) = drops (path_word reason)
-  follows (Ok (Forward to message)) = seals (adds_local to 5 (path_spelling message) (empty_draft x)) heard_of.Relayed (tells to message)
-  follows (Ok (Answer to message)) = seals (adds_local to 5 (path_spelling message) (empty_draft x)) heard_of.Answered (tells to message)
+  follows (Ok (Forward to message)) = seals (adds_local to 5 (path_spelling message) (empty_draft x)) heard_of.Relayed (sends_untagged to message)
+  follows (Ok (Answer to message)) = seals (adds_local to 5 (path_spelling message) (empty_draft x)) heard_of.Answered (sends_untagged to message)
   follows (Ok (Done walk)) = keeps x (heard_of.Path walk)
 
   paths : (own from : ℕ) (o : Option PathMessage) → MakesNone (hear_path_in in_memory x own from o)

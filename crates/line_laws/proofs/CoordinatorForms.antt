@@ -387,7 +387,7 @@ module _ (W : RingWord → Type 0) (P : Eui → Key → Type 0) (E : Eui → Typ
   rekey_is index key drawn = choose_planned (λ active. Refuses _) (λ other. rung_is (ring.with_key m.station.ring index key) tt (Draws index key drawn))
 
   pub activate_self_is : (index : ℕ) → W (Activate index) → IsOrder (activate_self m index)
-  activate_self_is index told = choose_planned (λ held. rung_is (ring.with_active m.station.ring index) tt (Activates index told held)) (λ none. Refuses _)
+  activate_self_is index order = choose_planned (λ held. rung_is (ring.with_active m.station.ring index) tt (Activates index order held)) (λ none. Refuses _)
 
   challenge_at_is : (eui : Eui) (to : ℕ) → book.address_of m.book eui ≡ Some to → E eui → IsOrder (challenge_at own.eui m eui g.now to)
   challenge_at_is eui to booked known = checked_planned (λ full.

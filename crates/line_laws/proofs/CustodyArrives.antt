@@ -55,25 +55,25 @@ pub record HandedIsOf (S : ℕ → SentAs → Type 0) (own note : ℕ) (octets :
 abbrev ReceptionIsOf : (ℕ → SentAs → Type 0) → ℕ → Reception → Type 0
 ReceptionIsOf S own r = (u : Up) → r.up ≡ Some u → HandedIsOf S own u.note u.octets
 
-station_told : (S : ℕ → SentAs → Type 0) (own : ℕ) (h : Heard) → UpIsOf S own h → ReceptionIsOf S own (station_reception h)
-station_told S own (heard_as.Up from note octets) h u e =
+station_after : (S : ℕ → SentAs → Type 0) (own : ℕ) (h : Heard) → UpIsOf S own h → ReceptionIsOf S own (station_reception h)
+station_after S own (heard_as.Up from note octets) h u e =
     let r : Up = record { note = note; octets = octets } in
     let same : r ≡ u = same_Some r u e in
     let x = h in
     subst (λ (v : Up). HandedIsOf S own v.note v.octets) same (record { sent = x.sent; is = x.is; target = x.target; same = x.content })
-station_told S own _ h u e = absurd (none-some u e)
+station_after S own _ h u e = absurd (none-some u e)
 
-meter_told : (S : ℕ → SentAs → Type 0) (own : ℕ) (a : Result MeterHeard Dropped) → AnswerIsOf S own (MeterUpIsOf S own) a
+meter_after : (S : ℕ → SentAs → Type 0) (own : ℕ) (a : Result MeterHeard Dropped) → AnswerIsOf S own (MeterUpIsOf S own) a
     → ReceptionIsOf S own (meter_reception a)
-meter_told S own (Ok (meter_heard.Station h)) x = station_told S own h x
-meter_told S own (Ok _) x = λ u e. absurd (none-some u e)
-meter_told S own (Err reason) x = λ u e. absurd (none-some u e)
+meter_after S own (Ok (meter_heard.Station h)) x = station_after S own h x
+meter_after S own (Ok _) x = λ u e. absurd (none-some u e)
+meter_after S own (Err reason) x = λ u e. absurd (none-some u e)
 
-coordinator_told : (S : ℕ → SentAs → Type 0) (own : ℕ) (a : Result CoordinatorHeard Dropped) → AnswerIsOf S own (CoordinatorUpIsOf S own) a
+coordinator_after : (S : ℕ → SentAs → Type 0) (own : ℕ) (a : Result CoordinatorHeard Dropped) → AnswerIsOf S own (CoordinatorUpIsOf S own) a
     → ReceptionIsOf S own (coordinator_reception a)
-coordinator_told S own (Ok (coordinator_heard.Station h)) x = station_told S own h x
-coordinator_told S own (Ok _) x = λ u e. absurd (none-some u e)
-coordinator_told S own (Err reason) x = λ u e. absurd (none-some u e)
+coordinator_after S own (Ok (coordinator_heard.Station h)) x = station_after S own h x
+coordinator_after S own (Ok _) x = λ u e. absurd (none-some u e)
+coordinator_after S own (Err reason) x = λ u e. absurd (none-some u e)
 
 -- # What is heard
 
@@ -103,11 +103,11 @@ module _ (ciphers : Ciphers) (S : ℕ → SentAs → Type 0) (one : OneSend S) (
           let d = acts_true S own (CoordinatorUpIsOf S own) x drops.Store
           (λ m. coordinators.hear_coordinator (record { eui = x.eui; ciphers = ciphers }) m got cost note now) ok
           (λ m there h. coordinator_hears_true S one own got cost note now comes (record { eui = x.eui; ciphers = ciphers }) m h (agrees m there)) in
-          subst By (sym e) (record { node = d.station; frames = d.frames; up = coordinator_told S own _ d.up })
+          subst By (sym e) (record { node = d.station; frames = d.frames; up = coordinator_after S own _ d.up })
       by_role (Meter psk) e =
           let d = acts_true S own (MeterUpIsOf S own) x drops.Store (λ m. meters.hear_meter (identity ciphers x psk) m got cost note now) ok
           (λ m there h. taking_true S one own got cost note now comes (identity ciphers x psk) m (stays_at psk m e there) h (agrees m there)) in
-          subst By (sym e) (record { node = d.station; frames = d.frames; up = meter_told S own _ d.up })
+          subst By (sym e) (record { node = d.station; frames = d.frames; up = meter_after S own _ d.up })
 
 -- # Flights
 

@@ -162,7 +162,7 @@ module _ (now : ℕ) (x : meters.Identity) (m : Memory) where
   meter_words : (w : RingWord) → RingCause (call_given 0 0 now) x m w → WordFits w
   meter_words w (ToCoordinator join said) = omega arith
   meter_words w (ByPacket granted taken) = absurd (no_some _ taken.came.brought.is)
-  meter_words w (ByOrder index told) = (read_fits told.join told.octets told.read).index index told.body
+  meter_words w (ByOrder index order) = (read_fits order.join order.octets order.read).index index order.body
 
   meter_known : (S : ℕ → SentAs → Type 0) (own : ℕ) → Known S (RingCause (call_given 0 0 now) x m) (call_given 0 0 now) own
   meter_known S own = record { comes = λ by u c. absurd (no_some _ c.is); carries = by_cause; installs = by_install }

@@ -20,7 +20,7 @@ use Rattle.node_rules.specs.Drafts.{Draft, own_mesh, units_of, all_go, waits_for
 use Rattle.node_rules.specs.Drafts.{body_goes, waits, leave}
 use Rattle.line_laws.specs.Sends.{SentAs, FitsAt, UnitIsOf, LoadIsOf, OutIsOf, BodyIsOf}
 use Rattle.line_laws.proofs.Made.{Given, IsCome, IsLess, Whole, Part, Carried, RingWord, Carry, Install, RingChange, Drops, Installs, Draws, Activates, IsSaid}
-use Rattle.line_laws.proofs.Made.{Seeks, Answers, Relays, Passes, Tells, Forwards, Made, Starts, Ranks, Numbers, Tags, Rings, Idles, Loses, Goes, Sends, Waits}
+use Rattle.line_laws.proofs.Made.{Seeks, Answers, Relays, Passes, SaysTheSame, Forwards, Made, Starts, Ranks, Numbers, Tags, Rings, Idles, Loses, Goes, Sends, Waits}
 use Rattle.line_laws.proofs.Made.{Leaves}
 
 -- # Cutting
@@ -125,10 +125,10 @@ module _ (S : ℕ → SentAs → Type 0) where
   module _ (W : RingWord → Type 0) (g : Given) (own : ℕ) (known : Known W g own) (s : Draft StationMemory) (first : IsTrue own s) where
     said_of : (d : Draft StationMemory) (to : ℕ) (unit : MeshUnit) (note : ℕ) → IsSaid W g s d to unit note → UnitIsOf S note unit
     said_of d to unit note (Seeks a dest number k load here last low carried) = tt
-    said_of d to unit note (Answers a by origin number k c dest here last low told) = tt
-    said_of d to unit note (Relays by origin dest k c rank o just told) = tt
-    said_of d to unit note (Passes by origin t hop k c rank o just told there) = tt
-    said_of d to unit note (Tells hop lost t dest why there) = tt
+    said_of d to unit note (Answers a by origin number k c dest here last low came_so) = tt
+    said_of d to unit note (Relays by origin dest k c rank o just came_so) = tt
+    said_of d to unit note (Passes by origin t hop k c rank o just came_so there) = tt
+    said_of d to unit note (SaysTheSame hop lost t dest why there) = tt
     said_of d to unit note (Forwards by hop dest u less came is there) = less_of g.note u less is (known.comes by u came)
 
     pub made_true : (d : Draft StationMemory) → Made W g s d → IsTrue own d

@@ -61,7 +61,7 @@ use Rattle.line_laws.proofs.CustodyTrue.{SentIsOf, StationIsTrue}
 use Rattle.line_laws.proofs.CustodyWorld.{custody_after, sent_flies, set_sum, live_less}
 use Rattle.line_laws.proofs.FlightFolds.{address_low}
 use Rattle.line_laws.proofs.IssueNodes.{acts_whole, depot_address}
-use Rattle.line_laws.proofs.IssueWorlds.{told_here}
+use Rattle.line_laws.proofs.IssueWorlds.{after_here}
 use Rattle.line_laws.proofs.Keeping.{Left}
 use Rattle.line_laws.proofs.NodeCalls.{call_given, no_some}
 use Rattle.line_laws.proofs.Nodes.{NodeOk}
@@ -123,10 +123,10 @@ module _ (ciphers : Ciphers) (opens : OpensWhatItSeals ciphers) (S : ℕ → Sen
       (λ (e : k ≢ number). all k z (sym (slice_get-set_other ns number k y e) ∙ there))
       (cases_eq k number)
 
-  told_rest : {A : Type 0} (u : World) (number : ℕ) (x : Node) (d : NodeStep A) → Rest u → slice_get u.nodes number ≡ Some x → NodeRanged d.node
+  after_rest : {A : Type 0} (u : World) (number : ℕ) (x : Node) (d : NodeStep A) → Rest u → slice_get u.nodes number ≡ Some x → NodeRanged d.node
       → All IsSent d.frames → NodeTrue S (home number) d.node → All (SentIsOf S) d.frames → Rest (world_after ciphers u number d)
   unfolding world_after
-  told_rest u number x d c here ranged fits station frames = record {
+  after_rest u number x d c here ranged fits station frames = record {
     flights = All-append (IsFlight ciphers) u.flights (flights_of ciphers number d) c.flights (flights_fit ciphers number d fits);
     ranged = All-set NodeRanged u.nodes number d.node ranged c.ranged;
     sent = All-append (FlightIsOf ciphers S) u.flights (flights_of ciphers number d) c.sent (fly_true ciphers opens S number d.frames fits frames);
@@ -153,10 +153,10 @@ module _ (ciphers : Ciphers) (opens : OpensWhatItSeals ciphers) (S : ℕ → Sen
     set_at : (w : World) → At w → At (set_up w)
     set_at w c = record { flights = c.flights; ranged = c.ranged; sent = c.sent; nodes = c.nodes; places = record { at_most = c.places.at_most } }
 
-    told_places : {A : Type 0} (u : World) (number : ℕ) (x : Node) (d : NodeStep A) → IsInCustody ciphers (λ _ f. L f) u before
+    after_places : {A : Type 0} (u : World) (number : ℕ) (x : Node) (d : NodeStep A) → IsInCustody ciphers (λ _ f. L f) u before
         → slice_get u.nodes number ≡ Some x → DidClean S (home number) x d → IsInCustody ciphers (λ _ f. L f) (world_after ciphers u number d) before
     unfolding world_after
-    told_places u number x d c here did = record {
+    after_places u number x d c here did = record {
       at_most = λ n i some.
           let v : World = world_after ciphers u number d in
           let fly = sent_flies ciphers opens n i number d.frames did.fits in
@@ -167,11 +167,11 @@ module _ (ciphers : Ciphers) (opens : OpensWhatItSeals ciphers) (S : ℕ → Sen
           (record { kept = omega arith }) (omega arith) (c.at_most n i some));
     }
 
-    pub told_at : {A : Type 0} (u : World) (number : ℕ) (x : Node) (d : NodeStep A) → At u → slice_get u.nodes number ≡ Some x → DidClean S (home number) x d
+    pub after_at : {A : Type 0} (u : World) (number : ℕ) (x : Node) (d : NodeStep A) → At u → slice_get u.nodes number ≡ Some x → DidClean S (home number) x d
         → At (world_after ciphers u number d)
-    told_at u number x d c here did =
-        at_of (world_after ciphers u number d) (told_rest u number x d (rest_of u c) here did.ranged did.fits did.station did.frames)
-        (told_places u number x d c.places here did)
+    after_at u number x d c here did =
+        at_of (world_after ciphers u number d) (after_rest u number x d (rest_of u c) here did.ranged did.fits did.station did.frames)
+        (after_places u number x d c.places here did)
 
 -- what was live may be live no more
 pub falls_on : (ciphers : Ciphers) (live : World → Flight → Bool) (S : ℕ → SentAs → Type 0) (home : ℕ → ℕ) (w v : World) (ups : List Handed)
@@ -340,13 +340,13 @@ module _ (ciphers : Ciphers) (opens : OpensWhatItSeals ciphers) (fits : KeepsRan
   near_low a at = address_low at.node a (good_at at.number at.node at.there) at.address
 
   -- one node did something
-  ran_told : {A : Type 0} (number : ℕ) (x : Node) (d : NodeStep A) → node_at w number ≡ Some x → DidClean S (home number) x d
+  ran_after : {A : Type 0} (number : ℕ) (x : Node) (d : NodeStep A) → node_at w number ≡ Some x → DidClean S (home number) x d
       → Now (world_after ciphers (ran w) number d)
-  ran_told number x d there did = told_at ciphers opens S home L before (ran w) number x d (ran_at ciphers opens S home L before w c) there did
+  ran_after number x d there did = after_at ciphers opens S home L before (ran w) number x d (ran_at ciphers opens S home L before w c) there did
 
-  set_told : {A : Type 0} (number : ℕ) (x : Node) (d : NodeStep A) → node_at w number ≡ Some x → DidClean S (home number) x d
+  set_after : {A : Type 0} (number : ℕ) (x : Node) (d : NodeStep A) → node_at w number ≡ Some x → DidClean S (home number) x d
       → Now (world_after ciphers (set_up w) number d)
-  set_told number x d there did = told_at ciphers opens S home L before (set_up w) number x d (set_at ciphers opens S home L before w c) there did
+  set_after number x d there did = after_at ciphers opens S home L before (set_up w) number x d (set_at ciphers opens S home L before w c) there did
 
   other_there : {A : Type 0} (number other : ℕ) (d : NodeStep A) (y : Node) → other ≢ number → node_at w other ≡ Some y
       → node_at (world_after ciphers (set_up w) number d) other ≡ Some y
@@ -411,10 +411,10 @@ module _ (ciphers : Ciphers) (opens : OpensWhatItSeals ciphers) (fits : KeepsRan
       ranged = acts_ranged x (Err sends.Halted) (λ m. of_station m (calls.send m.station a datagram (w.sends + 1) w.clock)) (ranged_at from x there)
           (λ m here r. send_ranged m r a datagram (w.sends + 1) w.clock low)
 
-      told_of : (h : SentHow) → d.answer ≡ Ok h
+      after_of : (h : SentHow) → d.answer ≡ Ok h
           → (sending ciphers w from to datagram (tag_of x) (answering sent_word d)).1.sent
           ≡ Some (record { from = from; to = to; datagram = datagram; tag = tag_of x })
-      told_of h e = ap (λ (b : Bool). (sent_if w from to datagram (tag_of x) b (acted ciphers w from (answering sent_word d))).1.sent)
+      after_of h e = ap (λ (b : Bool). (sent_if w from to datagram (tag_of x) b (acted ciphers w from (answering sent_word d))).1.sent)
           (ap (λ r. is_taken (sent_word r)) e ∙ word_taken h)
 
       is_of : (h : SentHow) → d.answer ≡ Ok h → (m : Memory) → x.memory ≡ Some m
@@ -423,21 +423,21 @@ module _ (ciphers : Ciphers) (opens : OpensWhatItSeals ciphers) (fits : KeepsRan
           let tag : tag_of x ≡ m.station.next_tag = ap (λ (o : Option Memory). option_map_or (λ m. m.station.next_tag) o 0) here in
           subst (λ (k : ℕ). S (w.sends + 1) (record { origin = home from; to = a; octets = datagram; tag = k })) tag
           (subst (λ (k : ℕ). S (w.sends + 1) (record { origin = home from; to = k; octets = datagram; tag = tag_of x })) (sym at_home)
-          (is_sent (record { from = from; to = to; datagram = datagram; tag = tag_of x }) (told_of h e)))
+          (is_sent (record { from = from; to = to; datagram = datagram; tag = tag_of x }) (after_of h e)))
 
       did : SentDid S (home from) d
       did = sends_did S (home from) x a datagram (w.sends + 1) w.clock (ranged_at from x there) (c.nodes from x there) is_of
 
-      told_so : Rest ciphers opens S home (world_after ciphers (ran w) from (answering sent_word d))
-      told_so = told_rest ciphers opens S home (ran w) from x (answering sent_word d)
+      after_so : Rest ciphers opens S home (world_after ciphers (ran w) from (answering sent_word d))
+      after_so = after_rest ciphers opens S home (ran w) from x (answering sent_word d)
           (rest_of ciphers opens S home L before (ran w) (ran_at ciphers opens S home L before w c)) there ranged.station ranged.frames did.station did.frames
 
       rest : Rest ciphers opens S home v
       rest = by_taken (is_taken (sent_word d.answer))
         where
           by_taken : (b : Bool) → Rest ciphers opens S home (sent_if w from to datagram (tag_of x) b (acted ciphers w from (answering sent_word d))).0
-          by_taken true = record { flights = told_so.flights; ranged = told_so.ranged; sent = told_so.sent; nodes = told_so.nodes }
-          by_taken false = told_so
+          by_taken true = record { flights = after_so.flights; ranged = after_so.ranged; sent = after_so.sent; nodes = after_so.nodes }
+          by_taken false = after_so
 
       places : IsInCustody ciphers (λ _ f. L f) v before
       places =
@@ -509,10 +509,10 @@ module _ (ciphers : Ciphers) (opens : OpensWhatItSeals ciphers) (fits : KeepsRan
       (subst (λ r. Left (IsKept r) cn.store.records cn.memory) (ok.first cn hc) good.kept) in
       depot_grants a.memory x.eui psk g kept.station.range.ring kept.book.table.short a.is
 
-  told_other : {A : Type 0} (u : World) (number other : ℕ) (d : NodeStep A) (y : Node) → other ≢ number → node_at u other ≡ Some y
+  after_other : {A : Type 0} (u : World) (number other : ℕ) (d : NodeStep A) (y : Node) → other ≢ number → node_at u other ≡ Some y
       → node_at (world_after ciphers u number d) other ≡ Some y
   unfolding world_after
-  told_other u number other d y apart there = slice_get-set_other u.nodes number other d.node apart ∙ there
+  after_other u number other d y apart there = slice_get-set_other u.nodes number other d.node apart ∙ there
 
   -- the grant of the workshop has the address that the book gives then
   grant_home : (number : ℕ) (x cn : Node) (psk : Key) (g : Granted) → number ≢ 0 → node_at w number ≡ Some x → node_at w 0 ≡ Some cn → x.role ≡ Meter psk
@@ -532,9 +532,9 @@ module _ (ciphers : Ciphers) (opens : OpensWhatItSeals ciphers) (fits : KeepsRan
       let a = acts_whole cn orders.Halted orders.Store plan (λ m. depot_failed ciphers fits (own_of cn) m x.eui psk fit.eui (fit.psk psk role)) g e in
       let kept : Left (IsKept Coordinator) d.node.store.records (Some (plan a.memory).memory) = subst (λ o. Left (IsKept Coordinator) d.node.store.records o)
       a.leaves (subst (λ r. Left (IsKept r) d.node.store.records d.node.memory) (did.role ∙ first) did.node.kept) in
-      let there : node_at (world_after ciphers u number p) number ≡ Some p.node = told_here ciphers u number x p (other_there 0 number d x ne hx) in
+      let there : node_at (world_after ciphers u number p) number ≡ Some p.node = after_here ciphers u number x p (other_there 0 number d x ne hx) in
       let here : node_at (world_after ciphers u number p) 0
-      ≡ Some d.node = told_other u number 0 p d.node (λ z. ne (sym z)) (told_here ciphers (set_up w) 0 cn d hc) in
+      ≡ Some d.node = after_other u number 0 p d.node (λ z. ne (sym z)) (after_here ciphers (set_up w) 0 cn d hc) in
       let eui : p.node.eui ≡ x.eui = acts_eui x (Ok tt) (λ m. meters.provision m g) in
       let address : books.address_of (plan a.memory).memory.book x.eui ≡ Some g.address = depot_address a.memory x.eui psk g a.is in
       sym (later.at number p.node d.node (plan a.memory).memory.book g.address ne there here kept.book
@@ -555,24 +555,24 @@ module _ (ciphers : Ciphers) (opens : OpensWhatItSeals ciphers) (fits : KeepsRan
   event_at event s (Makes e x is) silent later = λ sent. made_at e x is
   event_at event s (Rests e quiet) silent later = λ sent. ran_at ciphers opens S home L before w c
   event_at event s (Shows number x) silent later = λ sent. ran_at ciphers opens S home L before w c
-  event_at event s (Acts e number x A halts plan reads there call word asked) silent later = λ sent. ran_told number x (answering reads (acts x halts plan))
+  event_at event s (Acts e number x A halts plan reads there call word asked) silent later = λ sent. ran_after number x (answering reads (acts x halts plan))
       there (read_as number x reads (acts x halts plan) (asked_clean number x A halts plan there asked))
   event_at event s (BreaksLink number next x a there call) silent later = λ sent.
       let plan : Memory → Plan Memory Answer = λ m. changing said.Broken (with_station (calls.broke a m.station) m) in
-      ran_told number x (acts x said.Halted plan) there
+      ran_after number x (acts x said.Halted plan) there
       (clean_at number x said.Halted plan there (λ m here r t. broke_clean S (home number) m r t a said.Broken))
   event_at event s (SendsFrom from to datagram x a there call target) silent later = send_at from to datagram x a there target
   event_at event s (AllowsMeter number y cn psk there call meter) silent later = λ sent.
-      ran_told 0 cn (acts cn (Err orders.Halted) (λ m. coordinator_rules.allow m y.eui psk)) there
+      ran_after 0 cn (acts cn (Err orders.Halted) (λ m. coordinator_rules.allow m y.eui psk)) there
       (clean_at 0 cn _ _ there (λ m here r t. allow_clean S (home 0) m r t (own_of cn) 0 (owed.speaks cn there m here 0) y.eui psk (eight_at number y meter)))
   event_at event s (Sets e quiet number x plan there open_is is) silent later =
-      λ sent. set_told number x (acts x (Ok tt) (λ m. of_station m (plan m.station))) there (preset_clean number x plan there is)
+      λ sent. set_after number x (acts x (Ok tt) (λ m. of_station m (plan m.station))) there (preset_clean number x plan there is)
   event_at event s (SetsTwo e quiet a b cost x y p q hx hy apart open_is first second fresh near) silent later = λ sent.
       let low = near.low in
-      let one = set_told a x (offered_near x q cost w.clock) hx (read_as a x (λ _. tt) _
+      let one = set_after a x (offered_near x q cost w.clock) hx (read_as a x (λ _. tt) _
       (clean_at a x (Ok tt) (λ m. of_station m (calls.preset_near m.station q cost w.clock)) hx
       (λ m here r t. near_clean S (home a) m r t q cost w.clock (near_low q near.second) (omega arith)))) in
-      told_at ciphers opens S home L before (world_after ciphers (set_up w) a (offered_near x q cost w.clock)) b y (offered_near y p cost w.clock) one
+      after_at ciphers opens S home L before (world_after ciphers (set_up w) a (offered_near x q cost w.clock)) b y (offered_near y p cost w.clock) one
       (other_there a b (offered_near x q cost w.clock) y apart hy)
       (read_as b y (λ _. tt) _ (clean_at b y (Ok tt) (λ m. of_station m (calls.preset_near m.station p cost w.clock)) hy
       (λ m here r t. near_clean S (home b) m r t p cost w.clock (near_low p near.first) (omega arith))))
@@ -582,7 +582,7 @@ module _ (ciphers : Ciphers) (opens : OpensWhatItSeals ciphers) (fits : KeepsRan
       let did : DidClean S (home 0) cn d = subst (λ (z : NodeStep (Result Granted CoordinatorRefusal)). DidClean S (home 0) cn z) (sym same)
       (clean_at 0 cn (Err orders.Halted) (λ m. coordinator_rules.depot m x.eui psk) hc
       (λ m here r t. depot_clean S (home 0) m r t (own_of cn) 0 (owed.speaks cn hc m here 0) x.eui psk (eight_at number x hx))) in
-      told_at ciphers opens S home L before (world_after ciphers (set_up w) 0 d) number x (acts x (Ok tt) (λ m. meters.provision m g)) (set_told 0 cn d hc did)
+      after_at ciphers opens S home L before (world_after ciphers (set_up w) 0 d) number x (acts x (Ok tt) (λ m. meters.provision m g)) (set_after 0 cn d hc did)
       (other_there 0 number d x ne hx)
       (clean_at number x (Ok tt) (λ m. meters.provision m g) hx (λ m here r t. provision_clean S (home number) m r t g
       (grant_reads x cn psk g number hx hc role answered) (grant_home number x cn psk g ne hx hc role answered
@@ -593,9 +593,9 @@ module _ (ciphers : Ciphers) (opens : OpensWhatItSeals ciphers) (fits : KeepsRan
   event_at event s (Loses number f there) silent later = λ sent. lost_at number f (lost_place number f there)
   event_at event s (Ticks seconds) silent later = λ sent. tick_at seconds
   event_at event s (Restarts number x there) silent later =
-      λ sent. ran_told number x (restarts x) there (restart_clean S (home number) x (good_at number x there) (owed.homes number x there))
+      λ sent. ran_after number x (restarts x) there (restart_clean S (home number) x (good_at number x there) (owed.homes number x there))
   event_at event s (Cuts number nth keeps_new x there) silent later = λ sent.
-      ran_told number x (stays (record x { store = record x.store { cut = Some (record { nth = nth; keeps_new = keeps_new }) } }) said.Set) there
+      ran_after number x (stays (record x { store = record x.store { cut = Some (record { nth = nth; keeps_new = keeps_new }) } }) said.Set) there
       (record {
         ranged = ranged_at number x there;
         fits = All-nil IsSent;

@@ -197,12 +197,12 @@ module _ (S : ℕ → SentAs → Type 0) (one : OneSend S) (own : ℕ) where
   -- # What a station keeps beside its words
 
   -- What is gathered at a node is of its sends, and so is what it hands up.
-  pub record IsTold (l : StationMemory) (h : Heard) : Type 0 where
+  pub record IsHandedUp (l : StationMemory) (h : Heard) : Type 0 where
     pub held : All (HeldIsOf S own) l.reassemblies
     pub up : UpIsOf S own h
 
   pub handed_of : (g : Given) (l k : StationMemory) (h : Heard) → ((by : ℕ) (u : MeshUnit) → IsCome g by false u → UnitIsOf S g.note u)
-      → ((a : ℕ) → address_of l ≡ Some a → a ≡ own) → Agrees g l → All (HeldIsOf S own) l.reassemblies → Handed g l k h → IsTold k h
+      → ((a : ℕ) → address_of l ≡ Some a → a ≡ own) → Agrees g l → All (HeldIsOf S own) l.reassemblies → Handed g l k h → IsHandedUp k h
   handed_of g l k h comes address agrees all (HandsUp by a mesh octets came here mine) = record {
     held = all;
     up = let x = comes by (units.Whole mesh octets) came in

@@ -16,7 +16,7 @@ use Rattle.node_rules.specs.Drafts.{Draft, Outgoing, own_mesh, units_of, all_go,
 use Rattle.node_rules.specs.Drafts.{with_routing_by, goes, body_goes, waits, leave}
 use Rattle.line_laws.specs.Custody.{weigh, below, covers, content_is, load_is, out_is, body_is}
 use Rattle.line_laws.proofs.Made.{Given, IsCome, IsLess, Whole, Part, Carried, RingWord, Carry, AreUnnoted, IsAlone, Unnoted, Alone, IsSaid, Seeks, Answers}
-use Rattle.line_laws.proofs.Made.{Relays, Passes, Tells, Forwards, Made, Starts, Ranks, Numbers, Tags, Rings, Idles, Loses, Goes, Sends, Waits, Leaves}
+use Rattle.line_laws.proofs.Made.{Relays, Passes, SaysTheSame, Forwards, Made, Starts, Ranks, Numbers, Tags, Rings, Idles, Loses, Goes, Sends, Waits, Leaves}
 
 -- # A cut
 
@@ -131,10 +131,10 @@ module _ (W : RingWord → Type 0) (g : Given) (n i brought : ℕ) (some : 0 < n
   -- what is said weighs what came, and a route message nothing
   said_sum : (d : Draft StationMemory) (to : ℕ) (unit : MeshUnit) (note : ℕ) → IsSaid W g s d to unit note → weigh n note (content_is i unit) ≤ brought
   said_sum d to unit note (Seeks own dest number k load here last low carried) = omega (arith, no_note n 0 some)
-  said_sum d to unit note (Answers own by origin number k c dest here last low told) = omega (arith, no_note n 0 some)
-  said_sum d to unit note (Relays by origin dest k c rank o just told) = omega (arith, no_note n 0 some)
-  said_sum d to unit note (Passes by origin t hop k c rank o just told there) = omega (arith, no_note n 0 some)
-  said_sum d to unit note (Tells hop lost t dest why there) = omega (arith, no_note n 0 some)
+  said_sum d to unit note (Answers own by origin number k c dest here last low came_so) = omega (arith, no_note n 0 some)
+  said_sum d to unit note (Relays by origin dest k c rank o just came_so) = omega (arith, no_note n 0 some)
+  said_sum d to unit note (Passes by origin t hop k c rank o just came_so there) = omega (arith, no_note n 0 some)
+  said_sum d to unit note (SaysTheSame hop lost t dest why there) = omega (arith, no_note n 0 some)
   said_sum d to unit note (Forwards by hop dest u less came is there) =
       let one = brings.comes by u came in
       let same : weigh n g.note (content_is i less) ≡ weigh n g.note (content_is i u) = ap (weigh n g.note) (less_content i u less is) in omega arith

@@ -62,14 +62,14 @@ use Rattle.line_laws.proofs.StepKinds.{Sets, SetsTwo, Provides, TurnsDown, Hears
 
 module _ (ciphers : Ciphers) (P : Flight → Type 0) (sent : (number : ℕ) (f : Sent) → P (flight_by number (spelled ciphers f)))
     (lost : (f : Flight) → P f → P (record f { lost = true })) where
-  pub told_all : {A : Type 0} (u : World) (number : ℕ) (d : NodeStep A) → All P u.flights → All P (world_after ciphers u number d).flights
+  pub after_all : {A : Type 0} (u : World) (number : ℕ) (d : NodeStep A) → All P u.flights → All P (world_after ciphers u number d).flights
   unfolding world_after
-  told_all u number d all = All-append P u.flights (flights_of ciphers number d) all
+  after_all u number d all = All-append P u.flights (flights_of ciphers number d) all
       (All-map P (λ frame. flight_by number (spelled ciphers frame)) d.frames (λ k e lt. sent number _))
 
   sending_all : (w : World) (from to : ℕ) (datagram : List ℕ) (tag : ℕ) (d : NodeStep Answer) → All P w.flights
       → All P (sending ciphers w from to datagram tag d).0.flights
-  sending_all w from to datagram tag d all = by_taken (is_taken d.answer) (told_all (ran w) from d all)
+  sending_all w from to datagram tag d all = by_taken (is_taken d.answer) (after_all (ran w) from d all)
     where
       by_taken : (b : Bool) → All P (world_after ciphers (ran w) from d).flights → All P (sent_if w from to datagram tag b (acted ciphers w from d)).0.flights
       by_taken true k = k
@@ -91,20 +91,20 @@ module _ (ciphers : Ciphers) (P : Flight → Type 0) (sent : (number : ℕ) (f :
   every_flight w event s (Makes e x is) all = all
   every_flight w event s (Rests e quiet) all = all
   every_flight w event s (Shows number x) all = all
-  every_flight w event s (Acts e number x A halted plan reads there call word asked) all = told_all (ran w) number _ all
-  every_flight w event s (BreaksLink number next x a there call) all = told_all (ran w) number _ all
+  every_flight w event s (Acts e number x A halted plan reads there call word asked) all = after_all (ran w) number _ all
+  every_flight w event s (BreaksLink number next x a there call) all = after_all (ran w) number _ all
   every_flight w event s (SendsFrom from to datagram x a there call target) all = sending_all w from to datagram (tag_of x) _ all
-  every_flight w event s (AllowsMeter number y c psk there call meter) all = told_all (ran w) 0 _ all
-  every_flight w event s (Sets e quiet number x plan there open_is is) all = told_all (set_up w) number _ all
-  every_flight w event s (SetsTwo e quiet a b cost x y p q hx hy apart open_is first second fresh near) all = told_all _ b _ (told_all (set_up w) a _ all)
-  every_flight w event s (Provides number x c psk g d ne open_is hx hc pair same is) all = told_all _ number _ (told_all (set_up w) 0 _ all)
-  every_flight w event s (TurnsDown e number x octets reason d there says comes same is) all = told_all (ran w) number _ all
-  every_flight w event s (Hears e number x octets cost got there says comes low is) all = told_all (ran w) number _ all
+  every_flight w event s (AllowsMeter number y c psk there call meter) all = after_all (ran w) 0 _ all
+  every_flight w event s (Sets e quiet number x plan there open_is is) all = after_all (set_up w) number _ all
+  every_flight w event s (SetsTwo e quiet a b cost x y p q hx hy apart open_is first second fresh near) all = after_all _ b _ (after_all (set_up w) a _ all)
+  every_flight w event s (Provides number x c psk g d ne open_is hx hc pair same is) all = after_all _ number _ (after_all (set_up w) 0 _ all)
+  every_flight w event s (TurnsDown e number x octets reason d there says comes same is) all = after_all (ran w) number _ all
+  every_flight w event s (Hears e number x octets cost got there says comes low is) all = after_all (ran w) number _ all
   every_flight w event s (Loses number f there) all =
       All-set P w.flights (number - 1) (record f { lost = true }) (lost f (at_place P w.flights (number - 1) f (flight_is w number f there) all)) all
   every_flight w event s (Ticks seconds) all = all
-  every_flight w event s (Restarts number x there) all = told_all (ran w) number _ all
-  every_flight w event s (Cuts number nth keeps_new x there) all = told_all (ran w) number _ all
+  every_flight w event s (Restarts number x there) all = after_all (ran w) number _ all
+  every_flight w event s (Cuts number nth keeps_new x there) all = after_all (ran w) number _ all
 
 pub lost_spelled : (ciphers : Ciphers) (f : Flight) → IsSpelled ciphers f → IsSpelled ciphers (record f { lost = true })
 lost_spelled ciphers f h = record { sealed = h.sealed; plain = h.plain }
@@ -161,11 +161,11 @@ none_new w v e = subst (λ n. All (HasSender v) (drop n v.flights)) e (subst (Al
 
 module _ (ciphers : Ciphers) where
   -- one node told what it did
-  pub told_senders : {A : Type 0} (w u v : World) (number : ℕ) (x : Node) (d : NodeStep A) → u.flights ≡ w.flights → u.nodes ≡ w.nodes
+  pub after_senders : {A : Type 0} (w u v : World) (number : ℕ) (x : Node) (d : NodeStep A) → u.flights ≡ w.flights → u.nodes ≡ w.nodes
       → v.nodes ≡ (world_after ciphers u number d).nodes → v.flights ≡ (world_after ciphers u number d).flights → node_at w number ≡ Some x
       → AreFrom (node_address d.node) d.frames → ((a : ℕ) → node_address d.node ≡ Some a → a < 0xFFFE) → NewSenders w v
   unfolding world_after
-  told_senders w u v number x d fs ns vn vf there from low =
+  after_senders w u v number x d fs ns vn vf there from low =
       let here : node_at v number ≡ Some d.node = ap (λ nodes. slice_get nodes number) (vn ∙ ap (λ nodes. slice_set nodes number d.node) ns)
       ∙ slice_get-set w.nodes number d.node (place_within w.nodes number x there) in
       let all = all_senders ciphers v number d.node here d.frames from low in
@@ -174,9 +174,9 @@ module _ (ciphers : Ciphers) where
       (subst (All (HasSender v)) (sym (drop-append_seam w.flights (flights_of ciphers number d))) all)
 
   -- nothing was sent
-  pub told_silent : {A : Type 0} (u : World) (number : ℕ) (d : NodeStep A) → d.frames ≡ [] → (world_after ciphers u number d).flights ≡ u.flights
+  pub after_silent : {A : Type 0} (u : World) (number : ℕ) (d : NodeStep A) → d.frames ≡ [] → (world_after ciphers u number d).flights ≡ u.flights
   unfolding world_after
-  told_silent u number d none = ap (λ fs. u.flights ++ map (λ frame. flight_by number (spelled ciphers frame)) fs) none ∙ append-nil u.flights
+  after_silent u number d none = ap (λ fs. u.flights ++ map (λ frame. flight_by number (spelled ciphers frame)) fs) none ∙ append-nil u.flights
 
 -- A node sent nothing, or it sent from the address that it has.
 pub data IsSentFrom {A : Type 0} (d : NodeStep A) : Type 0 where
@@ -244,11 +244,11 @@ module _ (ciphers : Ciphers) (fits : KeepsRanges ciphers) (w : World) (ok : Worl
   call_sent number x A halted plan there (Kicks meter y first at) =
       order_sent number x _ first there (λ m sized. kick_ok ciphers fits (own_of x) m sized y.eui (given_at meter y at.there).eui)
 
-  pub one_told : {A : Type 0} (u v : World) (number : ℕ) (x : Node) (d : NodeStep A) → u.flights ≡ w.flights → u.nodes ≡ w.nodes
+  pub one_after : {A : Type 0} (u v : World) (number : ℕ) (x : Node) (d : NodeStep A) → u.flights ≡ w.flights → u.nodes ≡ w.nodes
       → v.nodes ≡ (world_after ciphers u number d).nodes → v.flights ≡ (world_after ciphers u number d).flights → node_at w number ≡ Some x → IsSentFrom d
       → NewSenders w v
-  one_told u v number x d fs ns vn vf there (Silent none) = none_new w v (ap length (vf ∙ told_silent ciphers u number d none ∙ fs))
-  one_told u v number x d fs ns vn vf there (Speaks from low) = told_senders ciphers w u v number x d fs ns vn vf there from low
+  one_after u v number x d fs ns vn vf there (Silent none) = none_new w v (ap length (vf ∙ after_silent ciphers u number d none ∙ fs))
+  one_after u v number x d fs ns vn vf there (Speaks from low) = after_senders ciphers w u v number x d fs ns vn vf there from low
 
   abbrev pub SendersIn : Step → Type 0
   SendersIn (Ok r) = NewSenders w r.0
@@ -257,7 +257,7 @@ module _ (ciphers : Ciphers) (fits : KeepsRanges ciphers) (w : World) (ok : Worl
   sending_senders : (from to : ℕ) (datagram : List ℕ) (x : Node) (d : NodeStep Answer) → node_at w from ≡ Some x → IsSentFrom d
       → NewSenders w (sending ciphers w from to datagram (tag_of x) d).0
   sending_senders from to datagram x d there sent =
-      by_taken (is_taken d.answer) (one_told (ran w) (world_after ciphers (ran w) from d) from x d refl refl refl refl there sent)
+      by_taken (is_taken d.answer) (one_after (ran w) (world_after ciphers (ran w) from d) from x d refl refl refl refl there sent)
     where
       by_taken : (b : Bool) → NewSenders w (world_after ciphers (ran w) from d)
           → NewSenders w (sent_if w from to datagram (tag_of x) b (acted ciphers w from d)).0
@@ -277,12 +277,12 @@ module _ (ciphers : Ciphers) (fits : KeepsRanges ciphers) (w : World) (ok : Worl
       (accept_is a.memory.station x.eui (arrived ciphers octets)) a.is in
       let y = (accepting ciphers x octets).node in
       let d = hears ciphers y got cost (note_by w octets got.path) w.clock in
-      one_told (ran w) (heard ciphers w number y octets got cost).0 number x d refl refl refl refl there
+      one_after (ran w) (heard ciphers w number y octets got cost).0 number x d refl refl refl refl there
       (speaks y d (hears_ok ciphers fits w ok flown y got cost (note_by w octets got.path) w.clock did.node routes))
 
-  told_one : {A : Type 0} (u : World) (number : ℕ) (x : Node) (d : NodeStep A) → u.flights ≡ w.flights → u.nodes ≡ w.nodes → node_at w number ≡ Some x
+  after_one : {A : Type 0} (u : World) (number : ℕ) (x : Node) (d : NodeStep A) → u.flights ≡ w.flights → u.nodes ≡ w.nodes → node_at w number ≡ Some x
       → IsSentFrom d → NewSenders w (world_after ciphers u number d)
-  told_one u number x d fs ns there sent = one_told u (world_after ciphers u number d) number x d fs ns refl refl there sent
+  after_one u number x d fs ns there sent = one_after u (world_after ciphers u number d) number x d fs ns refl refl there sent
 
   answered : {A B : Type 0} (reads : A → B) (d : NodeStep A) → IsSentFrom d → IsSentFrom (answering reads d)
   answered reads d (Silent none) = Silent none
@@ -293,26 +293,26 @@ module _ (ciphers : Ciphers) (fits : KeepsRanges ciphers) (w : World) (ok : Worl
   senders event s (Makes e x is) = none_new w (made_node w x).0 refl
   senders event s (Rests e quiet) = none_new w (ran w) refl
   senders event s (Shows number x) = none_new w (ran w) refl
-  senders event s (Acts e number x A halted plan reads there call word asked) = told_one (ran w) number x (answering reads (acts x halted plan)) refl refl there
+  senders event s (Acts e number x A halted plan reads there call word asked) = after_one (ran w) number x (answering reads (acts x halted plan)) refl refl there
       (answered reads (acts x halted plan) (call_sent number x A halted plan there call))
   senders event s (BreaksLink number next x a there call) =
       let plan : Memory → Plan Memory Answer = λ m. changing said.Broken (with_station (calls.broke a m.station) m) in
-      told_one (ran w) number x (acts x said.Halted plan) refl refl there (call_sent number x Answer said.Halted plan there call)
+      after_one (ran w) number x (acts x said.Halted plan) refl refl there (call_sent number x Answer said.Halted plan there call)
   senders event s (SendsFrom from to datagram x a there call target) =
       let plan : Memory → Plan Memory (Result SentHow SendRefusal) = λ m. of_station m (calls.send m.station a datagram (w.sends + 1) w.clock) in
       sending_senders from to datagram x (answering sent_word (acts x (Err sends.Halted) plan)) there
       (answered sent_word (acts x (Err sends.Halted) plan) (call_sent from x _ (Err sends.Halted) plan there call))
   senders event s (AllowsMeter number y c psk there call meter) =
       let plan : Memory → Plan Memory (Result ℕ CoordinatorRefusal) = λ m. coordinator_rules.allow m y.eui psk in
-      told_one (ran w) 0 c (acts c (Err orders.Halted) plan) refl refl there (call_sent 0 c _ (Err orders.Halted) plan there call)
+      after_one (ran w) 0 c (acts c (Err orders.Halted) plan) refl refl there (call_sent 0 c _ (Err orders.Halted) plan there call)
   senders event s (Sets e quiet number x plan there open_is is) =
-      told_one (set_up w) number x (acts x (Ok tt) (λ m. of_station m (plan m.station))) refl refl there
+      after_one (set_up w) number x (acts x (Ok tt) (λ m. of_station m (plan m.station))) refl refl there
       (call_sent number x _ (Ok tt) (λ m. of_station m (plan m.station)) there (preset_call ciphers w number x plan open_is is))
   senders event s (SetsTwo e quiet a b cost x y p q hx hy apart open_is first second fresh near) =
       let u = world_after ciphers (set_up w) a (offered_near x q cost w.clock) in
       none_new w (world_after ciphers u b (offered_near y p cost w.clock))
-      (ap length (told_silent ciphers u b (offered_near y p cost w.clock) (near_frames y p)
-      ∙ told_silent ciphers (set_up w) a (offered_near x q cost w.clock) (near_frames x q)))
+      (ap length (after_silent ciphers u b (offered_near y p cost w.clock) (near_frames y p)
+      ∙ after_silent ciphers (set_up w) a (offered_near x q cost w.clock) (near_frames x q)))
     where
       near_frames : (z : Node) (to : ℕ) → (offered_near z to cost w.clock).frames ≡ []
       near_frames z to = acts_quiet z (Ok tt) (λ m. of_station m (calls.preset_near m.station to cost w.clock)) (λ m. near_quiet m.station to cost w.clock)
@@ -321,17 +321,17 @@ module _ (ciphers : Ciphers) (fits : KeepsRanges ciphers) (w : World) (ok : Worl
       ∙ acts_quiet c (Err orders.Halted) (λ m. coordinator_rules.depot m x.eui psk) (λ m. depot_quiet m x.eui psk) in
       let u = world_after ciphers (set_up w) 0 d in
       let k = acts x (Ok tt) (λ m. meters.provision m g) in
-      none_new w (world_after ciphers u number k) (ap length (told_silent ciphers u number k
-      (acts_quiet x (Ok tt) (λ m. meters.provision m g) (λ m. install_quiet m.station g)) ∙ told_silent ciphers (set_up w) 0 d quiet))
+      none_new w (world_after ciphers u number k) (ap length (after_silent ciphers u number k
+      (acts_quiet x (Ok tt) (λ m. meters.provision m g) (λ m. install_quiet m.station g)) ∙ after_silent ciphers (set_up w) 0 d quiet))
   senders event s (TurnsDown e number x octets reason d there says comes same is) =
       let quiet : d.frames ≡ [] = ap (λ (z : NodeStep (Result Accepted FrameRefusal)). z.frames) same
       ∙ acts_quiet x (Err frames.Halted) (λ m. of_station m (accept m.station x.eui (arrived ciphers octets)))
       (λ m. accept_quiet m.station _ _ (accept_is m.station x.eui (arrived ciphers octets))) in
-      none_new w (world_after ciphers (ran w) number d) (ap length (told_silent ciphers (ran w) number d quiet))
+      none_new w (world_after ciphers (ran w) number d) (ap length (after_silent ciphers (ran w) number d quiet))
   senders event s (Hears e number x octets cost got there says comes low is) = heard_senders event number x octets cost got there says comes is
   senders event s (Loses number f there) = none_new w (record (ran w) { flights = slice_set w.flights (number - 1) (record f { lost = true }) })
       (length-set w.flights (number - 1) (record f { lost = true }))
   senders event s (Ticks seconds) = none_new w (record (ran w) { clock = w.clock + seconds; nodes = map (ticked (w.clock + seconds)) w.nodes }) refl
-  senders event s (Restarts number x there) = told_one (ran w) number x (restarts x) refl refl there (Silent refl)
-  senders event s (Cuts number nth keeps_new x there) = told_one (ran w) number x
+  senders event s (Restarts number x there) = after_one (ran w) number x (restarts x) refl refl there (Silent refl)
+  senders event s (Cuts number nth keeps_new x there) = after_one (ran w) number x
       (stays (record x { store = record x.store { cut = Some (record { nth = nth; keeps_new = keeps_new }) } }) said.Set) refl refl there (Silent refl)

@@ -32,7 +32,7 @@ use Rattle.line_rules.specs.Runs.{Entry, IsRun, events_of}
 use Rattle.line_rules.specs.Steps.{Step, flight_by, identity, ran, world_after}
 use Rattle.line_rules.specs.Worlds.{World, Flight, Trace, start}
 use Rattle.line_laws.specs.Laws.{AreFrames, EveryFlightIsAFrame, IsDiscoveryOctets, IsFrame}
-use Rattle.line_laws.proofs.FlightFolds.{AllOf, every_flight, told_all}
+use Rattle.line_laws.proofs.FlightFolds.{AllOf, every_flight, after_all}
 use Rattle.line_laws.proofs.FurtherEvents.{IsFurtherStep, Old, TurnsOn, Spreads, Seeks, Looks, Picks, Finds, Takes, Puts, Unread, further_step_is}
 use Rattle.line_laws.proofs.FurtherEvents.{IsHeard, IsUnbelieved, IsPlain, IsCommand, IsChecked, IsAnswered, checks_so, heard_so, hearing, taker}
 use Rattle.line_laws.proofs.HeadsSaid.{spelled_well}
@@ -46,7 +46,7 @@ module _ (ciphers : Ciphers) (P : Flight → Type 0) (sent : (number : ℕ) (f :
   Stay v = All P v.flights
 
   act_all : {A : Type 0} (v : World) (number : ℕ) (d : NodeStep A) → Stay v → Stay (world_after ciphers v number d)
-  act_all v number d all = told_all ciphers P sent lost v number d all
+  act_all v number d all = after_all ciphers P sent lost v number d all
 
   finds_all : (v : World) (number : ℕ) (o : Option Discovery) → Stay v → All P (v.flights ++ discovery_flights number o)
   finds_all v number None all = All-append P v.flights [] all (All-nil P)

@@ -45,7 +45,7 @@ use Rattle.line_rules.specs.Worlds.{World, Flight, flight_at, node_at}
 use Rattle.line_laws.specs.Letters.{IsLetter}
 use Rattle.line_laws.specs.Lines.{WorldOk}
 use Rattle.line_laws.specs.Ranges.{WorldRanged}
-use Rattle.line_laws.proofs.FlightFolds.{came_octets, told_silent}
+use Rattle.line_laws.proofs.FlightFolds.{came_octets, after_silent}
 use Rattle.line_laws.proofs.LetterAccepts.{to_of}
 use Rattle.line_laws.proofs.LetterSeals.{letter_arrives, letter_opens, letter_unit}
 use Rattle.line_laws.proofs.OctetRuns.{WorldSpeaks}
@@ -108,14 +108,14 @@ module _ (P : ℕ → MeshUnit → Type 0) where
       (frames_fly number fs (All-tail IsSent f fs fits) (All-tail FrameSays f fs all))
 
   -- one node told what it did
-  pub told_says : {A : Type 0} (u : World) (number : ℕ) (d : NodeStep A) → All IsSent d.frames → All FrameSays d.frames → All FlightSays u.flights
+  pub after_says : {A : Type 0} (u : World) (number : ℕ) (d : NodeStep A) → All IsSent d.frames → All FrameSays d.frames → All FlightSays u.flights
       → All FlightSays (world_after network u number d).flights
   unfolding world_after
-  told_says u number d fits all before = All-append FlightSays u.flights (flights_of network number d) before (frames_fly number d.frames fits all)
+  after_says u number d fits all before = All-append FlightSays u.flights (flights_of network number d) before (frames_fly number d.frames fits all)
 
-  pub told_silently : {A : Type 0} (u : World) (number : ℕ) (d : NodeStep A) → d.frames ≡ [] → All FlightSays u.flights
+  pub after_silently : {A : Type 0} (u : World) (number : ℕ) (d : NodeStep A) → d.frames ≡ [] → All FlightSays u.flights
       → All FlightSays (world_after network u number d).flights
-  told_silently u number d none before = subst (All FlightSays) (sym (told_silent network u number d none)) before
+  after_silently u number d none before = subst (All FlightSays) (sym (after_silent network u number d none)) before
 
   -- # Without further reach
 
@@ -125,9 +125,9 @@ module _ (P : ℕ → MeshUnit → Type 0) where
     old_says (Up agent from message) h = tt
     old_says (Down from message) h = tt
 
-    pub told_as_before : {A : Type 0} (u : World) (number : ℕ) (d : NodeStep A) → All IsSent d.frames → All IsOldFrame d.frames → All FlightSays u.flights
+    pub after_as_before : {A : Type 0} (u : World) (number : ℕ) (d : NodeStep A) → All IsSent d.frames → All IsOldFrame d.frames → All FlightSays u.flights
         → All FlightSays (world_after network u number d).flights
-    told_as_before u number d fits all before = told_says u number d fits (All-weaker IsOldFrame FrameSays old_says d.frames all) before
+    after_as_before u number d fits all before = after_says u number d fits (All-weaker IsOldFrame FrameSays old_says d.frames all) before
 
     module _ (w : World) (ok : WorldOk w) (s : WorldSpeaks w) (r : WorldRanged w) where
       abbrev pub SaysIn : Step → Type 0
@@ -140,7 +140,7 @@ module _ (P : ℕ → MeshUnit → Type 0) where
           → All FlightSays w.flights → All FlightSays (heard network w number (accepting network x octets).node octets got cost).0.flights
       heard_says number x octets cost got event there says comes is honest before =
           let d = hears network (accepting network x octets).node got cost (note_by w octets got.path) w.clock in
-          told_as_before (ran w) number d (heard_did w ok s r number x octets cost got there
+          after_as_before (ran w) number d (heard_did w ok s r number x octets cost got there
           (came_octets network network_ranges w ok s.flights event number octets says comes) is honest).frames
           (hears_old network w got cost (note_by w octets got.path) w.clock (accepting network x octets).node) before
 
@@ -166,49 +166,49 @@ module _ (P : ℕ → MeshUnit → Type 0) where
       old_flights event st (Rests e quiet) = λ honest before. before
       old_flights event st (Shows number x) = λ honest before. before
       old_flights event st (Acts e number x A halts plan reads there call word asked) = λ honest before.
-          told_as_before (ran w) number (answering reads (acts x halts plan)) (call_ranged w ok s r number x A halts plan there call).frames
+          after_as_before (ran w) number (answering reads (acts x halts plan)) (call_ranged w ok s r number x A halts plan there call).frames
           (call_old network w number x A halts plan call) before
       old_flights event st (BreaksLink number next x a there call) = λ honest before.
           let plan : Memory → Plan Memory Answer = λ m. changing said.Broken (with_station (calls.broke a m.station) m) in
-          told_as_before (ran w) number (acts x said.Halted plan) (call_ranged w ok s r number x Answer said.Halted plan there call).frames
+          after_as_before (ran w) number (acts x said.Halted plan) (call_ranged w ok s r number x Answer said.Halted plan there call).frames
           (call_old network w number x Answer said.Halted plan call) before
       old_flights event st (SendsFrom from to datagram x a there call asked) = λ honest before.
           let plan : Memory → Plan Memory (Result SentHow SendRefusal) = λ m. of_station m (calls.send m.station a datagram (w.sends + 1) w.clock) in
           sending_says from to datagram x (answering sent_word (acts x (Err sends.Halted) plan))
-          (told_as_before (ran w) from (answering sent_word (acts x (Err sends.Halted) plan))
+          (after_as_before (ran w) from (answering sent_word (acts x (Err sends.Halted) plan))
           (call_ranged w ok s r from x _ (Err sends.Halted) plan there call).frames (call_old network w from x _ (Err sends.Halted) plan call) before)
       old_flights event st (AllowsMeter number y c psk there call meter) = λ honest before.
           let plan : Memory → Plan Memory (Result ℕ CoordinatorRefusal) = λ m. coordinator_rules.allow m y.eui psk in
-          told_as_before (ran w) 0 (acts c (Err orders.Halted) plan) (call_ranged w ok s r 0 c _ (Err orders.Halted) plan there call).frames
+          after_as_before (ran w) 0 (acts c (Err orders.Halted) plan) (call_ranged w ok s r 0 c _ (Err orders.Halted) plan there call).frames
           (call_old network w 0 c _ (Err orders.Halted) plan call) before
       old_flights event st (Sets e quiet number x plan there open_is is) = λ honest before.
           let call = preset_call network w number x plan open_is is in
-          told_as_before (set_up w) number (acts x (Ok tt) (λ m. of_station m (plan m.station)))
+          after_as_before (set_up w) number (acts x (Ok tt) (λ m. of_station m (plan m.station)))
           (call_ranged w ok s r number x _ (Ok tt) (λ m. of_station m (plan m.station)) there call).frames
           (call_old network w number x _ (Ok tt) (λ m. of_station m (plan m.station)) call) before
       old_flights event st (SetsTwo e quiet a b cost x y p q hx hy apart open_is first second fresh far) = λ honest before.
-          told_silently (world_after network (set_up w) a (offered_near x q cost w.clock)) b (offered_near y p cost w.clock) (near_frames y p)
-          (told_silently (set_up w) a (offered_near x q cost w.clock) (near_frames x q) before)
+          after_silently (world_after network (set_up w) a (offered_near x q cost w.clock)) b (offered_near y p cost w.clock) (near_frames y p)
+          (after_silently (set_up w) a (offered_near x q cost w.clock) (near_frames x q) before)
         where
           near_frames : (z : Node) (to : ℕ) → (offered_near z to cost w.clock).frames ≡ []
           near_frames z to = acts_quiet z (Ok tt) (λ m. of_station m (calls.preset_near m.station to cost w.clock)) (λ m. near_quiet m.station to cost w.clock)
       old_flights event st (Provides number x c psk g d ne open_is hx hc pair same is) = λ honest before.
           let quiet : d.frames ≡ [] = ap (λ (z : NodeStep (Result Granted CoordinatorRefusal)). z.frames) same ∙ acts_quiet c (Err orders.Halted)
           (λ m. coordinator_rules.depot m x.eui psk) (λ m. depot_quiet m x.eui psk) in
-          told_silently (world_after network (set_up w) 0 d) number (acts x (Ok tt) (λ m. meters.provision m g))
-          (acts_quiet x (Ok tt) (λ m. meters.provision m g) (λ m. install_quiet m.station g)) (told_silently (set_up w) 0 d quiet before)
+          after_silently (world_after network (set_up w) 0 d) number (acts x (Ok tt) (λ m. meters.provision m g))
+          (acts_quiet x (Ok tt) (λ m. meters.provision m g) (λ m. install_quiet m.station g)) (after_silently (set_up w) 0 d quiet before)
       old_flights event st (TurnsDown e number x octets reason d there says comes same is) = λ honest before.
           let quiet : d.frames ≡ [] = ap (λ (z : NodeStep (Result Accepted FrameRefusal)). z.frames) same ∙ acts_quiet x (Err frames.Halted)
           (λ m. of_station m (accept m.station x.eui (arrived network octets)))
           (λ m. accept_quiet m.station _ _ (accept_is m.station x.eui (arrived network octets))) in
-          told_silently (ran w) number d quiet before
+          after_silently (ran w) number d quiet before
       old_flights event st (Hears e number x octets cost got there says comes low is) = λ honest before. heard_says number x octets cost got e there says comes
           is (or_parts _ _ honest).0 before
       old_flights event st (Loses number f there) = λ honest before.
           All-set FlightSays w.flights (number - 1) (record f { lost = true })
           (lost_says f (at_place FlightSays w.flights (number - 1) f (flight_there number f there) before)) before
       old_flights event st (Ticks seconds) = λ honest before. before
-      old_flights event st (Restarts number x there) = λ honest before. told_silently (ran w) number (restarts x) refl before
+      old_flights event st (Restarts number x there) = λ honest before. after_silently (ran w) number (restarts x) refl before
       old_flights event st (Cuts number nth keeps_new x there) = λ honest before.
-          told_silently (ran w) number (stays (record x { store = record x.store { cut = Some (record { nth = nth; keeps_new = keeps_new }) } }) said.Set) refl
+          after_silently (ran w) number (stays (record x { store = record x.store { cut = Some (record { nth = nth; keeps_new = keeps_new }) } }) said.Set) refl
           before

@@ -30,24 +30,24 @@ use Rattle.line_laws.proofs.Homed as homed
 use Rattle.line_laws.proofs.Homes.{addressed_before, at_length, homes_grow}
 use Rattle.line_laws.proofs.IssueCalls.{quiet_coordinator}
 use Rattle.line_laws.proofs.IssueNodes.{CoordinatorDid, coordinator_acts}
-use Rattle.line_laws.proofs.IssueWorlds.{told_here}
+use Rattle.line_laws.proofs.IssueWorlds.{after_here}
 use Rattle.line_laws.proofs.LiveRuns.{none_falls, some_book}
 use Rattle.line_laws.proofs.MarkSteps.{Follows, same_follows}
 use Rattle.line_laws.proofs.Worlds.{at_place}
 
-told_length : {A : Type 0} (ciphers : Ciphers) (v : World) (number : ℕ) (d : NodeStep A) → length (world_after ciphers v number d).nodes ≡ length v.nodes
+after_length : {A : Type 0} (ciphers : Ciphers) (v : World) (number : ℕ) (d : NodeStep A) → length (world_after ciphers v number d).nodes ≡ length v.nodes
 unfolding world_after
-told_length ciphers v number d = length-set v.nodes number d.node
+after_length ciphers v number d = length-set v.nodes number d.node
 
-told_other : {A : Type 0} (ciphers : Ciphers) (v : World) (number other : ℕ) (d : NodeStep A) → other ≢ number
+after_other : {A : Type 0} (ciphers : Ciphers) (v : World) (number other : ℕ) (d : NodeStep A) → other ≢ number
     → node_at (world_after ciphers v number d) other ≡ node_at v other
 unfolding world_after
-told_other ciphers v number other d ne = slice_get-set_other v.nodes number other d.node ne
+after_other ciphers v number other d ne = slice_get-set_other v.nodes number other d.node ne
 
 module _ (U : List Outgoing → Type 0) (D : Discovery → Type 0) (ciphers : Ciphers) (fits : KeepsRanges ciphers) where
   pub moved_length : (v u : World) → Moves U D ciphers v u → length u.nodes ≡ length v.nodes
   moved_length v u (Stays z) = refl
-  moved_length v u (Carries z number x A halted does there is) = told_length ciphers v number (acts x halted does)
+  moved_length v u (Carries z number x A halted does there is) = after_length ciphers v number (acts x halted does)
   moved_length v u (Flies z number x frame there known) = refl
   moved_length v u (Besides z on bs) = refl
   moved_length v u (Turns z between y first rest) = moved_length between u rest ∙ moved_length v between first
@@ -73,10 +73,10 @@ module _ (U : List Outgoing → Type 0) (D : Discovery → Type 0) (ciphers : Ci
       (λ m here kept. quiet_coordinator k.book None m (does m) (further_quietly m (does m) (is m here)) (c.ring m.station.ring kept.station.ring.stored)
       kept.station.range.ring) in
       let stored = (l.coordinator (acts x halted does).node (ap (λ n. node_at (world_after ciphers v number (acts x halted does)) n) (sym e)
-      ∙ told_here ciphers v number x (acts x halted does) there)).book_kept in
+      ∙ after_here ciphers v number x (acts x halted does) there)).book_kept in
       subst (Grows k.book) (one_book did.book l.book (acts x halted does).node.store.records did.node.book_kept stored) did.grows)
       (λ (ne : number ≢ 0). same_book v (world_after ciphers v number (acts x halted does)) given more k l some
-      (told_other ciphers v number 0 (acts x halted does) (λ e. ne (sym e))))
+      (after_other ciphers v number 0 (acts x halted does) (λ e. ne (sym e))))
       (cases_eq number 0)
   moved_grows v u (Flies z number x frame there known) ok runs given more k l some = same_book v _ given more k l some refl
   moved_grows v u (Besides z on bs) ok runs given more k l some = same_book v _ given more k l some refl

@@ -29,7 +29,7 @@ use Rattle.line_laws.specs.Keyed.{Among, Each, Keyed}
 use Rattle.line_laws.specs.Lines.{FlightFits, WorldOk}
 use Rattle.line_laws.specs.Owed.{KeepsRanges}
 use Rattle.line_laws.specs.Shut.{ShutAt}
-use Rattle.line_laws.proofs.AgreeSteps.{Happened, Refused, StepAgrees, acts_eui, acts_nothing, step_agrees, told_nothing}
+use Rattle.line_laws.proofs.AgreeSteps.{Happened, Refused, StepAgrees, acts_eui, acts_nothing, step_agrees, after_nothing}
 use Rattle.line_laws.proofs.FurtherForms.{AnyUnits}
 use Rattle.line_laws.proofs.FurtherKeyed.{chosen_made, front_each}
 use Rattle.line_laws.proofs.FurtherSame.{AnyDiscovery, KeepsMade, OldStep, after_made, line_step_any, of_old}
@@ -46,7 +46,7 @@ moved_confirmed : (U : List Outgoing → Type 0) (D : Discovery → Type 0) (cip
     → Confirmed v taken → Confirmed u taken
 moved_confirmed U D ciphers v u (Stays z) taken c = c
 moved_confirmed U D ciphers v u (Carries z number x A halted does there is) taken c =
-    told_nothing ciphers v number x (acts x halted does) there (acts_eui x halted does) taken c
+    after_nothing ciphers v number x (acts x halted does) there (acts_eui x halted does) taken c
     (acts_nothing x halted does (λ m here. further_makes m (does m) (is m here)))
 moved_confirmed U D ciphers v u (Flies z number x frame there known) taken c = c
 moved_confirmed U D ciphers v u (Besides z on bs) taken c = c
@@ -71,7 +71,7 @@ module _ (ciphers : Ciphers) (fits : KeepsRanges ciphers) (w : World) (ok : Worl
   rests_confirmed : {A : Type 0} (answer : A) (number : ℕ) (x : Node) (octets : List ℕ) → node_at w number ≡ Some x
       → Confirmed (world_after ciphers (ran w) number (stays (accepting ciphers x octets).node answer)) taken
   rests_confirmed answer number x octets there =
-      told_nothing ciphers (ran w) number x (stays (accepting ciphers x octets).node answer) there
+      after_nothing ciphers (ran w) number x (stays (accepting ciphers x octets).node answer) there
       (acts_eui x (Err frames.Halted) (λ m. of_station m (accept m.station x.eui (arrived ciphers octets)))) taken c refl
 
   module _ (U : List Outgoing → Type 0) (D : Discovery → Type 0) where
@@ -83,21 +83,21 @@ module _ (ciphers : Ciphers) (fits : KeepsRanges ciphers) (w : World) (ok : Worl
     line_agrees_is event says s (Known e z old) = old_agrees event says s old
     line_agrees_is event says s (Opens begun) = of_none _ refl refl c
     line_agrees_is event says s (Anew e v t moves silent) = of_none (v, t) silent.taken silent.done (moved_confirmed U D ciphers (ran w) v moves taken c)
-    line_agrees_is event says s (After e r v t old good runs moves tells) = Happened (v, t) (λ honest.
-        let h = agreed_then r (old_agrees event says (Ok r) old) (sym tells.forged ∙ honest) in (
-          subst (λ o. Confirmed v (taken ++ one_of o)) (sym tells.taken) (moved_confirmed U D ciphers r.0 v moves (taken ++ one_of r.1.taken) h.0),
-          subst (λ o. IfSome o (λ p. Among p taken)) (sym tells.done) h.1,
+    line_agrees_is event says s (After e r v t old good runs moves same_words) = Happened (v, t) (λ honest.
+        let h = agreed_then r (old_agrees event says (Ok r) old) (sym same_words.forged ∙ honest) in (
+          subst (λ o. Confirmed v (taken ++ one_of o)) (sym same_words.taken) (moved_confirmed U D ciphers r.0 v moves (taken ++ one_of r.1.taken) h.0),
+          subst (λ o. IfSome o (λ p. Among p taken)) (sym same_words.done) h.1,
         ))
-    line_agrees_is event says s (Unsends e r v t old good runs moves tells) = Happened _ (λ honest.
-        let h = agreed_then r (old_agrees event says (Ok r) old) (sym tells.forged ∙ honest) in (
+    line_agrees_is event says s (Unsends e r v t old good runs moves same_words) = Happened _ (λ honest.
+        let h = agreed_then r (old_agrees event says (Ok r) old) (sym same_words.forged ∙ honest) in (
           unsent_confirmed w v (taken ++ one_of t.taken) (after_made U D ciphers w event r v old moves)
-              (subst (λ o. Confirmed v (taken ++ one_of o)) (sym tells.taken) (moved_confirmed U D ciphers r.0 v moves (taken ++ one_of r.1.taken) h.0)),
-          subst (λ o. IfSome o (λ p. Among p taken)) (sym tells.done) h.1,
+              (subst (λ o. Confirmed v (taken ++ one_of o)) (sym same_words.taken) (moved_confirmed U D ciphers r.0 v moves (taken ++ one_of r.1.taken) h.0)),
+          subst (λ o. IfSome o (λ p. Among p taken)) (sym same_words.done) h.1,
         ))
     line_agrees_is event says s (Unbelieves e number x octets got there known comes is) =
         of_none _ refl refl (rests_confirmed (only said.Blacklisted) number x octets there)
     line_agrees_is event says s (Chooses number count x psk ne there pair) = of_none _ refl refl
-        (told_nothing ciphers (ran w) number x (reaches x (beside_at w number) (Err choices.Halted)
+        (after_nothing ciphers (ran w) number x (reaches x (beside_at w number) (Err choices.Halted)
         (λ y. choose_agent (identity ciphers x psk) y count w.clock)) there
         (acts_eui x (Err choices.Halted) (with_beside (beside_at w number) (λ y. choose_agent (identity ciphers x psk) y count w.clock))) taken c
         (acts_nothing x (Err choices.Halted) (with_beside (beside_at w number) (λ y. choose_agent (identity ciphers x psk) y count w.clock))
@@ -120,8 +120,8 @@ pub line_issued : (U : List Outgoing → Type 0) (D : Discovery → Type 0) (cip
 line_issued U D ciphers w P event f s (Known e z old) = f s old.is
 line_issued U D ciphers w P event f s (Opens begun) = tt
 line_issued U D ciphers w P event f s (Anew e v t moves silent) = subst (Each P) (sym silent.issued) tt
-line_issued U D ciphers w P event f s (After e r v t old good runs moves tells) = subst (Each P) (sym tells.issued) (f (Ok r) old.is)
-line_issued U D ciphers w P event f s (Unsends e r v t old good runs moves tells) = subst (Each P) (sym tells.issued) (f (Ok r) old.is)
+line_issued U D ciphers w P event f s (After e r v t old good runs moves same_words) = subst (Each P) (sym same_words.issued) (f (Ok r) old.is)
+line_issued U D ciphers w P event f s (Unsends e r v t old good runs moves same_words) = subst (Each P) (sym same_words.issued) (f (Ok r) old.is)
 line_issued U D ciphers w P event f s (Unbelieves e number x octets got there known comes is) = tt
 line_issued U D ciphers w P event f s (Chooses number count x psk ne there pair) = tt
 

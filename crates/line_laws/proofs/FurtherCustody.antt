@@ -54,7 +54,7 @@ use Rattle.line_laws.specs.Tags.{TagRises}
 use Rattle.line_laws.proofs.CustodyCalls.{zero_weight}
 use Rattle.line_laws.proofs.CustodyKeeps.{PlanClean, acts_clean, join_clean}
 use Rattle.line_laws.proofs.CustodyRuns.{After as AfterOld, after_event}
-use Rattle.line_laws.proofs.CustodySteps.{HomedAt, falls_on, ran_at, told_at}
+use Rattle.line_laws.proofs.CustodySteps.{HomedAt, falls_on, ran_at, after_at}
 use Rattle.line_laws.proofs.CustodyTrue.{SentIsOf}
 use Rattle.line_laws.proofs.FurtherAddresses.{moved_falls, moved_homed}
 use Rattle.line_laws.proofs.FurtherKeyed.{moved_keyed, old_keyed}
@@ -70,7 +70,7 @@ use Rattle.line_laws.proofs.RangeHeard.{SaysShort}
 use Rattle.line_laws.proofs.RangeRuns.{short_at}
 use Rattle.line_laws.proofs.Readings.{network_ranges}
 use Rattle.line_laws.proofs.StoreMarks.{Accepts, Marked, Plain, Turned, accept_is}
-use Rattle.line_laws.proofs.StepKinds as tellings
+use Rattle.line_laws.proofs.StepKinds as step_kinds
 use Rattle.line_laws.proofs.StepKinds.{IsStep}
 use Rattle.line_laws.proofs.UpsSent.{owed_at}
 use Rattle.line_laws.proofs.Worlds.{at_place}
@@ -87,16 +87,16 @@ Appends w v = (more : List Flight) × (v.flights ≡ w.flights ++ more)
 appends_both : (w v u : World) → Appends w v → Appends v u → Appends w u
 appends_both w v u one two = (one.0 ++ two.0, two.1 ∙ ap (λ fs. fs ++ two.0) one.1 ∙ append_assoc w.flights one.0 two.0)
 
-told_appends : {A : Type 0} (ciphers : Ciphers) (w : World) (number : ℕ) (d : NodeStep A) → Appends w (world_after ciphers w number d)
+after_appends : {A : Type 0} (ciphers : Ciphers) (w : World) (number : ℕ) (d : NodeStep A) → Appends w (world_after ciphers w number d)
 unfolding world_after
-told_appends ciphers w number d = (flights_of ciphers number d, refl)
+after_appends ciphers w number d = (flights_of ciphers number d, refl)
 
 same_appends : (w v : World) → v.flights ≡ w.flights → Appends w v
 same_appends w v e = ([], e ∙ sym (append-nil w.flights))
 
 pub moved_appends : (U : _) (D : Discovery → Type 0) (ciphers : Ciphers) (v u : World) → Moves U D ciphers v u → Appends v u
 moved_appends U D ciphers v u (Stays z) = same_appends v v refl
-moved_appends U D ciphers v u (Carries z number x A halted does there is) = told_appends ciphers v number (acts x halted does)
+moved_appends U D ciphers v u (Carries z number x A halted does there is) = after_appends ciphers v number (acts x halted does)
 moved_appends U D ciphers v u (Flies z number x frame there known) = (discovery_flight number frame ∷ [], refl)
 moved_appends U D ciphers v u (Besides z on bs) = same_appends v (record v { checks_on = on; beside = bs }) refl
 moved_appends U D ciphers v u (Turns z between y first rest) = appends_both v between u (moved_appends U D ciphers v between first)
@@ -122,31 +122,31 @@ sent_appends w from to datagram tag false r h = h
 
 -- in every other event without further reach
 pub step_appends : (ciphers : Ciphers) (w : World) (event : Event) (s : Step) → IsStep ciphers w event s → (IsLoss event → ⊥) → AppendsBy w s
-step_appends ciphers w event s (tellings.Fails e fault) kept = tt
-step_appends ciphers w event s (tellings.Makes e x is) kept = same_appends w (made_node w x).0 refl
-step_appends ciphers w event s (tellings.Rests e quiet) kept = same_appends w (ran w) refl
-step_appends ciphers w event s (tellings.Shows number x) kept = same_appends w (ran w) refl
-step_appends ciphers w event s (tellings.Acts e number x A halted plan reads there call word asked) kept = told_appends ciphers (ran w) number _
-step_appends ciphers w event s (tellings.BreaksLink number next x a there call) kept = told_appends ciphers (ran w) number _
-step_appends ciphers w event s (tellings.SendsFrom from to datagram x a there call target) kept = sent_appends w from to datagram _ _ (acted ciphers w from _)
-    (told_appends ciphers (ran w) from _)
-step_appends ciphers w event s (tellings.AllowsMeter number y c psk there call meter) kept = told_appends ciphers (ran w) 0 _
-step_appends ciphers w event s (tellings.Sets e quiet number x plan there open_is is) kept = told_appends ciphers (set_up w) number _
-step_appends ciphers w event s (tellings.SetsTwo e quiet a b cost x y p q hx hy apart open_is first second fresh near) kept =
+step_appends ciphers w event s (step_kinds.Fails e fault) kept = tt
+step_appends ciphers w event s (step_kinds.Makes e x is) kept = same_appends w (made_node w x).0 refl
+step_appends ciphers w event s (step_kinds.Rests e quiet) kept = same_appends w (ran w) refl
+step_appends ciphers w event s (step_kinds.Shows number x) kept = same_appends w (ran w) refl
+step_appends ciphers w event s (step_kinds.Acts e number x A halted plan reads there call word asked) kept = after_appends ciphers (ran w) number _
+step_appends ciphers w event s (step_kinds.BreaksLink number next x a there call) kept = after_appends ciphers (ran w) number _
+step_appends ciphers w event s (step_kinds.SendsFrom from to datagram x a there call target) kept = sent_appends w from to datagram _ _ (acted ciphers w from _)
+    (after_appends ciphers (ran w) from _)
+step_appends ciphers w event s (step_kinds.AllowsMeter number y c psk there call meter) kept = after_appends ciphers (ran w) 0 _
+step_appends ciphers w event s (step_kinds.Sets e quiet number x plan there open_is is) kept = after_appends ciphers (set_up w) number _
+step_appends ciphers w event s (step_kinds.SetsTwo e quiet a b cost x y p q hx hy apart open_is first second fresh near) kept =
     let v : World = world_after ciphers (set_up w) a (offered_near x q cost w.clock) in
-    appends_both (set_up w) v (world_after ciphers v b (offered_near y p cost w.clock)) (told_appends ciphers (set_up w) a (offered_near x q cost w.clock))
-    (told_appends ciphers v b (offered_near y p cost w.clock))
-step_appends ciphers w event s (tellings.Provides number x c psk g d ne open_is hx hc pair same is) kept =
+    appends_both (set_up w) v (world_after ciphers v b (offered_near y p cost w.clock)) (after_appends ciphers (set_up w) a (offered_near x q cost w.clock))
+    (after_appends ciphers v b (offered_near y p cost w.clock))
+step_appends ciphers w event s (step_kinds.Provides number x c psk g d ne open_is hx hc pair same is) kept =
     let v : World = world_after ciphers (set_up w) 0 d in
     let p = acts x (Ok tt) (λ m. meters.provision m g) in
-    appends_both (set_up w) v (world_after ciphers v number p) (told_appends ciphers (set_up w) 0 d) (told_appends ciphers v number p)
-step_appends ciphers w event s (tellings.TurnsDown e number x octets reason d there says comes same is) kept = told_appends ciphers (ran w) number d
-step_appends ciphers w event s (tellings.Hears e number x octets cost got there says comes low is) kept = told_appends ciphers (ran w) number _
-step_appends ciphers w event s (tellings.Loses number f there) kept = absurd (kept tt)
-step_appends ciphers w event s (tellings.Ticks seconds) kept =
+    appends_both (set_up w) v (world_after ciphers v number p) (after_appends ciphers (set_up w) 0 d) (after_appends ciphers v number p)
+step_appends ciphers w event s (step_kinds.TurnsDown e number x octets reason d there says comes same is) kept = after_appends ciphers (ran w) number d
+step_appends ciphers w event s (step_kinds.Hears e number x octets cost got there says comes low is) kept = after_appends ciphers (ran w) number _
+step_appends ciphers w event s (step_kinds.Loses number f there) kept = absurd (kept tt)
+step_appends ciphers w event s (step_kinds.Ticks seconds) kept =
     same_appends w (record (ran w) { clock = w.clock + seconds; nodes = map (ticked (w.clock + seconds)) w.nodes }) refl
-step_appends ciphers w event s (tellings.Restarts number x there) kept = told_appends ciphers (ran w) number _
-step_appends ciphers w event s (tellings.Cuts number nth keeps_new x there) kept = told_appends ciphers (ran w) number _
+step_appends ciphers w event s (step_kinds.Restarts number x there) kept = after_appends ciphers (ran w) number _
+step_appends ciphers w event s (step_kinds.Cuts number nth keeps_new x there) kept = after_appends ciphers (ran w) number _
 
 -- # What nodes do
 
@@ -232,7 +232,7 @@ module _ (S : ℕ → SentAs → Type 0) (home : ℕ → ℕ) (L : Flight → Bo
   pub moved_now : (v u : World) → Moves IsOne IsDiscovery network v u → Now v → Now u
   moved_now v u (Stays z) c = c
   moved_now v u (Carries z number x A halted does there is) c =
-      told_at network network_opens_again S home L before v number x (acts x halted does) c there
+      after_at network network_opens_again S home L before v number x (acts x halted does) c there
       (acts_clean S (home number) x halted does (at_place NodeRanged v.nodes number x there c.ranged) (c.nodes number x there)
       (λ m here h own. further_clean m S (home number) (does m) (is m here) h own))
   moved_now v u (Flies z number x frame there known) c = flies_now v number frame c
@@ -298,7 +298,7 @@ module _ (home : ℕ → ℕ) (apart : (i j : ℕ) → home i ≡ home j → i �
       let plan : Memory → Plan Memory (Result Accepted FrameRefusal) = λ m. of_station m (accept m.station x.eui (arrived network octets)) in
       let did = acts_clean S (home number) x (Err frames.Halted) plan (at_place NodeRanged w.nodes number x there c.ranged) (c.nodes number x there)
       (λ m here h own. accept_clean S (home number) m h own x.eui (arrived network octets)) in
-      told_at network network_opens_again S home (live w) before (ran w) number x (stays (accepting network x octets).node answer) ran_held there
+      after_at network network_opens_again S home (live w) before (ran w) number x (stays (accepting network x octets).node answer) ran_held there
       (record {
         ranged = did.ranged;
         fits = All-nil IsSent;
@@ -313,7 +313,7 @@ module _ (home : ℕ → ℕ) (apart : (i j : ℕ) → home i ≡ home j → i �
       (world_after network (ran w) number (reaches x (beside_at w number) (Err choices.Halted) (λ y. choose_agent (identity network x psk) y count w.clock)))
       before
   chosen_held number count x psk there =
-      told_at network network_opens_again S home (live w) before (ran w) number x
+      after_at network network_opens_again S home (live w) before (ran w) number x
       (reaches x (beside_at w number) (Err choices.Halted) (λ y. choose_agent (identity network x psk) y count w.clock)) ran_held there
       (acts_clean S (home number) x (Err choices.Halted) (with_beside (beside_at w number) (λ y. choose_agent (identity network x psk) y count w.clock))
       (at_place NodeRanged w.nodes number x there c.ranged) (c.nodes number x there)
@@ -381,27 +381,27 @@ module _ (home : ℕ → ℕ) (apart : (i j : ℕ) → home i ≡ home j → i �
       silent event _ None refl (falls_on network live S home w _ before (same_now S home (live w) before w _ refl refl refl held) falls)
   line_done_is event says kept st (Anew e v t moves quiet) = λ falls later up_at is_sent honest.
       silent event v t.happened.up quiet.up (falls_on network live S home w v before (moved_now S home (live w) before (ran w) v moves ran_held) falls)
-  line_done_is event says kept st (After e q v t old fine runs moves tells) = λ falls later up_at is_sent honest.
-      let unforged = sym tells.forged ∙ honest in
+  line_done_is event says kept st (After e q v t old fine runs moves same_words) = λ falls later up_at is_sent honest.
+      let unforged = sym same_words.forged ∙ honest in
       let was = same_done event says q (old.same q refl) (homed_then event says q v old fine runs moves unforged later)
-      (subst (λ o. IfSome o (λ (u : Handed). ComesTo event u.node)) tells.up up_at) (λ z is. is_sent z (tells.sent ∙ is)) unforged in
+      (subst (λ o. IfSome o (λ (u : Handed). ComesTo event u.node)) same_words.up up_at) (λ z is. is_sent z (same_words.sent ∙ is)) unforged in
       record {
-        custody = falls_on network live S home q.0 v (before ++ option_to_list t.happened.up) (then_done event says q v t.happened.up tells.up moves was)
+        custody = falls_on network live S home q.0 v (before ++ option_to_list t.happened.up) (then_done event says q v t.happened.up same_words.up moves was)
             (falls_then event says q v old fine runs moves unforged);
-        handed = λ u is. was.handed u (sym tells.up ∙ is);
+        handed = λ u is. was.handed u (sym same_words.up ∙ is);
       }
-  line_done_is event says kept st (Unsends e q v t old fine runs moves tells) = λ falls later up_at is_sent honest.
-      let unforged = sym tells.forged ∙ honest in
+  line_done_is event says kept st (Unsends e q v t old fine runs moves same_words) = λ falls later up_at is_sent honest.
+      let unforged = sym same_words.forged ∙ honest in
       let was = same_done event says q (old.same q refl) (homed_then event says q v old fine runs moves unforged (record { at = later.at }))
-      (subst (λ o. IfSome o (λ (u : Handed). ComesTo event u.node)) tells.up up_at) (λ z is. is_sent z (tells.sent ∙ is)) unforged in
+      (subst (λ o. IfSome o (λ (u : Handed). ComesTo event u.node)) same_words.up up_at) (λ z is. is_sent z (same_words.sent ∙ is)) unforged in
       let on : Appends w v = appends_both w q.0 v (step_appends network w event (Ok q) old.is kept) (moved_appends IsOne IsDiscovery network q.0 v moves) in
       let down = falls_then event says q v old fine runs moves unforged in
       record {
         custody = falls_on network live S home q.0 _ (before ++ option_to_list t.happened.up)
             (unsent_now S home (live q.0) (before ++ option_to_list t.happened.up) w v _ on c.flights c.sent refl refl refl
-            (then_done event says q v t.happened.up tells.up moves was))
+            (then_done event says q v t.happened.up same_words.up moves was))
             (record { falls = down.falls; passes = λ place g is. absurd (none_some place is) });
-        handed = λ u is. was.handed u (sym tells.up ∙ is);
+        handed = λ u is. was.handed u (sym same_words.up ∙ is);
       }
   line_done_is event says kept st (Unbelieves e number x octets got there known comes is) = λ falls later up_at is_sent honest.
       silent event _ None refl (falls_on network live S home w _ before

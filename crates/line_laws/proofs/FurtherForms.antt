@@ -219,17 +219,17 @@ module _ (U : List Outgoing → Type 0) (none : U []) where
   ack_is x from all body = either x.memory all (drop_it x (Known drops_by.BadUnit)) (hear_acknowledgement_in x from (ack_in body))
       (drops x (Known drops_by.BadUnit)) (ack_in_is x from (ack_in body))
 
-  tells_is : (x : Reaching Memory) (to : ℕ) (message : PathMessage) (word : CommandHeard) → U (one_of_path to message)
+  path_sent_is : (x : Reaching Memory) (to : ℕ) (message : PathMessage) (word : CommandHeard) → U (one_of_path to message)
       → IsFurther U x.memory (of_memory (send_path in_memory x to message word))
   unfolding adds_local empty_draft
-  tells_is x to message word says =
+  path_sent_is x to message word says =
       sealed_is U reach_ends x x.beside [] (record { to = to; unit = Local 5 (path_spelling message); note = 0 } ∷ []) word tt says (omega arith)
 
   follows_is : (x : Reaching Memory) (o : Result PathStep PathRefusal) → ((to : ℕ) (next : PathMessage) → SendsOn o to next → U (one_of_path to next))
       → IsFurther U x.memory (of_memory (follows_path in_memory x o))
   follows_is x (Err reason) says = drops x (path_word reason)
-  follows_is x (Ok (Forward to message)) says = tells_is x to message heard_of.Relayed (says to message (inl refl))
-  follows_is x (Ok (Answer to message)) says = tells_is x to message heard_of.Answered (says to message (inr refl))
+  follows_is x (Ok (Forward to message)) says = path_sent_is x to message heard_of.Relayed (says to message (inl refl))
+  follows_is x (Ok (Answer to message)) says = path_sent_is x to message heard_of.Answered (says to message (inr refl))
   follows_is x (Ok (Done walk)) says = remembers_is x x.beside (heard_of.Path walk)
 
   path_in_is : (x : Reaching Memory) (own from : ℕ) (o : Option PathMessage)

@@ -85,9 +85,9 @@ module _ (V : books.Book → Type 0) where
   same_has : (u v : World) → v.nodes ≡ u.nodes → FirstHas u → FirstHas v
   same_has u v e has c there = has c (sym (ap (λ ns. slice_get ns 0) e) ∙ there)
 
-  told_has : {A : Type 0} (u v : World) (number : ℕ) (x : Node) (d : NodeStep A) → FirstHas u → v.nodes ≡ slice_set u.nodes number d.node
+  after_has : {A : Type 0} (u v : World) (number : ℕ) (x : Node) (d : NodeStep A) → FirstHas u → v.nodes ≡ slice_set u.nodes number d.node
       → node_at u number ≡ Some x → (number ≡ 0 → BookHas V d.node) → FirstHas v
-  told_has u v number x d has nodes there book c is = ⊎_elim
+  after_has u v number x d has nodes there book c is = ⊎_elim
       (λ (e : number ≡ 0).
       let same : d.node ≡ c = same_Some _ _
       (sym (slice_get-set u.nodes number d.node (place_within u.nodes number x there)) ∙ sym (ap (λ ns. slice_get ns number) nodes) ∙ ap
@@ -97,9 +97,9 @@ module _ (V : books.Book → Type 0) where
       (cases_eq number 0)
 
   module _ (ciphers : Ciphers) (fits : KeepsRanges ciphers) (U : List Outgoing → Type 0) (D : Discovery → Type 0) where
-    told_nodes : {A : Type 0} (u : World) (number : ℕ) (d : NodeStep A) → (world_after ciphers u number d).nodes ≡ slice_set u.nodes number d.node
+    after_nodes : {A : Type 0} (u : World) (number : ℕ) (d : NodeStep A) → (world_after ciphers u number d).nodes ≡ slice_set u.nodes number d.node
     unfolding world_after
-    told_nodes u number d = refl
+    after_nodes u number d = refl
 
     first_acts : {A : Type 0} (u : World) → WorldOk u → FirstHas u → (number : ℕ) (x : Node) (halted : A) (plan : Memory → Plan Memory A)
         → node_at u number ≡ Some x
@@ -111,7 +111,7 @@ module _ (V : books.Book → Type 0) where
     moved_has : (v u : World) → Moves U D ciphers v u → WorldOk v → v.running ≡ true → FirstHas v → FirstHas u
     moved_has v u (Stays z) ok runs has = has
     moved_has v u (Carries z number x A halted does there is) ok runs has =
-        told_has v (world_after ciphers v number (acts x halted does)) number x (acts x halted does) has (told_nodes v number (acts x halted does)) there
+        after_has v (world_after ciphers v number (acts x halted does)) number x (acts x halted does) has (after_nodes v number (acts x halted does)) there
         (first_acts v ok has number x halted does there (λ m here. (further_quietly m (does m) (is m here)).leads V))
     moved_has v u (Flies z number x frame there known) ok runs has = λ c at. has c at
     moved_has v u (Besides z on bs) ok runs has = λ c at. has c at
@@ -146,15 +146,15 @@ module _ (V : books.Book → Type 0) where
       line_has event old s (Known e t is) = known_has e old t is
       line_has event old s (Opens begun) = λ c at. has c at
       line_has event old s (Anew e v t moves silent) = moved_has (ran w) v moves ran_good refl (λ c at. has c at)
-      line_has event old s (After e r v t is good runs moves tells) = moved_has r.0 v moves good runs (old r is)
-      line_has event old s (Unsends e r v t is good runs moves tells) = let h = moved_has r.0 v moves good runs (old r is) in λ c at. h c at
+      line_has event old s (After e r v t is good runs moves same_words) = moved_has r.0 v moves good runs (old r is)
+      line_has event old s (Unsends e r v t is good runs moves same_words) = let h = moved_has r.0 v moves good runs (old r is) in λ c at. h c at
       line_has event old s (Unbelieves e number x octets got there says comes is) =
           let d = stays (accepting ciphers x octets).node (only said.Blacklisted) in
-          told_has w (unbelieved ciphers w number (accepting ciphers x octets).node octets got).0 number x d has (told_nodes (ran w) number d) there
+          after_has w (unbelieved ciphers w number (accepting ciphers x octets).node octets got).0 number x d has (after_nodes (ran w) number d) there
           (accepted_has e number x octets there says comes)
       line_has event old s (Chooses number k x psk ne there e) =
           let d = reaches x (beside_at w number) (Err choices.Halted) (λ y. choose_agent (identity ciphers x psk) y k w.clock) in
-          told_has w (chooses_by ciphers w number x k (Some psk)).0 number x d has (told_nodes (ran w) number d) there (λ first. absurd (ne first))
+          after_has w (chooses_by ciphers w number x k (Some psk)).0 number x d has (after_nodes (ran w) number d) there (λ first. absurd (ne first))
 
 -- # Addresses stay
 

@@ -42,7 +42,7 @@ use Rattle.line_laws.proofs.FurtherStepKinds.{After, Anew, Besides, Carries, Cho
 use Rattle.line_laws.proofs.FurtherStepKinds.{Unsends, moved_ok}
 use Rattle.line_laws.proofs.IssueCalls.{accept_quietly}
 use Rattle.line_laws.proofs.IssueMeters.{MeterPlan, joins_made, joins_opened, joins_plan}
-use Rattle.line_laws.proofs.IssueSteps.{Fails, StepKeyed, Taken, own_told, quiet_told, quiet_told_at, step_keyed}
+use Rattle.line_laws.proofs.IssueSteps.{Fails, StepKeyed, Taken, own_after, quiet_after, quiet_after_at, step_keyed}
 use Rattle.line_laws.proofs.IssueWorlds.{same_keyed}
 use Rattle.line_laws.proofs.StepsOk.{ran_ok as steps_ran_ok}
 use Rattle.line_laws.proofs.Worlds.{at_place}
@@ -102,7 +102,7 @@ pub moved_keyed : (U : List Outgoing → Type 0) (D : Discovery → Type 0) (cip
     → WorldOk v → v.running ≡ true → (given : List Issued) → Keyed v given → Keyed u given
 moved_keyed U D ciphers fits v u (Stays z) ok runs given k = k
 moved_keyed U D ciphers fits v u (Carries z number x A halted does there is) ok runs given k =
-    quiet_told_at ciphers fits v given k number x there (at_place NodeOk v.nodes number x there ok.nodes) halted does
+    quiet_after_at ciphers fits v given k number x there (at_place NodeOk v.nodes number x there ok.nodes) halted does
     (λ m here sized. further_quietly m (does m) (is m here))
 moved_keyed U D ciphers fits v u (Flies z number x frame there known) ok runs given k = same_keyed v _ given k refl refl
 moved_keyed U D ciphers fits v u (Besides z on bs) ok runs given k = same_keyed v _ given k refl refl
@@ -169,14 +169,14 @@ module _ (ciphers : Ciphers) (fits : KeepsRanges ciphers) (w : World) (ok : Worl
       same_keyed (world_after ciphers (ran w) number (acts x (Err frames.Halted) plan))
       (world_after ciphers (ran w) number (stays (accepting ciphers x octets).node answer))
       given
-      (quiet_told ciphers fits (ran w) given ran_keyed number x there (good_at number x there) (Err frames.Halted) plan
+      (quiet_after ciphers fits (ran w) given ran_keyed number x there (good_at number x there) (Err frames.Halted) plan
       (λ m sized. accept_quietly ciphers fits octets are m x.eui)) refl (ap (λ more. w.made ++ more) (sym none))
 
   chosen_keyed : (number k : ℕ) (x : Node) (psk : Key) → number ≢ 0 → node_at w number ≡ Some x
       → Keyed (world_after ciphers (ran w) number
       (reaches x (beside_at w number) (Err choices.Halted) (λ y. choose_agent (identity ciphers x psk) y k w.clock))) given
   chosen_keyed number k x psk ne there =
-      own_told ciphers fits (ran w) given ran_keyed number x ne there (good_at number x there) (Err choices.Halted)
+      own_after ciphers fits (ran w) given ran_keyed number x ne there (good_at number x there) (Err choices.Halted)
       (with_beside (beside_at w number) (λ y. choose_agent (identity ciphers x psk) y k w.clock))
       (λ m reads session. chosen_plan m (beside_at w number) (identity ciphers x psk) k w.clock session
       (λ agent. joins_plan (identity ciphers x psk) m agent w.clock reads session))
@@ -189,13 +189,13 @@ module _ (ciphers : Ciphers) (fits : KeepsRanges ciphers) (w : World) (ok : Worl
     line_keyed_is event says s (Opens begun) = of_none _ refl (same_keyed w _ given k refl refl)
     line_keyed_is event says s (Anew e v t moves silent) =
         of_none (v, t) silent.issued (moved_keyed U D ciphers fits (ran w) v moves (steps_ran_ok ciphers fits w ok flown) refl given ran_keyed)
-    line_keyed_is event says s (After e r v t old good runs moves tells) = Taken (v, t) (λ honest.
-        let h = old_keyed event says r old (sym tells.forged ∙ honest) in
-        subst (λ more. Keyed v (given ++ more)) (sym tells.issued) (moved_keyed U D ciphers fits r.0 v moves good runs (given ++ r.1.issued) h))
-    line_keyed_is event says s (Unsends e r v t old good runs moves tells) = Taken _ (λ honest.
-        let h = old_keyed event says r old (sym tells.forged ∙ honest) in
+    line_keyed_is event says s (After e r v t old good runs moves same_words) = Taken (v, t) (λ honest.
+        let h = old_keyed event says r old (sym same_words.forged ∙ honest) in
+        subst (λ more. Keyed v (given ++ more)) (sym same_words.issued) (moved_keyed U D ciphers fits r.0 v moves good runs (given ++ r.1.issued) h))
+    line_keyed_is event says s (Unsends e r v t old good runs moves same_words) = Taken _ (λ honest.
+        let h = old_keyed event says r old (sym same_words.forged ∙ honest) in
         unsent_keyed w v _ (given ++ t.issued) (after_made U D ciphers w event r v old moves) refl refl
-        (subst (λ more. Keyed v (given ++ more)) (sym tells.issued) (moved_keyed U D ciphers fits r.0 v moves good runs (given ++ r.1.issued) h)))
+        (subst (λ more. Keyed v (given ++ more)) (sym same_words.issued) (moved_keyed U D ciphers fits r.0 v moves good runs (given ++ r.1.issued) h)))
     line_keyed_is event says s (Unbelieves e number x octets got there known comes is) =
         of_none _ refl (same_keyed (world_after ciphers (ran w) number (stays (accepting ciphers x octets).node (only said.Blacklisted))) _ given
         (rests_keyed (only said.Blacklisted) event number x octets there known comes) refl refl)

@@ -38,7 +38,7 @@ use Rattle.mac_frames.specs.Grammar.{IsTarget}
 use Rattle.node_rules.specs.Frames.{to_all}
 use Rattle.line_laws.proofs.LaterMoves.{discovery_nonce}
 use Rattle.line_laws.proofs.Nodes.{DidOk, acts_ok}
-use Rattle.line_laws.proofs.Worlds.{at_place, counts_ok, told_ok, within}
+use Rattle.line_laws.proofs.Worlds.{at_place, counts_ok, ok_after, within}
 
 true_false : true ≡ false → ⊥
 true_false e = cc
@@ -61,7 +61,7 @@ module _ (w : World) (ok : WorldOk w) where
       reached : (bs : List Beside) → WorldOk (record (world_after ciphers (ran w) number (reaches x b halted plan)) { beside = bs })
       reached bs =
           let v : World = world_after ciphers (ran w) number (reaches x b halted plan) in
-          counts_ok v (record v { beside = bs }) (told_ok ciphers fits (ran w) number x (reaches x b halted plan) ran_ok there did (λ e. absurd (true_false e)))
+          counts_ok v (record v { beside = bs }) (ok_after ciphers fits (ran w) number x (reaches x b halted plan) ran_ok there did (λ e. absurd (true_false e)))
           refl refl (λ e. e)
 
     broadcast_holds : (datagram : List ℕ) → LineHolds (broadcasts_by ciphers w number x datagram)
@@ -157,7 +157,7 @@ module _ (ciphers : Ciphers) (fits : KeepsRanges ciphers) (r : World × Trace) (
         let few = did.few in (
           counts_ok (world_after ciphers r.0 number (reaches x (beside_at r.0 number) (Err (reach_drops.Known drops.Store)) (λ y. hear_command in_memory y c)))
               _
-              (told_ok ciphers fits r.0 number x (reaches x (beside_at r.0 number) (Err (reach_drops.Known drops.Store)) (λ y. hear_command in_memory y c)) ok
+              (ok_after ciphers fits r.0 number x (reaches x (beside_at r.0 number) (Err (reach_drops.Known drops.Store)) (λ y. hear_command in_memory y c)) ok
               there did (λ e. absurd (not_both e))) refl refl (λ e. e),
           omega arith,
         )

@@ -33,7 +33,7 @@ use Rattle.line_laws.specs.Owed.{AreOctets, KeepsRanges}
 use Rattle.line_laws.specs.Ranked.{Homes, RoutingHolds, homes_of}
 use Rattle.line_laws.proofs.AddressBook.{Grows, one_book}
 use Rattle.line_laws.proofs.AgreeSteps.{acts_eui}
-use Rattle.line_laws.proofs.BookGrowth.{Goes, goes, quiet_grows, self_goes, told_goes}
+use Rattle.line_laws.proofs.BookGrowth.{Goes, goes, quiet_grows, self_goes, goes_after}
 use Rattle.line_laws.proofs.FlightFolds.{came_octets}
 use Rattle.line_laws.proofs.FurtherForms.{AnyUnits}
 use Rattle.line_laws.proofs.FurtherAddresses.{moved_euis, moved_grows}
@@ -50,7 +50,7 @@ use Rattle.line_laws.proofs.IssueCalls.{accept_quietly}
 use Rattle.line_laws.proofs.IssueWorlds.{same_keyed}
 use Rattle.line_laws.proofs.LoopFree.{no_loop}
 use Rattle.line_laws.proofs.LoopRuns.{HoldsBy, grow_homes, holds_by, line_depot_fits, start_routed}
-use Rattle.line_laws.proofs.MarkSteps.{told_nodes}
+use Rattle.line_laws.proofs.MarkSteps.{after_nodes}
 use Rattle.line_laws.proofs.Readings.{network_ranges}
 use Rattle.line_laws.proofs.StepsOk.{ran_ok as steps_ran_ok}
 
@@ -96,21 +96,21 @@ module _ (ciphers : Ciphers) (fits : KeepsRanges ciphers) (w : World) (ok : Worl
     line_goes_is event says s (Opens begun) = λ honest some. record { grows = ran_goes.grows; euis = ran_goes.euis }
     line_goes_is event says s (Anew e v t moves silent) = λ honest some.
         moved_goes U D (ran w) v moves (steps_ran_ok ciphers fits w ok flown) refl given (same_keyed w (ran w) given k refl refl) (omega arith) some ran_goes
-    line_goes_is event says s (After e r v t old fine runs moves tells) = λ honest some.
-        after_goes event says r v old fine runs moves (old_on ciphers w event r old).nodes (sym tells.forged ∙ honest) some
-    line_goes_is event says s (Unsends e r v t old fine runs moves tells) = λ honest some.
-        let g = after_goes event says r v old fine runs moves (old_on ciphers w event r old).nodes (sym tells.forged ∙ honest) some in
+    line_goes_is event says s (After e r v t old fine runs moves same_words) = λ honest some.
+        after_goes event says r v old fine runs moves (old_on ciphers w event r old).nodes (sym same_words.forged ∙ honest) some
+    line_goes_is event says s (Unsends e r v t old fine runs moves same_words) = λ honest some.
+        let g = after_goes event says r v old fine runs moves (old_on ciphers w event r old).nodes (sym same_words.forged ∙ honest) some in
         record { grows = g.grows; euis = g.euis }
     line_goes_is event says s (Unbelieves e number x octets got there known comes is) = λ honest some.
         let are : AreOctets octets = came_octets ciphers fits w ok flown event number octets known comes in
         let plan : Memory → Plan Memory _ = λ m. of_station m (accept m.station x.eui (arrived ciphers octets)) in
-        told_goes ciphers fits w ok flown given k (ran w) _ number x (stays (accepting ciphers x octets).node (only said.Blacklisted)) ran_goes
-        (told_nodes ciphers (ran w) number (stays (accepting ciphers x octets).node (only said.Blacklisted))) there
+        goes_after ciphers fits w ok flown given k (ran w) _ number x (stays (accepting ciphers x octets).node (only said.Blacklisted)) ran_goes
+        (after_nodes ciphers (ran w) number (stays (accepting ciphers x octets).node (only said.Blacklisted))) there
         (acts_eui x (Err frames.Halted) plan) (λ first. quiet_grows ciphers fits w ok flown given k number x (Err frames.Halted) plan first there
         (λ m sized. accept_quietly ciphers fits octets are m x.eui))
     line_goes_is event says s (Chooses number count x psk ne there pair) = λ honest some.
         let d = reaches x (beside_at w number) (Err choices.Halted) (λ y. choose_agent (identity ciphers x psk) y count w.clock) in
-        told_goes ciphers fits w ok flown given k (ran w) _ number x d ran_goes (told_nodes ciphers (ran w) number d) there
+        goes_after ciphers fits w ok flown given k (ran w) _ number x d ran_goes (after_nodes ciphers (ran w) number d) there
         (acts_eui x (Err choices.Halted) (with_beside (beside_at w number) (λ y. choose_agent (identity ciphers x psk) y count w.clock)))
         (λ first. absurd (ne first))
 

@@ -83,7 +83,7 @@ use Rattle.line_laws.proofs.MeterOctets.{joins_speaks}
 use Rattle.line_laws.proofs.Nodes.{ring_readable}
 use Rattle.line_laws.proofs.OctetCalls.{NodeSpeaks, accept_speaks, acts_speaks}
 use Rattle.line_laws.proofs.OctetDrafts.{MemorySpeaks, OutSpeaks, PlanSpeaks, SentOctets, sealed_speak}
-use Rattle.line_laws.proofs.OctetRuns.{SpeaksIn, WorldSpeaks, event_speaks, pair_of, start_speaks, told_speaks}
+use Rattle.line_laws.proofs.OctetRuns.{SpeaksIn, WorldSpeaks, event_speaks, pair_of, start_speaks, after_speaks}
 use Rattle.line_laws.proofs.Readings.{network_ranges}
 use Rattle.line_laws.proofs.Running.{start_ok}
 use Rattle.line_laws.proofs.StepsOk.{ran_ok as steps_ran_ok}
@@ -190,7 +190,7 @@ plan_speaks m p (Goes answer failed ps us logs says few left) h reads = record {
 moved_speaks : (v u : World) → Moves Octets Spelled network v u → WorldOk v → v.running ≡ true → WorldSpeaks v → WorldSpeaks u
 moved_speaks v u (Stays z) ok runs s = s
 moved_speaks v u (Carries z number x A halted does there is) ok runs s =
-    told_speaks v number (acts x halted does) s (acts_speaks x halted does (at_place NodeSpeaks v.nodes number x there s.nodes)
+    after_speaks v number (acts x halted does) s (acts_speaks x halted does (at_place NodeSpeaks v.nodes number x there s.nodes)
     (λ m here h. plan_speaks m (does m) (is m here) h (ring_readable x m (at_place NodeOk v.nodes number x there ok.nodes) here)))
 moved_speaks v u (Flies z number x frame there known) ok runs s = record {
   nodes = s.nodes;
@@ -295,18 +295,18 @@ module _ (w : World) (ok : WorldOk w) (s : WorldSpeaks w) (logs : LogsKept w) wh
   line_speaks event st (Known e t is) = event_speaks w ok s event st is
   line_speaks event st (Opens begun) = record { nodes = s.nodes; flights = s.flights }
   line_speaks event st (Anew e v t moves silent) = moved_speaks (ran w) v moves (steps_ran_ok network network_ranges w ok s.flights) refl ran_octets
-  line_speaks event st (After e r v t is good runs moves tells) = moved_speaks r.0 v moves good runs (event_speaks w ok s event (Ok r) is)
-  line_speaks event st (Unsends e r v t is good runs moves tells) =
+  line_speaks event st (After e r v t is good runs moves same_words) = moved_speaks r.0 v moves good runs (event_speaks w ok s event (Ok r) is)
+  line_speaks event st (Unsends e r v t is good runs moves same_words) =
       let m = moved_speaks r.0 v moves good runs (event_speaks w ok s event (Ok r) is) in record { nodes = m.nodes; flights = s.flights }
   line_speaks event st (Unbelieves e number x octets got there says comes is) =
       let left = acts_speaks x (Err frames.Halted) (λ m. of_station m (accept m.station x.eui (arrived network octets)))
       (at_place NodeSpeaks w.nodes number x there s.nodes) (λ m here h. accept_speaks m h x.eui (arrived network octets)) in
-      let t = told_speaks (ran w) number (stays (accepting network x octets).node (only said.Blacklisted)) ran_octets
+      let t = after_speaks (ran w) number (stays (accepting network x octets).node (only said.Blacklisted)) ran_octets
       (record { node = left.node; frames = All-nil SentOctets }) in
       record { nodes = t.nodes; flights = t.flights }
   line_speaks event st (Chooses number k x psk ne there pair) =
       let fit = at_place NodeFits w.nodes number x there ok.fits in
-      let t = told_speaks (ran w) number (reaches x (beside_at w number) (Err choices.Halted) (λ y. choose_agent (identity network x psk) y k w.clock))
+      let t = after_speaks (ran w) number (reaches x (beside_at w number) (Err choices.Halted) (λ y. choose_agent (identity network x psk) y k w.clock))
       ran_octets
       (acts_speaks x (Err choices.Halted) (with_beside (beside_at w number) (λ y. choose_agent (identity network x psk) y k w.clock))
       (at_place NodeSpeaks w.nodes number x there s.nodes)

@@ -112,7 +112,7 @@ use Rattle.line_laws.proofs.RangeFold.{hop_ranged}
 use Rattle.line_laws.proofs.RangeFrames.{IsSent}
 use Rattle.line_laws.proofs.RangeOrders.{join_ranged}
 use Rattle.line_laws.proofs.RangePlans.{DidRanged, RangeOk, acts_ranged}
-use Rattle.line_laws.proofs.RangeRuns.{event_ranged, short_at, told_ranged}
+use Rattle.line_laws.proofs.RangeRuns.{event_ranged, short_at, after_ranged}
 use Rattle.line_laws.proofs.Readings.{network_ranges}
 use Rattle.line_laws.proofs.StoreMarks.{Accepts, IsPlain, Marked, Plain, Turned, accept_is}
 use Rattle.line_laws.proofs.Worlds.{at_place}
@@ -434,7 +434,7 @@ module _ (w : World) (ok : WorldOk w) (s : WorldSpeaks w) (r : WorldRanged w) (l
 pub moved_ranged : (v u : World) → Moves IsOne IsDiscovery network v u → WorldRanged v → WorldRanged u
 moved_ranged v u (Stays z) r = r
 moved_ranged v u (Carries z number x A halted does there is) r =
-    told_ranged v number (acts x halted does) r (acts_ranged x halted does (at_place NodeRanged v.nodes number x there r.nodes)
+    after_ranged v number (acts x halted does) r (acts_ranged x halted does (at_place NodeRanged v.nodes number x there r.nodes)
     (λ m here k. further_ranged m (does m) (is m here) k))
 moved_ranged v u (Flies z number x frame there known) r =
     record {
@@ -486,18 +486,18 @@ module _ (w : World) (ok : WorldOk w) (s : WorldSpeaks w) (r : WorldRanged w) wh
   line_ranged_is event (Err fault) (Known e z is) = tt
   line_ranged_is event st (Opens begun) = λ honest. record { nodes = r.nodes; flights = r.flights }
   line_ranged_is event st (Anew e v t moves silent) = λ honest. moved_ranged (ran w) v moves ran_ranged
-  line_ranged_is event st (After e q v t is good runs moves tells) =
-      λ honest. moved_ranged q.0 v moves (event_ranged w ok s r event (Ok q) is (sym tells.forged ∙ honest))
-  line_ranged_is event st (Unsends e q v t is good runs moves tells) = λ honest.
-      let m = moved_ranged q.0 v moves (event_ranged w ok s r event (Ok q) is (sym tells.forged ∙ honest)) in
+  line_ranged_is event st (After e q v t is good runs moves same_words) =
+      λ honest. moved_ranged q.0 v moves (event_ranged w ok s r event (Ok q) is (sym same_words.forged ∙ honest))
+  line_ranged_is event st (Unsends e q v t is good runs moves same_words) = λ honest.
+      let m = moved_ranged q.0 v moves (event_ranged w ok s r event (Ok q) is (sym same_words.forged ∙ honest)) in
       record { nodes = m.nodes; flights = r.flights }
   line_ranged_is event st (Unbelieves e number x octets got there says comes is) = λ honest.
       let left = accepts_ranged network network_opens_again w r.flights number x octets 0 (at_place NodeRanged w.nodes number x there r.nodes) in
-      let t = told_ranged (ran w) number (stays (accepting network x octets).node (only said.Blacklisted)) ran_ranged
+      let t = after_ranged (ran w) number (stays (accepting network x octets).node (only said.Blacklisted)) ran_ranged
       (record { station = left.station; frames = All-nil IsSent }) in
       record { nodes = t.nodes; flights = t.flights }
   line_ranged_is event st (Chooses number k x psk ne there pair) = λ honest.
-      let t = told_ranged (ran w) number (reaches x (beside_at w number) (Err choices.Halted) (λ y. choose_agent (identity network x psk) y k w.clock))
+      let t = after_ranged (ran w) number (reaches x (beside_at w number) (Err choices.Halted) (λ y. choose_agent (identity network x psk) y k w.clock))
       ran_ranged (choice_ranged number k x psk there) in
       record { nodes = t.nodes; flights = t.flights }
 

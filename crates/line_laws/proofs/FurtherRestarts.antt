@@ -27,7 +27,7 @@ use Rattle.line_laws.proofs.FurtherLogs.{line_logs_hold}
 use Rattle.line_laws.proofs.FurtherOctets.{Octets, Spelled, line_speaks, octets_speak}
 use Rattle.line_laws.proofs.FurtherSteps.{line_steps_hold, restarts_read}
 use Rattle.line_laws.proofs.FurtherStepKinds.{line_step_is}
-use Rattle.line_laws.proofs.IssueWorlds.{told_here}
+use Rattle.line_laws.proofs.IssueWorlds.{after_here}
 use Rattle.line_laws.proofs.NetworkSizes.{EntrySized, world_within}
 use Rattle.line_laws.proofs.OctetRuns.{SpeaksIn, WorldSpeaks, start_speaks}
 use Rattle.line_laws.proofs.Readings.{network_ranges}
@@ -54,7 +54,7 @@ module _ (ciphers : Ciphers) (w : World) (ok : WorldOk w) (logs : LogsKept w) wh
       let good = at_place NodeOk w.nodes number x there ok.nodes in (
         restart_answers x good,
         λ y is dest.
-            let same : (restarts x).node ≡ y = same_Some _ _ (sym (told_here ciphers (ran w) number x (restarts x) there) ∙ is) in
+            let same : (restarts x).node ≡ y = same_Some _ _ (sym (after_here ciphers (ran w) number x (restarts x) there) ∙ is) in
             subst (λ (z : Node). node_route z dest ≡ None) same (no_routes x good dest),
       )
 

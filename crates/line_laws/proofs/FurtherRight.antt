@@ -84,10 +84,10 @@ use Rattle.line_laws.proofs.FurtherEvents.{Old, TurnsOn, Spreads, Seeks, Looks, 
 use Rattle.line_laws.proofs.FurtherEvents.{IsAnswered}
 use Rattle.line_laws.proofs.FurtherForms.{AnyUnits, ask_is, broadcast_is}
 use Rattle.line_laws.proofs.FurtherSteps.{ack_is, hears_nothing}
-use Rattle.line_laws.proofs.FurtherStepKinds.{untold}
+use Rattle.line_laws.proofs.FurtherStepKinds.{makes_none}
 use Rattle.line_laws.proofs.StepKinds.{Hears}
 use Rattle.line_laws.proofs.TracesRight.{Good, IsTracedSo, NoneCame, Plain, Right, acted_right, drop_fits, entry, false_true, forged_right, quiet_adds}
-use Rattle.line_laws.proofs.TracesRight.{quiet_right, ran_counted, received_right, right, still_right, told_counted, told_flights, told_made, unbrought}
+use Rattle.line_laws.proofs.TracesRight.{quiet_right, ran_counted, received_right, right, still_right, after_counted, after_flights, made_after, unbrought}
 use Rattle.line_laws.proofs.TracesRight.{unforged}
 use Rattle.line_laws.proofs.IssueMeters.{joins_opened}
 use Rattle.line_laws.proofs.IssueNodes.{acts_opened}
@@ -276,10 +276,10 @@ module _ (ciphers : Ciphers) (w : World) where
   more_adds n event v t on bs f a r =
       record { events = r.events; sends = r.sends; ups = r.ups; forged = r.forged; done = r.done; first = r.first; flights = r.flights; made = r.made }
 
-  more_told : (n : ℕ) (event : Event) (v : World) (t : Trace) (on : Bool) (bs : List Beside) (f : Further) (a : Option AgentLine)
+  more_after : (n : ℕ) (event : Event) (v : World) (t : Trace) (on : Bool) (bs : List Beside) (f : Further) (a : Option AgentLine)
       → Right ciphers w (entry n event (v, t))
       → Right ciphers w (entry n event (record v { checks_on = on; beside = bs }, record t { happened = record t.happened { agent = a }; further = f }))
-  more_told n event v t on bs f a r = record {
+  more_after n event v t on bs f a r = record {
     adds = more_adds n event v t on bs f a r.adds;
     traced = record {
       sent = r.traced.sent;
@@ -346,8 +346,8 @@ module _ (ciphers : Ciphers) (w : World) where
       let does = with_beside (beside_at w number) (λ y. ask_path in_memory y target) in
       let d = acts x (Err asks.Halted) does in
       let e = answering ask_word d in
-      let none = untold AnyUnits x (Err asks.Halted) does (λ m here. ask_is AnyUnits (beside_at w number) target m (λ own hop at route. tt)) in
-      more_told n (events.Path number to) (acted ciphers w number e).0 (acted ciphers w number e).1 w.checks_on
+      let none = makes_none AnyUnits x (Err asks.Halted) does (λ m here. ask_is AnyUnits (beside_at w number) target m (λ own hop at route. tt)) in
+      more_after n (events.Path number to) (acted ciphers w number e).0 (acted ciphers w number e).1 w.checks_on
       (asks_by ciphers w number x (Some target)).0.beside (asks_by ciphers w number x (Some target)).1.further None
       (acted_right ciphers w n (events.Path number to) number e (ask_plain d.answer) none.1 (unbrought ciphers w (events.Path number to) (λ b. b)))
 
@@ -360,7 +360,7 @@ module _ (ciphers : Ciphers) (w : World) where
       let d = acts x (Err choices.Halted) does in
       let e = answering choice_word d in
       let none = acts_opened x (Err choices.Halted) does (λ m. choice_opened m (identity ciphers x psk) (beside_at w number) k w.clock) in
-      more_told n (events.Choose number k) (acted ciphers w number e).0 (acted ciphers w number e).1 w.checks_on
+      more_after n (events.Choose number k) (acted ciphers w number e).0 (acted ciphers w number e).1 w.checks_on
       (chooses_by ciphers w number x k (Some psk)).0.beside nothing_further (agent_line number d.answer)
       (acted_right ciphers w n (events.Choose number k) number e (choice_plain d.answer) none (unbrought ciphers w (events.Choose number k) (λ b. b)))
 
@@ -369,7 +369,7 @@ module _ (ciphers : Ciphers) (w : World) where
   discovered_right n event number word noticed d plain came =
       let v : World = record (ran w) { flights = w.flights ++ discovery_flights number d.sent } in
       let h : Happenings = record (happened w (word d.answer)) { flights = length (discovery_flights number d.sent) } in
-      more_told n event v (trace_of h) w.checks_on (has_discovered w number word noticed d).0.beside (has_discovered w number word noticed d).1.further None
+      more_after n event v (trace_of h) w.checks_on (has_discovered w number word noticed d).0.beside (has_discovered w number word noticed d).1.further None
       (quiet_right ciphers w n event v h [] [] plain refl refl refl refl refl came
       (record { events = refl; sends = refl; ups = refl; forged = refl; done = refl }) refl (length-append w.flights (discovery_flights number d.sent))
       (sym (append-nil w.made)))
@@ -444,7 +444,7 @@ module _ (ciphers : Ciphers) (w : World) (n : ℕ)
       let does = with_beside (beside_at r.0 number) (λ z. hear_command in_memory z c) in
       let a = acts d.node halted does in
       let none = acts_made d.node halted does (command_made (beside_at r.0 number) c) in
-      let more : length (world_after ciphers r.0 number a).flights ≡ length r.0.flights + length a.frames = told_flights ciphers r.0 number a in
+      let more : length (world_after ciphers r.0 number a).flights ≡ length r.0.flights + length a.frames = after_flights ciphers r.0 number a in
       let before : length r.0.flights ≡ length w.flights + r.1.happened.flights = plainly.adds.flights in
       let made : r.0.made ++ a.made ≡ w.made ++ r.1.made = ap (λ ts. r.0.made ++ ts) none ∙ append-nil r.0.made ∙ plainly.adds.made in
       let t : Trace = (commanded ciphers number d.node c r).1 in
@@ -454,7 +454,7 @@ module _ (ciphers : Ciphers) (w : World) (n : ℕ)
       (record { events = refl; sends = refl; ups = refl; forged = refl; done = refl }) (omega arith) made
 
   checks_right : Right ciphers w (entry n event with_it)
-  checks_right = more_told ciphers w n event r.0 r.1 r.0.checks_on with_it.0.beside with_it.1.further r.1.happened.agent plainly
+  checks_right = more_after ciphers w n event r.0 r.1 r.0.checks_on with_it.0.beside with_it.1.further r.1.happened.agent plainly
 
   answers_right : (reply : Reply) → Plain d.answer.answer → Right ciphers w (entry n event (acknowledged ciphers w number (acknowledging d.node reply) with_it))
   unfolding world_after
@@ -470,14 +470,14 @@ module _ (ciphers : Ciphers) (w : World) (n : ℕ)
       v = world_after ciphers with_it.0 number a
 
       none : a.made ≡ []
-      none = (untold AnyUnits d.node (Err locals.Store) does (λ m here. ack_is m reply)).0
+      none = (makes_none AnyUnits d.node (Err locals.Store) does (λ m here. ack_is m reply)).0
 
       made : v.made ≡ w.made ++ r.1.made
       made = ap (λ ts. r.0.made ++ ts) none ∙ append-nil r.0.made ∙ plainly.adds.made
 
       flies : length v.flights ≡ length w.flights + (r.1.happened.flights + length a.frames)
       flies =
-          let more : length v.flights ≡ length with_it.0.flights + length a.frames = told_flights ciphers with_it.0 number a in
+          let more : length v.flights ≡ length with_it.0.flights + length a.frames = after_flights ciphers with_it.0 number a in
           let before : length r.0.flights ≡ length w.flights + r.1.happened.flights = plainly.adds.flights in
           omega arith
 
@@ -523,14 +523,14 @@ module _ (ciphers : Ciphers) (w : World) where
       let does = with_beside (beside_at w number) (λ y. broadcast in_memory y datagram) in
       let b = acts x (Err broadcasts.Halted) does in
       let e = answering broadcast_word b in
-      let none = untold AnyUnits x (Err broadcasts.Halted) does (λ m here. broadcast_is AnyUnits (beside_at w number) datagram m (λ own at fault. tt)) in
+      let none = makes_none AnyUnits x (Err broadcasts.Halted) does (λ m here. broadcast_is AnyUnits (beside_at w number) datagram m (λ own at fault. tt)) in
       let v : World = world_after ciphers (ran w) number e in
       let h : Happenings = record (happened w (broadcast_word b.answer)) { flights = length b.frames } in
       record {
         adds = more_adds ciphers w n event v (acted ciphers w number e).1 w.checks_on (broadcasts_by ciphers w number x datagram).0.beside
             (broadcasts_by ciphers w number x datagram).1.further None
-            (quiet_adds ciphers w n event v h b.made b.opened refl refl (told_counted ciphers w (ran w) number e (ran_counted w)) refl
-            (told_flights ciphers (ran w) number e) (told_made ciphers (ran w) number e));
+            (quiet_adds ciphers w n event v h b.made b.opened refl refl (after_counted ciphers w (ran w) number e (ran_counted w)) refl
+            (after_flights ciphers (ran w) number e) (made_after ciphers (ran w) number e));
         traced = λ other. absurd (false_true (sym other));
         forged = unforged ciphers w event false b.opened refl none.1 (unbrought ciphers w event (λ q. q));
       }
@@ -541,7 +541,7 @@ module _ (ciphers : Ciphers) (w : World) where
   unfolding world_after
   unread_right n number x bad =
       let e = stays (record x { memory = None }) said.BadStore in
-      more_told ciphers w n (events.Restart number) (acted ciphers w number e).0 (acted ciphers w number e).1 w.checks_on
+      more_after ciphers w n (events.Restart number) (acted ciphers w number e).0 (acted ciphers w number e).1 w.checks_on
       (restarts_by ciphers w number x (Err bad)).0.beside nothing_further None
       (acted_right ciphers w n (events.Restart number) number e (refl, refl, refl, refl, refl) refl (unbrought ciphers w (events.Restart number) (λ b. b)))
 
@@ -561,7 +561,7 @@ module _ (ciphers : Ciphers) (w : World) where
   line_right n event s (Takes e number x octets cost got t there says comes_so low is how) = as_right _
       (heard_right ciphers w n e number x octets cost got there says comes_so low is t how)
   line_right n event s (Puts e r bs quiet is) = as_right _
-      (more_told ciphers w n e r.0 r.1 r.0.checks_on bs r.1.further r.1.happened.agent (right ciphers w e (Ok r) is n))
+      (more_after ciphers w n e r.0 r.1 r.0.checks_on bs r.1.further r.1.happened.agent (right ciphers w e (Ok r) is n))
   line_right n event s (Unread number x bad there e) = as_right _ (unread_right n number x bad)
 
   -- # What the history has

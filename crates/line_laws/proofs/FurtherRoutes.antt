@@ -62,7 +62,7 @@ use Rattle.line_laws.proofs.RankPlans.{NodeRanks, PlanRanks, acts_ranks, resting
 use Rattle.line_laws.proofs.RankSaid.{FrameBacked}
 use Rattle.line_laws.proofs.Readings.{network_ranges}
 use Rattle.line_laws.proofs.RouteNodes.{acts_memory}
-use Rattle.line_laws.proofs.RouteParts.{From, Reached, flight_later, nearer_later, reach, told_step}
+use Rattle.line_laws.proofs.RouteParts.{From, Reached, flight_later, nearer_later, reach, after_step}
 use Rattle.line_laws.proofs.RouteSteps.{Fails, StepHolds, Taken, counts_hold, event_holds}
 use Rattle.line_laws.proofs.StepsOk.{ran_ok as steps_ran_ok}
 use Rattle.line_laws.proofs.Worlds.{at_place, within as place_within}
@@ -114,10 +114,10 @@ module _ (h : Homes) where
       by_memory None there is = absurd (none-some a is)
       by_memory (Some n) there is = by_address (address_of n.station) (f n there) is
 
-  told_addressed : {A : Type 0} (v : World) (number : ℕ) (x : Node) (d : NodeStep A) → node_at v number ≡ Some x
+  after_addressed : {A : Type 0} (v : World) (number : ℕ) (x : Node) (d : NodeStep A) → node_at v number ≡ Some x
       → ((n : Memory) → d.node.memory ≡ Some n → IsAt (At h number) (address_of n.station)) → Addressed h v → Addressed h (world_after network v number d)
   unfolding world_after
-  told_addressed v number x d there f addressed = record { home = home; apart = addressed.apart; low = addressed.low }
+  after_addressed v number x d there f addressed = record { home = home; apart = addressed.apart; low = addressed.low }
     where
       home : (i : ℕ) (y : Node) → slice_get (slice_set v.nodes number d.node) i ≡ Some y → (a : ℕ) → node_address y ≡ Some a → h i ≡ Some a
       home i y is a e = ⊎_elim
@@ -135,12 +135,12 @@ module _ (h : Homes) where
     reached : Reached network h b v
 
   -- what one node did
-  told_keeps : {A : Type 0} (b v : World) (number : ℕ) (x : Node) (d : NodeStep A) → node_at v number ≡ Some x
+  after_keeps : {A : Type 0} (b v : World) (number : ℕ) (x : Node) (d : NodeStep A) → node_at v number ≡ Some x
       → NodeRanks (At h number) (Own h number) (IsNearer h v) x d.node d.frames → All IsSent d.frames → Reached network h b v
       → Reached network h b (world_after network v number d)
-  told_keeps b v number x d there ranks sent r =
+  after_keeps b v number x d there ranks sent r =
       reach network h v (world_after network v number d)
-      (told_step network h v number x d there ranks (All-weaker IsSent (FrameRead network) sent_read d.frames sent))
+      (after_step network h v number x d there ranks (All-weaker IsSent (FrameRead network) sent_read d.frames sent))
       r
 
   -- nodes and homes as before
@@ -160,10 +160,10 @@ module _ (h : Homes) where
       let did = acts_ranged x halted does (at_place NodeRanged v.nodes number x there k.ranged.nodes)
       (λ m here in_range. further_ranged m (does m) (is m here) in_range) in
       record {
-        addressed = told_addressed v number x (acts x halted does) there (acts_memory (λ n. IsAt (At h number) (address_of n.station)) x halted does
+        addressed = after_addressed v number x (acts x halted does) there (acts_memory (λ n. IsAt (At h number) (address_of n.station)) x halted does
             (λ m here. (ranks m here).here)) k.addressed;
         ranged = moved_ranged v _ (Carries v number x A halted does there is) k.ranged;
-        reached = told_keeps b v number x (acts x halted does) there (acts_ranks (At h number) (Own h number) (IsNearer h v) x halted does good
+        reached = after_keeps b v number x (acts x halted does) there (acts_ranks (At h number) (Own h number) (IsNearer h v) x halted does good
             (λ m here kept. ranks m here)) did.frames k.reached;
       }
   moved_keeps b v u (Flies z number x frame there known) ok runs k = record {
@@ -239,7 +239,7 @@ module _ (h : Homes) (w : World) (ok : WorldOk w) (s : WorldSpeaks w) (r : World
       let ranks = acts_ranks (At h number) (Own h number) (IsNearer h (ran w)) x (Err frames.Halted) plan (good_at number x there)
       (λ m here kept. accept_ranks (At h number) (Own h number) (IsNearer h (ran w)) m (at_home h w homes.addressed number x m there here) x.eui
       (arrived network octets) kept.station.range.marks) in
-      told_keeps h w (ran w) number x (stays (accepting network x octets).node answer) there
+      after_keeps h w (ran w) number x (stays (accepting network x octets).node answer) there
       (record {
         above = ranks.above;
         not_own = ranks.not_own;
@@ -251,7 +251,7 @@ module _ (h : Homes) (w : World) (ok : WorldOk w) (s : WorldSpeaks w) (r : World
       → Reached network h w (world_after network (ran w) number
       (reaches x (beside_at w number) (Err choices.Halted) (λ y. choose_agent (identity network x psk) y k w.clock)))
   chosen_reached number k x psk there =
-      told_keeps h w (ran w) number x (reaches x (beside_at w number) (Err choices.Halted) (λ y. choose_agent (identity network x psk) y k w.clock)) there
+      after_keeps h w (ran w) number x (reaches x (beside_at w number) (Err choices.Halted) (λ y. choose_agent (identity network x psk) y k w.clock)) there
       (acts_ranks (At h number) (Own h number) (IsNearer h (ran w)) x (Err choices.Halted)
       (with_beside (beside_at w number) (λ y. choose_agent (identity network x psk) y k w.clock)) (good_at number x there)
       (λ m here kept. chosen_ranks (At h number) (Own h number) (IsNearer h (ran w)) m (at_home h w homes.addressed number x m there here) (beside_at w number)
@@ -315,12 +315,12 @@ module _ (h : Homes) (w : World) (ok : WorldOk w) (s : WorldSpeaks w) (r : World
         ranged = record { nodes = r.nodes; flights = r.flights };
         reached = ran_reached;
       })).reached)
-  line_holds_is event says depot st (After e q v t old fine runs moves tells) are = Taken (v, t) (λ honest.
-      let unforged = sym tells.forged ∙ honest in
+  line_holds_is event says depot st (After e q v t old fine runs moves same_words) are = Taken (v, t) (λ honest.
+      let unforged = sym same_words.forged ∙ honest in
       (moved_keeps h w q.0 v moves fine runs (old_keeps event says depot q old unforged (addressed_then event says depot q v v old fine runs moves unforged refl
       are.0 are.1 are.2 are.3))).reached)
-  line_holds_is event says depot st (Unsends e q v t old fine runs moves tells) are = Taken _ (λ honest.
-      let unforged = sym tells.forged ∙ honest in
+  line_holds_is event says depot st (Unsends e q v t old fine runs moves same_words) are = Taken _ (λ honest.
+      let unforged = sym same_words.forged ∙ honest in
       unsent_reached h w v _ good refl refl (moved_keeps h w q.0 v moves fine runs
       (old_keeps event says depot q old unforged (addressed_then event says depot q v _ old fine runs moves unforged refl are.0 are.1 are.2
       are.3))).reached)

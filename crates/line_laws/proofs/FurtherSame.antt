@@ -62,13 +62,13 @@ KeepsMade w v = (more : List PairTag) × (v.made ≡ w.made ++ more)
 keeps_both : (w v u : World) → KeepsMade w v → KeepsMade v u → KeepsMade w u
 keeps_both w v u one two = (one.0 ++ two.0, two.1 ∙ ap (λ xs. xs ++ two.0) one.1 ∙ append_assoc w.made one.0 two.0)
 
-told_made : {A : Type 0} (ciphers : Ciphers) (w : World) (number : ℕ) (d : NodeStep A) → (world_after ciphers w number d).made ≡ w.made ++ d.made
+made_after : {A : Type 0} (ciphers : Ciphers) (w : World) (number : ℕ) (d : NodeStep A) → (world_after ciphers w number d).made ≡ w.made ++ d.made
 unfolding world_after
-told_made ciphers w number d = refl
+made_after ciphers w number d = refl
 
 pub moved_made : (U : List Outgoing → Type 0) (D : Discovery → Type 0) (ciphers : Ciphers) (v u : World) → Moves U D ciphers v u → KeepsMade v u
 moved_made U D ciphers v u (Stays z) = ([], sym (append-nil v.made))
-moved_made U D ciphers v u (Carries z number x A halted does there is) = ((acts x halted does).made, told_made ciphers v number (acts x halted does))
+moved_made U D ciphers v u (Carries z number x A halted does there is) = ((acts x halted does).made, made_after ciphers v number (acts x halted does))
 moved_made U D ciphers v u (Flies z number x frame there known) = ([], sym (append-nil v.made))
 moved_made U D ciphers v u (Besides z on bs) = ([], sym (append-nil v.made))
 moved_made U D ciphers v u (Turns z between y first rest) = keeps_both v between u (moved_made U D ciphers v between first)

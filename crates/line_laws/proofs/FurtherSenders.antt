@@ -55,7 +55,7 @@ use Rattle.line_laws.specs.Lines.{FlightFits, NodeOk, WorldOk}
 use Rattle.line_laws.specs.Owed.{AreOctets, KeepsRanges}
 use Rattle.line_laws.proofs.Answered.{acts_answered}
 use Rattle.line_laws.proofs.CoordinatorCalls.{accept_failed, accept_ok, accepted_routes}
-use Rattle.line_laws.proofs.FlightFolds.{NewSenders, address_low, all_senders, came_octets, none_new, one_told, senders, speaks, told_silent}
+use Rattle.line_laws.proofs.FlightFolds.{NewSenders, address_low, all_senders, came_octets, none_new, one_after, senders, speaks, after_silent}
 use Rattle.line_laws.proofs.FlightFolds.{SendersIn as SendersBefore}
 use Rattle.line_laws.proofs.FurtherEvents.{IsFurtherStep, IsHeard, checks_so, further_step_is, heard_so, hearing, taker}
 use Rattle.line_laws.proofs.FurtherEvents.{Old, TurnsOn, Spreads, Seeks, Looks, Picks, Finds, Takes, Puts, Unread, IsUnbelieved, IsPlain, IsCommand, IsChecked}
@@ -150,14 +150,14 @@ module _ (ciphers : Ciphers) (fits : KeepsRanges ciphers) (w : World) (ok : Worl
       let d = reaches x (beside_at w number) (Err asks.Halted) (λ z. ask_path in_memory z target) in
       let did = further_did x (Err asks.Halted) (with_beside (beside_at w number) (λ z. ask_path in_memory z target)) (good_at number x there)
       (λ m here. ask_is AnyUnits (beside_at w number) target m (λ own hop e route. tt)) in
-      one_told ciphers fits w ok flown (ran w) (asks_by ciphers w number x (Some target)).0 number x d refl refl refl refl there (speaks x d did)
+      one_after ciphers fits w ok flown (ran w) (asks_by ciphers w number x (Some target)).0 number x d refl refl refl refl there (speaks x d did)
 
   spreads_senders : (number : ℕ) (x : Node) → node_at w number ≡ Some x → (datagram : List ℕ) → NewSenders w (broadcasts_by ciphers w number x datagram).0
   spreads_senders number x there datagram =
       let d = reaches x (beside_at w number) (Err broadcasts.Halted) (λ z. broadcast in_memory z datagram) in
       let did = further_did x (Err broadcasts.Halted) (with_beside (beside_at w number) (λ z. broadcast in_memory z datagram)) (good_at number x there)
       (λ m here. broadcast_is AnyUnits (beside_at w number) datagram m (λ own e none. tt)) in
-      one_told ciphers fits w ok flown (ran w) (broadcasts_by ciphers w number x datagram).0 number x d refl refl refl refl there (speaks x d did)
+      one_after ciphers fits w ok flown (ran w) (broadcasts_by ciphers w number x datagram).0 number x d refl refl refl refl there (speaks x d did)
 
   picks_senders : (number k : ℕ) (x : Node) → node_at w number ≡ Some x → (psk : Option Key) → NewSenders w (chooses_by ciphers w number x k psk).0
   picks_senders number k x there None = none_new w (ran w) refl
@@ -167,7 +167,7 @@ module _ (ciphers : Ciphers) (fits : KeepsRanges ciphers) (w : World) (ok : Worl
       let did : DidOk x d = acts_ok x (Err choices.Halted) (with_beside (beside_at w number) (λ z. choose_agent (identity ciphers x psk) z k w.clock))
       (good_at number x there)
       (λ m here kept sized. choice_ok x.role m sized ciphers fits (identity ciphers x psk) refl (beside_at w number) k w.clock) in
-      one_told ciphers fits w ok flown (ran w) (chooses_by ciphers w number x k (Some psk)).0 number x d refl refl refl refl there (speaks x d did)
+      one_after ciphers fits w ok flown (ran w) (chooses_by ciphers w number x k (Some psk)).0 number x d refl refl refl refl there (speaks x d did)
 
   -- # Octets that were accepted
 
@@ -250,7 +250,7 @@ module _ (ciphers : Ciphers) (fits : KeepsRanges ciphers) (w : World) (ok : Worl
 
     heard_senders : (t : World × Trace) → cost ≤ 255 → IsHeard ciphers w number x octets got cost t → NewSenders w t.0
     heard_senders t low IsUnbelieved = none_new w (unbelieved ciphers w number y octets got).0
-        (ap length (told_silent ciphers (ran w) number (stays y (only said.Blacklisted)) refl))
+        (ap length (after_silent ciphers (ran w) number (stays y (only said.Blacklisted)) refl))
     heard_senders t low IsPlain = plainly low
     heard_senders t low (IsCommand c e) = commands_senders c e
     heard_senders t low IsChecked = plainly low

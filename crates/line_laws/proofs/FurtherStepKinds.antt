@@ -104,7 +104,7 @@ use Rattle.node_rules.proofs.Writing.{clean}
 use Rattle.node_rules.specs.Laws.{IsCutOff, IsWhole}
 use Rattle.line_laws.proofs.Quiet.{acts_quiet, accept_quiet}
 use Rattle.line_laws.proofs.StoreMarks.{accept_is}
-use Rattle.line_laws.proofs.Worlds.{at_place, counts_ok, told_ok, within as place_within}
+use Rattle.line_laws.proofs.Worlds.{at_place, counts_ok, ok_after, within as place_within}
 use Rattle.pan_discovery.specs.declared.message.Discovery.{Discovery}
 use Rattle.pan_discovery.specs.declared.message.Discovery.TheVariants as requests
 use Rattle.node_rules.specs.Drafts.{Outgoing}
@@ -122,19 +122,19 @@ use Rattle.line_rules.specs.Worlds.{Noticed, nothing_further}
 use Rattle.std.proofs.lemmas.List.{append-nil}
 use Rattle.std.proofs.lemmas.Bool.{eqb-false}
 use Rattle.line_laws.specs.Later.{flown as flown_world}
-use Rattle.line_laws.proofs.StepKinds as tellings
+use Rattle.line_laws.proofs.StepKinds as step_kinds
 use Rattle.line_laws.proofs.StepKinds.{IsStep, Ticks, Restarts, Hears, TurnsDown, step_is}
 use Rattle.line_laws.proofs.StepKinds.{Fails as OldFails}
 use Rattle.line_laws.proofs.FlightFolds.{came_octets}
 use Rattle.line_laws.proofs.StepsOk.{StepGood, Taken, restarts_ok, tick_good, true_false}
 use Rattle.line_laws.proofs.StepsOk.{ran_ok as steps_ran_ok}
 use Rattle.line_laws.proofs.FurtherLines.{flown_ok}
-use Rattle.line_laws.proofs.MarkSteps.{Follows, FollowsIn, follows, marks_rise, of_did, same_follows, told_follows, told_nodes}
+use Rattle.line_laws.proofs.MarkSteps.{Follows, FollowsIn, follows, marks_rise, of_did, same_follows, after_follows, after_nodes}
 use Rattle.line_laws.specs.FurtherLines.{LineStepsRise, RisesIn}
 use Rattle.line_laws.proofs.FurtherSteps.{acts_down, choice_ok, did_on, heard_ok, hears_down, rests_ok, logs_fit, restarts_read}
 use Rattle.line_laws.proofs.FurtherForms.{ask_is, broadcast_is, command_is}
 use Rattle.line_laws.proofs.FurtherSteps.{ack_is}
-use Rattle.line_laws.proofs.FlightFolds.{AllOf, every_flight, told_all, lost_spelled}
+use Rattle.line_laws.proofs.FlightFolds.{AllOf, every_flight, after_all, lost_spelled}
 use Rattle.line_laws.proofs.HeadsSaid.{spelled_well}
 use Rattle.line_laws.proofs.LaterMoves.{discovery_nonce}
 use Rattle.line_laws.specs.FurtherLines.{BeaconsAreSpelled, FlightsSpelled}
@@ -170,7 +170,7 @@ pub record IsSilent (t : Trace) : Type 0 where
   pub opened : t.opened ≡ []
 
 -- The one event is told as the other, but for its answer, its flights and what is told of further reach.
-pub record Tells (s t : Trace) : Type 0 where
+pub record SaysTheSame (s t : Trace) : Type 0 where
   pub forged : t.happened.forged ≡ s.happened.forged
   pub up : t.happened.up ≡ s.happened.up
   pub sent : t.sent ≡ s.sent
@@ -193,10 +193,10 @@ pub data IsLineStepBy (Old : Event → Step → Type 1) (U : List Outgoing → T
   Anew : (event : Event) (v : World) (t : Trace) → Moves U D ciphers (ran w) v → IsSilent t → IsLineStepBy Old U D ciphers w event (Ok (v, t))
   -- as without further reach, and then moves
   After : (event : Event) (r : World × Trace) (v : World) (t : Trace) → Old event (Ok r) → WorldOk r.0 → r.0.running ≡ true → Moves U D ciphers r.0 v
-      → Tells r.1 t → IsLineStepBy Old U D ciphers w event (Ok (v, t))
+      → SaysTheSame r.1 t → IsLineStepBy Old U D ciphers w event (Ok (v, t))
   -- the same, and it is not sent after all
   Unsends : (event : Event) (r : World × Trace) (v : World) (t : Trace) → Old event (Ok r) → WorldOk r.0 → r.0.running ≡ true → Moves U D ciphers r.0 v
-      → Tells r.1 t → IsLineStepBy Old U D ciphers w event (Ok (sends_nothing w (v, t)))
+      → SaysTheSame r.1 t → IsLineStepBy Old U D ciphers w event (Ok (sends_nothing w (v, t)))
   -- a request of a listed neighbour is dropped once it is accepted
   Unbelieves : (event : Event) (number : ℕ) (x : Node) (octets : List ℕ) (got : Accepted) → node_at w number ≡ Some x → IsEvent event
       → Comes w event number octets → (accepting ciphers x octets).answer ≡ Ok got
@@ -232,18 +232,18 @@ pub record Speaks (U : List Outgoing → Type 0) (D : Discovery → Type 0) (cip
 
 -- what a node does by such plans makes and checks no pair tag
 module _ (U : List Outgoing → Type 0) {A : Type 0} (x : Node) (halted : A) (does : Memory → Plan Memory A) where
-  plan_untold : (m : Memory) (p : Plan Memory A) → IsFurther U m p → (p.made ≡ []) × (p.opened ≡ [])
+  plan_makes_none : (m : Memory) (p : Plan Memory A) → IsFurther U m p → (p.made ≡ []) × (p.opened ≡ [])
   unfolding resting
-  plan_untold m p (Rests answer failed) = (refl, refl)
-  plan_untold m p (Goes answer failed ps us logs says few left) = (refl, refl)
+  plan_makes_none m p (Rests answer failed) = (refl, refl)
+  plan_makes_none m p (Goes answer failed ps us logs says few left) = (refl, refl)
 
-  pub untold : ((m : Memory) → x.memory ≡ Some m → IsFurther U m (does m)) → ((acts x halted does).made ≡ []) × ((acts x halted does).opened ≡ [])
+  pub makes_none : ((m : Memory) → x.memory ≡ Some m → IsFurther U m (does m)) → ((acts x halted does).made ≡ []) × ((acts x halted does).opened ≡ [])
   unfolding acts
-  untold is = by_memory x.memory refl
+  makes_none is = by_memory x.memory refl
     where
       by_outcome : (m : Memory) → IsFurther U m (does m)
           → ((carry_out x.store.records x.store.cut (does m)).made ≡ []) × ((carry_out x.store.records x.store.cut (does m)).opened ≡ [])
-      by_outcome m f = let n = plan_untold m (does m) f in
+      by_outcome m f = let n = plan_makes_none m (does m) f in
           ⊎_elim (λ (w : IsWhole x.store.records x.store.cut (does m) (carry_out x.store.records x.store.cut (does m))). (w.made ∙ n.0, w.opened ∙ n.1))
           (λ (c : IsCutOff x.store.records x.store.cut (does m) (carry_out x.store.records x.store.cut (does m))). (c.made, c.opened ∙ n.1))
           (clean x.store.records x.store.cut (does m))
@@ -254,9 +254,9 @@ module _ (U : List Outgoing → Type 0) {A : Type 0} (x : Node) (halted : A) (do
       by_memory None e = (refl, refl)
       by_memory (Some m) e = by_outcome m (is m e)
 
-told_same : (s t : Trace) → t.happened.forged ≡ s.happened.forged → t.happened.up ≡ s.happened.up → t.sent ≡ s.sent → t.issued ≡ s.issued → t.taken ≡ s.taken
-    → t.done ≡ s.done → t.made ≡ s.made → t.opened ≡ s.opened → Tells s t
-told_same s t a b c d e f g h = record { forged = a; up = b; sent = c; issued = d; taken = e; done = f; made = g; opened = h }
+same_said_of : (s t : Trace) → t.happened.forged ≡ s.happened.forged → t.happened.up ≡ s.happened.up → t.sent ≡ s.sent → t.issued ≡ s.issued → t.taken ≡ s.taken
+    → t.done ≡ s.done → t.made ≡ s.made → t.opened ≡ s.opened → SaysTheSame s t
+same_said_of s t a b c d e f g h = record { forged = a; up = b; sent = c; issued = d; taken = e; done = f; made = g; opened = h }
 
 module _ (U : List Outgoing → Type 0) (D : Discovery → Type 0) (ciphers : Ciphers) (fits : KeepsRanges ciphers) (w : World) (ok : WorldOk w)
     (flown_are : All FlightFits w.flights) (logs : LogsKept w) (speaks : Speaks U D ciphers w)
@@ -310,7 +310,7 @@ module _ (U : List Outgoing → Type 0) (D : Discovery → Type 0) (ciphers : Ci
   unfolding bcast
   bcast_step number datagram are = once _ _ (at_node _ number _ (λ x there.
       let is = λ (m : Memory) (e : x.memory ≡ Some m). speaks.broadcasts number x m datagram are there e in
-      let n = untold U x (Err broadcasts.Halted) (with_beside (beside_at w number) (λ y. broadcast in_memory y datagram)) is in
+      let n = makes_none U x (Err broadcasts.Halted) (with_beside (beside_at w number) (λ y. broadcast in_memory y datagram)) is in
       let v : World = world_after ciphers (ran w) number (reaches x (beside_at w number) (Err broadcasts.Halted) (λ y. broadcast in_memory y datagram)) in
       Anew _ (broadcasts_by ciphers w number x datagram).0 (broadcasts_by ciphers w number x datagram).1
       (Turns (ran w) v _ (Carries (ran w) number x _ (Err broadcasts.Halted) (with_beside (beside_at w number) (λ y. broadcast in_memory y datagram)) there is)
@@ -321,7 +321,7 @@ module _ (U : List Outgoing → Type 0) (D : Discovery → Type 0) (ciphers : Ci
   asks_step from to x there None = rests _ _ (silent said.NoAddress)
   asks_step from to x there (Some target) =
       let is = λ (m : Memory) (e : x.memory ≡ Some m). speaks.asks from x m target there e in
-      let n = untold U x (Err asks.Halted) (with_beside (beside_at w from) (λ y. ask_path in_memory y target)) is in
+      let n = makes_none U x (Err asks.Halted) (with_beside (beside_at w from) (λ y. ask_path in_memory y target)) is in
       let v : World = world_after ciphers (ran w) from (reaches x (beside_at w from) (Err asks.Halted) (λ y. ask_path in_memory y target)) in
       Anew _ (asks_by ciphers w from x (Some target)).0 (asks_by ciphers w from x (Some target)).1
       (Turns (ran w) v _ (Carries (ran w) from x _ (Err asks.Halted) (with_beside (beside_at w from) (λ y. ask_path in_memory y target)) there is)
@@ -396,7 +396,7 @@ module _ (U : List Outgoing → Type 0) (D : Discovery → Type 0) (ciphers : Ci
       by_start false g known = failed _ faults.Setup
       by_start true g known =
           After _ r (record r.0 { beside = map (tick_beside (w.clock + seconds)) w.beside }) r.1 known (taken r g) refl
-          (Besides r.0 w.checks_on (map (tick_beside (w.clock + seconds)) w.beside)) (told_same r.1 r.1 refl refl refl refl refl refl refl refl)
+          (Besides r.0 w.checks_on (map (tick_beside (w.clock + seconds)) w.beside)) (same_said_of r.1 r.1 refl refl refl refl refl refl refl refl)
 
   restarts_step : (number : ℕ) (x : Node) → node_at w number ≡ Some x → Old (events.Restart number) (Ok (acted ciphers w number (restarts x)))
       → (o : Result Beside BadStore) → restarted x.store.records ≡ o
@@ -406,9 +406,9 @@ module _ (U : List Outgoing → Type 0) (D : Discovery → Type 0) (ciphers : Ci
   restarts_step number x there known (Ok b) e =
       let r : World × Trace = acted ciphers w number (restarts x) in
       After _ r (restarts_by ciphers w number x (Ok b)).0 r.1 known
-      (told_ok ciphers fits (ran w) number x (restarts x) (steps_ran_ok ciphers fits w ok flown_are) there
+      (ok_after ciphers fits (ran w) number x (restarts x) (steps_ran_ok ciphers fits w ok flown_are) there
       (restarts_ok x (at_place NodeOk w.nodes number x there ok.nodes)) (λ e. absurd (true_false e))) refl
-      (Besides r.0 r.0.checks_on (restarts_by ciphers w number x (Ok b)).0.beside) (told_same r.1 r.1 refl refl refl refl refl refl refl refl)
+      (Besides r.0 r.0.checks_on (restarts_by ciphers w number x (Ok b)).0.beside) (same_said_of r.1 r.1 refl refl refl refl refl refl refl refl)
 
   restart_step : (number : ℕ) → IsEvent (events.Restart number) → Is (events.Restart number) (restarts_further ciphers w number)
   unfolding restarts_further restart
@@ -455,7 +455,7 @@ module _ (U : List Outgoing → Type 0) (D : Discovery → Type 0) (ciphers : Ci
         (with_beside (beside_at r.0 number) (λ z. hear_neighbours in_memory z c)) now_there
         (λ m here. speaks.commands event number x octets got cost c m says comes_so there is e here))
         (Besides v v.checks_on (commanded ciphers number d.node c r).0.beside))
-        (told_same r.1 (commanded ciphers number d.node c r).1 refl refl refl refl refl refl refl refl)
+        (same_said_of r.1 (commanded ciphers number d.node c r).1 refl refl refl refl refl refl refl refl)
 
     abbrev with_it : World × Trace
     with_it = with_check w number (reply_among d.frames) r
@@ -480,14 +480,14 @@ module _ (U : List Outgoing → Type 0) (D : Discovery → Type 0) (ciphers : Ci
 
         by_memory : (t : Bool) → Is event (Ok (if t then adds_frames v with_it.1 a else sends_nothing w (v, with_it.1)))
         by_memory true = After event r v (adds_frames v with_it.1 a).1 before good goes_on moves
-            (told_same r.1 (adds_frames v with_it.1 a).1 refl refl refl refl refl refl refl refl)
-        by_memory false = Unsends event r v with_it.1 before good goes_on moves (told_same r.1 with_it.1 refl refl refl refl refl refl refl refl)
+            (same_said_of r.1 (adds_frames v with_it.1 a).1 refl refl refl refl refl refl refl refl)
+        by_memory false = Unsends event r v with_it.1 before good goes_on moves (same_said_of r.1 with_it.1 refl refl refl refl refl refl refl refl)
 
     checked_step : Is event (Ok (checked ciphers w number got d r))
     checked_step = by_due (due got.path (message_of got) d.answer.answer) refl
       where
         by_due : (o : Option Reply) → due got.path (message_of got) d.answer.answer ≡ o → Is event (Ok (acknowledged_if ciphers w number d.node o with_it))
-        by_due None e = After event r with_it.0 with_it.1 before good goes_on with_moves (told_same r.1 with_it.1 refl refl refl refl refl refl refl refl)
+        by_due None e = After event r with_it.0 with_it.1 before good goes_on with_moves (same_said_of r.1 with_it.1 refl refl refl refl refl refl refl refl)
         by_due (Some reply) e = acknowledged_step reply e
 
     heard_by_step : (o : Option NeighbourCommand) → command_of got ≡ o → Is event (Ok (heard_by ciphers w number y octets got cost o))
@@ -660,7 +660,7 @@ module _ (U : List Outgoing → Type 0) (D : Discovery → Type 0) (ciphers : Ci
     (found : (number : ℕ) (frame : Discovery) → D frame → P (discovery_flight number frame)) where
   moved_all : (w v : World) → Moves U D ciphers w v → All P w.flights → All P v.flights
   moved_all w v (Stays u) all = all
-  moved_all w v (Carries u number x A halted does there is) all = told_all ciphers P sent lost u number (acts x halted does) all
+  moved_all w v (Carries u number x A halted does there is) all = after_all ciphers P sent lost u number (acts x halted does) all
   moved_all w v (Flies u number x frame there known) all =
       All-append P w.flights (discovery_flight number frame ∷ []) all (All-cons P (discovery_flight number frame) [] (found number frame known) (All-nil P))
   moved_all w v (Besides u on bs) all = all
@@ -670,11 +670,11 @@ module _ (U : List Outgoing → Type 0) (D : Discovery → Type 0) (ciphers : Ci
   every_line_flight w event s (Known e t is) all = every_flight ciphers P sent lost w event s is all
   every_line_flight w event s (Opens begun) all = all
   every_line_flight w event s (Anew e v t moves silent) all = moved_all (ran w) v moves all
-  every_line_flight w event s (After e r v t is good runs moves tells) all = moved_all r.0 v moves (every_flight ciphers P sent lost w event (Ok r) is all)
-  every_line_flight w event s (Unsends e r v t is good runs moves tells) all = all
+  every_line_flight w event s (After e r v t is good runs moves same_words) all = moved_all r.0 v moves (every_flight ciphers P sent lost w event (Ok r) is all)
+  every_line_flight w event s (Unsends e r v t is good runs moves same_words) all = all
   every_line_flight w event s (Unbelieves e number x octets got there says comes is) all =
-      told_all ciphers P sent lost (ran w) number (stays (accepting ciphers x octets).node (only said.Blacklisted)) all
-  every_line_flight w event s (Chooses number k x psk ne there e) all = told_all ciphers P sent lost (ran w) number
+      after_all ciphers P sent lost (ran w) number (stays (accepting ciphers x octets).node (only said.Blacklisted)) all
+  every_line_flight w event s (Chooses number k x psk ne there e) all = after_all ciphers P sent lost (ran w) number
       (reaches x (beside_at w number) (Err choices.Halted) (λ y. choose_agent (identity ciphers x psk) y k w.clock)) all
 
 found_spelled : (ciphers : Ciphers) (number : ℕ) (frame : Discovery) → IsDiscovery frame → IsSpelled ciphers (discovery_flight number frame)
@@ -708,7 +708,7 @@ module _ (U : List Outgoing → Type 0) (D : Discovery → Type 0) (ciphers : Ci
   unfolding world_after
   moved_ok v u (Stays z) ok runs = (ok, runs)
   moved_ok v u (Carries z number x A halted does there is) ok runs = (
-    told_ok ciphers fits v number x (acts x halted does) ok there
+    ok_after ciphers fits v number x (acts x halted does) ok there
         (carried_did v ok number x halted does there is) (λ e. absurd (true_false (sym runs ∙ e))),
     runs,
   )
@@ -724,8 +724,8 @@ module _ (U : List Outgoing → Type 0) (D : Discovery → Type 0) (ciphers : Ci
   -- no mark falls
   pub moved_follows : (w v u : World) → Follows w v → Moves U D ciphers v u → WorldOk v → v.running ≡ true → Follows w u
   moved_follows w v u f (Stays z) ok runs = f
-  moved_follows w v u f (Carries z number x A halted does there is) ok runs = told_follows w v (world_after ciphers v number (acts x halted does)) number x
-      (acts x halted does) f there (told_nodes ciphers v number (acts x halted does))
+  moved_follows w v u f (Carries z number x A halted does there is) ok runs = after_follows w v (world_after ciphers v number (acts x halted does)) number x
+      (acts x halted does) f there (after_nodes ciphers v number (acts x halted does))
       (of_did x (acts x halted does) (carried_did v ok number x halted does there is))
   moved_follows w v u f (Flies z number x frame there known) ok runs =
       record { at = λ n y here. let l = f.at n y here in record { node = l.node; there = l.there; role = l.role; eui = l.eui; raised = l.raised } }
@@ -750,8 +750,8 @@ module _ (U : List Outgoing → Type 0) (D : Discovery → Type 0) (ciphers : Ci
     line_follows event s (Known e t is) = follows ciphers fits w ok flown_are event s is
     line_follows event s (Opens begun) = same_follows w _ refl
     line_follows event s (Anew e v t moves silent) = moved_follows w (ran w) v (same_follows w (ran w) refl) moves ran_good refl
-    line_follows event s (After e r v t is good runs moves tells) = moved_follows w r.0 v (follows ciphers fits w ok flown_are event (Ok r) is) moves good runs
-    line_follows event s (Unsends e r v t is good runs moves tells) =
+    line_follows event s (After e r v t is good runs moves same_words) = moved_follows w r.0 v (follows ciphers fits w ok flown_are event (Ok r) is) moves good runs
+    line_follows event s (Unsends e r v t is good runs moves same_words) =
         let f = moved_follows w r.0 v (follows ciphers fits w ok flown_are event (Ok r) is) moves good runs in
         record { at = λ n y here. let l = f.at n y here in record { node = l.node; there = l.there; role = l.role; eui = l.eui; raised = l.raised } }
     line_follows event s (Unbelieves e number x octets got there says comes is) =
@@ -759,15 +759,15 @@ module _ (U : List Outgoing → Type 0) (D : Discovery → Type 0) (ciphers : Ci
         let first = accepted_did event number x octets there says comes in
         let did : DidOk x (stays y (only said.Blacklisted)) = did_on x (accepting ciphers x octets) (stays y (only said.Blacklisted)) first
         (rests_ok y (only said.Blacklisted) first.node) in
-        told_follows w (ran w) _ number x (stays y (only said.Blacklisted)) (same_follows w (ran w) refl) there
-        (told_nodes ciphers (ran w) number (stays y (only said.Blacklisted))) (of_did x (stays y (only said.Blacklisted)) did)
+        after_follows w (ran w) _ number x (stays y (only said.Blacklisted)) (same_follows w (ran w) refl) there
+        (after_nodes ciphers (ran w) number (stays y (only said.Blacklisted))) (of_did x (stays y (only said.Blacklisted)) did)
     line_follows event s (Chooses number k x psk ne there e) =
         let d : NodeStep (Result ChosenAgent ChooseRefusal) = reaches x (beside_at w number) (Err choices.Halted)
         (λ y. choose_agent (identity ciphers x psk) y k w.clock) in
         let did : DidOk x d = acts_ok x (Err choices.Halted) (with_beside (beside_at w number) (λ y. choose_agent (identity ciphers x psk) y k w.clock))
         (at_place NodeOk w.nodes number x there ok.nodes)
         (λ m here kept sized. choice_ok x.role m sized ciphers fits (identity ciphers x psk) refl (beside_at w number) k w.clock) in
-        told_follows w (ran w) _ number x d (same_follows w (ran w) refl) there (told_nodes ciphers (ran w) number d) (of_did x d did)
+        after_follows w (ran w) _ number x d (same_follows w (ran w) refl) there (after_nodes ciphers (ran w) number d) (of_did x d did)
 
 rises_in : (ciphers : Ciphers) (fits : KeepsRanges ciphers) (w : World) (ok : WorldOk w) (flown_are : All FlightFits w.flights) (s : Step)
     → FollowsIn ciphers fits w ok flown_are s → RisesIn w s

@@ -105,9 +105,9 @@ use Rattle.node_rules.proofs.Writing.{clean}
 use Rattle.node_rules.specs.Laws.{IsCutOff, IsWhole}
 use Rattle.line_laws.proofs.Quiet.{acts_quiet, accept_quiet}
 use Rattle.line_laws.proofs.StepsOk as steps
-use Rattle.line_laws.proofs.StepsOk.{StepGood, Fails, Taken, IsTold, hears_ok, none_more, resting_ok, told_more, told_none, true_false}
+use Rattle.line_laws.proofs.StepsOk.{StepGood, Fails, Taken, CountsFlights, hears_ok, none_more, resting_ok, after_more, after_none, true_false}
 use Rattle.line_laws.proofs.StoreMarks.{accept_is}
-use Rattle.line_laws.proofs.Worlds.{at_place, counts_ok, told_ok, within as place_within}
+use Rattle.line_laws.proofs.Worlds.{at_place, counts_ok, ok_after, within as place_within}
 
 -- # What a log gives
 
@@ -365,14 +365,14 @@ module _ (ciphers : Ciphers) (fits : KeepsRanges ciphers) (w : World) (ok : Worl
   bcast_good number datagram = once _ (at_node number _ (λ x there.
       let h = (calls_keep ciphers fits w ok number x there).0 datagram in
       Taken (broadcasts_by ciphers w number x datagram) h.0 h.1
-      (told_more ciphers (ran w) number (reaches x (beside_at w number) (Err broadcasts.Halted) (λ y. broadcast in_memory y datagram)))))
+      (after_more ciphers (ran w) number (reaches x (beside_at w number) (Err broadcasts.Halted) (λ y. broadcast in_memory y datagram)))))
 
   asks_good : (number : ℕ) (x : Node) → node_at w number ≡ Some x → (target : Option ℕ) → StepGood w (Ok (asks_by ciphers w number x target))
   asks_good number x there None = Taken _ ran_ok zero-le (none_more w (ran w) refl)
   asks_good number x there (Some target) =
       let h = (calls_keep ciphers fits w ok number x there).1 (Some target) in
       Taken (asks_by ciphers w number x (Some target)) h.0 h.1
-      (told_more ciphers (ran w) number (reaches x (beside_at w number) (Err asks.Halted) (λ y. ask_path in_memory y target)))
+      (after_more ciphers (ran w) number (reaches x (beside_at w number) (Err asks.Halted) (λ y. ask_path in_memory y target)))
 
   path_good : (from to : ℕ) → StepGood w (path ciphers w from to)
   unfolding path
@@ -408,7 +408,7 @@ module _ (ciphers : Ciphers) (fits : KeepsRanges ciphers) (w : World) (ok : Worl
       (λ m here kept sized. choice_ok x.role m sized ciphers fits (identity ciphers x psk) refl (beside_at w number) k w.clock) in
       let v : World = world_after ciphers (ran w) number d in
       Taken (chooses_by ciphers w number x k (Some psk)) (counts_ok v (chooses_by ciphers w number x k (Some psk)).0
-      (told_ok ciphers fits (ran w) number x d ran_ok there did (λ e. absurd (true_false e))) refl refl (λ e. e)) did.few (told_more ciphers (ran w) number d)
+      (ok_after ciphers fits (ran w) number x d ran_ok there did (λ e. absurd (true_false e))) refl refl (λ e. e)) did.few (after_more ciphers (ran w) number d)
 
   choose_good : (number k : ℕ) → StepGood w (choose ciphers w number k)
   unfolding choose
@@ -445,11 +445,11 @@ module _ (ciphers : Ciphers) (fits : KeepsRanges ciphers) (w : World) (ok : Worl
 
       pub heard_ok : WorldOk r.0
       heard_ok =
-          counts_ok (world_after ciphers (ran w) number d) r.0 (told_ok ciphers fits (ran w) number x d ran_ok there heard_did (λ e. absurd (true_false e)))
+          counts_ok (world_after ciphers (ran w) number d) r.0 (ok_after ciphers fits (ran w) number x d ran_ok there heard_did (λ e. absurd (true_false e)))
           refl refl (λ e. e)
 
       heard_good : StepGood w (Ok r)
-      heard_good = Taken r heard_ok heard_did.few (told_more ciphers (ran w) number d)
+      heard_good = Taken r heard_ok heard_did.few (after_more ciphers (ran w) number d)
 
       now_there : node_at r.0 number ≡ Some d.node
       unfolding world_after
@@ -477,9 +477,9 @@ module _ (ciphers : Ciphers) (fits : KeepsRanges ciphers) (w : World) (ok : Worl
           let none : d.frames ≡ [] = command_silent ciphers y got cost (note_by w octets got.path) w.clock c e y.role in
           let silent : r.1.happened.flights ≡ 0 = ap length none in
           let h : LineHolds (commanded ciphers number d.node c r) = commands_keep ciphers fits r heard_ok goes_on silent number d.node now_there fits_now c in
-          let more = told_more ciphers r.0 number
+          let more = after_more ciphers r.0 number
           (reaches d.node (beside_at r.0 number) (Err (reach_drops.Known drops.Store)) (λ z. hear_neighbours in_memory z c)) in
-          let first_more : length r.0.flights ≡ length w.flights + length d.frames = told_more ciphers (ran w) number d in
+          let first_more : length r.0.flights ≡ length w.flights + length d.frames = after_more ciphers (ran w) number d in
           Taken (commanded ciphers number d.node c r) h.0 h.1 (omega arith)
 
       -- a reply that is acknowledged sends little
@@ -505,7 +505,7 @@ module _ (ciphers : Ciphers) (fits : KeepsRanges ciphers) (w : World) (ok : Worl
       with_ok = counts_ok r.0 with_it.0 heard_ok refl refl (λ e. e)
 
       first_more : length with_it.0.flights ≡ length w.flights + length d.frames
-      first_more = told_more ciphers (ran w) number d
+      first_more = after_more ciphers (ran w) number d
 
       acknowledged_good : (reply : Reply) → length d.frames ≤ 22 → StepGood w (Ok (acknowledged ciphers w number (acknowledging d.node reply) with_it))
       unfolding world_after
@@ -518,11 +518,11 @@ module _ (ciphers : Ciphers) (fits : KeepsRanges ciphers) (w : World) (ok : Worl
           v = world_after ciphers with_it.0 number a
 
           v_ok : WorldOk v
-          v_ok = told_ok ciphers fits with_it.0 number d.node a with_ok now_there (ack_did d.node reply heard_did.node)
+          v_ok = ok_after ciphers fits with_it.0 number d.node a with_ok now_there (ack_did d.node reply heard_did.node)
               (λ e. absurd (true_false (sym goes_on ∙ e)))
 
           v_more : length v.flights ≡ length with_it.0.flights + length a.frames
-          v_more = told_more ciphers with_it.0 number a
+          v_more = after_more ciphers with_it.0 number a
 
           flies : v.flights ≡ w.flights ++ (flights_of ciphers number d ++ flights_of ciphers number a)
           flies = append_assoc w.flights (flights_of ciphers number d) (flights_of ciphers number a)
@@ -540,7 +540,7 @@ module _ (ciphers : Ciphers) (fits : KeepsRanges ciphers) (w : World) (ok : Worl
       checked_good = by_due (due got.path (message_of got) d.answer.answer) refl
         where
           by_due : (o : Option Reply) → due got.path (message_of got) d.answer.answer ≡ o → StepGood w (Ok (acknowledged_if ciphers w number d.node o with_it))
-          by_due None e = Taken with_it with_ok heard_did.few (told_more ciphers (ran w) number d)
+          by_due None e = Taken with_it with_ok heard_did.few (after_more ciphers (ran w) number d)
           by_due (Some reply) e = acknowledged_good reply (due_few got.path (message_of got) d.answer.answer reply refl refl e)
 
       heard_by_good : (o : Option NeighbourCommand) → command_of got ≡ o → StepGood w (Ok (heard_by ciphers w number y octets got cost o))
@@ -585,7 +585,7 @@ module _ (ciphers : Ciphers) (fits : KeepsRanges ciphers) (w : World) (ok : Worl
       by_answer (Err reason) e =
           let k : NodeStep (Result Accepted FrameRefusal) = record first { answer = Err reason } in
           rw e (Taken (world_after ciphers (ran w) number k, trace_of (happened w (frame_word reason)))
-          (told_ok ciphers fits (ran w) number x k ran_ok there (record {
+          (ok_after ciphers fits (ran w) number x k ran_ok there (record {
             node = did.node;
             role = did.role;
             eui = did.eui;
@@ -594,7 +594,7 @@ module _ (ciphers : Ciphers) (fits : KeepsRanges ciphers) (w : World) (ok : Worl
             from = did.from;
             marked = did.marked;
           }) (λ e. absurd (true_false e))) zero-le
-          (told_none ciphers (ran w) number k
+          (after_none ciphers (ran w) number k
           (acts_quiet x (Err frames.Halted) plan (λ m. accept_quiet m.station _ _ (accept_is m.station x.eui (arrived ciphers octets))))))
       by_answer (Ok got) e =
           rw e (further_good number x first.node there first refl did (λ m here. acts_down x (Err frames.Halted) plan m here) octets got cost (routes got e))

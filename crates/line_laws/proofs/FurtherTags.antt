@@ -42,7 +42,7 @@ use Rattle.line_laws.proofs.FurtherStepKinds.{IsLineStep, Moves}
 use Rattle.line_laws.proofs.FurtherStepKinds.{Known, Opens, Anew, After, Unsends, Unbelieves, Chooses, Stays, Carries, Flies, Besides, Turns}
 use Rattle.line_laws.proofs.TagPuts.{Away, carried_puts, join_away}
 use Rattle.line_laws.proofs.TagRuns.{Moved, IsNew, Was, StepTags, TagNow, TagStays, accepts_stays, event_tags, next_tags, none_took, put_same, same_moved}
-use Rattle.line_laws.proofs.TagRuns.{told_tags}
+use Rattle.line_laws.proofs.TagRuns.{after_tags}
 use Rattle.line_laws.proofs.TagRuns.{Stays as Remains, Rises}
 use Rattle.line_laws.proofs.StepKinds.{IsStep}
 use Rattle.line_laws.proofs.TracesRight.{Good, right}
@@ -92,10 +92,10 @@ record TagsKept (v u : World) : Type 0 where
 same_kept : (v u : World) → u.nodes ≡ v.nodes → u.events ≡ v.events → TagsKept v u
 same_kept v u nodes events = record { at = λ n y here. (y, sym (ap (λ ns. slice_get ns n) nodes) ∙ here, λ t e. e); more = ap length nodes; events = events }
 
-told_kept : {A : Type 0} (ciphers : Ciphers) (v : World) (number : ℕ) (x : Node) (d : NodeStep A) → node_at v number ≡ Some x → TagStays x d.node
+after_kept : {A : Type 0} (ciphers : Ciphers) (v : World) (number : ℕ) (x : Node) (d : NodeStep A) → node_at v number ≡ Some x → TagStays x d.node
     → TagsKept v (world_after ciphers v number d)
 unfolding world_after
-told_kept ciphers v number x d there leaves = record { at = at; more = length-set v.nodes number d.node; events = refl }
+after_kept ciphers v number x d there leaves = record { at = at; more = length-set v.nodes number d.node; events = refl }
   where
     at : (n : ℕ) (y : Node) → slice_get (slice_set v.nodes number d.node) n ≡ Some y → (z : Node) × (node_at v n ≡ Some z) × TagStays z y
     at n y here = ⊎_elim
@@ -109,7 +109,7 @@ told_kept ciphers v number x d there leaves = record { at = at; more = length-se
 
 moved_kept : (U : List Outgoing → Type 0) (D : Discovery → Type 0) (ciphers : Ciphers) (v u : World) → Moves U D ciphers v u → TagsKept v u
 moved_kept U D ciphers v u (Stays z) = same_kept v v refl refl
-moved_kept U D ciphers v u (Carries z number x A halted does there is) = told_kept ciphers v number x (acts x halted does) there
+moved_kept U D ciphers v u (Carries z number x A halted does there is) = after_kept ciphers v number x (acts x halted does) there
     (acts_leave x halted does (λ m here. further_away m (does m) (is m here)))
 moved_kept U D ciphers v u (Flies z number x frame there known) = same_kept v u refl refl
 moved_kept U D ciphers v u (Besides z on bs) = same_kept v u refl refl
@@ -181,7 +181,7 @@ module _ (U : List Outgoing → Type 0) (D : Discovery → Type 0) (ciphers : Ci
       let d : NodeStep (Result ChosenAgent ChooseRefusal) = reaches x (beside_at w number) (Err choices.Halted) (λ y. choose_agent own y k w.clock) in
       let leaves = acts_leave x (Err choices.Halted) (with_beside (beside_at w number) (λ y. choose_agent own y k w.clock))
       (λ m here. choice_away m own (beside_at w number) k w.clock) in
-      then_kept w (ran w) (world_after ciphers (ran w) number d) None None ran_tags (told_kept ciphers (ran w) number x d there leaves) refl
+      then_kept w (ran w) (world_after ciphers (ran w) number d) None None ran_tags (after_kept ciphers (ran w) number x d there leaves) refl
 
   pub line_tags : (event : Event) (s : Step) → IsLineStep U D ciphers w event s → Counts s
   unfolding world_after
@@ -190,18 +190,18 @@ module _ (U : List Outgoing → Type 0) (D : Discovery → Type 0) (ciphers : Ci
       (record { nodes = same_moved ciphers w; more = omega arith; took = none_took w (record (set_up w) { checks_on = true }) }, refl)
   line_tags event s (Anew e v t moves silent) = let k = moved_kept U D ciphers (ran w) v moves in
       (then_kept w (ran w) v None t.sent ran_tags k silent.sent, k.events)
-  line_tags event s (After e r v t is good runs moves tells) =
+  line_tags event s (After e r v t is good runs moves same_words) =
       let o = old_tags e (Ok r) is in
       let k = moved_kept U D ciphers r.0 v moves in
-      (then_kept w r.0 v r.1.sent t.sent o.0 k tells.sent, k.events ∙ o.1)
-  line_tags event s (Unsends e r v t is good runs moves tells) =
+      (then_kept w r.0 v r.1.sent t.sent o.0 k same_words.sent, k.events ∙ o.1)
+  line_tags event s (Unsends e r v t is good runs moves same_words) =
       let o = old_tags e (Ok r) is in
       let k = moved_kept U D ciphers r.0 v moves in
-      let a = then_kept w r.0 v r.1.sent t.sent o.0 k tells.sent in
+      let a = then_kept w r.0 v r.1.sent t.sent o.0 k same_words.sent in
       (as_sent v (sends_nothing w (v, t)).0 t.sent a refl, k.events ∙ o.1)
   line_tags event s (Unbelieves e number x octets got there says comes is) =
       let d = stays (accepting ciphers x octets).node (only said.Blacklisted) in
-      let a = told_tags ciphers fits w ok (ran w) number x d (same_moved ciphers w) refl there
+      let a = after_tags ciphers fits w ok (ran w) number x d (same_moved ciphers w) refl there
       (λ t q. Remains (accepts_stays ciphers fits w ok x octets t q)) in
       (as_sent (world_after ciphers (ran w) number d) _ None a refl, refl)
   line_tags event s (Chooses number k x psk ne there e) =

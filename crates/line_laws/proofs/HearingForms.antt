@@ -33,8 +33,8 @@ use Rattle.node_rules.specs.Hearing.{hear_error, loses, pass_error_on, report_by
 use Rattle.node_rules.specs.Hearing.{hear_sealed, is_joining, hear_plain, hear_unit, hear_unit_in, hear}
 use Rattle.node_rules.proofs.Words.{IsDone, learns_done, sends_on_done, answers_done, goes_done, error_done, error_on_done}
 use Rattle.line_laws.proofs.Planned.{Planned, Refuses, Keeps, checked_planned, choose_planned, sealed_planned}
-use Rattle.line_laws.proofs.Made.{RingWord, Given, IsCome, IsTold, Offered, ByRequest, ByReply, IsLess, Whole, Part, Carried, RankFits, mesh_of, ByError, OnWay}
-use Rattle.line_laws.proofs.Made.{IsAlone, Unnoted, Alone, Answers, Relays, Passes, Tells, Forwards, Made, Starts, Ranks, Numbers, Loses, Goes, Leaves}
+use Rattle.line_laws.proofs.Made.{RingWord, Given, IsCome, MessageCame, Offered, ByRequest, ByReply, IsLess, Whole, Part, Carried, RankFits, mesh_of, ByError, OnWay}
+use Rattle.line_laws.proofs.Made.{IsAlone, Unnoted, Alone, Answers, Relays, Passes, SaysTheSame, Forwards, Made, Starts, Ranks, Numbers, Loses, Goes, Leaves}
 
 -- # What a station answers beside the store
 
@@ -123,79 +123,79 @@ module _ (W : RingWord → Type 0) (g : Given) (l : StationMemory) where
   unfolding empty_draft with_rank with_own_number
   numbered_made own by origin rank here p o left = Leaves own origin by rank _ (Numbers _ (Ranks by origin rank (empty_draft l) Starts o p.fits) left) here o
 
-  answers_made : (own by origin n c dest : ℕ) (rank : Rank) → IsTold g by true (Rreq n c origin dest) → address_of l ≡ Some own
+  answers_made : (own by origin n c dest : ℕ) (rank : Rank) → MessageCame g by true (Rreq n c origin dest) → address_of l ≡ Some own
       → RankPasses l own origin rank g.now → Offered g (address_of l) by origin rank → numbers_spent l ≡ false
       → Made W g (empty_draft l) (goes by (units.Local 1 (messages.spelling (Rrep (l.own_number.last + 1) 0 own origin))) 0
       (offers_numbered own origin rank by g.now l))
   unfolding empty_draft with_rank with_own_number leave
-  answers_made own by origin n c dest rank told here p o left =
-      Goes _ _ _ _ (numbered_made own by origin rank here p o left) (Answers own by origin _ n c dest here refl (omega arith) told) Unnoted
+  answers_made own by origin n c dest rank came_so here p o left =
+      Goes _ _ _ _ (numbered_made own by origin rank here p o left) (Answers own by origin _ n c dest here refl (omega arith) came_so) Unnoted
 
   offered_after : (own by origin : ℕ) (rank : Rank) → Offered g (address_of l) by origin rank
       → Offered g (address_of (offers own origin rank by g.now l).memory) by origin rank
   unfolding empty_draft with_rank leave
   offered_after own by origin rank o = o
 
-  relays_made : (own by origin dest n c : ℕ) (rank : Rank) → IsTold g by true (Rreq n c origin dest) → address_of l ≡ Some own
+  relays_made : (own by origin dest n c : ℕ) (rank : Rank) → MessageCame g by true (Rreq n c origin dest) → address_of l ≡ Some own
       → RankPasses l own origin rank g.now → Offered g (address_of l) by origin rank
       → Made W g (empty_draft l) (goes to_all (units.Local 1 (messages.spelling (Rreq rank.number rank.cost origin dest))) 0
       (offers own origin rank by g.now l))
-  relays_made own by origin dest n c rank told here p o = Goes _ _ _ _ (offer_made own by origin rank here p o)
-      (Relays by origin dest n c rank (offered_after own by origin rank o) (record { before = empty_draft l; own = own; is = refl }) told) Unnoted
+  relays_made own by origin dest n c rank came_so here p o = Goes _ _ _ _ (offer_made own by origin rank here p o)
+      (Relays by origin dest n c rank (offered_after own by origin rank o) (record { before = empty_draft l; own = own; is = refl }) came_so) Unnoted
 
   begun_hop : (to hop : ℕ) → next_hop l to ≡ Some hop → next_hop (empty_draft l).memory to ≡ Some hop
   unfolding empty_draft
   begun_hop to hop e = e
 
-  passes_made : (own by origin to hop n c : ℕ) (rank : Rank) → IsTold g by false (Rrep n c origin to) → next_hop l to ≡ Some hop → address_of l ≡ Some own
+  passes_made : (own by origin to hop n c : ℕ) (rank : Rank) → MessageCame g by false (Rrep n c origin to) → next_hop l to ≡ Some hop → address_of l ≡ Some own
       → RankPasses l own origin rank g.now → Offered g (address_of l) by origin rank
       → Made W g (empty_draft l) (goes hop (units.Local 1 (messages.spelling (Rrep rank.number rank.cost origin to))) 0 (offers own origin rank by g.now l))
-  passes_made own by origin to hop n c rank told there here p o = Goes _ _ _ _ (offer_made own by origin rank here p o)
-      (Passes by origin to hop n c rank (offered_after own by origin rank o) (record { before = empty_draft l; own = own; is = refl }) told
+  passes_made own by origin to hop n c rank came_so there here p o = Goes _ _ _ _ (offer_made own by origin rank here p o)
+      (Passes by origin to hop n c rank (offered_after own by origin rank o) (record { before = empty_draft l; own = own; is = refl }) came_so
       (begun_hop to hop there)) Unnoted
 
   -- # Route messages
 
-  request_is : (own by number c origin dest : ℕ) → address_of l ≡ Some own → IsTold g by true (Rreq number c origin dest)
+  request_is : (own by number c origin dest : ℕ) → address_of l ≡ Some own → MessageCame g by true (Rreq number c origin dest)
       → Is (hear_request l own by origin dest (rank_over number c g.cost) g.now)
-  request_is own by number c origin dest here told = checked_planned (λ e.
+  request_is own by number c origin dest here came_so = checked_planned (λ e.
       let p = rank_passes l own origin (rank_over number c g.cost) g.now e in
-      let o = ByRequest own number c origin dest here p.apart p.cost told in
+      let o = ByRequest own number c origin dest here p.apart p.cost came_so in
       choose_planned (λ sought. choose_planned (λ spent. Refuses _)
-      (λ left. sealed_planned _ _ (answers_made own by origin number c dest _ told here p o left, answers_done l own origin _ by g.now _ _ _, tt)))
-      (λ other. sealed_planned _ _ (relays_made own by origin dest number c _ told here p o, sends_on_done l own origin _ by g.now _ _ _, tt)))
+      (λ left. sealed_planned _ _ (answers_made own by origin number c dest _ came_so here p o left, answers_done l own origin _ by g.now _ _ _, tt)))
+      (λ other. sealed_planned _ _ (relays_made own by origin dest number c _ came_so here p o, sends_on_done l own origin _ by g.now _ _ _, tt)))
 
-  reply_for_is : (own by number c origin to : ℕ) (hop : Option ℕ) → next_hop l to ≡ hop → address_of l ≡ Some own → IsTold g by false (Rrep number c origin to)
+  reply_for_is : (own by number c origin to : ℕ) (hop : Option ℕ) → next_hop l to ≡ hop → address_of l ≡ Some own → MessageCame g by false (Rrep number c origin to)
       → Is (hear_reply_for l own by origin to (rank_over number c g.cost) g.now hop)
-  reply_for_is own by number c origin to None there here told = Refuses _
-  reply_for_is own by number c origin to (Some hop) there here told = checked_planned (λ e.
+  reply_for_is own by number c origin to None there here came_so = Refuses _
+  reply_for_is own by number c origin to (Some hop) there here came_so = checked_planned (λ e.
       let p = rank_passes l own origin (rank_over number c g.cost) g.now e in
       sealed_planned _ _ (
-        passes_made own by origin to hop number c _ told there here p (ByReply own number c origin to here p.apart p.cost told),
+        passes_made own by origin to hop number c _ came_so there here p (ByReply own number c origin to here p.apart p.cost came_so),
         sends_on_done l own origin _ by g.now _ _ _,
         tt,
       ))
 
-  reply_is : (own by number c origin to : ℕ) → address_of l ≡ Some own → IsTold g by false (Rrep number c origin to)
+  reply_is : (own by number c origin to : ℕ) → address_of l ≡ Some own → MessageCame g by false (Rrep number c origin to)
       → Is (hear_reply l own by origin to (rank_over number c g.cost) g.now)
-  reply_is own by number c origin to here told = choose_planned
+  reply_is own by number c origin to here came_so = choose_planned
       (λ mine. checked_planned (λ e.
       let p = rank_passes l own origin (rank_over number c g.cost) g.now e in
       sealed_planned _ _ (
-        offer_made own by origin _ here p (ByReply own number c origin to here p.apart p.cost told),
+        offer_made own by origin _ here p (ByReply own number c origin to here p.apart p.cost came_so),
         learns_done l own origin _ by g.now,
         tt,
       )))
-      (λ other. reply_for_is own by number c origin to (next_hop l to) refl here told)
+      (λ other. reply_for_is own by number c origin to (next_hop l to) refl here came_so)
 
   loses_made : (lost by : ℕ) → Made W g (empty_draft l) (loses lost by l)
   loses_made lost by = Loses lost by (empty_draft l) Starts
 
-  pass_error_on_made : (lost to by : ℕ) (hop : Option ℕ) → IsTold g by false (Rerr lost to)
+  pass_error_on_made : (lost to by : ℕ) (hop : Option ℕ) → MessageCame g by false (Rerr lost to)
       → ((h : ℕ) → hop ≡ Some h → next_hop (loses lost by l).memory to ≡ Some h) → Made W g (empty_draft l) (pass_error_on lost to hop (loses lost by l))
-  pass_error_on_made lost to by None told there = loses_made lost by
-  pass_error_on_made lost to by (Some hop) told there =
-      Goes hop _ 0 _ (loses_made lost by) (Tells hop lost to to (ByError by lost to told) (there hop refl)) Unnoted
+  pass_error_on_made lost to by None came_so there = loses_made lost by
+  pass_error_on_made lost to by (Some hop) came_so there =
+      Goes hop _ 0 _ (loses_made lost by) (SaysTheSame hop lost to to (ByError by lost to came_so) (there hop refl)) Unnoted
 
   -- the hop that is left
   hop_left : (b : Bool) (lost to by h : ℕ) → (if b then None else next_hop (loses lost by l).memory to) ≡ Some h → next_hop (loses lost by l).memory to ≡ Some h
@@ -206,18 +206,18 @@ module _ (W : RingWord → Type 0) (g : Given) (l : StationMemory) where
   pass_error_on_done lost to by None = error_done l (λ r. routing.without_next_to r lost by)
   pass_error_on_done lost to by (Some hop) = error_on_done l hop _ 0 (λ r. routing.without_next_to r lost by)
 
-  error_is : (own by lost to : ℕ) → IsTold g by false (Rerr lost to) → Is (hear_error l own by lost to)
-  error_is own by lost to told =
-      sealed_planned _ _ (pass_error_on_made lost to by _ told (hop_left (to == own) lost to by), pass_error_on_done lost to by _, tt)
+  error_is : (own by lost to : ℕ) → MessageCame g by false (Rerr lost to) → Is (hear_error l own by lost to)
+  error_is own by lost to came_so =
+      sealed_planned _ _ (pass_error_on_made lost to by _ came_so (hop_left (to == own) lost to by), pass_error_on_done lost to by _, tt)
 
-  message_is : (own by : ℕ) (all : Bool) (message : Message) → address_of l ≡ Some own → IsTold g by all message
+  message_is : (own by : ℕ) (all : Bool) (message : Message) → address_of l ≡ Some own → MessageCame g by all message
       → Is (hear_message l own by all g.cost g.now message)
-  message_is own by true (Rreq number c origin dest) here told = request_is own by number c origin dest here told
-  message_is own by true (Rrep number c origin to) here told = Refuses _
-  message_is own by true (Rerr lost to) here told = Refuses _
-  message_is own by false (Rreq number c origin dest) here told = Refuses _
-  message_is own by false (Rrep number c origin to) here told = reply_is own by number c origin to here told
-  message_is own by false (Rerr lost to) here told = error_is own by lost to told
+  message_is own by true (Rreq number c origin dest) here came_so = request_is own by number c origin dest here came_so
+  message_is own by true (Rrep number c origin to) here came_so = Refuses _
+  message_is own by true (Rerr lost to) here came_so = Refuses _
+  message_is own by false (Rreq number c origin dest) here came_so = Refuses _
+  message_is own by false (Rrep number c origin to) here came_so = reply_is own by number c origin to here came_so
+  message_is own by false (Rerr lost to) here came_so = error_is own by lost to came_so
 
   -- # Units over the mesh for other nodes
 
@@ -225,7 +225,7 @@ module _ (W : RingWord → Type 0) (g : Given) (l : StationMemory) where
       → Is (report_by l mesh hop)
   report_is by unit mesh None came has there = Refuses _
   report_is by unit mesh (Some hop) came has there = sealed_planned _ _ (
-    Goes hop _ 0 _ Starts (Tells hop mesh.to mesh.origin mesh.origin (OnWay by unit mesh came has) (begun_hop mesh.origin hop there)) Unnoted,
+    Goes hop _ 0 _ Starts (SaysTheSame hop mesh.to mesh.origin mesh.origin (OnWay by unit mesh came has) (begun_hop mesh.origin hop there)) Unnoted,
     goes_done l hop _ 0,
     tt,
   )

@@ -175,10 +175,10 @@ module _ (ciphers : Ciphers) (w : World) (number : ℕ) (x c : Node) (psk : Key)
   LeftBy (Ok r) = WasLeft r.0
   LeftBy (Err fault) = Unit {0}
 
-  told_left : (u : World) (d : NodeStep (Result Granted CoordinatorRefusal)) (g : Granted) → u.nodes ≡ w.nodes → d.node ≡ order.node → number ≢ 0
+  after_left : (u : World) (d : NodeStep (Result Granted CoordinatorRefusal)) (g : Granted) → u.nodes ≡ w.nodes → d.node ≡ order.node → number ≢ 0
       → WasLeft (provisioned ciphers (world_after ciphers u 0 d) number x g).0
   unfolding world_after
-  told_left u d g same left ne = record {
+  after_left u d g same left ne = record {
     other = ne;
     node = d.node;
     there =
@@ -192,7 +192,7 @@ module _ (ciphers : Ciphers) (w : World) (number : ℕ) (x c : Node) (psk : Key)
     where
       by_answer : number ≢ 0 → (r : Result Granted CoordinatorRefusal) → order.answer ≡ r → LeftBy (depot_by ciphers w number x order)
       by_answer ne (Err reason) e = rw e tt
-      by_answer ne (Ok g) e = rw e (told_left (set_up w) (record order { answer = Ok g }) g refl refl ne)
+      by_answer ne (Ok g) e = rw e (after_left (set_up w) (record order { answer = Ok g }) g refl refl ne)
 
       by_test : (b : Bool) → ((number == 0) || is_some (node_address x)) ≡ b
           → LeftBy (if b then Err faults.Setup else option_map_or

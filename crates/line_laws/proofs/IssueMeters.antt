@@ -307,11 +307,11 @@ module _ (x : Identity) (m : Memory) (now : ℕ) (reads : IfSome m.station.ring 
   near_is agent _ are = Refuses _
 
   order_is : (b : JoinBody) → AreOctets (rest_of b) → ((index : ℕ) → b ≡ body.Activate index → index ≤ 1) → Is (hear_order x m b now)
-  order_is (body.Challenge eap) are told = challenged_is ByCommand eap are
-  order_is (body.Accept identifier) are told = noted_is
-  order_is body.Kick are told = kicked_is
-  order_is (body.Activate index) are told = activated_is index (told index refl)
-  order_is _ are told = Refuses _
+  order_is (body.Challenge eap) are order = challenged_is ByCommand eap are
+  order_is (body.Accept identifier) are order = noted_is
+  order_is body.Kick are order = kicked_is
+  order_is (body.Activate index) are order = activated_is index (order index refl)
+  order_is _ are order = Refuses _
 
   join_is : (octets : List ℕ) (way : Way) (join : JoinMessage) → AreOctets (rest_of join.body) → join_in octets ≡ Some join → Is (hear_join x m way join now)
   join_is octets (Air from) join are read = carry_up_is from join join.body

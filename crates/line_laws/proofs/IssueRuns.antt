@@ -124,9 +124,9 @@ pub kept : (w : World) (given : List Issued) (s : Step) → StepKeyed w given s 
 kept w given s (Fails fault) = tt
 kept w given s (Taken r f) = f
 
-pub all_of_one : {A : Type 0} (told : Trace → List A) (xs : List Entry) (x : Entry) → all_of told (xs ++ x ∷ []) ≡ all_of told xs ++ told x.trace
-all_of_one told [] x = append-nil (told x.trace)
-all_of_one told (y ∷ ys) x = ap (λ zs. told y.trace ++ zs) (all_of_one told ys x) ∙ sym (append_assoc (told y.trace) (all_of told ys) (told x.trace))
+pub all_of_one : {A : Type 0} (listed : Trace → List A) (xs : List Entry) (x : Entry) → all_of listed (xs ++ x ∷ []) ≡ all_of listed xs ++ listed x.trace
+all_of_one listed [] x = append-nil (listed x.trace)
+all_of_one listed (y ∷ ys) x = ap (λ zs. listed y.trace ++ zs) (all_of_one listed ys x) ∙ sym (append_assoc (listed y.trace) (all_of listed ys) (listed x.trace))
 
 abbrev pub EntryFlies : Entry → Type 0
 EntryFlies x = All FlightFits x.after.flights

@@ -96,7 +96,7 @@ use Rattle.line_laws.proofs.IssueCalls.{Quietly, quiet_coordinator, send_quietly
 use Rattle.line_laws.proofs.IssueCalls.{accept_quietly, hears_coordinator, allow_coordinator, depot_coordinator, rekey_coordinator, activate_self_coordinator}
 use Rattle.line_laws.proofs.IssueCalls.{challenge_coordinator, activate_coordinator, kick_coordinator}
 pub use Rattle.line_laws.proofs.ReceivedKeys.{keyed_same, no_keys, took_same}
-use Rattle.line_laws.proofs.IssueWorlds.{Keyed, IsMeter, same_keyed, told_meter, told_coordinator, told_here, keyed_more}
+use Rattle.line_laws.proofs.IssueWorlds.{Keyed, IsMeter, same_keyed, after_meter, after_coordinator, after_here, keyed_more}
 use Rattle.node_rules.specs.Accepting.{same_eui}
 use Rattle.line_events.specs.Events.{IsEui}
 
@@ -105,10 +105,10 @@ pub data StepKeyed (w : World) (given : List Issued) : Step → Type 0 where
   Taken : (r : World × Trace) → (r.1.happened.forged ≡ false → Keyed r.0 (given ++ r.1.issued)) → StepKeyed w given (Ok r)
 
 -- the answer does not matter
-told_as : {A B : Type 0} (ciphers : Ciphers) (w : World) (number : ℕ) (reads : A → B) (d : NodeStep A) (given : List Issued)
+after_as : {A B : Type 0} (ciphers : Ciphers) (w : World) (number : ℕ) (reads : A → B) (d : NodeStep A) (given : List Issued)
     → Keyed (world_after ciphers w number d) given → Keyed (world_after ciphers w number (answering reads d)) given
 unfolding world_after
-told_as ciphers w number reads d given k = same_keyed _ _ given k refl refl
+after_as ciphers w number reads d given k = same_keyed _ _ given k refl refl
 
 pub or_false : (a b : Bool) → (a || b) ≡ false → b ≡ false
 or_false true b e = absurd (cc)
@@ -119,13 +119,13 @@ module _ (ciphers : Ciphers) (fits : KeepsRanges ciphers) where
   sized_at x m ok there = subst (λ o. IfSome o IsMemorySized) there ok.sized
 
   -- a call that leaves the ring, the session and the book
-  pub quiet_told_at : {A : Type 0} (w : World) (given : List Issued) (k : Keyed w given) (number : ℕ) (x : Node) → node_at w number ≡ Some x → NodeOk x
+  pub quiet_after_at : {A : Type 0} (w : World) (given : List Issued) (k : Keyed w given) (number : ℕ) (x : Node) → node_at w number ≡ Some x → NodeOk x
       → (halted : A) (plan : Memory → Plan Memory A)
       → ((m : Memory) → x.memory ≡ Some m → IsMemorySized m → Quietly m (plan m)) → Keyed (world_after ciphers w number (acts x halted plan)) given
-  quiet_told_at w given k number x there ok halted plan q = ⊎_elim
+  quiet_after_at w given k number x there ok halted plan q = ⊎_elim
       (λ (e : number ≡ 0). subst (Keyed _) (append-nil given)
-      (told_coordinator ciphers w number x (acts x halted plan) there (quiet_did e).eui given [] k e (quiet_did e)))
-      (λ (ne : number ≢ 0). let d = meter_did ne in told_meter ciphers w number x (acts x halted plan) there d.eui given k ne d)
+      (after_coordinator ciphers w number x (acts x halted plan) there (quiet_did e).eui given [] k e (quiet_did e)))
+      (λ (ne : number ≢ 0). let d = meter_did ne in after_meter ciphers w number x (acts x halted plan) there d.eui given k ne d)
       (cases_eq number 0)
     where
       quiet_did : number ≡ 0 → CoordinatorDid k.book given [] x (acts x halted plan)
@@ -146,21 +146,21 @@ module _ (ciphers : Ciphers) (fits : KeepsRanges ciphers) where
             made = subst (Each (TagOk k.book given)) (sym t.made) tt;
           })
 
-  pub quiet_told : {A : Type 0} (w : World) (given : List Issued) (k : Keyed w given) (number : ℕ) (x : Node) → node_at w number ≡ Some x → NodeOk x
+  pub quiet_after : {A : Type 0} (w : World) (given : List Issued) (k : Keyed w given) (number : ℕ) (x : Node) → node_at w number ≡ Some x → NodeOk x
       → (halted : A) (plan : Memory → Plan Memory A)
       → ((m : Memory) → IsMemorySized m → Quietly m (plan m)) → Keyed (world_after ciphers w number (acts x halted plan)) given
-  quiet_told w given k number x there ok halted plan q = quiet_told_at w given k number x there ok halted plan (λ m here sized. q m sized)
+  quiet_after w given k number x there ok halted plan q = quiet_after_at w given k number x there ok halted plan (λ m here sized. q m sized)
 
   -- a call of a meter by itself
-  pub own_told : {A : Type 0} (w : World) (given : List Issued) (k : Keyed w given) (number : ℕ) (x : Node) → number ≢ 0 → node_at w number ≡ Some x → NodeOk x
+  pub own_after : {A : Type 0} (w : World) (given : List Issued) (k : Keyed w given) (number : ℕ) (x : Node) → number ≢ 0 → node_at w number ≡ Some x → NodeOk x
       → (halted : A) (plan : Memory → Plan Memory A)
       → ((m : Memory) → IfSome m.station.ring IsReadable → PeerIs x.eui m.session → MeterPlan x.eui m.station.ring None (plan m))
       → ((m : Memory) → (plan m).opened ≡ []) → Keyed (world_after ciphers w number (acts x halted plan)) given
-  own_told {A = A} w given k number x ne there ok halted plan f none =
+  own_after {A = A} w given k number x ne there ok halted plan f none =
       let h = k.meters number x ne there in
       let d : MeterDid k.book given x (acts x halted plan) = meter_acts k.book given x halted plan w.made ok h k.made (λ t among. absurd (no_tag t among))
       (λ a. None) (λ m here kept session. f m kept.station.range.ring session) in
-      told_meter ciphers w number x (acts x halted plan) there d.eui given k ne d
+      after_meter ciphers w number x (acts x halted plan) there d.eui given k ne d
     where
       no_tag : (t : PairTag) → Among t (acts x halted plan).opened → ⊥
       no_tag t among = none_among t (acts x halted plan).opened (acts_opened x halted plan none) among
@@ -212,8 +212,8 @@ module _ (ciphers : Ciphers) (fits : KeepsRanges ciphers) (w : World) (ok : Worl
   acted_quiet : {A : Type 0} (number : ℕ) (x : Node) (reads : A → Answer) (halted : A) (plan : Memory → Plan Memory A) → node_at w number ≡ Some x
       → ((m : Memory) → IsMemorySized m → Quietly m (plan m)) → Good (Ok (acted ciphers w number (answering reads (acts x halted plan))))
   acted_quiet number x reads halted plan there q = taken_none _ refl
-      (told_as ciphers (ran w) number reads (acts x halted plan) given
-      (quiet_told ciphers fits (ran w) given ran_keyed number x there (node_ok number x there) halted plan q))
+      (after_as ciphers (ran w) number reads (acts x halted plan) given
+      (quiet_after ciphers fits (ran w) given ran_keyed number x there (node_ok number x there) halted plan q))
 
   rand_keyed : (number : ℕ) (value : Rand) → Good (rand ciphers w number value)
   unfolding rand
@@ -229,8 +229,8 @@ module _ (ciphers : Ciphers) (fits : KeepsRanges ciphers) (w : World) (ok : Worl
       → Good (Ok (sends_by ciphers w from to datagram x address))
   sends_keyed from to datagram x None there = rests _ refl
   sends_keyed from to datagram x (Some a) there =
-      sent_keyed from to datagram _ _ _ refl (told_as ciphers (ran w) from sent_word (acts x (Err sends.Halted) _) given
-      (quiet_told ciphers fits (ran w) given ran_keyed from x there (node_ok from x there) (Err sends.Halted)
+      sent_keyed from to datagram _ _ _ refl (after_as ciphers (ran w) from sent_word (acts x (Err sends.Halted) _) given
+      (quiet_after ciphers fits (ran w) given ran_keyed from x there (node_ok from x there) (Err sends.Halted)
       (λ m. of_station m (calls.send m.station a datagram (w.sends + 1) w.clock)) (λ m sized. send_quietly m sized a datagram (w.sends + 1) w.clock)))
 
   send_keyed : (from to : ℕ) (datagram : List ℕ) → Good (send ciphers w from to datagram)
@@ -239,7 +239,7 @@ module _ (ciphers : Ciphers) (fits : KeepsRanges ciphers) (w : World) (ok : Worl
 
   breaks_keyed : (number : ℕ) (x : Node) (next : Option ℕ) → node_at w number ≡ Some x → Good (Ok (breaks_by ciphers w number x next))
   breaks_keyed number x None there = rests _ refl
-  breaks_keyed number x (Some next) there = taken_none _ refl (quiet_told ciphers fits (ran w) given ran_keyed number x there (node_ok number x there)
+  breaks_keyed number x (Some next) there = taken_none _ refl (quiet_after ciphers fits (ran w) given ran_keyed number x there (node_ok number x there)
       said.Halted _ (λ m sized. broke_quietly m sized next said.Broken))
 
   break_keyed : (number next : ℕ) → Good (breaks ciphers w number next)
@@ -251,8 +251,8 @@ module _ (ciphers : Ciphers) (fits : KeepsRanges ciphers) (w : World) (ok : Worl
   joins_keyed number agent x None psk ne there = rests _ refl
   joins_keyed number agent x (Some a) None ne there = rests _ refl
   joins_keyed number agent x (Some a) (Some psk) ne there =
-      taken_none _ refl (told_as ciphers (ran w) number join_word (acts x (Err joins.Halted) (λ m. meters.join (identity ciphers x psk) m a w.clock)) given
-      (own_told ciphers fits (ran w) given ran_keyed number x ne there (node_ok number x there) (Err joins.Halted)
+      taken_none _ refl (after_as ciphers (ran w) number join_word (acts x (Err joins.Halted) (λ m. meters.join (identity ciphers x psk) m a w.clock)) given
+      (own_after ciphers fits (ran w) given ran_keyed number x ne there (node_ok number x there) (Err joins.Halted)
       (λ m. meters.join (identity ciphers x psk) m a w.clock) (λ m reads session. joins_plan (identity ciphers x psk) m a w.clock reads session)
       (λ m. joins_opened (identity ciphers x psk) m a w.clock)))
 
@@ -264,8 +264,8 @@ module _ (ciphers : Ciphers) (fits : KeepsRanges ciphers) (w : World) (ok : Worl
   leave_keyed : (number : ℕ) → Good (leave ciphers w number)
   unfolding leave
   leave_keyed number =
-      once _ (at_meter number _ (λ ne x there. taken_none _ refl (told_as ciphers (ran w) number leave_word (acts x (Err leaves.Halted) meters.leave) given
-      (own_told ciphers fits (ran w) given ran_keyed number x ne there (node_ok number x there) (Err leaves.Halted) meters.leave
+      once _ (at_meter number _ (λ ne x there. taken_none _ refl (after_as ciphers (ran w) number leave_word (acts x (Err leaves.Halted) meters.leave) given
+      (own_after ciphers fits (ran w) given ran_keyed number x ne there (node_ok number x there) (Err leaves.Halted) meters.leave
       (λ m reads session. leaves_plan x.eui m reads session) leaves_opened))))
 
   lose_keyed : (number : ℕ) → Good (lose w number)
@@ -288,15 +288,15 @@ module _ (ciphers : Ciphers) (fits : KeepsRanges ciphers) (w : World) (ok : Worl
       coordinator_acts ran_keyed.book given c (Err orders.Halted) order [] good h (λ a. None) (λ m here said. refl)
       (λ m here kept. f m (sized_at ciphers fits c m good here) ran_keyed.book (h.ring m.station.ring kept.station.ring.stored) kept.station.range.ring)
 
-  coordinator_told : {A : Type 0} (c : Node) (d : NodeStep A) → node_at w 0 ≡ Some c → CoordinatorDid ran_keyed.book given [] c d
+  coordinator_after : {A : Type 0} (c : Node) (d : NodeStep A) → node_at w 0 ≡ Some c → CoordinatorDid ran_keyed.book given [] c d
       → Keyed (world_after ciphers (ran w) 0 d) given
-  coordinator_told c d there did = subst (Keyed _) (append-nil given) (told_coordinator ciphers (ran w) 0 c d there did.eui given [] ran_keyed refl did)
+  coordinator_after c d there did = subst (Keyed _) (append-nil given) (after_coordinator ciphers (ran w) 0 c d there did.eui given [] ran_keyed refl did)
 
   ordered_keyed : {A : Type 0} (c : Node) (answer : Answer) (order : Memory → Plan Memory (Result A CoordinatorRefusal)) → node_at w 0 ≡ Some c
       → ((m : Memory) → IsMemorySized m → (b : book.Book) → Nought m.station.ring → IfSome m.station.ring IsReadable → CoordinatorPlan b m None (order m))
       → Good (Ok (by_coordinator ciphers w c answer order))
-  ordered_keyed c answer order there f = taken_none _ refl (told_as ciphers (ran w) 0 (ordered_word answer) (acts c (Err orders.Halted) order) given
-      (coordinator_told c (acts c (Err orders.Halted) order) there (order_keyed c answer order there f)))
+  ordered_keyed c answer order there f = taken_none _ refl (after_as ciphers (ran w) 0 (ordered_word answer) (acts c (Err orders.Halted) order) given
+      (coordinator_after c (acts c (Err orders.Halted) order) there (order_keyed c answer order there f)))
 
   abbrev own_of : Node → coordinator_rules.CoordinatorIdentity
   own_of c = record { eui = c.eui; ciphers = ciphers }
@@ -341,7 +341,7 @@ module _ (ciphers : Ciphers) (fits : KeepsRanges ciphers) (w : World) (ok : Worl
   unfolding allow
   allow_keyed number = once _ (at_meter number _ (λ ne x is. at_node 0 _ (λ c there.
       by_option (λ psk. Ok (allowed ciphers w number (acts c (Err orders.Halted) (λ m. coordinator_rules.allow m x.eui psk)))) (psk_of x) (Err faults.Node)
-      (λ psk pair. taken_none _ refl (coordinator_told c _ there (order_keyed c said.Kicked _ there
+      (λ psk pair. taken_none _ refl (coordinator_after c _ there (order_keyed c said.Kicked _ there
       (λ m sized b nought reads. allow_coordinator ciphers fits (own_of c) m sized b nought reads x.eui psk (node_fits number x is).eui
       ((node_fits number x is).psk psk (psk_is x psk pair)))))) (Fails faults.Node))))
 
@@ -353,7 +353,7 @@ module _ (ciphers : Ciphers) (fits : KeepsRanges ciphers) (w : World) (ok : Worl
   same_store number x d there records role eui made peer = ⊎_elim
       (λ (e : number ≡ 0).
       let c = ran_keyed.coordinator x (ap (slice_get w.nodes) (sym e) ∙ there) in
-      subst (Keyed _) (append-nil given) (told_coordinator ciphers (ran w) number x d there eui given [] ran_keyed e
+      subst (Keyed _) (append-nil given) (after_coordinator ciphers (ran w) number x d there eui given [] ran_keyed e
       (record {
         book = ran_keyed.book;
         node = record {
@@ -367,7 +367,7 @@ module _ (ciphers : Ciphers) (fits : KeepsRanges ciphers) (w : World) (ok : Worl
       })))
       (λ (ne : number ≢ 0).
       let h = ran_keyed.meters number x ne there in
-      told_meter ciphers (ran w) number x d there eui given ran_keyed ne
+      after_meter ciphers (ran w) number x d there eui given ran_keyed ne
       (record {
         node = record {
           ring = subst (λ u. RingIn (RingOk ran_keyed.book given u) d.node.store.records) (sym eui)
@@ -510,26 +510,26 @@ module _ (ciphers : Ciphers) (fits : KeepsRanges ciphers) (w : World) (ok : Worl
         made = subst (Each (TagOk b given)) (sym t.made) tt;
       })
 
-  told_answer : {A : Type 0} (number : ℕ) (d : NodeStep A) (r : A) → Keyed (world_after ciphers (ran w) number d) given
+  after_answer : {A : Type 0} (number : ℕ) (d : NodeStep A) (r : A) → Keyed (world_after ciphers (ran w) number d) given
       → Keyed (world_after ciphers (ran w) number (record d { answer = r })) given
   unfolding world_after
-  told_answer number d r h = same_keyed _ _ given h refl refl
+  after_answer number d r h = same_keyed _ _ given h refl refl
 
   received_keyed : (number : ℕ) (forged : Bool) (d : NodeStep Reception)
       → (forged ≡ false → Keyed (world_after ciphers (ran w) number d) (given ++ issued_of d.answer.keyed)) → Good (Ok (received ciphers w number forged d))
   received_keyed number forged d h = Taken _ (λ honest. same_keyed (world_after ciphers (ran w) number d) _ _ (h honest) refl refl)
 
-  told_later : {A : Type 0} (number : ℕ) (reads : A → Reception) (d : NodeStep A) (more : List Issued)
+  after_later : {A : Type 0} (number : ℕ) (reads : A → Reception) (d : NodeStep A) (more : List Issued)
       → Keyed (world_after ciphers (ran w) number d) (given ++ more)
       → Keyed (world_after ciphers (ran w) number (answering reads d)) (given ++ more)
-  told_later number reads d more h = told_as ciphers (ran w) number reads d (given ++ more) h
+  after_later number reads d more h = after_as ciphers (ran w) number reads d (given ++ more) h
 
-  hears_told : (number : ℕ) (x y : Node) (got : Accepted) (cost note now : ℕ) → node_at w number ≡ Some x → NodeOk y → y.role ≡ x.role → y.eui ≡ x.eui
+  hears_after : (number : ℕ) (x y : Node) (got : Accepted) (cost note now : ℕ) → node_at w number ≡ Some x → NodeOk y → y.role ≡ x.role → y.eui ≡ x.eui
       → RoutesFit got
       → (number ≡ 0 → CoordinatorDid ran_keyed.book given [] x (stays y (tt {0}))) → (number ≢ 0 → MeterOk ran_keyed.book given y)
       → list_any (is_forged_tag w.made) (hears ciphers y got cost note now).opened ≡ false
       → Keyed (world_after ciphers (ran w) number (hears ciphers y got cost note now)) (given ++ issued_of (hears ciphers y got cost note now).answer.keyed)
-  hears_told number x y got cost note now there good role eui routes coordinator meter = by_role y.role refl
+  hears_after number x y got cost note now there good role eui routes coordinator meter = by_role y.role refl
     where
       hears_as : Role → NodeStep Reception
       hears_as Coordinator = answering coordinator_reception
@@ -552,7 +552,7 @@ module _ (ciphers : Ciphers) (fits : KeepsRanges ciphers) (w : World) (ok : Worl
           let did = coordinator_hears_did y got cost note now c.book routes good c.node in
           let d = acts y (Err drops.Store) plan in
           let more = issued_of (coordinator_reception d.answer).keyed in
-          told_later number coordinator_reception d more (told_coordinator ciphers (ran w) number x d there (did.eui ∙ eui) given more ran_keyed e
+          after_later number coordinator_reception d more (after_coordinator ciphers (ran w) number x d there (did.eui ∙ eui) given more ran_keyed e
           (record { book = did.book; node = did.node; grows = λ u a h. did.grows u a (c.grows u a h); eui = did.eui ∙ eui; made = did.made })))
           (λ (ne : number ≢ 0). absurd (wrong is ne)) (cases_eq number 0)
       by_role (Meter psk) is honest = ⊎_elim
@@ -561,9 +561,9 @@ module _ (ciphers : Ciphers) (fits : KeepsRanges ciphers) (w : World) (ok : Worl
           let did = meter_hears_did y psk is got cost note now ran_keyed.book routes good (meter ne) ran_keyed.made honest in
           let d = acts y (Err drops.Store) (λ m. meters.hear_meter (identity ciphers y psk) m got cost note now) in
           let none : issued_of (meter_reception d.answer).keyed ≡ [] = ap issued_of (no_keys d.answer) in
-          told_later number meter_reception d _
+          after_later number meter_reception d _
           (subst (Keyed (world_after ciphers (ran w) number d)) (sym (append-nil given) ∙ ap (λ more. given ++ more) (sym none))
-          (told_meter ciphers (ran w) number x d there (did.eui ∙ eui) given ran_keyed ne
+          (after_meter ciphers (ran w) number x d there (did.eui ∙ eui) given ran_keyed ne
           (record { node = did.node; eui = did.eui ∙ eui; role = did.role ∙ role; made = did.made }))))
           (cases_eq number 0)
 
@@ -602,13 +602,13 @@ module _ (ciphers : Ciphers) (fits : KeepsRanges ciphers) (w : World) (ok : Worl
             world_after ciphers (ran w) number (record (acts x (Err frames.Halted) plan) { answer = Err reason }),
             trace_of (happened w (frame_word reason)),
           ) refl
-          (told_answer number (acts x (Err frames.Halted) plan) (Err reason)
-          (quiet_told ciphers fits (ran w) given ran_keyed number x there (node_ok number x there) (Err frames.Halted) plan quiet)))
+          (after_answer number (acts x (Err frames.Halted) plan) (Err reason)
+          (quiet_after ciphers fits (ran w) given ran_keyed number x there (node_ok number x there) (Err frames.Halted) plan quiet)))
       by_answer (Ok got) e =
           let y = (acts x (Err frames.Halted) plan).node in
           let d = hears ciphers y got cost (note_by w octets got.path) w.clock in
           rw e (received_keyed number (forged_by w octets got.path || list_any (is_forged_tag w.made) d.opened) d (λ honest.
-          hears_told number x y got cost (note_by w octets got.path) w.clock there did.node did.role did.eui (routes got e)
+          hears_after number x y got cost (note_by w octets got.path) w.clock there did.node did.role did.eui (routes got e)
           (λ first. let c = coordinator first in record { book = c.book; node = c.node; grows = c.grows; eui = did.eui; made = tt }) (λ ne. (meter ne).node)
           (or_false (forged_by w octets got.path) _ honest)))
 
@@ -634,7 +634,7 @@ module _ (ciphers : Ciphers) (fits : KeepsRanges ciphers) (w : World) (ok : Worl
   preset_keyed : (number : ℕ) (plan : StationMemory → calls.Presetting) → ((m : Memory) → IsMemorySized m → Quietly m (of_station m (plan m.station)))
       → Good (preset ciphers w number plan)
   preset_keyed number plan q = setup _ (at_node number _
-      (λ x there. taken_none _ refl (quiet_told ciphers fits (set_up w) given set_up_keyed number x there (node_ok number x there) (Ok tt) _ q)))
+      (λ x there. taken_none _ refl (quiet_after ciphers fits (set_up w) given set_up_keyed number x there (node_ok number x there) (Ok tt) _ q)))
 
   -- an address of a node is below FFFE
   pub address_low : (x : Node) (address : ℕ) → NodeOk x → node_address x ≡ Some address → address < 0xFFFE
@@ -653,11 +653,11 @@ module _ (ciphers : Ciphers) (fits : KeepsRanges ciphers) (w : World) (ok : Worl
   unfolding world_after
   other_there a b d y far there = slice_get-set_other w.nodes a b d.node far ∙ there
 
-  offered_told : (v : World) → Keyed v given → (number : ℕ) (x : Node) → node_at v number ≡ Some x → NodeOk x → (to cost : ℕ) → to < 0xFFFE → cost ≤ 255
+  offered_after : (v : World) → Keyed v given → (number : ℕ) (x : Node) → node_at v number ≡ Some x → NodeOk x → (to cost : ℕ) → to < 0xFFFE → cost ≤ 255
       → Keyed (world_after ciphers v number (offered_near x to cost w.clock)) given
-  offered_told v kv number x there good to cost short low =
-      told_as ciphers v number (λ _. tt) (acts x (Ok tt) (λ m. of_station m (calls.preset_near m.station to cost w.clock))) given
-      (quiet_told ciphers fits v given kv number x there good (Ok tt) (λ m. of_station m (calls.preset_near m.station to cost w.clock))
+  offered_after v kv number x there good to cost short low =
+      after_as ciphers v number (λ _. tt) (acts x (Ok tt) (λ m. of_station m (calls.preset_near m.station to cost w.clock))) given
+      (quiet_after ciphers fits v given kv number x there good (Ok tt) (λ m. of_station m (calls.preset_near m.station to cost w.clock))
       (λ m sized. near_quietly m sized to cost w.clock short (omega arith)))
 
   near_by_keyed : (a b cost : ℕ) (x y : Node) (p q : Option ℕ) → cost ≤ 255 → node_at w a ≡ Some x → node_at w b ≡ Some y → node_address x ≡ p
@@ -667,8 +667,8 @@ module _ (ciphers : Ciphers) (fits : KeepsRanges ciphers) (w : World) (ok : Worl
   near_by_keyed a b cost x y (Some p) (Some q) low hx hy ep eq =
       branch ((a == b) || (keeps_rank x q || (ranks_full x || ranks_full y))) _ _ (λ _. Fails faults.Setup) (λ may.
       let far : b ≢ a = λ same. eqb-false _ _ (or_parts _ _ may).0 (sym same) in
-      let first = offered_told (set_up w) set_up_keyed a x hx (node_ok a x hx) q cost (address_low y q (node_ok b y hy) eq) low in
-      taken_none _ refl (offered_told (world_after ciphers (set_up w) a (offered_near x q cost w.clock)) first b y
+      let first = offered_after (set_up w) set_up_keyed a x hx (node_ok a x hx) q cost (address_low y q (node_ok b y hy) eq) low in
+      taken_none _ refl (offered_after (world_after ciphers (set_up w) a (offered_near x q cost w.clock)) first b y
       (other_there a b (offered_near x q cost w.clock) y far hy) (node_ok b y hy) p cost (address_low x p (node_ok a x hx) ep) low))
 
   near_keyed : (a b cost : ℕ) → cost ≤ 255 → Good (near ciphers w a b cost)
@@ -844,7 +844,7 @@ module _ (ciphers : Ciphers) (fits : KeepsRanges ciphers) (w : World) (ok : Worl
             session = subst (PeerIs x.eui) (sym rest.0) session;
             made = subst (Each (TagOk kv.book (given ++ issued_by x.eui g))) (sym rest.1) tt;
           }) in
-          told_meter ciphers v number x _ there did.eui (given ++ issued_by x.eui g) kv ne did
+          after_meter ciphers v number x _ there did.eui (given ++ issued_by x.eui g) kv ne did
 
       by_answer : (r : Result Granted CoordinatorRefusal) → (acts c (Err orders.Halted) plan).answer ≡ r
           → Good (depot_by ciphers w number x (acts c (Err orders.Halted) plan))
@@ -855,11 +855,11 @@ module _ (ciphers : Ciphers) (fits : KeepsRanges ciphers) (w : World) (ok : Worl
           let more = issued_by x.eui g in
           let all : CoordinatorDid set_up_keyed.book given [] c
           d = record { book = did.book; node = did.node; grows = did.grows; eui = did.eui; made = did.made } in
-          let first = told_coordinator ciphers (set_up w) 0 c d hc did.eui given [] set_up_keyed refl all in
+          let first = after_coordinator ciphers (set_up w) 0 c d hc did.eui given [] set_up_keyed refl all in
           let kv : Keyed v (given ++ more) = keyed_more v given more (subst (Keyed v) (append-nil given) first) in
           rw e (Taken _ (λ honest. provisioned_keyed g v kv (other_there 0 number d x ne hx) (readable g e)
           (let same = one_book did.book kv.book d.node.store.records did.node.book_kept
-          (kv.coordinator d.node (told_here ciphers (set_up w) 0 c d hc)).book_kept in
+          (kv.coordinator d.node (after_here ciphers (set_up w) 0 c d hc)).book_kept in
           subst (λ (y : book.Book). book.address_of y x.eui ≡ Some g.address) same (address g e))))
 
   depot_keyed : (number : ℕ) → Good (depot ciphers w number)

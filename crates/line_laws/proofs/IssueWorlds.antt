@@ -54,9 +54,9 @@ module _ {A : Type 0} (ciphers : Ciphers) (w : World) (number : ℕ) (x : Node) 
       (λ (e : n ≢ number). record { node = y; is = other_is n y e is; eui = refl })
       (cases_eq n number)
 
-  apart_told : (given : List Issued) → Keyed w given → (i j : ℕ) (y z : Node) → slice_get (slice_set w.nodes number d.node) i ≡ Some y
+  apart_after : (given : List Issued) → Keyed w given → (i j : ℕ) (y z : Node) → slice_get (slice_set w.nodes number d.node) i ≡ Some y
       → slice_get (slice_set w.nodes number d.node) j ≡ Some z → books.eui_number y.eui ≡ books.eui_number z.eui → i ≡ j
-  apart_told given k i j y z a b same =
+  apart_after given k i j y z a b same =
       let p = was i y a in
       let q = was j z b in
       k.apart i j p.node q.node p.is q.is (ap books.eui_number p.eui ∙ same ∙ sym (ap books.eui_number q.eui))
@@ -68,9 +68,9 @@ module _ {A : Type 0} (ciphers : Ciphers) (w : World) (number : ℕ) (x : Node) 
       let none : length (slice_set w.nodes number d.node) ≡ 0 = ap length e in
       omega arith
 
-  pub told_meter : (given : List Issued) (k : Keyed w given) → number ≢ 0 → MeterDid k.book given x d → Keyed (world_after ciphers w number d) given
+  pub after_meter : (given : List Issued) (k : Keyed w given) → number ≢ 0 → MeterDid k.book given x d → Keyed (world_after ciphers w number d) given
   unfolding world_after
-  told_meter given k other did = record {
+  after_meter given k other did = record {
     book = k.book;
     coordinator = λ c is. k.coordinator c (other_is 0 c (λ e. other (sym e)) is);
     meters = λ n y ne is. ⊎_elim
@@ -83,15 +83,15 @@ module _ {A : Type 0} (ciphers : Ciphers) (w : World) (number : ℕ) (x : Node) 
         (subst IsMeter (sym did.role) (k.roles number x other there)))
         (λ (e : n ≢ number). k.roles n y ne (other_is n y e is))
         (cases_eq n number);
-    apart = apart_told given k;
+    apart = apart_after given k;
     still = λ none. absurd (some_left none);
     named = λ n y is. let p = was n y is in subst IsEui p.eui (k.named n p.node p.is);
   }
 
-  pub told_coordinator : (given more : List Issued) (k : Keyed w given) → number ≡ 0 → CoordinatorDid k.book given more x d
+  pub after_coordinator : (given more : List Issued) (k : Keyed w given) → number ≡ 0 → CoordinatorDid k.book given more x d
       → Keyed (world_after ciphers w number d) (given ++ more)
   unfolding world_after
-  told_coordinator given more k first did = record {
+  after_coordinator given more k first did = record {
     book = did.book;
     coordinator = λ c is. subst (CoordinatorOk did.book) (here_is c (ap (slice_get (slice_set w.nodes number d.node)) first ∙ is)) did.node;
     meters = λ n y ne is.
@@ -100,7 +100,7 @@ module _ {A : Type 0} (ciphers : Ciphers) (w : World) (number : ℕ) (x : Node) 
     made = each_append (TagOk did.book (given ++ more)) w.made d.made
         (each_weaker (TagOk k.book given) (TagOk did.book (given ++ more)) (tag_later k.book did.book given more did.grows) w.made k.made) did.made;
     roles = λ n y ne is. k.roles n y ne (other_is n y (λ e. ne (e ∙ first)) is);
-    apart = apart_told given k;
+    apart = apart_after given k;
     still = λ none. absurd (some_left none);
     named = λ n y is. let p = was n y is in subst IsEui p.eui (k.named n p.node p.is);
   }
@@ -120,7 +120,7 @@ keyed_more w given more k = record {
 }
 
 -- the node that is left stands where it was
-pub told_here : {A : Type 0} (ciphers : Ciphers) (w : World) (number : ℕ) (x : Node) (d : NodeStep A) → node_at w number ≡ Some x
+pub after_here : {A : Type 0} (ciphers : Ciphers) (w : World) (number : ℕ) (x : Node) (d : NodeStep A) → node_at w number ≡ Some x
     → node_at (world_after ciphers w number d) number ≡ Some d.node
 unfolding world_after
-told_here ciphers w number x d there = slice_get-set w.nodes number d.node (place_within w.nodes number x there)
+after_here ciphers w number x d there = slice_get-set w.nodes number d.node (place_within w.nodes number x there)

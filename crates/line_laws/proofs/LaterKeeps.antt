@@ -53,30 +53,30 @@ use Rattle.line_laws.specs.Shut.{BookShut, ShutAt}
 use Rattle.line_laws.specs.Sizes.{IsMemorySized}
 use Rattle.line_laws.specs.Tags.{TagOf, TagsOk}
 use Rattle.line_laws.proofs.AddressBook.{Grows}
-use Rattle.line_laws.proofs.AgreeSteps.{acts_nothing, told_nothing}
-use Rattle.line_laws.proofs.BookGrowth.{BookGrows, Goes, quiet_grows, self_goes, told_goes}
+use Rattle.line_laws.proofs.AgreeSteps.{acts_nothing, after_nothing}
+use Rattle.line_laws.proofs.BookGrowth.{BookGrows, Goes, quiet_grows, self_goes, goes_after}
 use Rattle.line_laws.proofs.CustodyKeeps.{DidClean, acts_clean}
-use Rattle.line_laws.proofs.CustodySteps.{falls_on, ran_at, told_at}
-use Rattle.line_laws.proofs.FlightFolds.{address_low, told_senders}
+use Rattle.line_laws.proofs.CustodySteps.{falls_on, ran_at, after_at}
+use Rattle.line_laws.proofs.FlightFolds.{address_low, after_senders}
 use Rattle.line_laws.proofs.HeadsSaid.{spelled_well}
 use Rattle.line_laws.proofs.Homed as homed
 use Rattle.line_laws.proofs.Homes.{addressed, at_length, homes_grow}
 use Rattle.line_laws.proofs.CustodyTrue.{SentIsOf}
 use Rattle.line_laws.proofs.Frontiers.{Numbered, same_low}
 use Rattle.line_laws.proofs.IssueCalls.{Quietly}
-use Rattle.line_laws.proofs.IssueSteps.{quiet_told}
-use Rattle.line_laws.proofs.IssueWorlds.{told_coordinator, told_meter}
+use Rattle.line_laws.proofs.IssueSteps.{quiet_after}
+use Rattle.line_laws.proofs.IssueWorlds.{after_coordinator, after_meter}
 use Rattle.line_laws.proofs.MarkOrder.{raised_same}
 use Rattle.line_laws.proofs.RankSaid.{FrameBacked}
 use Rattle.line_laws.proofs.RouteSteps.{counts_hold}
 use Rattle.line_laws.proofs.Senders.{AreFrom}
-use Rattle.line_laws.proofs.ShutSteps.{quiet_shut, told_shut}
+use Rattle.line_laws.proofs.ShutSteps.{quiet_shut, after_shut}
 use Rattle.line_laws.proofs.LaterSeals.{acts_send, plan, plan_away, plan_clean, plan_makes, plan_octets, plan_ok, plan_quietly, plan_ranged, plan_ranks}
 use Rattle.node_rules.proofs.NetworkOpens.{network_opens_again}
 use Rattle.line_laws.proofs.LettersRead.{FrameRead, sent_read}
 use Rattle.line_laws.proofs.LiveRuns.{none_falls, some_book}
 use Rattle.line_laws.proofs.LoopRuns.{grow_homes}
-use Rattle.line_laws.proofs.MarkSteps.{Follows, marks_rise, of_did, same_follows, told_follows, told_nodes}
+use Rattle.line_laws.proofs.MarkSteps.{Follows, marks_rise, of_did, same_follows, after_follows, after_nodes}
 use Rattle.line_laws.proofs.Nodes.{DidOk, acts_ok, ring_readable}
 use Rattle.line_laws.proofs.NonceRuns.{later_homes}
 use Rattle.line_laws.proofs.OctetDrafts.{SentOctets}
@@ -85,9 +85,9 @@ use Rattle.line_laws.proofs.RangePlans.{DidRanged, acts_ranged, did_flights}
 use Rattle.line_laws.proofs.RankFold.{IsAt}
 use Rattle.line_laws.proofs.RankPlans.{NodeRanks, acts_ranks, same_ranks}
 use Rattle.line_laws.proofs.Readings.{network_ranges}
-use Rattle.line_laws.proofs.RouteParts.{StationStep, step_holds, told_step}
+use Rattle.line_laws.proofs.RouteParts.{StationStep, step_holds, after_step}
 use Rattle.line_laws.proofs.TagRuns.{TagStays, acts_stays}
-use Rattle.line_laws.proofs.Worlds.{at_place, counts_ok, told_ok, within}
+use Rattle.line_laws.proofs.Worlds.{at_place, counts_ok, ok_after, within}
 
 -- flights stay where more come after them
 keeps_more : (fs gs : List Flight) → KeepsFlights fs (fs ++ gs)
@@ -133,7 +133,7 @@ module _ (given : List Issued) (sent : List Sending) (taken : List Pairing) (all
         (λ m here k is. plan_clean ends to unit target may S (home number) m k is);
     octets = acts_send SentOctets x (Err halted) does (λ m here. plan_octets ends to unit target may m (ring_readable x m good here));
     stays = acts_stays x (Err halted) does (λ m. plan_away ends to unit m);
-    keyed = quiet_told network network_ranges w given h.keyed number x there good (Err halted) does quietly;
+    keyed = quiet_after network network_ranges w given h.keyed number x there good (Err halted) does quietly;
     made = acts_nothing x (Err halted) does (λ m here. plan_makes ends to unit m);
     book = λ first. quiet_grows network network_ranges w h.line h.octets given h.keyed number x (Err halted) does first there quietly;
     shut = λ eui out. quiet_shut eui network network_ranges w h.line h.octets out number x (Err halted) does there quietly;
@@ -170,7 +170,7 @@ module _ (given : List Issued) (sent : List Sending) (taken : List Pairing) (all
         (λ m here k true_is. record { ranged = k; fits = All-nil IsSent; station = true_is; frames = All-nil (SentIsOf S); kept = λ n i some. omega arith });
     octets = acts_send SentOctets x tt does (λ m here. All-nil SentOctets);
     stays = acts_stays x tt does (λ m. log_away ps is);
-    keyed = quiet_told network network_ranges w given h.keyed number x there good tt does quietly;
+    keyed = quiet_after network network_ranges w given h.keyed number x there good tt does quietly;
     made = acts_nothing x tt does (λ m here. refl);
     book = λ first. quiet_grows network network_ranges w h.line h.octets given h.keyed number x tt does first there quietly;
     shut = λ eui out. quiet_shut eui network network_ranges w h.line h.octets out number x tt does there quietly;
@@ -214,7 +214,7 @@ module _ (given : List Issued) (sent : List Sending) (taken : List Pairing) (all
         (λ m here k true_is. further_clean m S (home number) (does m) (one m here) k true_is);
     octets = acts_send SentOctets x halted does (λ m here. further_octets m (does m) (one m here) (ring_readable x m good here));
     stays = acts_stays x halted does (λ m. further_away m (does m) (is m));
-    keyed = quiet_told network network_ranges w given h.keyed number x there good halted does quietly;
+    keyed = quiet_after network network_ranges w given h.keyed number x there good halted does quietly;
     made = acts_nothing x halted does (λ m here. further_makes m (does m) (is m));
     book = λ first. quiet_grows network network_ranges w h.line h.octets given h.keyed number x halted does first there quietly;
     shut = λ eui out. quiet_shut eui network network_ranges w h.line h.octets out number x halted does there quietly;
@@ -263,9 +263,9 @@ module _ (given : List Issued) (sent : List Sending) (taken : List Pairing) (all
     octets = one SentOctets are;
     stays = λ t e. e;
     keyed = ⊎_elim
-        (λ (e : number ≡ 0). subst (Keyed _) (append-nil given) (told_coordinator network w number x (sends_plain frame x) there refl given [] h.keyed e
+        (λ (e : number ≡ 0). subst (Keyed _) (append-nil given) (after_coordinator network w number x (sends_plain frame x) there refl given [] h.keyed e
         (record { book = h.keyed.book; node = coordinator e; grows = λ u a k. k; eui = refl; made = tt })))
-        (λ (ne : number ≢ 0). told_meter network w number x (sends_plain frame x) there refl given h.keyed ne
+        (λ (ne : number ≢ 0). after_meter network w number x (sends_plain frame x) there refl given h.keyed ne
         (record { node = h.keyed.meters number x ne there; eui = refl; role = refl; made = tt }))
         (cases_eq number 0);
     made = refl;
@@ -328,14 +328,14 @@ module _ (given : List Issued) (sent : List Sending) (taken : List Pairing) (all
     -- # The parts
 
     nodes : v.nodes ≡ slice_set w.nodes number d.node
-    nodes = told_nodes network w number d
+    nodes = after_nodes network w number d
 
     flights : v.flights ≡ w.flights ++ flights_of network number d
     unfolding world_after
     flights = refl
 
     line : WorldOk v
-    line = told_ok network network_ranges w number x d h.line there f.did (λ e. absurd (not_both w runs e))
+    line = ok_after network network_ranges w number x d h.line there f.did (λ e. absurd (not_both w runs e))
 
     all_flights : (P : Flight → Type 0) → All P w.flights → All P (flights_of network number d) → All P v.flights
     all_flights P old new = subst (All P) (sym flights) (All-append P w.flights (flights_of network number d) old new)
@@ -354,12 +354,12 @@ module _ (given : List Issued) (sent : List Sending) (taken : List Pairing) (all
     }
 
     joinings : Confirmed v taken
-    joinings = told_nothing network w number x d there f.did.eui taken h.joinings f.made
+    joinings = after_nothing network w number x d there f.did.eui taken h.joinings f.made
 
     -- # Books and homes
 
     on : Goes network network_ranges w h.line h.octets given h.keyed v
-    on = told_goes network network_ranges w h.line h.octets given h.keyed w v number x d (self_goes network network_ranges w h.line h.octets given h.keyed)
+    on = goes_after network network_ranges w h.line h.octets given h.keyed w v number x d (self_goes network network_ranges w h.line h.octets given h.keyed)
         nodes there f.did.eui f.book
 
     same_length : length v.nodes ≡ length w.nodes
@@ -383,7 +383,7 @@ module _ (given : List Issued) (sent : List Sending) (taken : List Pairing) (all
     reads = All-weaker IsSent (FrameRead network) sent_read d.frames f.ranged.frames
 
     station : StationStep network old_homes w v
-    station = told_step network old_homes w number x d there f.ranks reads
+    station = after_step network old_homes w number x d there f.ranks reads
 
     routes : RoutingHolds network (homes_of f.keyed.book v) v
     routes = grow_homes network old_homes (homes_of f.keyed.book v) grown v (step_holds network old_homes w v station h.routes)
@@ -391,7 +391,7 @@ module _ (given : List Issued) (sent : List Sending) (taken : List Pairing) (all
     -- # Marks and live flights
 
     follows : Follows w v
-    follows = told_follows w w v number x d (same_follows w w refl) there nodes (of_did x d f.did)
+    follows = after_follows w w v number x d (same_follows w w refl) there nodes (of_did x d f.did)
 
     falls : LiveFalls live w v None
     falls = none_falls w v follows (λ some.
@@ -432,7 +432,7 @@ module _ (given : List Issued) (sent : List Sending) (taken : List Pairing) (all
     -- # Custody
 
     custody : Custody network live S home v ups
-    custody = falls_on network live S home w v ups (told_at network network_opens_again S home (live w) ups w number x d
+    custody = falls_on network live S home w v ups (after_at network network_opens_again S home (live w) ups w number x d
         (record {
           flights = h.custody.flights;
           ranged = h.custody.ranged;
@@ -452,7 +452,7 @@ module _ (given : List Issued) (sent : List Sending) (taken : List Pairing) (all
       keyed = f.keyed;
       senders = later_homes w v given given h.keyed f.keyed line grows euis
           (subst (KeepsFlights w.flights) (sym flights) (keeps_more w.flights (flights_of network number d))) h.line.rising.homes h.senders
-          (told_senders network w w v number x d refl refl refl refl there f.did.from (λ a e. address_low d.node a f.did.node e));
+          (after_senders network w w v number x d refl refl refl refl there f.did.from (λ a e. address_low d.node a f.did.node e));
       joinings = joinings;
       routes = routes;
       tags = tags;
@@ -464,8 +464,8 @@ module _ (given : List Issued) (sent : List Sending) (taken : List Pairing) (all
       marks = marks_rise w v follows;
       live = falls;
       ranks = station.forward;
-      shut = λ eui out. told_shut eui w v number x d out nodes there (f.shut eui out);
-      senders = told_senders network w w v number x d refl refl refl refl there f.did.from (λ a e. address_low d.node a f.did.node e);
+      shut = λ eui out. after_shut eui w v number x d out nodes there (f.shut eui out);
+      senders = after_senders network w w v number x d refl refl refl refl there f.did.from (λ a e. address_low d.node a f.did.node e);
     }
 
 -- # Events

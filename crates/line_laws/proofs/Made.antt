@@ -44,7 +44,7 @@ pub record IsCome (g : Given) (by : ℕ) (all : Bool) (u : MeshUnit) : Type 0 wh
   pub unit : unit_in got.payload ≡ Some u
 
 -- A route message came.
-pub record IsTold (g : Given) (by : ℕ) (all : Bool) (message : Message) : Type 0 where
+pub record MessageCame (g : Given) (by : ℕ) (all : Bool) (message : Message) : Type 0 where
   pub code : ℕ
   pub body : List ℕ
   pub came : IsCome g by all (units.Local code body)
@@ -54,9 +54,9 @@ pub record IsTold (g : Given) (by : ℕ) (all : Bool) (message : Message) : Type
 -- what a neighbour offers of the way to an address: by a request, by a reply, or of itself in the workshop
 pub data Offered (g : Given) (address : Option ℕ) (by : ℕ) : ℕ → Rank → Type 0 where
   ByRequest : (own number c origin dest : ℕ) → address ≡ Some own → (origin == own) ≡ false → (rank_over number c g.cost).cost ≤ 65535
-      → IsTold g by true (Rreq number c origin dest) → Offered g address by origin (rank_over number c g.cost)
+      → MessageCame g by true (Rreq number c origin dest) → Offered g address by origin (rank_over number c g.cost)
   ByReply : (own number c origin to : ℕ) → address ≡ Some own → (origin == own) ≡ false → (rank_over number c g.cost).cost ≤ 65535
-      → IsTold g by false (Rrep number c origin to) → Offered g address by origin (rank_over number c g.cost)
+      → MessageCame g by false (Rrep number c origin to) → Offered g address by origin (rank_over number c g.cost)
   ByItself : g.near ≡ Some by → Offered g address by by (near_rank g.cost)
 
 -- the unit with one hop less
@@ -100,7 +100,7 @@ mesh_of (units.Local code body) = None
 
 -- an address that can't be reached, and whom it is told: so an error says, or so it is of a unit that came
 pub data IsLost (g : Given) : ℕ → ℕ → Type 0 where
-  ByError : (by lost to : ℕ) → IsTold g by false (Rerr lost to) → IsLost g lost to
+  ByError : (by lost to : ℕ) → MessageCame g by false (Rerr lost to) → IsLost g lost to
   OnWay : (by : ℕ) (unit : MeshUnit) (mesh : Mesh) → IsCome g by false unit → mesh_of unit ≡ Some mesh → IsLost g mesh.to mesh.origin
 
 -- none of the units has a note
@@ -125,14 +125,14 @@ pub data IsSaid (W : RingWord → Type 0) (g : Given) (s d : Draft StationMemory
   Seeks : (own dest number note : ℕ) (load : Load) → address_of d.memory ≡ Some own → d.memory.own_number.last ≡ number → 0 < number → W (Carry dest note load)
       → IsSaid W g s d to_all (units.Local 1 (messages.spelling (Rreq number 0 own dest))) 0
   Answers : (own by origin number n c dest : ℕ) → address_of d.memory ≡ Some own → d.memory.own_number.last ≡ number → 0 < number
-      → IsTold g by true (Rreq n c origin dest) → IsSaid W g s d by (units.Local 1 (messages.spelling (Rrep number 0 own origin))) 0
+      → MessageCame g by true (Rreq n c origin dest) → IsSaid W g s d by (units.Local 1 (messages.spelling (Rrep number 0 own origin))) 0
   Relays : (by origin dest n c : ℕ) (rank : Rank) → Offered g (address_of d.memory) by origin rank → JustRanked g by origin rank d
-      → IsTold g by true (Rreq n c origin dest)
+      → MessageCame g by true (Rreq n c origin dest)
       → IsSaid W g s d to_all (units.Local 1 (messages.spelling (Rreq rank.number rank.cost origin dest))) 0
   Passes : (by origin to hop n c : ℕ) (rank : Rank) → Offered g (address_of d.memory) by origin rank → JustRanked g by origin rank d
-      → IsTold g by false (Rrep n c origin to) → next_hop s.memory to ≡ Some hop
+      → MessageCame g by false (Rrep n c origin to) → next_hop s.memory to ≡ Some hop
       → IsSaid W g s d hop (units.Local 1 (messages.spelling (Rrep rank.number rank.cost origin to))) 0
-  Tells : (hop lost to dest : ℕ) → IsLost g lost to → next_hop d.memory dest ≡ Some hop
+  SaysTheSame : (hop lost to dest : ℕ) → IsLost g lost to → next_hop d.memory dest ≡ Some hop
       → IsSaid W g s d hop (units.Local 1 (messages.spelling (Rerr lost to))) 0
   Forwards : (by hop dest : ℕ) (unit less : MeshUnit) → IsCome g by false unit → IsLess unit less → next_hop d.memory dest ≡ Some hop
       → IsSaid W g s d hop less g.note

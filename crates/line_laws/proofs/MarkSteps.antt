@@ -89,9 +89,9 @@ pub same_follows : (w v : World) → v.nodes ≡ w.nodes → Follows w v
 same_follows w v e =
     record { at = λ n x there. record { node = x; there = ap (λ ns. slice_get ns n) e ∙ there; role = refl; eui = refl; raised = raised_same (marks_of x) } }
 
-pub told_follows : {A : Type 0} (w u v : World) (number : ℕ) (x : Node) (d : NodeStep A) → Follows w u → node_at u number ≡ Some x
+pub after_follows : {A : Type 0} (w u v : World) (number : ℕ) (x : Node) (d : NodeStep A) → Follows w u → node_at u number ≡ Some x
     → v.nodes ≡ slice_set u.nodes number d.node → DidMark x d → Follows w v
-told_follows w u v number x d f there nodes did = record { at = at }
+after_follows w u v number x d f there nodes did = record { at = at }
   where
     here : node_at v number ≡ Some d.node
     here = ap (λ ns. slice_get ns number) nodes ∙ slice_get-set u.nodes number d.node (place_within u.nodes number x there)
@@ -116,10 +116,10 @@ told_follows w u v number x d f there nodes did = record { at = at }
         (λ (ne : n ≢ number). record { node = l.node; there = other n ne ∙ l.there; role = l.role; eui = l.eui; raised = l.raised })
         (cases_eq n number)
 
-pub told_nodes : {A : Type 0} (ciphers : Ciphers) (u : World) (number : ℕ) (d : NodeStep A)
+pub after_nodes : {A : Type 0} (ciphers : Ciphers) (u : World) (number : ℕ) (d : NodeStep A)
     → (world_after ciphers u number d).nodes ≡ slice_set u.nodes number d.node
 unfolding world_after
-told_nodes ciphers u number d = refl
+after_nodes ciphers u number d = refl
 
 -- time
 ticked_raised : (now : ℕ) (x : Node) → (Raised (marks_of x) (marks_of (ticked now x))) × ((ticked now x).role ≡ x.role) × ((ticked now x).eui ≡ x.eui)
@@ -239,15 +239,15 @@ module _ (ciphers : Ciphers) (fits : KeepsRanges ciphers) (w : World) (ok : Worl
   -- one node, of a world with the same nodes
   one_follows : {A : Type 0} (u v : World) (number : ℕ) (x : Node) (d : NodeStep A) → u.nodes ≡ w.nodes → v.nodes ≡ slice_set u.nodes number d.node
       → node_at w number ≡ Some x → DidMark x d → Follows w v
-  one_follows u v number x d e nodes there did = told_follows w u v number x d (same_follows w u e) (ap (λ ns. slice_get ns number) e ∙ there) nodes did
+  one_follows u v number x d e nodes there did = after_follows w u v number x d (same_follows w u e) (ap (λ ns. slice_get ns number) e ∙ there) nodes did
 
   sent_nodes : (from to : ℕ) (datagram : List ℕ) (tag : ℕ) (d : NodeStep Answer)
       → (sending ciphers w from to datagram tag d).0.nodes ≡ slice_set w.nodes from d.node
   sent_nodes from to datagram tag d = by_taken (is_taken d.answer)
     where
       by_taken : (b : Bool) → (sent_if w from to datagram tag b (acted ciphers w from d)).0.nodes ≡ slice_set w.nodes from d.node
-      by_taken true = told_nodes ciphers (ran w) from d
-      by_taken false = told_nodes ciphers (ran w) from d
+      by_taken true = after_nodes ciphers (ran w) from d
+      by_taken false = after_nodes ciphers (ran w) from d
 
   pub follows : (event : Event) (s : Step) → IsStep ciphers w event s → FollowsIn s
   follows event s (Fails e fault) = tt
@@ -265,11 +265,11 @@ module _ (ciphers : Ciphers) (fits : KeepsRanges ciphers) (w : World) (ok : Worl
   follows event s (Rests e quiet) = same_follows w (ran w) refl
   follows event s (Shows number x) = same_follows w (ran w) refl
   follows event s (Acts e number x A halted plan reads there call word asked) =
-      one_follows (ran w) _ number x (answering reads (acts x halted plan)) refl (told_nodes ciphers (ran w) number (answering reads (acts x halted plan)))
+      one_follows (ran w) _ number x (answering reads (acts x halted plan)) refl (after_nodes ciphers (ran w) number (answering reads (acts x halted plan)))
       there (answered x reads _ (call_marks number x A halted plan there call))
   follows event s (BreaksLink number next x a there call) =
       let plan : Memory → Plan Memory Answer = λ m. changing said.Broken (with_station (calls.broke a m.station) m) in
-      one_follows (ran w) _ number x (acts x said.Halted plan) refl (told_nodes ciphers (ran w) number (acts x said.Halted plan)) there
+      one_follows (ran w) _ number x (acts x said.Halted plan) refl (after_nodes ciphers (ran w) number (acts x said.Halted plan)) there
       (call_marks number x Answer said.Halted plan there call)
   follows event s (SendsFrom from to datagram x a there call asked) =
       let plan : Memory → Plan Memory (Result SentHow SendRefusal) = λ m. of_station m (calls.send m.station a datagram (w.sends + 1) w.clock) in
@@ -278,20 +278,20 @@ module _ (ciphers : Ciphers) (fits : KeepsRanges ciphers) (w : World) (ok : Worl
       (answered x sent_word _ (call_marks from x _ (Err sends.Halted) plan there call))
   follows event s (AllowsMeter number y c psk there call meter) =
       let plan : Memory → Plan Memory (Result ℕ CoordinatorRefusal) = λ m. coordinator_rules.allow m y.eui psk in
-      one_follows (ran w) _ 0 c (acts c (Err orders.Halted) plan) refl (told_nodes ciphers (ran w) 0 (acts c (Err orders.Halted) plan)) there
+      one_follows (ran w) _ 0 c (acts c (Err orders.Halted) plan) refl (after_nodes ciphers (ran w) 0 (acts c (Err orders.Halted) plan)) there
       (call_marks 0 c _ (Err orders.Halted) plan there call)
   follows event s (Sets e quiet number x plan there open_is is) =
       one_follows (set_up w) _ number x (acts x (Ok tt) (λ m. of_station m (plan m.station))) refl
-      (told_nodes ciphers (set_up w) number (acts x (Ok tt) (λ m. of_station m (plan m.station)))) there
+      (after_nodes ciphers (set_up w) number (acts x (Ok tt) (λ m. of_station m (plan m.station)))) there
       (call_marks number x _ (Ok tt) (λ m. of_station m (plan m.station)) there (preset_call ciphers w number x plan open_is is))
   follows event s (SetsTwo e quiet a b cost x y p q hx hy apart open_is first second fresh low) =
       let d = offered_near x q cost w.clock in
       let k = offered_near y p cost w.clock in
       let u = world_after ciphers (set_up w) a d in
-      let one : Follows w u = one_follows (set_up w) u a x d refl (told_nodes ciphers (set_up w) a d) hx
+      let one : Follows w u = one_follows (set_up w) u a x d refl (after_nodes ciphers (set_up w) a d) hx
       (answered x (λ _. tt) _ (call_marks a x _ (Ok tt) (λ m. of_station m (calls.preset_near m.station q cost w.clock)) hx first)) in
-      let there : node_at u b ≡ Some y = ap (λ ns. slice_get ns b) (told_nodes ciphers (set_up w) a d) ∙ slice_get-set_other w.nodes a b d.node apart ∙ hy in
-      told_follows w u _ b y k one there (told_nodes ciphers u b k)
+      let there : node_at u b ≡ Some y = ap (λ ns. slice_get ns b) (after_nodes ciphers (set_up w) a d) ∙ slice_get-set_other w.nodes a b d.node apart ∙ hy in
+      after_follows w u _ b y k one there (after_nodes ciphers u b k)
       (answered y (λ _. tt) _ (call_marks b y _ (Ok tt) (λ m. of_station m (calls.preset_near m.station p cost w.clock)) hy second))
   follows event s (Provides number x c psk g d ne open_is hx hc pair same is) =
       let plan : Memory → Plan Memory (Result Granted CoordinatorRefusal) = λ m. coordinator_rules.depot m x.eui psk in
@@ -301,22 +301,22 @@ module _ (ciphers : Ciphers) (fits : KeepsRanges ciphers) (w : World) (ok : Worl
       let u = world_after ciphers (set_up w) 0 d in
       let k = acts x (Ok tt) (λ m. meters.provision m g) in
       let answer : (workshop c x.eui psk).answer ≡ Ok g = ap (λ (z : NodeStep (Result Granted CoordinatorRefusal)). z.answer) (sym same) ∙ is in
-      let one : Follows w u = one_follows (set_up w) u 0 c d refl (told_nodes ciphers (set_up w) 0 d) hc did in
-      let there : node_at u number ≡ Some x = ap (λ ns. slice_get ns number) (told_nodes ciphers (set_up w) 0 d)
+      let one : Follows w u = one_follows (set_up w) u 0 c d refl (after_nodes ciphers (set_up w) 0 d) hc did in
+      let there : node_at u number ≡ Some x = ap (λ ns. slice_get ns number) (after_nodes ciphers (set_up w) 0 d)
       ∙ slice_get-set_other w.nodes 0 number d.node ne ∙ hx in
-      told_follows w u _ number x k one there (told_nodes ciphers u number k)
+      after_follows w u _ number x k one there (after_nodes ciphers u number k)
       (call_marks number x _ (Ok tt) (λ m. meters.provision m g) hx (Provisions psk c g ne pair hc answer))
   follows event s (TurnsDown e number x octets reason d there says comes same is) =
       let kind : IsCall ciphers w number x _ (Err frames.Halted) (λ m. of_station m (accept m.station x.eui (arrived ciphers octets))) = Accepts octets e says
       comes in
       let did : DidMark x d = subst (λ (z : NodeStep (Result Accepted FrameRefusal)). DidMark x z) (sym same)
       (call_marks number x _ (Err frames.Halted) (λ m. of_station m (accept m.station x.eui (arrived ciphers octets))) there kind) in
-      one_follows (ran w) _ number x d refl (told_nodes ciphers (ran w) number d) there did
+      one_follows (ran w) _ number x d refl (after_nodes ciphers (ran w) number d) there did
   follows event s (Hears e number x octets cost got there says comes low is) =
       let a = accepting ciphers x octets in
       let d = hears ciphers a.node got cost (note_by w octets got.path) w.clock in
       let h = heard_marks e number x octets cost got there says comes is in
-      one_follows (ran w) _ number x d refl (told_nodes ciphers (ran w) number d) there (both_marks x a d h.0 h.1)
+      one_follows (ran w) _ number x d refl (after_nodes ciphers (ran w) number d) there (both_marks x a d h.0 h.1)
   follows event s (Loses number f there) = same_follows w _ refl
   follows event s (Ticks seconds) = record {
     at = λ n y there.
@@ -329,11 +329,11 @@ module _ (ciphers : Ciphers) (fits : KeepsRanges ciphers) (w : World) (ok : Worl
           raised = t.0;
         };
   }
-  follows event s (Restarts number x there) = one_follows (ran w) _ number x (restarts x) refl (told_nodes ciphers (ran w) number (restarts x)) there
+  follows event s (Restarts number x there) = one_follows (ran w) _ number x (restarts x) refl (after_nodes ciphers (ran w) number (restarts x)) there
       (of_did x _ (restarts_ok x (good_at number x there)))
   follows event s (Cuts number nth keeps_new x there) =
       let d : NodeStep Answer = stays (record x { store = record x.store { cut = Some (record { nth = nth; keeps_new = keeps_new }) } }) said.Set in
-      one_follows (ran w) _ number x d refl (told_nodes ciphers (ran w) number d) there (record { role = refl; eui = refl; raised = raised_same (marks_of x) })
+      one_follows (ran w) _ number x d refl (after_nodes ciphers (ran w) number d) there (record { role = refl; eui = refl; raised = raised_same (marks_of x) })
 
 -- # Runs
 

@@ -61,7 +61,7 @@ use Rattle.line_rules.specs.Runs.{one_of}
 use Rattle.line_rules.specs.Steps.{Step, acted, blank_node, coordinator_node, happened, heard, hears, identity, is_taken, note_by, offered_near, ran, restarts}
 use Rattle.line_rules.specs.Steps.{sent_if, set_up, tag_of, ticked, world_after, trace_of}
 use Rattle.line_rules.specs.Worlds.{Trace, World, node_at}
-use Rattle.line_rules.proofs.LogPlans.{accept_short, acts_short, leave_leaves, random_leaves, tells_leave}
+use Rattle.line_rules.proofs.LogPlans.{accept_short, acts_short, leave_leaves, random_leaves, acknowledging_leaves}
 use Rattle.line_rules.proofs.LogSteps.{Quiet, acts_quiet, quiet_on, quiet_same}
 use Rattle.plc_base.specs.Fields.{AreOctets}
 use Rattle.plc_base.specs.Grant.{Granted}
@@ -467,7 +467,7 @@ module _ (w : World) (ok : WorldOk w) (flown_are : All FlightFits w.flights) (lo
 
     acked_quiet : (reply : Reply) → Quiet x (acknowledging left reply).node
     acked_quiet reply = quiet_on x left (acknowledging left reply).node left_quiet
-        (acts_quiet left (Err locals.Store) (λ m. acknowledges in_memory reply.to reply.number reply.origin m) (λ m e. tells_leave m reply))
+        (acts_quiet left (Err locals.Store) (λ m. acknowledges in_memory reply.to reply.number reply.origin m) (λ m e. acknowledging_leaves m reply))
 
     nothing_in : (z : Node) → MarkedIn ups number (beside_at w number).log z.store.records z.memory
         → MarkedIn (ups ++ []) number (beside_at w number).log z.store.records z.memory

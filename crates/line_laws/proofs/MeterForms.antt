@@ -70,7 +70,7 @@ pub record IsTaken (g : Given) (x : Identity) (m : Memory) (granted : Granted) :
   pub is : x.ciphers.granted x.psk peer packet ≡ Some granted
 
 -- a meter is told to seal with another key
-pub record IsTold (index : ℕ) : Type 0 where
+pub record IsOrdered (index : ℕ) : Type 0 where
   pub octets : List ℕ
   pub join : JoinMessage
   pub read : join_in octets ≡ Some join
@@ -88,7 +88,7 @@ pub data IsSaidUp (x : Identity) (m : Memory) : JoinMessage → Type 0 where
 pub data RingCause (g : Given) (x : Identity) (m : Memory) : RingWord → Type 0 where
   ToCoordinator : (join : JoinMessage) → IsSaidUp x m join → RingCause g x m (Carry 0 0 (Command (command_of join)))
   ByPacket : (granted : Granted) → IsTaken g x m granted → RingCause g x m (Install granted)
-  ByOrder : (index : ℕ) → IsTold index → RingCause g x m (Activate index)
+  ByOrder : (index : ℕ) → IsOrdered index → RingCause g x m (Activate index)
 
 pub no_fault : {A B : Type 0} (f : A → B) (o : Option A) → option_map f o ≡ None → o ≡ None
 no_fault f None e = refl
@@ -233,10 +233,10 @@ module _ (L : Granted → Type 0) (P : Eui → Key → Type 0) (E : Eui → Type
   kicked_is : Is (kicked m)
   kicked_is = sealed_planned _ _ (leaves_made, search memory_leaves depth 16, tt)
 
-  activated_is : (index : ℕ) → IsTold index → Is (activated m index)
+  activated_is : (index : ℕ) → IsOrdered index → Is (activated m index)
   unfolding empty_draft
-  activated_is index told = choose_planned (λ held. sealed_planned _ _
-      (OnStation _ _ Begins (Rings _ _ Starts (Activates index (ByOrder index told) held)), search memory_leaves depth 16, tt)) (λ none. Refuses _)
+  activated_is index order = choose_planned (λ held. sealed_planned _ _
+      (OnStation _ _ Begins (Rings _ _ Starts (Activates index (ByOrder index order) held)), search memory_leaves depth 16, tt)) (λ none. Refuses _)
 
   noted_is : Is (ends m (empty_draft m) heard.Noted)
   noted_is = sealed_planned _ _ (Begins, search memory_leaves depth 16, tt)
@@ -249,13 +249,13 @@ module _ (L : Granted → Type 0) (P : Eui → Key → Type 0) (E : Eui → Type
   near_is agent body.Decline c = declined_is agent
   near_is agent _ c = Refuses _
 
-  order_is : (b : JoinBody) → ((packet : List ℕ) → b ≡ body.Challenge packet → IsPacket g m packet) → ((index : ℕ) → b ≡ body.Activate index → IsTold index)
+  order_is : (b : JoinBody) → ((packet : List ℕ) → b ≡ body.Challenge packet → IsPacket g m packet) → ((index : ℕ) → b ≡ body.Activate index → IsOrdered index)
       → Is (hear_order x m b g.now)
-  order_is (body.Challenge eap) c told = challenged_is ByCommand eap (c eap refl)
-  order_is (body.Accept identifier) c told = noted_is
-  order_is body.Kick c told = kicked_is
-  order_is (body.Activate index) c told = activated_is index (told index refl)
-  order_is _ c told = Refuses _
+  order_is (body.Challenge eap) c order = challenged_is ByCommand eap (c eap refl)
+  order_is (body.Accept identifier) c order = noted_is
+  order_is body.Kick c order = kicked_is
+  order_is (body.Activate index) c order = activated_is index (order index refl)
+  order_is _ c order = Refuses _
 
   join_is : (octets : List ℕ) → IsBrought g m octets → (way : Way) (join : JoinMessage) → join_in octets ≡ Some join → Is (hear_join x m way join g.now)
   join_is octets brought (Air from) join read = carry_up_is from octets join join.body read

@@ -83,29 +83,29 @@ no_some x e = cc
 
 pub heard_offers : (got : Accepted) (cost note now : ℕ) → RoutesFit got → (address : Option ℕ) (by origin : ℕ) (rank : Rank)
     → Offered (heard_given got cost note now) address by origin rank → EntryFits (routing.offered_entry origin rank by now)
-heard_offers got cost note now fits address by origin rank (ByRequest own number c o dest here apart few told) =
-    let same : got ≡ told.came.got = same_Some _ _ told.came.is in
-    let h = fits.run by true told.came.key told.code told.body (Rreq number c o dest) (ap (λ (x : Accepted). x.path) same ∙ told.came.path)
-    (ap (λ (x : Accepted). unit_in x.payload) same ∙ told.came.unit) told.read in
+heard_offers got cost note now fits address by origin rank (ByRequest own number c o dest here apart few came_so) =
+    let same : got ≡ came_so.came.got = same_Some _ _ came_so.came.is in
+    let h = fits.run by true came_so.came.key came_so.code came_so.body (Rreq number c o dest) (ap (λ (x : Accepted). x.path) same ∙ came_so.came.path)
+    (ap (λ (x : Accepted). unit_in x.payload) same ∙ came_so.came.unit) came_so.read in
     record { address = h.2; low = h.0.0; number = h.0.1; cost = omega arith }
-heard_offers got cost note now fits address by origin rank (ByReply own number c o to here apart few told) =
-    let same : got ≡ told.came.got = same_Some _ _ told.came.is in
-    let h = fits.run by false told.came.key told.code told.body (Rrep number c o to) (ap (λ (x : Accepted). x.path) same ∙ told.came.path)
-    (ap (λ (x : Accepted). unit_in x.payload) same ∙ told.came.unit) told.read in
+heard_offers got cost note now fits address by origin rank (ByReply own number c o to here apart few came_so) =
+    let same : got ≡ came_so.came.got = same_Some _ _ came_so.came.is in
+    let h = fits.run by false came_so.came.key came_so.code came_so.body (Rrep number c o to) (ap (λ (x : Accepted). x.path) same ∙ came_so.came.path)
+    (ap (λ (x : Accepted). unit_in x.payload) same ∙ came_so.came.unit) came_so.read in
     record { address = h.2; low = h.0.0; number = h.0.1; cost = omega arith }
 heard_offers got cost note now fits address by origin rank (ByItself none) = absurd (no_some _ none)
 
 -- what a frame or a call without a neighbour offers
 pub call_offers : (cost note now : ℕ) (address : Option ℕ) (by origin : ℕ) (rank : Rank) → Offered (call_given cost note now) address by origin rank
     → EntryFits (routing.offered_entry origin rank by now)
-call_offers cost note now address by origin rank (ByRequest own number c o dest here apart few told) = absurd (no_some _ told.came.is)
-call_offers cost note now address by origin rank (ByReply own number c o to here apart few told) = absurd (no_some _ told.came.is)
+call_offers cost note now address by origin rank (ByRequest own number c o dest here apart few came_so) = absurd (no_some _ came_so.came.is)
+call_offers cost note now address by origin rank (ByReply own number c o to here apart few came_so) = absurd (no_some _ came_so.came.is)
 call_offers cost note now address by origin rank (ByItself none) = absurd (no_some _ none)
 
 pub near_offers : (to cost now : ℕ) → to < 0xFFFE → cost < 2 ^ 16 → (address : Option ℕ) (by origin : ℕ) (rank : Rank)
     → Offered (near_given to cost now) address by origin rank → EntryFits (routing.offered_entry origin rank by now)
-near_offers to cost now short low address by origin rank (ByRequest own number c o dest here apart few told) = absurd (no_some _ told.came.is)
-near_offers to cost now short low address by origin rank (ByReply own number c o q here apart few told) = absurd (no_some _ told.came.is)
+near_offers to cost now short low address by origin rank (ByRequest own number c o dest here apart few came_so) = absurd (no_some _ came_so.came.is)
+near_offers to cost now short low address by origin rank (ByReply own number c o q here apart few came_so) = absurd (no_some _ came_so.came.is)
 near_offers to cost now short low address by origin rank (ByItself is) =
     let same : to ≡ by = same_Some _ _ is in
     record { address = subst (λ k. k < 0xFFFE) same short; low = omega arith; number = omega arith; cost = low }
@@ -325,7 +325,7 @@ module _ (role : Role) (m : Memory) (h : IsMemorySized m) where
         fits.granted x.psk taken.peer taken.packet granted are.1 (packet_octets g taken.packet b.got are.0 taken.came refl)
         (ap (λ (c : Ciphers). c.third_fault x.psk taken.peer taken.packet) (sym same) ∙ taken.right)
         (ap (λ (c : Ciphers). c.granted x.psk taken.peer taken.packet) (sym same) ∙ taken.is)
-    meter_words g well w (ByOrder index told) = (read_fits told.join told.octets told.read).index index told.body
+    meter_words g well w (ByOrder index came_so) = (read_fits came_so.join came_so.octets came_so.read).index index came_so.body
 
     pub join_ok : (agent now : ℕ) → PlanOk role m (meters.join x m agent now)
     join_ok agent now = bookless_ok role (RingCause (call_given 0 0 now) x m) (meter_words (call_given 0 0 now) (λ got e. absurd (no_some got e)))

@@ -55,7 +55,7 @@ use Rattle.line_laws.proofs.CoordinatorCalls.{ring_key_octets}
 use Rattle.node_rules.specs.OctetLaws.{WayFits}
 use Rattle.line_laws.proofs.HearingForms.{Handed, HandsUp, HandsOn, Gathers, Completes, MadeOf}
 use Rattle.line_laws.proofs.Made.{Given, IsCome, IsLess, Whole, Part, Carried, Made, Starts, Ranks, Numbers, Tags, Rings, Idles, Loses, Goes, Sends, Waits}
-use Rattle.line_laws.proofs.Made.{Leaves, IsSaid, Seeks, Answers, Relays, Passes, Tells, Forwards}
+use Rattle.line_laws.proofs.Made.{Leaves, IsSaid, Seeks, Answers, Relays, Passes, SaysTheSame, Forwards}
 use Rattle.line_laws.proofs.NodeCalls.{NoWord}
 use Rattle.line_laws.proofs.Planned.{Planned, Refuses, Keeps, Ended}
 use Rattle.line_laws.proofs.StoreFold.{ring_fits}
@@ -271,10 +271,10 @@ bodies_speak own hop (b ∷ bodies) all =
 module _ (g : Given) (comes : (by : ℕ) (all : Bool) (u : MeshUnit) → IsCome g by all u → UnitSpeaks u) where
   said_speaks : (s d : Draft StationMemory) (to : ℕ) (unit : MeshUnit) (note : ℕ) → IsSaid NoWord g s d to unit note → SpellsOctets unit
   said_speaks s d to unit note (Seeks own dest number n load here last some carried) = absurd carried
-  said_speaks s d to unit note (Answers own by origin number n c dest here last some told) = route_octets (Rrep number 0 own origin)
-  said_speaks s d to unit note (Relays by origin dest n c rank o just told) = route_octets (Rreq rank.number rank.cost origin dest)
-  said_speaks s d to unit note (Passes by origin t hop n c rank o just told there) = route_octets (Rrep rank.number rank.cost origin t)
-  said_speaks s d to unit note (Tells hop lost t dest why there) = route_octets (Rerr lost t)
+  said_speaks s d to unit note (Answers own by origin number n c dest here last some came_so) = route_octets (Rrep number 0 own origin)
+  said_speaks s d to unit note (Relays by origin dest n c rank o just came_so) = route_octets (Rreq rank.number rank.cost origin dest)
+  said_speaks s d to unit note (Passes by origin t hop n c rank o just came_so there) = route_octets (Rrep rank.number rank.cost origin t)
+  said_speaks s d to unit note (SaysTheSame hop lost t dest why there) = route_octets (Rerr lost t)
   said_speaks s d to unit note (Forwards by hop dest u less came is there) = less_speaks u less is (comes by false u came)
 
   pub made_speaks : (s d : Draft StationMemory) → Made NoWord g s d → DraftSpeaks s → DraftSpeaks d

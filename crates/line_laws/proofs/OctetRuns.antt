@@ -62,9 +62,9 @@ pub record WorldSpeaks (w : World) : Type 0 where
   pub flights : All FlightFits w.flights
 
 -- what a node did is told
-pub told_speaks : {A : Type 0} (u : World) (number : ℕ) (d : NodeStep A) → WorldSpeaks u → DidSpeak d → WorldSpeaks (world_after network u number d)
+pub after_speaks : {A : Type 0} (u : World) (number : ℕ) (d : NodeStep A) → WorldSpeaks u → DidSpeak d → WorldSpeaks (world_after network u number d)
 unfolding world_after
-told_speaks u number d s did = record {
+after_speaks u number d s did = record {
   nodes = All-set NodeSpeaks u.nodes number d.node did.node s.nodes;
   flights = All-append FlightFits u.flights (flights_of network number d) s.flights
       (All-map FlightFits (λ frame. flight_by number (spelled network frame)) d.frames did.frames);
@@ -192,7 +192,7 @@ module _ (w : World) (ok : WorldOk w) (s : WorldSpeaks w) where
   made_is event x (OfMeter eui psk some room new known long) = new_speaks
 
   sending_is : (from to : ℕ) (datagram : List ℕ) (x : Node) (d : NodeStep Answer) → DidSpeak d → WorldSpeaks (sending network w from to datagram (tag_of x) d).0
-  sending_is from to datagram x d did = by_taken (is_taken d.answer) (told_speaks (ran w) from d ran_speaks did)
+  sending_is from to datagram x d did = by_taken (is_taken d.answer) (after_speaks (ran w) from d ran_speaks did)
     where
       by_taken : (b : Bool) → WorldSpeaks (world_after network (ran w) from d)
           → WorldSpeaks (sent_if w from to datagram (tag_of x) b (acted network w from d)).0
@@ -202,7 +202,7 @@ module _ (w : World) (ok : WorldOk w) (s : WorldSpeaks w) where
   heard_is : (number : ℕ) (y : Node) (octets : List ℕ) (got : Accepted) (cost : ℕ) → DidSpeak (hears network y got cost (note_by w octets got.path) w.clock)
       → WorldSpeaks (heard network w number y octets got cost).0
   heard_is number y octets got cost did =
-      let k = told_speaks (ran w) number (hears network y got cost (note_by w octets got.path) w.clock) ran_speaks did in
+      let k = after_speaks (ran w) number (hears network y got cost (note_by w octets got.path) w.clock) ran_speaks did in
       record { nodes = k.nodes; flights = k.flights }
 
   flight_place : (number : ℕ) (f : Flight) → flight_at w number ≡ Some f → slice_get w.flights (number - 1) ≡ Some f
@@ -218,37 +218,37 @@ module _ (w : World) (ok : WorldOk w) (s : WorldSpeaks w) where
   event_speaks event st (Rests e quiet) = ran_speaks
   event_speaks event st (Shows number x) = ran_speaks
   event_speaks event st (Acts e number x A halts plan reads there call word asked) =
-      told_speaks (ran w) number (answering reads (acts x halts plan)) ran_speaks
+      after_speaks (ran w) number (answering reads (acts x halts plan)) ran_speaks
       (answering_speaks reads (acts x halts plan) (call_speaks number x A halts plan there call))
   event_speaks event st (BreaksLink number next x a there call) =
       let plan : Memory → Plan Memory Answer = λ m. changing said.Broken (with_station (calls.broke a m.station) m) in
-      told_speaks (ran w) number (acts x said.Halted plan) ran_speaks (call_speaks number x Answer said.Halted plan there call)
+      after_speaks (ran w) number (acts x said.Halted plan) ran_speaks (call_speaks number x Answer said.Halted plan there call)
   event_speaks event st (SendsFrom from to datagram x a there call target) =
       let plan : Memory → Plan Memory (Result SentHow SendRefusal) = λ m. of_station m (calls.send m.station a datagram (w.sends + 1) w.clock) in
       sending_is from to datagram x (answering sent_word (acts x (Err sends.Halted) plan))
       (answering_speaks sent_word (acts x (Err sends.Halted) plan) (call_speaks from x _ (Err sends.Halted) plan there call))
   event_speaks event st (AllowsMeter number y c psk there call meter) =
       let plan : Memory → Plan Memory (Result ℕ CoordinatorRefusal) = λ m. coordinator_rules.allow m y.eui psk in
-      told_speaks (ran w) 0 (acts c (Err orders.Halted) plan) ran_speaks (call_speaks 0 c _ (Err orders.Halted) plan there call)
+      after_speaks (ran w) 0 (acts c (Err orders.Halted) plan) ran_speaks (call_speaks 0 c _ (Err orders.Halted) plan there call)
   event_speaks event st (Sets e quiet number x plan there open_is is) =
-      told_speaks (set_up w) number (acts x (Ok tt) (λ m. of_station m (plan m.station))) set_up_speaks
+      after_speaks (set_up w) number (acts x (Ok tt) (λ m. of_station m (plan m.station))) set_up_speaks
       (call_speaks number x _ (Ok tt) (λ m. of_station m (plan m.station)) there (preset_call network w number x plan open_is is))
   event_speaks event st (SetsTwo e quiet a b cost x y p q hx hy apart open_is first second fresh near) =
-      let one = told_speaks (set_up w) a (offered_near x q cost w.clock) set_up_speaks
+      let one = after_speaks (set_up w) a (offered_near x q cost w.clock) set_up_speaks
       (answering_speaks (λ _. tt) _ (call_speaks a x _ (Ok tt) (λ m. of_station m (calls.preset_near m.station q cost w.clock)) hx first)) in
-      told_speaks (world_after network (set_up w) a (offered_near x q cost w.clock)) b (offered_near y p cost w.clock) one
+      after_speaks (world_after network (set_up w) a (offered_near x q cost w.clock)) b (offered_near y p cost w.clock) one
       (answering_speaks (λ _. tt) _ (call_speaks b y _ (Ok tt) (λ m. of_station m (calls.preset_near m.station p cost w.clock)) hy second))
   event_speaks event st (Provides number x c psk g d ne open_is hx hc pair same is) =
       let did : DidSpeak d = subst (λ (z : NodeStep (Result Granted CoordinatorRefusal)). DidSpeak z) (sym same)
       (order_speaks 0 c (Err orders.Halted) (λ m. coordinator_rules.depot m x.eui psk) refl hc
       (λ m h reads here role. depot_speaks c.eui (given_at 0 c hc).eui m h reads (booked c m (good_at 0 c hc) role here) w.clock x.eui psk)) in
-      told_speaks (world_after network (set_up w) 0 d) number (acts x (Ok tt) (λ m. meters.provision m g)) (told_speaks (set_up w) 0 d set_up_speaks did)
+      after_speaks (world_after network (set_up w) 0 d) number (acts x (Ok tt) (λ m. meters.provision m g)) (after_speaks (set_up w) 0 d set_up_speaks did)
       (acts_speaks x (Ok tt) (λ m. meters.provision m g) (speaks_at number x hx) (λ m here h. install_speaks m h g))
   event_speaks event st (TurnsDown e number x octets reason d there says comes same is) =
       let did : DidSpeak d = subst (λ (z : NodeStep (Result Accepted FrameRefusal)). DidSpeak z) (sym same)
       (acts_speaks x (Err frames.Halted) (λ m. of_station m (accept m.station x.eui (arrived network octets))) (speaks_at number x there)
       (λ m here h. accept_speaks m h x.eui (arrived network octets))) in
-      told_speaks (ran w) number d ran_speaks did
+      after_speaks (ran w) number d ran_speaks did
   event_speaks event st (Hears e number x octets cost got there says comes low is) =
       heard_is number (accepting network x octets).node octets got cost (heard_did e number x octets cost got there says comes is)
   event_speaks event st (Loses number f there) = record {
@@ -261,9 +261,9 @@ module _ (w : World) (ok : WorldOk w) (s : WorldSpeaks w) where
         (All-weaker NodeSpeaks (λ x. NodeSpeaks (ticked (w.clock + seconds) x)) (ticked_speaks (w.clock + seconds)) w.nodes s.nodes);
     flights = s.flights;
   }
-  event_speaks event st (Restarts number x there) = told_speaks (ran w) number (restarts x) ran_speaks (restarts_speaks x (good_at number x there))
+  event_speaks event st (Restarts number x there) = after_speaks (ran w) number (restarts x) ran_speaks (restarts_speaks x (good_at number x there))
   event_speaks event st (Cuts number nth keeps_new x there) =
-      told_speaks (ran w) number (stays (record x { store = record x.store { cut = Some (record { nth = nth; keeps_new = keeps_new }) } }) said.Set) ran_speaks
+      after_speaks (ran w) number (stays (record x { store = record x.store { cut = Some (record { nth = nth; keeps_new = keeps_new }) } }) said.Set) ran_speaks
       (record { node = speaks_at number x there; frames = All-nil SentOctets })
 
 -- # Runs

@@ -41,7 +41,7 @@ use Rattle.line_rules.specs.Steps.{hears, identity}
 use Rattle.line_rules.specs.Worlds.{World}
 use Rattle.line_laws.proofs.CallForms.{Few, Nothing, random_is, send_is}
 use Rattle.line_laws.proofs.CoordinatorForms.{IsGranted, IsReached, IsSaidDown, activate_is, activate_self_is, challenge_is, coordinator_is, kick_is, rekey_is}
-use Rattle.line_laws.proofs.Made.{Given, IsLess, Whole, Part, Carried, IsSaid, Seeks, Answers, Relays, Passes, Tells, Forwards, Made, Starts, Ranks, Numbers}
+use Rattle.line_laws.proofs.Made.{Given, IsLess, Whole, Part, Carried, IsSaid, Seeks, Answers, Relays, Passes, SaysTheSame, Forwards, Made, Starts, Ranks, Numbers}
 use Rattle.line_laws.proofs.Made.{Tags as TagsOn, Rings, Idles, Loses, Goes, Sends, Waits, Leaves, RingWord, Carry}
 use Rattle.line_laws.proofs.MadeIn.{MadeIn, Begins, Station, OnStation, Remembers, Tags, Enters, Up as UpIn, Down as DownIn}
 use Rattle.line_laws.proofs.MemoryDraftForms.{AnyAnswer, MadeBy}
@@ -77,10 +77,10 @@ less_old u less (Carried mesh body) = tt
 
 said_old : {W : RingWord → Type 0} {g : Given} {s d : Draft StationMemory} (to : ℕ) (unit : MeshUnit) (note : ℕ) → IsSaid W g s d to unit note → IsOldUnit unit
 said_old to unit note (Seeks own dest number n load here last some carried) = refl
-said_old to unit note (Answers own by origin number n c dest here last some told) = refl
-said_old to unit note (Relays by origin dest n c rank o just told) = refl
-said_old to unit note (Passes by origin t hop n c rank o just told there) = refl
-said_old to unit note (Tells hop lost t dest why there) = refl
+said_old to unit note (Answers own by origin number n c dest here last some came_so) = refl
+said_old to unit note (Relays by origin dest n c rank o just came_so) = refl
+said_old to unit note (Passes by origin t hop n c rank o just came_so there) = refl
+said_old to unit note (SaysTheSame hop lost t dest why there) = refl
 said_old to unit note (Forwards by hop dest u less came is there) = less_old u less is
 
 load_old : (own to hop note : ℕ) (load : Load) → All IsOldOut (all_go hop note (units_of own to load))

@@ -32,7 +32,7 @@ pub call_ranged : (W : RingWord → Type 0) (cost note now : ℕ) (near : Option
     → InRange W (record { got = None; cost = cost; note = note; now = now; near = near })
 call_ranged W cost note now near h carries words = record {
   comes = λ by all u c. absurd (no_some _ c.is);
-  told = λ by all m t. absurd (no_some _ t.came.is);
+  came_so = λ by all m t. absurd (no_some _ t.came.is);
   near = λ by e. by_near near h by e;
   carries = carries;
   words = words;

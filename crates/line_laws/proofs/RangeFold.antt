@@ -30,15 +30,15 @@ use Rattle.line_laws.specs.Ranges.{HasRoomInFrames, IsBody, HasHop, IsStationRan
 use Rattle.line_laws.specs.Stores.{IsReadable}
 use Rattle.line_laws.proofs.StoreFold.{WordFits, ring_fits}
 use Rattle.line_laws.proofs.RangeUnits.{less_fit, less_route, all_out}
-use Rattle.line_laws.proofs.Made.{Given, IsCome, IsTold, Offered, ByRequest, ByReply, ByItself, RingWord, Carry, mesh_of, IsLost, ByError, OnWay, IsSaid, Seeks}
-use Rattle.line_laws.proofs.Made.{Answers, Relays, Passes, Tells, Forwards, Made, Starts, Ranks, Numbers, Tags, Rings, Idles, Loses, Goes, Sends, Waits, Leaves}
+use Rattle.line_laws.proofs.Made.{Given, IsCome, MessageCame, Offered, ByRequest, ByReply, ByItself, RingWord, Carry, mesh_of, IsLost, ByError, OnWay, IsSaid, Seeks}
+use Rattle.line_laws.proofs.Made.{Answers, Relays, Passes, SaysTheSame, Forwards, Made, Starts, Ranks, Numbers, Tags, Rings, Idles, Loses, Goes, Sends, Waits, Leaves}
 
 -- What is known of a call and of what came: the readings and the call's own words say it.
 pub record InRange (W : RingWord → Type 0) (g : Given) : Type 0 where
   -- a unit that came is one that a frame has room for, and its sender one node
   pub comes : (by : ℕ) (all : Bool) (u : MeshUnit) → IsCome g by all u → (by < 0xFFFE) × IsFit u
   -- a route message that came is in its grammar
-  pub told : (by : ℕ) (all : Bool) (message : Message) → IsTold g by all message → messages.IsMessage message
+  pub came_so : (by : ℕ) (all : Bool) (message : Message) → MessageCame g by all message → messages.IsMessage message
   -- a neighbour that the workshop gives
   pub near : (by : ℕ) → g.near ≡ Some by → (by < 0xFFFE) × (g.cost < 2 ^ 16)
   -- a body that is sent out
@@ -130,12 +130,12 @@ module _ (W : RingWord → Type 0) (g : Given) (s : Draft StationMemory) (known 
     cost : rank.cost < 2 ^ 16
 
   offer_fits : (address : Option ℕ) (by origin : ℕ) (rank : Rank) → Offered g address by origin rank → OfferFits by origin rank
-  offer_fits address by origin rank (ByRequest own number c o dest here apart few told) =
-      let m = known.told by true (Rreq number c o dest) told in
-      record { neighbour = (known.comes by true _ told.came).0; address = m.2; number = m.0; cost = omega arith }
-  offer_fits address by origin rank (ByReply own number c o to here apart few told) =
-      let m = known.told by false (Rrep number c o to) told in
-      record { neighbour = (known.comes by false _ told.came).0; address = m.2; number = m.0; cost = omega arith }
+  offer_fits address by origin rank (ByRequest own number c o dest here apart few came_so) =
+      let m = known.came_so by true (Rreq number c o dest) came_so in
+      record { neighbour = (known.comes by true _ came_so.came).0; address = m.2; number = m.0; cost = omega arith }
+  offer_fits address by origin rank (ByReply own number c o to here apart few came_so) =
+      let m = known.came_so by false (Rrep number c o to) came_so in
+      record { neighbour = (known.comes by false _ came_so.came).0; address = m.2; number = m.0; cost = omega arith }
   offer_fits address by origin rank (ByItself is) =
       let n = known.near by is in
       record { neighbour = n.0; address = n.0; number = (omega arith, omega arith); cost = n.1 }
@@ -159,7 +159,7 @@ module _ (W : RingWord → Type 0) (g : Given) (s : Draft StationMemory) (known 
   every = (omega arith, omega arith)
 
   lost_fits : (lost to : ℕ) → IsLost g lost to → (lost < 0xFFFE) × (to < 0xFFFE)
-  lost_fits lost to (ByError by x t told) = known.told by false (Rerr lost to) told
+  lost_fits lost to (ByError by x t came_so) = known.came_so by false (Rerr lost to) came_so
   lost_fits lost to (OnWay by unit mesh came has) = by_unit unit (known.comes by false unit came).1 has
     where
       of_mesh : (a b : Mesh) → IsMesh a → Some a ≡ Some b → (b.to < 0xFFFE) × (b.origin < 0xFFFE)
@@ -176,17 +176,17 @@ module _ (W : RingWord → Type 0) (g : Given) (s : Draft StationMemory) (known 
   said_out d to unit note h (Seeks own dest number n load here last some carried) =
       let x = h.number in message_out to_all (Rreq number 0 own dest) 0 every
       ((some, omega arith), omega arith, own_ranged d.memory own h here, (known.carries dest n load carried).0)
-  said_out d to unit note h (Answers own by origin number n c dest here last some told) =
-      let x = h.number in let m = known.told by true (Rreq n c origin dest) told in
-      message_out by (Rrep number 0 own origin) 0 (one by (known.comes by true _ told.came).0)
+  said_out d to unit note h (Answers own by origin number n c dest here last some came_so) =
+      let x = h.number in let m = known.came_so by true (Rreq n c origin dest) came_so in
+      message_out by (Rrep number 0 own origin) 0 (one by (known.comes by true _ came_so.came).0)
       ((some, omega arith), omega arith, own_ranged d.memory own h here, m.2)
-  said_out d to unit note h (Relays by origin dest n c rank o just told) =
-      let f = offer_fits _ by origin rank o in let m = known.told by true (Rreq n c origin dest) told in
+  said_out d to unit note h (Relays by origin dest n c rank o just came_so) =
+      let f = offer_fits _ by origin rank o in let m = known.came_so by true (Rreq n c origin dest) came_so in
       message_out to_all (Rreq rank.number rank.cost origin dest) 0 every (f.number, f.cost, f.address, m.3)
-  said_out d to unit note h (Passes by origin t hop n c rank o just told there) =
-      let f = offer_fits _ by origin rank o in let m = known.told by false (Rrep n c origin t) told in
+  said_out d to unit note h (Passes by origin t hop n c rank o just came_so there) =
+      let f = offer_fits _ by origin rank o in let m = known.came_so by false (Rrep n c origin t) came_so in
       message_out hop (Rrep rank.number rank.cost origin t) 0 (one hop (hop_ranged s.memory t hop first there)) (f.number, f.cost, f.address, m.3)
-  said_out d to unit note h (Tells hop lost t dest why there) =
+  said_out d to unit note h (SaysTheSame hop lost t dest why there) =
       message_out hop (Rerr lost t) 0 (one hop (hop_ranged d.memory dest hop h there)) (lost_fits lost t why)
   said_out d to unit note h (Forwards by hop dest u less came is there) =
       record { to = one hop (hop_ranged d.memory dest hop h there); unit = less_fit u less is (known.comes by false u came).1; route = less_route u less is }

@@ -79,7 +79,7 @@ module _ (W : RingWord → Type 0) (g : Given) where
   unheard_range : InRange W g → InRange W (unheard g)
   unheard_range known = record {
     comes = λ by all u c. absurd (no_some _ c.is);
-    told = λ by all m t. absurd (no_some _ t.came.is);
+    came_so = λ by all m t. absurd (no_some _ t.came.is);
     near = λ by e. absurd (no_some _ e);
     carries = known.carries;
     words = known.words;

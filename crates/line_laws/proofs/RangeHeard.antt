@@ -25,7 +25,7 @@ use Rattle.loadng_messages.proofs.Readings.{message_read}
 use Rattle.line_laws.specs.Letters.{IsFit, IsRoute, IsLetter}
 use Rattle.line_laws.specs.Ranges.{HasRoomInFrames, IsStationRanged}
 use Rattle.line_laws.proofs.LetterAccepts.{IsOfLetter}
-use Rattle.line_laws.proofs.Made.{Given, IsCome, IsTold, RingWord, Carry}
+use Rattle.line_laws.proofs.Made.{Given, IsCome, MessageCame, RingWord, Carry}
 use Rattle.line_laws.proofs.HearingForms.{Handed, HandsUp, HandsOn, Gathers, Completes}
 use Rattle.line_laws.proofs.MemoryDraftForms.{HandedIn, ByStation}
 use Rattle.line_laws.proofs.MeterForms.{RingCause, ToCoordinator, IsSaidUp, meter_is}
@@ -60,8 +60,8 @@ module _ (l : Letter) (fits : IsLetter l) (from counter : ℕ) (got : Accepted) 
   heard_fits by all u c = let x = comes_of by all u c in (subst (λ a. a < 0xFFFE) (sym x.0) fits.from, subst IsFit (sym x.1) fits.unit)
 
   -- a route message is the one that the letter's unit spells
-  heard_told : (by : ℕ) (all : Bool) (message : Message) → IsTold heard by all message → messages.IsMessage message
-  heard_told by all message t =
+  heard_after : (by : ℕ) (all : Bool) (message : Message) → MessageCame heard by all message → messages.IsMessage message
+  heard_after by all message t =
       let x = comes_of by all (units.Local t.code t.body) t.came in
       let r : IsRoute (units.Local t.code t.body) = subst IsRoute (sym x.1) fits.route in
       let m = r (eqb-true t.code 1 t.first) in
@@ -70,7 +70,7 @@ module _ (l : Letter) (fits : IsLetter l) (from counter : ℕ) (got : Accepted) 
 
   pub heard_ranged : (W : RingWord → Type 0) → ((to n : ℕ) (load : Load) → W (Carry to n load) → (to < 0xFFFE) × HasRoomInFrames load)
       → ((w : RingWord) → W w → WordFits w) → InRange W heard
-  heard_ranged W carries words = record { comes = heard_fits; told = heard_told; near = λ by e. absurd (cc); carries = carries; words = words }
+  heard_ranged W carries words = record { comes = heard_fits; came_so = heard_after; near = λ by e. absurd (cc); carries = carries; words = words }
 
 -- a plain frame brings no unit
 pub plain_ranged : (got : Accepted) (cost note now : ℕ) → ((from : ℕ) (all : Bool) (key : Key) → got.path ≡ paths.Sealed from all key → ⊥)
@@ -79,7 +79,7 @@ pub plain_ranged : (got : Accepted) (cost note now : ℕ) → ((from : ℕ) (all
     → InRange W (heard_given got cost note now)
 plain_ranged got cost note now plain W carries words = record {
   comes = λ by all u c. absurd (plain by all c.key (ap (λ (x : Accepted). x.path) (same_Some got c.got c.is) ∙ c.path));
-  told = λ by all message t. absurd (plain by all t.came.key (ap (λ (x : Accepted). x.path) (same_Some got t.came.got t.came.is) ∙ t.came.path));
+  came_so = λ by all message t. absurd (plain by all t.came.key (ap (λ (x : Accepted). x.path) (same_Some got t.came.got t.came.is) ∙ t.came.path));
   near = λ by e. absurd (cc);
   carries = carries;
   words = words;

@@ -77,9 +77,9 @@ pub use Rattle.line_laws.specs.Ranges.{WorldRanged}
 pub start_ranged : WorldRanged start
 start_ranged = record { nodes = All-nil NodeRanged; flights = All-nil (IsFlight network) }
 
-pub told_ranged : {A : Type 0} (u : World) (number : ℕ) (d : NodeStep A) → WorldRanged u → DidRanged d → WorldRanged (world_after network u number d)
+pub after_ranged : {A : Type 0} (u : World) (number : ℕ) (d : NodeStep A) → WorldRanged u → DidRanged d → WorldRanged (world_after network u number d)
 unfolding world_after
-told_ranged u number d r did = record {
+after_ranged u number d r did = record {
   nodes = All-set NodeRanged u.nodes number d.node did.station r.nodes;
   flights = All-append (IsFlight network) u.flights (flights_of network number d) r.flights (did_flights network number d did);
 }
@@ -334,7 +334,7 @@ module _ (w : World) (ok : WorldOk w) (s : WorldSpeaks w) (r : WorldRanged w) wh
 
   sending_is : (from to : ℕ) (datagram : List ℕ) (x : Node) (d : NodeStep Answer) → DidRanged d
       → WorldRanged (sending network w from to datagram (tag_of x) d).0
-  sending_is from to datagram x d did = by_taken (is_taken d.answer) (told_ranged (ran w) from d ran_ranged did)
+  sending_is from to datagram x d did = by_taken (is_taken d.answer) (after_ranged (ran w) from d ran_ranged did)
     where
       by_taken : (b : Bool) → WorldRanged (world_after network (ran w) from d)
           → WorldRanged (sent_if w from to datagram (tag_of x) b (acted network w from d)).0
@@ -344,7 +344,7 @@ module _ (w : World) (ok : WorldOk w) (s : WorldSpeaks w) (r : WorldRanged w) wh
   heard_is : (number : ℕ) (y : Node) (octets : List ℕ) (got : Accepted) (cost : ℕ) → DidRanged (hears network y got cost (note_by w octets got.path) w.clock)
       → WorldRanged (heard network w number y octets got cost).0
   heard_is number y octets got cost did =
-      let k = told_ranged (ran w) number (hears network y got cost (note_by w octets got.path) w.clock) ran_ranged did in
+      let k = after_ranged (ran w) number (hears network y got cost (note_by w octets got.path) w.clock) ran_ranged did in
       record { nodes = k.nodes; flights = k.flights }
 
   flight_place : (number : ℕ) (f : Flight) → flight_at w number ≡ Some f → slice_get w.flights (number - 1) ≡ Some f
@@ -360,25 +360,25 @@ module _ (w : World) (ok : WorldOk w) (s : WorldSpeaks w) (r : WorldRanged w) wh
   event_ranged event st (Rests e quiet) = λ honest. ran_ranged
   event_ranged event st (Shows number x) = λ honest. ran_ranged
   event_ranged event st (Acts e number x A halts plan reads there call word asked) = λ honest.
-      told_ranged (ran w) number (answering reads (acts x halts plan)) ran_ranged
+      after_ranged (ran w) number (answering reads (acts x halts plan)) ran_ranged
       (answering_ranged reads (acts x halts plan) (call_ranged number x A halts plan there call))
   event_ranged event st (BreaksLink number next x a there call) = λ honest.
       let plan : Memory → Plan Memory Answer = λ m. changing said.Broken (with_station (calls.broke a m.station) m) in
-      told_ranged (ran w) number (acts x said.Halted plan) ran_ranged (call_ranged number x Answer said.Halted plan there call)
+      after_ranged (ran w) number (acts x said.Halted plan) ran_ranged (call_ranged number x Answer said.Halted plan there call)
   event_ranged event st (SendsFrom from to datagram x a there call asked) = λ honest.
       let plan : Memory → Plan Memory (Result SentHow SendRefusal) = λ m. of_station m (calls.send m.station a datagram (w.sends + 1) w.clock) in
       sending_is from to datagram x (answering sent_word (acts x (Err sends.Halted) plan))
       (answering_ranged sent_word (acts x (Err sends.Halted) plan) (call_ranged from x _ (Err sends.Halted) plan there call))
   event_ranged event st (AllowsMeter number y c psk there call meter) = λ honest.
       let plan : Memory → Plan Memory (Result ℕ CoordinatorRefusal) = λ m. coordinator_rules.allow m y.eui psk in
-      told_ranged (ran w) 0 (acts c (Err orders.Halted) plan) ran_ranged (call_ranged 0 c _ (Err orders.Halted) plan there call)
+      after_ranged (ran w) 0 (acts c (Err orders.Halted) plan) ran_ranged (call_ranged 0 c _ (Err orders.Halted) plan there call)
   event_ranged event st (Sets e quiet number x plan there open_is is) = λ honest.
-      told_ranged (set_up w) number (acts x (Ok tt) (λ m. of_station m (plan m.station))) set_up_ranged
+      after_ranged (set_up w) number (acts x (Ok tt) (λ m. of_station m (plan m.station))) set_up_ranged
       (call_ranged number x _ (Ok tt) (λ m. of_station m (plan m.station)) there (preset_call network w number x plan open_is is))
   event_ranged event st (SetsTwo e quiet a b cost x y p q hx hy apart open_is first second fresh far) = λ honest.
-      let one = told_ranged (set_up w) a (offered_near x q cost w.clock) set_up_ranged
+      let one = after_ranged (set_up w) a (offered_near x q cost w.clock) set_up_ranged
       (answering_ranged (λ _. tt) _ (call_ranged a x _ (Ok tt) (λ m. of_station m (calls.preset_near m.station q cost w.clock)) hx first)) in
-      told_ranged (world_after network (set_up w) a (offered_near x q cost w.clock)) b (offered_near y p cost w.clock) one
+      after_ranged (world_after network (set_up w) a (offered_near x q cost w.clock)) b (offered_near y p cost w.clock) one
       (answering_ranged (λ _. tt) _ (call_ranged b y _ (Ok tt) (λ m. of_station m (calls.preset_near m.station p cost w.clock)) hy second))
   event_ranged event st (Provides number x c psk g d ne open_is hx hc pair same is) = λ honest.
       let made = acts c (Err orders.Halted) (λ m. coordinator_rules.depot m x.eui psk) in
@@ -387,13 +387,13 @@ module _ (w : World) (ok : WorldOk w) (s : WorldSpeaks w) (r : WorldRanged w) wh
       (Depots number x psk refl open_is (record { other = ne; there = hx }) pair)) in
       let granted : IsReadable g = workshop_grants number x c psk g hx hc pair
       (ap (λ (z : NodeStep (Result Granted CoordinatorRefusal)). z.answer) (sym same) ∙ is) in
-      told_ranged (world_after network (set_up w) 0 d) number (acts x (Ok tt) (λ m. meters.provision m g)) (told_ranged (set_up w) 0 d set_up_ranged did)
+      after_ranged (world_after network (set_up w) 0 d) number (acts x (Ok tt) (λ m. meters.provision m g)) (after_ranged (set_up w) 0 d set_up_ranged did)
       (acts_ranged x (Ok tt) (λ m. meters.provision m g) (ranged_at number x hx) (λ m here h. provision_ranged m h g granted))
   event_ranged event st (TurnsDown e number x octets reason d there says comes same is) = λ honest.
       let did : DidRanged d = subst (λ (z : NodeStep (Result Accepted FrameRefusal)). DidRanged z) (sym same)
       (acts_ranged x (Err frames.Halted) (λ m. of_station m (accept m.station x.eui (arrived network octets))) (ranged_at number x there)
       (λ m here h. accept_ranged m h x.eui (arrived network octets))) in
-      told_ranged (ran w) number d ran_ranged did
+      after_ranged (ran w) number d ran_ranged did
   event_ranged event st (Hears e number x octets cost got there says comes low is) = λ honest.
       heard_is number (accepting network x octets).node octets got cost
       (heard_did number x octets cost got there (came_octets network network_ranges w ok s.flights e number octets says comes) is (or_parts _ _ honest).0)
@@ -407,7 +407,7 @@ module _ (w : World) (ok : WorldOk w) (s : WorldSpeaks w) (r : WorldRanged w) wh
         (All-weaker NodeRanged (λ x. NodeRanged (ticked (w.clock + seconds) x)) (ticked_ranged (w.clock + seconds)) w.nodes r.nodes);
     flights = r.flights;
   }
-  event_ranged event st (Restarts number x there) = λ honest. told_ranged (ran w) number (restarts x) ran_ranged (restarts_ranged x (good_at number x there))
+  event_ranged event st (Restarts number x there) = λ honest. after_ranged (ran w) number (restarts x) ran_ranged (restarts_ranged x (good_at number x there))
   event_ranged event st (Cuts number nth keeps_new x there) = λ honest.
-      told_ranged (ran w) number (stays (record x { store = record x.store { cut = Some (record { nth = nth; keeps_new = keeps_new }) } }) said.Set) ran_ranged
+      after_ranged (ran w) number (stays (record x { store = record x.store { cut = Some (record { nth = nth; keeps_new = keeps_new }) } }) said.Set) ran_ranged
       (record { station = ranged_at number x there; frames = All-nil IsSent })

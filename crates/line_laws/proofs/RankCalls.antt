@@ -64,8 +64,8 @@ NoWord w = ⊥
 
 -- a call that is given no frame and no neighbour offers nothing
 no_offers : (cost note now : ℕ) (address : Option ℕ) (by origin : ℕ) (rank : Rank) → Offered (call_given cost note now) address by origin rank → ⊥
-no_offers cost note now address by origin rank (ByRequest own number c o dest here apart few told) = no_some _ told.came.is
-no_offers cost note now address by origin rank (ByReply own number c o to here apart few told) = no_some _ told.came.is
+no_offers cost note now address by origin rank (ByRequest own number c o dest here apart few came_so) = no_some _ came_so.came.is
+no_offers cost note now address by origin rank (ByReply own number c o to here apart few came_so) = no_some _ came_so.came.is
 no_offers cost note now address by origin rank (ByItself none) = no_some _ none
 
 abbrev near_given : (to cost now : ℕ) → Given
@@ -119,8 +119,8 @@ module _ (At Own : ℕ → Type 0) (C : ℕ → ℕ → Rank → Type 0) (m : Me
     where
       offers : (address : Option ℕ) → IsAt At address → (by origin : ℕ) (rank : Rank) → Offered (near_given to cost now) address by origin rank
           → OfferFits Own C by origin rank now
-      offers address at by origin rank (ByRequest own number c o dest there other few told) = absurd (no_some _ told.came.is)
-      offers address at by origin rank (ByReply own number c o q there other few told) = absurd (no_some _ told.came.is)
+      offers address at by origin rank (ByRequest own number c o dest there other few came_so) = absurd (no_some _ came_so.came.is)
+      offers address at by origin rank (ByReply own number c o q there other few came_so) = absurd (no_some _ came_so.came.is)
       offers address at by origin rank (ByItself is) =
           let same : to ≡ by = same_Some _ _ is in
           subst (λ (k : ℕ). OfferFits Own C k k (calls.near_rank cost) now) same (record { fits = fits; apart = apart; cause = cause })

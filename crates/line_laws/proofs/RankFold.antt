@@ -204,8 +204,8 @@ module _ (At Own : ℕ → Type 0) (C : ℕ → ℕ → Rank → Type 0) (W : Ri
 
 -- nothing is offered where nothing is heard
 unheard_none : (g : Given) (address : Option ℕ) (by origin : ℕ) (rank : Rank) → Offered (unheard g) address by origin rank → ⊥
-unheard_none g address by origin rank (ByRequest own number c o dest here apart few told) = let x = told.came.is in absurd (cc)
-unheard_none g address by origin rank (ByReply own number c o to here apart few told) = let x = told.came.is in absurd (cc)
+unheard_none g address by origin rank (ByRequest own number c o dest here apart few came_so) = let x = came_so.came.is in absurd (cc)
+unheard_none g address by origin rank (ByReply own number c o to here apart few came_so) = let x = came_so.came.is in absurd (cc)
 unheard_none g address by origin rank (ByItself is) = absurd (cc)
 
 pub unheard_fits : (At Own : ℕ → Type 0) (C : ℕ → ℕ → Rank → Type 0) (g : Given) (address : Option ℕ) → IsAt At address → (by origin : ℕ) (rank : Rank)

@@ -80,15 +80,15 @@ use Rattle.line_laws.proofs.FurtherOctets.{every_run_holds}
 use Rattle.line_laws.proofs.ReachCame.{Says, acts_says, command_came, command_said}
 use Rattle.line_laws.proofs.ReachSteps.{Asks, Bcasts, Checked, Chooses, Commands, Discovers, Fails, Hears, IsAccepted, IsReachStep, Known, Opens, Restarts}
 use Rattle.line_laws.proofs.ReachSteps.{Rests, Scans as Begins, Ticks, Unbelieves, after_accepting, heard_node, reach_step_is}
-use Rattle.line_laws.proofs.ReachWords.{IsUnsent, NotNew, Quiet, Untold, ask_quiet, breaks_quiet, broadcast_quiet, choice_quiet, frame_quiet, hears_quiet}
-use Rattle.line_laws.proofs.ReachWords.{idle_quiet, lost_quiet, none_new, not_new, order_quiet, reach_untold, restart_quiet, sent_quiet, unsent_answer}
-use Rattle.line_laws.proofs.ReachWords.{unsent_event, unsent_octets, unsent_word, untold, word_quiet}
+use Rattle.line_laws.proofs.ReachWords.{IsUnsent, NotNew, Quiet, Unreported, ask_quiet, breaks_quiet, broadcast_quiet, choice_quiet, frame_quiet, hears_quiet}
+use Rattle.line_laws.proofs.ReachWords.{idle_quiet, lost_quiet, none_new, not_new, order_quiet, reach_unreported, restart_quiet, sent_quiet, unsent_answer}
+use Rattle.line_laws.proofs.ReachWords.{unsent_event, unsent_octets, unsent_word, unreported, word_quiet}
 use Rattle.line_laws.proofs.StepKinds as old
 use Rattle.line_laws.proofs.TracesRight.{entry}
 
 -- # What tells nothing of further reach
 
-record IsUntold (event : Event) (t : Trace) : Type 0 where
+record IsUnreported (event : Event) (t : Trace) : Type 0 where
   word : NotNew t.happened.answer
   spread : IsUnsent event t.happened.answer
   bup : t.happened.bup ≡ None
@@ -96,44 +96,44 @@ record IsUntold (event : Event) (t : Trace) : Type 0 where
   broadcast : t.further.broadcast ≡ None
   noticed : t.further.noticed ≡ None
 
-abbrev UntoldIn : Event → Step → Type 0
-UntoldIn event (Ok r) = IsUntold event r.1
-UntoldIn event (Err fault) = Unit {0}
+abbrev UnreportedIn : Event → Step → Type 0
+UnreportedIn event (Ok r) = IsUnreported event r.1
+UnreportedIn event (Err fault) = Unit {0}
 
 silent : (event : Event) (t : Trace) → Quiet t.happened.answer → IsUnsent event t.happened.answer → t.happened.bup ≡ None → t.happened.path ≡ None
-    → t.further.broadcast ≡ None → t.further.noticed ≡ None → IsUntold event t
+    → t.further.broadcast ≡ None → t.further.noticed ≡ None → IsUnreported event t
 silent event t word spread bup path cast noticed =
     record { word = not_new t.happened.answer word; spread = spread; bup = bup; path = path; broadcast = cast; noticed = noticed }
 
 -- of an event that sends nothing to all
 quietly : (event : Event) (t : Trace) → Quiet t.happened.answer → as_bcast event ≡ None → t.happened.bup ≡ None → t.happened.path ≡ None
-    → t.further.broadcast ≡ None → t.further.noticed ≡ None → IsUntold event t
+    → t.further.broadcast ≡ None → t.further.noticed ≡ None → IsUnreported event t
 quietly event t word none = silent event t word (unsent_event event t.happened.answer none)
 
-sent_untold : (w : World) (event : Event) (from to : ℕ) (datagram : List ℕ) (tag : ℕ) (t : Bool) (r : World × Trace) → IsUntold event r.1
-    → IsUntold event (sent_if w from to datagram tag t r).1
-sent_untold w event from to datagram tag true r u =
+sent_unreported : (w : World) (event : Event) (from to : ℕ) (datagram : List ℕ) (tag : ℕ) (t : Bool) (r : World × Trace) → IsUnreported event r.1
+    → IsUnreported event (sent_if w from to datagram tag t r).1
+sent_unreported w event from to datagram tag true r u =
     record { word = u.word; spread = u.spread; bup = u.bup; path = u.path; broadcast = u.broadcast; noticed = u.noticed }
-sent_untold w event from to datagram tag false r u = u
+sent_unreported w event from to datagram tag false r u = u
 
 -- an event without further reach
-old_untold : (w : World) (event : Event) (s : Step) → old.IsStep network w event s → UntoldIn event s
-old_untold w event s (old.Fails e fault) = tt
-old_untold w event s (old.Makes e x is) = silent e _ refl refl refl refl refl refl
-old_untold w event s (old.Rests e quiet) = silent e _ refl refl refl refl refl refl
-old_untold w event s (old.Shows number x) = silent (events.Show number) _ refl refl refl refl refl refl
-old_untold w event s (old.Acts e number x A halted plan reads there call word asked) =
+old_unreported : (w : World) (event : Event) (s : Step) → old.IsStep network w event s → UnreportedIn event s
+old_unreported w event s (old.Fails e fault) = tt
+old_unreported w event s (old.Makes e x is) = silent e _ refl refl refl refl refl refl
+old_unreported w event s (old.Rests e quiet) = silent e _ refl refl refl refl refl refl
+old_unreported w event s (old.Shows number x) = silent (events.Show number) _ refl refl refl refl refl refl
+old_unreported w event s (old.Acts e number x A halted plan reads there call word asked) =
     let a = (acts x halted plan).answer in
     quietly e _ (word_quiet A reads e word a) (unsent_word A reads e word) refl refl refl refl
-old_untold w event s (old.BreaksLink number next x a there call) =
+old_unreported w event s (old.BreaksLink number next x a there call) =
     quietly (events.Break number next) _ (breaks_quiet x a) refl refl refl refl refl
-old_untold w event s (old.SendsFrom from to datagram x a there call target) =
+old_unreported w event s (old.SendsFrom from to datagram x a there call target) =
     let d : NodeStep Answer = answering sent_word (acts x (Err sends.Halted) (λ m. of_station m (calls.send m.station a datagram (w.sends + 1) w.clock))) in
-    sent_untold w (events.Send from to datagram) from to datagram (tag_of x) (is_taken d.answer) (acted network w from d)
+    sent_unreported w (events.Send from to datagram) from to datagram (tag_of x) (is_taken d.answer) (acted network w from d)
     (quietly (events.Send from to datagram) _
     (sent_quiet (acts x (Err sends.Halted) (λ m. of_station m (calls.send m.station a datagram (w.sends + 1) w.clock))).answer)
     refl refl refl refl refl)
-old_untold w event s (old.AllowsMeter number y c psk there call meter) =
+old_unreported w event s (old.AllowsMeter number y c psk there call meter) =
     let a = (acts c (Err orders.Halted) (λ m. coordinator_rules.allow m y.eui psk)).answer in
     record {
       word = by_answer a;
@@ -147,20 +147,20 @@ old_untold w event s (old.AllowsMeter number y c psk there call meter) =
     by_answer : (r : Result ℕ CoordinatorRefusal) → NotNew (allowed_word r)
     by_answer (Ok address) = refl
     by_answer (Err reason) = not_new (order_word reason) (order_quiet reason)
-old_untold w event s (old.Sets e quiet number x plan there open_is is) = silent e _ refl refl refl refl refl refl
-old_untold w event s (old.SetsTwo e quiet a b cost x y p q hx hy apart open_is first second fresh near) =
+old_unreported w event s (old.Sets e quiet number x plan there open_is is) = silent e _ refl refl refl refl refl refl
+old_unreported w event s (old.SetsTwo e quiet a b cost x y p q hx hy apart open_is first second fresh near) =
     silent e _ refl refl refl refl refl refl
-old_untold w event s (old.Provides number x c psk g d ne open_is hx hc pair same is) =
+old_unreported w event s (old.Provides number x c psk g d ne open_is hx hc pair same is) =
     silent (events.Depot number) _ refl refl refl refl refl refl
-old_untold w event s (old.TurnsDown e number x octets reason d there says comes same is) =
+old_unreported w event s (old.TurnsDown e number x octets reason d there says comes same is) =
     quietly e _ (frame_quiet reason) (unsent_octets comes) refl refl refl refl
-old_untold w event s (old.Hears e number x octets cost got there says comes low is) =
+old_unreported w event s (old.Hears e number x octets cost got there says comes low is) =
     quietly e _ (hears_quiet network (after_accepting network x octets) got cost (note_by w octets got.path) w.clock) (unsent_octets comes) refl refl refl refl
-old_untold w event s (old.Loses number f there) = silent (events.Lose number) _ refl refl refl refl refl refl
-old_untold w event s (old.Ticks seconds) = silent (events.Tick seconds) _ refl refl refl refl refl refl
-old_untold w event s (old.Restarts number x there) =
+old_unreported w event s (old.Loses number f there) = silent (events.Lose number) _ refl refl refl refl refl refl
+old_unreported w event s (old.Ticks seconds) = silent (events.Tick seconds) _ refl refl refl refl refl refl
+old_unreported w event s (old.Restarts number x there) =
     quietly (events.Restart number) _ (restart_quiet (memory_of x.role x.store.records)) refl refl refl refl refl
-old_untold w event s (old.Cuts number nth keeps_new x there) =
+old_unreported w event s (old.Cuts number nth keeps_new x there) =
     silent (events.Cut number nth keeps_new) _ refl refl refl refl refl refl
 
 abbrev pub QuietIn : Step → Type 0
@@ -169,9 +169,9 @@ QuietIn (Err fault) = Unit {0}
 
 -- its word is none of further reach
 pub old_quiet : (w : World) (event : Event) (s : Step) → old.IsStep network w event s → QuietIn s
-old_quiet w event s is = by_step s (old_untold w event s is)
+old_quiet w event s is = by_step s (old_unreported w event s is)
   where
-    by_step : (s : Step) → UntoldIn event s → QuietIn s
+    by_step : (s : Step) → UnreportedIn event s → QuietIn s
     by_step (Ok r) u = u.word
     by_step (Err fault) u = tt
 
@@ -222,12 +222,12 @@ flown_at f (y ∷ xs) rest (suc place) x e = flown_at f xs rest place x e
 -- # Events
 
 module _ (w : World) (logs : LogsKept w) (n : ℕ) where
-  abbrev ToldIn : Event → Step → Type 0
-  ToldIn event (Ok r) = IsReachReported w (entry n event r)
-  ToldIn event (Err fault) = Unit {0}
+  abbrev ReportedIn : Event → Step → Type 0
+  ReportedIn event (Ok r) = IsReachReported w (entry n event r)
+  ReportedIn event (Err fault) = Unit {0}
 
-  untold_told : (event : Event) (v : World) (t : Trace) → IsUntold event t → IsReachReported w (entry n event (v, t))
-  untold_told event v t u = let q = none_new t.happened.answer u.word in record {
+  unreported_is : (event : Event) (v : World) (t : Trace) → IsUnreported event t → IsReachReported w (entry n event (v, t))
+  unreported_is event v t u = let q = none_new t.happened.answer u.word in record {
     broadcast = ap (option_map to_all_of) u.broadcast ∙ sym u.spread;
     bup = ap is_some u.bup ∙ sym q.0;
     bup_came = subst (λ o. IfSome o (BroadcastCame w event)) (sym u.bup) tt;
@@ -239,9 +239,9 @@ module _ (w : World) (logs : LogsKept w) (n : ℕ) where
     noticed = subst (λ o. IfSome o (HasFrame w (entry n event (v, t)))) (sym u.noticed) tt;
   }
 
-  old_told : (event : Event) (s : Step) → UntoldIn event s → ToldIn event s
-  old_told event (Ok r) u = untold_told event r.0 r.1 u
-  old_told event (Err fault) u = tt
+  old_reported : (event : Event) (s : Step) → UnreportedIn event s → ReportedIn event s
+  old_reported event (Ok r) u = unreported_is event r.0 r.1 u
+  old_reported event (Err fault) u = tt
 
   -- # A broadcast
 
@@ -278,11 +278,11 @@ module _ (w : World) (logs : LogsKept w) (n : ℕ) where
               let p = broadcast_from in_memory y own datagram in
               (any own is p.answer, any own is p.failed)
 
-  spreads_told : (number : ℕ) (x : Node) (datagram : List ℕ)
+  spreads_reported : (number : ℕ) (x : Node) (datagram : List ℕ)
       → IsReachReported w (entry n (events.Bcast number datagram) (broadcasts_by network w number x datagram))
-  spreads_told number x datagram =
+  spreads_reported number x datagram =
       let a = (reaches x (beside_at w number) (Err broadcast_faults.Halted) (λ y. broadcast in_memory y datagram)).answer in
-      let q = untold (broadcast_word a) (broadcast_quiet a) in
+      let q = unreported (broadcast_word a) (broadcast_quiet a) in
       record {
         broadcast = listed a (spreads_from number x datagram);
         bup = sym q.0;
@@ -307,9 +307,9 @@ module _ (w : World) (logs : LogsKept w) (n : ℕ) where
 
   -- # Scans and beacons
 
-  scans_told : (number : ℕ) (d : Discovering (Result (Unit {0}) ScanRefusal))
+  scans_reported : (number : ℕ) (d : Discovering (Result (Unit {0}) ScanRefusal))
       → IsReachReported w (entry n (events.Scan number) (has_discovered w number scan_word (scanning number) d))
-  scans_told number d = record {
+  scans_reported number d = record {
     broadcast = sym (unsent_event (events.Scan number) (scan_word d.answer) refl);
     bup = none_up d.answer;
     bup_came = tt;
@@ -364,7 +364,7 @@ module _ (w : World) (logs : LogsKept w) (n : ℕ) where
   loses_so : (number link : ℕ) (o : Option Discovery) (reason : DiscoveryDropped) → beacon_taken number o link (Err reason) ≡ None
       → FindsSo number link o (Err reason)
   loses_so number link o reason none =
-      let q = untold (discovery_word (Err reason)) (lost_quiet reason) in
+      let q = unreported (discovery_word (Err reason)) (lost_quiet reason) in
       record {
         bup = sym q.0;
         path = sym q.1;
@@ -408,9 +408,9 @@ module _ (w : World) (logs : LogsKept w) (n : ℕ) where
       }
       by_tests false false = loses_so number link beacon discovery_drops.NotScanning refl
 
-  finds_told : (event : Event) (number : ℕ) (x : Node) (m : Memory) (octets : List ℕ) (link : ℕ) → Comes w event number octets → link_of event ≡ link
+  finds_reported : (event : Event) (number : ℕ) (x : Node) (m : Memory) (octets : List ℕ) (link : ℕ) → Comes w event number octets → link_of event ≡ link
       → IsReachReported w (entry n event (discovers_by w number x octets link (Some m)))
-  finds_told event number x m octets link comes over =
+  finds_reported event number x m octets link comes over =
       let h = finds_so number link x.role m.station (beside_at w number).scan (discovery_in octets) in
       record {
         broadcast = sym (unsent_event event (discovery_word (hear_discovery x.role m.station (beside_at w number).scan octets link).answer)
@@ -437,8 +437,8 @@ module _ (w : World) (logs : LogsKept w) (n : ℕ) where
     quiet : Quiet d.answer.answer
     quiet = hears_quiet network (after_accepting network x octets) got cost (note_by w octets got.path) w.clock
 
-    hears_told : IsReachReported w (entry n event r)
-    hears_told = untold_told event r.0 r.1 (quietly event r.1 quiet (unsent_octets a.comes) refl refl refl refl)
+    hears_reported : IsReachReported w (entry n event r)
+    hears_reported = unreported_is event r.0 r.1 (quietly event r.1 quiet (unsent_octets a.comes) refl refl refl refl)
 
     -- a command
     module _ (c : NeighbourCommand) (carries : command_of got ≡ Some c) where
@@ -459,7 +459,7 @@ module _ (w : World) (logs : LogsKept w) (n : ℕ) where
       bup_same (Ok heard_of.Relayed) = refl
       bup_same (Ok heard_of.Answered) = refl
       bup_same (Ok (heard_of.Path walk)) = refl
-      bup_same (Err reason) = sym (reach_untold reason).0
+      bup_same (Err reason) = sym (reach_unreported reason).0
 
       bup_has : (b : Beside) (o : Answer_of) → Says b c o → IfSome (broadcast_up number o) (BroadcastCame w event)
       bup_has b (Ok heard_of.Acked) s = tt
@@ -484,7 +484,7 @@ module _ (w : World) (logs : LogsKept w) (n : ℕ) where
       path_same (Ok heard_of.Relayed) = refl
       path_same (Ok heard_of.Answered) = refl
       path_same (Ok (heard_of.Path walk)) = refl
-      path_same (Err reason) = sym (reach_untold reason).1
+      path_same (Err reason) = sym (reach_unreported reason).1
 
       path_has : (b : Beside) (o : Answer_of) → Says b c o → IfSome (path_line number o) (WalkCame w event)
       path_has b (Ok heard_of.Acked) s = tt
@@ -503,7 +503,7 @@ module _ (w : World) (logs : LogsKept w) (n : ℕ) where
       ack_same b (Ok heard_of.Relayed) s = refl
       ack_same b (Ok heard_of.Answered) s = refl
       ack_same b (Ok (heard_of.Path walk)) s = refl
-      ack_same b (Err reason) s = sym (reach_untold reason).2
+      ack_same b (Err reason) s = sym (reach_unreported reason).2
 
       scan_none : (o : Option (ℕ × ℕ)) → is_scan (noticed_of o) ≡ false
       scan_none None = refl
@@ -515,7 +515,7 @@ module _ (w : World) (logs : LogsKept w) (n : ℕ) where
       scan_same (Ok heard_of.Relayed) = refl
       scan_same (Ok heard_of.Answered) = refl
       scan_same (Ok (heard_of.Path walk)) = refl
-      scan_same (Err reason) = sym (reach_untold reason).3
+      scan_same (Err reason) = sym (reach_unreported reason).3
 
       beacon_none : (o : Option (ℕ × ℕ)) → is_beacon (noticed_of o) ≡ false
       beacon_none None = refl
@@ -527,7 +527,7 @@ module _ (w : World) (logs : LogsKept w) (n : ℕ) where
       beacon_same (Ok heard_of.Relayed) = refl
       beacon_same (Ok heard_of.Answered) = refl
       beacon_same (Ok (heard_of.Path walk)) = refl
-      beacon_same (Err reason) = sym (reach_untold reason).4
+      beacon_same (Err reason) = sym (reach_unreported reason).4
 
       ack_has : (b : Beside) (y : Entry) (o : Answer_of) → y.event ≡ event → Says b c o → IfSome (acknowledged_by number c o) (HasFrame w y)
       ack_has b y (Ok heard_of.Acked) is s = subst (λ t. IfSome (noticed_of t) (HasFrame w y)) (sym s.read)
@@ -538,8 +538,8 @@ module _ (w : World) (logs : LogsKept w) (n : ℕ) where
       ack_has b y (Ok (heard_of.Path walk)) is s = tt
       ack_has b y (Err reason) is s = tt
 
-      commands_told : IsReachReported w (entry n event (commanded network number d.node c r))
-      commands_told =
+      commands_reported : IsReachReported w (entry n event (commanded network number d.node c r))
+      commands_reported =
           let b = beside_at r.0 number in
           let halted : Answer_of = Err (reach_drops.Known drops.Store) in
           let o = (reaches d.node b halted (λ y. hear_command in_memory y c)).answer in
@@ -586,18 +586,18 @@ module _ (w : World) (logs : LogsKept w) (n : ℕ) where
                 carries = h.carries;
               }
 
-      replied_told : (v : World) (t : Trace) → Quiet t.happened.answer → t.happened.bup ≡ None → t.happened.path ≡ None → t.further.broadcast ≡ None
+      replied_reported : (v : World) (t : Trace) → Quiet t.happened.answer → t.happened.bup ≡ None → t.happened.path ≡ None → t.further.broadcast ≡ None
           → t.further.noticed ≡ replied number (reply_among d.frames)
           → IfSome (replied number (reply_among d.frames)) (HasFrame w (entry n event (v, t))) → IsReachReported w (entry n event (v, t))
-      replied_told v t quiet_is bup path cast noticed frame = record {
+      replied_reported v t quiet_is bup path cast noticed frame = record {
         broadcast = ap (option_map to_all_of) cast ∙ sym (unsent_event event t.happened.answer (unsent_octets a.comes));
-        bup = ap is_some bup ∙ sym (untold t.happened.answer quiet_is).0;
+        bup = ap is_some bup ∙ sym (unreported t.happened.answer quiet_is).0;
         bup_came = subst (λ o. IfSome o (BroadcastCame w event)) (sym bup) tt;
-        path = ap is_some path ∙ sym (untold t.happened.answer quiet_is).1;
+        path = ap is_some path ∙ sym (unreported t.happened.answer quiet_is).1;
         path_came = subst (λ o. IfSome o (WalkCame w event)) (sym path) tt;
-        acked = ap is_acknowledged noticed ∙ no_ack (reply_among d.frames) ∙ sym (untold t.happened.answer quiet_is).2;
-        scans = ap is_scan noticed ∙ no_scan (reply_among d.frames) ∙ sym (untold t.happened.answer quiet_is).3;
-        beacons = ap is_beacon noticed ∙ no_beacon (reply_among d.frames) ∙ sym (untold t.happened.answer quiet_is).4;
+        acked = ap is_acknowledged noticed ∙ no_ack (reply_among d.frames) ∙ sym (unreported t.happened.answer quiet_is).2;
+        scans = ap is_scan noticed ∙ no_scan (reply_among d.frames) ∙ sym (unreported t.happened.answer quiet_is).3;
+        beacons = ap is_beacon noticed ∙ no_beacon (reply_among d.frames) ∙ sym (unreported t.happened.answer quiet_is).4;
         noticed = subst (λ o. IfSome o (HasFrame w (entry n event (v, t)))) (sym noticed) frame;
       }
         where
@@ -613,12 +613,12 @@ module _ (w : World) (logs : LogsKept w) (n : ℕ) where
           no_beacon None = refl
           no_beacon (Some q) = refl
 
-      checked_told : IsReachReported w (entry n event (checked network w number got d r))
+      checked_reported : IsReachReported w (entry n event (checked network w number got d r))
       unfolding world_after
-      checked_told = by_due (due got.path (message_of got) d.answer.answer)
+      checked_reported = by_due (due got.path (message_of got) d.answer.answer)
         where
           sent_alone : IsReachReported w (entry n event with_it)
-          sent_alone = replied_told with_it.0 with_it.1 quiet refl refl refl refl
+          sent_alone = replied_reported with_it.0 with_it.1 quiet refl refl refl refl
               (reply_flew (entry n event with_it) [] (ap (λ fs. w.flights ++ fs) (sym (append-nil (map flight_of d.frames)))))
 
           by_memory : (reply : Reply) (t : Bool) → let v : World = world_after network with_it.0 number (acknowledging d.node reply) in
@@ -627,11 +627,11 @@ module _ (w : World) (logs : LogsKept w) (n : ℕ) where
           by_memory reply true =
               let k = acknowledging d.node reply in
               let q : World × Trace = adds_frames (world_after network with_it.0 number k) with_it.1 k in
-              replied_told q.0 q.1 quiet refl refl refl refl
+              replied_reported q.0 q.1 quiet refl refl refl refl
               (reply_flew (entry n event q) (flights_of network number k) (append_assoc w.flights (map flight_of d.frames) (flights_of network number k)))
           by_memory reply false =
               let q : World × Trace = sends_nothing w (world_after network with_it.0 number (acknowledging d.node reply), with_it.1) in
-              untold_told event q.0 q.1 (silent event q.1 refl refl refl refl refl refl)
+              unreported_is event q.0 q.1 (silent event q.1 refl refl refl refl refl refl)
 
           by_due : (o : Option Reply) → IsReachReported w (entry n event (acknowledged_if network w number d.node o with_it))
           by_due None = sent_alone
@@ -639,48 +639,48 @@ module _ (w : World) (logs : LogsKept w) (n : ℕ) where
 
   -- # Every event
 
-  told_in : (event : Event) (s : Step) → IsReachStep network w event s → ToldIn event s
-  told_in event s (Fails e fault) = tt
-  told_in event s (Known e t other is none) = old_told e t (old_untold w e t is)
-  told_in event s (Rests e word idle other none) =
+  reported_in : (event : Event) (s : Step) → IsReachStep network w event s → ReportedIn event s
+  reported_in event s (Fails e fault) = tt
+  reported_in event s (Known e t other is none) = old_reported e t (old_unreported w e t is)
+  reported_in event s (Rests e word idle other none) =
       let q = idle_quiet word idle in
-      untold_told e _ _ (silent e _ q.0 (unsent_answer e word q.1) refl refl refl refl)
-  told_in event s Opens = untold_told events.Checks _ _ (silent events.Checks _ refl refl refl refl refl refl)
-  told_in event s (Bcasts number x datagram there are) = spreads_told number x datagram
-  told_in event s (Asks from to x y target there other address) =
-      untold_told (events.Path from to) _ _ (quietly (events.Path from to) _
+      unreported_is e _ _ (silent e _ q.0 (unsent_answer e word q.1) refl refl refl refl)
+  reported_in event s Opens = unreported_is events.Checks _ _ (silent events.Checks _ refl refl refl refl refl refl)
+  reported_in event s (Bcasts number x datagram there are) = spreads_reported number x datagram
+  reported_in event s (Asks from to x y target there other address) =
+      unreported_is (events.Path from to) _ _ (quietly (events.Path from to) _
       (ask_quiet (reaches x (beside_at w from) (Err ask_faults.Halted) (λ z. ask_path in_memory z target)).answer) refl refl refl refl refl)
-  told_in event s (Begins number x m there here) = scans_told number (begin_scan m (beside_at w number).scan)
-  told_in event s (Chooses number k x psk there pair) =
-      untold_told (events.Choose number k) _ _ (quietly (events.Choose number k) _
+  reported_in event s (Begins number x m there here) = scans_reported number (begin_scan m (beside_at w number).scan)
+  reported_in event s (Chooses number k x psk there pair) =
+      unreported_is (events.Choose number k) _ _ (quietly (events.Choose number k) _
       (choice_quiet (reaches x (beside_at w number) (Err choices.Halted) (λ z. choose_agent (identity network x psk) z k w.clock)).answer)
       refl refl refl refl refl)
-  told_in event s (Discovers e number x m octets link other there here comes over is) = finds_told e number x m octets link comes over
-  told_in event s (Unbelieves e number x octets got a is) =
+  reported_in event s (Discovers e number x m octets link other there here comes over is) = finds_reported e number x m octets link comes over
+  reported_in event s (Unbelieves e number x octets got a is) =
       record { broadcast = refl; bup = refl; bup_came = tt; path = refl; path_came = tt; acked = refl; scans = refl; beacons = refl; noticed = tt }
-  told_in event s (Commands e number x octets cost got c a low passes is) = commands_told e number x octets cost got a c is
-  told_in event s (Checked e number x octets cost got a low passes none on) = checked_told e number x octets cost got a on
-  told_in event s (Hears e number x octets cost got a low passes none off) = hears_told e number x octets cost got a
-  told_in event s (Ticks seconds) = untold_told (events.Tick seconds) _ _ (silent (events.Tick seconds) _ refl refl refl refl refl refl)
-  told_in event s (Restarts number x b there read) =
-      untold_told (events.Restart number) _ _ (quietly (events.Restart number) _ (restart_quiet (memory_of x.role x.store.records)) refl refl refl refl refl)
+  reported_in event s (Commands e number x octets cost got c a low passes is) = commands_reported e number x octets cost got a c is
+  reported_in event s (Checked e number x octets cost got a low passes none on) = checked_reported e number x octets cost got a on
+  reported_in event s (Hears e number x octets cost got a low passes none off) = hears_reported e number x octets cost got a
+  reported_in event s (Ticks seconds) = unreported_is (events.Tick seconds) _ _ (silent (events.Tick seconds) _ refl refl refl refl refl refl)
+  reported_in event s (Restarts number x b there read) =
+      unreported_is (events.Restart number) _ _ (quietly (events.Restart number) _ (restart_quiet (memory_of x.role x.store.records)) refl refl refl refl refl)
 
 -- # Runs
 
-told_from : (w : World) → LogsKept w → (entries : List Entry) → AreEvents (events_of entries) → IsRun network w entries → All HoldsAfter entries
+reported_from : (w : World) → LogsKept w → (entries : List Entry) → AreEvents (events_of entries) → IsRun network w entries → All HoldsAfter entries
     → AreReachReported w entries
-told_from w logs [] says run holds = tt
-told_from w logs (x ∷ xs) says run holds =
+reported_from w logs [] says run holds = tt
+reported_from w logs (x ∷ xs) says run holds =
     let event = All-head IsEvent x.event (events_of xs) says in
-    let is : ToldIn w logs x.number x.event (Ok (x.after, x.trace)) = subst (ToldIn w logs x.number x.event) run.2
-    (told_in w logs x.number x.event (line_step network w x.event) (reach_step_is network w logs x.event event)) in (
+    let is : ReportedIn w logs x.number x.event (Ok (x.after, x.trace)) = subst (ReportedIn w logs x.number x.event) run.2
+    (reported_in w logs x.number x.event (line_step network w x.event) (reach_step_is network w logs x.event event)) in (
       is,
-      told_from x.after (All-head HoldsAfter x xs holds).logs xs (All-tail IsEvent x.event (events_of xs) says) run.3 (All-tail HoldsAfter x xs holds),
+      reported_from x.after (All-head HoldsAfter x xs holds).logs xs (All-tail IsEvent x.event (events_of xs) says) run.3 (All-tail HoldsAfter x xs holds),
     )
 
 -- so it is of every run of the network
-pub every_told : EveryEventIsReported
-every_told entries r = told_from start tt entries r.events r.run (every_run_holds entries r)
+pub every_reported : EveryEventIsReported
+every_reported entries r = reported_from start tt entries r.events r.run (every_run_holds entries r)
 
 -- # The list of broadcasts
 
@@ -697,4 +697,4 @@ list_from w (x ∷ xs) world_after =
     first = by_one x.trace.further.broadcast ∙ ap one_of world_after.0.broadcast
 
 pub every_list : EveryBroadcastIsListed
-every_list entries r = list_from start entries (every_told entries r)
+every_list entries r = list_from start entries (every_reported entries r)

@@ -98,10 +98,10 @@ not_admitted said.Allowed e = absurd (cc (e))
 not_admitted _ e = refl
 
 -- no broadcast was handed up, no walk reported, no acknowledgement and no beacon taken, and no scan begun
-abbrev pub Untold : Answer → Type 0
-Untold a = (is_bup a ≡ false) × (is_path a ≡ false) × (is_acked a ≡ false) × (is_scanning a ≡ false) × (is_beaconed a ≡ false)
+abbrev pub Unreported : Answer → Type 0
+Unreported a = (is_bup a ≡ false) × (is_path a ≡ false) × (is_acked a ≡ false) × (is_scanning a ≡ false) × (is_beaconed a ≡ false)
 
-pub none_new : (a : Answer) → NotNew a → Untold a
+pub none_new : (a : Answer) → NotNew a → Unreported a
 none_new said.Bup e = absurd (cc (e))
 none_new said.Path e = absurd (cc (e))
 none_new said.Acked e = absurd (cc (e))
@@ -109,8 +109,8 @@ none_new said.Scanning e = absurd (cc (e))
 none_new said.Beaconed e = absurd (cc (e))
 none_new _ e = (refl, refl, refl, refl, refl)
 
-pub untold : (a : Answer) → Quiet a → Untold a
-untold a q = none_new a (not_new a q)
+pub unreported : (a : Answer) → Quiet a → Unreported a
+unreported a q = none_new a (not_new a q)
 
 pub send_quiet : (r : SendRefusal) → Quiet (send_word r)
 send_quiet sends.Halted = refl
@@ -285,14 +285,14 @@ hears_quiet ciphers x got cost note now = by_role x.role
         (acts x (Err drops.Store) (λ m. coordinator_rules.hear_coordinator (record { eui = x.eui; ciphers = ciphers }) m got cost note now)).answer
     by_role (Meter psk) = meter_quiet (acts x (Err drops.Store) (λ m. meters.hear_meter (identity ciphers x psk) m got cost note now)).answer
 
-pub reach_untold : (r : ReachDropped) → Untold (reach_drop_word r)
-reach_untold (reach_drops.Known reason) = untold (drop_word reason) (drop_quiet reason)
-reach_untold reach_drops.Blacklisted = (refl, refl, refl, refl, refl)
-reach_untold reach_drops.NotAwaited = (refl, refl, refl, refl, refl)
-reach_untold reach_drops.Old = (refl, refl, refl, refl, refl)
-reach_untold reach_drops.OriginsFull = (refl, refl, refl, refl, refl)
-reach_untold reach_drops.Revisited = (refl, refl, refl, refl, refl)
-reach_untold reach_drops.PathLong = (refl, refl, refl, refl, refl)
+pub reach_unreported : (r : ReachDropped) → Unreported (reach_drop_word r)
+reach_unreported (reach_drops.Known reason) = unreported (drop_word reason) (drop_quiet reason)
+reach_unreported reach_drops.Blacklisted = (refl, refl, refl, refl, refl)
+reach_unreported reach_drops.NotAwaited = (refl, refl, refl, refl, refl)
+reach_unreported reach_drops.Old = (refl, refl, refl, refl, refl)
+reach_unreported reach_drops.OriginsFull = (refl, refl, refl, refl, refl)
+reach_unreported reach_drops.Revisited = (refl, refl, refl, refl, refl)
+reach_unreported reach_drops.PathLong = (refl, refl, refl, refl, refl)
 
 pub lost_quiet : (r : DiscoveryDropped) → Quiet (discovery_word (Err r))
 lost_quiet discovery_drops.Halted = refl

@@ -227,21 +227,21 @@ not_own h i own origin here apart (inr none) = none-some own (sym none ∙ here)
 pub said_offers : (h : Homes) (w : World) (i : ℕ) (got : Accepted) (cost note now : ℕ) → RoutesFit got → SaidRight h w got → 1 ≤ cost → (address : Option ℕ)
     → IsAt (At h i) address → (by origin : ℕ) (rank : Rank)
     → Offered (heard_given got cost note now) address by origin rank → OfferFits (Own h i) (IsNearer h w) by origin rank now
-said_offers h w i got cost note now fits right far address at by origin rank (ByRequest own number c o dest here apart few told) =
-    let same : got ≡ told.came.got = same_Some _ _ told.came.is in
-    let said = right.run by true told.came.key told.code told.body (Rreq number c o dest) (ap (λ (x : Accepted). x.path) same ∙ told.came.path)
-    (ap (λ (x : Accepted). unit_in x.payload) same ∙ told.came.unit) told.first told.read in
+said_offers h w i got cost note now fits right far address at by origin rank (ByRequest own number c o dest here apart few came_so) =
+    let same : got ≡ came_so.came.got = same_Some _ _ came_so.came.is in
+    let said = right.run by true came_so.came.key came_so.code came_so.body (Rreq number c o dest) (ap (λ (x : Accepted). x.path) same ∙ came_so.came.path)
+    (ap (λ (x : Accepted). unit_in x.payload) same ∙ came_so.came.unit) came_so.first came_so.read in
     record {
-      fits = heard_offers got cost note now fits address by origin rank (ByRequest own number c o dest here apart few told);
+      fits = heard_offers got cost note now fits address by origin rank (ByRequest own number c o dest here apart few came_so);
       apart = not_own h i own origin (subst (IsAt (At h i)) here at) apart;
       cause = said_nearer h w by origin number c cost _ said far said.backed;
     }
-said_offers h w i got cost note now fits right far address at by origin rank (ByReply own number c o to here apart few told) =
-    let same : got ≡ told.came.got = same_Some _ _ told.came.is in
-    let said = right.run by false told.came.key told.code told.body (Rrep number c o to) (ap (λ (x : Accepted). x.path) same ∙ told.came.path)
-    (ap (λ (x : Accepted). unit_in x.payload) same ∙ told.came.unit) told.first told.read in
+said_offers h w i got cost note now fits right far address at by origin rank (ByReply own number c o to here apart few came_so) =
+    let same : got ≡ came_so.came.got = same_Some _ _ came_so.came.is in
+    let said = right.run by false came_so.came.key came_so.code came_so.body (Rrep number c o to) (ap (λ (x : Accepted). x.path) same ∙ came_so.came.path)
+    (ap (λ (x : Accepted). unit_in x.payload) same ∙ came_so.came.unit) came_so.first came_so.read in
     record {
-      fits = heard_offers got cost note now fits address by origin rank (ByReply own number c o to here apart few told);
+      fits = heard_offers got cost note now fits address by origin rank (ByReply own number c o to here apart few came_so);
       apart = not_own h i own origin (subst (IsAt (At h i)) here at) apart;
       cause = said_nearer h w by origin number c cost _ said far said.backed;
     }

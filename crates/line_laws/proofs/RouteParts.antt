@@ -101,11 +101,11 @@ module _ (ciphers : Ciphers) (h : Homes) where
   frame_flies v number y there (Up agent from message) b read = IsPlain refl
   frame_flies v number y there (Down from message) b read = IsPlain refl
 
-  pub told_step : {A : Type 0} (w : World) (number : ℕ) (x : Node) (d : NodeStep A) → node_at w number ≡ Some x
+  pub after_step : {A : Type 0} (w : World) (number : ℕ) (x : Node) (d : NodeStep A) → node_at w number ≡ Some x
       → NodeRanks (At h number) (Own h number) (IsNearer h w) x d.node d.frames → All (FrameRead ciphers) d.frames
       → StationStep ciphers h w (world_after ciphers w number d)
   unfolding world_after
-  told_step {A = A} w number x d there r reads = record {
+  after_step {A = A} w number x d there r reads = record {
     forward = forward;
     back = λ i y e. back_by i y e (cases_eq i number);
     flights = λ old. All-append Backed w.flights (flights_of ciphers number d)

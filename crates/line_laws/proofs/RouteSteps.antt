@@ -71,7 +71,7 @@ use Rattle.line_laws.proofs.RankCalls.{send_ranks, near_ranks, counter_ranks, nu
 use Rattle.line_laws.proofs.RankCalls.{coordinator_hears_ranks, allow_ranks, depot_ranks, rekey_ranks, activate_self_ranks, challenge_ranks, activate_ranks}
 use Rattle.line_laws.proofs.RankCalls.{kick_ranks, accept_ranks}
 use Rattle.line_laws.proofs.RouteParts.{At, Own, IsNearer, FlightBacked, IsPlain, IsLetter, RoutingHolds, ComesFrom, From, New, Reached, reach, flight_later}
-use Rattle.line_laws.proofs.RouteParts.{told_step}
+use Rattle.line_laws.proofs.RouteParts.{after_step}
 use Rattle.line_laws.proofs.RouteHeard.{SaidRight, accepted_said, said_offers}
 use Rattle.line_laws.proofs.RouteNodes.{acts_frames, acts_memory, same_store, ticked_ranks, restarted_ranks, blank_ranks, blank_routes, coordinator_ranks}
 use Rattle.line_laws.proofs.RouteNodes.{coordinator_routes}
@@ -145,10 +145,10 @@ module _ (ciphers : Ciphers) (h : Homes) where
   pub CallHolds : World → ℕ → Node → {A : Type 0} → NodeStep A → Type 0
   CallHolds u number x d = NodeRanks (At h number) (Own h number) (IsNearer h u) x d.node d.frames × All (FrameRead ciphers) d.frames
 
-  told_holds : {A : Type 0} {b : World} (u : World) (number : ℕ) (x : Node) (d : NodeStep A) → node_at u number ≡ Some x → CallHolds u number x d
+  after_holds : {A : Type 0} {b : World} (u : World) (number : ℕ) (x : Node) (d : NodeStep A) → node_at u number ≡ Some x → CallHolds u number x d
       → Reached ciphers h b u → Reached ciphers h b (world_after ciphers u number d)
   unfolding CallHolds
-  told_holds u number x d there c good = reach ciphers h u (world_after ciphers u number d) (told_step ciphers h u number x d there c.0 c.1) good
+  after_holds u number x d there c good = reach ciphers h u (world_after ciphers u number d) (after_step ciphers h u number x d there c.0 c.1) good
 
   answering_holds : {A B : Type 0} (u : World) (number : ℕ) (x : Node) (reads : A → B) (d : NodeStep A) → CallHolds u number x d
       → CallHolds u number x (answering reads d)
@@ -241,7 +241,7 @@ module _ (ciphers : Ciphers) (fits : KeepsRanges ciphers) (h : Homes) (w : World
 
   acted_holds : (number : ℕ) (x : Node) (d : NodeStep Answer) → node_at w number ≡ Some x → CallHolds ciphers h (ran w) number x d
       → Holds (Ok (acted ciphers w number d))
-  acted_holds number x d there c = Taken _ (λ honest. told_holds ciphers h (ran w) number x d there c ran_holds)
+  acted_holds number x d there c = Taken _ (λ honest. after_holds ciphers h (ran w) number x d there c ran_holds)
 
   abbrev HearsFor : ℕ → ℕ → ℕ → Rank → Type 0
   HearsFor number = IsNearer h (ran w)
@@ -287,7 +287,7 @@ module _ (ciphers : Ciphers) (fits : KeepsRanges ciphers) (h : Homes) (w : World
       (call (ran w) from x (Err sends.Halted) (λ m. of_station m (calls.send m.station a datagram (w.sends + 1) w.clock)) there
       (λ m here kept sized. send_ranks (At h from) (Own h from) (IsNearer h (ran w)) m here a datagram (w.sends + 1) w.clock)
       (λ m is. reads.send from x m there is to y a datagram other address says)) in
-      sent_holds from to datagram _ _ _ (told_holds ciphers h (ran w) from x _ there c ran_holds)
+      sent_holds from to datagram _ _ _ (after_holds ciphers h (ran w) from x _ there c ran_holds)
 
   send_holds : (from to : ℕ) (datagram : List ℕ) → IsLineOctets datagram → Holds (send ciphers w from to datagram)
   unfolding send
@@ -431,7 +431,7 @@ module _ (ciphers : Ciphers) (fits : KeepsRanges ciphers) (h : Homes) (w : World
   unfolding allow
   allow_holds number = once _ (at_meter number _ (λ x is. at_node 0 _ (λ c there.
       by_option (λ psk. Ok (allowed ciphers w number (acts c (Err orders.Halted) (λ m. coordinator_rules.allow m x.eui psk)))) (psk_of x) (Err faults.Node)
-      (λ psk pair. Taken _ (λ honest. told_holds ciphers h (ran w) 0 c _ there
+      (λ psk pair. Taken _ (λ honest. after_holds ciphers h (ran w) 0 c _ there
       (call (ran w) 0 c (Err orders.Halted) (λ m. coordinator_rules.allow m x.eui psk) there
       (λ m here kept sized. allow_ranks (At h 0) (Own h 0) (IsNearer h (ran w)) m here (own_of c) x.eui psk) (λ m at. none_read (allow_quiet m x.eui psk)))
       ran_holds)) (Fails faults.Node))))
@@ -453,7 +453,7 @@ module _ (ciphers : Ciphers) (fits : KeepsRanges ciphers) (h : Homes) (w : World
       → PlanRanks (At h number) (Own h number) (IsNearer h (set_up w)) m (of_station m (plan m.station)))
       → ((m : Memory) → (of_station m (plan m.station)).frames ≡ []) → Holds (preset ciphers w number plan)
   preset_holds number plan ranks none = setup _ (at_node number _ (λ x there.
-      Taken _ (λ honest. told_holds ciphers h (set_up w) number x _ there
+      Taken _ (λ honest. after_holds ciphers h (set_up w) number x _ there
       (call (set_up w) number x (Ok tt) (λ m. of_station m (plan m.station)) there (λ m here kept sized. ranks m here) (λ m is. none_read (none m)))
       set_up_holds)))
 
@@ -508,9 +508,9 @@ module _ (ciphers : Ciphers) (fits : KeepsRanges ciphers) (h : Homes) (w : World
       let mine = homes.addressed.home a x hx p ep in
       let other = homes.addressed.home b y hy q eq in
       let u = world_after ciphers (set_up w) a (offered_near x q cost w.clock) in
-      let first = told_holds ciphers h (set_up w) a x _ hx
+      let first = after_holds ciphers h (set_up w) a x _ hx
       (near_call (set_up w) a b cost x y p q low hx hy eq apart mine other (address_low y q (node_ok b y hy) eq)) set_up_holds in
-      Taken _ (λ honest. told_holds ciphers h u b y _ (other_there a b (offered_near x q cost w.clock) y back hy)
+      Taken _ (λ honest. after_holds ciphers h u b y _ (other_there a b (offered_near x q cost w.clock) y back hy)
       (near_call u b a cost y x q p low hy hx ep back other mine (address_low x p (node_ok a x hx) ep)) first))
 
   near_holds : (a b cost : ℕ) → cost ≤ 255 → Holds (near ciphers w a b cost)
@@ -528,12 +528,12 @@ module _ (ciphers : Ciphers) (fits : KeepsRanges ciphers) (h : Homes) (w : World
       by_answer (Ok g) e =
           let d2 : NodeStep (Result Granted CoordinatorRefusal) = record d { answer = Ok g } in
           let u = world_after ciphers (set_up w) 0 d2 in
-          let first = told_holds ciphers h (set_up w) 0 c d2 hc (answering_holds ciphers h (set_up w) 0 c (λ _. Ok g) d k) set_up_holds in
+          let first = after_holds ciphers h (set_up w) 0 c d2 hc (answering_holds ciphers h (set_up w) 0 c (λ _. Ok g) d k) set_up_holds in
           let second = call u number x (Ok tt) (λ m. meters.provision m g) hx
           (λ m here kept sized. provision_ranks (At h number) (Own h number) (IsNearer h u) m here g (home g e))
           (λ m is. none_read (install_quiet m.station g)) in
           rw e (Taken (provisioned ciphers u number x g)
-          (λ honest. told_holds ciphers h u number x _ (other_there 0 number d2 x (λ same. apart (sym same)) hx) second first))
+          (λ honest. after_holds ciphers h u number x _ (other_there 0 number d2 x (λ same. apart (sym same)) hx) second first))
 
   depot_holds : (number : ℕ) → DepotFits ciphers h w (events.Depot number) → Holds (depot ciphers w number)
   unfolding depot
@@ -640,7 +640,7 @@ module _ (ciphers : Ciphers) (fits : KeepsRanges ciphers) (h : Homes) (w : World
       by_answer (Err reason) e =
           let k : NodeStep (Result Accepted FrameRefusal) = record (acts x (Err frames.Halted) plan) { answer = Err reason } in
           rw e (Taken (world_after ciphers (ran w) number k, trace_of (happened w (frame_word reason)))
-          (λ honest. told_holds ciphers h (ran w) number x k there accepts ran_holds))
+          (λ honest. after_holds ciphers h (ran w) number x k there accepts ran_holds))
       by_answer (Ok got) e =
           let y = (acts x (Err frames.Halted) plan).node in
           let a = answered got e in
@@ -651,7 +651,7 @@ module _ (ciphers : Ciphers) (fits : KeepsRanges ciphers) (h : Homes) (w : World
           (λ m at. reads.coordinator_hears number x octets cost got m there are e (or_parts _ _ honest).0 at)
           (λ psk is m at. reads.meter_hears number x octets cost got psk m there are e (or_parts _ _ honest).0 is at) here_after in
           counts_hold ciphers h (world_after ciphers (ran w) number d) _ refl refl
-          (told_holds ciphers h (ran w) number x d there
+          (after_holds ciphers h (ran w) number x d there
           (ranks_trans (At h number) (Own h number) (IsNearer h (ran w)) x y d.node _ d.frames accepts.0 second.0, second.1) ran_holds)))
 
   deliver_holds : (flight number cost : ℕ) → 1 ≤ cost → Holds (deliver ciphers w flight number cost)

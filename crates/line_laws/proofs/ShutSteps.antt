@@ -51,7 +51,7 @@ use Rattle.line_laws.proofs.CoordinatorCalls.{accept_ok, accept_failed, accepted
 use Rattle.line_laws.proofs.FlightFolds.{came_octets}
 use Rattle.line_laws.proofs.IssueCalls.{Quietly, send_quietly, broke_quietly, random_quietly, accept_quietly}
 use Rattle.line_laws.proofs.IssueNodes.{acts_whole}
-use Rattle.line_laws.proofs.IssueWorlds.{told_here}
+use Rattle.line_laws.proofs.IssueWorlds.{after_here}
 use Rattle.line_laws.proofs.Nodes.{NodeOk, acts_ok, node_kept, ring_readable}
 use Rattle.line_laws.proofs.NodeCalls.{RoutesFit}
 use Rattle.line_laws.proofs.Readings.{held}
@@ -84,9 +84,9 @@ module _ (eui : Eui) where
   pub same_shut : (u v : World) → v.nodes ≡ u.nodes → ShutAt eui u → ShutAt eui v
   same_shut u v e shut c there = shut c (sym (ap (λ ns. slice_get ns 0) e) ∙ there)
 
-  pub told_shut : {A : Type 0} (u v : World) (number : ℕ) (x : Node) (d : NodeStep A) → ShutAt eui u → v.nodes ≡ slice_set u.nodes number d.node
+  pub after_shut : {A : Type 0} (u v : World) (number : ℕ) (x : Node) (d : NodeStep A) → ShutAt eui u → v.nodes ≡ slice_set u.nodes number d.node
       → node_at u number ≡ Some x → (number ≡ 0 → BookShut eui d.node) → ShutAt eui v
-  told_shut u v number x d shut nodes there book c is = ⊎_elim
+  after_shut u v number x d shut nodes there book c is = ⊎_elim
       (λ (e : number ≡ 0).
       let same : d.node ≡ c = same_Some _ _ (sym (slice_get-set u.nodes number d.node (place_within u.nodes number x there))
       ∙ sym (ap (λ ns. slice_get ns number) nodes) ∙ ap (node_at v) e ∙ is) in
@@ -139,9 +139,9 @@ module _ (eui : Eui) where
     asked_shut number x A halted plan there (AskKick meter y zero_is at) first = acts_shut eui x _ _ (good_at number x there) (first_role number x first there)
         (first_shut number x first there) (λ m sized. kick_shut eui (own_of x) m sized y.eui (given_at meter y at.there).eui)
 
-    told_nodes : {A : Type 0} (u : World) (number : ℕ) (d : NodeStep A) → (world_after ciphers u number d).nodes ≡ slice_set u.nodes number d.node
+    after_nodes : {A : Type 0} (u : World) (number : ℕ) (d : NodeStep A) → (world_after ciphers u number d).nodes ≡ slice_set u.nodes number d.node
     unfolding world_after
-    told_nodes u number d = refl
+    after_nodes u number d = refl
 
     -- # A frame
 
@@ -178,7 +178,7 @@ module _ (eui : Eui) where
         (accept_is a.memory.station x.eui (arrived ciphers octets)) a.is in
         let y = (accepting ciphers x octets).node in
         let d = hears ciphers y got cost (note_by w octets got.path) w.clock in
-        told_shut (ran w) (heard ciphers w number y octets got cost).0 number x d (same_shut w (ran w) refl shut) (told_nodes (ran w) number d) there
+        after_shut (ran w) (heard ciphers w number y octets got cost).0 number x d (same_shut w (ran w) refl shut) (after_nodes (ran w) number d) there
         (λ first. hears_at y got cost (note_by w octets got.path) w.clock did.node (did.role ∙ first_role number x first there)
         (accepted_shut event number x octets there says comes first) routes)
 
@@ -202,7 +202,7 @@ module _ (eui : Eui) where
         (λ y hy. found_one ShutBy shut_failed (node_at w 0) _ (λ c hc. found_one ShutBy shut_failed (psk_of y) _ (λ psk pair.
         let d = acts c (Err orders.Halted) (λ m. coordinator_rules.allow m y.eui psk) in
         let fit = given_at n y hy in
-        told_shut (ran w) (world_after ciphers (ran w) 0 d) 0 c d (same_shut w (ran w) refl shut) (told_nodes (ran w) 0 d) hc
+        after_shut (ran w) (world_after ciphers (ran w) 0 d) 0 c d (same_shut w (ran w) refl shut) (after_nodes (ran w) 0 d) hc
         (λ first. acts_shut eui c (Err orders.Halted) (λ m. coordinator_rules.allow m y.eui psk) (good_at 0 c hc) (first_role 0 c refl hc)
         (first_shut 0 c refl hc)
         (λ m sized. allow_shut eui (own_of c) m sized y.eui psk fit.eui
@@ -226,19 +226,19 @@ module _ (eui : Eui) where
       stays_shut event s (Rests e quiet) e_is other running some = same_shut w (ran w) refl shut
       stays_shut event s (Shows number x) e_is other running some = same_shut w (ran w) refl shut
       stays_shut event s (Acts e number x A halted plan reads there call word asked) e_is other running some =
-          told_shut (ran w) (world_after ciphers (ran w) number (answering reads (acts x halted plan))) number x (answering reads (acts x halted plan))
-          (same_shut w (ran w) refl shut) (told_nodes (ran w) number (answering reads (acts x halted plan))) there
+          after_shut (ran w) (world_after ciphers (ran w) number (answering reads (acts x halted plan))) number x (answering reads (acts x halted plan))
+          (same_shut w (ran w) refl shut) (after_nodes (ran w) number (answering reads (acts x halted plan))) there
           (asked_shut number x A halted plan there asked)
       stays_shut event s (BreaksLink number next x a there call) e_is other running some =
           let plan : Memory → Plan Memory Answer = λ m. changing said.Broken (with_station (calls.broke a m.station) m) in
-          told_shut (ran w) (world_after ciphers (ran w) number (acts x said.Halted plan)) number x (acts x said.Halted plan) (same_shut w (ran w) refl shut)
-          (told_nodes (ran w) number (acts x said.Halted plan)) there
+          after_shut (ran w) (world_after ciphers (ran w) number (acts x said.Halted plan)) number x (acts x said.Halted plan) (same_shut w (ran w) refl shut)
+          (after_nodes (ran w) number (acts x said.Halted plan)) there
           (quiet_shut number x said.Halted plan there (λ m sized. broke_quietly m sized a said.Broken))
       stays_shut event s (SendsFrom from to datagram x a there call target) e_is other running some =
           let plan : Memory → Plan Memory (Result SentHow SendRefusal) = λ m. of_station m (calls.send m.station a datagram (w.sends + 1) w.clock) in
           let d = answering sent_word (acts x (Err sends.Halted) plan) in
-          told_shut (ran w) (sending ciphers w from to datagram (tag_of x) d).0 from x d (same_shut w (ran w) refl shut)
-          (sent_nodes from to datagram (tag_of x) d ∙ told_nodes (ran w) from d) there
+          after_shut (ran w) (sending ciphers w from to datagram (tag_of x) d).0 from x d (same_shut w (ran w) refl shut)
+          (sent_nodes from to datagram (tag_of x) d ∙ after_nodes (ran w) from d) there
           (quiet_shut from x (Err sends.Halted) plan there (λ m sized. send_quietly m sized a datagram (w.sends + 1) w.clock))
       stays_shut event s (AllowsMeter number y c psk hc call hy) e_is other running some =
           subst ShutBy (sym (e_is number refl)) (allows_shut number meter z (eqb-false _ _ other) there named apart)
@@ -246,7 +246,7 @@ module _ (eui : Eui) where
       stays_shut event s (SetsTwo e quiet a b cost x y p q hx hy apart open_is first second fresh near) e_is other running some = absurd (over running open_is)
       stays_shut event s (Provides number x c psk g d ne open_is hx hc pair same is) e_is other running some = absurd (over running open_is)
       stays_shut event s (TurnsDown e number x octets reason d there says comes same is) e_is other running some =
-          told_shut (ran w) (world_after ciphers (ran w) number d) number x d (same_shut w (ran w) refl shut) (told_nodes (ran w) number d) there
+          after_shut (ran w) (world_after ciphers (ran w) number d) number x d (same_shut w (ran w) refl shut) (after_nodes (ran w) number d) there
           (λ first. subst (λ (z : NodeStep _). BookShut eui z.node) (sym same) (accepted_shut e number x octets there says comes first))
       stays_shut event s (Hears e number x octets cost got there says comes low is) e_is other running some =
           heard_shut e number x octets cost got there says comes is
@@ -259,11 +259,11 @@ module _ (eui : Eui) where
           ticked_shut c None at e = absurd (cc)
           ticked_shut c (Some x) at e = λ b kept. shut x at b (subst (λ (z : Node). IsBookKept b z.store.records) (sym (same_Some _ _ e)) kept)
       stays_shut event s (Restarts number x there) e_is other running some =
-          told_shut (ran w) (world_after ciphers (ran w) number (restarts x)) number x (restarts x)
-          (same_shut w (ran w) refl shut) (told_nodes (ran w) number (restarts x)) there (λ first. first_shut number x first there)
+          after_shut (ran w) (world_after ciphers (ran w) number (restarts x)) number x (restarts x)
+          (same_shut w (ran w) refl shut) (after_nodes (ran w) number (restarts x)) there (λ first. first_shut number x first there)
       stays_shut event s (Cuts number nth keeps_new x there) e_is other running some =
           let d : NodeStep Answer = stays (record x { store = record x.store { cut = Some (record { nth = nth; keeps_new = keeps_new }) } }) said.Set in
-          told_shut (ran w) (world_after ciphers (ran w) number d) number x d (same_shut w (ran w) refl shut) (told_nodes (ran w) number d) there
+          after_shut (ran w) (world_after ciphers (ran w) number d) number x d (same_shut w (ran w) refl shut) (after_nodes (ran w) number d) there
           (λ first. first_shut number x first there)
 
     -- every event but one that allows the meter
@@ -322,22 +322,22 @@ module _ (ciphers : Ciphers) (w : World) (ok : WorldOk w) where
       let before : IsKept Coordinator a.memory c.store.records = subst (λ r. IsKept r a.memory c.store.records) (ok.first c hc)
       (node_kept c a.memory good a.there) in
       let this : d.node ≡ k = same_Some _ _
-      (sym (told_here ciphers (ran w) 0 c (answering (ordered_word said.Kicked) d) hc) ∙ ap (λ (u : World). node_at u 0) (sym same) ∙ there) in
+      (sym (after_here ciphers (ran w) 0 c (answering (ordered_word said.Kicked) d) hc) ∙ ap (λ (u : World). node_at u 0) (sym same) ∙ there) in
       let left : k.memory ≡ Some (plan a.memory).memory = ap (λ (z : Node). z.memory) (sym this) ∙ a.leaves in
       let after : IsKept Coordinator (plan a.memory).memory k.store.records = subst (λ r. IsKept r (plan a.memory).memory k.store.records) (okv.first k there)
       (node_kept k (plan a.memory).memory (at_place NodeOk v.nodes 0 k there okv.nodes) left) in
       subst (Shut y.eui) (one_book (plan a.memory).memory.book b k.store.records after.book kept) (kick_leaves_shut y.eui a.memory before.book.table a.is)
 
-  told_running : (c : Node) (plan : Memory → Plan Memory (Result (Unit {0}) CoordinatorRefusal))
+  after_running : (c : Node) (plan : Memory → Plan Memory (Result (Unit {0}) CoordinatorRefusal))
       → (by_coordinator ciphers w c said.Kicked plan).0.running ≡ true
   unfolding world_after
-  told_running c plan = refl
+  after_running c plan = refl
 
   kick_shuts : (number : ℕ) → IsShutOut number ciphers w (kick ciphers w number)
   unfolding kick
   kick_shuts number = begun P fails (has_begun w) _
       (no_first P fails (number == 0) _ (λ other. found_one P fails (node_at w number) _ (λ y hy. found_one P fails (node_at w 0) _ (λ c hc.
-      λ e okv. (eqb-false _ _ other, (y, hy, coordinator_kicks number y c hy hc e _ refl okv, told_running c (λ m. coordinator_rules.kick m y.eui)))))))
+      λ e okv. (eqb-false _ _ other, (y, hy, coordinator_kicks number y c hy hc e _ refl okv, after_running c (λ m. coordinator_rules.kick m y.eui)))))))
     where
       P : Step → Type 0
       P s = IsShutOut number ciphers w s

@@ -44,7 +44,7 @@ module _ {A : Type 0} (answer : A) (ps : List Write) (q : Memory → Plan Memory
       (left_by (node_with (Some m)) (outcome_of a (storing ps m)))
       (acts (left_by (node_with (Some m)) (outcome_of a (storing ps m))).node answer q)
   unfolding acts carry_out
-  by_first m a true e = rw e (record { node = both _ refl; frames = sent _ refl; made = tags _ refl; silent = refl; untold = refl })
+  by_first m a true e = rw e (record { node = both _ refl; frames = sent _ refl; made = tags _ refl; silent = refl; none_made = refl })
     where
       rest : Written
       rest = write (q m).puts a.cut a.records
@@ -61,12 +61,12 @@ module _ {A : Type 0} (answer : A) (ps : List Write) (q : Memory → Plan Memory
       tags : (t : Bool) → rest.whole ≡ t → (outcome_of rest (behind ps (q m))).made ≡ (outcome_of rest (q m)).made
       tags true e = rw e refl
       tags false e = rw e refl
-  by_first m a false e = rw e (record { node = refl; frames = refl; made = refl; silent = refl; untold = refl })
+  by_first m a false e = rw e (record { node = refl; frames = refl; made = refl; silent = refl; none_made = refl })
 
   by_memory : (o : Option Memory) → IsSplit (acts (node_with o) answer (λ m. behind ps (q m))) (acts (node_with o) tt (storing ps))
       (acts (acts (node_with o) tt (storing ps)).node answer q)
   unfolding acts carry_out
-  by_memory None = record { node = refl; frames = refl; made = refl; silent = refl; untold = refl }
+  by_memory None = record { node = refl; frames = refl; made = refl; silent = refl; none_made = refl }
   by_memory (Some m) = rw (write_append ps (q m).puts store.cut store.records) (by_first m (write ps store.cut store.records) _ refl)
 
 -- a node carries out a plan of two parts

@@ -88,7 +88,7 @@ use Rattle.line_laws.proofs.CoordinatorCalls.{activate_self_ok, challenge_ok, ac
 use Rattle.line_laws.proofs.StoreMarks.{accept_is}
 use Rattle.line_laws.proofs.Quiet.{acts_quiet, counter_quiet, number_quiet, near_quiet, install_quiet, allow_quiet, depot_quiet, accept_quiet}
 use Rattle.line_laws.proofs.Answered.{acts_answered, depot_grants}
-use Rattle.line_laws.proofs.Worlds.{NodeFits, FlightFits, Rising, WorldOk, within as place_within, at_place, told_fits, told_ok, counts_ok}
+use Rattle.line_laws.proofs.Worlds.{NodeFits, FlightFits, Rising, WorldOk, within as place_within, at_place, after_fits, ok_after, counts_ok}
 
 -- # What a node does by itself
 
@@ -279,23 +279,23 @@ true_false e = cc
 -- # Steps
 
 -- the flights that an event says are those that it adds
-abbrev pub IsTold : World → World × Trace → Type 0
-IsTold w r = length r.0.flights ≡ length w.flights + r.1.happened.flights
+abbrev pub CountsFlights : World → World × Trace → Type 0
+CountsFlights w r = length r.0.flights ≡ length w.flights + r.1.happened.flights
 
 pub data StepGood (w : World) : Step → Type 0 where
   Fails : (fault : StepFault) → StepGood w (Err fault)
-  Taken : (r : World × Trace) → WorldOk r.0 → r.1.happened.flights ≤ 24 → IsTold w r → StepGood w (Ok r)
+  Taken : (r : World × Trace) → WorldOk r.0 → r.1.happened.flights ≤ 24 → CountsFlights w r → StepGood w (Ok r)
 
 -- a node's frames are flights more
-pub told_more : {A : Type 0} (ciphers : Ciphers) (w : World) (number : ℕ) (d : NodeStep A)
+pub after_more : {A : Type 0} (ciphers : Ciphers) (w : World) (number : ℕ) (d : NodeStep A)
     → length (world_after ciphers w number d).flights ≡ length w.flights + length d.frames
 unfolding world_after
-told_more ciphers w number d = let both = length-append w.flights (flights_of ciphers number d) in
+after_more ciphers w number d = let both = length-append w.flights (flights_of ciphers number d) in
     let same : length (flights_of ciphers number d) ≡ length d.frames = length-map d.frames _ in omega arith
 
-pub told_none : {A : Type 0} (ciphers : Ciphers) (w : World) (number : ℕ) (d : NodeStep A) → d.frames ≡ []
+pub after_none : {A : Type 0} (ciphers : Ciphers) (w : World) (number : ℕ) (d : NodeStep A) → d.frames ≡ []
     → length (world_after ciphers w number d).flights ≡ length w.flights + 0
-told_none ciphers w number d none = told_more ciphers w number d ∙ ap (λ fs. length w.flights + length fs) none
+after_none ciphers w number d none = after_more ciphers w number d ∙ ap (λ fs. length w.flights + length fs) none
 
 pub none_more : (w v : World) → v.flights ≡ w.flights → length v.flights ≡ length w.flights + 0
 none_more w v e = let same : length v.flights ≡ length w.flights = ap length e in omega arith
@@ -356,7 +356,7 @@ module _ (ciphers : Ciphers) (fits : KeepsRanges ciphers) (w : World) (ok : Worl
   -- what a node did is told to the world and to the report
   pub acted_good : (number : ℕ) (x : Node) (d : NodeStep Answer) → node_at w number ≡ Some x → DidOk x d → StepGood w (Ok (acted ciphers w number d))
   acted_good number x d there did =
-      Taken _ (told_ok ciphers fits (ran w) number x d ran_ok there did (λ e. absurd (true_false e))) did.few (told_more ciphers (ran w) number d)
+      Taken _ (ok_after ciphers fits (ran w) number x d ran_ok there did (λ e. absurd (true_false e))) did.few (after_more ciphers (ran w) number d)
 
   -- # coordinator, meter
 
@@ -409,7 +409,7 @@ module _ (ciphers : Ciphers) (fits : KeepsRanges ciphers) (w : World) (ok : Worl
       acted_good number x _ there (answering_ok x leave_word _ (acts_ok x (Err leaves.Halted) meters.leave (node_ok number x there)
       (λ m here kept sized. leave_ok x.role m sized ciphers fits (identity ciphers x (record { 0 = [] })) refl)))))
 
-  sent_good : (from to : ℕ) (datagram : List ℕ) (tag : ℕ) (b : Bool) (r : World × Trace) → WorldOk r.0 → r.1.happened.flights ≤ 24 → IsTold w r
+  sent_good : (from to : ℕ) (datagram : List ℕ) (tag : ℕ) (b : Bool) (r : World × Trace) → WorldOk r.0 → r.1.happened.flights ≤ 24 → CountsFlights w r
       → StepGood w (Ok (sent_if w from to datagram tag b r))
   sent_good from to datagram tag false r g few is = Taken _ g few is
   sent_good from to datagram tag true r g few is = Taken _ (counts_ok r.0 (record r.0 { sends = r.0.sends + 1 }) g refl refl (λ e. e)) few is
@@ -420,8 +420,8 @@ module _ (ciphers : Ciphers) (fits : KeepsRanges ciphers) (w : World) (ok : Worl
   sends_good from to datagram x (Some a) there =
       let did = answering_ok x sent_word _ (acts_ok x (Err sends.Halted) (λ m. of_station m (calls.send m.station a datagram (w.sends + 1) w.clock))
       (node_ok from x there) (λ m here kept sized. send_ok x.role m sized a datagram (w.sends + 1) w.clock)) in
-      sent_good from to datagram _ _ _ (told_ok ciphers fits (ran w) from x _ ran_ok there did (λ e. absurd (true_false e))) did.few
-      (told_more ciphers (ran w) from _)
+      sent_good from to datagram _ _ _ (ok_after ciphers fits (ran w) from x _ ran_ok there did (λ e. absurd (true_false e))) did.few
+      (after_more ciphers (ran w) from _)
 
   send_good : (from to : ℕ) (datagram : List ℕ) → StepGood w (send ciphers w from to datagram)
   unfolding send
@@ -560,7 +560,7 @@ module _ (ciphers : Ciphers) (fits : KeepsRanges ciphers) (w : World) (ok : Worl
   pub received_good : (number : ℕ) (x : Node) (forged : Bool) (d : NodeStep Reception) → node_at w number ≡ Some x → DidOk x d
       → StepGood w (Ok (received ciphers w number forged d))
   received_good number x forged d there did = Taken _ (counts_ok (world_after ciphers (ran w) number d) _
-      (told_ok ciphers fits (ran w) number x d ran_ok there did (λ e. absurd (true_false e))) refl refl (λ e. e)) did.few (told_more ciphers (ran w) number d)
+      (ok_after ciphers fits (ran w) number x d ran_ok there did (λ e. absurd (true_false e))) refl refl (λ e. e)) did.few (after_more ciphers (ran w) number d)
 
   arrives_good : (number : ℕ) (x : Node) (octets : List ℕ) (cost : ℕ) → node_at w number ≡ Some x → AreOctets octets
       → StepGood w (Ok (arrives ciphers w number x octets cost))
@@ -585,7 +585,7 @@ module _ (ciphers : Ciphers) (fits : KeepsRanges ciphers) (w : World) (ok : Worl
       by_answer (Err reason) e =
           let k : NodeStep (Result Accepted FrameRefusal) = record (acts x (Err frames.Halted) plan) { answer = Err reason } in
           rw e (Taken (world_after ciphers (ran w) number k, trace_of (happened w (frame_word reason)))
-          (told_ok ciphers fits (ran w) number x k ran_ok there (record {
+          (ok_after ciphers fits (ran w) number x k ran_ok there (record {
             node = did.node;
             role = did.role;
             eui = did.eui;
@@ -594,7 +594,7 @@ module _ (ciphers : Ciphers) (fits : KeepsRanges ciphers) (w : World) (ok : Worl
             from = did.from;
             marked = did.marked;
           }) (λ e. absurd (true_false e))) (omega arith)
-          (told_none ciphers (ran w) number k
+          (after_none ciphers (ran w) number k
           (acts_quiet x (Err frames.Halted) plan (λ m. accept_quiet m.station _ _ (accept_is m.station x.eui (arrived ciphers octets))))))
       by_answer (Ok got) e =
           let y = (acts x (Err frames.Halted) plan).node in
@@ -678,9 +678,9 @@ module _ (ciphers : Ciphers) (fits : KeepsRanges ciphers) (w : World) (ok : Worl
   unfolding allow
   allow_good number = once _ (at_meter number _ (λ x is. at_node 0 _ (λ c there.
       by_option (λ psk. Ok (allowed ciphers w number (acts c (Err orders.Halted) (λ m. coordinator_rules.allow m x.eui psk)))) (psk_of x) (Err faults.Node)
-      (λ psk pair. Taken _ (told_ok ciphers fits (ran w) 0 c _ ran_ok there (coordinator_acts c (Err orders.Halted) _ (ok.first c there) (node_ok 0 c there)
+      (λ psk pair. Taken _ (ok_after ciphers fits (ran w) 0 c _ ran_ok there (coordinator_acts c (Err orders.Halted) _ (ok.first c there) (node_ok 0 c there)
       (λ m sized. allow_ok ciphers fits (own_of c) m sized x.eui psk (node_fits number x is).eui ((node_fits number x is).psk psk (psk_is x psk pair))))
-      (λ e. absurd (true_false e))) (omega arith) (told_none ciphers (ran w) 0 _ (acts_quiet c (Err orders.Halted) _ (λ m. allow_quiet m x.eui psk))))
+      (λ e. absurd (true_false e))) (omega arith) (after_none ciphers (ran w) 0 _ (acts_quiet c (Err orders.Halted) _ (λ m. allow_quiet m x.eui psk))))
       (Fails faults.Node))))
 
   -- # Setup
@@ -742,9 +742,9 @@ module _ (ciphers : Ciphers) (fits : KeepsRanges ciphers) (w : World) (ok : Worl
       → ((role : Role) (m : Memory) → IsMemorySized m → PlanFits role m (of_station m (plan m.station))) → ((l : StationMemory) → (plan l).frames ≡ [])
       → StepGood w (preset ciphers w number plan)
   preset_good number plan f quiet = setup_with _ (λ began. at_node number _ (λ x there.
-      Taken _ (told_fits ciphers (set_up w) number x _ set_up_ok there (acts_fits x (Ok tt) _ (node_ok number x there) (λ m here kept sized. f x.role m sized))
+      Taken _ (after_fits ciphers (set_up w) number x _ set_up_ok there (acts_fits x (Ok tt) _ (node_ok number x there) (λ m here kept sized. f x.role m sized))
       (set_up_ok.quiet (still began)) (acts_quiet x (Ok tt) _ (λ m. quiet m.station))) (omega arith)
-      (told_none ciphers (set_up w) number _ (acts_quiet x (Ok tt) _ (λ m. quiet m.station)))))
+      (after_none ciphers (set_up w) number _ (acts_quiet x (Ok tt) _ (λ m. quiet m.station)))))
 
   -- an address of a node is below FFFE
   address_low : (x : Node) (address : ℕ) → NodeOk x → node_address x ≡ Some address → address < 0xFFFE
@@ -769,11 +769,11 @@ module _ (ciphers : Ciphers) (fits : KeepsRanges ciphers) (w : World) (ok : Worl
       let apart : b ≢ a = λ same. eqb-false _ _ parts.0 (sym same) in
       let first = offered x q (node_ok a x hx) (address_low y q (node_ok b y hy) eq) in
       let second = offered y p (node_ok b y hy) (address_low x p (node_ok a x hx) ep) in
-      Taken _ (told_ok ciphers fits (world_after ciphers (set_up w) a (offered_near x q cost w.clock)) b y _
-      (told_ok ciphers fits (set_up w) a x _ set_up_ok hx first (λ e. offered_quiet x q)) (other_there a b (offered_near x q cost w.clock) y apart hy) second
+      Taken _ (ok_after ciphers fits (world_after ciphers (set_up w) a (offered_near x q cost w.clock)) b y _
+      (ok_after ciphers fits (set_up w) a x _ set_up_ok hx first (λ e. offered_quiet x q)) (other_there a b (offered_near x q cost w.clock) y apart hy) second
       (λ e. offered_quiet y p)) (omega arith)
-      (let one = told_none ciphers (set_up w) a (offered_near x q cost w.clock) (offered_quiet x q) in
-      let two = told_none ciphers (world_after ciphers (set_up w) a (offered_near x q cost w.clock)) b (offered_near y p cost w.clock) (offered_quiet y p) in
+      (let one = after_none ciphers (set_up w) a (offered_near x q cost w.clock) (offered_quiet x q) in
+      let two = after_none ciphers (world_after ciphers (set_up w) a (offered_near x q cost w.clock)) b (offered_near y p cost w.clock) (offered_quiet y p) in
       omega arith))
     where
       offered_quiet : (z : Node) (to : ℕ) → (offered_near z to cost w.clock).frames ≡ []
@@ -796,15 +796,15 @@ module _ (ciphers : Ciphers) (fits : KeepsRanges ciphers) (w : World) (ok : Worl
       by_answer (Err reason) e = rw e (Fails faults.Setup)
       by_answer (Ok g) e =
           let k : NodeStep (Result Granted CoordinatorRefusal) = record d { answer = Ok g } in
-          let first = told_ok ciphers fits (set_up w) 0 c k set_up_ok hc
+          let first = ok_after ciphers fits (set_up w) 0 c k set_up_ok hc
           (record { node = did.node; role = did.role; eui = did.eui; few = did.few; rises = did.rises; from = did.from; marked = did.marked }) (λ e. quiet) in
           let second = acts_ok x (Ok tt) (λ m. meters.provision m g) (node_ok number x hx)
           (λ m here kept sized. provision_ok x.role m sized g (readable g e)) in
           rw e (Taken (provisioned ciphers (world_after ciphers (set_up w) 0 k) number x g)
-          (told_ok ciphers fits (world_after ciphers (set_up w) 0 k) number x _ first (other_there 0 number k x (λ same. apart (sym same)) hx) second
+          (ok_after ciphers fits (world_after ciphers (set_up w) 0 k) number x _ first (other_there 0 number k x (λ same. apart (sym same)) hx) second
           (λ e. acts_quiet x (Ok tt) (λ m. meters.provision m g) (λ m. install_quiet m.station g))) (omega arith)
-          (let one = told_none ciphers (set_up w) 0 k quiet in
-          let two = told_none ciphers (world_after ciphers (set_up w) 0 k) number (acts x (Ok tt) (λ m. meters.provision m g))
+          (let one = after_none ciphers (set_up w) 0 k quiet in
+          let two = after_none ciphers (world_after ciphers (set_up w) 0 k) number (acts x (Ok tt) (λ m. meters.provision m g))
           (acts_quiet x (Ok tt) (λ m. meters.provision m g) (λ m. install_quiet m.station g)) in omega arith))
 
   depot_good : (number : ℕ) → StepGood w (depot ciphers w number)

@@ -60,7 +60,7 @@ use Rattle.line_laws.specs.FurtherLines.{HoldsAfter}
 use Rattle.line_laws.specs.ReachTraces.{FrameCame}
 use Rattle.line_laws.specs.StepsTaken.{AreStepsTaken, AskCame, AskSent, EveryStepIsTaken, IsStepTaken}
 use Rattle.line_laws.proofs.FurtherOctets.{every_run_holds}
-use Rattle.line_laws.proofs.IssueWorlds.{told_here}
+use Rattle.line_laws.proofs.IssueWorlds.{after_here}
 use Rattle.line_laws.proofs.ReachCame.{command_came}
 use Rattle.line_laws.proofs.ReachHistory.{UntouchedIn, untouched}
 use Rattle.line_laws.proofs.ReachSteps.{Asks, Bcasts, Checked, Chooses, Commands, Discovers, Fails, Hears, IsAccepted, IsReachStep, Known, Opens, Restarts}
@@ -249,12 +249,12 @@ module _ (x : Node) (b : Beside) (m : Memory) (c : NeighbourCommand) where
   unfolding adds_local empty_draft
   same_draft to message = refl
 
-  tells_follow : (walk : List ℕ) → path_in c.body ≡ Some (Tell walk) → (o : Result PathStep PathRefusal) → Leaves (follows_path in_memory y o)
-  tells_follow walk read (Err reason) = dropped (path_word reason)
-  tells_follow walk read (Ok (Forward to more)) =
+  replies_follow : (walk : List ℕ) → path_in c.body ≡ Some (Tell walk) → (o : Result PathStep PathRefusal) → Leaves (follows_path in_memory y o)
+  replies_follow walk read (Err reason) = dropped (path_word reason)
+  replies_follow walk read (Ok (Forward to more)) =
       seals (adds_local to 5 (path_spelling more) (empty_draft y)) heard_of.Relayed (inl (ap (goes_toward x) read))
-  tells_follow walk read (Ok (Answers to more)) = seals (adds_local to 5 (path_spelling more) (empty_draft y)) heard_of.Answered (inl refl)
-  tells_follow walk read (Ok (Done other)) = kept y (heard_of.Path other) refl
+  replies_follow walk read (Ok (Answers to more)) = seals (adds_local to 5 (path_spelling more) (empty_draft y)) heard_of.Answered (inl refl)
+  replies_follow walk read (Ok (Done other)) = kept y (heard_of.Path other) refl
 
   asks_follow : c.code ≡ 5 → c.to_all ≡ false → (target : ℕ) (walk : List ℕ) → path_in c.body ≡ Some (Ask target walk) → (o : Result PathStep PathRefusal)
       → EndsAsk c.from walk o → Leaves (follows_path in_memory y o)
@@ -267,7 +267,7 @@ module _ (x : Node) (b : Beside) (m : Memory) (c : NeighbourCommand) where
 
   walks : c.code ≡ 5 → c.to_all ≡ false → (own : ℕ) (o : Option PathMessage) → path_in c.body ≡ o → Leaves (hear_path_in in_memory y own c.from o)
   walks code alone own None e = bad
-  walks code alone own (Some (Tell walk)) e = tells_follow walk e (taken own c.from (next_toward m.station (Tell walk)) (Tell walk))
+  walks code alone own (Some (Tell walk)) e = replies_follow walk e (taken own c.from (next_toward m.station (Tell walk)) (Tell walk))
   walks code alone own (Some (Ask target walk)) e = asks_follow code alone target walk e
       (taken own c.from (next_toward m.station (Ask target walk)) (Ask target walk))
       (ends_ask own c.from (next_toward m.station (Ask target walk)) target walk)
@@ -337,7 +337,7 @@ module _ (w : World) (n : ℕ) where
 
       by_answer : Keeps x d.node → (o : Result (Unit {0}) AskRefusal) → IfSome (asked x target o) (IsStepTaken w (entry n (events.Path from to) r))
       by_answer k (Err reason) = tt
-      by_answer k (Ok u) = step_taken (events.Path from to) r.0 r.1 from x d.node target (told_here network (ran w) from x d there) k
+      by_answer k (Ok u) = step_taken (events.Path from to) r.0 r.1 from x d.node target (after_here network (ran w) from x d there) k
           (inl (record { other = to; line = refl; node = z; there = other; address = address })) (node_address x) (node_route x target) refl refl
 
   module _ (event : Event) (number : ℕ) (x : Node) (octets : List ℕ) (cost : ℕ) (got : Accepted) (a : IsAccepted network w event number x octets got) where
@@ -378,7 +378,7 @@ module _ (w : World) (n : ℕ) where
           by_answer f k (Err reason) = tt
           by_answer f k (Ok heard_of.Relayed) = subst (λ o. IfSome (goes_toward d.node o) (IsStepTaken w (entry n event q))) (sym f.read)
               (step_taken event q.0 q.1 number d.node did.node f.target
-              (told_here network r.0 number d.node did (told_here network (ran w) number x d a.there)) k
+              (after_here network r.0 number d.node did (after_here network (ran w) number x d a.there)) k
               (inr (record { from = c.from; body = c.body; came = came f; walk = f.walk; read = f.read; last = f.last }))
               (node_address d.node) (node_route d.node f.target) refl refl)
 

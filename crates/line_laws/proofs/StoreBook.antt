@@ -260,8 +260,8 @@ module _ (role : Role) (W : RingWord → Type 0) (L : Granted → Type 0) (P : E
   -- nothing is offered where nothing is heard
   pub unheard_offers : (k : Given) (address : Option ℕ) (by origin : ℕ) (rank : Rank) → Offered (unheard k) address by origin rank
       → EntryFits (routing.offered_entry origin rank by k.now)
-  unheard_offers k address by origin rank (ByRequest own number c o dest here apart few told) = let x = told.came.is in absurd (cc)
-  unheard_offers k address by origin rank (ByReply own number c o to here apart few told) = let x = told.came.is in absurd (cc)
+  unheard_offers k address by origin rank (ByRequest own number c o dest here apart few came_so) = let x = came_so.came.is in absurd (cc)
+  unheard_offers k address by origin rank (ByReply own number c o to here apart few came_so) = let x = came_so.came.is in absurd (cc)
   unheard_offers k address by origin rank (ByItself is) = absurd (cc)
 
   pub made_in_adds : (d : Draft Memory) → MadeIn W L P E g m d → Adds (IsKept role) (empty_draft m) d

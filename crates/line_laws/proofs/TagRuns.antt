@@ -54,7 +54,7 @@ use Rattle.line_laws.specs.Owed.{KeepsRanges}
 use Rattle.line_laws.specs.Tags.{TagRises}
 use Rattle.line_laws.proofs.CallForms.{send_is}
 use Rattle.line_laws.proofs.CustodyEvents.{word_refused, word_taken}
-use Rattle.line_laws.proofs.IssueWorlds.{told_here}
+use Rattle.line_laws.proofs.IssueWorlds.{after_here}
 use Rattle.line_laws.proofs.Made.{RingWord}
 use Rattle.line_laws.proofs.Planned.{planned_failed}
 use Rattle.line_laws.proofs.IssueWords.{Each}
@@ -258,9 +258,9 @@ Tagged w (Ok r) = StepTags w r.0 r.1.sent
 Tagged w (Err fault) = Unit {0}
 
 module _ (ciphers : Ciphers) (w : World) where
-  told_moved : {A : Type 0} (u : World) (number : ℕ) (d : NodeStep A) → AllMoved w u → Moved w number d.node → AllMoved w (world_after ciphers u number d)
+  after_moved : {A : Type 0} (u : World) (number : ℕ) (d : NodeStep A) → AllMoved w u → Moved w number d.node → AllMoved w (world_after ciphers u number d)
   unfolding world_after
-  told_moved u number d all here k y is = ⊎_elim
+  after_moved u number d all here k y is = ⊎_elim
       (λ (e : k ≡ number).
       let inside : k < length (slice_set u.nodes number d.node) = within (slice_set u.nodes number d.node) k y is in
       let same : length (slice_set u.nodes number d.node) ≡ length u.nodes = length-set u.nodes number d.node in
@@ -270,9 +270,9 @@ module _ (ciphers : Ciphers) (w : World) where
       (λ (ne : k ≢ number). all k y (sym (slice_get-set_other u.nodes number k d.node ne) ∙ is))
       (cases_eq k number)
 
-  told_more : {A : Type 0} (u : World) (number : ℕ) (d : NodeStep A) → length (world_after ciphers u number d).nodes ≡ length u.nodes
+  after_more : {A : Type 0} (u : World) (number : ℕ) (d : NodeStep A) → length (world_after ciphers u number d).nodes ≡ length u.nodes
   unfolding world_after
-  told_more u number d = length-set u.nodes number d.node
+  after_more u number d = length-set u.nodes number d.node
 
   pub same_moved : AllMoved w w
   same_moved k y is = Was y is (λ t e. Stays e)
@@ -282,11 +282,11 @@ module _ (ciphers : Ciphers) (fits : KeepsRanges ciphers) (w : World) (ok : Worl
   good_at number x there = at_place NodeOk w.nodes number x there ok.nodes
 
   -- one node did something, and nothing was sent as a datagram
-  pub told_tags : {A : Type 0} (u : World) (number : ℕ) (x : Node) (d : NodeStep A) → AllMoved w u → length u.nodes ≡ length w.nodes → node_at w number ≡ Some x
+  pub after_tags : {A : Type 0} (u : World) (number : ℕ) (x : Node) (d : NodeStep A) → AllMoved w u → length u.nodes ≡ length w.nodes → node_at w number ≡ Some x
       → TagMoves x d.node → StepTags w (world_after ciphers u number d) None
-  told_tags u number x d all same there moves = record {
-    nodes = told_moved ciphers w u number d all (Was x there moves);
-    more = let m = told_more ciphers w u number d in omega arith;
+  after_tags u number x d all same there moves = record {
+    nodes = after_moved ciphers w u number d all (Was x there moves);
+    more = let m = after_more ciphers w u number d in omega arith;
     took = none_took w (world_after ciphers u number d);
   }
 
@@ -386,8 +386,8 @@ module _ (ciphers : Ciphers) (fits : KeepsRanges ciphers) (w : World) (ok : Worl
       d : NodeStep (Result SentHow SendRefusal)
       d = acts x (Err sends.Halted) (λ m. of_station m (calls.send m.station a datagram (w.sends + 1) w.clock))
 
-      told_so : StepTags w (world_after ciphers (ran w) from (answering sent_word d)) None
-      told_so = told_tags (ran w) from x (answering sent_word d) (same_moved ciphers w) refl there moves
+      after_so : StepTags w (world_after ciphers (ran w) from (answering sent_word d)) None
+      after_so = after_tags (ran w) from x (answering sent_word d) (same_moved ciphers w) refl there moves
 
       By : Answer → Type 0
       By answer = Tagged w (Ok (sent_if w from to datagram (tag_of x) (is_taken answer) (acted ciphers w from (answering sent_word d))))
@@ -397,8 +397,8 @@ module _ (ciphers : Ciphers) (fits : KeepsRanges ciphers) (w : World) (ok : Worl
 
       sent_so : (h : SentHow) → d.answer ≡ Ok h → Tagged w (Ok (sent_if w from to datagram (tag_of x) true (acted ciphers w from (answering sent_word d))))
       sent_so h e = record {
-        nodes = told_so.nodes;
-        more = told_so.more;
+        nodes = after_so.nodes;
+        more = after_so.more;
         took = λ s is. subst (Took w v) (same_Some (record { from = from; to = to; datagram = datagram; tag = tag_of x }) s is) (record {
           node = x;
           there = there;
@@ -408,12 +408,12 @@ module _ (ciphers : Ciphers) (fits : KeepsRanges ciphers) (w : World) (ok : Worl
       }
         where
           node_is : (y : Node) → node_at (world_after ciphers (ran w) from (answering sent_word d)) from ≡ Some y → d.node ≡ y
-          node_is y here = same_Some _ _ (sym (told_here ciphers (ran w) from x (answering sent_word d) there) ∙ here)
+          node_is y here = same_Some _ _ (sym (after_here ciphers (ran w) from x (answering sent_word d) there) ∙ here)
 
       by_answer : (r : Result SentHow SendRefusal) → d.answer ≡ r → By (sent_word d.answer)
       by_answer (Err reason) e = subst (λ (r : Result SentHow SendRefusal). By (sent_word r)) (sym e)
           (subst (λ (b : Bool). Tagged w (Ok (sent_if w from to datagram (tag_of x) b (acted ciphers w from (answering sent_word d)))))
-          (sym (word_refused reason)) told_so)
+          (sym (word_refused reason)) after_so)
       by_answer (Ok h) e = subst (λ (r : Result SentHow SendRefusal). By (sent_word r)) (sym e)
           (subst (λ (b : Bool). Tagged w (Ok (sent_if w from to datagram (tag_of x) b (acted ciphers w from (answering sent_word d))))) (sym (word_taken h))
           (sent_so h e))
@@ -426,38 +426,38 @@ module _ (ciphers : Ciphers) (fits : KeepsRanges ciphers) (w : World) (ok : Worl
   event_tags event s (Rests e quiet) = record { nodes = same_moved ciphers w; more = omega arith; took = none_took w (ran w) }
   event_tags event s (Shows number x) = record { nodes = same_moved ciphers w; more = omega arith; took = none_took w (ran w) }
   event_tags event s (Acts e number x A halted plan reads there call word asked) =
-      told_tags (ran w) number x (answering reads (acts x halted plan)) (same_moved ciphers w) refl there (call_moves number x A halted plan there call)
+      after_tags (ran w) number x (answering reads (acts x halted plan)) (same_moved ciphers w) refl there (call_moves number x A halted plan there call)
   event_tags event s (BreaksLink number next x a there call) =
       let plan : Memory → Plan Memory Answer = λ m. changing said.Broken (with_station (calls.broke a m.station) m) in
-      told_tags (ran w) number x (acts x said.Halted plan) (same_moved ciphers w) refl there (call_moves number x Answer said.Halted plan there call)
+      after_tags (ran w) number x (acts x said.Halted plan) (same_moved ciphers w) refl there (call_moves number x Answer said.Halted plan there call)
   event_tags event s (SendsFrom from to datagram x a there call target) = sending_tags from to datagram x a there
       (call_moves from x _ (Err sends.Halted) (λ m. of_station m (calls.send m.station a datagram (w.sends + 1) w.clock)) there call)
-  event_tags event s (AllowsMeter number y c psk there call meter) = told_tags (ran w) 0 c
+  event_tags event s (AllowsMeter number y c psk there call meter) = after_tags (ran w) 0 c
       (acts c (Err orders.Halted) (λ m. coordinator_rules.allow m y.eui psk)) (same_moved ciphers w) refl there
       (call_moves 0 c _ (Err orders.Halted) (λ m. coordinator_rules.allow m y.eui psk) there call)
-  event_tags event s (Sets e quiet number x plan there open_is is) = told_tags (set_up w) number x (acts x (Ok tt) (λ m. of_station m (plan m.station)))
+  event_tags event s (Sets e quiet number x plan there open_is is) = after_tags (set_up w) number x (acts x (Ok tt) (λ m. of_station m (plan m.station)))
       (same_moved ciphers w) refl there
       (call_moves number x _ (Ok tt) (λ m. of_station m (plan m.station)) there (preset_call ciphers w number x plan open_is is))
   event_tags event s (SetsTwo e quiet a b cost x y p q hx hy apart open_is first second fresh near) =
-      let one = told_tags (set_up w) a x (offered_near x q cost w.clock) (same_moved ciphers w) refl hx
+      let one = after_tags (set_up w) a x (offered_near x q cost w.clock) (same_moved ciphers w) refl hx
       (call_moves a x _ (Ok tt) (λ m. of_station m (calls.preset_near m.station q cost w.clock)) hx first) in
-      told_tags (world_after ciphers (set_up w) a (offered_near x q cost w.clock)) b y (offered_near y p cost w.clock) one.nodes
-      (told_more ciphers w (set_up w) a (offered_near x q cost w.clock)) hy
+      after_tags (world_after ciphers (set_up w) a (offered_near x q cost w.clock)) b y (offered_near y p cost w.clock) one.nodes
+      (after_more ciphers w (set_up w) a (offered_near x q cost w.clock)) hy
       (call_moves b y _ (Ok tt) (λ m. of_station m (calls.preset_near m.station p cost w.clock)) hy second)
   event_tags event s (Provides number x c psk g d ne open_is hx hc pair same is) =
       let did : TagMoves c d.node = subst (λ (z : NodeStep (Result Granted CoordinatorRefusal)). TagMoves c z.node) (sym same)
       (λ t e. Stays (acts_stays c (Err orders.Halted) (λ m. coordinator_rules.depot m x.eui psk)
       (λ m. depot_away m (record { eui = c.eui; ciphers = ciphers }) 0 x.eui psk) t e)) in
-      let one = told_tags (set_up w) 0 c d (same_moved ciphers w) refl hc did in
-      told_tags (world_after ciphers (set_up w) 0 d) number x (acts x (Ok tt) (λ m. meters.provision m g)) one.nodes (told_more ciphers w (set_up w) 0 d) hx
+      let one = after_tags (set_up w) 0 c d (same_moved ciphers w) refl hc did in
+      after_tags (world_after ciphers (set_up w) 0 d) number x (acts x (Ok tt) (λ m. meters.provision m g)) one.nodes (after_more ciphers w (set_up w) 0 d) hx
       (λ t e. Stays (acts_stays x (Ok tt) (λ m. meters.provision m g) (λ m. provision_away m g) t e))
   event_tags event s (TurnsDown e number x octets reason d there says comes same is) =
-      told_tags (ran w) number x d (same_moved ciphers w) refl there
+      after_tags (ran w) number x d (same_moved ciphers w) refl there
       (subst (λ (z : NodeStep (Result Accepted FrameRefusal)). TagMoves x z.node) (sym same) (λ t e. Stays (accepts_stays x octets t e)))
   event_tags event s (Hears e number x octets cost got there says comes low is) =
       let y : Node = (accepting ciphers x octets).node in
       let d : NodeStep Reception = hears ciphers y got cost (note_by w octets got.path) w.clock in
-      let one = told_tags (ran w) number x d (same_moved ciphers w) refl there
+      let one = after_tags (ran w) number x d (same_moved ciphers w) refl there
       (λ t now. Stays (hears_stays y got cost (note_by w octets got.path) w.clock t (accepts_stays x octets t now))) in
       record { nodes = one.nodes; more = one.more; took = none_took w (heard ciphers w number y octets got cost).0 }
   event_tags event s (Loses number f there) = record {
@@ -480,8 +480,8 @@ module _ (ciphers : Ciphers) (fits : KeepsRanges ciphers) (w : World) (ok : Worl
 
       ticked_moved : AllMoved w (record (ran w) { clock = w.clock + seconds; nodes = map (ticked (w.clock + seconds)) w.nodes })
       ticked_moved k y there = let p = ticked_at w.nodes k y there in Was p.0 p.1 (subst (TagMoves p.0) p.2 (λ t e. Stays e))
-  event_tags event s (Restarts number x there) = told_tags (ran w) number x (restarts x) (same_moved ciphers w) refl there (λ t e. Stays e)
-  event_tags event s (Cuts number nth keeps_new x there) = told_tags (ran w) number x
+  event_tags event s (Restarts number x there) = after_tags (ran w) number x (restarts x) (same_moved ciphers w) refl there (λ t e. Stays e)
+  event_tags event s (Cuts number nth keeps_new x there) = after_tags (ran w) number x
       (stays (record x { store = record x.store { cut = Some (record { nth = nth; keeps_new = keeps_new }) } }) said.Set) (same_moved ciphers w) refl there
       (λ t e. Stays e)
 

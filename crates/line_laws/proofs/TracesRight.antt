@@ -317,18 +317,18 @@ ran_counted w = record { events = refl; sends = refl; ups = refl; forged = refl;
 set_up_counted : (w : World) → Counted w (set_up w)
 set_up_counted w = record { events = refl; sends = refl; ups = refl; forged = refl; done = refl }
 
-pub told_counted : {A : Type 0} (ciphers : Ciphers) (w u : World) (number : ℕ) (d : NodeStep A) → Counted w u → Counted w (world_after ciphers u number d)
+pub after_counted : {A : Type 0} (ciphers : Ciphers) (w u : World) (number : ℕ) (d : NodeStep A) → Counted w u → Counted w (world_after ciphers u number d)
 unfolding world_after
-told_counted ciphers w u number d c = record { events = c.events; sends = c.sends; ups = c.ups; forged = c.forged; done = c.done }
+after_counted ciphers w u number d c = record { events = c.events; sends = c.sends; ups = c.ups; forged = c.forged; done = c.done }
 
-pub told_flights : {A : Type 0} (ciphers : Ciphers) (u : World) (number : ℕ) (d : NodeStep A)
+pub after_flights : {A : Type 0} (ciphers : Ciphers) (u : World) (number : ℕ) (d : NodeStep A)
     → length (world_after ciphers u number d).flights ≡ length u.flights + length d.frames
 unfolding world_after
-told_flights ciphers u number d = length-append u.flights (flights_of ciphers number d) ∙ ap (λ n. length u.flights + n) (length-map d.frames _)
+after_flights ciphers u number d = length-append u.flights (flights_of ciphers number d) ∙ ap (λ n. length u.flights + n) (length-map d.frames _)
 
-pub told_made : {A : Type 0} (ciphers : Ciphers) (u : World) (number : ℕ) (d : NodeStep A) → (world_after ciphers u number d).made ≡ u.made ++ d.made
+pub made_after : {A : Type 0} (ciphers : Ciphers) (u : World) (number : ℕ) (d : NodeStep A) → (world_after ciphers u number d).made ≡ u.made ++ d.made
 unfolding world_after
-told_made ciphers u number d = refl
+made_after ciphers u number d = refl
 
 pub false_true : false ≡ true → ⊥
 false_true e = cc
@@ -411,19 +411,19 @@ module _ (ciphers : Ciphers) (w : World) where
   acted_right n event number d p none came =
       quiet_right n event (world_after ciphers (ran w) number d) (record (happened w d.answer) { flights = length d.frames })
       d.made d.opened p refl refl refl refl none came
-      (told_counted ciphers w (ran w) number d (ran_counted w)) refl (told_flights ciphers (ran w) number d) (told_made ciphers (ran w) number d)
+      (after_counted ciphers w (ran w) number d (ran_counted w)) refl (after_flights ciphers (ran w) number d) (made_after ciphers (ran w) number d)
 
-  none_told : {A : Type 0} (u : World) (number : ℕ) (d : NodeStep A) → d.frames ≡ [] → d.made ≡ []
+  none_after : {A : Type 0} (u : World) (number : ℕ) (d : NodeStep A) → d.frames ≡ [] → d.made ≡ []
       → (length (world_after ciphers u number d).flights ≡ length u.flights + 0) × ((world_after ciphers u number d).made ≡ u.made ++ [])
-  none_told u number d frames made =
-      (told_flights ciphers u number d ∙ ap (λ fs. length u.flights + length fs) frames, told_made ciphers u number d ∙ ap (λ ts. u.made ++ ts) made)
+  none_after u number d frames made =
+      (after_flights ciphers u number d ∙ ap (λ fs. length u.flights + length fs) frames, made_after ciphers u number d ∙ ap (λ ts. u.made ++ ts) made)
 
   none_twice : {A B : Type 0} (u : World) (a b : ℕ) (d : NodeStep A) (e : NodeStep B) → d.frames ≡ [] → d.made ≡ [] → e.frames ≡ [] → e.made ≡ []
       → (length (world_after ciphers (world_after ciphers u a d) b e).flights ≡ length u.flights + 0)
       × ((world_after ciphers (world_after ciphers u a d) b e).made ≡ u.made ++ [])
   none_twice u a b d e f m g k =
-      let one = none_told u a d f m in
-      let two = none_told (world_after ciphers u a d) b e g k in (
+      let one = none_after u a d f m in
+      let two = none_after (world_after ciphers u a d) b e g k in (
         two.0 ∙ ap (λ n. n + 0) one.0 ∙ omega arith,
         two.1 ∙ append-nil _ ∙ one.1,
       )
@@ -439,7 +439,7 @@ module _ (ciphers : Ciphers) (w : World) where
           → Right ciphers w (entry n (events.Send from to datagram) (sent_if w from to datagram (tag_of x) b (acted ciphers w from d)))
       by_taken false e = acted_right n (events.Send from to datagram) from d (e, p.0, p.1, p.2, p.3) none (unbrought (events.Send from to datagram) (λ b. b))
       by_taken true e =
-          let c = told_counted ciphers w (ran w) from d (ran_counted w) in
+          let c = after_counted ciphers w (ran w) from d (ran_counted w) in
           record {
             adds = record {
               events = c.events;
@@ -448,8 +448,8 @@ module _ (ciphers : Ciphers) (w : World) where
               forged = let k = c.forged in omega arith;
               done = let k = c.done in omega arith;
               first = refl;
-              flights = told_flights ciphers (ran w) from d;
-              made = told_made ciphers (ran w) from d;
+              flights = after_flights ciphers (ran w) from d;
+              made = made_after ciphers (ran w) from d;
             };
             traced = record {
               sent = sym e;
@@ -507,7 +507,7 @@ module _ (ciphers : Ciphers) (w : World) where
       → Fits d.answer → (forged ≡ true) ↔ IsForged ciphers w event d.opened
       → Right ciphers w (entry n event (received ciphers w number forged d))
   received_right n event number octets forged d comes fits is =
-      let c = told_counted ciphers w (ran w) number d (ran_counted w) in
+      let c = after_counted ciphers w (ran w) number d (ran_counted w) in
       let to = comes_to w event number octets comes in
       record {
         adds = record {
@@ -517,8 +517,8 @@ module _ (ciphers : Ciphers) (w : World) where
           forged = forged_count forged w.forged;
           done = number_mapped _ d.answer.done w.done;
           first = refl;
-          flights = told_flights ciphers (ran w) number d;
-          made = told_made ciphers (ran w) number d;
+          flights = after_flights ciphers (ran w) number d;
+          made = made_after ciphers (ran w) number d;
         };
         traced = record {
           sent = sym fits.taken;
@@ -657,16 +657,16 @@ module _ (ciphers : Ciphers) (w : World) where
       (call_opened ciphers w from x _ (Err sends.Halted) _ call))
   right event s (AllowsMeter number y c psk there call meter) n =
       let d = acts c (Err orders.Halted) (λ m. coordinator_rules.allow m y.eui psk) in
-      let none = none_told (ran w) 0 d (acts_quiet c (Err orders.Halted) _ (λ m. allow_quiet m y.eui psk))
+      let none = none_after (ran w) 0 d (acts_quiet c (Err orders.Halted) _ (λ m. allow_quiet m y.eui psk))
       (acts_untagged c (Err orders.Halted) _ (λ m. allow_untagged m y.eui psk)).0 in
       quiet_right n (events.Allow number) (world_after ciphers (ran w) 0 d) _ [] [] (allowed_plain d.answer) refl refl refl refl refl
-      (unbrought (events.Allow number) (λ b. b)) (told_counted ciphers w (ran w) 0 d (ran_counted w)) refl none.0 none.1
+      (unbrought (events.Allow number) (λ b. b)) (after_counted ciphers w (ran w) 0 d (ran_counted w)) refl none.0 none.1
   right event s (Sets e quiet number x plan there open_is is) n =
       let d = acts x (Ok tt) (λ m. of_station m (plan m.station)) in
       let p = preset_none x plan is in
-      let none = none_told (set_up w) number d p.0 p.1 in
+      let none = none_after (set_up w) number d p.0 p.1 in
       still_right n event (world_after ciphers (set_up w) number d) said.Set (refl, refl, refl, refl, refl) (unbrought event quiet)
-      (told_counted ciphers w (set_up w) number d (set_up_counted w)) none.0 none.1
+      (after_counted ciphers w (set_up w) number d (set_up_counted w)) none.0 none.1
   right event s (SetsTwo e quiet a b cost x y p q hx hy apart open_is first second fresh near) n =
       let d = offered_near x q cost w.clock in
       let k = offered_near y p cost w.clock in
@@ -674,15 +674,15 @@ module _ (ciphers : Ciphers) (w : World) where
       let v = near_none y p cost in
       let none = none_twice (set_up w) a b d k u.0 u.1 v.0 v.1 in
       still_right n event _ said.Set (refl, refl, refl, refl, refl) (unbrought event quiet)
-      (told_counted ciphers w _ b k (told_counted ciphers w (set_up w) a d (set_up_counted w))) none.0 none.1
+      (after_counted ciphers w _ b k (after_counted ciphers w (set_up w) a d (set_up_counted w))) none.0 none.1
   right event s (Provides number x c psk g d ne open_is hx hc pair same is) n =
       let k = acts x (Ok tt) (λ m. meters.provision m g) in
       let none = depot_none c x psk in
       let both = none_twice (set_up w) 0 number d k (ap (λ (z : NodeStep _). z.frames) same ∙ none.0) (ap (λ (z : NodeStep _). z.made) same ∙ none.1)
       (acts_quiet x (Ok tt) (λ m. meters.provision m g) (λ m. install_quiet m.station g))
       (acts_untagged x (Ok tt) (λ m. meters.provision m g) (λ m. provision_untagged m g)).0 in
-      let counted = told_counted ciphers w _ number k (told_counted ciphers w (set_up w) 0 d (set_up_counted w)) in
-      let one = none_told (set_up w) 0 d (ap (λ (z : NodeStep _). z.frames) same ∙ none.0) (ap (λ (z : NodeStep _). z.made) same ∙ none.1) in
+      let counted = after_counted ciphers w _ number k (after_counted ciphers w (set_up w) 0 d (set_up_counted w)) in
+      let one = none_after (set_up w) 0 d (ap (λ (z : NodeStep _). z.frames) same ∙ none.0) (ap (λ (z : NodeStep _). z.made) same ∙ none.1) in
       record {
         adds = record {
           events = counted.events;
@@ -717,9 +717,9 @@ module _ (ciphers : Ciphers) (w : World) where
       ∙ acts_quiet x (Err frames.Halted) _ (λ m. accept_quiet m.station _ _ (accept_is m.station x.eui (arrived ciphers octets))) in
       let bare : d.made ≡ [] = ap (λ (z : NodeStep _). z.made) same
       ∙ (acts_untagged x (Err frames.Halted) _ (λ m. accept_untagged m x.eui (arrived ciphers octets))).0 in
-      let none = none_told (ran w) number d quiet bare in
+      let none = none_after (ran w) number d quiet bare in
       still_right n event (world_after ciphers (ran w) number d) (frame_word reason) (frame_plain reason) turned
-      (told_counted ciphers w (ran w) number d (ran_counted w)) none.0 none.1
+      (after_counted ciphers w (ran w) number d (ran_counted w)) none.0 none.1
     where
       not_ok : (r : FrameRefusal) (got : Accepted) → Err r ≡ Ok got → ⊥
       not_ok r got e = cc

@@ -84,7 +84,7 @@ use Rattle.line_laws.specs.Lines.{NodeOk, WorldOk}
 use Rattle.line_laws.specs.Reach.{HoldsAlong, IsHeard, IsInRange}
 use Rattle.line_laws.proofs.CommandsCome.{CommandCame, address_stays, command_came, command_says}
 use Rattle.line_laws.proofs.FlightFolds.{address_low, came_octets}
-use Rattle.line_laws.proofs.FlightsSay.{FlightSays, FrameSays, discovery_says, heard_says, old_flights, told_as_before, told_says, told_silently}
+use Rattle.line_laws.proofs.FlightsSay.{FlightSays, FrameSays, discovery_says, heard_says, old_flights, after_as_before, after_says, after_silently}
 use Rattle.line_laws.proofs.FurtherLogs.{commands_fit}
 use Rattle.line_laws.proofs.FurtherOctets.{line_speaks, octets_speak, Octets, Spelled}
 use Rattle.line_laws.proofs.FurtherStepKinds.{line_step_is}
@@ -659,7 +659,7 @@ module _ (w : World) (ok : WorldOk w) (s : WorldSpeaks w) (r : IsInRange w) (wal
             (λ m here. command_walks walked number left (beside_at w number) m here c (low m here) (comes m here))
 
         flown : All (FlightSays (UnitWalks (walked ++ one_of (step_by left c d.answer)))) (world_after network h.0 number d).flights
-        flown = told_says (UnitWalks (walked ++ one_of (step_by left c d.answer))) h.0 number d
+        flown = after_says (UnitWalks (walked ++ one_of (step_by left c d.answer))) h.0 number d
             (r.sends.commands event number x octets got cost c (is_heard unforged) e) by.1
             (wider walked (one_of (step_by left c d.answer)) h.0.flights (heard_flights unforged))
 
@@ -679,7 +679,7 @@ module _ (w : World) (ok : WorldOk w) (s : WorldSpeaks w) (r : IsInRange w) (wal
             else
             sends_nothing w (world_after network noted.0 number (acknowledging left reply), noted.1)) in WalksOn walked q.0 q.1
         by_memory reply e true = silent _ _ (record { path = refl; stepping = refl })
-            (told_says P noted.0 number (acknowledging left reply) (r.sends.acknowledges event number x octets got cost reply (is_heard unforged) e)
+            (after_says P noted.0 number (acknowledging left reply) (r.sends.acknowledges event number x octets got cost reply (is_heard unforged) e)
             (ack_walks_at left reply) (heard_flights unforged))
         by_memory reply e false = silent _ _ (record { path = refl; stepping = refl }) before
 
@@ -698,7 +698,7 @@ module _ (w : World) (ok : WorldOk w) (s : WorldSpeaks w) (r : IsInRange w) (wal
   walks_on event st (Rests e answer idle other none) = λ honest. silent _ _ (record { path = refl; stepping = refl }) before
   walks_on event st Opens = λ honest. silent _ _ (record { path = refl; stepping = refl }) before
   walks_on event st (Bcasts number x datagram there are) = λ honest. silent _ _ (record { path = refl; stepping = refl })
-      (told_says P (ran w) number (reaches x (beside_at w number) (Err broadcast_faults.Halted) (λ y. broadcast in_memory y datagram))
+      (after_says P (ran w) number (reaches x (beside_at w number) (Err broadcast_faults.Halted) (λ y. broadcast in_memory y datagram))
       (r.sends.broadcasts number x datagram there are) (bcast_walks x (beside_at w number) datagram) before)
   walks_on event st (Asks from to x y target there other address) = λ honest.
       let d = reaches x (beside_at w from) (Err ask_faults.Halted) (λ z. ask_path in_memory z target) in
@@ -709,19 +709,19 @@ module _ (w : World) (ok : WorldOk w) (s : WorldSpeaks w) (r : IsInRange w) (wal
       (λ m here. ask_walks walked x (beside_at w from) m here target target_low (low_at from x m there here)) in
       record {
         line = tt;
-        flights = told_says (UnitWalks (walked ++ one_of (asked x target d.answer))) (ran w) from d (r.sends.asks from x target there) by.1
+        flights = after_says (UnitWalks (walked ++ one_of (asked x target d.answer))) (ran w) from d (r.sends.asks from x target there) by.1
             (wider walked (one_of (asked x target d.answer)) w.flights before);
       }
   walks_on event st (Scans number x m there here) = λ honest. discovered_walks number scan_word (scanning number) (begin_scan m (beside_at w number).scan)
   walks_on event st (Chooses number k x psk there pair) = λ honest.
       let d = reaches x (beside_at w number) (Err choices.Halted) (λ y. choose_agent (identity network x psk) y k w.clock) in
-      silent _ _ (record { path = refl; stepping = refl }) (told_as_before P any (ran w) number d (r.sends.choices number k x psk there pair)
+      silent _ _ (record { path = refl; stepping = refl }) (after_as_before P any (ran w) number d (r.sends.choices number k x psk there pair)
       (choice_old x (beside_at w number) (identity network x psk) k w.clock) before)
   walks_on event st (Discovers e number x m octets link other there here comes over is) = λ honest.
       discovered_walks number discovery_word (beacon_taken number (discovery_in octets) link)
       (hear_discovery x.role m.station (beside_at w number).scan octets link)
   walks_on event st (Unbelieves e number x octets got a is) = λ honest. silent _ _ (record { path = refl; stepping = refl })
-      (told_silently P (ran w) number (stays (after_accepting network x octets) (only said.Blacklisted)) refl before)
+      (after_silently P (ran w) number (stays (after_accepting network x octets) (only said.Blacklisted)) refl before)
   walks_on event st (Commands e number x octets cost got c a low passes is) = λ honest. commanded_walks event number x octets cost got a c is honest
   walks_on event st (Checked e number x octets cost got a low passes none on) = λ honest. checked_walks event number x octets cost got a (checked_honest honest)
     where
@@ -750,7 +750,7 @@ module _ (w : World) (ok : WorldOk w) (s : WorldSpeaks w) (r : IsInRange w) (wal
       (heard_flights event number x octets cost got a (or_parts _ _ honest).0)
   walks_on event st (Ticks seconds) = λ honest. silent _ _ (record { path = refl; stepping = refl }) before
   walks_on event st (Restarts number x b there read) = λ honest. silent _ _ (record { path = refl; stepping = refl })
-      (told_silently P (ran w) number (restarts x) refl before)
+      (after_silently P (ran w) number (restarts x) refl before)
 
 -- # Runs
 

@@ -40,10 +40,10 @@ flights_none ciphers w number d e f =
     ap (λ fs. fs ++ flights_of ciphers number d) e ∙ ap (λ frames. map (λ frame. flight_by number (spelled ciphers frame)) frames) f
 
 -- what a node did is told
-pub told_with : {A : Type 0} (ciphers : Ciphers) (w : World) (number : ℕ) (x : Node) (d : NodeStep A) → WorldOk w → node_at w number ≡ Some x → DidFits x d
+pub after_with : {A : Type 0} (ciphers : Ciphers) (w : World) (number : ℕ) (x : Node) (d : NodeStep A) → WorldOk w → node_at w number ≡ Some x → DidFits x d
     → Rising (world_after ciphers w number d) → (w.running ≡ false → d.frames ≡ []) → WorldOk (world_after ciphers w number d)
 unfolding world_after
-told_with ciphers w number x d ok there did rising still = record {
+after_with ciphers w number x d ok there did rising still = record {
   nodes = All-set NodeOk w.nodes number d.node did.node ok.nodes;
   fits = All-set NodeFits w.nodes number d.node same_fits ok.fits;
   first = by_number (number == 0) refl;
@@ -81,10 +81,10 @@ none_rising w e = record {
     none_pairs i j d lt inside = absurd (omega arith)
 
 -- in the setup, where nothing flies yet
-pub told_fits : {A : Type 0} (ciphers : Ciphers) (w : World) (number : ℕ) (x : Node) (d : NodeStep A) → WorldOk w → node_at w number ≡ Some x → DidFits x d
+pub after_fits : {A : Type 0} (ciphers : Ciphers) (w : World) (number : ℕ) (x : Node) (d : NodeStep A) → WorldOk w → node_at w number ≡ Some x → DidFits x d
     → w.flights ≡ [] → d.frames ≡ [] → WorldOk (world_after ciphers w number d)
-told_fits ciphers w number x d ok there did none still =
-    told_with ciphers w number x d ok there did (none_rising (world_after ciphers w number d) (flies none still)) (λ e. still)
+after_fits ciphers w number x d ok there did none still =
+    after_with ciphers w number x d ok there did (none_rising (world_after ciphers w number d) (flies none still)) (λ e. still)
   where
     flies : w.flights ≡ [] → d.frames ≡ [] → (world_after ciphers w number d).flights ≡ []
     flies e f = flights_none ciphers w number d e f
@@ -97,10 +97,10 @@ frontier_cap x ok = by_memory x.memory ok.kept
         let e = stored_limit-kept k.memory.station.counter x.store.records k.kept.station.counter in let fits = k.kept.station.range.counter in omega arith
     by_memory (Some m) k = let fits = k.station.range.counter in let below = k.station.counter.below in omega arith
 
-told_rising : {A : Type 0} (ciphers : Ciphers) → KeepsRanges ciphers → (w : World) (number : ℕ) (x : Node) (d : NodeStep A) → WorldOk w
+after_rising : {A : Type 0} (ciphers : Ciphers) → KeepsRanges ciphers → (w : World) (number : ℕ) (x : Node) (d : NodeStep A) → WorldOk w
     → node_at w number ≡ Some x → DidOk x d → Rising (world_after ciphers w number d)
 unfolding world_after
-told_rising ciphers fits w number x d ok there did = record {
+after_rising ciphers fits w number x d ok there did = record {
   below = below;
   pairs = grown.pairs;
   homes = All-append (λ (f : Flight). f.from < length (set w.nodes number d.node)) w.flights (flights_of ciphers number d) old_homes new_homes;
@@ -136,11 +136,11 @@ told_rising ciphers fits w number x d ok there did = record {
         (λ (e : n ≢ number). All-append (IsBelow n (frontier y)) w.flights (flights_of ciphers number d)
         (ok.rising.below n y (sym (slice_get-set_other w.nodes number n d.node e) ∙ is)) (others n e (frontier y))) (cases_eq n number)
 
-pub told_ok : {A : Type 0} (ciphers : Ciphers) → KeepsRanges ciphers → (w : World) (number : ℕ) (x : Node) (d : NodeStep A) → WorldOk w
+pub ok_after : {A : Type 0} (ciphers : Ciphers) → KeepsRanges ciphers → (w : World) (number : ℕ) (x : Node) (d : NodeStep A) → WorldOk w
     → node_at w number ≡ Some x → DidOk x d → (w.running ≡ false → d.frames ≡ []) → WorldOk (world_after ciphers w number d)
-told_ok ciphers fits w number x d ok there did still =
-    told_with ciphers w number x d ok there (record { node = did.node; role = did.role; eui = did.eui; few = did.few; marked = did.marked })
-    (told_rising ciphers fits w number x d ok there did) still
+ok_after ciphers fits w number x d ok there did still =
+    after_with ciphers w number x d ok there (record { node = did.node; role = did.role; eui = did.eui; few = did.few; marked = did.marked })
+    (after_rising ciphers fits w number x d ok there did) still
 
 -- the same nodes and flights
 pub same_rising : (w v : World) → Rising w → v.nodes ≡ w.nodes → v.flights ≡ w.flights → Rising v

@@ -147,7 +147,7 @@ pub record IsSplit {A B : Type 0} (whole : NodeStep A) (first : NodeStep B) (res
   pub frames : whole.frames ≡ rest.frames
   pub made : whole.made ≡ rest.made
   pub silent : first.frames ≡ []
-  pub untold : first.made ≡ []
+  pub none_made : first.made ≡ []
 
 -- a node that stores its log before its other writes does so before all else, whatever power is lost
 abbrev pub PlansSplit : Type 0 → Type 0

@@ -140,19 +140,19 @@ module _ (quiet : Bool) where
       counted_by line w (taking w line.content) (λ next. outcome_from turn_of end_of next ls true) (λ next. entries_from next ls) last
       (λ next. counted_from last ls next) right ends
 
-  none_told : (last : Playing) (n : ℕ) → is_forged last ≡ false → last.world.forged ≡ 0 + n → n ≡ 0
-  none_told last n told counted = let low = ltb-false 0 last.world.forged told in omega (arith, low, counted)
+  none_named : (last : Playing) (n : ℕ) → is_forged last ≡ false → last.world.forged ≡ 0 + n → n ≡ 0
+  none_named last n named counted = let low = ltb-false 0 last.world.forged named in omega (arith, low, counted)
 
-  one_told : (last : Playing) (n : ℕ) → is_forged last ≡ true → last.world.forged ≡ 0 + n → 0 < n
-  one_told last n told counted = let low = ltb-true 0 last.world.forged told in omega (arith, low, counted)
+  one_named : (last : Playing) (n : ℕ) → is_forged last ≡ true → last.world.forged ≡ 0 + n → 0 < n
+  one_named last n named counted = let low = ltb-true 0 last.world.forged named in omega (arith, low, counted)
 
   names_by : (source0 source1 : SourceState) (sink0 sink1 : SinkState) (b w : List ℕ) (last : Playing) (exit : Exit) (flag : Bool) → is_forged last ≡ flag
       → Comes (outcome quiet) last source0 source1 sink0 sink1 b w exit
       → CountsRight start (entries b true) → Names (status_of exit flag) (forged_in (entries b true))
   names_by source0 source1 sink0 sink1 b w last exits.Fine false is comes right =
-      none_told last (forged_in (entries b true)) is (counted_from last (lines b true) start right comes.1)
+      none_named last (forged_in (entries b true)) is (counted_from last (lines b true) start right comes.1)
   names_by source0 source1 sink0 sink1 b w last exits.Fine true is comes right =
-      one_told last (forged_in (entries b true)) is (counted_from last (lines b true) start right comes.1)
+      one_named last (forged_in (entries b true)) is (counted_from last (lines b true) start right comes.1)
   names_by source0 source1 sink0 sink1 b w last exits.BadScript flag is comes right = tt
   names_by source0 source1 sink0 sink1 b w last exits.ReadFault flag is comes right = tt
   names_by source0 source1 sink0 sink1 b w last exits.WriteFault flag is comes right = tt

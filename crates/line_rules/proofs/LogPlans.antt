@@ -148,9 +148,9 @@ counter_beside c count = by_due (counter.passes c count)
     by_due true = All-cons IsBesideLog _ [] (record { limit = λ e. omega arith; marks = inl (omega arith) }) (All-nil IsBesideLog)
     by_due false = All-nil IsBesideLog
 
-pub tells_leave : (m : Memory) (reply : Reply) → LeavesLog (acknowledges in_memory reply.to reply.number reply.origin m)
+pub acknowledging_leaves : (m : Memory) (reply : Reply) → LeavesLog (acknowledges in_memory reply.to reply.number reply.origin m)
 unfolding sealed resting goes empty_draft
-tells_leave m reply = by_left (nat_lt (counters_left m.station) 1)
+acknowledging_leaves m reply = by_left (nat_lt (counters_left m.station) 1)
   where
     by_left : (b : Bool) → All IsBesideLog (if b then refused {H = Unit {0}} local_ends m.station local_ends.spent
         else sealing alone local_ends (local_draft m.station 3 (Some reply.to) (ack_spelling reply.number reply.origin)) tt).puts
@@ -205,14 +205,14 @@ module _ (m : Memory) (b : Beside) where
   held = record { memory = m; beside = b }
 
   -- an ask
-  told_leads : {H E : Type 0} (ends : Ends E) (to code : ℕ) (body : List ℕ) (answer : H)
+  local_leads : {H E : Type 0} (ends : Ends E) (to code : ℕ) (body : List ℕ) (answer : H)
       → PlanLeads held (sealed (in_reach in_memory) ends held (adds_local to code body (empty_draft held)) answer)
   unfolding adds_local empty_draft
-  told_leads ends to code body answer = sealed_leads ends held _ answer (still held)
+  local_leads ends to code body answer = sealed_leads ends held _ answer (still held)
 
   asks_by_lead : (own target : ℕ) (o : Option ℕ) → PlanLeads held (asks_by in_memory held own target o)
   asks_by_lead own target None = refused_leads ask_ends held _
-  asks_by_lead own target (Some hop) = told_leads ask_ends hop 5 _ (tt {0})
+  asks_by_lead own target (Some hop) = local_leads ask_ends hop 5 _ (tt {0})
 
   pub asks_lead : (target : ℕ) → PlanLeads held (ask_path in_memory held target)
   asks_lead target = by_address (address_of m.station)
@@ -264,8 +264,8 @@ module _ (m : Memory) (b : Beside) where
   follows_leads : (o : Result PathStep PathRefusal) → PlanLeads held (follows_path in_memory held o)
   unfolding resting
   follows_leads (Err reason) = drops _
-  follows_leads (Ok (Forward to message)) = told_leads reach_ends to 5 _ _
-  follows_leads (Ok (Answer to message)) = told_leads reach_ends to 5 _ _
+  follows_leads (Ok (Forward to message)) = local_leads reach_ends to 5 _ _
+  follows_leads (Ok (Answer to message)) = local_leads reach_ends to 5 _ _
   follows_leads (Ok (Done walk)) = record { leads = still held }
 
   path_leads : (own from : ℕ) (o : Option PathMessage) → PlanLeads held (hear_path_in in_memory held own from o)

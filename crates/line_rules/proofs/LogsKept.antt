@@ -69,7 +69,7 @@ use Rattle.line_rules.specs.Logs.{LogIn, AreLogged, LogsKept, HaveShortTables, C
 use Rattle.line_rules.proofs.LogSteps.{NodeIn, Quiet, all_changed, acts_quiet, further_in, halted_in, logged_at, one_more, quiet_in, quiet_on, quiet_same}
 use Rattle.line_rules.proofs.LogSteps.{restart_in, set_aside, set_both, set_node}
 use Rattle.line_rules.proofs.LogPlans.{accept_short, acts_short, asks_lead, blank_in, broadcast_leads, chooses_lead, command_leads, leave_leaves, random_leaves}
-use Rattle.line_rules.proofs.LogPlans.{tells_leave}
+use Rattle.line_rules.proofs.LogPlans.{acknowledging_leaves}
 
 abbrev Kept : Step → Type 0
 Kept (Ok r) = LogsKept r.0
@@ -100,24 +100,24 @@ module _ (ciphers : Ciphers) (w : World) (short : HaveShortTables w) (h : LogsKe
   here : (number : ℕ) (x : Node) → node_at w number ≡ Some x → NodeIn (beside_at w number).log x
   here number x there = logged_at w.beside w.nodes number x h there
 
-  told_in : {A : Type 0} (v : World) (number : ℕ) (d : NodeStep A) → LogsKept v → NodeIn (beside_at v number).log d.node
+  after_in : {A : Type 0} (v : World) (number : ℕ) (d : NodeStep A) → LogsKept v → NodeIn (beside_at v number).log d.node
       → LogsKept (world_after ciphers v number d)
   unfolding world_after
-  told_in v number d k l = set_node v.beside v.nodes number d.node k l
+  after_in v number d k l = set_node v.beside v.nodes number d.node k l
 
-  told_both : {A : Type 0} (v : World) (number : ℕ) (d : NodeStep A) (b : Beside) → LogsKept v → NodeIn b.log d.node
+  after_both : {A : Type 0} (v : World) (number : ℕ) (d : NodeStep A) (b : Beside) → LogsKept v → NodeIn b.log d.node
       → LogsKept (set_beside number b (world_after ciphers v number d))
   unfolding world_after
-  told_both v number d b k l = set_both v.beside v.nodes number b d.node k l
+  after_both v number d b k l = set_both v.beside v.nodes number b d.node k l
 
   -- one node acts, in this world or after another one has acted in it
-  quiet_told : {A : Type 0} (v : World) → v.beside ≡ w.beside → LogsKept v → (number : ℕ) (x : Node) → node_at w number ≡ Some x → (d : NodeStep A)
+  quiet_after : {A : Type 0} (v : World) → v.beside ≡ w.beside → LogsKept v → (number : ℕ) (x : Node) → node_at w number ≡ Some x → (d : NodeStep A)
       → Quiet x d.node → LogsKept (world_after ciphers v number d)
-  quiet_told v same k number x there d q = told_in v number d k
+  quiet_after v same k number x there d q = after_in v number d k
       (quiet_in _ x d.node q (subst (λ (bs : List Beside). NodeIn (unwrap_or (slice_get bs number) nothing_beside).log x) (sym same) (here number x there)))
 
   acted_in : (number : ℕ) (x : Node) → node_at w number ≡ Some x → (d : NodeStep Answer) → Quiet x d.node → LogsKept (acted ciphers w number d).0
-  acted_in number x there d q = quiet_told (ran w) refl h number x there d q
+  acted_in number x there d q = quiet_after (ran w) refl h number x there d q
 
   shorts : (number : ℕ) (x : Node) → node_at w number ≡ Some x → (m : Memory) → x.memory ≡ Some m → HasShortTables m.station
   shorts number x there m e = short number x m there e
@@ -147,7 +147,7 @@ module _ (ciphers : Ciphers) (w : World) (short : HaveShortTables w) (h : LogsKe
     where
       provides : (g : Granted) → LogsKept (provisioned ciphers (world_after ciphers (set_up w) 0 (record d { answer = Ok g })) number x g).0
       provides g =
-          quiet_told (world_after ciphers (set_up w) 0 (record d { answer = Ok g })) refl (quiet_told (set_up w) refl h 0 c hc (record d { answer = Ok g }) q)
+          quiet_after (world_after ciphers (set_up w) 0 (record d { answer = Ok g })) refl (quiet_after (set_up w) refl h 0 c hc (record d { answer = Ok g }) q)
           number x hx (acts x (Ok tt) (λ m. meters.provision m g)) (acts_quiet x (Ok tt) (λ m. meters.provision m g)
           (λ m e. (stations_leave_log m.station (shorts number x hx m e)).installs g))
 
@@ -175,8 +175,8 @@ module _ (ciphers : Ciphers) (w : World) (short : HaveShortTables w) (h : LogsKe
         world_after ciphers (world_after ciphers (set_up w) a (offered_near x q cost w.clock)) b (offered_near y p cost w.clock),
         trace_of (happened w said.Set),
       )) (tt {0})
-      (quiet_told (world_after ciphers (set_up w) a (offered_near x q cost w.clock)) refl
-      (quiet_told (set_up w) refl h a x hx (offered_near x q cost w.clock) (near_quiet a x hx q cost w.clock)) b y hy (offered_near y p cost w.clock)
+      (quiet_after (world_after ciphers (set_up w) a (offered_near x q cost w.clock)) refl
+      (quiet_after (set_up w) refl h a x hx (offered_near x q cost w.clock) (near_quiet a x hx q cost w.clock)) b y hy (offered_near y p cost w.clock)
       (near_quiet b y hy p cost w.clock))
 
   near_in : (a b cost : ℕ) → Kept (near ciphers w a b cost)
@@ -185,7 +185,7 @@ module _ (ciphers : Ciphers) (w : World) (short : HaveShortTables w) (h : LogsKe
 
   preset_in : (number : ℕ) (plan : StationMemory → calls.Presetting) → ((l : StationMemory) → HasShortTables l → LeavesLog (plan l))
       → Kept (preset ciphers w number plan)
-  preset_in number plan leaves = setup _ (at_node number _ (λ x hx. quiet_told (set_up w) refl h number x hx _
+  preset_in number plan leaves = setup _ (at_node number _ (λ x hx. quiet_after (set_up w) refl h number x hx _
       (acts_quiet x (Ok tt) (λ m. of_station m (plan m.station)) (λ m e. leaves m.station (shorts number x hx m e)))))
 
   -- # The other kinds
@@ -201,7 +201,7 @@ module _ (ciphers : Ciphers) (w : World) (short : HaveShortTables w) (h : LogsKe
   unfolding allow
   allow_in number = once _ (at_meter number _ (λ x hx. at_node 0 _ (λ c hc.
       by_option (λ psk. Ok (allowed ciphers w number (acts c (Err orders.Halted) (λ m. coordinator_rules.allow m x.eui psk)))) (psk_of x) _
-      (λ psk pair. quiet_told (ran w) refl h 0 c hc (acts c (Err orders.Halted) (λ m. coordinator_rules.allow m x.eui psk))
+      (λ psk pair. quiet_after (ran w) refl h 0 c hc (acts c (Err orders.Halted) (λ m. coordinator_rules.allow m x.eui psk))
       (ordered_in c hc (λ m. coordinator_rules.allow m x.eui psk) (λ m s. (coordinators_leave_log (own c) m s).allows x.eui psk))) tt)))
 
   rand_in : (number : ℕ) (value : Rand) → Kept (rand ciphers w number value)
@@ -329,13 +329,13 @@ module _ (ciphers : Ciphers) (w : World) (short : HaveShortTables w) (h : LogsKe
   bcast_in : (number : ℕ) (datagram : List ℕ) → Kept (bcast ciphers w number datagram)
   unfolding bcast
   bcast_in number datagram = once _
-      (at_node number _ (λ x hx. told_both (ran w) number (reaches x (beside_at w number) (Err broadcasts.Halted) (λ y. broadcast in_memory y datagram)) _ h
+      (at_node number _ (λ x hx. after_both (ran w) number (reaches x (beside_at w number) (Err broadcasts.Halted) (λ y. broadcast in_memory y datagram)) _ h
       (further_in x (beside_at w number) (Err broadcasts.Halted) (λ y. broadcast in_memory y datagram)
       (λ m e. (broadcast_leads m (beside_at w number) datagram).leads) (here number x hx))))
 
   asks_in : (number : ℕ) (x : Node) → node_at w number ≡ Some x → (target : Option ℕ) → LogsKept (asks_by ciphers w number x target).0
   asks_in number x hx None = h
-  asks_in number x hx (Some target) = told_both (ran w) number (reaches x (beside_at w number) (Err asks.Halted) (λ y. ask_path in_memory y target)) _ h
+  asks_in number x hx (Some target) = after_both (ran w) number (reaches x (beside_at w number) (Err asks.Halted) (λ y. ask_path in_memory y target)) _ h
       (further_in x (beside_at w number) (Err asks.Halted) (λ y. ask_path in_memory y target) (λ m e. (asks_lead m (beside_at w number) target).leads)
       (here number x hx))
 
@@ -354,7 +354,7 @@ module _ (ciphers : Ciphers) (w : World) (short : HaveShortTables w) (h : LogsKe
   chooses_in : (number : ℕ) (x : Node) → node_at w number ≡ Some x → (k : ℕ) (psk : Option Key) → LogsKept (chooses_by ciphers w number x k psk).0
   chooses_in number x hx k None = h
   chooses_in number x hx k (Some psk) =
-      told_both (ran w) number (reaches x (beside_at w number) (Err choices.Halted) (λ y. choose_agent (identity ciphers x psk) y k w.clock)) _ h
+      after_both (ran w) number (reaches x (beside_at w number) (Err choices.Halted) (λ y. choose_agent (identity ciphers x psk) y k w.clock)) _ h
       (further_in x (beside_at w number) (Err choices.Halted) (λ y. choose_agent (identity ciphers x psk) y k w.clock)
       (λ m e. (chooses_lead m (beside_at w number) (identity ciphers x psk) (shorts number x hx m e) k w.clock).leads) (here number x hx))
 
@@ -385,7 +385,7 @@ module _ (ciphers : Ciphers) (w : World) (short : HaveShortTables w) (h : LogsKe
   module _ (number : ℕ) (x y : Node) (there : node_at w number ≡ Some x) (first : Quiet x y) (has : (m : Memory) → y.memory ≡ Some m → HasShortTables m.station)
       (octets : List ℕ) where
     received_in : (forged : Bool) (d : NodeStep Reception) → Quiet y d.node → LogsKept (received ciphers w number forged d).0
-    received_in forged d q = quiet_told (ran w) refl h number x there d (quiet_on x y d.node first q)
+    received_in forged d q = quiet_after (ran w) refl h number x there d (quiet_on x y d.node first q)
 
     heard_in : (got : Accepted) (cost : ℕ) → LogsKept (heard ciphers w number y octets got cost).0
     heard_in got cost = received_in (forged_by w octets got.path
@@ -398,7 +398,7 @@ module _ (ciphers : Ciphers) (w : World) (short : HaveShortTables w) (h : LogsKe
     commanded_in got cost c are =
         let z : Node = (hears ciphers y got cost (note_by w octets got.path) w.clock).node in
         let q : Quiet x z = quiet_on x y z first (hears_quiet y has got cost (note_by w octets got.path) w.clock) in
-        told_both (heard ciphers w number y octets got cost).0 number
+        after_both (heard ciphers w number y octets got cost).0 number
         (reaches z (beside_at w number) (Err (reach_drops.Known drops.Store)) (λ r. hear_command in_memory r c)) _ (heard_in got cost)
         (further_in z (beside_at w number) (Err (reach_drops.Known drops.Store)) (λ r. hear_command in_memory r c)
         (λ m e. (command_leads m (beside_at w number) c are).leads) (quiet_in _ x z q (here number x there)))
@@ -432,7 +432,7 @@ module _ (ciphers : Ciphers) (w : World) (short : HaveShortTables w) (h : LogsKe
         by_due (Some reply) =
             let a = acknowledging z reply in
             let q : Quiet z a.node = acts_quiet z (Err locals.Store) (λ m. acknowledges in_memory reply.to reply.number reply.origin m)
-            (λ m e. tells_leave m reply) in
+            (λ m e. acknowledging_leaves m reply) in
             let l : NodeIn (beside_at w number).log a.node = quiet_in _ x a.node (quiet_on x z a.node quiet q) (here number x there) in
             either_in (is_some a.node.memory) _ _ (set_both w.beside heard_nodes number b a.node before l)
             (set_node w.beside heard_nodes number a.node before l)
@@ -469,7 +469,7 @@ module _ (ciphers : Ciphers) (w : World) (short : HaveShortTables w) (h : LogsKe
         where
           by_answer : (r : Result Accepted FrameRefusal) → d.answer ≡ r → LogsKept (accepted_further ciphers w number octets cost d).0
           by_answer (Ok got) e = rw e (further_heard number x d.node there q s octets got cost (λ c is. o got c e is))
-          by_answer (Err reason) e = rw e (quiet_told (ran w) refl h number x there d q)
+          by_answer (Err reason) e = rw e (quiet_after (ran w) refl h number x there d q)
 
   delivers_in : (flight number cost : ℕ) → CommandsAreOctets ciphers w (events.Deliver flight number cost) → Kept (delivers ciphers w flight number cost)
   unfolding delivers
@@ -485,9 +485,9 @@ module _ (ciphers : Ciphers) (w : World) (short : HaveShortTables w) (h : LogsKe
   restarts_in : (number : ℕ) (x : Node) → node_at w number ≡ Some x → (o : Result Beside BadStore) → restarted x.store.records ≡ o
       → LogsKept (restarts_by ciphers w number x o).0
   restarts_in number x there (Ok b) e =
-      told_both (ran w) number (restarts x) b h (restart_in (beside_at w number).log x b (restarts x).node.memory (here number x there) e)
+      after_both (ran w) number (restarts x) b h (restart_in (beside_at w number).log x b (restarts x).node.memory (here number x there) e)
   restarts_in number x there (Err bad) e =
-      told_both (ran w) number (stays (record x { memory = None }) said.BadStore) nothing_beside h (halted_in (beside_at w number).log x (here number x there))
+      after_both (ran w) number (stays (record x { memory = None }) said.BadStore) nothing_beside h (halted_in (beside_at w number).log x (here number x there))
 
   restart_kept : (number : ℕ) → Kept (restarts_further ciphers w number)
   unfolding restarts_further

@@ -84,9 +84,9 @@ ran_goes w = record {
   made = ([], sym (append-nil w.made));
 }
 
-told_goes : {A : Type 0} (ciphers : Ciphers) (w v : World) (number : ℕ) (d : NodeStep A) → GoesOn w v → GoesOn w (world_after ciphers v number d)
+goes_after : {A : Type 0} (ciphers : Ciphers) (w v : World) (number : ℕ) (d : NodeStep A) → GoesOn w v → GoesOn w (world_after ciphers v number d)
 unfolding world_after
-told_goes ciphers w v number d g = record {
+goes_after ciphers w v number d g = record {
   events = g.events;
   clock = g.clock;
   running = g.running;
@@ -134,7 +134,7 @@ module _ (ciphers : Ciphers) (w : World) where
   at_meter number f h = branch (number == 0) (Err faults.Node) (on_node w number f) (Fails faults.Node) (at_node number f h)
 
   acted_goes : (number : ℕ) (d : NodeStep Answer) → GoesOn w (acted ciphers w number d).0
-  acted_goes number d = told_goes ciphers w (ran w) number d (ran_goes w)
+  acted_goes number d = goes_after ciphers w (ran w) number d (ran_goes w)
 
   made_goes : (x : Node) → GoesOn w (made_node w x).0
   made_goes x =
@@ -157,7 +157,7 @@ module _ (ciphers : Ciphers) (w : World) where
     where
       by_answer : (r : Result Granted CoordinatorRefusal) → d.answer ≡ r → StepShape w (depot_by ciphers w number x d)
       by_answer (Ok g) e = rw e (Taken (provisioned ciphers (world_after ciphers (set_up w) 0 (record d { answer = Ok g })) number x g)
-          (told_goes ciphers w _ number _ (told_goes ciphers w _ 0 _ (set_up_goes w))))
+          (goes_after ciphers w _ number _ (goes_after ciphers w _ 0 _ (set_up_goes w))))
       by_answer (Err reason) e = rw e (Fails faults.Setup)
 
   depot_shape : (number : ℕ) → StepShape w (depot ciphers w number)
@@ -170,14 +170,14 @@ module _ (ciphers : Ciphers) (w : World) where
   near_by_shape a b cost x y None q = Fails faults.Setup
   near_by_shape a b cost x y (Some p) None = Fails faults.Setup
   near_by_shape a b cost x y (Some p) (Some q) =
-      branch _ _ _ (Fails faults.Setup) (Taken _ (told_goes ciphers w _ b _ (told_goes ciphers w _ a _ (set_up_goes w))))
+      branch _ _ _ (Fails faults.Setup) (Taken _ (goes_after ciphers w _ b _ (goes_after ciphers w _ a _ (set_up_goes w))))
 
   near_shape : (a b cost : ℕ) → StepShape w (near ciphers w a b cost)
   unfolding near
   near_shape a b cost = setup _ (at_node a _ (λ x. at_node b _ (λ y. near_by_shape a b cost x y (node_address x) (node_address y))))
 
   preset_shape : (number : ℕ) (plan : StationMemory → calls.Presetting) → StepShape w (preset ciphers w number plan)
-  preset_shape number plan = setup _ (at_node number _ (λ x. Taken _ (told_goes ciphers w _ number _ (set_up_goes w))))
+  preset_shape number plan = setup _ (at_node number _ (λ x. Taken _ (goes_after ciphers w _ number _ (set_up_goes w))))
 
   -- # The other kinds
 
@@ -185,7 +185,7 @@ module _ (ciphers : Ciphers) (w : World) where
   unfolding allow
   allow_shape number = once _ (at_meter number _ (λ x. at_node 0 _ (λ c.
       by_option (λ psk. Ok (allowed ciphers w number (acts c (Err orders.Halted) (λ m. coordinator_rules.allow m x.eui psk)))) (psk_of x) _
-      (λ psk. Taken _ (told_goes ciphers w _ 0 _ (ran_goes w))) (Fails faults.Node))))
+      (λ psk. Taken _ (goes_after ciphers w _ 0 _ (ran_goes w))) (Fails faults.Node))))
 
   rand_shape : (number : ℕ) (value : Rand) → StepShape w (rand ciphers w number value)
   unfolding rand
@@ -225,7 +225,7 @@ module _ (ciphers : Ciphers) (w : World) where
   breaks_shape number next = once _ (at_node number _ (λ x. at_node next _ (λ y. Taken _ (breaks_go number x (node_address y)))))
 
   received_go : (number : ℕ) (forged : Bool) (d : NodeStep Reception) → GoesOn w (received ciphers w number forged d).0
-  received_go number forged d = counts_go w _ _ _ _ _ (told_goes ciphers w (ran w) number d (ran_goes w))
+  received_go number forged d = counts_go w _ _ _ _ _ (goes_after ciphers w (ran w) number d (ran_goes w))
 
   arrives_go : (number : ℕ) (x : Node) (octets : List ℕ) (cost : ℕ) → GoesOn w (arrives ciphers w number x octets cost).0
   unfolding arrives
@@ -236,7 +236,7 @@ module _ (ciphers : Ciphers) (w : World) where
         where
           by_answer : (r : Result Accepted FrameRefusal) → d.answer ≡ r → GoesOn w (accepted_by ciphers w number octets cost d).0
           by_answer (Ok got) e = rw e (received_go number _ _)
-          by_answer (Err reason) e = rw e (told_goes ciphers w (ran w) number _ (ran_goes w))
+          by_answer (Err reason) e = rw e (goes_after ciphers w (ran w) number _ (ran_goes w))
 
   at_flight : (number : ℕ) (f : Flight → Step) → ((x : Flight) → flight_at w number ≡ Some x → StepShape w (f x)) → StepShape w (on_flight w number f)
   at_flight number f h = by_flight (flight_at w number) refl
@@ -366,11 +366,11 @@ module _ (ciphers : Ciphers) (w : World) where
 
   bcast_shape : (number : ℕ) (datagram : List ℕ) → StepShape w (bcast ciphers w number datagram)
   unfolding bcast
-  bcast_shape number datagram = once _ (at_node number _ (λ x. Taken _ (beside_goes w _ _ (told_goes ciphers w (ran w) number _ (ran_goes w)))))
+  bcast_shape number datagram = once _ (at_node number _ (λ x. Taken _ (beside_goes w _ _ (goes_after ciphers w (ran w) number _ (ran_goes w)))))
 
   asks_go : (number : ℕ) (x : Node) (target : Option ℕ) → GoesOn w (asks_by ciphers w number x target).0
   asks_go number x None = ran_goes w
-  asks_go number x (Some target) = beside_goes w _ _ (told_goes ciphers w (ran w) number _ (ran_goes w))
+  asks_go number x (Some target) = beside_goes w _ _ (goes_after ciphers w (ran w) number _ (ran_goes w))
 
   path_shape : (from to : ℕ) → StepShape w (path ciphers w from to)
   unfolding path
@@ -398,7 +398,7 @@ module _ (ciphers : Ciphers) (w : World) where
 
   chooses_go : (number : ℕ) (x : Node) (k : ℕ) (psk : Option Key) → GoesOn w (chooses_by ciphers w number x k psk).0
   chooses_go number x k None = ran_goes w
-  chooses_go number x k (Some psk) = beside_goes w _ _ (told_goes ciphers w (ran w) number _ (ran_goes w))
+  chooses_go number x k (Some psk) = beside_goes w _ _ (goes_after ciphers w (ran w) number _ (ran_goes w))
 
   choose_shape : (number k : ℕ) → StepShape w (choose ciphers w number k)
   unfolding choose
@@ -424,7 +424,7 @@ module _ (ciphers : Ciphers) (w : World) where
   acknowledged_go : (number : ℕ) (a : NodeStep (Result (Unit {0}) LocalRefusal)) (r : World × Trace) → GoesOn w r.0
       → GoesOn w (acknowledged ciphers w number a r).0
   acknowledged_go number a r g =
-      either_goes (is_some a.node.memory) _ _ (told_goes ciphers w r.0 number a g) (nothing_go number _ _ (told_goes ciphers w r.0 number a g))
+      either_goes (is_some a.node.memory) _ _ (goes_after ciphers w r.0 number a g) (nothing_go number _ _ (goes_after ciphers w r.0 number a g))
 
   acknowledged_if_go : (number : ℕ) (x : Node) (reply : Option Reply) (r : World × Trace) → GoesOn w r.0
       → GoesOn w (acknowledged_if ciphers w number x reply r).0
@@ -439,7 +439,7 @@ module _ (ciphers : Ciphers) (w : World) where
   heard_by_go number x octets got cost None = either_goes w.checks_on _ _
       (checked_go number got (hears ciphers x got cost (note_by w octets got.path) w.clock) (heard ciphers w number x octets got cost)
       (heard_go number x octets got cost)) (heard_go number x octets got cost)
-  heard_by_go number x octets got cost (Some c) = beside_goes w _ _ (told_goes ciphers w _ number _ (heard_go number x octets got cost))
+  heard_by_go number x octets got cost (Some c) = beside_goes w _ _ (goes_after ciphers w _ number _ (heard_go number x octets got cost))
 
   further_go : (number : ℕ) (x : Node) (octets : List ℕ) (got : Accepted) (cost : ℕ) → GoesOn w (heard_further ciphers w number x octets got cost).0
   further_go number x octets got cost =
@@ -454,7 +454,7 @@ module _ (ciphers : Ciphers) (w : World) where
         where
           by_answer : (r : Result Accepted FrameRefusal) → d.answer ≡ r → GoesOn w (accepted_further ciphers w number octets cost d).0
           by_answer (Ok got) e = rw e (further_go number d.node octets got cost)
-          by_answer (Err reason) e = rw e (told_goes ciphers w (ran w) number _ (ran_goes w))
+          by_answer (Err reason) e = rw e (goes_after ciphers w (ran w) number _ (ran_goes w))
 
   delivers_shape : (flight number cost : ℕ) → StepShape w (delivers ciphers w flight number cost)
   unfolding delivers

@@ -84,7 +84,7 @@ abbrev pub AreWalkedAfter : List Entry → List Entry → Type 0
 AreWalkedAfter before [] = Unit {0}
 AreWalkedAfter before (x ∷ xs) =
     x.trace.happened.forged ≡ false
-    → IfSome x.trace.happened.path (λ (told : PathLine). WasWalked told.walk (steps_taken before))
+    → IfSome x.trace.happened.path (λ (line : PathLine). WasWalked line.walk (steps_taken before))
     × AreWalkedAfter (before ++ x ∷ []) xs
 
 -- Every path that a run reports was walked step by step before it was reported.

@@ -78,8 +78,8 @@ HistoriesGoOn =
 
 -- what each entry gives, in order
 abbrev pub all_of : {A : Type 0} → (Trace → List A) → List Entry → List A
-all_of told [] = []
-all_of told (x ∷ xs) = told x.trace ++ all_of told xs
+all_of listed [] = []
+all_of listed (x ∷ xs) = listed x.trace ++ all_of listed xs
 
 -- a list of what is there
 abbrev pub one_of : {A : Type 0} → Option A → List A

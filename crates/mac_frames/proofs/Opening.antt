@@ -60,19 +60,19 @@ pub opens_so : {E : Type 0} (r : Result (Unit {0}) E) (head : MacHead) (key n fr
     → Frame head body (front ++ body) → body ≡ text ++ tag → n ≡ nonce_of head
     → (IsOk r → tag ≡ ccm_tag 4 key n front (ccm_text key n text)) → OnOk r (out ≡ ccm_text key n text)
     → OnOk r (SealedFrame head key out (front ++ body))
-opens_so (Ok u) head key n front body text tag out sealed frame parts en told is =
+opens_so (Ok u) head key n front body text tag out sealed frame parts en opening is =
     opens head key front body text tag out sealed frame parts (is ∙ ap (λ (m : List ℕ). ccm_text key m text) en)
-    (told refl ∙ (λ i. ccm_tag 4 key (en i) front (sym is i)))
-opens_so (Err e) head key n front body text tag out sealed frame parts en told is = tt
+    (opening refl ∙ (λ i. ccm_tag 4 key (en i) front (sym is i)))
+opens_so (Err e) head key n front body text tag out sealed frame parts en opening is = tt
 
 pub opens_only : {E : Type 0} (r : Result (Unit {0}) E) (head : MacHead) (key n front body text tag out payload : List ℕ)
     → Frame head body (front ++ body) → body ≡ text ++ tag → length tag ≡ 4 → n ≡ nonce_of head
     → (tag ≡ ccm_tag 4 key n front (ccm_text key n text) → IsOk r) → OnOk r (out ≡ ccm_text key n text)
     → SealedFrame head key payload (front ++ body) → IsOk r × (out ≡ payload)
-opens_only r head key n front body text tag out payload frame parts four en told is sealed =
+opens_only r head key n front body text tag out payload frame parts four en opening is sealed =
     let both = opened head key front body text tag payload frame parts four sealed in
     let plain : ccm_text key n text ≡ payload = ap (λ (m : List ℕ). ccm_text key m text) en ∙ sym both.0 in
-    let ok : IsOk r = told (both.1 ∙ (λ i. ccm_tag 4 key (sym en i) front (sym plain i))) in
+    let ok : IsOk r = opening (both.1 ∙ (λ i. ccm_tag 4 key (sym en i) front (sym plain i))) in
     (ok, at_ok r ok is ∙ plain)
 
 pub tag_fits : (head : MacHead) (body : List ℕ) → IsSealed head → IsBody head body → 4 ≤ length body

@@ -51,13 +51,13 @@ abbrev Brings : Heard → Type 0
 Brings (heard.Joining way body) = AreOctets body × WayFits way
 Brings _ = Unit {0}
 
-abbrev Tells : Result Heard Dropped → Type 0
-Tells (Ok said) = Brings said
-Tells (Err reason) = Unit {0}
+abbrev AnswerBrings : Result Heard Dropped → Type 0
+AnswerBrings (Ok said) = Brings said
+AnswerBrings (Err reason) = Unit {0}
 
 module _ (l : StationMemory) (cost note now : ℕ) where
   abbrev Is : Hearing → Type 0
-  Is p = Tells p.answer
+  Is p = AnswerBrings p.answer
 
   drop_is : (reason : Dropped) → Is (drop_it l reason)
   unfolding resting
@@ -162,7 +162,7 @@ unread_fits : (l : StationMemory) (got : Accepted) (cost note now : ℕ) (u : Un
     → AreOctets u.body × WayFits u.way
 unread_fits l got cost note now u are = by_answer (hear l got cost note now).answer (hear_names l cost note now got are)
   where
-    by_answer : (r : Result Heard Dropped) → Tells r → unread r ≡ Some u → AreOctets u.body × WayFits u.way
+    by_answer : (r : Result Heard Dropped) → AnswerBrings r → unread r ≡ Some u → AreOctets u.body × WayFits u.way
     by_answer (Err reason) h e = absurd (cc)
     by_answer (Ok (heard.Joining way body)) h e = subst (λ (x : Unread). AreOctets x.body × WayFits x.way) (same_Some _ _ e) h
     by_answer (Ok _) h e = absurd (cc)

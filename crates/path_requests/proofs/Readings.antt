@@ -14,7 +14,7 @@ use Rattle.path_requests.specs.declared.message.PathMessage.{PathMessage}
 use Rattle.path_requests.specs.declared.message.PathMessage.TheVariants.{Ask, Tell}
 use Rattle.path_requests.specs.Walks.{has, is_walk, walk_octets, walk_at}
 use Rattle.path_requests.specs.Messages.{IsPath, SpellsPath, path_spelling}
-use Rattle.path_requests.specs.Reading.{asked_walk, told_walk, is_ask, is_tell, message_of, path_in}
+use Rattle.path_requests.specs.Reading.{asked_walk, tell_walk, is_ask, is_tell, message_of, path_in}
 use Rattle.path_requests.specs.Laws.{PathsAreRead, ReadPathsAreSpelled}
 use Rattle.path_requests.proofs.Walking.{length-walk_at, length-walk_octets, walk_behind, walk_then}
 
@@ -44,7 +44,7 @@ tell_read : (w : List ℕ) → IsPath (Tell w) → message_of 2 (path_spelling (
 unfolding is_tell octet
 tell_read w h =
     let octets : List ℕ = path_spelling (Tell w) in
-    let walk : told_walk octets ≡ w = walk_last (2 ∷ length w ∷ []) w h.2 in
+    let walk : tell_walk octets ≡ w = walk_last (2 ∷ length w ∷ []) w h.2 in
     let long : length octets ≡ 2 + 2 * length w = omega (arith, length-walk_octets w) in
     let there : nat_lt 1 (length octets) ≡ true = grind (arith, common_steps) in
     let some : nat_lt 1 (length w) ≡ true = grind (arith, common_steps) in
@@ -95,10 +95,10 @@ ask_spelled octets fits kind is =
     let e5 : walk_octets walk ++ [] ≡ walk_octets walk = append-nil (walk_octets walk) in
     ((ltb-true _ _ b.0, omega arith, omega arith, f.0, other), cc (e0, e1, e2, e3, e4, e5, kind, many))
 
-tell_spelled : (octets : List ℕ) → AreOctets octets → octet 0 octets ≡ 2 → is_tell octets ≡ true → SpellsPath (Tell (told_walk octets)) octets
+tell_spelled : (octets : List ℕ) → AreOctets octets → octet 0 octets ≡ 2 → is_tell octets ≡ true → SpellsPath (Tell (tell_walk octets)) octets
 unfolding is_tell octet
 tell_spelled octets fits kind is =
-    let walk : List ℕ = told_walk octets in
+    let walk : List ℕ = tell_walk octets in
     let count : ℕ = octet 1 octets in
     let a = and_parts (nat_lt 1 (length octets)) _ is in
     let b = and_parts (nat_lt 1 count) _ a.1 in
@@ -122,7 +122,7 @@ paths_spelled m octets fits = by_kind (octet 0 octets == 1) (octet 0 octets == 2
   where
     by_kind : (a b : Bool) → (octet 0 octets == 1) ≡ a → (octet 0 octets == 2) ≡ b
         → (if a then (if is_ask octets then Some (Ask (two 1 octets) (asked_walk octets)) else None)
-        else (if b then (if is_tell octets then Some (Tell (told_walk octets)) else None) else None)) ≡ Some m
+        else (if b then (if is_tell octets then Some (Tell (tell_walk octets)) else None) else None)) ≡ Some m
         → SpellsPath m octets
     by_kind true b ea eb e =
         let read = read_only (is_ask octets) _ m e in

@@ -10,8 +10,8 @@ use Rattle.path_requests.specs.Walks.{has, is_walk, walk_at}
 abbrev pub asked_walk : List ℕ → List ℕ
 asked_walk octets = walk_at (octet 3 octets) 4 octets
 
-abbrev pub told_walk : List ℕ → List ℕ
-told_walk octets = walk_at (octet 1 octets) 2 octets
+abbrev pub tell_walk : List ℕ → List ℕ
+tell_walk octets = walk_at (octet 1 octets) 2 octets
 
 -- whether octets whose first is 01 are an ask: target, count, walk, and nothing else
 unfoldable pub is_ask : List ℕ → Bool
@@ -29,13 +29,13 @@ is_tell octets =
     nat_lt 1 (length octets)
     && (nat_lt 1 (octet 1 octets)
     && (nat_lt (octet 1 octets) 17
-    && (length octets == 2 + 2 * octet 1 octets && is_walk (told_walk octets))))
+    && (length octets == 2 + 2 * octet 1 octets && is_walk (tell_walk octets))))
 
 -- the message of a kind that octets are, if they are one
 abbrev pub message_of : (kind : ℕ) → List ℕ → Option PathMessage
 message_of kind octets =
     if kind == 1 then (if is_ask octets then Some (Ask (two 1 octets) (asked_walk octets)) else None)
-    else (if kind == 2 then (if is_tell octets then Some (Tell (told_walk octets)) else None)
+    else (if kind == 2 then (if is_tell octets then Some (Tell (tell_walk octets)) else None)
     else None)
 
 -- the message that octets are, if they are one

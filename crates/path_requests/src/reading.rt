@@ -5,7 +5,7 @@ ghost use Rattle.plc_base.specs.Faults.{ReadsWhen};
 ghost use Rattle.plc_base.specs.Fields.{octet, two};
 ghost use Rattle.path_requests.specs.Walks.{has, is_walk, walk_at};
 ghost use Rattle.path_requests.specs.Messages.{SpellsPath};
-ghost use Rattle.path_requests.specs.Reading.{is_ask, is_tell, asked_walk, told_walk, path_in};
+ghost use Rattle.path_requests.specs.Reading.{is_ask, is_tell, asked_walk, tell_walk, path_in};
 ghost use Rattle.path_requests.specs.declared.message.PathMessage.{PathMessage};
 ghost use Rattle.path_requests.specs.declared.message.PathMessage.TheVariants.{Ask, Tell};
 
@@ -80,7 +80,7 @@ fn ask_of(octets: &[u8]) -> Option<PathMessage>
 // The tell that octets are whose first is 02.
 #[tactic(auto, unfolding(crate::specs::Reading::is_tell))]
 fn tell_of(octets: &[u8]) -> Option<PathMessage>
-    ensures { ReadsWhen (is_tell octets.now) result (λ message. message ≡ Tell (told_walk octets.now)) }
+    ensures { ReadsWhen (is_tell octets.now) result (λ message. message ≡ Tell (tell_walk octets.now)) }
 {
     if octets.len() < 2 {
         return None;

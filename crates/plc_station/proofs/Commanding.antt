@@ -19,10 +19,10 @@ use Rattle.plc_station.proofs.Stepping.{stepping}
 use Rattle.plc_station.proofs.Ways.{sealed_spent, sealed_fits, never_less}
 
 -- a step in the words of another call
-pub told_done : {H E F : Type 0} (ends : Ends E) (others : Ends F) (s t : State StationMemory) (d : Draft StationMemory) (u : Unit {0}) (answer : H) (out : Out)
+pub message_done : {H E F : Type 0} (ends : Ends E) (others : Ends F) (s t : State StationMemory) (d : Draft StationMemory) (u : Unit {0}) (answer : H) (out : Out)
     → Carries s (sealing {H = Unit {0}} alone ends d tt) (Ok u) out t
     → Carries s (sealing alone others d answer) (Ok answer) out t
-told_done {H} {E} {F} ends others s t d u answer out c =
+message_done {H} {E} {F} ends others s t d u answer out c =
     record { done = c.done; wrote = c.wrote; answer_is = so c.done c.answer_is; out_is = c.out_is; new_is = c.new_is }
   where
     so : (done : Bool) → ◌≡◌ {A = Result (Unit {0}) E} (Ok u) (if done then Ok tt else Err ends.store)
@@ -30,10 +30,10 @@ told_done {H} {E} {F} ends others s t d u answer out c =
     so true e = refl
     so false e = cc
 
-pub told_failed : {H E F : Type 0} (ends : Ends E) (others : Ends F) (s t : State StationMemory) (d : Draft StationMemory) (reason : E) (answer : H) (out : Out)
+pub message_failed : {H E F : Type 0} (ends : Ends E) (others : Ends F) (s t : State StationMemory) (d : Draft StationMemory) (reason : E) (answer : H) (out : Out)
     → Carries s (sealing {H = Unit {0}} alone ends d tt) (Err reason) out t
     → Carries s (sealing alone others d answer) (Err others.store) out t
-told_failed {H} {E} {F} ends others s t d reason answer out c =
+message_failed {H} {E} {F} ends others s t d reason answer out c =
     record { done = c.done; wrote = c.wrote; answer_is = so c.done c.answer_is; out_is = c.out_is; new_is = c.new_is }
   where
     so : (done : Bool) → ◌≡◌ {A = Result (Unit {0}) E} (Err reason) (if done then Ok tt else Err ends.store)

@@ -98,13 +98,13 @@ then_one : (own hop dest : ℕ) (bs : List Body) (o : Outgoing)
 then_one own hop dest bs o = after_quiet (flat_map (units_by own hop) (filter (waits_for dest) bs)) (o ∷ []) (bodies_quiet own hop (filter (waits_for dest) bs))
 
 -- the units of a step in which bodies leave and a message goes out
-abbrev told_units : (own by origin to : ℕ) → List Body → Message → List Outgoing
-told_units own by origin to bs m =
+abbrev message_units : (own by origin to : ℕ) → List Body → Message → List Outgoing
+message_units own by origin to bs m =
     flat_map (units_by own by) (filter (waits_for origin) bs) ++ record { to = to; unit = Local 1 (messages.spelling m); note = 0 } ∷ []
 
-told_alone : (own by origin to : ℕ) (bs : List Body) (m : Message)
-    → reply_in (told_units own by origin to bs m) ≡ first_of (reply_with to (message_in (messages.spelling m))) None
-told_alone own by origin to bs m = then_one own by origin bs (record { to = to; unit = Local 1 (messages.spelling m); note = 0 })
+message_alone : (own by origin to : ℕ) (bs : List Body) (m : Message)
+    → reply_in (message_units own by origin to bs m) ≡ first_of (reply_with to (message_in (messages.spelling m))) None
+message_alone own by origin to bs m = then_one own by origin bs (record { to = to; unit = Local 1 (messages.spelling m); note = 0 })
 
 -- # Messages
 
@@ -124,10 +124,10 @@ error_quiet to lost target = by_fault (is_some (message_fault (messages.spelling
     by_fault true = refl
     by_fault false = refl
 
-reply_told : (to number cost origin target : ℕ) → messages.IsMessage (Rrep number cost origin target)
+reply_is_message : (to number cost origin target : ℕ) → messages.IsMessage (Rrep number cost origin target)
     → first_of (reply_with to (message_in (messages.spelling (Rrep number cost origin target)))) None
     ≡ Some (record { to = to; number = number; origin = origin })
-reply_told to number cost origin target is = ap (λ (m : Option Message). first_of (reply_with to m) None)
+reply_is_message to number cost origin target is = ap (λ (m : Option Message). first_of (reply_with to m) None)
     (message_read (Rrep number cost origin target) (messages.spelling (Rrep number cost origin target)) (is, refl))
 
 -- # Plans that send none
@@ -202,44 +202,44 @@ pub sent_on_quiet : (l : StationMemory) (own by origin dest : ℕ) (rank : Rank)
     ≡ None
 unfolding goes leave with_rank empty_draft
 sent_on_quiet l own by origin dest rank now =
-    sealed_quiet l.ring l.counter.next (told_units own by origin to_all l.waiting (Rreq rank.number rank.cost origin dest))
-    (told_alone own by origin to_all l.waiting (Rreq rank.number rank.cost origin dest) ∙ request_quiet to_all rank.number rank.cost origin dest)
+    sealed_quiet l.ring l.counter.next (message_units own by origin to_all l.waiting (Rreq rank.number rank.cost origin dest))
+    (message_alone own by origin to_all l.waiting (Rreq rank.number rank.cost origin dest) ∙ request_quiet to_all rank.number rank.cost origin dest)
 
 -- # Plans that send one
 
-pub answer_told : (l : StationMemory) (g : Granted) (key : Key) (own by origin : ℕ) (rank : Rank) (now : ℕ) → l.ring ≡ Some g → sealing_key g ≡ Some key
+pub answer_goes : (l : StationMemory) (g : Granted) (key : Key) (own by origin : ℕ) (rank : Rank) (now : ℕ) → l.ring ≡ Some g → sealing_key g ≡ Some key
     → messages.IsMessage (Rrep (l.own_number.last + 1) 0 own origin)
     → reply_among (sealing {H = Unit {0}} alone dropped (send_message by (Rrep (l.own_number.last + 1) 0 own origin) (offers_numbered own origin rank by now l))
     tt).frames
     ≡ Some (record { to = by; number = l.own_number.last + 1; origin = own })
 unfolding goes leave with_own_number with_rank empty_draft
-answer_told l g key own by origin rank now ring seals is =
-    let us = told_units own by origin by l.waiting (Rrep (l.own_number.last + 1) 0 own origin) in
+answer_goes l g key own by origin rank now ring seals is =
+    let us = message_units own by origin by l.waiting (Rrep (l.own_number.last + 1) 0 own origin) in
     ap (λ (r : Ring). reply_among (sealed_by r l.counter.next us)) ring
     ∙ sealed_reply g key l.counter.next us seals
-    ∙ told_alone own by origin by l.waiting (Rrep (l.own_number.last + 1) 0 own origin)
-    ∙ reply_told by (l.own_number.last + 1) 0 own origin is
+    ∙ message_alone own by origin by l.waiting (Rrep (l.own_number.last + 1) 0 own origin)
+    ∙ reply_is_message by (l.own_number.last + 1) 0 own origin is
 
-pub passed_told : (l : StationMemory) (g : Granted) (own by hop origin to : ℕ) (rank : Rank) (now : ℕ) → l.ring ≡ Some g → IsSome (sealing_key g)
+pub passed_goes : (l : StationMemory) (g : Granted) (own by hop origin to : ℕ) (rank : Rank) (now : ℕ) → l.ring ≡ Some g → IsSome (sealing_key g)
     → messages.IsMessage (Rrep rank.number rank.cost origin to)
     → reply_among (sealing {H = Unit {0}} alone dropped (send_message hop (Rrep rank.number rank.cost origin to) (offers own origin rank by now l)) tt).frames
     ≡ Some (record { to = hop; number = rank.number; origin = origin })
 unfolding goes leave with_rank empty_draft
-passed_told l g own by hop origin to rank now ring seals is =
-    let us = told_units own by origin hop l.waiting (Rrep rank.number rank.cost origin to) in
+passed_goes l g own by hop origin to rank now ring seals is =
+    let us = message_units own by origin hop l.waiting (Rrep rank.number rank.cost origin to) in
     ap (λ (r : Ring). reply_among (sealed_by r l.counter.next us)) ring
     ∙ by_key us (sealing_key g) seals
-    ∙ told_alone own by origin hop l.waiting (Rrep rank.number rank.cost origin to)
-    ∙ reply_told hop rank.number rank.cost origin to is
+    ∙ message_alone own by origin hop l.waiting (Rrep rank.number rank.cost origin to)
+    ∙ reply_is_message hop rank.number rank.cost origin to is
   where
     by_key : (us : List Outgoing) (k : Option Key) → IsSome k → reply_among (option_map_or (λ q. letters g q l.counter.next us) k []) ≡ reply_in us
     by_key us None h = absurd (cc)
     by_key us (Some key) h = letters_reply g key l.counter.next us
 
 -- what is kept of a reply is no part of the plan that sent it
-pub retold : {A : Type 0} (s t : State StationMemory) (r : Option Reply) (p : Plan StationMemory A) (answer : A) (out : Out) → Carries s p answer out t
+pub restated : {A : Type 0} (s t : State StationMemory) (r : Option Reply) (p : Plan StationMemory A) (answer : A) (out : Out) → Carries s p answer out t
     → Carries s p answer out (record t { replied = r })
-retold {A} s t r p answer out c = record {
+restated {A} s t r p answer out c = record {
   done = c.done;
   wrote = c.wrote;
   answer_is = c.answer_is;

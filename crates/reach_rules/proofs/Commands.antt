@@ -140,9 +140,9 @@ module _ {M : Type 0} (x : Reaching M) where
     scan = refl;
   }
 
-  tells : (to : ℕ) (octets : List ℕ) → IsReach x (adds_local to 5 octets (empty_draft x))
+  local_shape : (to : ℕ) (octets : List ℕ) → IsReach x (adds_local to 5 octets (empty_draft x))
   unfolding empty_draft adds_local
-  tells to octets = record { turns = omega arith; units = Command to 5 octets (omega arith) (omega arith); plain = refl; memory = refl; scan = refl }
+  local_shape to octets = record { turns = omega arith; units = Command to 5 octets (omega arith) (omega arith); plain = refl; memory = refl; scan = refl }
 
 -- # Plans
 
@@ -222,8 +222,8 @@ module _ {M : Type 0} (h : StationPlace M) (x : Reaching M) where
 
   follows_shape : (step : Result PathStep PathRefusal) → CommandShape (follows_path h x step)
   follows_shape (Err reason) = Rests _
-  follows_shape (Ok (Forward to message)) = sealed_shape _ _ _ _ _ (tells x to _)
-  follows_shape (Ok (Answer to message)) = sealed_shape _ _ _ _ _ (tells x to _)
+  follows_shape (Ok (Forward to message)) = sealed_shape _ _ _ _ _ (local_shape x to _)
+  follows_shape (Ok (Answer to message)) = sealed_shape _ _ _ _ _ (local_shape x to _)
   follows_shape (Ok (Done walk)) = Keeps x.beside (heard.Path walk) refl
 
   path_in_shape : (own from : ℕ) (message : Option PathMessage) → CommandShape (hear_path_in h x own from message)
@@ -262,7 +262,7 @@ module _ {M : Type 0} (h : StationPlace M) (x : Reaching M) where
 
   asks_by_shape : (own target : ℕ) (hop : Option ℕ) → AskShape (asks_by h x own target hop)
   asks_by_shape own target None = Rests _
-  asks_by_shape own target (Some hop) = sealed_shape _ _ _ _ _ (tells x hop _)
+  asks_by_shape own target (Some hop) = sealed_shape _ _ _ _ _ (local_shape x hop _)
 
   asks_shape : (target : ℕ) → AskShape (ask_path h x target)
   asks_shape target = by_address (address_of (h.station x.memory))

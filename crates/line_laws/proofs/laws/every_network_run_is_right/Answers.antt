@@ -16,7 +16,7 @@ use Rattle.line_laws.proofs.OnceRuns.{every_frame, every_node}
 use Rattle.line_laws.proofs.ReachHistory.{every_history}
 use Rattle.line_laws.proofs.ReachLogs.{every_log}
 use Rattle.line_laws.proofs.ReachRuns.{every_broadcast, every_walk}
-use Rattle.line_laws.proofs.ReachReported.{every_list, every_told}
+use Rattle.line_laws.proofs.ReachReported.{every_list, every_reported}
 use Rattle.line_laws.proofs.Readings.{network_ranges}
 use Rattle.line_laws.proofs.SafeRun.{every_safe}
 use Rattle.line_laws.proofs.StepsTaken.{every_step}
@@ -56,7 +56,7 @@ returns c = λ entries run. record {
   logs = every_log entries run;
   broadcasts = every_broadcast entries run;
   walks = every_walk entries run;
-  reported = every_told entries run;
+  reported = every_reported entries run;
   listed = every_list entries run;
   checked = every_check entries run;
   steps = every_step entries run;

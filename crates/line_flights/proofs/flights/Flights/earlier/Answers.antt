@@ -3,7 +3,7 @@ use Rattle.std.proofs.Common.{◌≡◌, ◌-◌, ◌<◌, true, Some, sym, ap, 
 use Rattle.std.specs.Prelude.{slice_get}
 use Rattle.line_flights.specs.Flights.{Flight}
 use Rattle.line_flights.specs.Flown.{Flown, is_under}
-use Rattle.line_flights.proofs.Origins.{told_by}
+use Rattle.line_flights.proofs.Origins.{origin_by}
 use Rattle.line_flights.proofs.FlightLists.{count_of, item_at, in_flights, beside}
 use Rattle.line_flights.proofs.flights.Flights.earlier.Goals as goal
 
@@ -35,7 +35,7 @@ returns-then-is_under c = λ f e.
     let is = beside c.self.inside.log.strings c.self.inside.items.items (c.args.number - 1) kept f item
     (ap (λ (f : Flown). slice_get f.flights (c.args.number - 1)) c.self.view_is ∙ there) in
     let under : is_under f.key c.args.key.now ≡ true = ap (λ (g : Flight). is_under g.key c.args.key.now) is ∙ sym c.is_under.ensures ∙ c.if-is_under.true in
-    sym (ap (λ b. told_by b f.note c.args.later) under ∙ ap (λ (g : Flight). told_by true g.note c.args.later) is)
+    sym (ap (λ b. origin_by b f.note c.args.later) under ∙ ap (λ (g : Flight). origin_by true g.note c.args.later) is)
 
 pub returns : goal.returns
 returns c = λ f e.
@@ -53,4 +53,4 @@ returns c = λ f e.
     let is = beside c.self.inside.log.strings c.self.inside.items.items (c.args.number - 1) kept f item
     (ap (λ (f : Flown). slice_get f.flights (c.args.number - 1)) c.self.view_is ∙ there) in
     let under = ap (λ (g : Flight). is_under g.key c.args.key.now) is ∙ sym c.is_under.ensures ∙ c.if-is_under.false in
-    sym (ap (λ b. told_by b f.note c.args.later) under)
+    sym (ap (λ b. origin_by b f.note c.args.later) under)

@@ -5,12 +5,12 @@ use Rattle.octet_log.specs.Logs.{IsLast}
 use Rattle.octet_log.proofs.Lasts.{got_take}
 use Rattle.line_flights.specs.Flown.{Flown, is_under}
 use Rattle.line_flights.proofs.FlightLists.{count_of, in_flights, flown_at}
-use Rattle.line_flights.proofs.Origins.{origin_of, told_by, from_last, from_before}
+use Rattle.line_flights.proofs.Origins.{origin_of, origin_by, from_last, from_before}
 use Rattle.line_flights.proofs.flights.Flights.origin.Goals as goal
 
 pub loop-number-init : goal.loop-number-init
 loop-number-init c = record {
-  told =
+  is_origin =
       sym (ap (λ (f : Flown). origin_of (drop c.last-number.result f.flights) c.args.octets.now c.args.key.now) (sym c.self.view_is)
       ∙ from_last c.args.octets.now c.args.key.now c.self.inside.log.strings c.self.inside.items.items c.last-number.result c.self.invariant.each
       c.last-number.ensures);
@@ -45,12 +45,12 @@ loop-number-preserved c =
     let before : IsLast (take (n - 1) strings) octets p = c.before-number.ensures octets here in
     let cut : length (take (n - 1) strings) ≡ n - 1 = omega (arith, length-take (n - 1) strings, within) in
     let order : p ≤ n - 1 = omega (arith, before.within, cut) in
-    let later : c.loop-number.origin ≡ origin_of (drop n c.args.self.now.flights) octets key = c.loop-number.invariant.told in
+    let later : c.loop-number.origin ≡ origin_of (drop n c.args.self.now.flights) octets key = c.loop-number.invariant.is_origin in
     record {
-      told =
+      is_origin =
           c.earlier-origin.ensures f (in_flights c.args.self.now.flights n some ∙ there)
-          ∙ ap (told_by (is_under f.key key) f.note) later
-          ∙ ap (λ (g : Flown). told_by (is_under f.key key) f.note (origin_of (drop n g.flights) octets key)) (sym c.self.view_is)
+          ∙ ap (origin_by (is_under f.key key) f.note) later
+          ∙ ap (λ (g : Flown). origin_by (is_under f.key key) f.note (origin_of (drop n g.flights) octets key)) (sym c.self.view_is)
           ∙ sym (from_before octets key strings items n p f some within flown.there flown.same before)
           ∙ ap (λ (g : Flown). origin_of (drop p g.flights) octets key) c.self.view_is;
       within = omega (arith, order, within);

@@ -6,7 +6,7 @@ use Rattle.line_flights.proofs.flights.Flights.origin.Given as goal
 -- what the flights after a number tell; that of the number has the octets
 abbrev pub invariant-loop-number : goal.invariant-loop-number
 invariant-loop-number l = record {
-  told : l.origin ≡ origin_of (drop l.number l.self.flights) l.octets l.key;
+  is_origin : l.origin ≡ origin_of (drop l.number l.self.flights) l.octets l.key;
   within : l.number ≤ length l.self-inside.log.strings;
   here : 0 < l.number → slice_get l.self-inside.log.strings (l.number - 1) ≡ Some l.octets;
 }

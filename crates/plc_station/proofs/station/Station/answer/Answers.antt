@@ -24,7 +24,7 @@ use Rattle.std.specs.Prelude.{IfSome}
 use Rattle.node_rules.specs.States.{unless_halted}
 use Rattle.plc_station.proofs.Agreeing.{agrees_counted, agrees_numbered, agrees_ranked, agrees_holding}
 use Rattle.plc_station.proofs.Ending.{ended, stopped, uncounted}
-use Rattle.plc_station.proofs.Replying.{answer_told}
+use Rattle.plc_station.proofs.Replying.{answer_goes}
 use Rattle.waiting_bodies.proofs.Letters.{length-frames}
 use Rattle.plc_station.proofs.Sealed.{sealed_then}
 use Rattle.plc_station.proofs.station.Station.answer.Goals as goal
@@ -205,7 +205,7 @@ pub returns-clause-replied : goal.returns-clause-replied
 returns-clause-replied g c =
     rw (← c.self.view_is) (on_memory c.self.inside.halted _ _ (λ running.
     (λ i. Some (record { to = c.args.offer.now.by; number = c.in-Ok-advance.ensures.number i; origin = ap (λ (g : Granted). g.address) c.grant.view_is i }))
-    ∙ sym (answer_told (station_in c.self.inside.parts c.self.inside.bodies) c.args.grant.now c.sealing_key-key.result c.args.grant.now.address
+    ∙ sym (answer_goes (station_in c.self.inside.parts c.self.inside.bodies) c.args.grant.now c.sealing_key-key.result c.args.grant.now.address
     c.args.offer.now.by
     c.args.offer.now.origin c.args.offer.now.rank c.args.offer.now.time
     (at_some c.args.self.now.memory (λ l. l.ring ≡ Some c.args.grant.now) (station_in c.self.inside.parts c.self.inside.bodies)

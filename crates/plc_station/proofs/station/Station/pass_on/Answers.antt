@@ -4,7 +4,7 @@ use Rattle.loadng_messages.specs.declared.message.Message.TheVariants.{Rrep}
 use Rattle.node_rules.specs.Drafts.{send_message}
 use Rattle.node_rules.specs.Hearing.{dropped, offers}
 use Rattle.plc_station.proofs.Carrying.{if_some, at_some}
-use Rattle.plc_station.proofs.Replying.{kept_done, kept_failed, passed_told, retold}
+use Rattle.plc_station.proofs.Replying.{kept_done, kept_failed, passed_goes, restated}
 use Rattle.plc_station.proofs.station.Station.pass_on.Goals as goal
 
 pub returns-in_err-relay-clause-carries : goal.returns-in_err-relay-clause-carries
@@ -22,7 +22,7 @@ returns-in_err-relay-clause-replied g c =
 pub returns-clause-carries : goal.returns-clause-carries
 returns-clause-carries g c =
     if_some c.args.self.now.memory _
-    (λ l m. retold _ _ (Some (record { to = c.args.hop; number = c.args.offer.now.rank.number; origin = c.args.offer.now.origin })) _ _ _
+    (λ l m. restated _ _ (Some (record { to = c.args.hop; number = c.args.offer.now.rank.number; origin = c.args.offer.now.origin })) _ _ _
     (at_some _ _ l m (rw (c.one.ensures.value, ← c.self.view_is) at c.in_ok-relay.ensures.carries)))
 
 pub returns-clause-agrees : goal.returns-clause-agrees
@@ -34,6 +34,6 @@ returns-clause-replied g c =
     (send_message c.args.hop (Rrep c.args.offer.now.rank.number c.args.offer.now.rank.cost c.args.offer.now.origin c.args.to)
     (offers c.args.grant.now.address c.args.offer.now.origin c.args.offer.now.rank c.args.offer.now.by c.args.offer.now.time l)) _ _ _
     (at_some _ _ l m (rw (c.one.ensures.value, ← c.self.view_is) at c.in_ok-relay.ensures.carries))
-    (passed_told l c.args.grant.now c.args.grant.now.address c.args.offer.now.by c.args.hop c.args.offer.now.origin c.args.to c.args.offer.now.rank
+    (passed_goes l c.args.grant.now c.args.grant.now.address c.args.offer.now.by c.args.hop c.args.offer.now.origin c.args.to c.args.offer.now.rank
     c.args.offer.now.time
     (at_some _ _ l m c.requires.ready.ring) c.in_ok-relay.ensures.key c.in_ok-relay.ensures.message))
