@@ -61,7 +61,7 @@ pub record WorldSpeaks (w : World) : Type 0 where
   pub nodes : All NodeSpeaks w.nodes
   pub flights : All FlightFits w.flights
 
--- what a node did is told
+-- what a node did goes into the world
 pub after_speaks : {A : Type 0} (u : World) (number : ℕ) (d : NodeStep A) → WorldSpeaks u → DidSpeak d → WorldSpeaks (world_after network u number d)
 unfolding world_after
 after_speaks u number d s did = record {

@@ -141,7 +141,7 @@ module _ (ciphers : Ciphers) (h : Homes) where
       forward : (i : ℕ) (y : Node) → node_at w i ≡ Some y → Later (made_node w x).0 i y
       forward i y there = record { node = y; there = pushed_old w.nodes x i y there; above = λ dest. inl refl }
 
-  -- what a node did is told
+  -- what a node did goes into the world
   pub CallHolds : World → ℕ → Node → {A : Type 0} → NodeStep A → Type 0
   CallHolds u number x d = NodeRanks (At h number) (Own h number) (IsNearer h u) x d.node d.frames × All (FrameRead ciphers) d.frames
 

@@ -353,7 +353,7 @@ module _ (ciphers : Ciphers) (fits : KeepsRanges ciphers) (w : World) (ok : Worl
       by_number true e = absurd (no_some f e)
       by_number false e = at_place FlightFits w.flights (number - 1) f e flown
 
-  -- what a node did is told to the world and to the report
+  -- what a node did goes into the world and into the report
   pub acted_good : (number : ℕ) (x : Node) (d : NodeStep Answer) → node_at w number ≡ Some x → DidOk x d → StepGood w (Ok (acted ciphers w number d))
   acted_good number x d there did =
       Taken _ (ok_after ciphers fits (ran w) number x d ran_ok there did (λ e. absurd (true_false e))) did.few (after_more ciphers (ran w) number d)

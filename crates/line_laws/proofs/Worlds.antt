@@ -39,7 +39,7 @@ unfolding world_after
 flights_none ciphers w number d e f =
     ap (λ fs. fs ++ flights_of ciphers number d) e ∙ ap (λ frames. map (λ frame. flight_by number (spelled ciphers frame)) frames) f
 
--- what a node did is told
+-- what a node did goes into the world
 pub after_with : {A : Type 0} (ciphers : Ciphers) (w : World) (number : ℕ) (x : Node) (d : NodeStep A) → WorldOk w → node_at w number ≡ Some x → DidFits x d
     → Rising (world_after ciphers w number d) → (w.running ≡ false → d.frames ≡ []) → WorldOk (world_after ciphers w number d)
 unfolding world_after

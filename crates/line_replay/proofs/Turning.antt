@@ -24,8 +24,8 @@ text_of quiet number next e h = happened_text number e h ++ sent_text quiet next
 turn_is : (quiet : Bool) (number : ℕ) (w next : World) (e : Event) (h : Happenings) → w.events < MAX_EVENTS → TakesStep h next (line_step network w e)
     → turn_by quiet number (event_taking w e) ≡ Takes (record { quiet = quiet; world = next }) (text_of quiet (w.events + 1) next e h)
 turn_is quiet number w next e h room is =
-    rw (lt-ltb w.events MAX_EVENTS room, is.taken) (ap (λ (told : Happenings). Takes (let p : Playing = record { quiet = quiet; world = next } in p)
-    (text_of quiet (w.events + 1) next e told)) (sym is.told))
+    rw (lt-ltb w.events MAX_EVENTS room, is.taken) (ap (λ (reported : Happenings). Takes (let p : Playing = record { quiet = quiet; world = next } in p)
+    (text_of quiet (w.events + 1) next e reported)) (sym is.reported))
 
 pub event_taken : {old new : SinkState} (quiet : Bool) (number count : ℕ) (w next : World) (e : Event) (h : Happenings) (r : Result (Unit {0}) StopReason)
     → count ≡ w.events → w.events < MAX_EVENTS → TakesStep h next (line_step network w e)

@@ -22,9 +22,9 @@ use Rattle.line_world.specs.Soundness.{AgreesAs, IsSound}
 
 -- # What is there
 
-pub told_cut : (o : Option (Option Cut)) → IsSome o → (c : Option Cut) × (o ≡ Some c)
-told_cut (Some c) is = (c, refl)
-told_cut None is = absurd (cc)
+pub known_cut_of : (o : Option (Option Cut)) → IsSome o → (c : Option Cut) × (o ≡ Some c)
+known_cut_of (Some c) is = (c, refl)
+known_cut_of None is = absurd (cc)
 
 pub at : {M : Type 0} (o : Option M) (P : M → Type 0) (m : M) → o ≡ Some m → IfSome o P → P m
 at {M} o P m e h = subst (λ (k : Option M). IfSome k P) e h
@@ -47,11 +47,11 @@ step_of role x halted p o = acts (record (node_in role x) { memory = o }) halted
 by_cut : {A : Type 0} (role : Role) (x y : State Memory) (p : Plan Memory A) (answer : A) (out : Out) (cut : Option Cut) → x.store.known_cut ≡ Some cut
     → (is : IsCarriedOut x p answer out y) → cut ≡ is.cut
     → Took (left_by (node_in role x) (carry_out x.store.records (cut_ahead x.store.known_cut) p)) answer out (node_in role y)
-by_cut {A} role x y p answer out cut told is same =
-    let known_cut_is : x.store.known_cut ≡ Some is.cut = told ∙ ap (λ c. Some c) same in
+by_cut {A} role x y p answer out cut cut_known is same =
+    let known_cut_is : x.store.known_cut ≡ Some is.cut = cut_known ∙ ap (λ c. Some c) same in
     let o : Outcome Memory A = carry_out x.store.records is.cut p in
     let e : o ≡ carry_out x.store.records (cut_ahead x.store.known_cut) p = ap (λ c. carry_out x.store.records (cut_ahead c) p) (sym known_cut_is) in
-    let y_known : y.store.known_cut ≡ Some o.cut = at x.store.known_cut (λ c. y.store.known_cut ≡ Some o.cut) cut told is.shows.known_cut_is in
+    let y_known : y.store.known_cut ≡ Some o.cut = at x.store.known_cut (λ c. y.store.known_cut ≡ Some o.cut) cut cut_known is.shows.known_cut_is in
     let t : Took (left_by (node_in role x) o) answer out (node_in role y) = record {
       answer_is = is.shows.answer_is;
       out_is = is.shows.out_is;
@@ -63,16 +63,16 @@ by_cut {A} role x y p answer out cut told is same =
 pub took_plan : {A : Type 0} (role : Role) (x y : State Memory) (p : Plan Memory A) (answer : A) (out : Out) → IsSome x.store.known_cut
     → Carries x p answer out y
     → Took (left_by (node_in role x) (carry_out x.store.records (cut_ahead x.store.known_cut) p)) answer out (node_in role y)
-took_plan role x y p answer out told c =
-    let k = told_cut x.store.known_cut told in
+took_plan role x y p answer out cut_known c =
+    let k = known_cut_of x.store.known_cut cut_known in
     let is = carried x p answer out y c in
     by_cut role x y p answer out k.0 k.1 is (at x.store.known_cut (λ d. d ≡ is.cut) k.0 k.1 is.known_cut)
 
 -- what the keeper tells afterwards
-pub tells_still : {A : Type 0} (x y : State Memory) (p : Plan Memory A) (answer : A) (out : Out) → IsSome x.store.known_cut → Carries x p answer out y
+pub still_known : {A : Type 0} (x y : State Memory) (p : Plan Memory A) (answer : A) (out : Out) → IsSome x.store.known_cut → Carries x p answer out y
     → IsSome y.store.known_cut
-tells_still {A} x y p answer out told c =
-    let k = told_cut x.store.known_cut told in
+still_known {A} x y p answer out cut_known c =
+    let k = known_cut_of x.store.known_cut cut_known in
     let is = carried x p answer out y c in
     let o : Outcome Memory A = carry_out x.store.records is.cut p in
     some_is y.store.known_cut o.cut (at x.store.known_cut (λ d. y.store.known_cut ≡ Some o.cut) k.0 k.1 is.shows.known_cut_is)
@@ -88,7 +88,7 @@ pub took : {A : Type 0} (role : Role) (x y : State Memory) (halted : A) (p : Mem
     → StayedHalted x halted answer out y → IfSome x.memory (λ m. Carries x (p m) answer out y)
     → Took (acts (node_in role x) halted p) answer out (node_in role y)
 unfolding acts
-took {A} role x y halted p answer out told stayed carries = by x.memory refl stayed carries
+took {A} role x y halted p answer out cut_known stayed carries = by x.memory refl stayed carries
   where
     by : (o : Option Memory) → x.memory ≡ o → IfNone o ((answer ≡ halted) × (out ≡ nothing) × (y ≡ x)) → IfSome o (λ m. Carries x (p m) answer out y)
         → Took (acts (node_in role x) halted p) answer out (node_in role y)
@@ -99,7 +99,7 @@ took {A} role x y halted p answer out told stayed carries = by x.memory refl sta
           node_is = ap (λ (z : State Memory). node_in role z) s.2 ∙ ap (λ (o : Option Memory). record (node_in role x) { memory = o }) e;
         })
     by (Some m) e s c =
-        subst (λ (o : Option Memory). Took (step_of role x halted p o) answer out (node_in role y)) (sym e) (took_plan role x y (p m) answer out told c)
+        subst (λ (o : Option Memory). Took (step_of role x halted p o) answer out (node_in role y)) (sym e) (took_plan role x y (p m) answer out cut_known c)
 
 -- # What a call leaves
 
@@ -114,14 +114,14 @@ short_tables role m records a = record { marks = a.station.marks.short; ranks = 
 abbrev pub Places : {A : Type 0} → (Memory → Plan Memory A) → Type 0
 Places p = (m : Memory) → HasShortTables m.station → WritesInPlace m.station m.book (p m)
 
-pub told_after : {A : Type 0} (role : Role) (x y : State Memory) (halted : A) (p : Memory → Plan Memory A) (answer : A) (out : Out) → IsSound role x
+pub known_after : {A : Type 0} (role : Role) (x y : State Memory) (halted : A) (p : Memory → Plan Memory A) (answer : A) (out : Out) → IsSound role x
     → StayedHalted x halted answer out y → IfSome x.memory (λ m. Carries x (p m) answer out y) → IsSome y.store.known_cut
-told_after {A} role x y halted p answer out sound stayed carries = by x.memory stayed carries
+known_after {A} role x y halted p answer out sound stayed carries = by x.memory stayed carries
   where
     by : (o : Option Memory) → IfNone o ((answer ≡ halted) × (out ≡ nothing) × (y ≡ x)) → IfSome o (λ m. Carries x (p m) answer out y)
         → IsSome y.store.known_cut
     by None s c = subst (λ (z : State Memory). IsSome z.store.known_cut) (sym s.2) sound.known_cut
-    by (Some m) s c = tells_still x y (p m) answer out sound.known_cut c
+    by (Some m) s c = still_known x y (p m) answer out sound.known_cut c
 
 pub tables_after : {A : Type 0} (role : Role) (x y : State Memory) (halted : A) (p : Memory → Plan Memory A) (answer : A) (out : Out) → Places p
     → IsSound role x

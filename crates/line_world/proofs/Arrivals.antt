@@ -45,7 +45,7 @@ use Rattle.reach_rules.specs.ReachingNodes.{Beside}
 use Rattle.reach_rules.specs.Receiving.{NeighbourCommand, command_of, command_on, command_with}
 use Rattle.line_flights.specs.declared.flights.Origin.{Origin}
 use Rattle.line_flights.specs.Flown.{Flown, not_lost}
-use Rattle.line_world.specs.declared.nodes.reception.Reception as telling
+use Rattle.line_world.specs.declared.nodes.reception.Reception as receiving
 use Rattle.line_world.specs.NodeOutcomes.{Did}
 use Rattle.line_world.specs.Receiving.{Received, ReportsReception, handed_up}
 use Rattle.line_events.specs.declared.event.StepFault.TheVariants as faults
@@ -71,7 +71,7 @@ use Rattle.line_world.specs.Finding.{found}
 use Rattle.line_world.specs.Soundness.{AreShort, IsShort}
 use Rattle.line_world.specs.Steps.{Steps}
 use Rattle.line_world.proofs.Taking.{IsThere, after, at_node, begun, bounded_after, has_coordinator, is_taken_so, is_there, many_given, refused, steps_as}
-use Rattle.line_world.proofs.Taking.{told_as}
+use Rattle.line_world.proofs.Taking.{after_is}
 
 -- # Flights
 
@@ -149,8 +149,8 @@ at_some (x ∷ xs) zero less = (x, refl)
 at_some (x ∷ xs) (suc n) less = let below : n < length xs = omega (arith, less) in at_some xs n below
 
 -- what is told of the node of a number
-pub at_node_told : (nodes : List Node) (number : ℕ) (x : Node) (P : Node → Type 0) → slice_get nodes number ≡ Some x → IfSome (slice_get nodes number) P → P x
-at_node_told nodes number x P at world_after = subst (λ (o : Option Node). IfSome o P) at world_after
+pub at_node_after : (nodes : List Node) (number : ℕ) (x : Node) (P : Node → Type 0) → slice_get nodes number ≡ Some x → IfSome (slice_get nodes number) P → P x
+at_node_after nodes number x P at world_after = subst (λ (o : Option Node). IfSome o P) at world_after
 
 -- # The bounds while octets come
 
@@ -232,7 +232,7 @@ pairing_as v w None same = refl
 pairing_as v w (Some d) same = λ i. Some (record { node = same d.eui i; agreed = d.agreed })
 
 -- what is left and what is said of a frame that a node heard
-module _ (w : World) (number : ℕ) (x : Node) (d : NodeStep Reception) (r : telling.Reception) (out : Out) (nodes : List Node) (right forged : Bool)
+module _ (w : World) (number : ℕ) (x : Node) (d : NodeStep Reception) (r : receiving.Reception) (out : Out) (nodes : List Node) (right forged : Bool)
     (at : slice_get w.nodes number ≡ Some x)
     (same : d.node.eui ≡ x.eui) (rec : Received d w.nodes number r out nodes) (forgery : forged ≡ right) where
   ups_as : is_some r.up ≡ is_some d.answer.up
@@ -247,7 +247,7 @@ module _ (w : World) (number : ℕ) (x : Node) (d : NodeStep Reception) (r : tel
         ups = number_if (is_some d.answer.up) w.ups;
         forged = number_if right w.forged;
         done = number_if (is_some d.answer.done) w.done;
-      }) (told_as (ran w) number d nodes out rec.did.out_is rec.did.nodes_are)
+      }) (after_is (ran w) number d nodes out rec.did.out_is rec.did.nodes_are)
       ∙ (λ i. record (after (ran w) number nodes out) {
         ups = number_if (sym ups_as i) w.ups;
         forged = number_if (sym forgery i) w.forged;
@@ -269,7 +269,7 @@ module _ (w : World) (number : ℕ) (x : Node) (d : NodeStep Reception) (r : tel
   received_many = ap (λ (ns : List Node). length ns) rec.did.nodes_are ∙ length-set w.nodes number d.node
 
 -- the bounds after that
-pub left_bounded : (w : World) (number : ℕ) (nodes : List Node) (beside : List Beside) (out : Out) (forged : Bool) (r : telling.Reception)
+pub left_bounded : (w : World) (number : ℕ) (nodes : List Node) (beside : List Beside) (out : Out) (forged : Bool) (r : receiving.Reception)
     → IsBounded (in_run w) → w.events < MAX_EVENTS
     → length nodes ≡ length w.nodes → length out.frames ≤ 24 → length out.tags.made ≤ 2
     → IsBounded (left_of (record w { nodes = nodes; beside = beside }) number out forged r)
@@ -289,7 +289,7 @@ left_bounded w number nodes beside out forged r b room same frames tags =
     }
 
 -- what is said and what is left of a frame, whatever its node made of it
-pub was_received : (w new : World) (number : ℕ) (x : Node) (origin : Origin) (d : NodeStep Reception) (r : telling.Reception) (out : Out) (nodes : List Node)
+pub was_received : (w new : World) (number : ℕ) (x : Node) (origin : Origin) (d : NodeStep Reception) (r : receiving.Reception) (out : Out) (nodes : List Node)
     (forged : Bool) (h : Happenings) → IsBounded (in_run w) → w.events < MAX_EVENTS → length out.frames ≤ 24 → length out.tags.made ≤ 2
     → slice_get w.nodes number ≡ Some x
     → d.node.eui ≡ x.eui → Received d w.nodes number r out nodes → forged ≡ (origin.is_forged || list_any (is_forged_tag w.made) out.tags.opened)
@@ -306,7 +306,7 @@ was_received w new number x origin d r out nodes forged h b room frames tags at 
     (received_many w number x d r out nodes right forged at same rec forgery) frames tags))
 
 -- what is said and what is left of a frame that a node heard
-pub heard_so : (w new : World) (number : ℕ) (x : Node) (got : Accepted) (origin : Origin) (cost : ℕ) (r : telling.Reception) (out : Out) (nodes : List Node)
+pub heard_so : (w new : World) (number : ℕ) (x : Node) (got : Accepted) (origin : Origin) (cost : ℕ) (r : receiving.Reception) (out : Out) (nodes : List Node)
     (forged : Bool) (h : Happenings) → IsBounded (in_run w) → w.events < MAX_EVENTS → length out.frames ≤ 24 → length out.tags.made ≤ 2
     → slice_get w.nodes number ≡ Some x
     → Received (hears network x got cost origin.note w.clock) w.nodes number r out nodes
@@ -324,10 +324,10 @@ abbrev pub looks : Node → List ℕ → NodeStep (Result Accepted FrameRefusal)
 looks x octets = acts x (Err frame_refusals.Halted) (λ m. of_station m (accept m.station x.eui (arrived network octets)))
 
 -- two steps of one node leave what the second leaves
-told_twice : {A : Type 0} (w : World) (number : ℕ) (y : Node) (d : NodeStep A)
+after_twice : {A : Type 0} (w : World) (number : ℕ) (y : Node) (d : NodeStep A)
     → world_after network (record w { nodes = slice_set w.nodes number y }) number d ≡ world_after network w number d
 unfolding world_after
-told_twice w number y d = λ i. record (world_after network w number d) { nodes = set-set w.nodes number y d.node i }
+after_twice w number y d = λ i. record (world_after network w number d) { nodes = set-set w.nodes number y d.node i }
 
 -- a frame is heard after its node was looked at as it is before
 received_as : (w : World) (number : ℕ) (x y : Node) (forged : Bool) (d : NodeStep Reception) → slice_get w.nodes number ≡ Some x → y.eui ≡ x.eui
@@ -335,7 +335,7 @@ received_as : (w : World) (number : ℕ) (x y : Node) (forged : Bool) (d : NodeS
 received_as w number x y forged d at same =
     let done = pairing_as (record w { nodes = slice_set w.nodes number y }) w d.answer.done (λ eui. same_number w number x y eui at same) in
     λ i. (
-      record (told_twice (ran w) number y d i) {
+      record (after_twice (ran w) number y d i) {
         ups = number_if (is_some d.answer.up) w.ups;
         forged = number_if forged w.forged;
         done = number_if (is_some d.answer.done) w.done;
@@ -423,7 +423,7 @@ comes_as w number x octets cost accepted origin nodes plain at did forged note =
         (note ∙ note_as w octets got.path)
     by (Err reason) forged note =
         let left : world_after network (ran w) number (looks x octets) ≡ record (ran w) { nodes = nodes } =
-        told_as (ran w) number (looks x octets) nodes nothing did.out_is did.nodes_are
+        after_is (ran w) number (looks x octets) nodes nothing did.out_is did.nodes_are
         ∙ (λ i. record (ran w) { nodes = nodes; flights = append-nil w.flights i; made = append-nil w.made i }) in
         λ i. (sym left i, trace_of (happened w (frame_word reason)))
 
@@ -510,7 +510,7 @@ module _ (v w : World) (node number : ℕ) (octets : List ℕ) (accepted : Resul
   looked_many : length nodes ≡ length v.nodes
   looked_many =
       as_many (looks again.node octets) v.nodes number accepted nothing nodes
-      (at_node_told v.nodes number again.node (λ y. Did (looks y octets) v.nodes number accepted nothing nodes) (found_at again) looked)
+      (at_node_after v.nodes number again.node (λ y. Did (looks y octets) v.nodes number accepted nothing nodes) (found_at again) looked)
 
   pub still_within : number < length nodes
   still_within = subst (λ n. number < n) (sym looked_many) again.within
@@ -541,7 +541,7 @@ module _ (v w : World) (node number : ℕ) (octets : List ℕ) (accepted : Resul
   still_logged short kept =
       let x = again.node in
       let did : Did (looks x octets) v.nodes number accepted nothing nodes =
-      at_node_told v.nodes number x (λ y. Did (looks y octets) v.nodes number accepted nothing nodes) (found_at again) looked in
+      at_node_after v.nodes number x (λ y. Did (looks y octets) v.nodes number accepted nothing nodes) (found_at again) looked in
       let logs : LogsKept v = subst LogsKept (sym same) kept in
       let quiet : Quiet x (looks x octets).node =
       acts_quiet x (Err frame_refusals.Halted) (λ m. of_station m (accept m.station x.eui (arrived network octets)))
@@ -557,7 +557,7 @@ module _ (v w : World) (node number : ℕ) (octets : List ℕ) (accepted : Resul
   brings_octets are z there got c is_got has =
       let x = again.node in
       let did : Did (looks x octets) v.nodes number accepted nothing nodes =
-      at_node_told v.nodes number x (λ y. Did (looks y octets) v.nodes number accepted nothing nodes) (found_at again) looked in
+      at_node_after v.nodes number x (λ y. Did (looks y octets) v.nodes number accepted nothing nodes) (found_at again) looked in
       let here : z ≡ x = same_Some _ _ (sym there ∙ ap (λ (it : World). node_at it node) (sym same) ∙ again.at) in
       let answered : accepted ≡ Ok got = did.answer_is ∙ ap (λ (y : Node). (looks y octets).answer) (sym here) ∙ is_got in
       command_octets got c (subst (λ (a : Result Accepted FrameRefusal). IfOk a (λ g. AreOctets g.payload)) answered are) has
@@ -575,7 +575,7 @@ came_discovery v w new node number octets cost frame h same is kind read s =
     (steps_as _ _ (begun v _ has ∙ at_node v node again.node (λ x. Ok (comes network v node x octets cost)) again.at
     ∙ ap (λ n. Ok (comes network v n again.node octets cost)) (sym again.same)
     ∙ ap (λ (r : World × Trace). Ok r) (sym (discovers_as v number again.node octets cost frame kind read)))
-    (at_node_told v.nodes number again.node (λ x. Steps true v (Ok h) new (Ok (discovered_in v number x frame cost))) (found_at again) s))
+    (at_node_after v.nodes number again.node (λ x. Steps true v (Ok h) new (Ok (discovered_in v number x frame cost))) (found_at again) s))
 
 -- the number that was found before memory was reserved, after that
 pub found_still : (v w : World) (node number : ℕ) → v ≡ w → Ok number ≡ found w node → number < length v.nodes

@@ -26,7 +26,7 @@ use Rattle.line_world.specs.NodeOutcomes.{Did}
 use Rattle.line_world.specs.Reaching.{ReachedFirst}
 use Rattle.line_world.specs.Steps.{Steps}
 use Rattle.line_world.proofs.Settings.{bounded_beside}
-use Rattle.line_world.proofs.Taking.{IsThere, after, node_acted, steps_as, told_of}
+use Rattle.line_world.proofs.Taking.{IsThere, after, node_acted, steps_as, holds_there}
 
 -- each node has something beside it
 pub beside_long : (bs : List Beside) (ns : List Node) → AreLogged bs ns → length bs ≡ length ns
@@ -42,7 +42,7 @@ steps_beside takes w v h r bs s = record {
   gives = record {
     trace = s.gives.trace;
     taken = ap (after_ok (λ q. (record q.0 { beside = bs }, q.1))) s.gives.taken;
-    told = s.gives.told;
+    reported = s.gives.reported;
   };
   memory = s.memory;
   bounds = bounded_beside v bs s.bounds;
@@ -58,11 +58,11 @@ module _ {w : World} {number found : ℕ} (there : IsThere w number found) (kept
       let x = there.node in
       let at : slice_get w.nodes found ≡ Some x = ap (λ n. slice_get w.nodes n) there.same ∙ there.at in
       let some = halted_in (log_at w.beside found) x (logged_at w.beside w.nodes found x kept at) in
-      (log_at_rest some.value, told_of there (λ (y : Node). r ≡ opened y.store.records) is ∙ reopens some.value x.store.records some.kept)
+      (log_at_rest some.value, holds_there there (λ (y : Node). r ≡ opened y.store.records) is ∙ reopens some.value x.store.records some.kept)
 
   -- and nothing else is left beside the node
   pub restarted_so : (log : Log) → r ≡ Ok log → restarted there.node.store.records ≡ Ok (record { checks = nobody; log = log; scan = ended })
-  restarted_so log e = ap restarted_by (sym (told_of there (λ (y : Node). r ≡ opened y.store.records) is) ∙ e)
+  restarted_so log e = ap restarted_by (sym (holds_there there (λ (y : Node). r ≡ opened y.store.records) is) ∙ e)
 
   pub restart_is : (log : Log) → r ≡ Ok log
       → restarts_by network w number there.node (restarted there.node.store.records)
@@ -82,7 +82,7 @@ steps_further takes w v h r bs more s = record {
   gives = record {
     trace = record s.gives.trace { further = more };
     taken = ap (after_ok (λ q. (record q.0 { beside = bs }, record q.1 { further = more }))) s.gives.taken;
-    told = s.gives.told;
+    reported = s.gives.reported;
   };
   memory = s.memory;
   bounds = bounded_beside v bs s.bounds;

@@ -46,7 +46,7 @@ use Rattle.reach_rules.specs.ReachingNodes.{Beside, Reaching, in_reach, reach_en
 use Rattle.line_events.specs.declared.event.Answer.TheVariants as said
 use Rattle.line_rules.specs.Further.{without_log}
 use Rattle.line_world.specs.Reaching.{Reaches, ReachesCommand, ReachesFirst, beside_left, handed_up, of_held, ended_by}
-use Rattle.line_world.proofs.FurtherPlans.{first_rests, rests_after, told_as}
+use Rattle.line_world.proofs.FurtherPlans.{first_rests, rests_after, local_answer}
 
 -- # A record first
 
@@ -204,7 +204,7 @@ module _ (l : StationMemory) (b : Beside) (own : ℕ) (datagram : List ℕ) wher
 
   pub own_goes : ((length datagram == 0) || nat_lt 360 (length datagram)) ≡ false → is_spent b.log.numbering ≡ false → nat_lt (counters_left l) 1 ≡ false
       → broadcast_from alone (beside l b) own datagram
-      ≡ logged (number_put b.log.numbering) (record b { log = numbered_log b.log }) (told_as broadcast_ends tt)
+      ≡ logged (number_put b.log.numbering) (record b { log = numbered_log b.log }) (local_answer broadcast_ends tt)
       (send_local l 4 None (spelling (own_broadcast own b.log datagram)))
   unfolding checked datagram_fault sealed adds_local goes with_broadcast_number empty_draft resting
   own_goes right left some = rw (right, left, some) refl
@@ -220,7 +220,7 @@ module _ (l : StationMemory) (b : Beside) (y : Broadcast) where
   pub admits_on : nat_lt y.hops 2 ≡ false → nat_lt (counters_left l) 1 ≡ false
       → admits_broadcast alone (beside l b) y
       ≡ logged (keep_write b.log.marks y.origin y.number) (record b { log = admitted_log b.log y.origin y.number })
-      (told_as reach_ends (heard.Broadcast y.origin y.number y.octets))
+      (local_answer reach_ends (heard.Broadcast y.origin y.number y.octets))
       (send_local l 4 None (spelling (hop_less y)))
   unfolding sealed goes_further adds_local goes with_broadcast_mark empty_draft resting
   admits_on more some = rw (more, some) refl
@@ -264,16 +264,16 @@ module _ (l : StationMemory) (b : Beside) (y : Broadcast) where
 -- # What is answered
 
 -- how a command ended, in the words of the broadcast that it was
-pub own_told : (sent : Result (Unit {0}) LocalRefusal) → told_as broadcast_ends tt sent ≡ ended_by refusals.CounterSpent refusals.Store sent
-own_told (Ok u) = refl
-own_told (Err locals.CounterSpent) = refl
-own_told (Err locals.Store) = refl
+pub own_after : (sent : Result (Unit {0}) LocalRefusal) → local_answer broadcast_ends tt sent ≡ ended_by refusals.CounterSpent refusals.Store sent
+own_after (Ok u) = refl
+own_after (Err locals.CounterSpent) = refl
+own_after (Err locals.Store) = refl
 
-pub heard_told : (y : Broadcast) (sent : Result (Unit {0}) LocalRefusal)
-    → told_as reach_ends (heard.Broadcast y.origin y.number y.octets) sent ≡ handed_up y (ended_by (Known CounterSpent) (Known PutFailed) sent)
-heard_told y (Ok u) = refl
-heard_told y (Err locals.CounterSpent) = refl
-heard_told y (Err locals.Store) = refl
+pub heard_reported : (y : Broadcast) (sent : Result (Unit {0}) LocalRefusal)
+    → local_answer reach_ends (heard.Broadcast y.origin y.number y.octets) sent ≡ handed_up y (ended_by (Known CounterSpent) (Known PutFailed) sent)
+heard_reported y (Ok u) = refl
+heard_reported y (Err locals.CounterSpent) = refl
+heard_reported y (Err locals.Store) = refl
 
 -- # Plans that are the same for what a station holds
 
@@ -377,18 +377,18 @@ module _ (l : StationMemory) (code : ℕ) (to : Option ℕ) (body : List ℕ) wh
 module _ {H E : Type 0} (ends : Ends E) (s : State StationMemory) (b : Beside) (halted : Result H E)
     (plan : Reaching StationMemory → Plan (Reaching StationMemory) (Result H E))
     (l : StationMemory) (running : s.memory ≡ Some l) (put : Option Write) (log : Log) (answer : H) (code : ℕ) (to : Option ℕ) (body : List ℕ)
-    (is : plan (beside l b) ≡ logged put (record b { log = log }) (told_as ends answer) (send_local l code to body)) where
+    (is : plan (beside l b) ≡ logged put (record b { log = log }) (local_answer ends answer) (send_local l code to body)) where
   pub unrecorded : (before : Out) (m : State StationMemory) → OnlyPut s put false m → Reaches s b halted plan (Err ends.store) before nothing m (without_log b)
   unrecorded before m p =
-      subst (λ (r : Result H E). Reaches s b halted plan r before nothing m (without_log b)) (ap (told_as ends answer) (local_fails l code to body))
-      (put_failed s b halted plan l running put (record b { log = log }) (told_as ends answer) (send_local l code to body) is before m
+      subst (λ (r : Result H E). Reaches s b halted plan r before nothing m (without_log b)) (ap (local_answer ends answer) (local_fails l code to body))
+      (put_failed s b halted plan l running put (record b { log = log }) (local_answer ends answer) (send_local l code to body) is before m
       (local_opens l code to body) p)
 
   pub recorded : (before out : Out) (m t : State StationMemory) (sent : Result (Unit {0}) LocalRefusal) (c : Beside) → OnlyPut s put true m
       → CarriesAfter m (send_local l code to body) sent before out t → c ≡ (if is_some t.memory then record b { log = log } else without_log b)
-      → Reaches s b halted plan (told_as ends answer sent) before out t c
+      → Reaches s b halted plan (local_answer ends answer sent) before out t c
   recorded before out m t sent c p carried stands =
-      put_and_goes s b halted plan l running put (record b { log = log }) (told_as ends answer) (send_local l code to body) is before out m t sent c p carried
+      put_and_goes s b halted plan l running put (record b { log = log }) (local_answer ends answer) (send_local l code to body) is before out m t sent c p carried
       stands refl
 
   -- the same of what comes first in a step
@@ -404,10 +404,10 @@ module _ {H E : Type 0} (ends : Ends E) (s : State StationMemory) (b : Beside) (
   pub first_recorded : (before out : Out) (m t : State StationMemory) (sent : Result (Unit {0}) LocalRefusal) (c : Beside) → before ≡ nothing
       → OnlyPut s put true m
       → CarriesAfter m (send_local l code to body) sent before out t → c ≡ (if is_some t.memory then record b { log = log } else without_log b)
-      → ReachesFirst s b halted plan (told_as ends answer sent) out t c
+      → ReachesFirst s b halted plan (local_answer ends answer sent) out t c
   first_recorded before out m t sent c empty p carried stands =
-      comes_first s t b c halted (told_as ends answer sent) plan out l running opens_none
-      (subst (λ (o : Out). Reaches s b halted plan (told_as ends answer sent) o out t c) empty (recorded before out m t sent c p carried stands))
+      comes_first s t b c halted (local_answer ends answer sent) plan out l running opens_none
+      (subst (λ (o : Out). Reaches s b halted plan (local_answer ends answer sent) o out t c) empty (recorded before out m t sent c p carried stands))
 
 -- # Refusals
 

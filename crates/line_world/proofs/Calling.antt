@@ -19,12 +19,12 @@ use Rattle.line_rules.specs.Steps.{hears, on_node}
 use Rattle.line_rules.specs.Worlds.{World}
 use Rattle.line_rules.proofs.LogSteps.{log_at, logged_at, quiet_in}
 use Rattle.line_world.specs.declared.nodes.command.Commanded.{Commanded}
-use Rattle.line_world.specs.declared.nodes.reception.Reception as telling
+use Rattle.line_world.specs.declared.nodes.reception.Reception as receiving
 use Rattle.line_world.specs.Arrivals.{in_run}
 use Rattle.line_world.specs.Bounds.{IsBounded}
 use Rattle.line_world.specs.Reaching.{IsLogOf, ReachedCommand}
 use Rattle.line_world.specs.Receiving.{Received}
-use Rattle.line_world.proofs.Arrivals.{as_many, at_node_told, in_run_again}
+use Rattle.line_world.proofs.Arrivals.{as_many, at_node_after, in_run_again}
 use Rattle.line_world.proofs.Hearings.{command_silent, log_of}
 use Rattle.line_world.proofs.Orders.{Runs, as_found}
 use Rattle.line_world.proofs.Settings.{bounded_beside}
@@ -58,7 +58,7 @@ path_at {w} {from} {found} {to} r there toward =
     ∙ at_node w to toward.node (λ y. Ok (asks_by network w from there.node (node_address y))) toward.at
 
 -- A node heard the frame of a command for the neighbours: it can hear the command then.
-module _ (w : World) (number : ℕ) (x : Node) (got : Accepted) (c : NeighbourCommand) (cost note : ℕ) (r : telling.Reception) (out : Out) (nodes : List Node)
+module _ (w : World) (number : ℕ) (x : Node) (got : Accepted) (c : NeighbourCommand) (cost note : ℕ) (r : receiving.Reception) (out : Out) (nodes : List Node)
     (at : slice_get w.nodes number ≡ Some x) (command : command_of got ≡ Some c)
     (rec : Received (hears network x got cost note w.clock) w.nodes number r out nodes) where
   pub command_many : length nodes ≡ length w.nodes
@@ -87,13 +87,13 @@ module _ (w : World) (number : ℕ) (x : Node) (got : Accepted) (c : NeighbourCo
       subst (λ (o : Option Node). IfSome o (λ y. IsLogOf b y)) (sym at_heard) (subst (λ (k : Beside). IsLogOf k z) (sym is) own)
 
   -- and the bounds hold after it
-  pub command_bounded : (b after_b : Beside) (told : Commanded) (after_out : Out) (left : List Node) (bs : List Beside)
-      → IfSome (slice_get nodes number) (λ y. ReachedCommand y b c nodes number told out after_out left after_b)
+  pub command_bounded : (b after_b : Beside) (reported : Commanded) (after_out : Out) (left : List Node) (bs : List Beside)
+      → IfSome (slice_get nodes number) (λ y. ReachedCommand y b c nodes number reported out after_out left after_b)
       → IsBounded (in_run w) → IsBounded (in_run (record w { nodes = left; beside = bs }))
-  command_bounded b after_b told after_out left bs reached bounded =
+  command_bounded b after_b reported after_out left bs reached bounded =
       let z : Node = (hears network x got cost note w.clock).node in
-      let rc : ReachedCommand z b c nodes number told out after_out left after_b =
-      at_node_told nodes number z (λ y. ReachedCommand y b c nodes number told out after_out left after_b) at_heard reached in
+      let rc : ReachedCommand z b c nodes number reported out after_out left after_b =
+      at_node_after nodes number z (λ y. ReachedCommand y b c nodes number reported out after_out left after_b) at_heard reached in
       let many : length left ≡ length w.nodes =
       ap (λ (ns : List Node). length ns) rc.reached.did.nodes_are ∙ length-set nodes number _ ∙ command_many in
       bounded_beside (in_run (record w { nodes = left })) bs (in_run_again w left bounded many)

@@ -24,13 +24,13 @@ use Rattle.line_rules.specs.Further.{due}
 use Rattle.line_rules.specs.Steps.{hears}
 use Rattle.line_rules.specs.Worlds.{World, is_forged_tag}
 use Rattle.line_world.specs.declared.line.Line.{Line}
-use Rattle.line_world.specs.declared.nodes.reception.Reception as telling
+use Rattle.line_world.specs.declared.nodes.reception.Reception as receiving
 use Rattle.line_world.specs.Arrivals.{Acknowledges, acknowledging_if, checked_so, in_run, left_of, said_of, with_check_of}
 use Rattle.line_world.specs.Bounds.{IsBounded}
 use Rattle.line_world.specs.Lines.{HasRoom}
 use Rattle.line_world.specs.Receiving.{MayHear, Received}
 use Rattle.line_world.specs.Steps.{Steps}
-use Rattle.line_world.proofs.Arrivals.{as_many, at_node_told, at_some, in_run_again}
+use Rattle.line_world.proofs.Arrivals.{as_many, at_node_after, at_some, in_run_again}
 use Rattle.line_world.proofs.Hearings.{IsDue, is_due, joined, reply_few, unacknowledged, was_checked, was_unacknowledged}
 use Rattle.line_world.proofs.Settings.{bounded_beside}
 use Rattle.line_world.proofs.Taking.{many_given}
@@ -41,7 +41,7 @@ some_reply None is = absurd (cc)
 some_reply (Some r) is = (r, refl)
 
 -- a node hears a frame
-module _ (w : World) (nodes : List Node) (number : ℕ) (got : Accepted) (origin : Origin) (cost : ℕ) (r : telling.Reception) (before : Out)
+module _ (w : World) (nodes : List Node) (number : ℕ) (got : Accepted) (origin : Origin) (cost : ℕ) (r : receiving.Reception) (before : Out)
     (message : Option Message) (reply : Option Reply)
     (there : number < length w.nodes) (accepted : IfSome (slice_get w.nodes number) (λ y. MayHear y got))
     (heard : IfSome (slice_get w.nodes number) (λ y. Received (hears network y got cost origin.note w.clock) w.nodes number r before nodes))
@@ -56,21 +56,21 @@ module _ (w : World) (nodes : List Node) (number : ℕ) (got : Accepted) (origin
   d = hears network x got cost origin.note w.clock
 
   rec : Received d w.nodes number r before nodes
-  rec = at_node_told w.nodes number x (λ y. Received (hears network y got cost origin.note w.clock) w.nodes number r before nodes) at heard
+  rec = at_node_after w.nodes number x (λ y. Received (hears network y got cost origin.note w.clock) w.nodes number r before nodes) at heard
 
   may : MayHear x got
-  may = at_node_told w.nodes number x (λ y. MayHear y got) at accepted
+  may = at_node_after w.nodes number x (λ y. MayHear y got) at accepted
 
   heard_at : slice_get nodes number ≡ Some d.node
   heard_at = ap (λ (ns : List Node). slice_get ns number) rec.did.nodes_are ∙ slice_get-set w.nodes number d.node (slice_get_within w.nodes number x at)
 
   -- the acknowledgement that is due by what was told is the one of the rule
-  told_due : due got.path (message_of got) d.answer.answer ≡ reply
-  told_due =
+  due_reply_is : due got.path (message_of got) d.answer.answer ≡ reply
+  due_reply_is =
       sym (due_is ∙ ap (λ (m : Option Message). due got.path m r.answer) message_is ∙ ap (λ (a : Answer). due got.path (message_of got) a) rec.reports.answer)
 
   dues : IsSome reply → IsDue got.path (message_of got) d.answer.answer
-  dues some = let one = some_reply reply some in is_due got.path (message_of got) d.answer.answer one.0 (told_due ∙ one.1)
+  dues some = let one = some_reply reply some in is_due got.path (message_of got) d.answer.answer one.0 (due_reply_is ∙ one.1)
 
   -- a node that has to acknowledge has a ring, and room for one frame more
   pub joined_then : IsSome reply → IfSome (slice_get nodes number) (λ (y : Node). IfSome y.memory (λ (m : Memory). IsSome m.station.ring))
@@ -95,7 +95,7 @@ module _ (w : World) (nodes : List Node) (number : ℕ) (got : Accepted) (origin
       → sent ≡ reply_among d.frames
   sent_then sent is replied =
       is ∙ ap (λ (m : Option Message). if is_some m then r.replied else None) message_is
-      ∙ by (message_of got) refl (λ some. at_node_told w.nodes number x (λ y. r.replied ≡ reply_among (hears network y got cost origin.note w.clock).frames) at
+      ∙ by (message_of got) refl (λ some. at_node_after w.nodes number x (λ y. r.replied ≡ reply_among (hears network y got cost origin.note w.clock).frames) at
       (replied some))
     where
       by : (m : Option Message) → message_of got ≡ m → (IsSome m → r.replied ≡ reply_among d.frames)
@@ -111,7 +111,7 @@ module _ (w : World) (nodes : List Node) (number : ℕ) (got : Accepted) (origin
   module _ (v2 : World) (done : Bool) (out : Out)
       (acknowledges : IfSome (slice_get nodes number) (λ y. Acknowledges (record w { nodes = nodes }) number y reply before done out v2)) where
     ack : Acknowledges (record w { nodes = nodes }) number d.node reply before done out v2
-    ack = at_node_told nodes number d.node (λ y. Acknowledges (record w { nodes = nodes }) number y reply before done out v2) heard_at acknowledges
+    ack = at_node_after nodes number d.node (λ y. Acknowledges (record w { nodes = nodes }) number y reply before done out v2) heard_at acknowledges
 
     -- the world keeps its count of events, and what stands beside its nodes
     pub events_then : w.events < MAX_EVENTS → v2.events < MAX_EVENTS
@@ -140,7 +140,7 @@ module _ (w : World) (nodes : List Node) (number : ℕ) (got : Accepted) (origin
         → IfSome (slice_get w.nodes number) (λ y. Steps true w (Ok h) new (Ok (checked_so network w number y got origin cost)))
     checked_then v3 sent done up acknowledges sent_is replied checks said is =
         at_number (λ y. Steps true w (Ok h) new (Ok (checked_so network w number y got origin cost)))
-        (was_checked w v2 new number x got origin cost r before out nodes forged reply h bounded room frames tags at rec is_forged told_due v3 sent
+        (was_checked w v2 new number x got origin cost r before out nodes forged reply h bounded room frames tags at rec is_forged due_reply_is v3 sent
         (subst (λ (b : Bool). IfSome (slice_get nodes number) (λ y. Acknowledges (record w { nodes = nodes }) number y reply before b out v2)) up acknowledges)
         (sent_then sent sent_is replied) checks said is)
 
@@ -150,7 +150,7 @@ module _ (w : World) (nodes : List Node) (number : ℕ) (got : Accepted) (origin
         → IfSome (slice_get w.nodes number) (λ y. Steps true w (Ok h) new (Ok (checked_so network w number y got origin cost)))
     unacknowledged_then done down acknowledges said is =
         at_number (λ y. Steps true w (Ok h) new (Ok (checked_so network w number y got origin cost)))
-        (was_unacknowledged w v2 new number x got origin cost r before out nodes forged reply h bounded room frames tags at rec is_forged told_due
+        (was_unacknowledged w v2 new number x got origin cost r before out nodes forged reply h bounded room frames tags at rec is_forged due_reply_is
         (subst (λ (b : Bool). IfSome (slice_get nodes number) (λ y. Acknowledges (record w { nodes = nodes }) number y reply before b out v2)) down
         acknowledges) said is)
 

@@ -37,7 +37,7 @@ use Rattle.line_events.specs.declared.event.Answer.{Answer}
 use Rattle.line_world.specs.Nodes.{node_in, stored_in, of_coordinator}
 use Rattle.line_world.specs.NodeOutcomes.{Took}
 use Rattle.line_world.specs.Soundness.{AgreesAs, IsSound}
-use Rattle.line_world.proofs.Acting.{took, told_after, tables_after, StayedHalted, Places, IsRestartWord}
+use Rattle.line_world.proofs.Acting.{took, known_after, tables_after, StayedHalted, Places, IsRestartWord}
 use Rattle.line_world.proofs.LentStations.{StationPlan, StationStayed, StationCarries, IsOwnPlan, lent, lent_took, lent_sound, node_says, same_home}
 
 -- a coordinator that is sound
@@ -109,7 +109,7 @@ pub own_sound : {A : Type 0} (x y : CoordinatorState) (halted : A) (p : Memory â
     â†’ IsSoundCoordinator y
 own_sound x y halted p answer out places sound stayed carries home h =
     let s = stays x y halted answer out stayed in
-    sound_with y (told_after Coordinator (node_of x) (node_of y) halted p answer out sound s carries)
+    sound_with y (known_after Coordinator (node_of x) (node_of y) halted p answer out sound s carries)
     (tables_after Coordinator (node_of x) (node_of y) halted p answer out places sound s carries) home h
 
 -- no write of a plan is one of a ring

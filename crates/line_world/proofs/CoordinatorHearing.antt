@@ -39,7 +39,7 @@ use Rattle.line_world.specs.Receiving.{MayHear, CameTo, ReportsReception}
 use Rattle.line_world.proofs.AcceptingSteps.{meter_may_hear}
 use Rattle.line_world.proofs.Acting.{at, not_none}
 use Rattle.line_world.proofs.CoordinatorActing.{IsSoundCoordinator, with_its, own_took, ringless_sound}
-use Rattle.line_world.proofs.ToldReplies.{messages_unread, parts_of, there_is, told_reply}
+use Rattle.line_world.proofs.ReportedReplies.{messages_unread, parts_of, there_is, reply_is}
 
 -- a meter with the station of the coordinator
 abbrev meter_with : State StationMemory → MeterState
@@ -87,9 +87,9 @@ module _ (x y : CoordinatorState) (got : Accepted) (cost note now : ℕ) (r : Re
       → Took (hears network (of_coordinator x) got cost note now) (hears network (of_coordinator x) got cost note now).answer out (of_coordinator y)
   heard carries = let t = acted carries in record { answer_is = refl; out_is = t.out_is; node_is = t.node_is }
 
-  pub told : IfSome (node_of x).memory (λ m. Carries (node_of x) (plan m) r out (node_of y)) → (word : Reception)
+  pub reported : IfSome (node_of x).memory (λ m. Carries (node_of x) (plan m) r out (node_of y)) → (word : Reception)
       → ReportsReception word (rules.coordinator_reception r) → ReportsReception word (hears network (of_coordinator x) got cost note now).answer
-  told carries word t = subst (λ (k : Result CoordinatorHeard Dropped). ReportsReception word (rules.coordinator_reception k)) (acted carries).answer_is t
+  reported carries word t = subst (λ (k : Result CoordinatorHeard Dropped). ReportsReception word (rules.coordinator_reception k)) (acted carries).answer_is t
 
   pub heard_sound : IfSome (node_of x).memory (λ m. Carries (node_of x) (plan m) r out (node_of y)) → Holds (node_of y) → IsSoundCoordinator y
   heard_sound carries h =
@@ -97,18 +97,18 @@ module _ (x y : CoordinatorState) (got : Accepted) (cost note now : ℕ) (r : Re
       (λ m. (coordinators_write_no_ring (identity_of x) m).hears got cost note now) sound (not_none (node_of x).memory _ may.running) carries h
 
   -- the reply that it tells of a route message is among the frames of its step
-  pub told_replied : IfSome (node_of x).memory (λ m. Carries (node_of x) (plan m) r out (node_of y)) → (last told : Option Reply)
-      → parts_of told ≡ parts_of last
+  pub replied_is : IfSome (node_of x).memory (λ m. Carries (node_of x) (plan m) r out (node_of y)) → (last reported : Option Reply)
+      → parts_of reported ≡ parts_of last
       → IfSome (node_of x).memory (λ m. unread (hear m.station got cost note now).answer ≡ None → last ≡ reply_sent (plan m) (node_of y).memory)
       → IsSome (message_of got)
-      → told ≡ reply_among (hears network (of_coordinator x) got cost note now).frames
-  told_replied carries last told same replied is =
+      → reported ≡ reply_among (hears network (of_coordinator x) got cost note now).frames
+  replied_is carries last reported same replied is =
       let m = there_is (node_of x).memory may.running in
-      told_reply (of_coordinator x) (Err drops.Store) plan m.0 (node_of y).memory last told m.1 (ap (λ (n : Node). n.memory) (acted carries).node_is)
+      reply_is (of_coordinator x) (Err drops.Store) plan m.0 (node_of y).memory last reported m.1 (ap (λ (n : Node). n.memory) (acted carries).node_is)
       (at (node_of x).memory (λ m. unread (hear m.station got cost note now).answer ≡ None → last ≡ reply_sent (plan m) (node_of y).memory) m.0 m.1 replied
       (messages_unread m.0.station cost note now got is)) same
 
 -- a grant that went out is told of nowhere
-pub told_beside : (word : Reception) (r : rules.Reception) (keyed : Option rules.SentGrant) → ReportsReception word r
+pub reported_beside : (word : Reception) (r : rules.Reception) (keyed : Option rules.SentGrant) → ReportsReception word r
     → ReportsReception word (record r { keyed = keyed })
-told_beside word r keyed t = record { answer = t.answer; up = t.up; took = t.took; done = t.done }
+reported_beside word r keyed t = record { answer = t.answer; up = t.up; took = t.took; done = t.done }

@@ -26,7 +26,7 @@ use Rattle.coordinator.specs.CoordinatorAgreement.{HoldsWith, Holds, HasHome}
 use Rattle.coordinator.specs.CoordinatorStates.{CoordinatorState, node_of}
 use Rattle.coordinator.specs.Opening.{Begins, MayBegin, read_state}
 use Rattle.line_world.specs.Nodes.{node_in, of_coordinator}
-use Rattle.line_world.proofs.Acting.{took, tells_still}
+use Rattle.line_world.proofs.Acting.{took, still_known}
 use Rattle.line_world.proofs.CoordinatorActing.{IsSoundCoordinator, sound_with}
 
 -- what a coordinator that runs holds, its records hold without a gap, and the home
@@ -41,9 +41,9 @@ home_of : (m : Memory) (records : Records) → HoldsWith m records → HasHome r
 home_of m records h = ap (option_and_then (option_map (λ (g : Granted). g.address))) h.station.ring.stored ∙ h.home
 
 runs_sound : (y : CoordinatorState) → IsSome (node_of y).memory → Holds (node_of y) → IsSome y.station.store.known_cut → IsSoundCoordinator y
-runs_sound y running h told =
+runs_sound y running h reported =
     let both = by (node_of y).memory running h in
-    sound_with y told both.0 both.1 h
+    sound_with y reported both.0 both.1 h
   where
     by : (o : Option Memory) → IsSome o → IfSome o (λ m. HoldsWith m y.station.store.records)
         → HasGaplessTables Coordinator y.station.store.records × HasHome y.station.store.records
@@ -78,7 +78,7 @@ module _ (store : Store) (eui : Eui) (key : Key) (y : CoordinatorState) (new : s
 
   pub made_sound : Begins store eui key (Ok tt) (node_of y) → IsSome (node_of y).memory → Holds (node_of y) → IsSoundCoordinator y
   made_sound b running h =
-      runs_sound y running h (tells_still (read_state store eui b.memory) (node_of y) (begin b.memory (first_grant key)) (Ok tt) nothing reports b.carries)
+      runs_sound y running h (still_known (read_state store eui b.memory) (node_of y) (begin b.memory (first_grant key)) (Ok tt) nothing reports b.carries)
 
   -- it may begin
   pub may_begin : MayBegin store.records

@@ -96,18 +96,18 @@ module _ {A : Type 0} (x : CoordinatorState) (old : Node) (s t : State StationMe
 
 -- # A command that is heard
 
-module _ (x : CoordinatorState) (old : Node) (s t : State StationMemory) (b d : Beside) (c : NeighbourCommand) (told : Commanded) (before out : Out)
+module _ (x : CoordinatorState) (old : Node) (s t : State StationMemory) (b d : Beside) (c : NeighbourCommand) (reported : Commanded) (before out : Out)
     (view : of_coordinator x ≡ old) (same : s ≡ x.station)
     (sound : IsSoundCoordinator x) (kept : IfSome s.memory (λ l. IsKept b.log s.store.records))
-    (r : ReachesCommand s b (λ y. hear_command alone y c) told 0 before out t d) where
+    (r : ReachesCommand s b (λ y. hear_command alone y c) reported 0 before out t d) where
   are_lent : IsSome s.memory → AreLent b (λ y. hear_command in_memory y c) (λ y. hear_command alone y c)
   are_lent is m = command_lent b m (marks_short s b kept is) c
 
-  pub coordinator_commanded : TookCommand old b c told before out (of_coordinator (with_its t x)) d
+  pub coordinator_commanded : TookCommand old b c reported before out (of_coordinator (with_its t x)) d
   coordinator_commanded =
       let k = coordinator_after x old s t b d (Err (Known Store)) r.answer (λ y. hear_command in_memory y c) (λ y. hear_command alone y c) view same sound
       are_lent before out r.reaches in record {
-        reports = subst (λ (a : Result CommandHeard ReachDropped). ReportsCommand told 0 a) k.answer_is r.reports;
+        reports = subst (λ (a : Result CommandHeard ReachDropped). ReportsCommand reported 0 a) k.answer_is r.reports;
         took = record { answer_is = refl; out_is = k.out_is; node_is = k.node_is; beside = k.beside };
       }
 

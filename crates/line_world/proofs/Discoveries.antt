@@ -566,7 +566,7 @@ abbrev said_in : Happenings → Result (World × Trace) StepFault → Happenings
 said_in h (Ok q) = q.1.happened
 said_in h (Err fault) = h
 
-pub joins_told : (w new : World) (number : ℕ) (x : Node) (psk : Key) (address total : ℕ) (asked : Result (Unit {0}) JoinRefusal) (out : Out) (nodes : List Node)
+pub joins_reported : (w new : World) (number : ℕ) (x : Node) (psk : Key) (address total : ℕ) (asked : Result (Unit {0}) JoinRefusal) (out : Out) (nodes : List Node)
     (agent : Option AgentLine) (h : Happenings)
     → slice_get w.nodes number ≡ Some x → psk_of x ≡ Some psk
     → IfSome (slice_get w.nodes number) (λ y. IfSome (psk_of y)
@@ -576,7 +576,7 @@ pub joins_told : (w new : World) (number : ℕ) (x : Node) (psk : Key) (address 
     → h ≡ record (happened w (join_word asked)) { flights = length out.frames } → new ≡ after (ran w) number nodes out
     → Steps true w (Ok (with_agent h agent)) new (Ok (joins_in w number x psk address total))
 unfolding world_after
-joins_told w new number x psk address total asked out nodes agent h at key did bounds room frames tags agent_is is left =
+joins_reported w new number x psk address total asked out nodes agent h at key did bounds room frames tags agent_is is left =
     let step : Node → NodeStep (Result (Unit {0}) JoinRefusal) = λ y. acts y (Err joins.Halted) (λ k. meters.join (identity network y psk) k address w.clock) in
     let there : IsThere w number number = record { node = x; at = at; same = refl; within = slice_get_within w.nodes number x at } in
     let by_all : IfSome (psk_of x) (λ key. Did (acts x (Err joins.Halted) (λ k. meters.join (identity network x key) k address w.clock)) w.nodes number asked
@@ -589,7 +589,7 @@ joins_told w new number x psk address total asked out nodes agent h at key did b
     let s = node_acted true w new there step join_word asked out nodes h bounds room frames tags
     (subst (λ (o : Option Node). IfSome o (λ y. Did (step y) w.nodes number asked out nodes)) (sym at) own) is left in
     let world : world_after network (ran w) number (step x) ≡ new = ap (world_in w) s.gives.taken in
-    let said_so : h ≡ (spoken w (answering join_word (step x))).happened = s.gives.told ∙ sym (ap (said_in h) s.gives.taken) in
+    let said_so : h ≡ (spoken w (answering join_word (step x))).happened = s.gives.reported ∙ sym (ap (said_in h) s.gives.taken) in
     let agent_so : agent ≡ agent_line number (chosen (record { address = address; total = total }) (step x).answer) =
     agent_is ∙ ap (λ (r : Result (Unit {0}) JoinRefusal). agent_line number (chosen (record { address = address; total = total }) r)) own.answer_is in
     let trace = (joins_in w number x psk address total).1 in

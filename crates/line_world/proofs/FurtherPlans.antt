@@ -232,21 +232,21 @@ module _ {A : Type 0} (s : State StationMemory) (b : Beside) (halted : A) (plan 
 -- # A command that is sent, and nothing else
 
 -- what is answered to it, by how a rule says that counters are spent, and that a write failed
-abbrev pub told_as : {H E : Type 0} → Ends E → H → Result (Unit {0}) LocalRefusal → Result H E
-told_as ends answer (Ok u) = Ok answer
-told_as ends answer (Err locals.CounterSpent) = Err ends.spent
-told_as ends answer (Err locals.Store) = Err ends.store
+abbrev pub local_answer : {H E : Type 0} → Ends E → H → Result (Unit {0}) LocalRefusal → Result H E
+local_answer ends answer (Ok u) = Ok answer
+local_answer ends answer (Err locals.CounterSpent) = Err ends.spent
+local_answer ends answer (Err locals.Store) = Err ends.store
 
 module _ {H E : Type 0} (ends : Ends E) (l : StationMemory) (b : Beside) (to code : ℕ) (body : List ℕ) (answer : H) where
-  pub sealed_told : sealed (in_reach alone) ends (record { memory = l; beside = b })
+  pub sealed_answer : sealed (in_reach alone) ends (record { memory = l; beside = b })
       (adds_local to code body (empty_draft (record { memory = l; beside = b }))) answer
-      ≡ within (λ k. record { memory = k; beside = b }) (told_as ends answer) (send_local l code (Some to) body)
+      ≡ within (λ k. record { memory = k; beside = b }) (local_answer ends answer) (send_local l code (Some to) body)
   unfolding sealed adds_local goes empty_draft resting
-  sealed_told = by (nat_lt (counters_left l) 1)
+  sealed_answer = by (nat_lt (counters_left l) 1)
     where
       by : (t : Bool) → (if t then refused ends (record { memory = l; beside = b }) ends.spent
           else sealing (in_reach alone) ends (adds_local to code body (empty_draft (record { memory = l; beside = b }))) answer)
-          ≡ within (λ k. record { memory = k; beside = b }) (told_as ends answer)
+          ≡ within (λ k. record { memory = k; beside = b }) (local_answer ends answer)
           (if t then refused local_ends l locals.CounterSpent else sealing alone local_ends (local_draft l code (Some to) body) tt)
       by true = refl
       by false = refl
@@ -278,8 +278,8 @@ module _ (l : StationMemory) (b : Beside) (target : ℕ) where
 
   pub asks_hop : (own hop : ℕ) → address_of l ≡ Some own → target ≢ own → station_route l target ≡ Some hop
       → ask_path alone (record { memory = l; beside = b }) target
-      ≡ within (λ k. record { memory = k; beside = b }) (told_as ask_ends tt) (send_local l 5 (Some hop) (path_spelling (Ask target (own ∷ []))))
+      ≡ within (λ k. record { memory = k; beside = b }) (local_answer ask_ends tt) (send_local l 5 (Some hop) (path_spelling (Ask target (own ∷ []))))
   unfolding choose
   asks_hop own hop is apart some =
       joined own is ∙ (let e : (target == own) ≡ false = ne_eqb target own apart in rw (e, some) refl)
-      ∙ sealed_told ask_ends l b hop 5 (path_spelling (Ask target (own ∷ []))) tt
+      ∙ sealed_answer ask_ends l b hop 5 (path_spelling (Ask target (own ∷ []))) tt

@@ -30,7 +30,7 @@ use Rattle.line_world.specs.Receiving.{MayHear, CameTo, ReportsReception}
 use Rattle.line_world.specs.Soundness.{IsSoundMeter}
 use Rattle.line_world.proofs.Acting.{at, not_none}
 use Rattle.line_world.proofs.MeterActing.{meter_took, meter_sound}
-use Rattle.line_world.proofs.ToldReplies.{messages_unread, parts_of, there_is, told_reply}
+use Rattle.line_world.proofs.ReportedReplies.{messages_unread, parts_of, there_is, reply_is}
 
 pub running : (x : MeterState) (got : Accepted) → MayHear (of_meter x) got → IsSome x.station.memory
 running x got h = by x.station.memory h.running
@@ -60,9 +60,9 @@ module _ (x y : MeterState) (got : Accepted) (cost note now : ℕ) (r : Result M
       → Took (hears network (of_meter x) got cost note now) (hears network (of_meter x) got cost note now).answer out (of_meter y)
   heard psk carries = let t = acted psk carries in record { answer_is = refl; out_is = t.out_is; node_is = t.node_is }
 
-  pub told : y.psk ≡ x.psk → IfSome (node_of x).memory (λ m. Carries (node_of x) (plan m) r out (node_of y)) → (word : Reception)
+  pub reported : y.psk ≡ x.psk → IfSome (node_of x).memory (λ m. Carries (node_of x) (plan m) r out (node_of y)) → (word : Reception)
       → ReportsReception word (rules.meter_reception r) → ReportsReception word (hears network (of_meter x) got cost note now).answer
-  told psk carries word t = subst (λ (k : Result MeterHeard Dropped). ReportsReception word (rules.meter_reception k)) (acted psk carries).answer_is t
+  reported psk carries word t = subst (λ (k : Result MeterHeard Dropped). ReportsReception word (rules.meter_reception k)) (acted psk carries).answer_is t
 
   pub heard_sound : IfSome (node_of x).memory (λ m. Carries (node_of x) (plan m) r out (node_of y)) → Agrees y.station → IsSoundMeter y
   heard_sound carries agrees =
@@ -70,13 +70,13 @@ module _ (x y : MeterState) (got : Accepted) (cost note now : ℕ) (r : Result M
       (not_none (node_of x).memory _ may.running) carries agrees
 
   -- the reply that it tells of a route message is among the frames of its step
-  pub told_replied : y.psk ≡ x.psk → IfSome (node_of x).memory (λ m. Carries (node_of x) (plan m) r out (node_of y)) → (last told : Option Reply)
-      → parts_of told ≡ parts_of last
+  pub replied_is : y.psk ≡ x.psk → IfSome (node_of x).memory (λ m. Carries (node_of x) (plan m) r out (node_of y)) → (last reported : Option Reply)
+      → parts_of reported ≡ parts_of last
       → IfSome (node_of x).memory (λ m. unread (hear m.station got cost note now).answer ≡ None → last ≡ reply_sent (plan m) (node_of y).memory)
       → IsSome (message_of got)
-      → told ≡ reply_among (hears network (of_meter x) got cost note now).frames
-  told_replied psk carries last told same replied is =
+      → reported ≡ reply_among (hears network (of_meter x) got cost note now).frames
+  replied_is psk carries last reported same replied is =
       let m = there_is (node_of x).memory may.running in
-      told_reply (of_meter x) (Err drops.Store) plan m.0 (node_of y).memory last told m.1 (ap (λ (n : Node). n.memory) (acted psk carries).node_is)
+      reply_is (of_meter x) (Err drops.Store) plan m.0 (node_of y).memory last reported m.1 (ap (λ (n : Node). n.memory) (acted psk carries).node_is)
       (at (node_of x).memory (λ m. unread (hear m.station got cost note now).answer ≡ None → last ≡ reply_sent (plan m) (node_of y).memory) m.0 m.1 replied
       (messages_unread m.0.station cost note now got is)) same

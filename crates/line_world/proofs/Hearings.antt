@@ -74,7 +74,7 @@ use Rattle.line_rules.specs.Steps.{done_by, flight_by, handed_by, happened, hear
 use Rattle.line_rules.specs.Worlds.{Pairing, Trace, World, is_forged_tag}
 use Rattle.line_rules.proofs.LogSteps.{NodeIn, Quiet, acts_quiet}
 use Rattle.line_world.specs.declared.nodes.command.Commanded.{Commanded}
-use Rattle.line_world.specs.declared.nodes.reception.Reception as telling
+use Rattle.line_world.specs.declared.nodes.reception.Reception as receiving
 use Rattle.line_world.specs.Arrivals.{Acknowledges, acknowledging_if, checked_so, done_in, in_run, left_of, said_of, unbelieved_so, with_check_of}
 use Rattle.line_world.specs.Arrivals.{heard_so as heard_by_command}
 use Rattle.line_world.specs.Bounds.{IsBounded}
@@ -82,9 +82,9 @@ use Rattle.line_world.specs.NodeOutcomes.{given_by}
 use Rattle.line_world.specs.Reaching.{DidAfter, IsLogOf, ReachedCommand, given_after}
 use Rattle.line_world.specs.Receiving.{Received, handed_up}
 use Rattle.line_world.specs.Steps.{Steps}
-use Rattle.line_world.proofs.Arrivals.{acts_eui, at_node_told, hears_eui, left_bounded, received_left, received_many, received_said, same_number, was_received}
-use Rattle.line_world.proofs.Taking.{after, is_taken_so, many_given, steps_as, told_as}
-use Rattle.line_world.proofs.ToldReplies.{messages_unread}
+use Rattle.line_world.proofs.Arrivals.{acts_eui, at_node_after, hears_eui, left_bounded, received_left, received_many, received_said, same_number, was_received}
+use Rattle.line_world.proofs.Taking.{after, is_taken_so, many_given, steps_as, after_is}
+use Rattle.line_world.proofs.ReportedReplies.{messages_unread}
 
 -- # Lists of nodes and of what stands beside them
 
@@ -102,7 +102,7 @@ beside_same (b ∷ bs) (suc number) = ap (λ (cs : List Beside). b ∷ cs) (besi
 -- # A request that is not believed
 
 -- what is told of it
-abbrev pub blacklisted : telling.Reception
+abbrev pub blacklisted : receiving.Reception
 blacklisted = record { answer = answers.Blacklisted; up = None; took = false; done = None; replied = None }
 
 pub was_unbelieved : (w new : World) (number : ℕ) (x : Node) (origin : Origin) (out : Out) (forged : Bool) (h : Happenings) → IsBounded (in_run w)
@@ -276,7 +276,7 @@ done_pointwise v u same None = refl
 done_pointwise v u same (Some eui) = ap Some (same eui)
 
 -- what is said and what is left of a frame with a command for the neighbours
-pub was_commanded : (w new : World) (number : ℕ) (x : Node) (got : Accepted) (c : NeighbourCommand) (origin : Origin) (cost : ℕ) (r : telling.Reception)
+pub was_commanded : (w new : World) (number : ℕ) (x : Node) (got : Accepted) (c : NeighbourCommand) (origin : Origin) (cost : ℕ) (r : receiving.Reception)
     (before out : Out)
     (nodes left : List Node) (forged : Bool) (commanded : Commanded) (b after_b : Beside) (h : Happenings) → IsBounded (in_run w) → w.events < MAX_EVENTS
     → length out.frames ≤ 24 → length out.tags.made ≤ 2 → slice_get w.nodes number ≡ Some x → command_of got ≡ Some c
@@ -298,7 +298,7 @@ was_commanded w new number x got c origin cost r before out nodes left forged co
     let a : NodeStep (Result CommandHeard ReachDropped) = reaches z (beside_at w number) heard_halted (hears_command c) in
     let rc : ReachedCommand z (beside_at w number) c nodes number commanded before out left after_b =
     subst (λ (k : Beside). ReachedCommand z k c nodes number commanded before out left after_b) held
-    (at_node_told nodes number z (λ y. ReachedCommand y b c nodes number commanded before out left after_b) at_z reached) in
+    (at_node_after nodes number z (λ y. ReachedCommand y b c nodes number commanded before out left after_b) at_z reached) in
     let did : DidAfter a nodes number a.answer before out left = rc.reached.did in
     let right : Bool = origin.is_forged || list_any (is_forged_tag w.made) d.opened in
     let forgery : forged ≡ right = is_forged ∙ ap (λ (o : Out). origin.is_forged || list_any (is_forged_tag w.made) o.tags.opened) rec.did.out_is in
@@ -313,7 +313,7 @@ was_commanded w new number x got c origin cost r before out nodes left forged co
     let bs : List Beside = slice_set w.beside number after_b in
     let second : has_reached network v number z heard_halted (hears_command c) a ≡ set_beside number after_b (after v number left (given_by a)) =
     ap (λ (u : World). set_beside number (beside_after z (beside_at w number) (hears_command c) a.node) u)
-    (told_as v number a left (given_by a) refl did.nodes_are)
+    (after_is v number a left (given_by a) refl did.nodes_are)
     ∙ ap (λ (k : Beside). set_beside number k (after v number left (given_by a))) (sym rc.reached.beside) in
     let third : set_beside number after_b (after v number left (given_by a)) ≡ left_of (record w { nodes = left; beside = bs }) number out forged r =
     λ i. record v {
@@ -337,7 +337,7 @@ was_commanded w new number x got c origin cost r before out nodes left forged co
     (let o : length out.frames ≡ length a.frames = ap (λ fs. length fs) out_frames ∙ many_given (spelled network) a.frames in
     let n : length before.frames ≡ 0 = ap (λ fs. length fs) none in omega (arith, o, n)) in
     let s : Happenings = said_of (record w { nodes = nodes }) number before forged r in
-    let told_is : h ≡ trace.happened =
+    let report_is : h ≡ trace.happened =
     said
     ∙ (λ i. record s {
       answer = rc.reports.answer i;
@@ -360,7 +360,7 @@ was_commanded w new number x got c origin cost r before out nodes left forged co
           (reaches z (beside_at heard.0 number) heard_halted (hears_command c)),
       trace,
     )) trace h
-    (λ i. Ok (world i, trace)) told_is
+    (λ i. Ok (world i, trace)) report_is
     (subst IsBounded (sym is) (left_bounded w number left bs out forged r bounded room same frames tags))
 
 -- # Checks
@@ -635,10 +635,10 @@ module _ (x : Node) (got : Accepted) (cost note now : ℕ) (n : Memory) where
 -- # A frame that was heard where neighbours are checked
 
 -- what is told where an acknowledgement failed
-abbrev pub unacknowledged : telling.Reception
+abbrev pub unacknowledged : receiving.Reception
 unacknowledged = record { answer = answers.Store; up = None; took = false; done = None; replied = None }
 
-module _ (w v2 new : World) (number : ℕ) (x : Node) (got : Accepted) (origin : Origin) (cost : ℕ) (r : telling.Reception) (before out : Out) (nodes : List Node)
+module _ (w v2 new : World) (number : ℕ) (x : Node) (got : Accepted) (origin : Origin) (cost : ℕ) (r : receiving.Reception) (before out : Out) (nodes : List Node)
     (forged : Bool)
     (due_now : Option Reply) (h : Happenings) (bounded : IsBounded (in_run w)) (room : w.events < MAX_EVENTS) (frames : length out.frames ≤ 24)
     (tags : length out.tags.made ≤ 2)
@@ -725,7 +725,7 @@ module _ (w v2 new : World) (number : ℕ) (x : Node) (got : Accepted) (origin :
       let ns : List Node = left (Some reply) in
       let world : world_after network noted.0 number a ≡ new =
       ap (λ (u : World). world_after network (set_beside number bb u) number a) first
-      ∙ told_as (set_beside number bb v) number a ns (given_by a) refl refl
+      ∙ after_is (set_beside number bb v) number a ns (given_by a) refl refl
       ∙ (λ i. record (set_beside number bb v) {
         nodes = ns;
         flights = (append_assoc w.flights (map (flight_by number) before.frames) (map (flight_by number) (given_by a).frames)
@@ -737,7 +737,7 @@ module _ (w v2 new : World) (number : ℕ) (x : Node) (got : Accepted) (origin :
       let count : length out.frames ≡ length before.frames + length a.frames =
       ap (λ (o : Out). length o.frames) all ∙ length-append before.frames (given_by a).frames
       ∙ ap (λ n. length before.frames + n) (many_given (spelled network) a.frames) in
-      let told_is : h ≡ step.1.happened =
+      let report_is : h ≡ step.1.happened =
       said
       ∙ (λ i. record s {
         done = done_pointwise (record w { nodes = ns; beside = bs }) (record w { nodes = nodes }) (numbers reply) r.done i;
@@ -745,7 +745,7 @@ module _ (w v2 new : World) (number : ℕ) (x : Node) (got : Accepted) (origin :
       })
       ∙ ap (λ (k : Happenings). record k { flights = k.flights + length a.frames }) said_first in
       steps_as _ _ (ap (λ (q : World × Trace). Ok q) by_up)
-      (is_taken_so true w new (Ok step) step.1 h (λ i. Ok (world i, step.1)) told_is
+      (is_taken_so true w new (Ok step) step.1 h (λ i. Ok (world i, step.1)) report_is
       (subst IsBounded (sym is) (left_bounded w number ns bs out forged r bounded room (left_many (Some reply)) frames tags)))
 
   -- what is said and what is left of a frame, the acknowledgement that was due sent
@@ -755,7 +755,7 @@ module _ (w v2 new : World) (number : ℕ) (x : Node) (got : Accepted) (origin :
       → Steps true w (Ok h) new (Ok (checked_so network w number x got origin cost))
   was_checked v3 sent acknowledges sent_is checks said is =
       let ack : Acknowledges (record w { nodes = nodes }) number z due_now before true out v2 =
-      at_node_told nodes number z (λ y. Acknowledges (record w { nodes = nodes }) number y due_now before true out v2) at_heard acknowledges in
+      at_node_after nodes number z (λ y. Acknowledges (record w { nodes = nodes }) number y due_now before true out v2) at_heard acknowledges in
       let v3_is : v3 ≡ record w { nodes = left due_now; beside = bs } =
       checks ∙ ap (λ (u : World). with_check_of u number sent) ack.world_is
       ∙ ap (λ (o : Option Reply). with_check_of (record w { nodes = left due_now }) number o) sent_is in
@@ -790,7 +790,7 @@ module _ (w v2 new : World) (number : ℕ) (x : Node) (got : Accepted) (origin :
       let world : step.0 ≡ new =
       ap (λ (u : World). record (world_after network (set_beside number bb u) number a) { flights = w.flights; made = w.made; beside = w.beside }) first
       ∙ ap (λ (u : World). record u { flights = w.flights; made = w.made; beside = w.beside })
-      (told_as (set_beside number bb v) number a ns (given_by a) refl refl)
+      (after_is (set_beside number bb v) number a ns (given_by a) refl refl)
       ∙ (λ i. record v {
         nodes = ns;
         flights = sym (append-nil w.flights) i;
@@ -800,7 +800,7 @@ module _ (w v2 new : World) (number : ℕ) (x : Node) (got : Accepted) (origin :
       })
       ∙ ap (λ (o : Out). left_of (record w { nodes = ns }) number o forged unacknowledged) (sym none)
       ∙ ap (λ (u : World). left_of u number out forged unacknowledged) (sym ack.world_is) ∙ sym is in
-      let told_is : h ≡ step.1.happened =
+      let report_is : h ≡ step.1.happened =
       said ∙ ap (λ (u : World). said_of u number out forged unacknowledged) ack.world_is
       ∙ ap (λ (o : Out). said_of (record w { nodes = ns }) number o forged unacknowledged) none
       ∙ (λ i. record (happened w answers.Store) {
@@ -810,7 +810,7 @@ module _ (w v2 new : World) (number : ℕ) (x : Node) (got : Accepted) (origin :
         done = option_map (λ (p : Pairing). p.node) (done_by w (sym only_it.2 i));
       }) in
       steps_as _ _ (ap (λ (q : World × Trace). Ok q) by_down)
-      (is_taken_so true w new (Ok step) step.1 h (λ i. Ok (world i, step.1)) told_is
+      (is_taken_so true w new (Ok step) step.1 h (λ i. Ok (world i, step.1)) report_is
       (subst IsBounded (sym (is ∙ ap (λ (u : World). left_of u number out forged unacknowledged) ack.world_is))
       (left_bounded w number ns w.beside out forged unacknowledged bounded room (left_many (Some reply)) frames tags)))
 
@@ -820,7 +820,7 @@ module _ (w v2 new : World) (number : ℕ) (x : Node) (got : Accepted) (origin :
       → Steps true w (Ok h) new (Ok (checked_so network w number x got origin cost))
   was_unacknowledged acknowledges said is =
       let ack : Acknowledges (record w { nodes = nodes }) number z due_now before false out v2 =
-      at_node_told nodes number z (λ y. Acknowledges (record w { nodes = nodes }) number y due_now before false out v2) at_heard acknowledges in
+      at_node_after nodes number z (λ y. Acknowledges (record w { nodes = nodes }) number y due_now before false out v2) at_heard acknowledges in
       steps_as _ _ (ap (λ (o : Option Reply). Ok (acknowledged_if network w number z o noted)) due_is) (failed_so due_now due_is ack said is)
 
 -- # Which rule a frame comes to

@@ -169,11 +169,11 @@ module _ (b : Beside) (m : Memory) where
       by_left true = refused_lent ends ends.spent
       by_left false = record { same = refl; apart = All-append IsApart ps _ are (counter_apart m.station.counter (length us)) }
 
-  tells_lent : {H E : Type 0} (ends : Ends E) (to code : ℕ) (body : List ℕ) (answer : H)
+  lent_local : {H E : Type 0} (ends : Ends E) (to code : ℕ) (body : List ℕ) (answer : H)
       → Lent (sealed (in_reach in_memory) ends node_side (adds_local to code body (empty_draft node_side)) answer)
       (sealed (in_reach alone) ends station_side (adds_local to code body (empty_draft station_side)) answer)
   unfolding adds_local empty_draft
-  tells_lent ends to code body answer = sealed_lent ends b [] _ answer none_apart
+  lent_local ends to code body answer = sealed_lent ends b [] _ answer none_apart
 
   drops : {H : Type 0} (reason : ReachDropped) → Lent (drop_it {H = H} node_side reason) (drop_it station_side reason)
   drops reason = refused_lent reach_ends reason
@@ -187,7 +187,7 @@ module _ (b : Beside) (m : Memory) where
 
   asks_by_lent : (own target : ℕ) (o : Option ℕ) → Lent (asks_by in_memory node_side own target o) (asks_by alone station_side own target o)
   asks_by_lent own target None = refused_lent ask_ends asks.NoRoute
-  asks_by_lent own target (Some hop) = tells_lent ask_ends hop 5 (path_spelling (Ask target (own ∷ []))) (tt {0})
+  asks_by_lent own target (Some hop) = lent_local ask_ends hop 5 (path_spelling (Ask target (own ∷ []))) (tt {0})
 
   pub ask_lent : (target : ℕ) → Lent (ask_path in_memory node_side target) (ask_path alone station_side target)
   ask_lent target = by_address (address_of m.station)
@@ -231,8 +231,8 @@ module _ (b : Beside) (m : Memory) where
 
   follows_lent : (o : Result PathStep PathRefusal) → Lent (follows_path in_memory node_side o) (follows_path alone station_side o)
   follows_lent (Err reason) = drops (path_word reason)
-  follows_lent (Ok (Forward to message)) = tells_lent reach_ends to 5 (path_spelling message) heard_of.Relayed
-  follows_lent (Ok (Answer to message)) = tells_lent reach_ends to 5 (path_spelling message) heard_of.Answered
+  follows_lent (Ok (Forward to message)) = lent_local reach_ends to 5 (path_spelling message) heard_of.Relayed
+  follows_lent (Ok (Answer to message)) = lent_local reach_ends to 5 (path_spelling message) heard_of.Answered
   follows_lent (Ok (Done walk)) = remembers_lent b (heard_of.Path walk)
 
   path_in_lent : (own from : ℕ) (o : Option PathMessage) → Lent (hear_path_in in_memory node_side own from o) (hear_path_in alone station_side own from o)

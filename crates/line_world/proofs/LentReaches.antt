@@ -82,8 +82,8 @@ held_so m (Some l) = refl
 pub alone_took : {A : Type 0} (role : Role) (m : Memory) (s t : State StationMemory) (halted answer : A) (q : StationPlan A) (before out : Out)
     → IsSome s.store.known_cut → Added s t halted answer q before out
     → TookAlone (acts (node_in role (holder m s)) halted (lent q s.eui)) answer before out (node_in role (holder m t))
-alone_took role m s t halted answer q before out told a =
-    let k = lent_took role m s t halted q answer a.added told a.stayed a.carries in
+alone_took role m s t halted answer q before out reported a =
+    let k = lent_took role m s t halted q answer a.added reported a.stayed a.carries in
     let same = sym (held_so m t.memory) ∙ ap (λ (n : Node). is_some n.memory) k.node_is in
     record {
       answer_is = k.answer_is;
@@ -160,8 +160,8 @@ module _ {A : Type 0} (role : Role) (m : Memory) (s t : State StationMemory) (b 
   -- The node did so too, where it comes first in its step.
   pub first_took : (out : Out) → IsSome s.store.known_cut → ReachesFirst s b halted q answer out t c
       → TookFirst (node_in role (holder m s)) b halted p answer out (node_in role (holder m t)) c
-  first_took out told r =
-      let k = took role (holder m s) (holder m t) halted (with_beside b p) answer out told (stays_lent m s t halted answer out (stays_so out r.stayed))
+  first_took out reported r =
+      let k = took role (holder m s) (holder m t) halted (with_beside b p) answer out reported (stays_lent m s t halted answer out (stays_so out r.stayed))
       (carries_so out r.carried) in
       record { took = k; beside = leaves_so out r.stayed r.beside ∙ ap (λ (n : Node). beside_after (node_in role (holder m s)) b p n) k.node_is }
 
@@ -181,9 +181,9 @@ module _ {A : Type 0} (role : Role) (m : Memory) (s t : State StationMemory) (b 
   -- The node did so too, after what was given out before in the step.
   pub after_took : (before out : Out) → IsSome s.store.known_cut → Reaches s b halted q answer before out t c
       → TookAfter (node_in role (holder m s)) b halted p answer before out (node_in role (holder m t)) c
-  after_took before out told r =
+  after_took before out reported r =
       let a = added_by before out r in
-      let k = took role (holder m s) (holder m t) halted (with_beside b p) answer a.added told (stays_lent m s t halted answer a.added a.stayed)
+      let k = took role (holder m s) (holder m t) halted (with_beside b p) answer a.added reported (stays_lent m s t halted answer a.added a.stayed)
       (carries_so a.added a.carries) in
       let same = sym (held_so m t.memory) ∙ ap (λ (n : Node). is_some n.memory) k.node_is in
       record {

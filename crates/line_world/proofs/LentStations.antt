@@ -37,7 +37,7 @@ use Rattle.line_events.specs.declared.event.Answer.TheVariants as said
 use Rattle.line_world.specs.Nodes.{node_in, stored_in}
 use Rattle.line_world.specs.NodeOutcomes.{Took}
 use Rattle.line_world.specs.Soundness.{AgreesAs, IsSound}
-use Rattle.line_world.proofs.Acting.{took, told_after, tables_after, short_tables, StayedHalted}
+use Rattle.line_world.proofs.Acting.{took, known_after, tables_after, short_tables, StayedHalted}
 
 -- the node over a station, by the memory beside it
 abbrev pub holder : Memory → State StationMemory → State Memory
@@ -83,8 +83,8 @@ pub lent_took : {A : Type 0} (role : Role) (m : Memory) (s t : State StationMemo
     → IsSome s.store.known_cut
     → StationStayed s halted answer out t → StationCarries s q answer out t
     → Took (acts (node_in role (holder m s)) halted (lent q s.eui)) answer out (node_in role (holder m t))
-lent_took role m s t halted q answer out told stayed carries =
-    took role (holder m s) (holder m t) halted (lent q s.eui) answer out told (stays_lent m s t halted answer out stayed)
+lent_took role m s t halted q answer out reported stayed carries =
+    took role (holder m s) (holder m t) halted (lent q s.eui) answer out reported (stays_lent m s t halted answer out stayed)
     (carries_lent m s t q answer out carries)
 
 -- # What is left
@@ -185,7 +185,7 @@ lent_sound role m s t halted q answer out own sound stayed carries agrees =
     let does = carries_lent m s t q answer out carries in
     let same = membership role m s t halted q answer out own sound stayed carries in
     record {
-      known_cut = told_after role (holder m s) (holder m t) halted (lent q s.eui) answer out sound stays does;
+      known_cut = known_after role (holder m s) (holder m t) halted (lent q s.eui) answer out sound stays does;
       tables = tables_after role (holder m s) (holder m t) halted (lent q s.eui) answer out own.places sound stays does;
       home = home_stays role s.store.records t.store.records same sound.home;
       agrees = agrees_left role m s t halted answer out same sound stayed agrees;

@@ -22,7 +22,7 @@ mod LentFurther
 mod LentReaches
 mod CoordinatorReaching
 mod MeterReaching
-mod ToldReplies
+mod ReportedReplies
 mod UnaskedReplies
 mod NumberedNodes
 mod Comings

@@ -23,7 +23,7 @@ use Rattle.line_events.specs.declared.event.Answer.{Answer}
 use Rattle.line_world.specs.Nodes.{stored_in, node_in, of_meter}
 use Rattle.line_world.specs.NodeOutcomes.{Took}
 use Rattle.line_world.specs.Soundness.{AgreesAs, IsSoundMeter}
-use Rattle.line_world.proofs.Acting.{took, told_after, tables_after, StayedHalted, Places, not_some, IsRestartWord}
+use Rattle.line_world.proofs.Acting.{took, known_after, tables_after, StayedHalted, Places, not_some, IsRestartWord}
 use Rattle.line_world.proofs.LentStations.{StationPlan, StationStayed, StationCarries, IsOwnPlan, lent, lent_took, lent_sound, node_says}
 
 -- the pair key says nothing of the tables
@@ -53,7 +53,7 @@ pub meter_sound : {A : Type 0} (x y : MeterState) (halted : A) (p : Memory → P
     → StayedHalted (node_of x) halted answer out (node_of y) → IfSome (node_of x).memory (λ m. Carries (node_of x) (p m) answer out (node_of y))
     → Agrees y.station → IsSoundMeter y
 meter_sound {A} x y halted p answer out places sound stayed carries agrees =
-    sound_meter y (told_after (Meter x.psk) (node_of x) (node_of y) halted p answer out sound stayed carries)
+    sound_meter y (known_after (Meter x.psk) (node_of x) (node_of y) halted p answer out sound stayed carries)
     (gapless_of_meter x.psk y.psk y.station.store.records (tables_after (Meter x.psk) (node_of x) (node_of y) halted p answer out places sound stayed carries))
     agrees
 

@@ -122,20 +122,20 @@ module _ (ms : List MeterState) (old : List Node) (place : ℕ) (x : MeterState)
 
   -- # A command that is heard
 
-  module _ (b d : Beside) (c : NeighbourCommand) (told : Commanded) (before out : Out) (kept : IfSome s.memory (λ l. IsKept b.log s.store.records))
-      (r : ReachesCommand s b (λ y. hear_command alone y c) told (place + 1) before out t d) where
+  module _ (b d : Beside) (c : NeighbourCommand) (reported : Commanded) (before out : Out) (kept : IfSome s.memory (λ l. IsKept b.log s.store.records))
+      (r : ReachesCommand s b (λ y. hear_command alone y c) reported (place + 1) before out t d) where
     are_lent : IsSome s.memory → AreLent b (λ y. hear_command in_memory y c) (λ y. hear_command alone y c)
     are_lent is m = command_lent b m (marks_short s b kept is) c
 
     after : TookAfter (of_meter x) b (Err (Known Store)) (λ y. hear_command in_memory y c) r.answer before out (of_meter (with_its t x)) d
     after = meter_after b d (Err (Known Store)) r.answer (λ y. hear_command in_memory y c) (λ y. hear_command alone y c) are_lent before out r.reaches
 
-    pub meter_tells : IfSome (slice_get old place)
-        (λ n. ReportsCommand told (place + 1) (reaches n b (Err (Known Store)) (λ y. hear_command in_memory y c)).answer)
-    meter_tells =
-        found_at ms old place x (λ n. ReportsCommand told (place + 1) (reaches n b (Err (Known Store)) (λ y. hear_command in_memory y c)).answer) view there
+    pub meter_reports : IfSome (slice_get old place)
+        (λ n. ReportsCommand reported (place + 1) (reaches n b (Err (Known Store)) (λ y. hear_command in_memory y c)).answer)
+    meter_reports =
+        found_at ms old place x (λ n. ReportsCommand reported (place + 1) (reaches n b (Err (Known Store)) (λ y. hear_command in_memory y c)).answer) view there
         here
-        (subst (λ (a : Result CommandHeard ReachDropped). ReportsCommand told (place + 1) a) after.answer_is r.reports)
+        (subst (λ (a : Result CommandHeard ReachDropped). ReportsCommand reported (place + 1) a) after.answer_is r.reports)
 
     pub meter_reached : IfSome (slice_get old place) (λ n. Reached n b (Err (Known Store)) (λ y. hear_command in_memory y c) old place
         (reaches n b (Err (Known Store)) (λ y. hear_command in_memory y c)).answer before out meters_left d)

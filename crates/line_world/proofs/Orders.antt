@@ -26,7 +26,7 @@ use Rattle.line_rules.specs.Steps.{once_begun, ran, world_after, trace_of}
 use Rattle.line_world.specs.Bounds.{IsBounded}
 use Rattle.line_world.specs.Finding.{found, found_meter}
 use Rattle.line_world.specs.Steps.{HasMemory, Steps, is_memory}
-use Rattle.line_world.proofs.Taking.{IsThere, after, at_node, begun, bounded_after, is_there, node_acted, not_found, refused, steps_as, told_as}
+use Rattle.line_world.proofs.Taking.{IsThere, after, at_node, begun, bounded_after, is_there, node_acted, not_found, refused, steps_as, after_is}
 
 -- # The coordinator
 
@@ -174,9 +174,9 @@ about_taken w number at bounds room is k =
     ap is_ok (about_meter (record { begun = meter_begun w number at is; bounds = bounds; room = room }) (is_meter w number at is) (λ x c. Ok (k x c)))
 
 -- what is said of an event at which frames went out, its word being another's
-pub told_with : (w : World) (word told_word : Answer) (count : ℕ) (h : Happenings) → h ≡ record (happened w told_word) { flights = count } → told_word ≡ word
+pub said_with : (w : World) (word answer_word : Answer) (count : ℕ) (h : Happenings) → h ≡ record (happened w answer_word) { flights = count } → answer_word ≡ word
     → h ≡ record (happened w word) { flights = count }
-told_with w word told_word count h said is = said ∙ (λ i. record (happened w (is i)) { flights = count })
+said_with w word answer_word count h said is = said ∙ (λ i. record (happened w (is i)) { flights = count })
 
 -- what is left of an order about a meter that may give something out, after memory was reserved for it
 module _ (w kept new : World) (number at : ℕ) (same : kept ≡ w) (bounds : IsBounded w) (room : w.events < MAX_EVENTS) (is : Ok at ≡ found_meter w number) where
@@ -188,21 +188,21 @@ module _ (w kept new : World) (number at : ℕ) (same : kept ≡ w) (bounds : Is
 
   pub has_ordered : (rule : World → Step) (word : Answer) (order : Node → Eui → Memory → Plan Memory (Result (Unit {0}) CoordinatorRefusal)) (eui : Eui)
       (done : Result (Unit {0}) CoordinatorRefusal) (out : Out)
-      (nodes : List Node) (told_word : Answer) (h : Happenings)
+      (nodes : List Node) (answer_word : Answer) (h : Happenings)
       → rule kept ≡ once_begun kept (on_meter kept number (λ x. at_coordinator kept (λ c. Ok (by_coordinator network kept c word (order c x.eui)))))
       → IfSome (slice_get kept.nodes at) (λ x. eui ≡ x.eui)
       → IfSome (slice_get kept.nodes 0) (λ c. Did (acts c (Err orders.Halted) (order c eui)) kept.nodes 0 done out nodes)
-      → length out.frames ≤ 24 → length out.tags.made ≤ 2 → told_word ≡ ordered_word word done
-      → h ≡ record (happened kept told_word) { flights = length out.frames }
+      → length out.frames ≤ 24 → length out.tags.made ≤ 2 → answer_word ≡ ordered_word word done
+      → h ≡ record (happened kept answer_word) { flights = length out.frames }
       → new ≡ after (ran kept) 0 nodes out → Steps true w (Ok h) new (rule w)
-  has_ordered rule word order eui done out nodes told_word h named eui_is did frames tags word_is said is_new =
+  has_ordered rule word order eui done out nodes answer_word h named eui_is did frames tags word_is said is_new =
       let first = first_there kept runs.begun in
       let own = of_found about.there (λ (x : Node). eui ≡ x.eui) eui_is in
       reserved kept w rule same
       (steps_as _ _ (named ∙ about_meter runs about (λ x c. Ok (by_coordinator network kept c word (order c x.eui)))
       ∙ ap (λ e. Ok (by_coordinator network kept first.node word (order first.node e))) (sym own))
       (node_acted true kept new first (λ c. acts c (Err orders.Halted) (order c eui)) (ordered_word word) done out nodes h
-      runs.bounds runs.room frames tags did (told_with kept _ _ _ _ said word_is) is_new))
+      runs.bounds runs.room frames tags did (said_with kept _ _ _ _ said word_is) is_new))
 
 -- what is left of an event, where the coordinator allowed a meter or refused that
 pub has_allowed : (w new : World) (number : ℕ) (there : IsThere w 0 0) (k : Node → NodeStep (Result ℕ CoordinatorRefusal))
@@ -214,14 +214,14 @@ has_allowed w new number there k answer nodes h b room did said is =
     let d : Did (k there.node) w.nodes 0 answer nothing nodes = of_found there (λ y. Did (k y) w.nodes 0 answer nothing nodes) did in
     let all : new ≡ after (ran w) 0 nodes nothing = is
     ∙ (λ i. record (ran w) { nodes = nodes; flights = sym (append-nil w.flights) i; made = sym (append-nil w.made) i }) in
-    let left : world_after network (ran w) 0 (k there.node) ≡ new = told_as (ran w) 0 (k there.node) nodes nothing d.out_is d.nodes_are ∙ sym all in
+    let left : world_after network (ran w) 0 (k there.node) ≡ new = after_is (ran w) 0 (k there.node) nodes nothing d.out_is d.nodes_are ∙ sym all in
     let same : length nodes ≡ length w.nodes = ap (λ (l : List Node). length l) d.nodes_are ∙ length-set w.nodes 0 (k there.node).node in
     let trace : Result ℕ CoordinatorRefusal → Trace = λ a. trace_of (record (happened w (allowed_word a)) { grant = admission_by number a }) in
     record {
       gives = record {
         trace = trace (k there.node).answer;
         taken = λ i. Ok (left i, trace (k there.node).answer);
-        told = said ∙ (λ i. (trace (d.answer_is i)).happened);
+        reported = said ∙ (λ i. (trace (d.answer_is i)).happened);
       };
       memory = tt;
       bounds = subst IsBounded (sym all) (bounded_after w 0 nodes nothing b room same (omega arith) (omega arith));
@@ -232,7 +232,7 @@ has_allowed w new number there k answer nodes h b room did said is =
 pub only_said : (takes : Bool) (w new : World) (answer : Answer) (h : Happenings) → IsBounded w → w.events < MAX_EVENTS → h ≡ happened w answer → new ≡ ran w
     → Steps takes w (Ok h) new (Ok (ran w, trace_of (happened w answer)))
 only_said takes w new answer h b room said is = record {
-  gives = record { trace = trace_of (happened w answer); taken = λ i. Ok (sym is i, trace_of (happened w answer)); told = said };
+  gives = record { trace = trace_of (happened w answer); taken = λ i. Ok (sym is i, trace_of (happened w answer)); reported = said };
   memory = by takes;
   bounds = subst IsBounded (sym (is ∙ all)) (bounded_after w 0 w.nodes nothing b room refl (omega arith) (omega arith));
 }

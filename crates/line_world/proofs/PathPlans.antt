@@ -42,8 +42,8 @@ use Rattle.line_world.specs.declared.nodes.station_further.PathHeard.{PathHeard}
 use Rattle.line_world.specs.Reaching.{EndsCheck, Reaches, ReachesCommand, ReachesFirst, ReportsCommand, answer_as, beside_left, check_ended, of_held}
 use Rattle.line_world.specs.Reaching.{path_heard}
 use Rattle.line_world.specs.Reaching.{ended_by}
-use Rattle.line_world.proofs.FurtherPlans.{asks_hop, before_stays, checks_alone, ends_awaited, ends_unawaited, none_stayed, own_of, sealed_told, sent_after}
-use Rattle.line_world.proofs.FurtherPlans.{sent_first, some_is, told_as}
+use Rattle.line_world.proofs.FurtherPlans.{asks_hop, before_stays, checks_alone, ends_awaited, ends_unawaited, none_stayed, own_of, sealed_answer, sent_after}
+use Rattle.line_world.proofs.FurtherPlans.{sent_first, some_is, local_answer}
 
 -- # What then stands beside a station
 
@@ -59,27 +59,27 @@ log_left running b log is = ap (λ (l : Log). record b { log = l }) is ∙ by ru
 -- # Answers
 
 -- a command that was sent, in the words of a command that was heard
-pub sent_told : (heard : PathHeard) (sent : Result (Unit {0}) LocalRefusal) (dropped : Result (Unit {0}) ReachDropped) (result : Result PathHeard ReachDropped)
+pub sent_ended : (heard : PathHeard) (sent : Result (Unit {0}) LocalRefusal) (dropped : Result (Unit {0}) ReachDropped) (result : Result PathHeard ReachDropped)
     → dropped ≡ ended_by (Known CounterSpent) (Known Store) sent → result ≡ answer_as (λ _. heard) dropped
-    → told_as reach_ends (path_heard heard) sent ≡ answer_as path_heard result
-sent_told heard sent dropped result is answers =
+    → local_answer reach_ends (path_heard heard) sent ≡ answer_as path_heard result
+sent_ended heard sent dropped result is answers =
     by sent ∙ sym (ap (λ (r : Result (Unit {0}) ReachDropped). answer_as path_heard (answer_as (λ _. heard) r)) is) ∙ sym (ap (answer_as path_heard) answers)
   where
     by : (r : Result (Unit {0}) LocalRefusal)
-        → told_as reach_ends (path_heard heard) r ≡ answer_as path_heard (answer_as (λ _. heard) (ended_by (Known CounterSpent) (Known Store) r))
+        → local_answer reach_ends (path_heard heard) r ≡ answer_as path_heard (answer_as (λ _. heard) (ended_by (Known CounterSpent) (Known Store) r))
     by (Ok u) = refl
     by (Err locals.CounterSpent) = refl
     by (Err locals.Store) = refl
 
-pub ask_told : (sent : Result (Unit {0}) LocalRefusal) → told_as ask_ends tt sent ≡ ended_by asks.CounterSpent asks.Store sent
-ask_told (Ok u) = refl
-ask_told (Err locals.CounterSpent) = refl
-ask_told (Err locals.Store) = refl
+pub ask_ended : (sent : Result (Unit {0}) LocalRefusal) → local_answer ask_ends tt sent ≡ ended_by asks.CounterSpent asks.Store sent
+ask_ended (Ok u) = refl
+ask_ended (Err locals.CounterSpent) = refl
+ask_ended (Err locals.Store) = refl
 
 -- nothing but a word is told of a command that is dropped
-pub only_dropped : (told : Commanded) (number : ℕ) (reason : ReachDropped) → told ≡ record { answer = reach_drop_word reason; bup = None; path = None }
-    → ReportsCommand told number (Err reason)
-only_dropped told number reason is =
+pub only_dropped : (reported : Commanded) (number : ℕ) (reason : ReachDropped) → reported ≡ record { answer = reach_drop_word reason; bup = None; path = None }
+    → ReportsCommand reported number (Err reason)
+only_dropped reported number reason is =
     record { answer = ap (λ (t : Commanded). t.answer) is; bup = ap (λ (t : Commanded). t.bup) is; path = ap (λ (t : Commanded). t.path) is }
 
 -- # Plans of a station
@@ -112,10 +112,10 @@ reaches_as {A} {s} {t} {b} {c} {halted} {answer} {before} {out} p q same r = rec
   beside = beside_as s t b c p q same s.memory refl r.beside;
 }
 
-pub command_as : {s t : State StationMemory} {b c : Beside} {told : Commanded} {number : ℕ} {before out : Out}
+pub command_as : {s t : State StationMemory} {b c : Beside} {reported : Commanded} {number : ℕ} {before out : Out}
     (p q : Reaching StationMemory → Plan (Reaching StationMemory) (Result CommandHeard ReachDropped))
     → ((l : StationMemory) → s.memory ≡ Some l → p (record { memory = l; beside = b }) ≡ q (record { memory = l; beside = b }))
-    → ReachesCommand s b p told number before out t c → ReachesCommand s b q told number before out t c
+    → ReachesCommand s b p reported number before out t c → ReachesCommand s b q reported number before out t c
 command_as p q same r = record { answer = r.answer; reports = r.reports; reaches = reaches_as p q same r.reaches }
 
 -- nothing is stored or sent, and this then stands beside the station
@@ -140,12 +140,12 @@ remembers_after {A} s b c halted plan l answer failed before running is = record
 -- a command is dropped, and this is told of it
 pub dropped_after : (s : State StationMemory) (b : Beside) (plan : Reaching StationMemory → Plan (Reaching StationMemory) (Result CommandHeard ReachDropped))
     (l : StationMemory) (reason : ReachDropped)
-    (told : Commanded) (number : ℕ) (before : Out) → s.memory ≡ Some l
+    (reported : Commanded) (number : ℕ) (before : Out) → s.memory ≡ Some l
     → plan (record { memory = l; beside = b }) ≡ drop_it (record { memory = l; beside = b }) reason
-    → told ≡ record { answer = reach_drop_word reason; bup = None; path = None } → ReachesCommand s b plan told number before before s b
-dropped_after s b plan l reason told number before running is only = record {
+    → reported ≡ record { answer = reach_drop_word reason; bup = None; path = None } → ReachesCommand s b plan reported number before before s b
+dropped_after s b plan l reason reported number before running is only = record {
   answer = Err reason;
-  reports = only_dropped told number reason only;
+  reports = only_dropped reported number reason only;
   reaches = remembers_after s b b (Err (Known Store)) plan l (Err reason) (Err (Known Store)) before running is;
 }
 
@@ -199,13 +199,13 @@ pub asked : (s t : State StationMemory) (b : Beside) (target own hop : ℕ) (l :
     → log ≡ (if is_some t.memory then b.log else empty_log)
     → result ≡ ended_by asks.CounterSpent asks.Store sent
     → ReachesFirst s b (Err asks.Halted) (λ y. ask_path alone y target) result out t (record b { log = log })
-asked s t b target own hop l message sent result before out log running is apart some empty begins carried left told =
+asked s t b target own hop l message sent result before out log running is apart some empty begins carried left reported =
     let goes : Carries s (send_local l 5 (Some hop) (path_spelling message)) sent out t =
     carries_first s t (send_local l 5 (Some hop) (path_spelling message)) sent before out empty (nothing_opened l 5 (Some hop) (path_spelling message))
     (at_some s.memory (λ k. CarriesAfter s (send_local k 5 (Some hop) (path_spelling message)) sent before out t) l running carried) in
     subst (λ (a : Result (Unit {0}) AskRefusal). ReachesFirst s b (Err asks.Halted) (λ y. ask_path alone y target) a out t (record b { log = log }))
-    (ask_told sent ∙ sym told)
-    (sent_first s b (Err asks.Halted) (λ y. ask_path alone y target) l running (told_as ask_ends tt)
+    (ask_ended sent ∙ sym reported)
+    (sent_first s b (Err asks.Halted) (λ y. ask_path alone y target) l running (local_answer ask_ends tt)
     (send_local l 5 (Some hop) (path_spelling (Ask target (own ∷ [])))) sent out t (record b { log = log })
     (asks_hop l b target own hop is apart some)
     (subst (λ (m : PathMessage). Carries s (send_local l 5 (Some hop) (path_spelling m)) sent out t) begins goes)
@@ -220,12 +220,12 @@ pub path_went : (s t : State StationMemory) (b : Beside) (plan : Reaching Statio
     → plan (record { memory = l; beside = b }) ≡ send_path alone (record { memory = l; beside = b }) to message answer
     → IfSome s.memory (λ k. CarriesAfter s (send_local k 5 (Some to) (path_spelling message)) sent before out t)
     → log ≡ (if is_some t.memory then b.log else empty_log)
-    → told_as reach_ends answer sent ≡ r → Reaches s b (Err (Known Store)) plan r before out t (record b { log = log })
-path_went s t b plan l to message answer sent r before out log running is carried left told =
-    subst (λ (a : Result CommandHeard ReachDropped). Reaches s b (Err (Known Store)) plan a before out t (record b { log = log })) told
-    (sent_after s b (Err (Known Store)) plan l running (told_as reach_ends answer) (send_local l 5 (Some to) (path_spelling message)) sent before out t
+    → local_answer reach_ends answer sent ≡ r → Reaches s b (Err (Known Store)) plan r before out t (record b { log = log })
+path_went s t b plan l to message answer sent r before out log running is carried left reported =
+    subst (λ (a : Result CommandHeard ReachDropped). Reaches s b (Err (Known Store)) plan a before out t (record b { log = log })) reported
+    (sent_after s b (Err (Known Store)) plan l running (local_answer reach_ends answer) (send_local l 5 (Some to) (path_spelling message)) sent before out t
     (record b { log = log })
-    (is ∙ sealed_told reach_ends l b to 5 (path_spelling message) answer)
+    (is ∙ sealed_answer reach_ends l b to 5 (path_spelling message) answer)
     (at_some s.memory (λ k. CarriesAfter s (send_local k 5 (Some to) (path_spelling message)) sent before out t) l running carried)
     (log_left (is_some t.memory) b log left))
 
@@ -341,13 +341,13 @@ module _ (l : StationMemory) (b : Beside) (c : NeighbourCommand) where
       (drop_it (record { memory = l; beside = b }) (Known BadUnit))) is
 
 -- an acknowledgement that was heard changes the checks alone
-pub ended_command : (s : State StationMemory) (b : Beside) (c : NeighbourCommand) (own number : ℕ) (l : StationMemory) (told : Commanded)
+pub ended_command : (s : State StationMemory) (b : Beside) (c : NeighbourCommand) (own number : ℕ) (l : StationMemory) (reported : Commanded)
     (r : Result (Unit {0}) ReachDropped) (checks : Neighbours) (before : Out)
-    → s.memory ≡ Some l → c.code ≡ 3 → EndsCheck b.checks c r checks → ReportsCommand told number (answer_as (λ _. commands.Acked) r)
-    → ReachesCommand s b (λ y. hear_command_at alone y own c) told number before before s (record b { checks = checks })
-ended_command s b c own number l told r checks before running is ends tells = record {
+    → s.memory ≡ Some l → c.code ≡ 3 → EndsCheck b.checks c r checks → ReportsCommand reported number (answer_as (λ _. commands.Acked) r)
+    → ReachesCommand s b (λ y. hear_command_at alone y own c) reported number before before s (record b { checks = checks })
+ended_command s b c own number l reported r checks before running is ends reporting = record {
   answer = answer_as (λ _. commands.Acked) r;
-  reports = tells;
+  reports = reporting;
   reaches =
       remembers_after s b (record b { checks = checks }) (Err (Known Store)) (λ y. hear_command_at alone y own c) l (answer_as (λ _. commands.Acked) r)
       (Err (Known Store)) before running
@@ -356,21 +356,21 @@ ended_command s b c own number l told r checks before running is ends tells = re
 }
 
 -- a path message that was heard
-pub path_command : (s t : State StationMemory) (b d : Beside) (c : NeighbourCommand) (own number : ℕ) (told : Commanded) (r : Result CommandHeard ReachDropped)
+pub path_command : (s t : State StationMemory) (b d : Beside) (c : NeighbourCommand) (own number : ℕ) (reported : Commanded) (r : Result CommandHeard ReachDropped)
     (before out : Out)
-    → c.code ≡ 5 → Reaches s b (Err (Known Store)) (λ y. hear_path alone y own c.from c.to_all c.body) r before out t d → ReportsCommand told number r
-    → ReachesCommand s b (λ y. hear_command_at alone y own c) told number before out t d
-path_command s t b d c own number told r before out is reached tells = record {
+    → c.code ≡ 5 → Reaches s b (Err (Known Store)) (λ y. hear_path alone y own c.from c.to_all c.body) r before out t d → ReportsCommand reported number r
+    → ReachesCommand s b (λ y. hear_command_at alone y own c) reported number before out t d
+path_command s t b d c own number reported r before out is reached reporting = record {
   answer = r;
-  reports = tells;
+  reports = reporting;
   reaches = reaches_as (λ y. hear_path alone y own c.from c.to_all c.body) (λ y. hear_command_at alone y own c)
       (λ l _. sym (by_5 (record { memory = l; beside = b }) own c is)) reached;
 }
 
 -- a broadcast that was heard
-pub broadcast_command : (s t : State StationMemory) (b d : Beside) (c : NeighbourCommand) (own number : ℕ) (told : Commanded) (before out : Out)
-    → c.code ≡ 4 → ReachesCommand s b (λ y. hear_broadcast alone y own c.to_all c.body) told number before out t d
-    → ReachesCommand s b (λ y. hear_command_at alone y own c) told number before out t d
-broadcast_command s t b d c own number told before out is reached =
+pub broadcast_command : (s t : State StationMemory) (b d : Beside) (c : NeighbourCommand) (own number : ℕ) (reported : Commanded) (before out : Out)
+    → c.code ≡ 4 → ReachesCommand s b (λ y. hear_broadcast alone y own c.to_all c.body) reported number before out t d
+    → ReachesCommand s b (λ y. hear_command_at alone y own c) reported number before out t d
+broadcast_command s t b d c own number reported before out is reached =
     command_as (λ y. hear_broadcast alone y own c.to_all c.body) (λ y. hear_command_at alone y own c)
     (λ l _. sym (by_4 (record { memory = l; beside = b }) own c is)) reached

@@ -18,7 +18,7 @@ use Rattle.line_rules.specs.Worlds.{World, Trace}
 use Rattle.line_rules.specs.Steps.{happened, is_taken, ran, sending, sent_if}
 use Rattle.line_world.specs.Bounds.{IsBounded}
 use Rattle.line_world.specs.Steps.{Steps, Takes}
-use Rattle.line_world.proofs.Taking.{IsThere, after, node_acted, told_of}
+use Rattle.line_world.proofs.Taking.{IsThere, after, node_acted, holds_there}
 
 -- the word of a send takes it exactly where the node took it
 taken_as : (sent : Result SentHow SendRefusal) → is_taken (sent_word sent) ≡ is_ok sent
@@ -59,7 +59,7 @@ counted_if w before from to datagram tag r h counted true less count s =
       gives = record {
         trace = (next (before, t.trace)).1;
         taken = ap (λ (q : World × Trace). Ok q) left;
-        told = t.told;
+        reported = t.reported;
       };
       memory = tt;
       bounds = record {
@@ -85,7 +85,7 @@ pub node_sent : (w new : World) {number found : ℕ} (there : IsThere w number f
     → h ≡ record (happened w (sent_word sent)) { flights = length out.frames } → new ≡ record (after (ran w) found nodes out) { sends = w.sends + counted }
     → Steps true w (Ok h) new (Ok (sending network w number to datagram tag (answering sent_word (k there.node))))
 node_sent w new {number} {found} there to datagram tag k sent out nodes counted h b room frames tags did count said is =
-    let d : Did (k there.node) w.nodes found sent out nodes = told_of there (λ y. Did (k y) w.nodes found sent out nodes) did in
+    let d : Did (k there.node) w.nodes found sent out nodes = holds_there there (λ y. Did (k y) w.nodes found sent out nodes) did in
     let taken : is_ok sent ≡ is_taken (sent_word (k there.node).answer) = sym (taken_as sent) ∙ ap (λ a. is_taken (sent_word a)) d.answer_is in
     let less : w.sends < w.events + 1 = let e = b.sends in omega (arith, e) in
     subst (λ (n : World). Steps true w (Ok h) n (Ok (sending network w number to datagram tag (answering sent_word (k there.node))))) (sym is)

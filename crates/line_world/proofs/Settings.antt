@@ -1,4 +1,4 @@
--- Setup: a node that no loss of power was told of stays so, and what was set is there.
+-- Setup: a node of which no loss of power is known stays so, and what was set is there.
 use Rattle.std.proofs.Common.{◌≡◌, ◌≢◌, ℕ, zero, suc, ◌+◌, ◌<◌, ◌≤◌, Bool, true, false, not, ◌&&◌, ◌||◌, List, [], ◌∷◌, ◌++◌, length, Option, Some, None}
 use Rattle.std.proofs.Common.{Result, Ok, Err, refl, sym, ap, subst, ◌∙◌, if◌then◌else◌, arith}
 use Rattle.std.specs.Prelude.{All, IfSome, IsSome, slice_get, slice_set, is_some, nat_lt, ◌==◌}
@@ -45,9 +45,9 @@ use Rattle.line_rules.specs.Steps.{set_up, takes_setup, world_after, trace_of}
 use Rattle.line_world.specs.Bounds.{IsBounded, IsUncut}
 use Rattle.line_world.specs.Finding.{found}
 use Rattle.line_world.specs.Steps.{HasMemory, Steps}
-use Rattle.line_world.proofs.Taking.{IsThere, at_node, begun, not_found, second_not_found, steps_as, told_as}
+use Rattle.line_world.proofs.Taking.{IsThere, at_node, begun, not_found, second_not_found, steps_as, after_is}
 
--- # A node that no loss of power was told of
+-- # A node of which no loss of power is known
 
 -- with no loss of power to come every put is made, and none is to come afterwards
 record WroteAll (w : Written) : Type 0 where
@@ -65,7 +65,7 @@ in_full records p =
     let w = write p.puts None records in
     ap (λ (b : Bool). if b then finished w p else halted w p) (wrote_all p.puts records).whole
 
--- what a node does that no loss of power was told of
+-- what a node does of which no loss of power is known
 does_all : {A : Type 0} (x : Node) (m : Memory) (halting : A) (plan : Memory → Plan Memory A) → x.memory ≡ Some m → x.store.cut ≡ None
     → acts x halting plan ≡ left_by x (finished (write (plan m).puts None x.store.records) (plan m))
 unfolding acts
@@ -122,11 +122,11 @@ pub quietly : {A B : Type 0} (f : A → B) (d : NodeStep A) (old : List Node) (n
     → Did (answering f d) old number (f answer) out new
 quietly f d old number answer out new did = record { answer_is = ap f did.answer_is; out_is = did.out_is; nodes_are = did.nodes_are }
 
--- a node that sent nothing is told to the world
-pub told_quiet : {A : Type 0} (w : World) (number : ℕ) (d : NodeStep A) (answer : A) (nodes : List Node) → Did d w.nodes number answer nothing nodes
+-- the world after a node that sent nothing
+pub after_quiet : {A : Type 0} (w : World) (number : ℕ) (d : NodeStep A) (answer : A) (nodes : List Node) → Did d w.nodes number answer nothing nodes
     → world_after network w number d ≡ record w { nodes = nodes }
-told_quiet w number d answer nodes did =
-    told_as w number d nodes nothing did.out_is did.nodes_are ∙ (λ i. record w { nodes = nodes; flights = append-nil w.flights i; made = append-nil w.made i })
+after_quiet w number d answer nodes did =
+    after_is w number d nodes nothing did.out_is did.nodes_are ∙ (λ i. record w { nodes = nodes; flights = append-nil w.flights i; made = append-nil w.made i })
 
 -- the bounds after an event of setup that left these nodes
 pub bounded_setup : (w : World) (nodes : List Node) → IsBounded w → w.events < MAX_EVENTS → length nodes ≤ 1000 → (w.running ≡ false → All IsUncut nodes)
@@ -150,7 +150,7 @@ pub was_set : (takes : Bool) (w new : World) (step : Step) (trace : Trace) (h : 
     → (w.running ≡ false → All IsUncut nodes) → step ≡ Ok (record (set_up w) { nodes = nodes }, trace) → h ≡ trace.happened
     → new ≡ record (set_up w) { nodes = nodes } → Steps takes w (Ok h) new step
 was_set takes w new step trace h nodes b room few uncut taken world_after is = record {
-  gives = record { trace = trace; taken = taken ∙ (λ i. Ok (sym is i, trace)); told = world_after };
+  gives = record { trace = trace; taken = taken ∙ (λ i. Ok (sym is i, trace)); reported = world_after };
   memory = by takes;
   bounds = subst IsBounded (sym is) (bounded_setup w nodes b room few uncut);
 }
@@ -229,7 +229,7 @@ value_set w new {number} {found} there d answer nodes h b room takes keeps did s
     let same : length nodes ≡ length w.nodes = ap (λ (ns : List Node). length ns) own.nodes_are ∙ length-set w.nodes number (d x).node in
     was_set false w new _ (trace_of (happened w said.Set)) h nodes b room (let few = b.nodes in omega (arith, few, same)) (λ running. left)
     (in_setup_is w _ takes ∙ at_node w number x _ there.at
-    ∙ ap (λ (v : World). Ok (v, trace_of (happened w said.Set))) (told_quiet (set_up w) number (d x) answer nodes own)) spoken is
+    ∙ ap (λ (v : World). Ok (v, trace_of (happened w said.Set))) (after_quiet (set_up w) number (d x) answer nodes own)) spoken is
 
 -- # depot
 
@@ -310,8 +310,8 @@ module _ (w : World) (number : ℕ) (x c : Node) (psk : Key) (may : MayDepot w n
       let trace = record (trace_of (happened w said.Joined)) { issued = issued_by x.eui g } in
       was_set false w new _ trace h nodes b room (let few = b.nodes in omega (arith, few, same)) (λ running. two)
       (depots ∙ (λ i. depot_by network w number x (record granting { answer = sym first.answer_is i }))
-      ∙ ap (λ (v : World). Ok (provisioned network v number x g)) (told_quiet (set_up w) 0 granting (Ok g) between first)
-      ∙ ap (λ (v : World). Ok (v, trace)) (told_quiet (record (set_up w) { nodes = between }) number d answer nodes did)) spoken is
+      ∙ ap (λ (v : World). Ok (provisioned network v number x g)) (after_quiet (set_up w) 0 granting (Ok g) between first)
+      ∙ ap (λ (v : World). Ok (v, trace)) (after_quiet (record (set_up w) { nodes = between }) number d answer nodes did)) spoken is
 
 -- # near
 
@@ -368,8 +368,8 @@ module _ (w : World) (a b cost : ℕ) (x y : Node) (p q : ℕ) (may : MayMeet w 
       ∙ (λ i. if apart i || may.room i then Err faults.Setup
       else Ok (world_after network (world_after network (set_up w) a (offered_near x q cost w.clock)) b (offered_near y p cost w.clock), trace))
       ∙ ap (λ (v : World). Ok (world_after network v b (offered_near y p cost w.clock), trace))
-      (told_quiet (set_up w) a (offered_near x q cost w.clock) tt between (quietly (λ _. tt) d1 w.nodes a one nothing between did1))
-      ∙ ap (λ (v : World). Ok (v, trace)) (told_quiet (record (set_up w) { nodes = between }) b (offered_near y p cost w.clock) tt nodes
+      (after_quiet (set_up w) a (offered_near x q cost w.clock) tt between (quietly (λ _. tt) d1 w.nodes a one nothing between did1))
+      ∙ ap (λ (v : World). Ok (v, trace)) (after_quiet (record (set_up w) { nodes = between }) b (offered_near y p cost w.clock) tt nodes
       (quietly (λ _. tt) d2 between b two nothing nodes did2))) spoken is
 
 -- # coordinator, meter
@@ -403,7 +403,7 @@ was_made w new step x nodes h b room few uncut are made spoken is =
       gives = record {
         trace = trace_of (happened w said.Made);
         taken = made ∙ (λ i. Ok (one_node_more w (sym are i), trace_of (happened w said.Made))) ∙ (λ i. Ok (sym is i, trace_of (happened w said.Made)));
-        told = spoken;
+        reported = spoken;
       };
       memory = tt;
       bounds = subst IsBounded (sym is)

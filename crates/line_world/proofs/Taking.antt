@@ -127,8 +127,8 @@ second_not_found takes w number at other k fault bounds first is =
     (not_found takes w other (k there.node) fault bounds is)
 
 -- what is told of the node of the number that was found, of that node
-pub told_of : {w : World} {number found : ℕ} (there : IsThere w number found) (P : Node → Type 0) → IfSome (slice_get w.nodes found) P → P there.node
-told_of {w} {number} {found} there P is = subst (λ (o : Option Node). IfSome o P) (ap (λ n. slice_get w.nodes n) there.same ∙ there.at) is
+pub holds_there : {w : World} {number found : ℕ} (there : IsThere w number found) (P : Node → Type 0) → IfSome (slice_get w.nodes found) P → P there.node
+holds_there {w} {number} {found} there P is = subst (λ (o : Option Node). IfSome o P) (ap (λ n. slice_get w.nodes n) there.same ∙ there.at) is
 
 -- a node that was found and has an address
 pub addressed : {w : World} {number found : ℕ} (there : IsThere w number found) (address : ℕ)
@@ -136,7 +136,7 @@ pub addressed : {w : World} {number found : ℕ} (there : IsThere w number found
     → has_address w number ≡ true
 addressed {w} {number} {found} there address at =
     ap (λ (o : Option Node). option_map_or (λ (x : Node). is_some (node_address x)) o false) there.at
-    ∙ ap (λ (o : Option ℕ). is_some o) (sym (told_of there (λ (x : Node). ◌≡◌ {A = Option ℕ} (Some address) (node_address x)) at))
+    ∙ ap (λ (o : Option ℕ). is_some o) (sym (holds_there there (λ (x : Node). ◌≡◌ {A = Option ℕ} (Some address) (node_address x)) at))
 
 -- # What a node's step makes of the world
 
@@ -150,11 +150,11 @@ abbrev pub after : World → ℕ → List Node → Out → World
 after w number nodes out =
     record w { nodes = nodes; flights = w.flights ++ map (flight_by number) out.frames; made = w.made ++ out.tags.made }
 
-pub told_as : {A : Type 0} (w : World) (number : ℕ) (d : NodeStep A) (nodes : List Node) (out : Out) → out ≡ given_by d
+pub after_is : {A : Type 0} (w : World) (number : ℕ) (d : NodeStep A) (nodes : List Node) (out : Out) → out ≡ given_by d
     → nodes ≡ slice_set w.nodes number d.node
     → world_after network w number d ≡ after w number nodes out
 unfolding world_after
-told_as w number d nodes out o n =
+after_is w number d nodes out o n =
     let frames : flights_of network number d
     ≡ map (flight_by number) out.frames = flown number d.frames ∙ ap (λ (x : Out). map (flight_by number) x.frames) (sym o) in
     let tags : d.made ≡ out.tags.made = ap (λ (x : Out). x.tags.made) (sym o) in
@@ -195,7 +195,7 @@ node_acted takes w new {number} {found} there k word answer out nodes h b room f
     let d : Did (k x) w.nodes found answer out nodes = subst (λ o. IfSome o (λ y. Did (k y) w.nodes found answer out nodes)) at did in
     let left : world_after network (ran w) number (answering word (k x)) ≡ new =
     ap (λ n. world_after network (ran w) n (answering word (k x))) (sym there.same)
-    ∙ told_as (ran w) found (answering word (k x)) nodes out d.out_is d.nodes_are
+    ∙ after_is (ran w) found (answering word (k x)) nodes out d.out_is d.nodes_are
     ∙ sym is in
     let count : length out.frames ≡ length (k x).frames = ap (λ (o : Out). length o.frames) d.out_is ∙ many_given (spelled network) (k x).frames in
     let same : length nodes ≡ length w.nodes = ap (λ (ns : List Node). length ns) d.nodes_are ∙ length-set w.nodes found (k x).node in
@@ -203,7 +203,7 @@ node_acted takes w new {number} {found} there k word answer out nodes h b room f
       gives = record {
         trace = spoken w (answering word (k x));
         taken = λ i. Ok (left i, spoken w (answering word (k x)));
-        told = said ∙ (λ i. record (happened w (word (d.answer_is i))) { flights = count i });
+        reported = said ∙ (λ i. record (happened w (word (d.answer_is i))) { flights = count i });
       };
       memory = by takes;
       bounds = subst IsBounded (sym is) (bounded_after w found nodes out b room same frames tags);
@@ -255,7 +255,7 @@ bounded_by w clock nodes flights b room time same flown = record {
 pub is_taken_so : (takes : Bool) (w new : World) (step : Step) (trace : Trace) (h : Happenings) → step ≡ Ok (new, trace) → h ≡ trace.happened → IsBounded new
     → Steps takes w (Ok h) new step
 is_taken_so takes w new step trace h taken said bounds =
-    record { gives = record { trace = trace; taken = taken; told = said }; memory = by takes; bounds = bounds }
+    record { gives = record { trace = trace; taken = taken; reported = said }; memory = by takes; bounds = bounds }
   where
     by : (t : Bool) → HasMemory t (Ok h)
     by true = tt

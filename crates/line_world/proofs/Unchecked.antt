@@ -116,9 +116,9 @@ module _ (x : Reaching Memory) (none : HasNoChecks x.beside) where
       by_test true = none
       by_test false = left
 
-  told_one : (to code : ℕ) (body : List ℕ) → HasNoChecks (adds_local to code body (empty_draft x)).memory.beside
+  local_unchecked : (to code : ℕ) (body : List ℕ) → HasNoChecks (adds_local to code body (empty_draft x)).memory.beside
   unfolding adds_local empty_draft
-  told_one to code body = none
+  local_unchecked to code body = none
 
   -- a broadcast
   numbered : (body : List ℕ) → HasNoChecks (adds_local to_all 4 body (with_broadcast_number (empty_draft x))).memory.beside
@@ -141,7 +141,7 @@ module _ (x : Reaching Memory) (none : HasNoChecks x.beside) where
       by_hop : (own : ℕ) (hop : Option ℕ) → Left (asks_hop in_memory x own target hop)
       by_hop own None = rests (Unit {0}) ask_ends asks.NoRoute
       by_hop own (Some hop) = seals ask_ends (adds_local hop 5 (path_spelling (Ask target (own ∷ []))) (empty_draft x)) tt
-          (told_one hop 5 (path_spelling (Ask target (own ∷ []))))
+          (local_unchecked hop 5 (path_spelling (Ask target (own ∷ []))))
 
       by_address : (o : Option ℕ) → Left (option_map_or (λ own. asks_from in_memory x own target) o (refused ask_ends x asks.NotJoined))
       by_address None = rests (Unit {0}) ask_ends asks.NotJoined
@@ -195,9 +195,9 @@ module _ (x : Reaching Memory) (none : HasNoChecks x.beside) where
   follows_left : (o : Result PathStep PathRefusal) → Left (follows_path in_memory x o)
   follows_left (Err reason) = drops_it (path_word reason)
   follows_left (Ok (Forward to message)) =
-      seals reach_ends (adds_local to 5 (path_spelling message) (empty_draft x)) heard_of.Relayed (told_one to 5 (path_spelling message))
+      seals reach_ends (adds_local to 5 (path_spelling message) (empty_draft x)) heard_of.Relayed (local_unchecked to 5 (path_spelling message))
   follows_left (Ok (Answer to message)) =
-      seals reach_ends (adds_local to 5 (path_spelling message) (empty_draft x)) heard_of.Answered (told_one to 5 (path_spelling message))
+      seals reach_ends (adds_local to 5 (path_spelling message) (empty_draft x)) heard_of.Answered (local_unchecked to 5 (path_spelling message))
   follows_left (Ok (Done walk)) = keeps (heard_of.Path walk)
 
   paths_left : (own from : ℕ) (o : Option PathMessage) → Left (hear_path_in in_memory x own from o)
@@ -262,22 +262,22 @@ Kept (Ok r) = NoneChecked r.0
 Kept (Err fault) = Unit {0}
 
 module _ (ciphers : Ciphers) where
-  told_in : {A : Type 0} (v : World) (number : ℕ) (d : NodeStep A) → NoneChecked v → NoneChecked (world_after ciphers v number d)
+  after_unchecked : {A : Type 0} (v : World) (number : ℕ) (d : NodeStep A) → NoneChecked v → NoneChecked (world_after ciphers v number d)
   unfolding world_after
-  told_in v number d k = k
+  after_unchecked v number d k = k
 
   set_in : (v : World) (number : ℕ) (b : Beside) → NoneChecked v → (v.checks_on ≡ false → HasNoChecks b) → NoneChecked (set_beside number b v)
   set_in v number b k l = λ off. All-set HasNoChecks v.beside number b (l off) (k off)
 
-  told_both : {A : Type 0} (v : World) (number : ℕ) (d : NodeStep A) (b : Beside) → NoneChecked v → (v.checks_on ≡ false → HasNoChecks b)
+  both_unchecked : {A : Type 0} (v : World) (number : ℕ) (d : NodeStep A) (b : Beside) → NoneChecked v → (v.checks_on ≡ false → HasNoChecks b)
       → NoneChecked (set_beside number b (world_after ciphers v number d))
   unfolding world_after
-  told_both v number d b k l = set_in v number b k l
+  both_unchecked v number d b k l = set_in v number b k l
 
   reached_in : {A : Type 0} (v : World) (number : ℕ) (x : Node) (halted : A) (plan : Reaching Memory → Plan (Reaching Memory) A) (d : NodeStep A)
       → NoneChecked v → ((m : Memory) (b : Beside) → HasNoChecks b → Left (plan (record { memory = m; beside = b })))
       → NoneChecked (has_reached ciphers v number x halted plan d)
-  reached_in v number x halted plan d k does = told_both v number d (beside_after x (beside_at v number) plan d.node) k
+  reached_in v number x halted plan d k does = both_unchecked v number d (beside_after x (beside_at v number) plan d.node) k
       (λ off. let none = none_at v.beside number (k off) in left_none x (beside_at v number) plan d.node none (λ m. does m (beside_at v number) none))
 
 module _ (ciphers : Ciphers) (w : World) (h : NoneChecked w) where
@@ -311,7 +311,7 @@ module _ (ciphers : Ciphers) (w : World) (h : NoneChecked w) where
 
   -- one node acts
   acts_in : {A : Type 0} (number : ℕ) (d : NodeStep A) → NoneChecked (world_after ciphers (ran w) number d)
-  acts_in number d = told_in ciphers (ran w) number d h
+  acts_in number d = after_unchecked ciphers (ran w) number d h
 
   -- # Setup
 
@@ -331,8 +331,8 @@ module _ (ciphers : Ciphers) (w : World) (h : NoneChecked w) where
   depot_by_in number x d = by_answer d.answer refl
     where
       by_answer : (r : Result Granted CoordinatorRefusal) → d.answer ≡ r → Kept (depot_by ciphers w number x d)
-      by_answer (Ok g) e = rw e (told_in ciphers (world_after ciphers (set_up w) 0 d) number (acts x (Ok tt) (λ m. meters.provision m g))
-          (told_in ciphers (set_up w) 0 d h))
+      by_answer (Ok g) e = rw e (after_unchecked ciphers (world_after ciphers (set_up w) 0 d) number (acts x (Ok tt) (λ m. meters.provision m g))
+          (after_unchecked ciphers (set_up w) 0 d h))
       by_answer (Err reason) e = rw e tt
 
   depot_in : (number : ℕ) → Kept (depot ciphers w number)
@@ -345,14 +345,14 @@ module _ (ciphers : Ciphers) (w : World) (h : NoneChecked w) where
   near_by_in a b cost x y None q = tt
   near_by_in a b cost x y (Some p) None = tt
   near_by_in a b cost x y (Some p) (Some q) = branch ((a == b) || (keeps_rank x q || (ranks_full x || ranks_full y))) _ _ tt
-      (told_in ciphers _ b _ (told_in ciphers (set_up w) a _ h))
+      (after_unchecked ciphers _ b _ (after_unchecked ciphers (set_up w) a _ h))
 
   near_in : (a b cost : ℕ) → Kept (near ciphers w a b cost)
   unfolding near
   near_in a b cost = setup _ (at_node a _ (λ x. at_node b _ (λ y. near_by_in a b cost x y (node_address x) (node_address y))))
 
   preset_in : (number : ℕ) (plan : _) → Kept (preset ciphers w number plan)
-  preset_in number plan = setup _ (at_node number _ (λ x. told_in ciphers (set_up w) number _ h))
+  preset_in number plan = setup _ (at_node number _ (λ x. after_unchecked ciphers (set_up w) number _ h))
 
   checks_in : Kept (checks w)
   unfolding checks
@@ -553,8 +553,8 @@ module _ (ciphers : Ciphers) (w : World) (h : NoneChecked w) where
   restarted_none (Err bad) b e = absurd (cc (e))
 
   restarts_in : (number : ℕ) (x : Node) (o : Result Beside BadStore) → restarted x.store.records ≡ o → NoneChecked (restarts_by ciphers w number x o).0
-  restarts_in number x (Ok b) e = told_both ciphers (ran w) number _ b h (λ off. restarted_none (logs.opened x.store.records) b e)
-  restarts_in number x (Err bad) e = told_both ciphers (ran w) number _ nothing_beside h (λ off. refl)
+  restarts_in number x (Ok b) e = both_unchecked ciphers (ran w) number _ b h (λ off. restarted_none (logs.opened x.store.records) b e)
+  restarts_in number x (Err bad) e = both_unchecked ciphers (ran w) number _ nothing_beside h (λ off. refl)
 
   restart_in : (number : ℕ) → Kept (restarts_further ciphers w number)
   unfolding restarts_further

@@ -16,7 +16,7 @@ use Rattle.node_rules.specs.Memory.{Node}
 use Rattle.node_rules.specs.NodeSteps.{NodeStep}
 use Rattle.line_flights.specs.declared.flights.Origin.{Origin}
 use Rattle.line_world.specs.declared.nodes.reception.HandedUp.{HandedUp}
-use Rattle.line_world.specs.declared.nodes.reception.Reception as telling
+use Rattle.line_world.specs.declared.nodes.reception.Reception as receiving
 use Rattle.line_world.specs.Reaching.{given_after}
 use Rattle.line_events.specs.declared.happenings.Handed.{Handed}
 use Rattle.line_events.specs.declared.happenings.Happenings.{Happenings}
@@ -118,22 +118,22 @@ abbrev pub done_in : World → Option Eui → Option ℕ
 done_in w done = option_map (λ (eui : Eui). number_of w eui) done
 
 -- what is left of a frame that a node heard, by what the node answered and gave out
-abbrev pub left_of : World → ℕ → Out → Bool → telling.Reception → World
-left_of w number out forged told = record (ran w) {
+abbrev pub left_of : World → ℕ → Out → Bool → receiving.Reception → World
+left_of w number out forged reported = record (ran w) {
   flights = w.flights ++ map (flight_by number) out.frames;
   made = w.made ++ out.tags.made;
-  ups = number_if (is_some told.up) w.ups;
+  ups = number_if (is_some reported.up) w.ups;
   forged = number_if forged w.forged;
-  done = number_if (is_some told.done) w.done;
+  done = number_if (is_some reported.done) w.done;
 }
 
 -- what is said of it
-abbrev pub said_of : World → ℕ → Out → Bool → telling.Reception → Happenings
-said_of w number out forged told = record (happened w told.answer) {
+abbrev pub said_of : World → ℕ → Out → Bool → receiving.Reception → Happenings
+said_of w number out forged reported = record (happened w reported.answer) {
   forged = forged;
-  up = handed_in number told.up;
-  took = taker_in number told.took;
-  done = done_in w told.done;
+  up = handed_in number reported.up;
+  took = taker_in number reported.took;
+  done = done_in w reported.done;
   flights = length out.frames;
 }
 

@@ -48,10 +48,10 @@ abbrev pub broadcast_of : BroadcastRef → Broadcast
 broadcast_of b = record { hops = b.hops; origin = b.origin; number = b.number; octets = b.octets }
 
 -- What is reported of a command is what its rule says.
-pub record ReportsCommand (told : Commanded) (number : ℕ) (r : Result CommandHeard ReachDropped) : Type 0 where
-  pub answer : told.answer ≡ command_word r
-  pub bup : told.bup ≡ broadcast_up number r
-  pub path : told.path ≡ path_line number r
+pub record ReportsCommand (reported : Commanded) (number : ℕ) (r : Result CommandHeard ReachDropped) : Type 0 where
+  pub answer : reported.answer ≡ command_word r
+  pub bup : reported.bup ≡ broadcast_up number r
+  pub path : reported.path ≡ path_line number r
 
 -- what a node made of a path message, as its rule says it
 abbrev pub path_heard : PathHeard → CommandHeard
@@ -113,10 +113,10 @@ pub record ReachesFirst {A : Type 0} (old : State StationMemory) (b : Beside) (h
 
 -- A station heard a command, and this is reported of it.
 pub record ReachesCommand (old : State StationMemory) (b : Beside)
-    (plan : Reaching StationMemory → Plan (Reaching StationMemory) (Result CommandHeard ReachDropped)) (told : Commanded)
+    (plan : Reaching StationMemory → Plan (Reaching StationMemory) (Result CommandHeard ReachDropped)) (reported : Commanded)
     (number : ℕ) (before out : Out) (new : State StationMemory) (c : Beside) : Type 0 where
   pub answer : Result CommandHeard ReachDropped
-  pub reports : ReportsCommand told number answer
+  pub reports : ReportsCommand reported number answer
   pub reaches : Reaches old b (Err (Known Store)) plan answer before out new c
 
 -- # Nodes
@@ -160,16 +160,16 @@ pub record TookAfter {A : Type 0} (x : Node) (b : Beside) (halted : A)
   pub beside : c ≡ beside_after x b plan (reaches x b halted plan).node
 
 -- A node heard a command, and this is reported of it.
-pub record ReachedCommand (x : Node) (b : Beside) (c : NeighbourCommand) (old : List Node) (number : ℕ) (told : Commanded)
+pub record ReachedCommand (x : Node) (b : Beside) (c : NeighbourCommand) (old : List Node) (number : ℕ) (reported : Commanded)
     (before out : Out) (new : List Node) (left : Beside) : Type 0 where
-  pub reports : ReportsCommand told number (reaches x b (Err (Known Store)) (λ y. hear_command in_memory y c)).answer
+  pub reports : ReportsCommand reported number (reaches x b (Err (Known Store)) (λ y. hear_command in_memory y c)).answer
   pub reached : Reached x b (Err (Known Store)) (λ y. hear_command in_memory y c) old number
       (reaches x b (Err (Known Store)) (λ y. hear_command in_memory y c)).answer before out new left
 
 -- The coordinator did.
-pub record TookCommand (x : Node) (b : Beside) (c : NeighbourCommand) (told : Commanded) (before out : Out) (node : Node)
+pub record TookCommand (x : Node) (b : Beside) (c : NeighbourCommand) (reported : Commanded) (before out : Out) (node : Node)
     (left : Beside) : Type 0 where
-  pub reports : ReportsCommand told 0 (reaches x b (Err (Known Store)) (λ y. hear_command in_memory y c)).answer
+  pub reports : ReportsCommand reported 0 (reaches x b (Err (Known Store)) (λ y. hear_command in_memory y c)).answer
   pub took : TookAfter x b (Err (Known Store)) (λ y. hear_command in_memory y c)
       (reaches x b (Err (Known Store)) (λ y. hear_command in_memory y c)).answer before out node left
 

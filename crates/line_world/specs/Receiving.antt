@@ -30,14 +30,14 @@ abbrev pub handed_up : rules.Up → HandedUp
 handed_up u = record { note = u.note; octets = u.octets }
 
 -- The word and what is reported beside it are those of the reception.
-pub record ReportsReception (told : Reception) (r : rules.Reception) : Type 0 where
-  pub answer : told.answer ≡ r.answer
-  pub up : told.up ≡ option_map handed_up r.up
-  pub took : told.took ≡ is_some r.took
-  pub done : told.done ≡ option_map (λ (d : rules.CompletedJoining). d.eui) r.done
+pub record ReportsReception (reported : Reception) (r : rules.Reception) : Type 0 where
+  pub answer : reported.answer ≡ r.answer
+  pub up : reported.up ≡ option_map handed_up r.up
+  pub took : reported.took ≡ is_some r.took
+  pub done : reported.done ≡ option_map (λ (d : rules.CompletedJoining). d.eui) r.done
 
 -- The node of this number heard a frame.
-pub record Received (step : NodeStep rules.Reception) (old : List Node) (number : ℕ) (told : Reception)
+pub record Received (step : NodeStep rules.Reception) (old : List Node) (number : ℕ) (reported : Reception)
     (out : Out) (new : List Node) : Type 0 where
-  pub reports : ReportsReception told step.answer
+  pub reports : ReportsReception reported step.answer
   pub did : Did step old number step.answer out new

@@ -15,7 +15,7 @@ use Rattle.line_world.specs.Bounds.{IsBounded}
 pub record Takes (happened : Happenings) (new : World) (step : Step) : Type 0 where
   pub trace : Trace
   pub taken : step ≡ Ok (new, trace)
-  pub told : happened ≡ trace.happened
+  pub reported : happened ≡ trace.happened
 
 -- What a call answered is what the step says, or memory ran out for an event that the rules take. After a fault nothing has changed.
 abbrev pub Gives : World → Result Happenings StepFault → World → Step → Type 0

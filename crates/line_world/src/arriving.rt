@@ -138,19 +138,19 @@ impl Line {
     }
 
     // Counts what came of a frame.
-    fn count(&mut self, told: &Reception<'_>, forged: bool)
+    fn count(&mut self, reported: &Reception<'_>, forged: bool)
         requires ups { self.old.ups < MAX_EVENTS }
         requires forged { self.old.forged < MAX_EVENTS }
         requires done { self.old.done < MAX_EVENTS }
         ensures { self.new ≡ record self.old {
-          ups = rules.number_if (is_some told.now.up) self.old.ups;
+          ups = rules.number_if (is_some reported.now.up) self.old.ups;
           forged = rules.number_if forged self.old.forged;
-          done = rules.number_if (is_some told.now.done) self.old.done;
+          done = rules.number_if (is_some reported.now.done) self.old.done;
         } }
     {
-        self.ups += u32::from(told.up.is_some());
+        self.ups += u32::from(reported.up.is_some());
         self.forged += u32::from(forged);
-        self.done += u32::from(told.done.is_some());
+        self.done += u32::from(reported.done.is_some());
     }
 
     // What a frame led to, for the world and for the report.
@@ -158,29 +158,29 @@ impl Line {
         &mut self,
         node: usize,
         forged: bool,
-        told: &Reception<'a>,
+        reported: &Reception<'a>,
     ) -> Happenings<'a>
         requires room { HasRoom self.old }
         requires node { node < 1000 }
         requires bounds { IsBounded (in_run (world_of self.old)) }
         requires events { self.old.events < MAX_EVENTS }
-        ensures world { world_of self.new ≡ left_of (world_of self.old) node self.old.out forged told.now }
-        ensures told { result ≡ said_of (world_of self.old) node self.old.out forged told.now }
+        ensures world { world_of self.new ≡ left_of (world_of self.old) node self.old.out forged reported.now }
+        ensures reported { result ≡ said_of (world_of self.old) node self.old.out forged reported.now }
         ensures frames { length self.old.out.frames ≤ MOST_FRAMES }
         ensures tags { length self.old.out.tags.made ≤ 2 }
     {
-        let done = self.number_done(told.done);
-        let happened = self.acted(node, told.answer);
-        self.count(told, forged);
+        let done = self.number_done(reported.done);
+        let happened = self.acted(node, reported.answer);
+        self.count(reported, forged);
         Happenings {
-            answer: told.answer,
+            answer: reported.answer,
             forged,
-            up: handed(node, &told.up),
+            up: handed(node, &reported.up),
             bup: None,
             agent: None,
             path: None,
             grant: None,
-            took: taker(node, told.took),
+            took: taker(node, reported.took),
             done,
             shown: None,
             first_flight: happened.first_flight,
@@ -205,7 +205,7 @@ impl Line {
         ensures { IfSome (slice_get self.old.nodes node) (λ x. Steps true (world_of self.old) (Ok result)
             (world_of self.new) (Ok (hears_so network (world_of self.old) node x got.now origin cost))) }
     {
-        let told = self.nodes.hear(
+        let reported = self.nodes.hear(
             node,
             got,
             cost,
@@ -215,7 +215,7 @@ impl Line {
             &mut self.out,
         );
         let forged = self.is_forged(origin);
-        self.received(node, forged, &told)
+        self.received(node, forged, &reported)
     }
 
     // What becomes of octets that a node looked at: a refused frame leads to nothing.

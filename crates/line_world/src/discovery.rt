@@ -87,7 +87,7 @@ impl Line {
         requires events { self.old.events < MAX_EVENTS }
         requires there { node < length self.old.nodes }
         ensures world { world_of self.new ≡ flies_in (world_of self.old) node (Some frame.now) }
-        ensures told { result ≡ record (rules.happened (world_of self.old) answer) { flights = 1 } }
+        ensures reported { result ≡ record (rules.happened (world_of self.old) answer) { flights = 1 } }
     {
         give_out(frame, &mut self.out);
         self.acted(node, answer)

@@ -286,14 +286,14 @@ impl Line {
     {
         self.out.clear();
         let forged = self.is_forged(origin);
-        let told = Reception {
+        let reported = Reception {
             answer: Answer::Blacklisted,
             up: None,
             took: false,
             done: None,
             replied: None,
         };
-        self.received(node, forged, &told)
+        self.received(node, forged, &reported)
     }
 
     // A node hears a command for its neighbours.
@@ -317,7 +317,7 @@ impl Line {
         ensures { IfSome (slice_get self.old.nodes node) (λ x. Steps true (world_of self.old) (Ok result) (world_of self.new)
             (Ok (heard_so network (world_of self.old) node x got.now origin cost (Some (reaching.command_of command.now))))) }
     {
-        let told = self.nodes.hear(
+        let reported = self.nodes.hear(
             node,
             got,
             cost,
@@ -334,7 +334,7 @@ impl Line {
             &mut self.body,
             &mut self.out,
         );
-        let happened = self.received(node, forged, &told);
+        let happened = self.received(node, forged, &reported);
         Happenings {
             answer: commanded.answer,
             forged,
@@ -409,7 +409,7 @@ impl Line {
         ensures { IfSome (slice_get self.old.nodes node) (λ x. Steps true (world_of self.old) (Ok result) (world_of self.new)
             (Ok (checked_so network (world_of self.old) node x got.now origin cost))) }
     {
-        let told = self.nodes.hear(
+        let reported = self.nodes.hear(
             node,
             got,
             cost,
@@ -419,11 +419,11 @@ impl Line {
             &mut self.out,
         );
         let forged = self.is_forged(origin);
-        if !self.acknowledged(node, due(&got.path, message, told.answer)) {
+        if !self.acknowledged(node, due(&got.path, message, reported.answer)) {
             return self.received(node, forged, &failed());
         }
-        self.begin_check(node, reply_of(message, told.replied));
-        self.received(node, forged, &told)
+        self.begin_check(node, reply_of(message, reported.replied));
+        self.received(node, forged, &reported)
     }
 
     // A frame that carries no command for the neighbours, where these are checked.

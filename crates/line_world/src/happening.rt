@@ -62,7 +62,7 @@ impl Line {
         requires events { self.old.events < MAX_EVENTS }
         requires flights { length self.old.flights.flights < u32.MAX }
         ensures line { self.new ≡ record self.old { events = self.old.events + 1; running = true } }
-        ensures told { result ≡ rules.happened (world_of self.old) answer }
+        ensures reported { result ≡ rules.happened (world_of self.old) answer }
     {
         self.ran();
         self.happened(answer)
@@ -115,7 +115,7 @@ impl Line {
           flights = self.old.flights.flights ++ map (rules.flight_by node) self.old.out.frames;
           made = self.old.made.tags ++ self.old.out.tags.made;
         } }
-        ensures told { result ≡ record (rules.happened (world_of self.old) answer) {
+        ensures reported { result ≡ record (rules.happened (world_of self.old) answer) {
           flights = length self.old.out.frames;
         } }
         ensures frames { length self.old.out.frames ≤ MOST_FRAMES }

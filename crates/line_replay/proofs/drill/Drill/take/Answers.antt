@@ -17,20 +17,20 @@ returns-in-Ok c =
 pub returns-in-Err-Setup : goal.returns-in-Err-Setup
 returns-in-Err-Setup c =
     let d : Drilling = record { world = c.self.inside.world; drained = c.self.inside.drained } in
-    let told = rw c.in-Err-Setup.field-0-is at c.in-Err-Setup.ensures.step in
+    let reported = rw c.in-Err-Setup.field-0-is at c.in-Err-Setup.ensures.step in
     rw (← c.self.view_is) (is_after c.args.event.now d c.step.new.self (omega (arith, c.counts.ensures.events, c.if-counts-ge-MAX_EVENTS.false))
-    (ap (world_by c.self.inside.world) told.0 ∙ sym told.1))
+    (ap (world_by c.self.inside.world) reported.0 ∙ sym reported.1))
 
 pub returns-in-Err-Node : goal.returns-in-Err-Node
 returns-in-Err-Node c =
     let d : Drilling = record { world = c.self.inside.world; drained = c.self.inside.drained } in
-    let told = rw c.in-Err-Node.field-0-is at c.in-Err-Node.ensures.step in
+    let reported = rw c.in-Err-Node.field-0-is at c.in-Err-Node.ensures.step in
     rw (← c.self.view_is) (is_after c.args.event.now d c.step.new.self (omega (arith, c.counts.ensures.events, c.if-counts-ge-MAX_EVENTS.false))
-    (ap (world_by c.self.inside.world) told.0 ∙ sym told.1))
+    (ap (world_by c.self.inside.world) reported.0 ∙ sym reported.1))
 
 pub returns-in-Err-Flight : goal.returns-in-Err-Flight
 returns-in-Err-Flight c =
     let d : Drilling = record { world = c.self.inside.world; drained = c.self.inside.drained } in
-    let told = rw c.in-Err-Flight.field-0-is at c.in-Err-Flight.ensures.step in
+    let reported = rw c.in-Err-Flight.field-0-is at c.in-Err-Flight.ensures.step in
     rw (← c.self.view_is) (is_after c.args.event.now d c.step.new.self (omega (arith, c.counts.ensures.events, c.if-counts-ge-MAX_EVENTS.false))
-    (ap (world_by c.self.inside.world) told.0 ∙ sym told.1))
+    (ap (world_by c.self.inside.world) reported.0 ∙ sym reported.1))

@@ -14,7 +14,7 @@ use Rattle.line_rules.specs.Steps.{activate, by_coordinator, happened}
 use Rattle.line_rules.specs.Worlds.{World}
 use Rattle.line_world.specs.Lines.{world_of}
 use Rattle.line_world.proofs.Taking.{IsThere, steps_as, begun, is_there, node_acted, node_answered, not_found, has_coordinator, unreserved, taking}
-use Rattle.line_world.proofs.Orders.{Runs, about_node, first_there, is_some_meter, of_found, reserved, still_runs, told_with}
+use Rattle.line_world.proofs.Orders.{Runs, about_node, first_there, is_some_meter, of_found, reserved, still_runs, said_with}
 use Rattle.line_world.proofs.line.Line.activate.Goals as goal
 
 pub returns-in_err-number : goal.returns-in_err-number
@@ -56,7 +56,7 @@ returns-then-number-eq0 c =
     steps_as _ _ (activates_self r there c.args.index c.if-number-eq0.true)
     (node_answered (not (c.args.node == 0)) w _ (first_there w r.begun) (λ x. acts x (Err orders.Halted) (λ k. coordinators.activate_self k c.args.index))
     (ordered_word said.Activated) _ _ _
-    r.bounds r.room c.activate_self-done.ensures (c.answered.ensures.told ∙ ap (λ a. happened w a) c.ordered_word.ensures)
+    r.bounds r.room c.activate_self-done.ensures (c.answered.ensures.reported ∙ ap (λ a. happened w a) c.ordered_word.ensures)
     (ap world_of c.answered.ensures.line))
 
 pub returns-in_err-reserve : goal.returns-in_err-reserve
@@ -99,5 +99,5 @@ returns c =
     ∙ ap (λ e. Ok (by_coordinator network kept first.node said.Ordered (λ k. coordinators.activate k e c.args.index kept.clock))) (sym eui))
     (node_acted true kept _ first (λ x. acts x (Err orders.Halted) (λ k. coordinators.activate k c.eui-eui.result c.args.index kept.clock))
     (ordered_word said.Ordered) _ _ _ _
-    r.bounds r.room c.acted.ensures.frames c.acted.ensures.tags c.activate-done.ensures (told_with kept _ _ _ _ c.acted.ensures.told c.ordered_word-2.ensures)
+    r.bounds r.room c.acted.ensures.frames c.acted.ensures.tags c.activate-done.ensures (said_with kept _ _ _ _ c.acted.ensures.reported c.ordered_word-2.ensures)
     c.acted.ensures.world)))

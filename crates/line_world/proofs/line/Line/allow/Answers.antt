@@ -68,7 +68,7 @@ returns-in-Ok c =
     let same = m.there.same in
     steps_as _ _ (allow_is r m eui psk eui_is psk_is)
     (has_allowed w _ c.args.node (first_there w r.begun) (allows eui psk) (Ok c.in-Ok.address) _ _ r.bounds r.room c.in-Ok.ensures
-    (λ i. record (c.answered-happened.ensures.told i) { grant = Some (record { node = same i; address = c.in-Ok.address }) })
+    (λ i. record (c.answered-happened.ensures.reported i) { grant = Some (record { node = same i; address = c.in-Ok.address }) })
     (ap world_of c.answered-happened.ensures.line))
 
 pub returns-in-Err : goal.returns-in-Err
@@ -87,4 +87,4 @@ returns-in-Err c =
     let psk_is = of_found m.there (λ (x : Node). psk_of x ≡ Some psk) c.psk-psk.ensures in
     steps_as _ _ (allow_is r m eui psk eui_is psk_is)
     (has_allowed w _ c.args.node (first_there w r.begun) (allows eui psk) (Err c.in-Err.reason) _ _ r.bounds r.room c.in-Err.ensures
-    (c.answered.ensures.told ∙ ap (λ a. happened w a) c.order_word.ensures) (ap world_of c.answered.ensures.line))
+    (c.answered.ensures.reported ∙ ap (λ a. happened w a) c.order_word.ensures) (ap world_of c.answered.ensures.line))

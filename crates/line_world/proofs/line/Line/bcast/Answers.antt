@@ -17,7 +17,7 @@ use Rattle.line_world.specs.Lines.{world_of}
 use Rattle.line_world.specs.Reaching.{ReachedFirst}
 use Rattle.line_world.proofs.Besides.{node_reached}
 use Rattle.line_world.proofs.Calling.{bcast_at, beside_found, log_there}
-use Rattle.line_world.proofs.Orders.{Runs, reserved, still_runs, told_with, within_line}
+use Rattle.line_world.proofs.Orders.{Runs, reserved, still_runs, said_with, within_line}
 use Rattle.line_world.proofs.Taking.{IsThere, has_coordinator, is_there, not_found, steps_as, unreserved}
 use Rattle.line_world.proofs.line.Line.bcast.Goals as goal
 
@@ -88,5 +88,5 @@ returns c =
           (reaches there.node (beside_at kept c.args.node) (Err broadcasts.Halted) plan).answer;
     })
     (world_of c.acted.new.self) c.broadcast-sent.result c.broadcast-sent.new.out c.broadcast-sent.new.self c.broadcast-sent.new.beside c.acted.result
-    r.bounds r.room c.acted.ensures.frames c.acted.ensures.tags did (told_with kept _ _ _ _ c.acted.ensures.told c.broadcast_word.ensures)
+    r.bounds r.room c.acted.ensures.frames c.acted.ensures.tags did (said_with kept _ _ _ _ c.acted.ensures.reported c.broadcast_word.ensures)
     c.acted.ensures.world))

@@ -10,7 +10,7 @@ use Rattle.node_rules.specs.NodeSteps.{acts, changing}
 use Rattle.line_events.specs.declared.event.Answer.TheVariants as said
 use Rattle.line_rules.specs.Steps.{breaks, breaks_by, happened, trace_of}
 use Rattle.line_world.specs.Lines.{world_of}
-use Rattle.line_world.proofs.Taking.{steps_as, begun, at_node, is_there, told_of, node_said, only_ran, not_found, second_not_found, has_coordinator}
+use Rattle.line_world.proofs.Taking.{steps_as, begun, at_node, is_there, holds_there, node_said, only_ran, not_found, second_not_found, has_coordinator}
 use Rattle.line_world.proofs.line.Line.breaks.Goals as goal
 
 pub returns-in_err-number : goal.returns-in_err-number
@@ -37,8 +37,8 @@ returns-in_default c =
     let next = is_there w c.args.next c.in_ok-next.next c.in_ok-next.ensures in
     steps_as _ _ (begun w _ (has_coordinator (world_of c.args.self.now) c.args.node c.in_ok-number.number c.in_ok-number.ensures)
     ∙ at_node w c.args.node there.node _ there.at ∙ at_node w c.args.next next.node _ next.at
-    ∙ ap (λ a. Ok (breaks_by network w c.args.node there.node a)) (sym (told_of next (λ y. None ≡ node_address y) c.in_default.ensures)))
-    (only_ran false w _ (trace_of (happened w said.NoAddress)) _ c.requires.bounds c.requires.events c.answered.ensures.told
+    ∙ ap (λ a. Ok (breaks_by network w c.args.node there.node a)) (sym (holds_there next (λ y. None ≡ node_address y) c.in_default.ensures)))
+    (only_ran false w _ (trace_of (happened w said.NoAddress)) _ c.requires.bounds c.requires.events c.answered.ensures.reported
     (ap world_of c.answered.ensures.line))
 
 pub broke-answer-requires : goal.broke-answer-requires
@@ -52,6 +52,6 @@ returns c =
     let next = is_there w c.args.next c.in_ok-next.next c.in_ok-next.ensures in
     steps_as _ _ (begun w _ (has_coordinator (world_of c.args.self.now) c.args.node c.in_ok-number.number c.in_ok-number.ensures)
     ∙ at_node w c.args.node there.node _ there.at ∙ at_node w c.args.next next.node _ next.at
-    ∙ ap (λ a. Ok (breaks_by network w c.args.node there.node a)) (sym (told_of next (λ y. Some c.in-Some.address ≡ node_address y) c.in-Some.ensures)))
+    ∙ ap (λ a. Ok (breaks_by network w c.args.node there.node a)) (sym (holds_there next (λ y. Some c.in-Some.address ≡ node_address y) c.in-Some.ensures)))
     (node_said false w _ there (λ (x : Node). acts x said.Halted (λ m. changing said.Broken (with_station (calls.broke c.in-Some.address m.station) m))) _ _ _
-    c.requires.bounds c.requires.events c.broke-answer.ensures c.answered-2.ensures.told (ap world_of c.answered-2.ensures.line))
+    c.requires.bounds c.requires.events c.broke-answer.ensures c.answered-2.ensures.reported (ap world_of c.answered-2.ensures.line))

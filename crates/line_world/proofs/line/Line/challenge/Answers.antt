@@ -42,4 +42,4 @@ returns c =
     (λ x e k. coordinators.challenge x.eui k e (world_of c.reserve.new.self).clock)
     c.eui-eui.result c.challenge-done.result c.challenge-done.new.out c.challenge-done.new.self c.ordered_word.result c.acted.result refl c.eui-eui.ensures
     c.challenge-done.ensures c.acted.ensures.frames
-    c.acted.ensures.tags c.ordered_word.ensures c.acted.ensures.told c.acted.ensures.world
+    c.acted.ensures.tags c.ordered_word.ensures c.acted.ensures.reported c.acted.ensures.world

@@ -12,35 +12,35 @@ use Rattle.line_world.proofs.line.Line.checked.Goals as goal
 
 pub acknowledged-requires-clause-joined : goal.acknowledged-requires-clause-joined
 acknowledged-requires-clause-joined c =
-    joined_then (world_of c.args.self.now) c.hear-told.new.self c.args.node c.args.got.now c.args.origin c.args.cost c.hear-told.result c.hear-told.new.out
+    joined_then (world_of c.args.self.now) c.hear-reported.new.self c.args.node c.args.got.now c.args.origin c.args.cost c.hear-reported.result c.hear-reported.new.out
     c.args.message.now c.due.result
-    c.requires.there c.requires.accepted c.hear-told.ensures.received c.requires.message c.due.ensures.value
+    c.requires.there c.requires.accepted c.hear-reported.ensures.received c.requires.message c.due.ensures.value
 
 pub acknowledged-requires-clause-room : goal.acknowledged-requires-clause-room
 acknowledged-requires-clause-room c =
-    room_then (world_of c.args.self.now) c.hear-told.new.self c.args.node c.args.got.now c.args.origin c.args.cost c.hear-told.result c.hear-told.new.out
+    room_then (world_of c.args.self.now) c.hear-reported.new.self c.args.node c.args.got.now c.args.origin c.args.cost c.hear-reported.result c.hear-reported.new.out
     c.args.message.now c.due.result
-    c.requires.there c.requires.accepted c.hear-told.ensures.received c.requires.message c.due.ensures.value
+    c.requires.there c.requires.accepted c.hear-reported.ensures.received c.requires.message c.due.ensures.value
 
 pub received-requires-clause-bounds : goal.received-requires-clause-bounds
 received-requires-clause-bounds c =
-    bounds_then (world_of c.args.self.now) c.hear-told.new.self c.args.node c.args.got.now c.args.origin c.args.cost c.hear-told.result c.hear-told.new.out
+    bounds_then (world_of c.args.self.now) c.hear-reported.new.self c.args.node c.args.got.now c.args.origin c.args.cost c.hear-reported.result c.hear-reported.new.out
     c.args.message.now c.due.result
-    c.requires.there c.requires.accepted c.hear-told.ensures.received c.requires.message c.due.ensures.value
+    c.requires.there c.requires.accepted c.hear-reported.ensures.received c.requires.message c.due.ensures.value
     (world_of c.acknowledged.new.self) c.acknowledged.result c.acknowledged.new.self.out c.acknowledged.ensures.acknowledges c.requires.bounds
 
 pub received-requires-clause-events : goal.received-requires-clause-events
 received-requires-clause-events c =
-    events_then (world_of c.args.self.now) c.hear-told.new.self c.args.node c.args.got.now c.args.origin c.args.cost c.hear-told.result c.hear-told.new.out
+    events_then (world_of c.args.self.now) c.hear-reported.new.self c.args.node c.args.got.now c.args.origin c.args.cost c.hear-reported.result c.hear-reported.new.out
     c.args.message.now c.due.result
-    c.requires.there c.requires.accepted c.hear-told.ensures.received c.requires.message c.due.ensures.value
+    c.requires.there c.requires.accepted c.hear-reported.ensures.received c.requires.message c.due.ensures.value
     (world_of c.acknowledged.new.self) c.acknowledged.result c.acknowledged.new.self.out c.acknowledged.ensures.acknowledges c.requires.events
 
 pub begin_check-requires : goal.begin_check-requires
 begin_check-requires c =
-    let beside = beside_then (world_of c.args.self.now) c.hear-told.new.self c.args.node c.args.got.now c.args.origin c.args.cost c.hear-told.result
-    c.hear-told.new.out c.args.message.now c.due.result
-    c.requires.there c.requires.accepted c.hear-told.ensures.received c.requires.message c.due.ensures.value
+    let beside = beside_then (world_of c.args.self.now) c.hear-reported.new.self c.args.node c.args.got.now c.args.origin c.args.cost c.hear-reported.result
+    c.hear-reported.new.out c.args.message.now c.due.result
+    c.requires.there c.requires.accepted c.hear-reported.ensures.received c.requires.message c.due.ensures.value
     (world_of c.acknowledged.new.self) c.acknowledged.result c.acknowledged.new.self.out c.acknowledged.ensures.acknowledges in
     record {
       there = subst (λ (bs : List Beside). c.args.node < length bs) (sym beside)
@@ -50,29 +50,29 @@ begin_check-requires c =
 pub received-requires-2-clause-bounds : goal.received-requires-2-clause-bounds
 received-requires-2-clause-bounds c =
     checked_bounds (world_of c.acknowledged.new.self) (world_of c.begin_check.new.self) c.args.node c.reply_of.result c.begin_check.ensures.world
-    (bounds_then (world_of c.args.self.now) c.hear-told.new.self c.args.node c.args.got.now c.args.origin c.args.cost c.hear-told.result c.hear-told.new.out
+    (bounds_then (world_of c.args.self.now) c.hear-reported.new.self c.args.node c.args.got.now c.args.origin c.args.cost c.hear-reported.result c.hear-reported.new.out
     c.args.message.now c.due.result
-    c.requires.there c.requires.accepted c.hear-told.ensures.received c.requires.message c.due.ensures.value
+    c.requires.there c.requires.accepted c.hear-reported.ensures.received c.requires.message c.due.ensures.value
     (world_of c.acknowledged.new.self) c.acknowledged.result c.acknowledged.new.self.out c.acknowledged.ensures.acknowledges c.requires.bounds)
 
 pub received-requires-2-clause-events : goal.received-requires-2-clause-events
 received-requires-2-clause-events c =
     checked_events (world_of c.acknowledged.new.self) (world_of c.begin_check.new.self) c.args.node c.reply_of.result c.begin_check.ensures.world
-    (events_then (world_of c.args.self.now) c.hear-told.new.self c.args.node c.args.got.now c.args.origin c.args.cost c.hear-told.result c.hear-told.new.out
+    (events_then (world_of c.args.self.now) c.hear-reported.new.self c.args.node c.args.got.now c.args.origin c.args.cost c.hear-reported.result c.hear-reported.new.out
     c.args.message.now c.due.result
-    c.requires.there c.requires.accepted c.hear-told.ensures.received c.requires.message c.due.ensures.value
+    c.requires.there c.requires.accepted c.hear-reported.ensures.received c.requires.message c.due.ensures.value
     (world_of c.acknowledged.new.self) c.acknowledged.result c.acknowledged.new.self.out c.acknowledged.ensures.acknowledges c.requires.events)
 
 pub returns-then-not-acknowledged : goal.returns-then-not-acknowledged
 returns-then-not-acknowledged c =
-    unacknowledged_then (world_of c.args.self.now) c.hear-told.new.self c.args.node c.args.got.now c.args.origin c.args.cost c.hear-told.result
-    c.hear-told.new.out c.args.message.now c.due.result
-    c.requires.there c.requires.accepted c.hear-told.ensures.received c.requires.message c.due.ensures.value
+    unacknowledged_then (world_of c.args.self.now) c.hear-reported.new.self c.args.node c.args.got.now c.args.origin c.args.cost c.hear-reported.result
+    c.hear-reported.new.out c.args.message.now c.due.result
+    c.requires.there c.requires.accepted c.hear-reported.ensures.received c.requires.message c.due.ensures.value
     (world_of c.acknowledged.new.self) (world_of c.received.new.self) c.acknowledged.new.self.out c.is_forged-forged.result c.received.result c.requires.bounds
     c.requires.events
     c.received.ensures.frames c.received.ensures.tags c.is_forged-forged.ensures c.acknowledged.result c.if-not-acknowledged.true
     c.acknowledged.ensures.acknowledges
-    (c.received.ensures.told ∙ ap (λ (r : Reception). said_of (world_of c.acknowledged.new.self) c.args.node c.acknowledged.new.self.out
+    (c.received.ensures.reported ∙ ap (λ (r : Reception). said_of (world_of c.acknowledged.new.self) c.args.node c.acknowledged.new.self.out
     c.is_forged-forged.result r) c.failed.ensures)
     (c.received.ensures.world ∙ ap (λ (r : Reception). left_of (world_of c.acknowledged.new.self) c.args.node c.acknowledged.new.self.out
     c.is_forged-forged.result r) c.failed.ensures)
@@ -80,14 +80,14 @@ returns-then-not-acknowledged c =
 pub returns : goal.returns
 returns c =
     let out : c.begin_check.new.self.out ≡ c.acknowledged.new.self.out = c.begin_check.ensures.out in
-    checked_then (world_of c.args.self.now) c.hear-told.new.self c.args.node c.args.got.now c.args.origin c.args.cost c.hear-told.result c.hear-told.new.out
+    checked_then (world_of c.args.self.now) c.hear-reported.new.self c.args.node c.args.got.now c.args.origin c.args.cost c.hear-reported.result c.hear-reported.new.out
     c.args.message.now c.due.result
-    c.requires.there c.requires.accepted c.hear-told.ensures.received c.requires.message c.due.ensures.value
+    c.requires.there c.requires.accepted c.hear-reported.ensures.received c.requires.message c.due.ensures.value
     (world_of c.acknowledged.new.self) (world_of c.received-2.new.self) c.begin_check.new.self.out c.is_forged-forged.result c.received-2.result
     c.requires.bounds c.requires.events
     c.received-2.ensures.frames c.received-2.ensures.tags c.is_forged-forged.ensures (world_of c.begin_check.new.self) c.reply_of.result c.acknowledged.result
     c.if-not-acknowledged.false
-    (subst (λ (o : Out). IfSome (slice_get c.hear-told.new.self c.args.node)
-    (λ y. Acknowledges (record (world_of c.args.self.now) { nodes = c.hear-told.new.self }) c.args.node y c.due.result
-    c.hear-told.new.out c.acknowledged.result o (world_of c.acknowledged.new.self))) (sym out) c.acknowledged.ensures.acknowledges) c.reply_of.ensures
-    c.hear-told.ensures.replied c.begin_check.ensures.world c.received-2.ensures.told c.received-2.ensures.world
+    (subst (λ (o : Out). IfSome (slice_get c.hear-reported.new.self c.args.node)
+    (λ y. Acknowledges (record (world_of c.args.self.now) { nodes = c.hear-reported.new.self }) c.args.node y c.due.result
+    c.hear-reported.new.out c.acknowledged.result o (world_of c.acknowledged.new.self))) (sym out) c.acknowledged.ensures.acknowledges) c.reply_of.ensures
+    c.hear-reported.ensures.replied c.begin_check.ensures.world c.received-2.ensures.reported c.received-2.ensures.world

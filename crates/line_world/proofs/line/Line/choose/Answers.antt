@@ -84,7 +84,7 @@ returns-then-halted c =
     let none = none_in x.memory (of_found f.meter.there (λ (y : Node). true ≡ not (is_some y.memory)) c.if-halted.ensures.value) in
     reserved kept w (λ it. choose network it node c.args.k) same
     (steps_as _ _ (chooses_so f c.args.k)
-    (choice_halted kept _ node x c.args.k c.psk-psk.result _ f.at none f.runs.bounds f.runs.room c.answered.ensures.told
+    (choice_halted kept _ node x c.args.k c.psk-psk.result _ f.at none f.runs.bounds f.runs.room c.answered.ensures.reported
     (ap world_of c.answered.ensures.line ∙ (λ i. record (ran kept) { nodes = c.if-halted.ensures.same i }))))
 
 pub address-requires : goal.address-requires
@@ -114,7 +114,7 @@ returns-then-is_some c =
     reserved kept w (λ it. choose network it node c.args.k) same
     (steps_as _ _ (chooses_so f c.args.k)
     (choice_refused kept node x c.args.k c.psk-psk.result m.0 f.at m.1 _ _ choices.AlreadyJoined f.runs.bounds f.runs.room
-    (choice_joined kept node x c.args.k c.psk-psk.result m.0 f.at m.1 joined) c.answered-then-is_some.ensures.told
+    (choice_joined kept node x c.args.k c.psk-psk.result m.0 f.at m.1 joined) c.answered-then-is_some.ensures.reported
     (ap world_of c.answered-then-is_some.ensures.line ∙ (λ i. record (ran kept) { nodes = c.if-halted.ensures.same i }))))
 
 pub index-requires : goal.index-requires
@@ -153,7 +153,7 @@ returns-in_default c =
     reserved kept w (λ it. choose network it node c.args.k) same
     (steps_as _ _ (chooses_so f c.args.k)
     (choice_refused kept node x c.args.k c.psk-psk.result m.0 f.at m.1 _ _ choices.NoBeacon f.runs.bounds f.runs.room
-    (choice_nobody kept node x c.args.k c.psk-psk.result m.0 f.at m.1 apart none) answered.ensures.told
+    (choice_nobody kept node x c.args.k c.psk-psk.result m.0 f.at m.1 apart none) answered.ensures.reported
     (ap world_of answered.ensures.line ∙ (λ i. record (ran kept) { nodes = c.if-halted.ensures.same i }))))
 
 pub join_by-requires-clause-there : goal.join_by-requires-clause-there

@@ -13,7 +13,7 @@ use Rattle.line_world.specs.Lines.{world_of}
 use Rattle.line_world.specs.Reaching.{command_of}
 use Rattle.line_world.specs.Receiving.{Received}
 use Rattle.line_world.specs.Steps.{Steps}
-use Rattle.line_world.proofs.Arrivals.{at_node_told, at_some}
+use Rattle.line_world.proofs.Arrivals.{at_node_after, at_some}
 use Rattle.line_world.proofs.Calling.{beside_found, command_bounded, command_log, command_room}
 use Rattle.line_world.proofs.Hearings.{was_commanded}
 use Rattle.line_world.proofs.line.Line.commanded.Goals as goal
@@ -24,12 +24,12 @@ hear_command-commanded-requires-clause-log c =
     let number = c.args.node in
     let x = at_some w.nodes number c.requires.there in
     let step : Node → NodeStep Reception = λ y. hears network y c.args.got.now c.args.cost c.args.origin.note w.clock in
-    let heard = at_node_told w.nodes number x.0 (λ y. Received (step y) w.nodes number c.hear-told.result c.hear-told.new.out c.hear-told.new.self) x.1
-    c.hear-told.ensures.received in
+    let heard = at_node_after w.nodes number x.0 (λ y. Received (step y) w.nodes number c.hear-reported.result c.hear-reported.new.out c.hear-reported.new.self) x.1
+    c.hear-reported.ensures.received in
     let within : number < length w.beside = subst (λ (n : ℕ). number < n) (sym c.requires.beside) c.requires.there in
     let held : c.index_mut.result.now ≡ beside_at w number = beside_found w.beside number c.index_mut.result.now within c.index_mut.ensures.value in
-    command_log w number x.0 c.args.got.now (command_of c.args.command.now) c.args.cost c.args.origin.note c.hear-told.result c.hear-told.new.out
-    c.hear-told.new.self
+    command_log w number x.0 c.args.got.now (command_of c.args.command.now) c.args.cost c.args.origin.note c.hear-reported.result c.hear-reported.new.out
+    c.hear-reported.new.self
     x.1 c.requires.command heard
     c.index_mut.result.now held c.requires.logs
 
@@ -39,10 +39,10 @@ hear_command-commanded-requires-clause-room c =
     let number = c.args.node in
     let x = at_some w.nodes number c.requires.there in
     let step : Node → NodeStep Reception = λ y. hears network y c.args.got.now c.args.cost c.args.origin.note w.clock in
-    let heard = at_node_told w.nodes number x.0 (λ y. Received (step y) w.nodes number c.hear-told.result c.hear-told.new.out c.hear-told.new.self) x.1
-    c.hear-told.ensures.received in
-    command_room w number x.0 c.args.got.now (command_of c.args.command.now) c.args.cost c.args.origin.note c.hear-told.result c.hear-told.new.out
-    c.hear-told.new.self
+    let heard = at_node_after w.nodes number x.0 (λ y. Received (step y) w.nodes number c.hear-reported.result c.hear-reported.new.out c.hear-reported.new.self) x.1
+    c.hear-reported.ensures.received in
+    command_room w number x.0 c.args.got.now (command_of c.args.command.now) c.args.cost c.args.origin.note c.hear-reported.result c.hear-reported.new.out
+    c.hear-reported.new.self
     x.1 c.requires.command heard
 
 pub received-happened-requires-clause-bounds : goal.received-happened-requires-clause-bounds
@@ -51,10 +51,10 @@ received-happened-requires-clause-bounds c =
     let number = c.args.node in
     let x = at_some w.nodes number c.requires.there in
     let step : Node → NodeStep Reception = λ y. hears network y c.args.got.now c.args.cost c.args.origin.note w.clock in
-    let heard = at_node_told w.nodes number x.0 (λ y. Received (step y) w.nodes number c.hear-told.result c.hear-told.new.out c.hear-told.new.self) x.1
-    c.hear-told.ensures.received in
-    command_bounded w number x.0 c.args.got.now (command_of c.args.command.now) c.args.cost c.args.origin.note c.hear-told.result c.hear-told.new.out
-    c.hear-told.new.self
+    let heard = at_node_after w.nodes number x.0 (λ y. Received (step y) w.nodes number c.hear-reported.result c.hear-reported.new.out c.hear-reported.new.self) x.1
+    c.hear-reported.ensures.received in
+    command_bounded w number x.0 c.args.got.now (command_of c.args.command.now) c.args.cost c.args.origin.note c.hear-reported.result c.hear-reported.new.out
+    c.hear-reported.new.self
     x.1 c.requires.command heard
     c.index_mut.result.now c.hear_command-commanded.new.beside c.hear_command-commanded.result c.hear_command-commanded.new.out
     c.hear_command-commanded.new.self _
@@ -66,8 +66,8 @@ returns c =
     let number = c.args.node in
     let x = at_some w.nodes number c.requires.there in
     let step : Node → NodeStep Reception = λ y. hears network y c.args.got.now c.args.cost c.args.origin.note w.clock in
-    let heard = at_node_told w.nodes number x.0 (λ y. Received (step y) w.nodes number c.hear-told.result c.hear-told.new.out c.hear-told.new.self) x.1
-    c.hear-told.ensures.received in
+    let heard = at_node_after w.nodes number x.0 (λ y. Received (step y) w.nodes number c.hear-reported.result c.hear-reported.new.out c.hear-reported.new.self) x.1
+    c.hear-reported.ensures.received in
     let within : number < length w.beside = subst (λ (n : ℕ). number < n) (sym c.requires.beside) c.requires.there in
     let held : c.index_mut.result.now ≡ beside_at w number = beside_found w.beside number c.index_mut.result.now within c.index_mut.ensures.value in
     let done = c.hear_command-commanded.result in
@@ -89,12 +89,12 @@ returns c =
     } in
     subst (λ (o : Option Node). IfSome o (λ y. Steps true w (Ok h) (world_of c.received-happened.new.self)
     (Ok (heard_by_command network w number y c.args.got.now c.args.origin c.args.cost (Some (command_of c.args.command.now)))))) (sym x.1)
-    (was_commanded w _ number x.0 c.args.got.now (command_of c.args.command.now) c.args.origin c.args.cost c.hear-told.result c.hear-told.new.out
+    (was_commanded w _ number x.0 c.args.got.now (command_of c.args.command.now) c.args.origin c.args.cost c.hear-reported.result c.hear-reported.new.out
     c.hear_command-commanded.new.out
-    c.hear-told.new.self c.hear_command-commanded.new.self c.is_forged-forged.result done c.index_mut.result.now c.hear_command-commanded.new.beside h
+    c.hear-reported.new.self c.hear_command-commanded.new.self c.is_forged-forged.result done c.index_mut.result.now c.hear_command-commanded.new.beside h
     c.requires.bounds c.requires.events c.received-happened.ensures.frames c.received-happened.ensures.tags x.1 c.requires.command heard held
     c.hear_command-commanded.ensures c.is_forged-forged.ensures
-    (λ i. record (c.received-happened.ensures.told i) {
+    (λ i. record (c.received-happened.ensures.reported i) {
       answer = done.answer;
       forged = c.is_forged-forged.result;
       bup = done.bup;

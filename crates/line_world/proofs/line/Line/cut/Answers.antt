@@ -28,4 +28,4 @@ returns c =
     ∙ at_node w c.args.node there.node _ there.at)
     (node_said false w _ there (λ (x : Node). stays
     (record x { store = record x.store { cut = Some (record { nth = c.args.nth; keeps_new = c.args.keeps_new }) } }) said.Set) said.Set _ _
-    c.requires.bounds c.requires.events c.cut.ensures c.answered.ensures.told (ap world_of c.answered.ensures.line))
+    c.requires.bounds c.requires.events c.cut.ensures c.answered.ensures.reported (ap world_of c.answered.ensures.line))

@@ -28,4 +28,4 @@ returns-in-None c =
     (discovery_stays w (world_of answered.new.self) node discovery_word (beacon_taken node None link)
     (hear_discovery_in x.role k.0.station (beside_at w node).scan None link) answered.result
     c.requires.bounds c.requires.events (Err drops.Malformed) refl
-    answered.ensures.told (ap world_of answered.ensures.line ∙ (λ i. record (ran w) { nodes = c.if-halted.ensures.same i }))))
+    answered.ensures.reported (ap world_of answered.ensures.line ∙ (λ i. record (ran w) { nodes = c.if-halted.ensures.same i }))))

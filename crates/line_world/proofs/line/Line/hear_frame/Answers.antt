@@ -43,4 +43,4 @@ returns-in-Beacon c =
     (beacon_counts w heard new node m.station b.seq b.pan b.from b.cost link answer result c.requires.bounds c.requires.events
     (subst (λ (o : Option Memory). IfSome o (λ k. HearsBeacon w node k.station b.pan b.from b.cost link answer heard)) here
     (at_number _ x (λ (y : Node). IfSome y.memory (λ k. HearsBeacon w node k.station b.pan b.from b.cost link answer heard)) at c.hear_beacon-answer.ensures))
-    c.answered.ensures.told (ap world_of c.answered.ensures.line)))
+    c.answered.ensures.reported (ap world_of c.answered.ensures.line)))

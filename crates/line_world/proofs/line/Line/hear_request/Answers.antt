@@ -33,7 +33,7 @@ returns-in_default c =
     c.requires.bounds c.requires.events (Err drops.NotForMe)
     (request_elsewhere x.role m.station scan
     (address_in x m None here (at_number _ x (λ (y : Node). ◌≡◌ {A = Option ℕ} None (node_address y)) at c.in_default.ensures)))
-    c.answered.ensures.told (ap world_of c.answered.ensures.line))
+    c.answered.ensures.reported (ap world_of c.answered.ensures.line))
 
 pub returns-in_default-cost_home : goal.returns-in_default-cost_home
 returns-in_default-cost_home c =
@@ -53,7 +53,7 @@ returns-in_default-cost_home c =
     (cost_in x m None here
     (at_number _ x (λ (y : Node). ◌≡◌ {A = Option ℕ} None (option_and_then (λ (k : Memory). cost_home y.role k.station) y.memory)) at
     c.in_default-cost_home.ensures.value)))
-    answered.ensures.told (ap world_of answered.ensures.line ∙ (λ i. record (ran w) { nodes = c.cost_home.ensures.same i })))
+    answered.ensures.reported (ap world_of answered.ensures.line ∙ (λ i. record (ran w) { nodes = c.cost_home.ensures.same i })))
 
 pub returns : goal.returns
 returns c =
@@ -75,5 +75,5 @@ returns c =
     (cost_in x m (Some cost) here
     (at_number _ x (λ (y : Node). ◌≡◌ {A = Option ℕ} (Some cost) (option_and_then (λ (k : Memory). cost_home y.role k.station) y.memory)) at
     c.in-Some-cost_home.ensures.value)))
-    flown.ensures.told
+    flown.ensures.reported
     (flown.ensures.world ∙ (λ i. flies_in (record w { nodes = c.cost_home.ensures.same i }) node (Some beacon)) ∙ scan_stays w node (Some beacon)))

@@ -10,7 +10,7 @@ use Rattle.line_world.specs.Receiving.{Received}
 use Rattle.line_world.specs.Arrivals.{hears_so}
 use Rattle.line_world.specs.Lines.{world_of}
 use Rattle.line_world.specs.Steps.{Steps}
-use Rattle.line_world.proofs.Arrivals.{as_many, at_node_told, at_some, heard_so, in_run_again}
+use Rattle.line_world.proofs.Arrivals.{as_many, at_node_after, at_some, heard_so, in_run_again}
 use Rattle.line_world.proofs.line.Line.heard.Goals as goal
 
 pub received-requires-clause-bounds : goal.received-requires-clause-bounds
@@ -18,21 +18,21 @@ received-requires-clause-bounds c =
     let w = world_of c.args.self.now in
     let x = at_some w.nodes c.args.node c.requires.there in
     let step : Node → NodeStep Reception = λ y. hears network y c.args.got.now c.args.cost c.args.origin.note w.clock in
-    let heard = at_node_told w.nodes c.args.node x.0 (λ y. Received (step y) w.nodes c.args.node c.hear-told.result c.hear-told.new.out c.hear-told.new.self)
-    x.1 c.hear-told.ensures.received in
-    in_run_again w c.hear-told.new.self c.requires.bounds
-    (as_many (step x.0) w.nodes c.args.node (step x.0).answer c.hear-told.new.out c.hear-told.new.self heard.did)
+    let heard = at_node_after w.nodes c.args.node x.0 (λ y. Received (step y) w.nodes c.args.node c.hear-reported.result c.hear-reported.new.out c.hear-reported.new.self)
+    x.1 c.hear-reported.ensures.received in
+    in_run_again w c.hear-reported.new.self c.requires.bounds
+    (as_many (step x.0) w.nodes c.args.node (step x.0).answer c.hear-reported.new.out c.hear-reported.new.self heard.did)
 
 pub returns : goal.returns
 returns c =
     let w = world_of c.args.self.now in
     let x = at_some w.nodes c.args.node c.requires.there in
     let step : Node → NodeStep Reception = λ y. hears network y c.args.got.now c.args.cost c.args.origin.note w.clock in
-    let heard = at_node_told w.nodes c.args.node x.0 (λ y. Received (step y) w.nodes c.args.node c.hear-told.result c.hear-told.new.out c.hear-told.new.self)
-    x.1 c.hear-told.ensures.received in
+    let heard = at_node_after w.nodes c.args.node x.0 (λ y. Received (step y) w.nodes c.args.node c.hear-reported.result c.hear-reported.new.out c.hear-reported.new.self)
+    x.1 c.hear-reported.ensures.received in
     subst (λ (o : Option Node). IfSome o (λ y. Steps true w (Ok c.received.result) (world_of c.received.new.self)
     (Ok (hears_so network w c.args.node y c.args.got.now c.args.origin c.args.cost)))) (sym x.1)
-    (heard_so w _ c.args.node x.0 c.args.got.now c.args.origin c.args.cost c.hear-told.result c.hear-told.new.out c.hear-told.new.self c.is_forged-forged.result
+    (heard_so w _ c.args.node x.0 c.args.got.now c.args.origin c.args.cost c.hear-reported.result c.hear-reported.new.out c.hear-reported.new.self c.is_forged-forged.result
     _
-    c.requires.bounds c.requires.events c.received.ensures.frames c.received.ensures.tags x.1 heard c.is_forged-forged.ensures c.received.ensures.told
+    c.requires.bounds c.requires.events c.received.ensures.frames c.received.ensures.tags x.1 heard c.is_forged-forged.ensures c.received.ensures.reported
     c.received.ensures.world)

@@ -17,7 +17,7 @@ use Rattle.line_rules.specs.Worlds.{World}
 use Rattle.line_world.specs.Lines.{world_of}
 use Rattle.line_world.specs.Steps.{has_address}
 use Rattle.line_world.proofs.Taking.{IsThere, steps_as, begun, at_node, is_there, node_acted, unreserved, taking, addressed}
-use Rattle.line_world.proofs.Orders.{IsMeter, Runs, as_found, at_meter, is_meter, of_found, only_said, reserved, told_with, within_line, meter_not_found}
+use Rattle.line_world.proofs.Orders.{IsMeter, Runs, as_found, at_meter, is_meter, of_found, only_said, reserved, said_with, within_line, meter_not_found}
 use Rattle.line_world.proofs.Orders.{meter_begun, agent_not_found}
 use Rattle.line_world.proofs.line.Line.join.Goals as goal
 
@@ -58,7 +58,7 @@ returns-in_default c =
     let there = is_there w c.args.agent c.in_ok-agent.agent c.in_ok-agent.ensures in
     let none = of_found there (λ (y : Node). ◌≡◌ {A = Option ℕ} None (node_address y)) c.in_default.ensures in
     steps_as _ _ (joins_at r m there ∙ ap (λ (o : Option ℕ). Ok (joins_by network w c.args.node m.there.node o (psk_of m.there.node))) (sym none))
-    (only_said (has_address w c.args.agent) w _ said.NoAddress _ r.bounds r.room c.answered.ensures.told (ap world_of c.answered.ensures.line))
+    (only_said (has_address w c.args.agent) w _ said.NoAddress _ r.bounds r.room c.answered.ensures.reported (ap world_of c.answered.ensures.line))
 
 pub returns-in_err-reserve : goal.returns-in_err-reserve
 returns-in_err-reserve c =
@@ -147,4 +147,4 @@ returns c =
     f.runs.bounds f.runs.room c.acted.ensures.frames c.acted.ensures.tags
     (as_found f.meter.there (λ (y : Node). Did (acts y (Err joins.Halted) (λ k. meters.join (identity network y psk) k address kept.clock)) kept.nodes
     c.in_ok-number.number asked out nodes) by_key)
-    (told_with kept _ _ _ _ c.acted.ensures.told c.join_word.ensures) c.acted.ensures.world)))
+    (said_with kept _ _ _ _ c.acted.ensures.reported c.join_word.ensures) c.acted.ensures.world)))

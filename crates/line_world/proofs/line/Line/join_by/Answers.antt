@@ -3,8 +3,8 @@ use Rattle.std.proofs.Common.{true, Ok}
 use Rattle.line_world.specs.Discovering.{joins_in}
 use Rattle.line_world.specs.Lines.{world_of}
 use Rattle.line_world.specs.Steps.{Steps}
-use Rattle.line_world.proofs.Discoveries.{by_key, joins_told, with_agent}
-use Rattle.line_world.proofs.Orders.{told_with}
+use Rattle.line_world.proofs.Discoveries.{by_key, joins_reported, with_agent}
+use Rattle.line_world.proofs.Orders.{said_with}
 use Rattle.line_world.proofs.line.Line.join_by.Goals as goal
 
 pub returns : goal.returns
@@ -16,7 +16,7 @@ returns c =
     let new = world_of acted.new.self in
     by_key w.nodes node (λ x psk. Steps true w (Ok (with_agent acted.result c.agent_of-agent.result)) new (Ok (joins_in w node x psk a.address a.total)))
     (λ x psk at key.
-    joins_told w new node x psk a.address a.total c.join-asked.result c.join-asked.new.out c.join-asked.new.self c.agent_of-agent.result acted.result at key
+    joins_reported w new node x psk a.address a.total c.join-asked.result c.join-asked.new.out c.join-asked.new.self c.agent_of-agent.result acted.result at key
     c.join-asked.ensures.did
     c.requires.bounds c.requires.events acted.ensures.frames acted.ensures.tags c.agent_of-agent.ensures
-    (told_with w _ _ _ _ acted.ensures.told c.choice_word.ensures) acted.ensures.world)
+    (said_with w _ _ _ _ acted.ensures.reported c.choice_word.ensures) acted.ensures.world)

@@ -41,4 +41,4 @@ returns c =
     c.requires.events c.in_ok-number.ensures (λ it. kick network it c.args.node) said.Kicked (λ x e k. coordinators.kick k e)
     c.eui-eui.result c.kick-done.result c.kick-done.new.out c.kick-done.new.self c.ordered_word.result c.acted.result refl c.eui-eui.ensures c.kick-done.ensures
     c.acted.ensures.frames
-    c.acted.ensures.tags c.ordered_word.ensures c.acted.ensures.told c.acted.ensures.world
+    c.acted.ensures.tags c.ordered_word.ensures c.acted.ensures.reported c.acted.ensures.world

@@ -28,4 +28,4 @@ returns c =
     let m = is_meter w c.args.node c.in_ok-number.number c.in_ok-number.ensures in
     steps_as _ _ (begun w _ (meter_begun (world_of c.args.self.now) c.args.node c.in_ok-number.number c.in_ok-number.ensures) ∙ at_meter m _)
     (node_answered false w _ m.there (λ x. acts x (Err leaves.Halted) meters.leave) leave_word _ _ _ c.requires.bounds c.requires.events
-    c.leave-left.ensures (c.answered.ensures.told ∙ ap (λ a. happened w a) c.leave_word.ensures) (ap world_of c.answered.ensures.line))
+    c.leave-left.ensures (c.answered.ensures.reported ∙ ap (λ a. happened w a) c.leave_word.ensures) (ap world_of c.answered.ensures.line))

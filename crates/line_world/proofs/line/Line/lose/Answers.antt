@@ -42,6 +42,6 @@ returns c =
     let new : world_of c.answered.new.self ≡ left = ap world_of c.answered.ensures.line ∙ (λ i. record (ran w) { flights = (lost.left i).flights }) in
     steps_as _ _ (begun w _ c.if-not-has_begun.ensures ∙ flying w c.args.flight _ lost.flight lost.flew)
     (is_taken_so false w _ (Ok (left, trace)) trace _ (λ i. Ok (sym new i, trace))
-    (c.answered.ensures.told ∙ (λ i. record (happened w said.Lost) { first_flight = length (lost.left i).flights + 1 })
+    (c.answered.ensures.reported ∙ (λ i. record (happened w said.Lost) { first_flight = length (lost.left i).flights + 1 })
     ∙ (λ i. record (happened w said.Lost) { first_flight = many i + 1 }))
     (subst IsBounded (sym new) (bounded_by w w.clock w.nodes flights c.requires.bounds c.requires.events (omega arith) refl many)))

@@ -19,8 +19,8 @@ use Rattle.line_world.specs.Steps.{has_address}
 use Rattle.line_world.specs.Reaching.{ReachedFirst}
 use Rattle.line_world.proofs.Besides.{node_reached}
 use Rattle.line_world.proofs.Calling.{beside_found, path_at}
-use Rattle.line_world.proofs.Orders.{Runs, reserved, still_runs, told_with, within_line}
-use Rattle.line_world.proofs.Taking.{IsThere, addressed, has_coordinator, is_there, not_found, only_ran, second_not_found, steps_as, taking, told_of}
+use Rattle.line_world.proofs.Orders.{Runs, reserved, still_runs, said_with, within_line}
+use Rattle.line_world.proofs.Taking.{IsThere, addressed, has_coordinator, is_there, not_found, only_ran, second_not_found, steps_as, taking, holds_there}
 use Rattle.line_world.proofs.Taking.{unreserved}
 use Rattle.line_world.proofs.line.Line.path.Goals as goal
 
@@ -52,8 +52,8 @@ returns-in_default c =
     let there = is_there w c.args.from c.in_ok-from.from c.in_ok-from.ensures in
     let to = is_there w c.args.to c.in_ok-to.to c.in_ok-to.ensures in
     steps_as _ _ (path_at r there to
-    ∙ ap (λ (a : Option ℕ). Ok (asks_by network w c.args.from there.node a)) (sym (told_of to (λ y. None ≡ node_address y) c.in_default.ensures)))
-    (only_ran (has_address w c.args.to) w _ (trace_of (happened w said.NoAddress)) _ c.requires.bounds c.requires.events c.answered.ensures.told
+    ∙ ap (λ (a : Option ℕ). Ok (asks_by network w c.args.from there.node a)) (sym (holds_there to (λ y. None ≡ node_address y) c.in_default.ensures)))
+    (only_ran (has_address w c.args.to) w _ (trace_of (happened w said.NoAddress)) _ c.requires.bounds c.requires.events c.answered.ensures.reported
     (ap world_of c.answered.ensures.line))
 
 pub returns-in_err-reserve : goal.returns-in_err-reserve
@@ -93,7 +93,7 @@ returns c =
     let to : IsThere kept c.args.to c.in_ok-to.to = subst (λ (it : World). IsThere it c.args.to c.in_ok-to.to) (sym same)
     (is_there w c.args.to c.in_ok-to.to c.in_ok-to.ensures) in
     let at : Some target ≡ node_address to.node =
-    told_of to (λ y. Some target ≡ node_address y)
+    holds_there to (λ y. Some target ≡ node_address y)
     (subst (λ (it : World). IfSome (slice_get it.nodes c.in_ok-to.to) (λ y. Some target ≡ node_address y)) (sym same) c.in-Some.ensures) in
     let r : Runs kept = still_runs same
     (record { begun = has_coordinator w c.args.from number c.in_ok-from.ensures; bounds = c.requires.bounds; room = c.requires.events }) in
@@ -111,4 +111,4 @@ returns c =
     (node_reached there (Err asks.Halted) plan ask_word
     (record nothing_further { stepping = asked there.node target (reaches there.node (beside_at kept c.args.from) (Err asks.Halted) plan).answer })
     (world_of c.acted.new.self) c.ask-asked.result c.ask-asked.new.out c.ask-asked.new.self c.ask-asked.new.beside c.acted.result
-    r.bounds r.room c.acted.ensures.frames c.acted.ensures.tags did (told_with kept _ _ _ _ c.acted.ensures.told c.ask_word.ensures) c.acted.ensures.world)))
+    r.bounds r.room c.acted.ensures.frames c.acted.ensures.tags did (said_with kept _ _ _ _ c.acted.ensures.reported c.ask_word.ensures) c.acted.ensures.world)))

@@ -28,4 +28,4 @@ returns c =
     steps_as _ _ (begun w _ (has_coordinator (world_of c.args.self.now) c.args.node c.in_ok-number.number c.in_ok-number.ensures)
     ∙ at_node w c.args.node there.node _ there.at)
     (node_answered false w _ there (λ x. acts x (Err randoms.Halted) (λ m. give_random m c.args.value)) random_word _ _ _ c.requires.bounds c.requires.events
-    c.give_random-given.ensures (c.answered.ensures.told ∙ ap (λ a. happened w a) c.random_word.ensures) (ap world_of c.answered.ensures.line))
+    c.give_random-given.ensures (c.answered.ensures.reported ∙ ap (λ a. happened w a) c.random_word.ensures) (ap world_of c.answered.ensures.line))

@@ -24,4 +24,4 @@ returns c =
     steps_as _ _ (by_first r _)
     (node_answered false w _ (first_there w r.begun) (λ x. acts x (Err orders.Halted) (λ m. coordinators.rekey m c.args.index c.args.key.now))
     (ordered_word said.Drawn) _ _ _
-    r.bounds r.room c.rekey-done.ensures (c.answered.ensures.told ∙ ap (λ a. happened w a) c.ordered_word.ensures) (ap world_of c.answered.ensures.line))
+    r.bounds r.room c.rekey-done.ensures (c.answered.ensures.reported ∙ ap (λ a. happened w a) c.ordered_word.ensures) (ap world_of c.answered.ensures.line))

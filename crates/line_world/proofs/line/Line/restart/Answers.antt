@@ -61,7 +61,7 @@ returns c =
     ∙ ap (λ (ns : List Node). record w { nodes = ns; beside = slice_set w.beside c.in_ok-number.number b }) c.open_log.ensures.same in
     let did = subst (λ (v : World). IfSome (slice_get v.nodes c.in_ok-number.number)
     (λ (x : Node). Did (restarts x) v.nodes c.in_ok-number.number c.restart-answer.result nothing nodes)) held c.restart-answer.ensures in
-    let told = c.answered.ensures.told ∙ ap (λ (v : World). happened (record v { nodes = nodes }) c.restart-answer.result) held in
+    let reported = c.answered.ensures.reported ∙ ap (λ (v : World). happened (record v { nodes = nodes }) c.restart-answer.result) held in
     let left : World = record (record (ran w) { nodes = nodes }) { beside = bs } in
     let new : world_of c.answered.new.self ≡ left =
     ap world_of c.answered.ensures.line ∙ ap (λ (v : World). ran (record v { nodes = nodes })) held
@@ -70,4 +70,4 @@ returns c =
     (steps_as _ _ (begun w _ (has_coordinator w c.args.node c.in_ok-number.number c.in_ok-number.ensures) ∙ at_node w c.args.node there.node _ there.at
     ∙ ap (λ (r : World × Trace). Ok r) (restart_is there c.requires.logs c.open_log.result c.open_log.ensures.value c.in-Ok.log c.in-Ok.is))
     (steps_beside false w (record (ran w) { nodes = nodes }) _ (acted network w c.args.node (restarts there.node)) bs
-    (node_said false w (record (ran w) { nodes = nodes }) there restarts c.restart-answer.result nodes _ c.requires.bounds c.requires.events did told refl)))
+    (node_said false w (record (ran w) { nodes = nodes }) there restarts c.restart-answer.result nodes _ c.requires.bounds c.requires.events did reported refl)))

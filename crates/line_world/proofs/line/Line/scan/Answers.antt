@@ -58,7 +58,7 @@ returns-then-halted c =
     let none = none_in m.there.node.memory (of_found m.there (λ (x : Node). true ≡ not (is_some x.memory)) c.if-halted.ensures.value) in
     reserved kept w (λ it. scan it c.args.node) same
     (steps_as _ _ (scan_at r m ∙ ap (λ (o : Option Memory). Ok (scans_by kept c.args.node o)) none)
-    (only_said true kept _ said.Halted _ r.bounds r.room c.answered.ensures.told
+    (only_said true kept _ said.Halted _ r.bounds r.room c.answered.ensures.reported
     (ap world_of c.answered.ensures.line ∙ (λ i. record (ran kept) { nodes = c.if-halted.ensures.same i }))))
 
 pub address-requires : goal.address-requires
@@ -88,7 +88,7 @@ returns-then-is_some c =
     (steps_as _ _ (scan_at r m ∙ ap (λ (o : Option Memory). Ok (scans_by kept c.args.node o)) k.1)
     (discovery_stays kept _ c.args.node scan_word (scanning c.args.node) (begin_scan k.0 (beside_at kept c.args.node).scan) _ r.bounds r.room
     (Err scan_faults.AlreadyJoined)
-    (scan_joined k.0 (beside_at kept c.args.node).scan joined) c.answered-then-is_some.ensures.told
+    (scan_joined k.0 (beside_at kept c.args.node).scan joined) c.answered-then-is_some.ensures.reported
     (ap world_of c.answered-then-is_some.ensures.line ∙ (λ i. record (ran kept) { nodes = c.if-halted.ensures.same i }))))
 
 pub discovery_flies-requires-clause-there : goal.discovery_flies-requires-clause-there
@@ -122,7 +122,7 @@ returns c =
     reserved kept w (λ it. scan it node) same
     (steps_as _ _ (scan_at r m ∙ ap (λ (o : Option Memory). Ok (scans_by kept node o)) k.1)
     (discovery_sends kept _ node scan_word (scanning node) (begin_scan k.0 (beside_at kept node).scan) _ r.bounds r.room (Ok tt) begun request
-    (scan_begins k.0 (beside_at kept node).scan apart) c.discovery_flies.ensures.told
+    (scan_begins k.0 (beside_at kept node).scan apart) c.discovery_flies.ensures.reported
     (c.discovery_flies.ensures.world
     ∙ (λ i. flies_in (record kept {
       nodes = c.if-halted.ensures.same i;

@@ -16,7 +16,7 @@ use Rattle.line_rules.specs.Steps.{happened, has_begun, send, sends_by, tag_of, 
 use Rattle.line_world.specs.Bounds.{IsBounded}
 use Rattle.line_world.specs.Lines.{world_of}
 use Rattle.line_world.specs.Steps.{Steps, has_address}
-use Rattle.line_world.proofs.Taking.{IsThere, steps_as, begun, at_node, is_there, told_of, only_ran, not_found, second_not_found, has_coordinator, unreserved}
+use Rattle.line_world.proofs.Taking.{IsThere, steps_as, begun, at_node, is_there, holds_there, only_ran, not_found, second_not_found, has_coordinator, unreserved}
 use Rattle.line_world.proofs.Taking.{taking, addressed}
 use Rattle.line_world.proofs.Sendings.{node_sent}
 use Rattle.line_world.proofs.line.Line.send.Goals as goal
@@ -47,8 +47,8 @@ returns-in_default c =
     steps_as _ _ (begun w _ (has_coordinator (world_of c.args.self.now) c.args.from c.in_ok-from.from c.in_ok-from.ensures)
     ∙ at_node w c.args.from there.node _ there.at ∙ at_node w c.args.to to.node _ to.at
     ∙ ap (λ a. Ok (sends_by network w c.args.from c.args.to c.args.datagram.now there.node a))
-    (sym (told_of to (λ y. None ≡ node_address y) c.in_default.ensures)))
-    (only_ran (has_address w c.args.to) w _ (trace_of (happened w said.NoAddress)) _ c.requires.bounds c.requires.events c.answered.ensures.told
+    (sym (holds_there to (λ y. None ≡ node_address y) c.in_default.ensures)))
+    (only_ran (has_address w c.args.to) w _ (trace_of (happened w said.NoAddress)) _ c.requires.bounds c.requires.events c.answered.ensures.reported
     (ap world_of c.answered.ensures.line))
 
 pub returns-in_err-reserve : goal.returns-in_err-reserve
@@ -91,7 +91,7 @@ returns c =
     let to : IsThere v c.args.to c.in_ok-to.to = subst (λ (it : World). IsThere it c.args.to c.in_ok-to.to) (sym same)
     (is_there w c.args.to c.in_ok-to.to c.in_ok-to.ensures) in
     let at : Some address ≡ node_address to.node =
-    told_of to (λ y. Some address ≡ node_address y)
+    holds_there to (λ y. Some address ≡ node_address y)
     (subst (λ (it : World). IfSome (slice_get it.nodes c.in_ok-to.to) (λ y. Some address ≡ node_address y)) (sym same) c.in-Some.ensures) in
     let bounds : IsBounded v = subst IsBounded (sym same) c.requires.bounds in
     let room : v.events < MAX_EVENTS = subst (λ (it : World). it.events < MAX_EVENTS) (sym same) c.requires.events in
@@ -105,4 +105,4 @@ returns c =
     (λ (x : Node). acts x (Err sends.Halted) (λ m. of_station m (calls.send m.station address c.args.datagram.now (v.sends + 1) v.clock)))
     c.send-sent.result c.send-sent.new.out c.send-sent.new.self c.from.result _ bounds room c.acted.ensures.frames c.acted.ensures.tags c.send-sent.ensures
     (c.from.ensures ∙ ap bool_byte c.is_ok.ensures.value)
-    (c.acted.ensures.told ∙ (λ i. record (happened v (c.sent_word.ensures i)) { flights = length c.send-sent.new.out.frames })) c.acted.ensures.world)))
+    (c.acted.ensures.reported ∙ (λ i. record (happened v (c.sent_word.ensures i)) { flights = length c.send-sent.new.out.frames })) c.acted.ensures.world)))

@@ -7,7 +7,7 @@ use Rattle.line_events.specs.declared.event.Answer.TheVariants as said
 use Rattle.line_events.specs.declared.happenings.Happenings.{Happenings}
 use Rattle.line_rules.specs.Steps.{happened, ran, show, trace_of}
 use Rattle.line_world.specs.Lines.{world_of}
-use Rattle.line_world.proofs.Taking.{steps_as, begun, at_node, is_there, told_of, only_ran, not_found, has_coordinator}
+use Rattle.line_world.proofs.Taking.{steps_as, begun, at_node, is_there, holds_there, only_ran, not_found, has_coordinator}
 use Rattle.line_world.proofs.line.Line.show.Goals as goal
 
 pub returns-in_err-number : goal.returns-in_err-number
@@ -24,8 +24,8 @@ unfolding show
 returns c =
     let w = world_of c.args.self.now in
     let there = is_there w c.args.node c.in_ok-number.number c.in_ok-number.ensures in
-    let shown = c.new.ensures ∙ told_of there (λ x. c.show.new.out ≡ shown_of x) c.show.ensures.shown in
-    let first = ap (λ (h : Happenings). h.first_flight) c.answered-happened.ensures.told in
+    let shown = c.new.ensures ∙ holds_there there (λ x. c.show.new.out ≡ shown_of x) c.show.ensures.shown in
+    let first = ap (λ (h : Happenings). h.first_flight) c.answered-happened.ensures.reported in
     steps_as _ _ (begun w _ (has_coordinator (world_of c.args.self.now) c.args.node c.in_ok-number.number c.in_ok-number.ensures)
     ∙ at_node w c.args.node there.node _ there.at)
     (only_ran false w _ (trace_of (record (happened w said.Shown) { shown = Some (shown_of there.node) })) _ c.requires.bounds c.requires.events

@@ -34,9 +34,9 @@ returns c =
     let new : world_of c.answered.new.self ≡ left =
     ap world_of c.answered.ensures.line ∙ ap (λ (v : World). ran v) c.tick_beside.ensures
     ∙ (λ i. record (ran w) { clock = w.clock + c.from.ensures i; nodes = nodes i; beside = map (tick_beside (w.clock + c.from.ensures i)) w.beside }) in
-    let told = c.answered.ensures.told ∙ ap (λ (v : World). happened v said.Ticked) c.tick_beside.ensures in
+    let reported = c.answered.ensures.reported ∙ ap (λ (v : World). happened v said.Ticked) c.tick_beside.ensures in
     steps_as _ _ (ap (after_ok (λ r. (record r.0 { beside = map (tick_beside clock) w.beside }, r.1))) (begun w _ c.if-not-has_begun.ensures))
-    (is_taken_so false w _ (Ok (left, trace)) trace _ (λ i. Ok (sym new i, trace)) told
+    (is_taken_so false w _ (Ok (left, trace)) trace _ (λ i. Ok (sym new i, trace)) reported
     (subst IsBounded (sym new)
     (bounded_beside set (map (tick_beside clock) w.beside)
     (bounded_by w clock (map (ticked clock) w.nodes) w.flights c.requires.bounds c.requires.events (omega (arith, c.ranges.seconds))

@@ -18,4 +18,4 @@ returns c =
     (λ y. Steps true w (Ok c.received.result) (world_of c.received.new.self) (Ok (unbelieved_so network w c.args.node y c.args.origin)))) (sym x.1)
     (was_unbelieved w _ c.args.node x.0 c.args.origin c.clear.new.self c.is_forged-forged.result _ c.requires.bounds c.requires.events c.received.ensures.frames
     c.received.ensures.tags x.1
-    c.clear.ensures c.is_forged-forged.ensures c.received.ensures.told c.received.ensures.world)
+    c.clear.ensures c.is_forged-forged.ensures c.received.ensures.reported c.received.ensures.world)

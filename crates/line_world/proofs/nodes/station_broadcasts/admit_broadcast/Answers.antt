@@ -19,7 +19,7 @@ use Rattle.reach_rules.specs.declared.refusal.ReachDropped.TheVariants.{Known}
 use Rattle.reach_rules.specs.Broadcasts.{admits_broadcast, hop_less}
 use Rattle.line_world.specs.Reaching.{Reaches, broadcast_of, handed_up}
 use Rattle.line_world.proofs.BroadcastPlans.{OnlyPut, refused_after, admits_uncounted, admits_on, admits_last, is_last, is_not_last, recorded, unrecorded}
-use Rattle.line_world.proofs.BroadcastPlans.{only_recorded, only_unrecorded, sent_as, still_held, heard_told, log_left, log_lost, spent_at, left_at}
+use Rattle.line_world.proofs.BroadcastPlans.{only_recorded, only_unrecorded, sent_as, still_held, heard_reported, log_left, log_lost, spent_at, left_at}
 use Rattle.line_world.proofs.nodes.station_broadcasts.admit_broadcast.Goals as goal
 
 pub returns-then-keep_mark-clause-reaches : goal.returns-then-keep_mark-clause-reaches
@@ -106,7 +106,7 @@ returns-clause-reaches c =
     let body : List ℕ = spelling (hop_less y) in
     rw (← c.beside.view_is) (subst (λ (r : Result CommandHeard ReachDropped). Reaches s b (Err (Known drops.Store)) (λ x. admits_broadcast alone x y) r
     c.args.out.now c.send_local-sent.new.out t (record b { log = c.send_local-sent.new.log }))
-    (heard_told y c.send_local-sent.result ∙ ap (handed_up y) (sym c.sent_on.ensures))
+    (heard_reported y c.send_local-sent.result ∙ ap (handed_up y) (sym c.sent_on.ensures))
     (recorded reach_ends s b (Err (Known drops.Store)) (λ x. admits_broadcast alone x y) h.0 h.1 (keep_write b.log.marks y.origin y.number)
     (admitted_log b.log y.origin y.number)
     (heard.Broadcast y.origin y.number y.octets) 4 None body goes c.args.out.now c.send_local-sent.new.out m t c.send_local-sent.result

@@ -13,7 +13,7 @@ use Rattle.reach_rules.specs.declared.refusal.BroadcastRefusal.TheVariants as re
 use Rattle.reach_rules.specs.Broadcasts.{broadcast_ends, broadcast_from, own_broadcast}
 use Rattle.line_world.specs.Reaching.{ReachesFirst}
 use Rattle.line_world.proofs.BroadcastPlans.{OnlyPut, refused_first, refuses_size, refuses_spent, refuses_uncounted, own_goes, spent_number, left_number}
-use Rattle.line_world.proofs.BroadcastPlans.{spent_at, left_at, first_recorded, first_unrecorded, sent_as, still_held, own_told, log_left, log_lost}
+use Rattle.line_world.proofs.BroadcastPlans.{spent_at, left_at, first_recorded, first_unrecorded, sent_as, still_held, own_after, log_left, log_lost}
 use Rattle.line_world.proofs.nodes.station_broadcasts.broadcast_from.Goals as goal
 
 pub returns-then-is_bad_size-clause-reaches : goal.returns-then-is_bad_size-clause-reaches
@@ -80,7 +80,7 @@ returns-clause-reaches c =
     rw (← c.beside.view_is) (subst (λ (r : Result (Unit {0}) BroadcastRefusal). ReachesFirst s b (Err refusals.Halted)
     (λ y. broadcast_from alone y c.args.own c.args.datagram.now) r c.send_local-sent.new.out c.send_local-sent.new.station
     (record b { log = c.send_local-sent.new.log }))
-    (own_told c.send_local-sent.result ∙ sym c.broadcast_sent.ensures)
+    (own_after c.send_local-sent.result ∙ sym c.broadcast_sent.ensures)
     (first_recorded broadcast_ends s b (Err refusals.Halted) (λ y. broadcast_from alone y c.args.own c.args.datagram.now) h.0 h.1 (number_put b.log.numbering)
     (numbered_log b.log) tt 4 None body goes
     c.args.out.now c.send_local-sent.new.out m c.send_local-sent.new.station c.send_local-sent.result (record b { log = c.send_local-sent.new.log })

@@ -9,7 +9,7 @@ use Rattle.reach_rules.specs.PathAsking.{follows_path}
 use Rattle.reach_rules.specs.ReachingNodes.{Beside, remembers}
 use Rattle.line_world.specs.declared.nodes.station_further.PathHeard.TheVariants as paths
 use Rattle.line_world.proofs.FurtherPlans.{held_by}
-use Rattle.line_world.proofs.PathPlans.{path_went, remembers_after, sent_told}
+use Rattle.line_world.proofs.PathPlans.{path_went, remembers_after, sent_ended}
 use Rattle.line_world.proofs.nodes.station_further.follow_step.Goals as goal
 
 pub returns-in-Forward-clause-reaches : goal.returns-in-Forward-clause-reaches
@@ -21,7 +21,7 @@ returns-in-Forward-clause-reaches c =
     commands.Relayed c.path_goes-sent.result _ c.args.out.now c.path_goes-sent.new.out c.path_goes-sent.new.log
     m.1 (ap (λ (p : PathStep). follows_path alone (record { memory = m.0; beside = b }) (Ok p)) c.in-Forward.is) c.path_goes-sent.ensures.carries
     c.path_goes-sent.ensures.log
-    (sent_told paths.Relayed c.path_goes-sent.result c.sent_on.result c.path_sent.result c.sent_on.ensures c.path_sent.ensures))
+    (sent_ended paths.Relayed c.path_goes-sent.result c.sent_on.result c.path_sent.result c.sent_on.ensures c.path_sent.ensures))
 
 pub returns-in-Answer-clause-reaches : goal.returns-in-Answer-clause-reaches
 returns-in-Answer-clause-reaches c =
@@ -33,7 +33,7 @@ returns-in-Answer-clause-reaches c =
     c.path_goes-sent-in-Answer.new.log
     m.1 (ap (λ (p : PathStep). follows_path alone (record { memory = m.0; beside = b }) (Ok p)) c.in-Answer.is) c.path_goes-sent-in-Answer.ensures.carries
     c.path_goes-sent-in-Answer.ensures.log
-    (sent_told paths.Answered c.path_goes-sent-in-Answer.result c.sent_on-in-Answer.result c.path_sent-in-Answer.result c.sent_on-in-Answer.ensures
+    (sent_ended paths.Answered c.path_goes-sent-in-Answer.result c.sent_on-in-Answer.result c.path_sent-in-Answer.result c.sent_on-in-Answer.ensures
     c.path_sent-in-Answer.ensures))
 
 pub returns-in-Done-clause-reaches : goal.returns-in-Done-clause-reaches

@@ -7,9 +7,9 @@ use Rattle.line_rules.specs.Steps.{hears}
 use Rattle.line_world.specs.declared.nodes.reception.Reception.{Reception}
 use Rattle.line_world.specs.Receiving.{MayHear, ReportsReception}
 use Rattle.line_world.proofs.CoordinatorActing.{holds}
-use Rattle.line_world.proofs.CoordinatorHearing.{told, heard, heard_sound, told_replied}
+use Rattle.line_world.proofs.CoordinatorHearing.{reported, heard, heard_sound, replied_is}
 use Rattle.line_world.proofs.Places.{seen_answering}
-use Rattle.line_world.proofs.ToldReplies.{tells_with}
+use Rattle.line_world.proofs.ReportedReplies.{reported_with_reply}
 use Rattle.line_world.proofs.nodes.line_coordinator.LineCoordinator.hear.Goals as goal
 
 pub hear-heard-requires-clause-ready : goal.hear-heard-requires-clause-ready
@@ -26,10 +26,10 @@ pub returns-clause-reports : goal.returns-clause-reports
 returns-clause-reports c =
     let may = subst (λ (n : Node). MayHear n c.args.got.now) (sym c.self.view_is) c.requires.accepted in
     subst (λ (n : Node). ReportsReception c.with_reply.result (hears network n c.args.got.now c.args.cost c.args.note c.args.now).answer) c.self.view_is
-    (told c.self.inside.coordinator c.hear-heard.new.self c.args.got.now c.args.cost c.args.note c.args.now c.hear-heard.result c.hear-heard.new.out
+    (reported c.self.inside.coordinator c.hear-heard.new.self c.args.got.now c.args.cost c.args.note c.args.now c.hear-heard.result c.hear-heard.new.out
     c.self.invariant may
     c.hear-heard.ensures.carries c.with_reply.result
-    (tells_with c.reception_of_coordinator.result c.with_reply.result c.reply_of-replied.result _ c.with_reply.ensures c.reception_of_coordinator.ensures))
+    (reported_with_reply c.reception_of_coordinator.result c.with_reply.result c.reply_of-replied.result _ c.with_reply.ensures c.reception_of_coordinator.ensures))
 
 pub returns-clause-took : goal.returns-clause-took
 returns-clause-took c =
@@ -43,7 +43,7 @@ pub returns-clause-replied : goal.returns-clause-replied
 returns-clause-replied c is =
     let may = subst (λ (n : Node). MayHear n c.args.got.now) (sym c.self.view_is) c.requires.accepted in
     ap (λ (w : Reception). w.replied) c.with_reply.ensures
-    ∙ told_replied c.self.inside.coordinator c.hear-heard.new.self c.args.got.now c.args.cost c.args.note c.args.now c.hear-heard.result c.hear-heard.new.out
+    ∙ replied_is c.self.inside.coordinator c.hear-heard.new.self c.args.got.now c.args.cost c.args.note c.args.now c.hear-heard.result c.hear-heard.new.out
     c.self.invariant may
     c.hear-heard.ensures.carries c.hear-heard.new.self.station.replied c.reply_of-replied.result (c.reply_of-replied.ensures ∙ c.last_reply.ensures)
     c.hear-heard.ensures.replied is

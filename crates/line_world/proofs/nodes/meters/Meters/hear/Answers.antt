@@ -4,8 +4,8 @@ use Rattle.std.proofs.lemmas.List.Elements.{All-set}
 use Rattle.line_world.specs.declared.nodes.reception.Reception.{Reception}
 use Rattle.line_world.specs.Receiving.{MayHear}
 use Rattle.line_world.specs.Soundness.{IsSoundMeter}
-use Rattle.line_world.proofs.HearingSteps.{running, came_up, told, heard, heard_sound, told_replied}
-use Rattle.line_world.proofs.ToldReplies.{tells_with}
+use Rattle.line_world.proofs.HearingSteps.{running, came_up, reported, heard, heard_sound, replied_is}
+use Rattle.line_world.proofs.ReportedReplies.{reported_with_reply}
 use Rattle.line_world.proofs.Places.{agrees_at, at_place, did, found_at, sound_at}
 use Rattle.line_world.proofs.nodes.meters.Meters.hear.Goals as goal
 
@@ -38,9 +38,9 @@ returns-clause-received c =
     let may = at_place c.self.inside.meters.items _ c.args.place c.index_mut-meter.result.now (λ n. MayHear n c.args.got.now) c.self.view_is c.requires.there
     c.index_mut-meter.ensures.value c.requires.accepted in
     found_at c.self.inside.meters.items _ c.args.place c.index_mut-meter.result.now _ c.self.view_is c.requires.there c.index_mut-meter.ensures.value (record {
-      reports = told x y c.args.got.now c.args.cost c.args.note c.args.now c.hear-heard.result c.hear-heard.new.out sound may c.hear-heard.ensures.after.psk
+      reports = reported x y c.args.got.now c.args.cost c.args.note c.args.now c.hear-heard.result c.hear-heard.new.out sound may c.hear-heard.ensures.after.psk
           c.hear-heard.ensures.carries
-          c.with_reply.result (tells_with c.reception_of_meter.result c.with_reply.result c.reply_of-replied.result _ c.with_reply.ensures
+          c.with_reply.result (reported_with_reply c.reception_of_meter.result c.with_reply.result c.reply_of-replied.result _ c.with_reply.ensures
           c.reception_of_meter.ensures);
       did = did _ c.self.inside.meters.items _ c.args.place y _ _ c.self.view_is
           (heard x y c.args.got.now c.args.cost c.args.note c.args.now c.hear-heard.result c.hear-heard.new.out sound may c.hear-heard.ensures.after.psk
@@ -57,7 +57,7 @@ returns-clause-replied c is =
     c.index_mut-meter.ensures.value c.requires.accepted in
     found_at c.self.inside.meters.items _ c.args.place c.index_mut-meter.result.now _ c.self.view_is c.requires.there c.index_mut-meter.ensures.value
     (ap (λ (w : Reception). w.replied) c.with_reply.ensures
-    ∙ told_replied x y c.args.got.now c.args.cost c.args.note c.args.now c.hear-heard.result c.hear-heard.new.out sound may c.hear-heard.ensures.after.psk
+    ∙ replied_is x y c.args.got.now c.args.cost c.args.note c.args.now c.hear-heard.result c.hear-heard.new.out sound may c.hear-heard.ensures.after.psk
     c.hear-heard.ensures.carries
     y.station.replied c.reply_of-replied.result (c.reply_of-replied.ensures ∙ c.last_reply.ensures) c.hear-heard.ensures.replied is)
 

@@ -1,6 +1,6 @@
 -- What the station of a meter did, the meter at its place did.
 use Rattle.line_world.specs.Reaching.{command_of}
-use Rattle.line_world.proofs.MeterReaching.{log_lent_at, meter_commanded_sound, meter_reached, meter_tells}
+use Rattle.line_world.proofs.MeterReaching.{log_lent_at, meter_commanded_sound, meter_reached, meter_reports}
 use Rattle.line_world.proofs.Places.{station_agrees_at}
 use Rattle.line_world.proofs.nodes.meters.Meters.hear_command.Goals as goal
 
@@ -14,7 +14,7 @@ hear_command_at-requires-clause-kept c = log_lent_at c.self.inside.meters.items 
 
 pub returns-clause-reports : goal.returns-clause-reports
 returns-clause-reports c =
-    meter_tells c.self.inside.meters.items _ c.args.place c.index_mut.result.now c.station.result.now c.hear_command_at.new.station c.self.view_is
+    meter_reports c.self.inside.meters.items _ c.args.place c.index_mut.result.now c.station.result.now c.hear_command_at.new.station c.self.view_is
     c.requires.there c.index_mut.ensures.value c.self.invariant c.station.ensures.value
     c.args.beside.now c.hear_command_at.new.beside (command_of c.args.command.now) c.hear_command_at.result c.args.out.now c.hear_command_at.new.out
     (log_lent_at c.self.inside.meters.items _ c.args.place c.index_mut.result.now c.station.result.now c.args.beside.now c.self.view_is c.requires.there

@@ -120,14 +120,14 @@ same_reply (Some a) None e = absurd (cc)
 same_reply (Some a) (Some z) e = ap (λ (o : Option (ℕ × ℕ × ℕ)). option_map (λ (t : ℕ × ℕ × ℕ). record { to = t.0; number = t.1; origin = t.2 }) o) e
 
 -- what a node tells of the reply that its station sent
-pub told_reply : {A : Type 0} (x : Node) (halted : A) (p : Memory → Plan Memory A) (m : Memory) (left : Option Memory) (last told : Option Reply)
+pub reply_is : {A : Type 0} (x : Node) (halted : A) (p : Memory → Plan Memory A) (m : Memory) (left : Option Memory) (last reported : Option Reply)
     → x.memory ≡ Some m → left ≡ (acts x halted p).node.memory
-    → last ≡ reply_sent (p m) left → parts_of told ≡ parts_of last → told ≡ reply_among (acts x halted p).frames
-told_reply x halted p m left last told there after is same =
-    same_reply told last same ∙ is ∙ ap (λ (o : Option Memory). reply_sent (p m) o) after ∙ acts_reply x halted p m there
+    → last ≡ reply_sent (p m) left → parts_of reported ≡ parts_of last → reported ≡ reply_among (acts x halted p).frames
+reply_is x halted p m left last reported there after is same =
+    same_reply reported last same ∙ is ∙ ap (λ (o : Option Memory). reply_sent (p m) o) after ∙ acts_reply x halted p m there
 
 -- what is told beside the reply
-pub tells_with : (word told : Reception) (replied : Option Reply) (r : rules.Reception) → told ≡ record word { replied = replied } → ReportsReception word r
-    → ReportsReception told r
-tells_with word told replied r is t =
+pub reported_with_reply : (word reported : Reception) (replied : Option Reply) (r : rules.Reception) → reported ≡ record word { replied = replied } → ReportsReception word r
+    → ReportsReception reported r
+reported_with_reply word reported replied r is t =
     subst (λ (k : Reception). ReportsReception k r) (sym is) (record { answer = t.answer; up = t.up; took = t.took; done = t.done })
