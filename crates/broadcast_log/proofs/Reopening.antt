@@ -5,7 +5,7 @@ use Rattle.plc_base.specs.Keeper.{Records}
 use Rattle.store_tables.specs.Marks.{mark_in-rests}
 use Rattle.store_tables.specs.Numberings.{counting_at, counting_from}
 use Rattle.store_tables.proofs.Opening.{opened_kept, opened_reads, reopened, stored_gapless}
-use Rattle.broadcast_log.specs.NextNumber.{IsLimitKept, Numbering, limit_at, limit_in, limit_slot}
+use Rattle.broadcast_log.specs.NextNumber.{LimitAgrees, Numbering, limit_at, limit_in, limit_slot}
 use Rattle.broadcast_log.specs.OriginMarks.{marks}
 use Rattle.broadcast_log.specs.Log.{Log, log_at_rest, opened}
 use Rattle.broadcast_log.specs.Laws.{IsLogIn}
@@ -23,7 +23,7 @@ opened_in was log records h e =
     let limit = h.kept.numbering.limit in
     record {
       kept = record {
-        numbering = subst (λ (c : Numbering). IsLimitKept c records) n (record { limit = limit; below = omega arith });
+        numbering = subst (λ (c : Numbering). LimitAgrees c records) n (record { limit = limit; below = omega arith });
         marks = opened_kept marks records (Ok log.marks) (λ _ octets entry r. mark_in-rests 0x0300 32 octets entry r) (sym o.marks)
             (stored_gapless marks was.marks records h.kept.marks);
       };

@@ -12,7 +12,7 @@ use Rattle.broadcast_log.specs.Grammar.{Spells}
 use Rattle.broadcast_log.specs.Reading.{broadcast_in}
 use Rattle.broadcast_log.specs.NextNumber.{is_spent, number_put}
 use Rattle.broadcast_log.specs.OriginMarks.{marks, room_for, keep_write}
-use Rattle.broadcast_log.specs.Log.{Log, IsKept, numbered_log, admitted_log}
+use Rattle.broadcast_log.specs.Log.{Log, AgreesWith, numbered_log, admitted_log}
 use Rattle.broadcast_log.specs.Runs.{Runs}
 
 -- the broadcast that octets spell is read out of them
@@ -38,7 +38,7 @@ EachIsGivenOnce =
 
 -- A log is what the records give, its limit has a record, and each origin has one place.
 pub record IsLogIn (log : Log) (records : Records) : Type 0 where
-  pub kept : IsKept log records
+  pub kept : AgreesWith log records
   pub fits : log.numbering.limit < 2 ^ 32
   pub sound : slots.IsTable marks log.marks
 

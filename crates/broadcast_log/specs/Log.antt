@@ -9,8 +9,8 @@ use Rattle.store_tables.specs.Numberings.{counting_code, counting_at}
 use Rattle.store_tables.specs.Marks.{table_code, admission_answer, where_room}
 use Rattle.broadcast_log.specs.declared.fault.LogFault.{LogFault}
 use Rattle.broadcast_log.specs.declared.fault.LogFault.TheVariants.{NumberSpent, Store, Old, OriginsFull}
-use Rattle.broadcast_log.specs.NextNumber.{Numbering, numbering_in, IsLimitKept, limit_in, limit_slot, number_put, numbered, is_spent}
-use Rattle.broadcast_log.specs.OriginMarks.{Marks, marks, at_rest, AreMarksKept, room_for, keep_write, kept_after}
+use Rattle.broadcast_log.specs.NextNumber.{Numbering, numbering_in, LimitAgrees, limit_in, limit_slot, number_put, numbered, is_spent}
+use Rattle.broadcast_log.specs.OriginMarks.{Marks, marks, at_rest, MarksAgree, room_for, keep_write, kept_after}
 
 -- The number of the next own broadcast, and the marks of the origins in the order of their slots.
 pub record Log : Type 0 where
@@ -28,9 +28,9 @@ log_code =
     (λ l. (l.numbering, l.marks)) (λ p. record { numbering = p.0; marks = p.1 }) (λ _. refl)
 
 -- What the log holds as stored is what the records give.
-pub record IsKept (log : Log) (records : Records) : Type 0 where
-  pub numbering : IsLimitKept log.numbering records
-  pub marks : AreMarksKept log.marks records
+pub record AgreesWith (log : Log) (records : Records) : Type 0 where
+  pub numbering : LimitAgrees log.numbering records
+  pub marks : MarksAgree log.marks records
 
 -- # Opening
 
@@ -56,7 +56,7 @@ log_at_rest log = record { numbering = counting_at log.numbering.limit; marks = 
 -- a log that was kept is opened again, at rest
 abbrev pub Reopens : Records → Result Log BadStore → Type 0
 Reopens records result =
-    (log : Log) → slots.IsTable marks log.marks → IsKept log records → result ≡ Ok (log_at_rest log)
+    (log : Log) → slots.IsTable marks log.marks → AgreesWith log records → result ≡ Ok (log_at_rest log)
 
 -- # Calls: what each answers, which put it makes and what the log is afterwards; done says that no put failed
 

@@ -27,8 +27,8 @@ abbrev pub numbering_in : Records → Result Numbering BadStore
 numbering_in records = numbers.opened limit_at records
 
 -- The limit is what the records give.
-abbrev pub IsLimitKept : Numbering → Records → Type 0
-IsLimitKept numbering records = numbers.IsKept limit_at numbering records
+abbrev pub LimitAgrees : Numbering → Records → Type 0
+LimitAgrees numbering records = numbers.AgreesWith limit_at numbering records
 
 -- what is stored before the next number is given out: a higher limit, where the number equals the limit
 abbrev pub number_put : Numbering → Option Write

@@ -28,8 +28,8 @@ abbrev pub IsCovered : Marks → Type 0
 IsCovered table = tables.IsCovered 0x0300 32 table
 
 -- What the table holds as stored is what the records give, and no record stands after them.
-abbrev pub AreMarksKept : Marks → Records → Type 0
-AreMarksKept table records = tables.IsKept 0x0300 32 table records
+abbrev pub MarksAgree : Marks → Records → Type 0
+MarksAgree table records = tables.AgreesWith 0x0300 32 table records
 
 -- the place of an origin in the table
 abbrev pub place_of : Marks → ℕ → Option ℕ

@@ -6,7 +6,7 @@ ghost use Rattle.store_tables.specs.SlotTables.{IsTable, IsGapless};
 ghost use Rattle.store_tables.specs.Numberings.{AllBelow};
 ghost use Rattle.store_tables.specs.AdmittedNumbers.{Admitted, AllEarlier};
 ghost use Rattle.broadcast_log.specs.OriginMarks.{marks, IsCovered, mark_of, room_for};
-ghost use Rattle.broadcast_log.specs.Log.{Log, empty_log, IsKept, IsBad, Reopens, opened, next_result, next_write, next_after, numbered_log, admit_result};
+ghost use Rattle.broadcast_log.specs.Log.{Log, empty_log, AgreesWith, IsBad, Reopens, opened, next_result, next_write, next_after, numbered_log, admit_result};
 ghost use Rattle.broadcast_log.specs.Log.{admit_write, admit_after, admitted_log, is_stored};
 ghost use Rattle.broadcast_log.specs.Runs.{Runs};
 ghost use Rattle.plc_base.specs.declared.limits.TheConstants.{GREATEST_COUNTER};
@@ -60,7 +60,7 @@ impl BroadcastLog {
         ensures log { result ≡ opened (K.store keeper.now).records }
         ensures bad { IfErr result (λ bad. IsBad (K.store keeper.now).records bad.slot) }
         ensures kept { IsGapless marks (K.store keeper.now).records
-            → IfOk result (λ log. IsKept log (K.store keeper.now).records) }
+            → IfOk result (λ log. AgreesWith log (K.store keeper.now).records) }
         // A log that was kept is opened again, at its limit and with each mark the stored one.
         ensures reopened { Reopens (K.store keeper.now).records result }
     {
@@ -97,7 +97,7 @@ impl BroadcastLog {
     ///
     /// NumberSpent exactly where none is left. Store where that put failed. After each error the log is as it was.
     pub fn next<K: Keeper>(&mut self, keeper: &mut K) -> Result<u32, LogFault>
-        requires { IsKept self.old (K.store keeper.old).records }
+        requires { AgreesWith self.old (K.store keeper.old).records }
         ensures answer { result ≡ next_result self.old (is_stored result) }
         // It is above all that was given out before, over any calls, failed puts and new starts.
         ensures fresh { (given : List ℕ) → (before : List Admitted)
@@ -105,9 +105,9 @@ impl BroadcastLog {
             → IfOk result (λ number. AllBelow number given) }
         ensures log { self.new ≡ next_after self.old (is_stored result) }
         ensures store { Stores (K.store keeper.old) (next_write self.old) (is_stored result) (K.store keeper.new) }
-        ensures kept { OnTrue (is_stored result) (IsKept self.new (K.store keeper.new).records) }
+        ensures kept { OnTrue (is_stored result) (AgreesWith self.new (K.store keeper.new).records) }
         // Whatever became of the put, the records are those of the log before or of the log after.
-        ensures either { IsOldOrNew IsKept self.old (numbered_log self.old) (K.store keeper.new).records }
+        ensures either { IsOldOrNew AgreesWith self.old (numbered_log self.old) (K.store keeper.new).records }
         ensures elsewhere { OutsideStays 6 6 (K.store keeper.old) (K.store keeper.new) }
     {
         if self.numbering.left() == 0 {
@@ -141,7 +141,7 @@ impl BroadcastLog {
         origin: Short,
         number: u32,
     ) -> Result<(), LogFault>
-        requires { IsKept self.old (K.store keeper.old).records }
+        requires { AgreesWith self.old (K.store keeper.old).records }
         ensures answer { result ≡ admit_result self.old origin number (is_stored result) }
         // It is above all that was admitted of the origin before, over any calls, failed puts and new starts.
         ensures fresh { (given : List ℕ) → (before : List Admitted)
@@ -150,8 +150,8 @@ impl BroadcastLog {
         ensures log { self.new ≡ admit_after self.old origin number (is_stored result) }
         ensures store { Stores (K.store keeper.old) (admit_write self.old origin number) (is_stored result)
             (K.store keeper.new) }
-        ensures kept { OnTrue (is_stored result) (IsKept self.new (K.store keeper.new).records) }
-        ensures either { IsOldOrNew IsKept self.old (admitted_log self.old origin number) (K.store keeper.new).records }
+        ensures kept { OnTrue (is_stored result) (AgreesWith self.new (K.store keeper.new).records) }
+        ensures either { IsOldOrNew AgreesWith self.old (admitted_log self.old origin number) (K.store keeper.new).records }
         ensures elsewhere { OutsideStays 0x0300 0x031F (K.store keeper.old) (K.store keeper.new) }
     {
         match self

@@ -31,7 +31,7 @@ use Rattle.plc_station.specs.StationReading as stations
 use Rattle.plc_station.proofs.Agreeing.{agrees_ringed}
 use Rattle.plc_station.proofs.Carrying.{if_some, at_some, resting_carried}
 use Rattle.coordinator.specs.CoordinatorStates.{CoordinatorState, memory_in, state_in, node_of}
-use Rattle.coordinator.specs.CoordinatorAgreement.{HoldsWith}
+use Rattle.coordinator.specs.CoordinatorAgreement.{CoordinatorAgreesWith}
 use Rattle.coordinator.specs.Opening.{Begins, halted_state}
 use Rattle.coordinator.proofs.Storing.{stored, unstored, carried_by}
 use Rattle.coordinator.proofs.Rereading.{read_ring, read_below, read_again}
@@ -122,23 +122,23 @@ module _ (s : State StationMemory) (l : StationMemory) (running : s.memory ≡ S
         subst (λ (k : Store). Stores k (ring.ring_write (Some (first_grant key))) done left) same
         (subst (λ (g : Granted). Stores before (ring.ring_write (Some g)) done left) first stores)
 
-    kept_first : (r : ring.Ring) → r ≡ Some x → ring.IsKept r left.records → ring.IsKept (Some (first_grant key)) left.records
-    kept_first r is kept = subst (λ (k : ring.Ring). ring.IsKept k left.records) (is ∙ ap (λ (g : Granted). Some g) first) kept
+    kept_first : (r : ring.Ring) → r ≡ Some x → ring.AgreesWith r left.records → ring.AgreesWith (Some (first_grant key)) left.records
+    kept_first r is kept = subst (λ (k : ring.Ring). ring.AgreesWith k left.records) (is ∙ ap (λ (g : Granted). Some g) first) kept
 
-    reads : (r : ring.Ring) → r ≡ Some x → ring.IsKept r left.records → OutsideStays 1 1 before left
+    reads : (r : ring.Ring) → r ≡ Some x → ring.AgreesWith r left.records → OutsideStays 1 1 before left
         → station_of left.records ≡ Ok (record l { ring = Some (first_grant key) })
     reads r is kept apart =
         read_again s.store.records left.records (subst (λ (k : Store). OutsideStays 1 1 k left) same apart) l (Some (first_grant key)) read
         (kept_first r is kept)
 
-    pub store_reads : (r : ring.Ring) → r ≡ Some x → ring.IsKept r left.records → OutsideStays 1 1 before left
+    pub store_reads : (r : ring.Ring) → r ≡ Some x → ring.AgreesWith r left.records → OutsideStays 1 1 before left
         → (o : Result (Unit {0}) BadStore) (bad : BadStore)
         → o ≡ stations.read_answer (station_of left.records) → o ≡ Err bad → ⊥
     store_reads r is kept apart o bad answer e = not_both o bad tt e (answer ∙ ap stations.read_answer (reads r is kept apart))
 
     module _ (randoms : List Rand) (sessions : List CoordinatorSession) (b : book.Book) (new : State StationMemory) (reply : Option Reply) where
       -- it was stored, and the store was read again
-      pub first_stored : is_some l.ring ≡ false → Stores before (ring.ring_write (Some x)) true left → (r : ring.Ring) → r ≡ Some x → ring.IsKept r left.records
+      pub first_stored : is_some l.ring ≡ false → Stores before (ring.ring_write (Some x)) true left → (r : ring.Ring) → r ≡ Some x → ring.AgreesWith r left.records
           → OutsideStays 1 1 before left
           → new ≡ record { store = left; eui = s.eui; memory = stations.if_read (station_of left.records); replied = reply }
           → Carries (state_in s randoms sessions b) (begin (memory_in randoms sessions b l) (first_grant key)) (Ok tt) nothing (state_in new randoms sessions b)
@@ -184,15 +184,15 @@ module _ (s : State StationMemory) (l : StationMemory) (running : s.memory ≡ S
           }) refl)
 
       -- so it holds what is stored
-      pub first_holds : AgreesWith l s.store.records → book.IsKept b s.store.records → (r : ring.Ring) → r ≡ Some x → ring.IsKept r left.records
+      pub first_holds : AgreesWith l s.store.records → book.AgreesWith b s.store.records → (r : ring.Ring) → r ≡ Some x → ring.AgreesWith r left.records
           → OutsideStays 1 1 before left
           → new ≡ record { store = left; eui = s.eui; memory = stations.if_read (station_of left.records); replied = reply }
-          → IfSome (option_map (memory_in randoms sessions b) new.memory) (λ m. HoldsWith m new.store.records)
+          → IfSome (option_map (memory_in randoms sessions b) new.memory) (λ m. CoordinatorAgreesWith m new.store.records)
       first_holds agrees stays r is kept apart now =
           let outside = subst (λ (k : Store). OutsideStays 1 1 k left) same apart in
-          subst (λ (k : State StationMemory). IfSome (option_map (memory_in randoms sessions b) k.memory) (λ m. HoldsWith m k.store.records)) (sym now)
+          subst (λ (k : State StationMemory). IfSome (option_map (memory_in randoms sessions b) k.memory) (λ m. CoordinatorAgreesWith m k.store.records)) (sym now)
           (subst (λ (o : Result StationMemory BadStore). IfSome (option_map (memory_in randoms sessions b) (stations.if_read o))
-          (λ m. HoldsWith m left.records)) (sym (reads r is kept apart))
+          (λ m. CoordinatorAgreesWith m left.records)) (sym (reads r is kept apart))
           (record {
             station = agrees_ringed l (Some (first_grant key)) s.store.records left.records agrees (kept_first r is kept) outside;
             book = stored_elsewhere book.entries b s.store.records left.records 1 1 stays outside (inl (omega arith));

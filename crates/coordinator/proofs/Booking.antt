@@ -13,7 +13,7 @@ use Rattle.node_rules.specs.Drafts.{empty_draft}
 use Rattle.node_rules.specs.Coordinators.{with_book_entry}
 use Rattle.node_rules.specs.States.{State}
 use Rattle.coordinator.specs.CoordinatorStates.{memory_in, state_in}
-use Rattle.coordinator.specs.CoordinatorAgreement.{HoldsWith, Holds}
+use Rattle.coordinator.specs.CoordinatorAgreement.{CoordinatorAgreesWith, CoordinatorAgrees}
 use Rattle.coordinator.specs.DraftsCarriedOut.{Does}
 use Rattle.coordinator.proofs.Agreeing.{agrees_booked}
 
@@ -37,11 +37,11 @@ module _ (s : State StationMemory) (randoms : List Rand) (sessions : List Coordi
   unfolding with_book_entry empty_draft
   unbooked l stores = record { wrote = wrote false stores; state = refl }
 
-  pub booked_holds : (l : StationMemory) → s.memory ≡ Some l → HoldsWith (memory_in randoms sessions b l) s.store.records
-      → OutsideStays 0x1000 0x13E6 before now → book.IsKept after now.records
-      → Holds (state_in (record s { store = now }) randoms sessions after)
+  pub booked_holds : (l : StationMemory) → s.memory ≡ Some l → CoordinatorAgreesWith (memory_in randoms sessions b l) s.store.records
+      → OutsideStays 0x1000 0x13E6 before now → book.AgreesWith after now.records
+      → CoordinatorAgrees (state_in (record s { store = now }) randoms sessions after)
   booked_holds l running h stays kept =
-      subst (λ (o : Option StationMemory). IfSome (option_map (memory_in randoms sessions after) o) (λ m. HoldsWith m now.records)) (sym running) (record {
+      subst (λ (o : Option StationMemory). IfSome (option_map (memory_in randoms sessions after) o) (λ m. CoordinatorAgreesWith m now.records)) (sym running) (record {
         station = agrees_booked l s.store.records now.records h.station (subst (λ (k : Store). OutsideStays 0x1000 0x13E6 k now) same stays);
         book = kept;
         home = h.home;

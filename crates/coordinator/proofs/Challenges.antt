@@ -26,7 +26,7 @@ use Rattle.node_rules.specs.Carrying.{Carries}
 use Rattle.node_rules.specs.Composing.{begun}
 use Rattle.node_rules.proofs.Composing.{command_plan, command_units, room_seals, room_refuses, carries_behind}
 use Rattle.coordinator.specs.CoordinatorStates.{memory_in, state_in}
-use Rattle.coordinator.specs.CoordinatorAgreement.{HoldsWith, Holds}
+use Rattle.coordinator.specs.CoordinatorAgreement.{CoordinatorAgreesWith, CoordinatorAgrees}
 use Rattle.coordinator.specs.Tables.{placed}
 use Rattle.coordinator.specs.MeshCommands.{sent_command, lacks, RoomFor}
 use Rattle.coordinator.proofs.Storing.{carried_by}
@@ -87,7 +87,7 @@ module _ (own : Eui) (m : Memory) (to now : ℕ) (server : Server) where
   first_lacks reason home fault =
       room_refuses to (length (command_of first)) orders lacking m (from_address (address_of m.station)) tt reason fault (long home)
 
-  first_done : (s mid t : State Memory) (answer : Result (Unit {0}) CoordinatorRefusal) (out : Out) → HoldsWith m s.store.records
+  first_done : (s mid t : State Memory) (answer : Result (Unit {0}) CoordinatorRefusal) (out : Out) → CoordinatorAgreesWith m s.store.records
       → RoomFor m to (message server.eui (Challenge (first_packet server)))
       → mid ≡ record s { memory = Some (with_session (record { server = server; way = Mesh to; since = now }) (without_oldest m)) }
       → IfSome mid.memory (λ n. Carries mid (sent_command n to (message server.eui (Challenge (first_packet server))) now) answer out t)
@@ -109,7 +109,7 @@ module _ (own : Eui) (m : Memory) (to now : ℕ) (server : Server) where
 
   pub ordered_done : (join : JoinMessage) (s mid t : State Memory) (answer : Result (Unit {0}) CoordinatorRefusal) (out : Out)
       → join ≡ message server.eui (Challenge (first_packet server))
-      → HoldsWith m s.store.records → RoomFor m to join
+      → CoordinatorAgreesWith m s.store.records → RoomFor m to join
       → mid ≡ record s { memory = Some (with_session (record { server = server; way = Mesh to; since = now }) (without_oldest m)) }
       → IfSome mid.memory (λ n. Carries mid (sent_command n to join now) answer out t) → Carries s (challenge_by own m to now server) answer out t
   ordered_done join s mid t answer out same h room is goes =
@@ -129,11 +129,11 @@ module _ (s : State StationMemory) (randoms after : List Rand) (sessions next : 
   began session l running taken put =
       λ i. record { store = s.store; eui = s.eui; memory = option_map (memory_in (taken i) (put i) b) (running i); replied = s.replied }
 
-  pub beside_holds : Holds (state_in s randoms sessions b) → Holds (state_in s after next b)
+  pub beside_holds : CoordinatorAgrees (state_in s randoms sessions b) → CoordinatorAgrees (state_in s after next b)
   beside_holds h = by s.memory h
     where
-      by : (o : Option StationMemory) → IfSome (option_map (memory_in randoms sessions b) o) (λ m. HoldsWith m s.store.records)
-          → IfSome (option_map (memory_in after next b) o) (λ m. HoldsWith m s.store.records)
+      by : (o : Option StationMemory) → IfSome (option_map (memory_in randoms sessions b) o) (λ m. CoordinatorAgreesWith m s.store.records)
+          → IfSome (option_map (memory_in after next b) o) (λ m. CoordinatorAgreesWith m s.store.records)
       by None h = tt
       by (Some l) h = record { station = h.station; book = h.book; home = h.home }
 

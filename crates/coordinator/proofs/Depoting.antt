@@ -19,7 +19,7 @@ use Rattle.node_rules.specs.States.{State}
 use Rattle.node_rules.specs.Carrying.{Carries, nothing}
 use Rattle.node_rules.proofs.Composing.{state_is}
 use Rattle.plc_station.proofs.Carrying.{at_some}
-use Rattle.coordinator.specs.CoordinatorAgreement.{HoldsWith}
+use Rattle.coordinator.specs.CoordinatorAgreement.{CoordinatorAgreesWith}
 use Rattle.coordinator.specs.DraftsCarriedOut.{Does}
 use Rattle.coordinator.proofs.Storing.{stored, unstored, carried_by}
 use Rattle.coordinator.proofs.Entering.{IsQuiet, changed_quiet, below_limit, allowed_eui}
@@ -134,7 +134,7 @@ Issues : State Memory → Eui → Bool → State Memory → Memory → Type 0
 Issues mid eui done t n = IfSome (grant_for n eui)
     (λ granted. IfSome (allowed_entry n eui) (λ e. Does mid (with_book_entry (book.issued_entry eui granted e) (empty_draft n)) done t))
 
-pub depot_done : (s mid t : State Memory) (m : Memory) (eui : Eui) (psk : Key) (entry : BookEntry) (granted : Granted) → HoldsWith m s.store.records
+pub depot_done : (s mid t : State Memory) (m : Memory) (eui : Eui) (psk : Key) (entry : BookEntry) (granted : Granted) → CoordinatorAgreesWith m s.store.records
     → true ≡ book.has_room m.book eui → entry ≡ book.allowed_entry eui psk (book.entry_for m.book eui) → Does s (changed m entry) true mid
     → IfSome mid.memory (λ n. grant_for n eui ≡ Some granted)
     → IfSome mid.memory (λ n. IfSome (grant_for n eui)
@@ -158,7 +158,7 @@ pub home_left : (m : Memory) (entry : BookEntry) → address_of m.station ≡ So
 home_left m entry home = ap address_of (changed_quiet m entry).station ∙ home
 
 -- the first put failed, or the second one did
-pub depot_failed : (s t : State Memory) (m : Memory) (eui : Eui) (psk : Key) (entry : BookEntry) → HoldsWith m s.store.records
+pub depot_failed : (s t : State Memory) (m : Memory) (eui : Eui) (psk : Key) (entry : BookEntry) → CoordinatorAgreesWith m s.store.records
     → true ≡ book.has_room m.book eui → entry ≡ book.allowed_entry eui psk (book.entry_for m.book eui)
     → ((granted : Granted) → grant_for (changed m entry).memory eui ≡ Some granted
     → Does s (with_book_entry (book.issued_entry eui granted entry) (changed m entry)) false t)
@@ -175,12 +175,12 @@ depot_failed s t m eui psk entry h room is does = by_grant (grant_for (changed m
         (depot_is m eui psk entry entry granted room is grants (found m eui psk entry is))
         (unstored orders s t d granted nothing (does granted grants) q.out_failed)
 
-pub depot_stopped : (s t : State Memory) (m : Memory) (eui : Eui) (psk : Key) (entry : BookEntry) → HoldsWith m s.store.records
+pub depot_stopped : (s t : State Memory) (m : Memory) (eui : Eui) (psk : Key) (entry : BookEntry) → CoordinatorAgreesWith m s.store.records
     → true ≡ book.has_room m.book eui → entry ≡ book.allowed_entry eui psk (book.entry_for m.book eui) → Does s (changed m entry) false t
     → Carries s (depot m eui psk) (Err Failed) nothing t
 depot_stopped s t m eui psk entry h room is first = depot_failed s t m eui psk entry h room is (λ granted grants. stop_booked s t (changed m entry) _ first)
 
-pub depot_unissued : (s mid t : State Memory) (m : Memory) (eui : Eui) (psk : Key) (entry : BookEntry) → HoldsWith m s.store.records
+pub depot_unissued : (s mid t : State Memory) (m : Memory) (eui : Eui) (psk : Key) (entry : BookEntry) → CoordinatorAgreesWith m s.store.records
     → true ≡ book.has_room m.book eui → entry ≡ book.allowed_entry eui psk (book.entry_for m.book eui) → Does s (changed m entry) true mid
     → IfSome mid.memory (λ n. IfSome (grant_for n eui)
     (λ granted. IfSome (allowed_entry n eui) (λ e. Does mid (with_book_entry (book.issued_entry eui granted e) (empty_draft n)) false t)))

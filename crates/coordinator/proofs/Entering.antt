@@ -17,7 +17,7 @@ use Rattle.node_rules.specs.States.{State}
 use Rattle.node_rules.specs.Carrying.{Carries, nothing}
 use Rattle.node_rules.proofs.Composing.{state_is}
 use Rattle.plc_station.proofs.Carrying.{at_some}
-use Rattle.coordinator.specs.CoordinatorAgreement.{HoldsWith}
+use Rattle.coordinator.specs.CoordinatorAgreement.{CoordinatorAgreesWith}
 use Rattle.coordinator.specs.DraftsCarriedOut.{Does}
 use Rattle.coordinator.proofs.Storing.{stored, unstored, carried_by, out_done, out_failed}
 
@@ -82,7 +82,7 @@ unfolding change_by
 changed_quiet m e = quiet_by m e (book.holds m.book e)
 
 -- the counter of a station that agrees is not above its limit
-pub below_limit : (s : State Memory) (m : Memory) (d : Draft Memory) → HoldsWith m s.store.records → d.memory.station ≡ m.station
+pub below_limit : (s : State Memory) (m : Memory) (d : Draft Memory) → CoordinatorAgreesWith m s.store.records → d.memory.station ≡ m.station
     → d.memory.station.counter.next ≤ d.memory.station.counter.limit
 below_limit s m d h same = rw same (h.station.counter.below)
 
@@ -111,7 +111,7 @@ allow_is m eui psk entry address room is at =
     let place : address ≡ book.place_for m.book eui + 1 = at ∙ ap (λ (u : Eui). book.place_for m.book u + 1) own in
     rw (← room) (λ i. sealing in_memory orders (changed m (is i)) (place i))
 
-pub allow_done : (s t : State Memory) (m : Memory) (eui : Eui) (psk : Key) (entry : BookEntry) (address : ℕ) → HoldsWith m s.store.records
+pub allow_done : (s t : State Memory) (m : Memory) (eui : Eui) (psk : Key) (entry : BookEntry) (address : ℕ) → CoordinatorAgreesWith m s.store.records
     → true ≡ book.has_room m.book eui → entry ≡ book.allowed_entry eui psk (book.entry_for m.book eui) → address ≡ book.place_for m.book entry.eui + 1
     → Does s (changed m entry) true t → Carries s (allow m eui psk) (Ok address) nothing t
 allow_done s t m eui psk entry address h room is at does =

@@ -23,7 +23,7 @@ use Rattle.node_rules.specs.Carrying.{Carries, nothing}
 use Rattle.node_rules.specs.Composing.{behind, command_alone}
 use Rattle.node_rules.proofs.Composing.{command_plan, carries_behind, carries_stopped}
 use Rattle.plc_station.proofs.Carrying.{at_some}
-use Rattle.coordinator.specs.CoordinatorAgreement.{HoldsWith}
+use Rattle.coordinator.specs.CoordinatorAgreement.{CoordinatorAgreesWith}
 use Rattle.coordinator.specs.DraftsCarriedOut.{Does}
 use Rattle.coordinator.specs.MeshCommands.{sent_command, reaches, RoomFor}
 use Rattle.coordinator.specs.Kicking.{shut_out, silently}
@@ -109,14 +109,14 @@ unfolding with_memory_by with_book_entry empty_draft
 shut_quiet m e = record { units = refl; out_done = refl; out_failed = refl; station = refl }
 
 module _ (s : State Memory) (m : Memory) (e : BookEntry) where
-  pub silent_done : (t : State Memory) → HoldsWith m s.store.records → Does s (shut_out m e) true t → Carries s (silently m e) (Ok tt) nothing t
+  pub silent_done : (t : State Memory) → CoordinatorAgreesWith m s.store.records → Does s (shut_out m e) true t → Carries s (silently m e) (Ok tt) nothing t
   silent_done t h does =
       let q = shut_quiet m e in stored orders s t (shut_out m e) tt nothing q.units (below_limit s m (shut_out m e) h q.station) does q.out_done
 
   pub silent_stopped : (t : State Memory) → Does s (shut_out m e) false t → Carries s (silently m e) (Err Failed) nothing t
   silent_stopped t does = unstored orders s t (shut_out m e) tt nothing does (shut_quiet m e).out_failed
 
-  pub ordered_stopped : (t : State Memory) (to : ℕ) (out : Out) → HoldsWith m s.store.records → reaches m to ≡ true → out ≡ nothing
+  pub ordered_stopped : (t : State Memory) (to : ℕ) (out : Out) → CoordinatorAgreesWith m s.store.records → reaches m to ≡ true → out ≡ nothing
       → Does s (shut_out m e) false t
       → Carries s (kick_by m e to) (Err Failed) out t
   ordered_stopped t to out h reached empty does =
@@ -128,7 +128,7 @@ module _ (s : State Memory) (m : Memory) (e : BookEntry) where
       }))
       (ap (λ (x : State Memory). x.eui) does.state) (ap (λ (x : State Memory). x.memory) does.state))
 
-  pub ordered_done : (mid t : State Memory) (to : ℕ) (answer : Result (Unit {0}) CoordinatorRefusal) (out : Out) → HoldsWith m s.store.records
+  pub ordered_done : (mid t : State Memory) (to : ℕ) (answer : Result (Unit {0}) CoordinatorRefusal) (out : Out) → CoordinatorAgreesWith m s.store.records
       → reaches m to ≡ true
       → Does s (shut_out m e) true mid → IfSome mid.memory (λ n. Carries mid (sent_command n to (message e.eui Kick) 0) answer out t)
       → Carries s (kick_by m e to) answer out t

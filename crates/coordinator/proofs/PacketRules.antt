@@ -40,7 +40,7 @@ use Rattle.node_rules.specs.Coordinators.{with_book_entry, keys_for, take_second
 use Rattle.node_rules.specs.States.{State}
 use Rattle.node_rules.specs.Carrying.{Carries}
 use Rattle.plc_station.proofs.Carrying.{at_some}
-use Rattle.coordinator.specs.CoordinatorAgreement.{HoldsWith}
+use Rattle.coordinator.specs.CoordinatorAgreement.{CoordinatorAgreesWith}
 use Rattle.coordinator.specs.CoordinatorStates.{memory_in, state_in}
 use Rattle.coordinator.specs.DraftsCarriedOut.{Does}
 use Rattle.coordinator.specs.Tables.{placed}
@@ -199,7 +199,7 @@ module _ (s : State Memory) (m : Memory) (session : CoordinatorSession) (e : Boo
       → IfSome mid.memory (λ n. book.has_room n.book e.eui ≡ true)
   entry_room mid is room = subst (λ (o : Option Memory). IfSome o (λ n. book.has_room n.book e.eui ≡ true)) (sym (ap (λ (x : State Memory). x.memory) is)) room
 
-  module _ (join : JoinMessage) (granted : Granted) (tags : TagList) (now : ℕ) (h : HoldsWith m s.store.records) where
+  module _ (join : JoinMessage) (granted : Granted) (tags : TagList) (now : ℕ) (h : CoordinatorAgreesWith m s.store.records) where
     pub keys_lack : (reason : Dropped) → say_fault m session.way join ≡ Some reason
         → refused {H = CoordinatorHeard} dropped m reason ≡ keying m session e join granted tags now
     keys_lack reason fault =
@@ -277,7 +277,7 @@ agreed_tags agreed server rand_p tags theirs awaits is =
 
 -- # The acceptance
 
-module _ (m : Memory) (session : CoordinatorSession) (agreed : Agreed) (tags : TagList) (now : ℕ) (s : State Memory) (h : HoldsWith m s.store.records) where
+module _ (m : Memory) (session : CoordinatorSession) (agreed : Agreed) (tags : TagList) (now : ℕ) (s : State Memory) (h : CoordinatorAgreesWith m s.store.records) where
   -- the plan with this message
   accepting_with : JoinMessage → Hearing
   accepting_with join = said_after m session.way join now (done_by [] (without_session session.server.eui m) tags) (Done session.server.eui agreed)

@@ -10,7 +10,7 @@ use Rattle.group_keys.specs.KeyBook as book
 use Rattle.node_rules.specs.Memory.{StationMemory, Memory, CoordinatorSession, address_of}
 use Rattle.node_rules.specs.Agreement.{AgreesWith}
 use Rattle.coordinator.specs.CoordinatorStates.{memory_in}
-use Rattle.coordinator.specs.CoordinatorAgreement.{HoldsWith}
+use Rattle.coordinator.specs.CoordinatorAgreement.{CoordinatorAgreesWith}
 
 pub part_runs : {L M : Type 0} (o : Option L) (f : L → M) → IsSome (option_map f o) → IsSome o
 part_runs None f h = h
@@ -21,25 +21,25 @@ has_ring None home = absurd (cc)
 has_ring (Some g) home = refl
 
 module _ (randoms : List Rand) (sessions : List CoordinatorSession) (b : book.Book) (records : Records) where
-  pub part_agrees : (o : Option StationMemory) → IfSome (option_map (memory_in randoms sessions b) o) (λ m. HoldsWith m records)
+  pub part_agrees : (o : Option StationMemory) → IfSome (option_map (memory_in randoms sessions b) o) (λ m. CoordinatorAgreesWith m records)
       → IfSome o (λ l. AgreesWith l records)
   part_agrees None h = tt
   part_agrees (Some l) h = h.station
 
-  pub part_joined : (o : Option StationMemory) → IfSome (option_map (memory_in randoms sessions b) o) (λ m. HoldsWith m records) → IfSome o (λ l. IsSome l.ring)
+  pub part_joined : (o : Option StationMemory) → IfSome (option_map (memory_in randoms sessions b) o) (λ m. CoordinatorAgreesWith m records) → IfSome o (λ l. IsSome l.ring)
   part_joined None h = tt
   part_joined (Some l) h = has_ring l.ring h.home
 
   pub part_book : (o : Option StationMemory) → IsSome (option_map (memory_in randoms sessions b) o)
-      → IfSome (option_map (memory_in randoms sessions b) o) (λ m. HoldsWith m records)
-      → book.IsKept b records
+      → IfSome (option_map (memory_in randoms sessions b) o) (λ m. CoordinatorAgreesWith m records)
+      → book.AgreesWith b records
   part_book None runs h = absurd (cc)
   part_book (Some l) runs h = h.book
 
-  pub part_home : (o : Option StationMemory) (l : StationMemory) → o ≡ Some l → IfSome (option_map (memory_in randoms sessions b) o) (λ m. HoldsWith m records)
+  pub part_home : (o : Option StationMemory) (l : StationMemory) → o ≡ Some l → IfSome (option_map (memory_in randoms sessions b) o) (λ m. CoordinatorAgreesWith m records)
       → address_of l ≡ Some 0
   part_home o l running h =
-      (subst (λ (k : Option StationMemory). IfSome (option_map (memory_in randoms sessions b) k) (λ m. HoldsWith m records)) running h).home
+      (subst (λ (k : Option StationMemory). IfSome (option_map (memory_in randoms sessions b) k) (λ m. CoordinatorAgreesWith m records)) running h).home
 
   pub part_says : (o : Option StationMemory) (P : Memory → Type 0) (l : StationMemory) → o ≡ Some l → IfSome (option_map (memory_in randoms sessions b) o) P
       → P (memory_in randoms sessions b l)

@@ -38,7 +38,7 @@ use Rattle.node_rules.proofs.Composing.{carries_within, carries_behind, carries_
 use Rattle.node_rules.proofs.Composing.{room_fault_as, room_seals, room_refuses, carried_whole, carried_cut}
 use Rattle.plc_station.specs.Rooms.{room_answer}
 use Rattle.plc_station.proofs.Carrying.{at_some}
-use Rattle.coordinator.specs.CoordinatorAgreement.{HoldsWith}
+use Rattle.coordinator.specs.CoordinatorAgreement.{CoordinatorAgreesWith}
 use Rattle.coordinator.specs.MeshCommands.{sent_command}
 use Rattle.coordinator.specs.JoiningReplies.{RoomToSay, say_fault, done_by, saying, said_after}
 use Rattle.coordinator.proofs.Reaching.{at_home, is_some_of}
@@ -144,7 +144,7 @@ module _ (m : Memory) (to : ℕ) (join : JoinMessage) (now : ℕ) where
 
 -- # A plain frame, or nothing
 
-module _ (s : State Memory) (m : Memory) (join : JoinMessage) (tags : TagList) (now : ℕ) (out : Out) (h : HoldsWith m s.store.records)
+module _ (s : State Memory) (m : Memory) (join : JoinMessage) (tags : TagList) (now : ℕ) (out : Out) (h : CoordinatorAgreesWith m s.store.records)
     (running : s.memory ≡ Some m) where
   pub air_said : (eui : Eui) → out ≡ record { frames = spelled network (Down 0 join) ∷ []; tags = tags }
       → Carries s (saying m (Air eui) join tags now) (Ok tt) out s

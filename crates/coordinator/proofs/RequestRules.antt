@@ -26,7 +26,7 @@ use Rattle.node_rules.specs.Hearing.{dropped}
 use Rattle.node_rules.specs.Coordinators.{CoordinatorIdentity, with_session, sessions_full, declines, challenges, open_session, asked}
 use Rattle.node_rules.specs.States.{State}
 use Rattle.node_rules.specs.Carrying.{Carries}
-use Rattle.coordinator.specs.CoordinatorAgreement.{HoldsWith}
+use Rattle.coordinator.specs.CoordinatorAgreement.{CoordinatorAgreesWith}
 use Rattle.coordinator.specs.JoiningReplies.{RoomToSay, say_fault, done_by, saying, said_after}
 use Rattle.coordinator.proofs.Storing.{carried_by}
 use Rattle.coordinator.proofs.ReplyRules.{answered, said, lacks_plan, room_held}
@@ -63,12 +63,12 @@ module _ (m : Memory) (way : Way) (eui : Eui) (now : ℕ) where
   unfolding empty_draft
   decline_plan tags none = ap (λ (k : TagList). said_after m way (message eui body.Decline) now (done_by [] m k) Declined) none
 
-  pub decline_lacks : (s : State Memory) (reason : Dropped) → HoldsWith m s.store.records → say_fault m way (message eui body.Decline) ≡ Some reason
+  pub decline_lacks : (s : State Memory) (reason : Dropped) → CoordinatorAgreesWith m s.store.records → say_fault m way (message eui body.Decline) ≡ Some reason
       → refused {H = CoordinatorHeard} dropped m reason ≡ declines m way (message eui body.Decline) now
   decline_lacks s reason h fault =
       lacks_plan m m [] no_tags (message eui body.Decline) now Declined refl h.home way reason fault ∙ decline_plan no_tags refl
 
-  pub declined : (s t : State Memory) (tags : TagList) (r : Result (Unit {0}) Dropped) (out : Out) → HoldsWith m s.store.records → s.memory ≡ Some m
+  pub declined : (s t : State Memory) (tags : TagList) (r : Result (Unit {0}) Dropped) (out : Out) → CoordinatorAgreesWith m s.store.records → s.memory ≡ Some m
       → tags ≡ no_tags
       → RoomToSay m way (message eui body.Decline) → IfSome s.memory (λ k. Carries s (saying k way (message eui body.Decline) tags now) r out t)
       → Carries s (declines m way (message eui body.Decline) now) (answered Declined r) out t
@@ -89,7 +89,7 @@ module _ (m : Memory) (way : Way) (server : Server) (now : ℕ) where
   unfolding empty_draft with_memory_by
   challenge_plan join tags same none = λ i. said_after m way (same i) now (done_by [] Opened (none i)) Challenged
 
-  pub challenge_lacks : (s : State Memory) (join : JoinMessage) (reason : Dropped) → HoldsWith m s.store.records
+  pub challenge_lacks : (s : State Memory) (join : JoinMessage) (reason : Dropped) → CoordinatorAgreesWith m s.store.records
       → join ≡ message server.eui (body.Challenge (first_packet server))
       → say_fault m way join ≡ Some reason → refused {H = CoordinatorHeard} dropped m reason ≡ challenges m way server now
   challenge_lacks s join reason h same fault =
@@ -99,7 +99,7 @@ module _ (m : Memory) (way : Way) (server : Server) (now : ℕ) where
       → IfSome mid.memory (λ k. RoomToSay k way join)
   opened_room s mid join is room = room_held mid m Opened way join (ap (λ (x : State Memory). x.memory) is) refl room
 
-  pub challenged : (s mid t : State Memory) (join : JoinMessage) (tags : TagList) (r : Result (Unit {0}) Dropped) (out : Out) → HoldsWith m s.store.records
+  pub challenged : (s mid t : State Memory) (join : JoinMessage) (tags : TagList) (r : Result (Unit {0}) Dropped) (out : Out) → CoordinatorAgreesWith m s.store.records
       → join ≡ message server.eui (body.Challenge (first_packet server)) → tags ≡ no_tags → RoomToSay m way join → mid ≡ record s { memory = Some Opened }
       → IfSome mid.memory (λ k. Carries mid (saying k way join tags now) r out t) → Carries s (challenges m way server now) (answered Challenged r) out t
   challenged s mid t join tags r out h same none room is c =
@@ -117,7 +117,7 @@ module _ (m : Memory) (way : Way) (server : Server) (now : ℕ) where
       subst (λ (y : CoordinatorSession). IfSome mid.memory (λ k. RoomToSay k y.way join)) same (opened_room s mid join is room)
 
   pub challenged_by : (x : CoordinatorSession) → record { server = server; way = way; since = now } ≡ x
-      → (s mid t : State Memory) (join : JoinMessage) (tags : TagList) (r : Result (Unit {0}) Dropped) (out : Out) → HoldsWith m s.store.records
+      → (s mid t : State Memory) (join : JoinMessage) (tags : TagList) (r : Result (Unit {0}) Dropped) (out : Out) → CoordinatorAgreesWith m s.store.records
       → join ≡ message server.eui (body.Challenge (first_packet server)) → tags ≡ no_tags → RoomToSay m way join → mid ≡ record s { memory = Some Opened }
       → IfSome mid.memory (λ k. Carries mid (saying k x.way join tags x.since) r out t) → Carries s (challenges m way server now) (answered Challenged r) out t
   challenged_by x same s mid t join tags r out h is none room began c =

@@ -119,7 +119,7 @@ module _ (old new : Records) (same : SameOutside 1 1 old new) where
       by_record later (Some octets) o = by_next later octets o (slots.with_record layout place table octets) refl
 
   -- the station is read as before, but for its ring
-  pub read_again : (l : StationMemory) (k : ring.Ring) → station_of old ≡ Ok l → ring.IsKept k new → station_of new ≡ Ok (record l { ring = k })
+  pub read_again : (l : StationMemory) (k : ring.Ring) → station_of old ≡ Ok l → ring.AgreesWith k new → station_of new ≡ Ok (record l { ring = k })
   unfolding with_ring_in
   read_again l k read kept =
       station_parts new

@@ -12,7 +12,7 @@ use Rattle.plc_base.specs.declared.out_frame.Out.{Out}
 use Rattle.store_tables.proofs.StoreLemmas.{stores_elsewhere}
 use Rattle.frame_counters.specs.SendCounter.{Counting, reserve_write, passes, limit_write, raised}
 use Rattle.routing_set.specs.OwnNumber as number
-use Rattle.group_keys.specs.KeyRing.{Ring, IsOldRingOrKept, with_key, with_active}
+use Rattle.group_keys.specs.KeyRing.{Ring, IsOldRingOrAgrees, with_key, with_active}
 use Rattle.group_keys.specs.KeyBook as book
 use Rattle.node_rules.specs.declared.refusal.CoordinatorRefusal.{CoordinatorRefusal}
 use Rattle.node_rules.specs.Memory.{StationMemory, Memory, address_of}
@@ -25,7 +25,7 @@ use Rattle.node_rules.specs.States.{State}
 use Rattle.node_rules.specs.Composing.{seen}
 use Rattle.node_rules.proofs.Composing.{carries_within}
 use Rattle.node_rules.specs.Carrying.{Carries}
-use Rattle.coordinator.specs.CoordinatorAgreement.{HoldsWith, Holds, HasHome}
+use Rattle.coordinator.specs.CoordinatorAgreement.{CoordinatorAgreesWith, CoordinatorAgrees, HasHome}
 
 -- so its station did
 pub within_carried : {A B : Type 0} (f : StationMemory → Memory) (reads : A → B) (s t : State StationMemory) (p : Plan StationMemory A) (answer : A) (out : Out)
@@ -56,8 +56,8 @@ writes_below s t (w ∷ rest) done below (false, mid, p, u, stop) slot high =
     ap (λ (k : Store). get k.records slot) stop.1
     ∙ stores_elsewhere s mid (Some w) false w.slot w.slot p (omega arith, omega arith) slot (inr (omega (arith, below.0)))
 
-pub book_beside : (b : book.Book) (s t : Store) (ps : List Write) (done : Bool) → AreBelow ps → Wrote s ps done t → book.IsKept b s.records
-    → book.IsKept b t.records
+pub book_beside : (b : book.Book) (s t : Store) (ps : List Write) (done : Bool) → AreBelow ps → Wrote s ps done t → book.AgreesWith b s.records
+    → book.AgreesWith b t.records
 book_beside b s t ps done below h kept = record {
   short = kept.short;
   each = λ q inside. ap (option_map (book.entries.read q)) (writes_below s t ps done below h.by (slot_of book.entries q) (omega arith)) ∙ kept.each q inside;
@@ -89,18 +89,18 @@ pub record KeepsHome {A : Type 0} (p : Plan StationMemory A) : Type 0 where
 -- so the coordinator agrees with its keeper after it
 pub home_holds : {A : Type 0} (s t : State StationMemory) (p : Plan StationMemory A) (f : StationMemory → Memory) (answer : A) (out : Out) (b : book.Book)
     → ((n : StationMemory) → (f n).station ≡ n) → ((n : StationMemory) → (f n).book ≡ b)
-    → Carries s p answer out t → KeepsHome p → book.IsKept b s.store.records → Agrees t → Holds (seen f t)
+    → Carries s p answer out t → KeepsHome p → book.AgreesWith b s.store.records → Agrees t → CoordinatorAgrees (seen f t)
 home_holds s t p f answer out b at_station at_book c keeps kept agrees = by_done c.done c.wrote (ap (λ (x : State StationMemory). x.memory) c.new_is)
   where
     P : Option StationMemory → Type 0
-    P o = IfSome o (λ n. AgreesWith n t.store.records) → IfSome (option_map f o) (λ m. HoldsWith m t.store.records)
+    P o = IfSome o (λ n. AgreesWith n t.store.records) → IfSome (option_map f o) (λ m. CoordinatorAgreesWith m t.store.records)
 
-    by_done : (done : Bool) → Wrote s.store p.puts done t.store → t.memory ≡ (if done then Some p.memory else None) → Holds (seen f t)
+    by_done : (done : Bool) → Wrote s.store p.puts done t.store → t.memory ≡ (if done then Some p.memory else None) → CoordinatorAgrees (seen f t)
     by_done false wrote held = subst P (sym held) (λ a. tt) agrees
     by_done true wrote held = subst P (sym held) (λ a. record {
       station = subst (λ (k : StationMemory). AgreesWith k t.store.records) (sym (at_station p.memory)) a;
       book =
-          subst (λ (k : book.Book). book.IsKept k t.store.records) (sym (at_book p.memory)) (book_beside b s.store t.store p.puts true keeps.below wrote kept);
+          subst (λ (k : book.Book). book.AgreesWith k t.store.records) (sym (at_book p.memory)) (book_beside b s.store t.store p.puts true keeps.below wrote kept);
       home = ap address_of (at_station p.memory) ∙ keeps.home;
     }) agrees
 
@@ -124,6 +124,6 @@ active_home None index home = home
 active_home (Some g) index home = home
 
 -- whatever became of the put of a ring with the address 0, the records hold one
-pub ring_home : (r : Ring) (old new : Records) → option_map (λ (g : Granted). g.address) r ≡ Some 0 → IsOldRingOrKept r old new → HasHome old → HasHome new
+pub ring_home : (r : Ring) (old new : Records) → option_map (λ (g : Granted). g.address) r ≡ Some 0 → IsOldRingOrAgrees r old new → HasHome old → HasHome new
 ring_home r old new home (inl same) h = ap (option_and_then (option_map (λ (g : Granted). g.address))) same ∙ h
 ring_home r old new home (inr kept) h = ap (option_and_then (option_map (λ (g : Granted). g.address))) kept.stored ∙ home

@@ -13,24 +13,24 @@ use Rattle.node_rules.specs.States.{State}
 use Rattle.node_rules.specs.Carrying.{nothing}
 
 -- What its station and its book hold as stored is what the records give, and its address is 0000.
-pub record HoldsWith (m : Memory) (records : Records) : Type 0 where
+pub record CoordinatorAgreesWith (m : Memory) (records : Records) : Type 0 where
   pub station : AgreesWith m.station records
-  pub book : book.IsKept m.book records
+  pub book : book.AgreesWith m.book records
   pub home : address_of m.station ≡ Some 0
 
 -- the same of the coordinator, unless it is halted
-abbrev pub Holds : State Memory → Type 0
-Holds s = IfSome s.memory (λ m. HoldsWith m s.store.records)
+abbrev pub CoordinatorAgrees : State Memory → Type 0
+CoordinatorAgrees s = IfSome s.memory (λ m. CoordinatorAgreesWith m s.store.records)
 
 -- It is not halted, and holds what its store gives.
 pub record CoordinatorReady (s : State Memory) : Type 0 where
   pub running : IsSome s.memory
-  pub holds : Holds s
+  pub holds : CoordinatorAgrees s
 
 -- The same in a call that has given out nothing yet.
 pub record CoordinatorReadyToAnswer (s : State Memory) (out : Out) : Type 0 where
   pub running : IsSome s.memory
-  pub holds : Holds s
+  pub holds : CoordinatorAgrees s
   pub empty : out ≡ nothing
 
 -- the records hold a ring with address 0000

@@ -8,7 +8,7 @@ ghost use Rattle.node_rules.specs.MemoryDrafts as words;
 ghost use Rattle.node_rules.specs.Coordinators as rules;
 ghost use Rattle.node_rules.specs.Carrying.{Carries, nothing};
 ghost use Rattle.coordinator.specs.CoordinatorStates.{node_of};
-ghost use Rattle.coordinator.specs.CoordinatorAgreement.{CoordinatorReady, CoordinatorReadyToAnswer, Holds};
+ghost use Rattle.coordinator.specs.CoordinatorAgreement.{CoordinatorReady, CoordinatorReadyToAnswer, CoordinatorAgrees};
 ghost use Rattle.coordinator.specs.MeshCommands as mesh_plans;
 
 use crate::coordinator::Coordinator;
@@ -64,7 +64,7 @@ impl<K: Keeper + Drop> Coordinator<K> {
         requires value { IfSome (node_of self.old).memory (λ m. IsSome (words.oldest m)) }
         ensures state { IfSome (node_of self.old).memory (λ m. node_of self.new
             ≡ record (node_of self.old) { memory = Some (rules.with_session session (words.without_oldest m)) }) }
-        ensures holds { Holds (node_of self.new) }
+        ensures holds { CoordinatorAgrees (node_of self.new) }
     {
         self.randoms.drop_oldest();
         self.sessions.put(session);
@@ -86,7 +86,7 @@ impl<K: Keeper + Drop> Coordinator<K> {
         requires packet { message.now ≡ joining.message server.eui (body.Challenge (joining.first_packet server)) }
         ensures carries { IfSome (node_of self.old).memory (λ m. Carries (node_of self.old)
             (rules.challenge_by self.old.station.eui m to now server) result out.new (node_of self.new)) }
-        ensures holds { Holds (node_of self.new) }
+        ensures holds { CoordinatorAgrees (node_of self.new) }
     {
         self.message_room(to, message)?;
         self.begin_session(ServerSession {
@@ -112,7 +112,7 @@ impl<K: Keeper + Drop> Coordinator<K> {
         ensures carries { IfSome (node_of self.old).memory (λ m. Carries (node_of self.old)
             (rules.challenge_by self.old.station.eui m to now (joining.server_for eui self.old.station.eui value))
             result out.new (node_of self.new)) }
-        ensures holds { Holds (node_of self.new) }
+        ensures holds { CoordinatorAgrees (node_of self.new) }
     {
         let mut eap = EapBuf::new();
         let server = Server::first(eui, self.station.eui(), value, &mut eap);
@@ -127,12 +127,12 @@ impl<K: Keeper + Drop> Coordinator<K> {
     /// Halted, NotAllowed, SessionsFull where the meter has none and 8 are open, NoRandom, WaitingFull, SeqSpent, CounterSpent, Store,
     /// in this order. After Store it is halted, after the others nothing has changed.
     pub fn challenge(&mut self, eui: Eui, now: u64, out: &mut Out) -> Result<(), CoordinatorRefusal>
-        requires holds { Holds (node_of self.old) }
+        requires holds { CoordinatorAgrees (node_of self.old) }
         ensures halted { IfNone (node_of self.old).memory
             ((result ≡ Err CoordinatorRefusal.Halted) × (out.new ≡ nothing) × (self.new ≡ self.old)) }
         ensures carries { IfSome (node_of self.old).memory (λ m. Carries (node_of self.old)
             (rules.challenge self.old.station.eui m eui now) result out.new (node_of self.new)) }
-        ensures holds { Holds (node_of self.new) }
+        ensures holds { CoordinatorAgrees (node_of self.new) }
     {
         out.clear();
         if self.halted() {

@@ -11,7 +11,7 @@ ghost use Rattle.node_rules.specs.Coordinators as rules;
 ghost use Rattle.plc_station.specs.Sizes.{HasSizes};
 ghost use Rattle.coordinator.specs.CoordinatorReading.{if_read, read_answer};
 ghost use Rattle.coordinator.specs.CoordinatorStates.{node_of};
-ghost use Rattle.coordinator.specs.CoordinatorAgreement.{HasHome, Holds};
+ghost use Rattle.coordinator.specs.CoordinatorAgreement.{HasHome, CoordinatorAgrees};
 ghost use Rattle.coordinator.specs.Tables.{session_in};
 
 use crate::sessions::Sessions;
@@ -136,10 +136,10 @@ impl<K: Keeper + Drop> Coordinator<K> {
     /// Ends what is old at a time in seconds: what its station ends, and the sessions that were opened 120 seconds ago or before. A
     /// halted one stays as it is.
     pub fn tick(&mut self, now: u64)
-        requires holds { Holds (node_of self.old) }
+        requires holds { CoordinatorAgrees (node_of self.old) }
         ensures state { node_of self.new
             ≡ record (node_of self.old) { memory = option_map (rules.tick now) (node_of self.old).memory } }
-        ensures holds { Holds (node_of self.new) }
+        ensures holds { CoordinatorAgrees (node_of self.new) }
     {
         self.station.tick(now);
         self.sessions.expire(now);
@@ -154,7 +154,7 @@ impl<K: Keeper + Drop> Coordinator<K> {
         ensures eui { self.new.station.eui ≡ self.old.station.eui }
         ensures holds { IsGapless peers self.old.station.store.records
             → IsGapless ranks self.old.station.store.records → IsGapless book.entries self.old.station.store.records
-            → HasHome self.old.station.store.records → Holds (node_of self.new) }
+            → HasHome self.old.station.store.records → CoordinatorAgrees (node_of self.new) }
     {
         self.randoms.clear();
         self.sessions.clear();

@@ -5,7 +5,7 @@ ghost use Rattle.node_rules.specs.Drafts as drafts;
 ghost use Rattle.node_rules.specs.Coordinators as rules;
 ghost use Rattle.node_rules.specs.Carrying.{Carries, nothing};
 ghost use Rattle.coordinator.specs.CoordinatorStates.{node_of};
-ghost use Rattle.coordinator.specs.CoordinatorAgreement.{CoordinatorReady, Holds};
+ghost use Rattle.coordinator.specs.CoordinatorAgreement.{CoordinatorReady, CoordinatorAgrees};
 ghost use Rattle.coordinator.specs.DraftsCarriedOut.{Does};
 
 use crate::coordinator::Coordinator;
@@ -19,12 +19,12 @@ impl<K: Keeper + Drop> Coordinator<K> {
     ///
     /// Halted, MetersFull, Store, in this order. After Store it is halted, after the others nothing has changed.
     pub fn allow(&mut self, eui: Eui, psk: &Key) -> Result<Short, CoordinatorRefusal>
-        requires holds { Holds (node_of self.old) }
+        requires holds { CoordinatorAgrees (node_of self.old) }
         ensures halted { IfNone (node_of self.old).memory ((result ≡ Err CoordinatorRefusal.Halted)
             × (self.new ≡ self.old)) }
         ensures carries { IfSome (node_of self.old).memory (λ m.
             Carries (node_of self.old) (rules.allow m eui psk.now) result nothing (node_of self.new)) }
-        ensures holds { Holds (node_of self.new) }
+        ensures holds { CoordinatorAgrees (node_of self.new) }
     {
         if self.halted() {
             return Err(CoordinatorRefusal::Halted);
@@ -49,7 +49,7 @@ impl<K: Keeper + Drop> Coordinator<K> {
             IfSome (rules.grant_for m eui) (λ granted. IfSome (rules.allowed_entry m eui) (λ e.
             Does (node_of self.old) (rules.with_book_entry (book.issued_entry eui granted e) (drafts.empty_draft m))
             (is_ok result) (node_of self.new)))) }
-        ensures holds { Holds (node_of self.new) }
+        ensures holds { CoordinatorAgrees (node_of self.new) }
     {
         let Some(grant) = self.grant_for(eui) else {
             unreachable!()
@@ -66,12 +66,12 @@ impl<K: Keeper + Drop> Coordinator<K> {
     ///
     /// Halted, MetersFull, Store, in this order. After Store it is halted, after the others nothing has changed.
     pub fn depot(&mut self, eui: Eui, psk: &Key) -> Result<Grant, CoordinatorRefusal>
-        requires holds { Holds (node_of self.old) }
+        requires holds { CoordinatorAgrees (node_of self.old) }
         ensures halted { IfNone (node_of self.old).memory ((result ≡ Err CoordinatorRefusal.Halted)
             × (self.new ≡ self.old)) }
         ensures carries { IfSome (node_of self.old).memory (λ m.
             Carries (node_of self.old) (rules.depot m eui psk.now) result nothing (node_of self.new)) }
-        ensures holds { Holds (node_of self.new) }
+        ensures holds { CoordinatorAgrees (node_of self.new) }
     {
         if self.halted() {
             return Err(CoordinatorRefusal::Halted);

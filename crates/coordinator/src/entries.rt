@@ -5,7 +5,7 @@ ghost use Rattle.group_keys.specs.KeyBook as book;
 ghost use Rattle.node_rules.specs.Drafts as drafts;
 ghost use Rattle.node_rules.specs.Coordinators as rules;
 ghost use Rattle.coordinator.specs.CoordinatorStates.{node_of};
-ghost use Rattle.coordinator.specs.CoordinatorAgreement.{CoordinatorReady, Holds};
+ghost use Rattle.coordinator.specs.CoordinatorAgreement.{CoordinatorReady, CoordinatorAgrees};
 ghost use Rattle.coordinator.specs.DraftsCarriedOut.{Does};
 
 use crate::coordinator::Coordinator;
@@ -113,7 +113,7 @@ impl<K: Keeper + Drop> Coordinator<K> {
         ensures does { IfSome (node_of self.old).memory (λ m.
             Does (node_of self.old) (rules.with_book_entry entry (drafts.empty_draft m))
             (is_ok result) (node_of self.new)) }
-        ensures holds { Holds (node_of self.new) }
+        ensures holds { CoordinatorAgrees (node_of self.new) }
     {
         let Ok(address) = self.book.change(self.station.keeper_mut(), entry) else {
             self.station.halt();
@@ -124,10 +124,10 @@ impl<K: Keeper + Drop> Coordinator<K> {
 
     // The session of a meter ends.
     pub(crate) fn end_session(&mut self, eui: Eui)
-        requires holds { Holds (node_of self.old) }
+        requires holds { CoordinatorAgrees (node_of self.old) }
         ensures state { IfSome (node_of self.old).memory (λ m.
             node_of self.new ≡ record (node_of self.old) { memory = Some (rules.without_session eui m) }) }
-        ensures holds { Holds (node_of self.new) }
+        ensures holds { CoordinatorAgrees (node_of self.new) }
     {
         self.sessions.end(eui);
     }
@@ -140,7 +140,7 @@ impl<K: Keeper + Drop> Coordinator<K> {
             IfOk result (λ address. address ≡ book.place_for m.book entry.eui + 1)) }
         ensures does { IfSome (node_of self.old).memory (λ m.
             Does (node_of self.old) (rules.changed m entry) (is_ok result) (node_of self.new)) }
-        ensures holds { Holds (node_of self.new) }
+        ensures holds { CoordinatorAgrees (node_of self.new) }
     {
         if self.has_entry(&entry) {
             return self.keep_entry(entry);

@@ -9,7 +9,7 @@ ghost use Rattle.node_rules.specs.Carrying.{Carries, nothing};
 ghost use Rattle.node_rules.specs.MemoryDrafts.{unread};
 ghost use Rattle.node_rules.specs.Replies.{reply_sent};
 ghost use Rattle.coordinator.specs.CoordinatorStates.{node_of, identity_of};
-ghost use Rattle.coordinator.specs.CoordinatorAgreement.{CoordinatorReady, CoordinatorReadyToAnswer, Holds};
+ghost use Rattle.coordinator.specs.CoordinatorAgreement.{CoordinatorReady, CoordinatorReadyToAnswer, CoordinatorAgrees};
 
 use crate::coordinator::Coordinator;
 use joining_base::{joining_command, read_message};
@@ -52,7 +52,7 @@ impl<K: Keeper + Drop> Coordinator<K> {
         ensures carries { IfSome (node_of self.old).memory (λ m. Carries (node_of self.old)
             (rules.hear_join (identity_of self.old) m way.now eui (body.Join packet.now) now)
             result out.new (node_of self.new)) }
-        ensures holds { Holds (node_of self.new) }
+        ensures holds { CoordinatorAgrees (node_of self.new) }
     {
         if packet.is_empty() {
             return self.asked(way, eui, now, out);
@@ -72,7 +72,7 @@ impl<K: Keeper + Drop> Coordinator<K> {
         requires ready { CoordinatorReadyToAnswer (node_of self.old) out.old }
         ensures carries { IfSome (node_of self.old).memory (λ m. Carries (node_of self.old)
             (rules.hear_join (identity_of self.old) m way.now eui body.now now) result out.new (node_of self.new)) }
-        ensures holds { Holds (node_of self.new) }
+        ensures holds { CoordinatorAgrees (node_of self.new) }
     {
         match body {
             JoinBody::Join { eap } => self.hear_packet(way, eui, eap.octets(), now, out),
@@ -96,7 +96,7 @@ impl<K: Keeper + Drop> Coordinator<K> {
         ensures carries { IfSome (node_of self.old).memory (λ m. Carries (node_of self.old)
             (rules.hear_join_in (identity_of self.old) m way.now (join_in octets.now) now)
             result out.new (node_of self.new)) }
-        ensures holds { Holds (node_of self.new) }
+        ensures holds { CoordinatorAgrees (node_of self.new) }
     {
         let Some(join) = read_message(octets) else {
             return Err(Dropped::BadUnit);
@@ -124,7 +124,7 @@ impl<K: Keeper + Drop> Coordinator<K> {
         ensures beside { self.new ≡ record self.old { station = self.new.station } }
         ensures replied { IfSome self.old.station.memory (λ l. self.new.station.replied
             ≡ reply_sent (hearing.hear l got.now cost note now) self.new.station.memory) }
-        ensures holds { Holds (node_of self.new) }
+        ensures holds { CoordinatorAgrees (node_of self.new) }
     {
         self.station.hear(got, cost, note, now, datagram, out)
     }
@@ -154,7 +154,7 @@ impl<K: Keeper + Drop> Coordinator<K> {
         ensures replied { IfSome (node_of self.old).memory (λ m. unread (hearing.hear m.station got.now cost note now).answer ≡ None
             → self.new.station.replied ≡ reply_sent (rules.hear_coordinator (identity_of self.old) m got.now cost note now)
             (node_of self.new).memory) }
-        ensures holds { Holds (node_of self.new) }
+        ensures holds { CoordinatorAgrees (node_of self.new) }
     {
         let heard = self.hear_frame(got, cost, note, now, datagram, out);
         match joining_command(&heard) {

@@ -8,7 +8,7 @@ ghost use Rattle.node_rules.specs.Calls.{command_fault};
 ghost use Rattle.node_rules.specs.Carrying.{Carries};
 ghost use Rattle.node_rules.specs.Composing.{HasRoom};
 ghost use Rattle.coordinator.specs.CoordinatorStates.{node_of};
-ghost use Rattle.coordinator.specs.CoordinatorAgreement.{CoordinatorReady, CoordinatorReadyToAnswer, Holds};
+ghost use Rattle.coordinator.specs.CoordinatorAgreement.{CoordinatorReady, CoordinatorReadyToAnswer, CoordinatorAgrees};
 ghost use Rattle.coordinator.specs.MeshCommands as mesh_plans;
 ghost use Rattle.coordinator.specs.JoiningReplies as saying;
 ghost use Rattle.waiting_bodies.specs.declared.bodies.TheConstants.{LONGEST_COMMAND};
@@ -83,7 +83,7 @@ impl<K: Keeper + Drop> Coordinator<K> {
         requires room { IfSome (node_of self.old).memory (λ m. mesh_plans.RoomFor m to message.now) }
         ensures carries { IfSome (node_of self.old).memory (λ m. Carries (node_of self.old)
             (saying.saying m (ways.Mesh to) message.now tags now) result out.new (node_of self.new)) }
-        ensures holds { Holds (node_of self.new) }
+        ensures holds { CoordinatorAgrees (node_of self.new) }
     {
         let Ok(()) = self.send_join_message(to, message, now, out) else {
             tags.made.clear();
@@ -108,7 +108,7 @@ impl<K: Keeper + Drop> Coordinator<K> {
         requires room { IfSome (node_of self.old).memory (λ m. saying.RoomToSay m way message.now) }
         ensures carries { IfSome (node_of self.old).memory (λ m. Carries (node_of self.old)
             (saying.saying m way message.now tags now) result out.new (node_of self.new)) }
-        ensures holds { Holds (node_of self.new) }
+        ensures holds { CoordinatorAgrees (node_of self.new) }
     {
         match way {
             Way::Air(_) => {

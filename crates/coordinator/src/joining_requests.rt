@@ -8,7 +8,7 @@ ghost use Rattle.node_rules.specs.MemoryDrafts as words;
 ghost use Rattle.node_rules.specs.Coordinators as rules;
 ghost use Rattle.node_rules.specs.Carrying.{Carries};
 ghost use Rattle.coordinator.specs.CoordinatorStates.{node_of, identity_of};
-ghost use Rattle.coordinator.specs.CoordinatorAgreement.{CoordinatorReadyToAnswer, Holds};
+ghost use Rattle.coordinator.specs.CoordinatorAgreement.{CoordinatorReadyToAnswer, CoordinatorAgrees};
 
 use crate::coordinator::Coordinator;
 use crate::sessions::ServerSession;
@@ -36,7 +36,7 @@ impl<K: Keeper + Drop> Coordinator<K> {
         requires ready { CoordinatorReadyToAnswer (node_of self.old) out.old }
         ensures carries { IfSome (node_of self.old).memory (λ m. Carries (node_of self.old)
             (rules.declines m way.now (joining.message eui body.Decline) now) result out.new (node_of self.new)) }
-        ensures holds { Holds (node_of self.new) }
+        ensures holds { CoordinatorAgrees (node_of self.new) }
     {
         let message = JoinMessage {
             eui,
@@ -67,7 +67,7 @@ impl<K: Keeper + Drop> Coordinator<K> {
             ≡ joining.message session.server.eui (body.Challenge (joining.first_packet session.server)) }
         ensures carries { IfSome (node_of self.old).memory (λ m. Carries (node_of self.old)
             (rules.challenges m session.way session.server session.since) result out.new (node_of self.new)) }
-        ensures holds { Holds (node_of self.new) }
+        ensures holds { CoordinatorAgrees (node_of self.new) }
     {
         match self.say_room(session.way, message) {
             Err(reason) => return Err(reason),
@@ -95,7 +95,7 @@ impl<K: Keeper + Drop> Coordinator<K> {
         ensures carries { IfSome (node_of self.old).memory (λ m. Carries (node_of self.old)
             (rules.challenges m way.now (joining.server_for eui self.old.station.eui value) now)
             result out.new (node_of self.new)) }
-        ensures holds { Holds (node_of self.new) }
+        ensures holds { CoordinatorAgrees (node_of self.new) }
     {
         let mut eap = EapBuf::new();
         let server = Server::first(eui, self.station.eui(), value, &mut eap);
@@ -119,7 +119,7 @@ impl<K: Keeper + Drop> Coordinator<K> {
         requires ready { CoordinatorReadyToAnswer (node_of self.old) out.old }
         ensures carries { IfSome (node_of self.old).memory (λ m. Carries (node_of self.old)
             (rules.open_session (identity_of self.old) m way.now eui now) result out.new (node_of self.new)) }
-        ensures holds { Holds (node_of self.new) }
+        ensures holds { CoordinatorAgrees (node_of self.new) }
     {
         if self.sessions_full(eui) {
             return Err(Dropped::SessionsFull);
@@ -141,7 +141,7 @@ impl<K: Keeper + Drop> Coordinator<K> {
         requires ready { CoordinatorReadyToAnswer (node_of self.old) out.old }
         ensures carries { IfSome (node_of self.old).memory (λ m. Carries (node_of self.old)
             (rules.asked (identity_of self.old) m way.now eui now) result out.new (node_of self.new)) }
-        ensures holds { Holds (node_of self.new) }
+        ensures holds { CoordinatorAgrees (node_of self.new) }
     {
         if !self.is_allowed(eui) {
             return self.decline(way, eui, now, out);

@@ -8,7 +8,7 @@ ghost use Rattle.node_rules.specs.MemoryDrafts as words;
 ghost use Rattle.node_rules.specs.Coordinators as rules;
 ghost use Rattle.node_rules.specs.Carrying.{Carries, nothing};
 ghost use Rattle.coordinator.specs.CoordinatorStates.{node_of};
-ghost use Rattle.coordinator.specs.CoordinatorAgreement.{CoordinatorReady, HasHome, Holds};
+ghost use Rattle.coordinator.specs.CoordinatorAgreement.{CoordinatorReady, HasHome, CoordinatorAgrees};
 
 use crate::coordinator::Coordinator;
 use node_rules::CoordinatorRefusal;
@@ -41,7 +41,7 @@ impl<K: Keeper + Drop> Coordinator<K> {
             (words.on_station (calls.with_key_at m.station index key.now) (drafts.empty_draft m)) tt)
             result nothing (node_of self.new)) }
         ensures home { HasHome self.old.station.store.records → HasHome self.new.station.store.records }
-        ensures holds { Holds (node_of self.new) }
+        ensures holds { CoordinatorAgrees (node_of self.new) }
     {
         let Ok(()) = self.station.put_key(index, key) else {
             return Err(CoordinatorRefusal::Store);
@@ -58,7 +58,7 @@ impl<K: Keeper + Drop> Coordinator<K> {
             (words.on_station (calls.with_active m.station index) (drafts.empty_draft m)) tt)
             result nothing (node_of self.new)) }
         ensures home { HasHome self.old.station.store.records → HasHome self.new.station.store.records }
-        ensures holds { Holds (node_of self.new) }
+        ensures holds { CoordinatorAgrees (node_of self.new) }
     {
         let Ok(()) = self.station.activate(index) else {
             return Err(CoordinatorRefusal::Store);
@@ -71,14 +71,14 @@ impl<K: Keeper + Drop> Coordinator<K> {
     /// Halted, IndexActive exactly for the index of the key that seals, Store, in this order. After Store it is halted, after the
     /// others nothing has changed.
     pub fn rekey(&mut self, index: KeyIndex, key: &Key) -> Result<(), CoordinatorRefusal>
-        requires holds { Holds (node_of self.old) }
+        requires holds { CoordinatorAgrees (node_of self.old) }
         ensures halted { IfNone (node_of self.old).memory ((result ≡ Err CoordinatorRefusal.Halted)
             × (self.new ≡ self.old)) }
         ensures carries { IfSome (node_of self.old).memory (λ m.
             Carries (node_of self.old) (rules.rekey m index key.now) result nothing (node_of self.new)) }
         // Whichever write fails, the keeper holds a ring with the address 0000 as before.
         ensures home { HasHome self.old.station.store.records → HasHome self.new.station.store.records }
-        ensures holds { Holds (node_of self.new) }
+        ensures holds { CoordinatorAgrees (node_of self.new) }
     {
         if self.halted() {
             return Err(CoordinatorRefusal::Halted);
@@ -94,14 +94,14 @@ impl<K: Keeper + Drop> Coordinator<K> {
     /// Halted, NotHeld exactly where no key is held there, Store, in this order. After Store it is halted, after the others nothing
     /// has changed.
     pub fn activate_self(&mut self, index: KeyIndex) -> Result<(), CoordinatorRefusal>
-        requires holds { Holds (node_of self.old) }
+        requires holds { CoordinatorAgrees (node_of self.old) }
         ensures halted { IfNone (node_of self.old).memory ((result ≡ Err CoordinatorRefusal.Halted)
             × (self.new ≡ self.old)) }
         ensures carries { IfSome (node_of self.old).memory (λ m.
             Carries (node_of self.old) (rules.activate_self m index) result nothing (node_of self.new)) }
         // Whichever write fails, the keeper holds a ring with the address 0000 as before.
         ensures home { HasHome self.old.station.store.records → HasHome self.new.station.store.records }
-        ensures holds { Holds (node_of self.new) }
+        ensures holds { CoordinatorAgrees (node_of self.new) }
     {
         if self.halted() {
             return Err(CoordinatorRefusal::Halted);

@@ -5,7 +5,7 @@ ghost use Rattle.node_rules.specs.Drafts as drafts;
 ghost use Rattle.node_rules.specs.Coordinators as rules;
 ghost use Rattle.node_rules.specs.Carrying.{Carries, nothing};
 ghost use Rattle.coordinator.specs.CoordinatorStates.{node_of};
-ghost use Rattle.coordinator.specs.CoordinatorAgreement.{CoordinatorReady, CoordinatorReadyToAnswer, Holds};
+ghost use Rattle.coordinator.specs.CoordinatorAgreement.{CoordinatorReady, CoordinatorReadyToAnswer, CoordinatorAgrees};
 ghost use Rattle.coordinator.specs.DraftsCarriedOut.{Does};
 ghost use Rattle.coordinator.specs.MeshCommands as mesh_plans;
 ghost use Rattle.coordinator.specs.Kicking as kicking;
@@ -24,7 +24,7 @@ impl<K: Keeper + Drop> Coordinator<K> {
         requires room { IfSome (node_of self.old).memory (λ m. book.has_room m.book entry.now.eui ≡ true) }
         ensures does { IfSome (node_of self.old).memory (λ m.
             Does (node_of self.old) (kicking.shut_out m entry.now) (is_ok result) (node_of self.new)) }
-        ensures holds { Holds (node_of self.new) }
+        ensures holds { CoordinatorAgrees (node_of self.new) }
     {
         let Ok(_) = self.keep_entry(kicked(entry)) else {
             return Err(Failed);
@@ -39,7 +39,7 @@ impl<K: Keeper + Drop> Coordinator<K> {
         requires room { IfSome (node_of self.old).memory (λ m. book.has_room m.book entry.now.eui ≡ true) }
         ensures carries { IfSome (node_of self.old).memory (λ m.
             Carries (node_of self.old) (kicking.silently m entry.now) result nothing (node_of self.new)) }
-        ensures holds { Holds (node_of self.new) }
+        ensures holds { CoordinatorAgrees (node_of self.new) }
     {
         let Ok(()) = self.shut_out(entry) else {
             return Err(CoordinatorRefusal::Store);
@@ -59,7 +59,7 @@ impl<K: Keeper + Drop> Coordinator<K> {
         requires reached { IfSome (node_of self.old).memory (λ m. mesh_plans.reaches m to ≡ true) }
         ensures carries { IfSome (node_of self.old).memory (λ m.
             Carries (node_of self.old) (rules.kick_by m entry to) result out.new (node_of self.new)) }
-        ensures holds { Holds (node_of self.new) }
+        ensures holds { CoordinatorAgrees (node_of self.new) }
     {
         let Ok(()) = self.shut_out(&entry) else {
             return Err(CoordinatorRefusal::Store);
@@ -76,12 +76,12 @@ impl<K: Keeper + Drop> Coordinator<K> {
     ///
     /// Halted, NotAllowed, Store, in this order. After Store it is halted, after the others nothing has changed.
     pub fn kick(&mut self, eui: Eui, out: &mut Out) -> Result<(), CoordinatorRefusal>
-        requires holds { Holds (node_of self.old) }
+        requires holds { CoordinatorAgrees (node_of self.old) }
         ensures halted { IfNone (node_of self.old).memory
             ((result ≡ Err CoordinatorRefusal.Halted) × (out.new ≡ nothing) × (self.new ≡ self.old)) }
         ensures carries { IfSome (node_of self.old).memory (λ m.
             Carries (node_of self.old) (rules.kick m eui) result out.new (node_of self.new)) }
-        ensures holds { Holds (node_of self.new) }
+        ensures holds { CoordinatorAgrees (node_of self.new) }
     {
         out.clear();
         if self.halted() {

@@ -4,7 +4,7 @@ ghost use Rattle.joining_messages.specs.Messages.{IsMessage};
 ghost use Rattle.node_rules.specs.Carrying.{Carries};
 ghost use Rattle.node_rules.specs.Composing.{HasRoom};
 ghost use Rattle.coordinator.specs.CoordinatorStates.{node_of};
-ghost use Rattle.coordinator.specs.CoordinatorAgreement.{CoordinatorReady, Holds};
+ghost use Rattle.coordinator.specs.CoordinatorAgreement.{CoordinatorReady, CoordinatorAgrees};
 ghost use Rattle.coordinator.specs.MeshCommands as mesh_plans;
 ghost use Rattle.waiting_bodies.specs.declared.bodies.TheConstants.{LONGEST_COMMAND};
 
@@ -57,7 +57,7 @@ impl<K: Keeper + Drop> Coordinator<K> {
         requires room { IfSome (node_of self.old).memory (λ m. mesh_plans.RoomFor m to message.now) }
         ensures carries { IfSome (node_of self.old).memory (λ m.
             Carries (node_of self.old) (mesh_plans.sent_command m to message.now now) result out.new (node_of self.new)) }
-        ensures holds { Holds (node_of self.new) }
+        ensures holds { CoordinatorAgrees (node_of self.new) }
     {
         let mut octets = CommandBuf::new();
         write_command(message, &mut octets);

@@ -10,7 +10,7 @@ ghost use Rattle.node_rules.specs.Agreement.{Agrees};
 ghost use Rattle.node_rules.specs.Carrying.{Carries, nothing};
 ghost use Rattle.plc_station.specs.StationReading as stations;
 ghost use Rattle.coordinator.specs.CoordinatorStates.{node_of};
-ghost use Rattle.coordinator.specs.CoordinatorAgreement.{Holds};
+ghost use Rattle.coordinator.specs.CoordinatorAgreement.{CoordinatorAgrees};
 ghost use Rattle.coordinator.specs.Opening as opening;
 
 use crate::coordinator::Coordinator;
@@ -48,7 +48,7 @@ impl<K: Keeper + Drop> Coordinator<K> {
         ensures running { IfOk result (λ c. IsSome (node_of c).memory) }
         ensures holds { slots.IsGapless peers (K.store keeper).records → slots.IsGapless ranks (K.store keeper).records
             → slots.IsGapless book.entries (K.store keeper).records → opening.MayBegin (K.store keeper).records
-            → IfOk result (λ c. Holds (node_of c)) }
+            → IfOk result (λ c. CoordinatorAgrees (node_of c)) }
         ensures refused { IfErr result (λ e. opening.IsOpenFault (K.store keeper) eui key.now e.0 (K.store e.1)) }
     {
         let station = match Station::open(alloc, keeper, eui) {
@@ -71,7 +71,7 @@ impl<K: Keeper + Drop> Coordinator<K> {
         ensures empty { IfOk result (λ c. (c.randoms ≡ []) × (c.sessions ≡ [])) }
         ensures read { IfOk result (λ c. slots.opened book.entries station.store.records ≡ Ok c.book) }
         ensures kept { slots.IsGapless book.entries station.store.records
-            → IfOk result (λ c. book.IsKept c.book station.store.records) }
+            → IfOk result (λ c. book.AgreesWith c.book station.store.records) }
         ensures bad { IfErr result (λ e. (slots.opened book.entries station.store.records ≡ Err e.0)
             × (K.store e.1 ≡ station.store)) }
     {
@@ -92,8 +92,8 @@ impl<K: Keeper + Drop> Coordinator<K> {
         requires read { self.old.station.memory ≡ stations.if_read (station_of self.old.station.store.records) }
         ensures carries { IfSome (node_of self.old).memory (λ m.
             Carries (node_of self.old) (rules.begin m (first_grant key.now)) result nothing (node_of self.new)) }
-        ensures holds { Agrees self.old.station → book.IsKept self.old.book self.old.station.store.records
-            → opening.MayBegin self.old.station.store.records → Holds (node_of self.new) }
+        ensures holds { Agrees self.old.station → book.AgreesWith self.old.book self.old.station.store.records
+            → opening.MayBegin self.old.station.store.records → CoordinatorAgrees (node_of self.new) }
     {
         if self.station.ring().grant().is_some() {
             return Ok(());
@@ -109,8 +109,8 @@ impl<K: Keeper + Drop> Coordinator<K> {
         requires empty { IfSome self.old.station.memory (λ l. is_some l.ring ≡ false) }
         ensures carries { IfSome (node_of self.old).memory (λ m.
             Carries (node_of self.old) (rules.begin m (first_grant key.now)) result nothing (node_of self.new)) }
-        ensures holds { Agrees self.old.station → book.IsKept self.old.book self.old.station.store.records
-            → Holds (node_of self.new) }
+        ensures holds { Agrees self.old.station → book.AgreesWith self.old.book self.old.station.store.records
+            → CoordinatorAgrees (node_of self.new) }
     {
         let Ok(mut ring) = KeyRing::open(self.station.keeper_mut()) else {
             unreachable!()

@@ -6,7 +6,7 @@ ghost use Rattle.node_rules.specs.MemoryDrafts as words;
 ghost use Rattle.node_rules.specs.Coordinators as rules;
 ghost use Rattle.node_rules.specs.Carrying.{Carries, nothing};
 ghost use Rattle.coordinator.specs.CoordinatorStates.{node_of};
-ghost use Rattle.coordinator.specs.CoordinatorAgreement.{CoordinatorReady, Holds};
+ghost use Rattle.coordinator.specs.CoordinatorAgreement.{CoordinatorReady, CoordinatorAgrees};
 ghost use Rattle.coordinator.specs.Ordering as ordering;
 
 use crate::coordinator::Coordinator;
@@ -58,18 +58,18 @@ impl<K: Keeper + Drop> Coordinator<K> {
         requires ready { CoordinatorReady (node_of self.old) }
         ensures carries { IfSome (node_of self.old).memory (λ m.
             Carries (node_of self.old) (words.give_random m value) result nothing (node_of self.new)) }
-        ensures holds { Holds (node_of self.new) }
+        ensures holds { CoordinatorAgrees (node_of self.new) }
     {
         self.randoms.give(value)
     }
 
     /// Takes a random value in. Halted, RandomsFull exactly where 8 are held, in this order; nothing has changed then.
     pub fn give_random(&mut self, value: Rand) -> Result<(), RandomFault>
-        requires holds { Holds (node_of self.old) }
+        requires holds { CoordinatorAgrees (node_of self.old) }
         ensures halted { IfNone (node_of self.old).memory ((result ≡ Err RandomFault.Halted) × (self.new ≡ self.old)) }
         ensures carries { IfSome (node_of self.old).memory (λ m.
             Carries (node_of self.old) (words.give_random m value) result nothing (node_of self.new)) }
-        ensures holds { Holds (node_of self.new) }
+        ensures holds { CoordinatorAgrees (node_of self.new) }
     {
         if self.halted() {
             return Err(RandomFault::Halted);
@@ -89,7 +89,7 @@ impl<K: Keeper + Drop> Coordinator<K> {
         requires message { IsMessage message.now }
         ensures carries { IfSome (node_of self.old).memory (λ m.
             Carries (node_of self.old) (rules.activate_at m to message.now now) result out.new (node_of self.new)) }
-        ensures holds { Holds (node_of self.new) }
+        ensures holds { CoordinatorAgrees (node_of self.new) }
     {
         let mut octets = CommandBuf::new();
         write_command(message, &mut octets);
@@ -129,12 +129,12 @@ impl<K: Keeper + Drop> Coordinator<K> {
         now: u64,
         out: &mut Out,
     ) -> Result<(), CoordinatorRefusal>
-        requires holds { Holds (node_of self.old) }
+        requires holds { CoordinatorAgrees (node_of self.old) }
         ensures halted { IfNone (node_of self.old).memory ((result ≡ Err CoordinatorRefusal.Halted)
             × (out.new ≡ nothing) × (self.new ≡ self.old)) }
         ensures carries { IfSome (node_of self.old).memory (λ m.
             Carries (node_of self.old) (rules.activate m eui index now) result out.new (node_of self.new)) }
-        ensures holds { Holds (node_of self.new) }
+        ensures holds { CoordinatorAgrees (node_of self.new) }
     {
         out.clear();
         if self.halted() {

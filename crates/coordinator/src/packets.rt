@@ -7,7 +7,7 @@ ghost use Rattle.node_rules.specs.Joining.{message};
 ghost use Rattle.node_rules.specs.Coordinators as rules;
 ghost use Rattle.node_rules.specs.Carrying.{Carries};
 ghost use Rattle.coordinator.specs.CoordinatorStates.{node_of, identity_of};
-ghost use Rattle.coordinator.specs.CoordinatorAgreement.{CoordinatorReady, CoordinatorReadyToAnswer, Holds};
+ghost use Rattle.coordinator.specs.CoordinatorAgreement.{CoordinatorReady, CoordinatorReadyToAnswer, CoordinatorAgrees};
 ghost use Rattle.coordinator.specs.DraftsCarriedOut.{Does};
 ghost use Rattle.coordinator.specs.Packets as answering;
 
@@ -58,7 +58,7 @@ impl<K: Keeper + Drop> Coordinator<K> {
         requires room { IfSome (node_of self.old).memory (λ m. rules.sessions_full m session.server.eui ≡ false) }
         ensures state { IfSome (node_of self.old).memory (λ m. node_of self.new
             ≡ record (node_of self.old) { memory = Some (rules.with_session session m) }) }
-        ensures holds { Holds (node_of self.new) }
+        ensures holds { CoordinatorAgrees (node_of self.new) }
     {
         self.sessions.put(session);
     }
@@ -70,7 +70,7 @@ impl<K: Keeper + Drop> Coordinator<K> {
         requires entry { IfSome (node_of self.old).memory (λ m. book.has_room m.book entry.eui ≡ true) }
         ensures does { IfSome (node_of self.old).memory (λ m.
             Does (node_of self.old) (answering.noting m session entry) (is_ok result) (node_of self.new)) }
-        ensures holds { Holds (node_of self.new) }
+        ensures holds { CoordinatorAgrees (node_of self.new) }
     {
         self.put_session(session);
         let Ok(_) = self.keep_entry(entry) else {
@@ -96,7 +96,7 @@ impl<K: Keeper + Drop> Coordinator<K> {
         requires message { IsMessage message.now }
         ensures carries { IfSome (node_of self.old).memory (λ m. Carries (node_of self.old)
             (answering.keying m session entry message.now grant tags now) result out.new (node_of self.new)) }
-        ensures holds { Holds (node_of self.new) }
+        ensures holds { CoordinatorAgrees (node_of self.new) }
     {
         let eui = session.server.eui;
         match self.say_room(session.way, message) {
@@ -129,7 +129,7 @@ impl<K: Keeper + Drop> Coordinator<K> {
         ensures carries { IfSome (node_of self.old).memory (λ m. Carries (node_of self.old)
             (rules.take_second (identity_of self.old) m session.now entry.now packet.now now)
             result out.new (node_of self.new)) }
-        ensures holds { Holds (node_of self.new) }
+        ensures holds { CoordinatorAgrees (node_of self.new) }
     {
         let eui = session.server.eui;
         let grant = self.grant_for(eui).unwrap();
@@ -169,7 +169,7 @@ impl<K: Keeper + Drop> Coordinator<K> {
         requires ready { CoordinatorReadyToAnswer (node_of self.old) out.old }
         ensures carries { IfSome (node_of self.old).memory (λ m. Carries (node_of self.old)
             (answering.accepting m session.now agreed tags now) result out.new (node_of self.new)) }
-        ensures holds { Holds (node_of self.new) }
+        ensures holds { CoordinatorAgrees (node_of self.new) }
     {
         let message = acceptance(session.server.eui);
         match self.say_room(session.way, &message) {
@@ -201,7 +201,7 @@ impl<K: Keeper + Drop> Coordinator<K> {
         ensures carries { IfSome (node_of self.old).memory (λ m. Carries (node_of self.old)
             (rules.take_fourth (identity_of self.old) m session.now entry.now packet.now rand_p now)
             result out.new (node_of self.new)) }
-        ensures holds { Holds (node_of self.new) }
+        ensures holds { CoordinatorAgrees (node_of self.new) }
     {
         let keys = PskKeys::of(&entry.psk);
         let mut tags = TagList::new();
@@ -225,7 +225,7 @@ impl<K: Keeper + Drop> Coordinator<K> {
         ensures carries { IfSome (node_of self.old).memory (λ m. Carries (node_of self.old)
             (rules.take_packet (identity_of self.old) m entry.now packet.now now session.now)
             result out.new (node_of self.new)) }
-        ensures holds { Holds (node_of self.new) }
+        ensures holds { CoordinatorAgrees (node_of self.new) }
     {
         let Some(rand_p) = session.server.rand_p else {
             return self.take_second(session, entry, packet, now, out);
@@ -244,7 +244,7 @@ impl<K: Keeper + Drop> Coordinator<K> {
         requires ready { CoordinatorReadyToAnswer (node_of self.old) out.old }
         ensures carries { IfSome (node_of self.old).memory (λ m. Carries (node_of self.old)
             (rules.answered (identity_of self.old) m eui packet.now now) result out.new (node_of self.new)) }
-        ensures holds { Holds (node_of self.new) }
+        ensures holds { CoordinatorAgrees (node_of self.new) }
     {
         let Some(entry) = self.allowed_one(eui) else {
             return Err(Dropped::NotAllowed);

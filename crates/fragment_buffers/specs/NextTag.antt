@@ -19,8 +19,8 @@ abbrev pub tag_in : Option (List ℕ) → Result ℕ BadStore
 tag_in octets = read_result tag_at (number_in tag_at octets)
 
 -- the tag is that of the records
-abbrev pub IsKept : ℕ → Records → Type 0
-IsKept tag records = tag_in (get records tag_slot) ≡ Ok tag
+abbrev pub AgreesWith : ℕ → Records → Type 0
+AgreesWith tag records = tag_in (get records tag_slot) ≡ Ok tag
 
 -- the tag after this one, and 0 after the last
 abbrev pub tag_after : ℕ → ℕ

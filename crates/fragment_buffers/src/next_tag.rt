@@ -2,7 +2,7 @@
 ghost use Rattle.std.specs.Prelude.{◌≡◌, Some, is_ok, IfOk, OnOk, OnErr};
 ghost use Rattle.plc_base.specs.Keeper.{Stores, OutsideStays};
 ghost use Rattle.std.specs.FinMap.{get};
-ghost use Rattle.fragment_buffers.specs.NextTag.{tag_in, tag_slot, IsKept, tag_after, tag_write, take_write, tag_left};
+ghost use Rattle.fragment_buffers.specs.NextTag.{tag_in, tag_slot, AgreesWith, tag_after, tag_write, take_write, tag_left};
 
 use mesh_header::LONGEST_WHOLE;
 use plc_base::{BadStore, Failed, Keeper};
@@ -59,7 +59,7 @@ impl NextTag {
         ensures tag { OnOk result (self.new ≡ tag_after self.old) }
         ensures same { OnErr result (self.new ≡ self.old) }
         ensures store { Stores (K.store keeper.old) (Some (tag_write self.old)) (is_ok result) (K.store keeper.new) }
-        ensures kept { OnOk result (IsKept self.new (K.store keeper.new).records) }
+        ensures kept { OnOk result (AgreesWith self.new (K.store keeper.new).records) }
         ensures elsewhere { OutsideStays 4 4 (K.store keeper.old) (K.store keeper.new) }
     {
         let next = self.tag.wrapping_add(1);
@@ -72,12 +72,12 @@ impl NextTag {
     ///
     /// Only a failed put is an error. The tag is then as it was, but may not be used until it is opened again.
     pub fn take<K: Keeper>(&mut self, keeper: &mut K, octets: usize) -> Result<u16, Failed>
-        requires kept { IsKept self.old (K.store keeper.old).records }
+        requires kept { AgreesWith self.old (K.store keeper.old).records }
         ensures tag { IfOk result (λ tag. tag ≡ self.old) }
         ensures next { OnOk result (self.new ≡ tag_left octets self.old) }
         ensures same { OnErr result (self.new ≡ self.old) }
         ensures store { Stores (K.store keeper.old) (take_write octets self.old) (is_ok result) (K.store keeper.new) }
-        ensures kept { OnOk result (IsKept self.new (K.store keeper.new).records) }
+        ensures kept { OnOk result (AgreesWith self.new (K.store keeper.new).records) }
         ensures elsewhere { OutsideStays 4 4 (K.store keeper.old) (K.store keeper.new) }
     {
         let tag = self.tag;

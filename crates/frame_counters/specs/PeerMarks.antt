@@ -41,8 +41,8 @@ abbrev pub IsCovered : Table → Type 0
 IsCovered table = marks.IsCovered 0x0100 64 table
 
 -- What the table holds as stored is what the records give, and no record stands after them.
-abbrev pub IsKept : Table → Records → Type 0
-IsKept table records = marks.IsKept 0x0100 64 table records
+abbrev pub AgreesWith : Table → Records → Type 0
+AgreesWith table records = marks.AgreesWith 0x0100 64 table records
 
 -- the place of a sender in the table
 abbrev pub place_of : Table → ℕ → Option ℕ

@@ -45,12 +45,12 @@ abbrev pub opened : Records → Result Counting BadStore
 opened records = numbers.opened limit_at records
 
 -- What the counter holds as stored is what the records give.
-abbrev pub IsKept : Counting → Records → Type 0
-IsKept counting records = numbers.IsKept limit_at counting records
+abbrev pub AgreesWith : Counting → Records → Type 0
+AgreesWith counting records = numbers.AgreesWith limit_at counting records
 
 -- The limit is that of the records from before, or what the counter holds is what the new records give.
-abbrev pub IsOldLimitOrKept : Counting → Records → Records → Type 0
-IsOldLimitOrKept counting old new = numbers.IsOldLimitOrKept limit_at counting old new
+abbrev pub IsOldLimitOrAgrees : Counting → Records → Records → Type 0
+IsOldLimitOrAgrees counting old new = numbers.IsOldLimitOrAgrees limit_at counting old new
 
 -- the put of a limit
 abbrev pub limit_write : ℕ → Option Write

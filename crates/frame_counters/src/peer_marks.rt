@@ -6,7 +6,7 @@ ghost use Rattle.plc_base.specs.Keeper.{Stores, OutsideStays, IsOldOrNew};
 ghost use Rattle.store_tables.specs.SlotTables.{IsTable, IsGapless, IsReading, IsBad, Reopens, opened};
 ghost use Rattle.store_tables.specs.AdmittedNumbers.{Admitted, AllEarlier};
 ghost use Rattle.frame_counters.specs.Admitted.{Admits};
-ghost use Rattle.frame_counters.specs.PeerMarks.{Table, peers, IsKept, IsCovered, mark_of, room_for, keep_write, kept_after, admit_result, admit_write};
+ghost use Rattle.frame_counters.specs.PeerMarks.{Table, peers, AgreesWith, IsCovered, mark_of, room_for, keep_write, kept_after, admit_result, admit_write};
 ghost use Rattle.frame_counters.specs.PeerMarks.{admit_after, is_stored};
 
 use crate::PeerFault;
@@ -49,7 +49,7 @@ impl PeerMarks {
         ensures reading { IfOk result (λ table. IsReading peers table (K.store keeper.now).records) }
         ensures bad { IfErr result (λ bad. IsBad peers (K.store keeper.now).records bad.slot) }
         ensures kept { IsGapless peers (K.store keeper.now).records
-            → IfOk result (λ table. IsKept table (K.store keeper.now).records) }
+            → IfOk result (λ table. AgreesWith table (K.store keeper.now).records) }
         // Marks that were kept are opened again, each at its stored mark.
         ensures reopened { Reopens peers (K.store keeper.now).records result }
     {
@@ -109,14 +109,14 @@ impl PeerMarks {
         counter: u32,
     ) -> Result<(), Failed>
         requires room { room_for self.old from counter ≡ Ok tt }
-        requires kept { IsKept self.old (K.store keeper.old).records }
+        requires kept { AgreesWith self.old (K.store keeper.old).records }
         ensures table { OnOk result (self.new ≡ kept_after self.old from counter) }
         ensures same { OnErr result (self.new ≡ self.old) }
         ensures store { Stores (K.store keeper.old) (keep_write self.old from counter) (is_ok result)
             (K.store keeper.new) }
-        ensures kept { OnOk result (IsKept self.new (K.store keeper.new).records) }
+        ensures kept { OnOk result (AgreesWith self.new (K.store keeper.new).records) }
         // Whatever became of the put, the records are those of the marks before or of those after.
-        ensures either { IsOldOrNew IsKept self.old (kept_after self.old from counter) (K.store keeper.new).records }
+        ensures either { IsOldOrNew AgreesWith self.old (kept_after self.old from counter) (K.store keeper.new).records }
         ensures elsewhere { OutsideStays 0x0100 0x013F (K.store keeper.old) (K.store keeper.new) }
     {
         self.marks.keep(keeper, from, counter)
@@ -134,7 +134,7 @@ impl PeerMarks {
         from: Short,
         counter: u32,
     ) -> Result<(), PeerFault>
-        requires { IsKept self.old (K.store keeper.old).records }
+        requires { AgreesWith self.old (K.store keeper.old).records }
         ensures answer { result ≡ admit_result self.old from counter (is_stored result) }
         // It is above all that was admitted of the sender before, over any frames, failed puts and new starts.
         ensures fresh { (before : List Admitted) → Admits before (Some self.old) (K.store keeper.old).records
@@ -142,8 +142,8 @@ impl PeerMarks {
         ensures table { self.new ≡ admit_after self.old from counter (is_stored result) }
         ensures store { Stores (K.store keeper.old) (admit_write self.old from counter) (is_stored result)
             (K.store keeper.new) }
-        ensures kept { OnTrue (is_stored result) (IsKept self.new (K.store keeper.new).records) }
-        ensures either { IsOldOrNew IsKept self.old (kept_after self.old from counter) (K.store keeper.new).records }
+        ensures kept { OnTrue (is_stored result) (AgreesWith self.new (K.store keeper.new).records) }
+        ensures either { IsOldOrNew AgreesWith self.old (kept_after self.old from counter) (K.store keeper.new).records }
         ensures elsewhere { OutsideStays 0x0100 0x013F (K.store keeper.old) (K.store keeper.new) }
     {
         match self.room(from, counter) {

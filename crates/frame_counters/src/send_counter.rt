@@ -2,7 +2,7 @@
 ghost use Rattle.std.specs.Prelude.{◌≡◌, ◌+◌, ◌<◌, ◌≤◌, IfOk, OnOk, OnErr, is_ok, List, ℕ};
 ghost use Rattle.std.specs.Bool.{OnTrue};
 ghost use Rattle.plc_base.specs.Keeper.{Stores, OutsideStays, IsOldOrNew};
-ghost use Rattle.frame_counters.specs.SendCounter.{IsKept, IsOldLimitOrKept, stored_limit, opened, reserve_write, reserved, limit_write, counting_at};
+ghost use Rattle.frame_counters.specs.SendCounter.{AgreesWith, IsOldLimitOrAgrees, stored_limit, opened, reserve_write, reserved, limit_write, counting_at};
 ghost use Rattle.frame_counters.specs.SendCounter.{take_result, take_write, take_after, is_stored, preset_result};
 ghost use Rattle.store_tables.specs.Numberings.{AllBelow};
 ghost use Rattle.frame_counters.specs.Given.{Gives};
@@ -41,7 +41,7 @@ impl SendCounter {
     /// BadStore exactly where the record has another length than 4 octets.
     pub fn open<K: Keeper>(keeper: &K) -> Result<SendCounter, BadStore>
         ensures counter { result ≡ opened (K.store keeper.now).records }
-        ensures kept { IfOk result (λ counter. IsKept counter (K.store keeper.now).records) }
+        ensures kept { IfOk result (λ counter. AgreesWith counter (K.store keeper.now).records) }
         ensures limit { IfOk result (λ counter. counter.next ≡ stored_limit (K.store keeper.now).records) }
         ensures fits { IfOk result (λ counter. counter.next ≤ GREATEST_COUNTER) }
     {
@@ -62,7 +62,7 @@ impl SendCounter {
     pub fn reserve<K: Keeper>(&mut self, keeper: &mut K, count: u32) -> Result<u32, Failed>
         requires few { count ≤ 1024 }
         requires left { self.old.next + count ≤ GREATEST_COUNTER }
-        requires kept { IsKept self.old (K.store keeper.old).records }
+        requires kept { AgreesWith self.old (K.store keeper.old).records }
         ensures number { IfOk result (λ number. number ≡ self.old.next) }
         // It is above all that was given out before, over any reservations, failed puts and new starts.
         ensures fresh { (given : List ℕ) → Gives given (Some self.old) (K.store keeper.old).records
@@ -70,9 +70,9 @@ impl SendCounter {
         ensures counter { OnOk result (self.new ≡ reserved self.old count) }
         ensures same { OnErr result (self.new ≡ self.old) }
         ensures store { Stores (K.store keeper.old) (reserve_write self.old count) (is_ok result) (K.store keeper.new) }
-        ensures kept { OnOk result (IsKept self.new (K.store keeper.new).records) }
+        ensures kept { OnOk result (AgreesWith self.new (K.store keeper.new).records) }
         // Whatever became of the put, the record is that of the counter before or of the one after.
-        ensures either { IsOldOrNew IsKept self.old (reserved self.old count) (K.store keeper.new).records }
+        ensures either { IsOldOrNew AgreesWith self.old (reserved self.old count) (K.store keeper.new).records }
         ensures elsewhere { OutsideStays 2 2 (K.store keeper.old) (K.store keeper.new) }
         ensures fits { self.new.next ≤ GREATEST_COUNTER }
     {
@@ -84,7 +84,7 @@ impl SendCounter {
     /// Spent exactly where none is left. Store where that put failed, and then the counter may not be used until it is
     /// opened again.
     pub fn take<K: Keeper>(&mut self, keeper: &mut K) -> Result<u32, CounterFault>
-        requires { IsKept self.old (K.store keeper.old).records }
+        requires { AgreesWith self.old (K.store keeper.old).records }
         ensures answer { result ≡ take_result self.old (is_stored result) }
         ensures counter { self.new ≡ take_after self.old (is_stored result) }
         ensures store { Stores (K.store keeper.old) (take_write self.old) (is_stored result) (K.store keeper.new) }
@@ -92,8 +92,8 @@ impl SendCounter {
         // It is above all that was given out before, over any takes, failed puts and new starts.
         ensures fresh { (given : List ℕ) → Gives given (Some self.old) (K.store keeper.old).records
             → IfOk result (λ number. AllBelow number given) }
-        ensures kept { OnTrue (is_stored result) (IsKept self.new (K.store keeper.new).records) }
-        ensures either { IsOldOrNew IsKept self.old (reserved self.old 1) (K.store keeper.new).records }
+        ensures kept { OnTrue (is_stored result) (AgreesWith self.new (K.store keeper.new).records) }
+        ensures either { IsOldOrNew AgreesWith self.old (reserved self.old 1) (K.store keeper.new).records }
         ensures elsewhere { OutsideStays 2 2 (K.store keeper.old) (K.store keeper.new) }
         ensures fits { self.new.next ≤ GREATEST_COUNTER }
     {
@@ -110,8 +110,8 @@ impl SendCounter {
         ensures counter { OnOk result (self.new ≡ counting_at value) }
         ensures same { OnErr result (self.new ≡ self.old) }
         ensures store { Stores (K.store keeper.old) (limit_write value) (is_ok result) (K.store keeper.new) }
-        ensures kept { OnOk result (IsKept self.new (K.store keeper.new).records) }
-        ensures either { IsOldLimitOrKept (counting_at value) (K.store keeper.old).records
+        ensures kept { OnOk result (AgreesWith self.new (K.store keeper.new).records) }
+        ensures either { IsOldLimitOrAgrees (counting_at value) (K.store keeper.old).records
             (K.store keeper.new).records }
         ensures elsewhere { OutsideStays 2 2 (K.store keeper.old) (K.store keeper.new) }
     {
@@ -126,8 +126,8 @@ impl SendCounter {
         ensures counter { OnOk result (self.new ≡ counting_at value) }
         ensures same { OnErr result (self.new ≡ self.old) }
         ensures store { Stores (K.store keeper.old) (limit_write value) (is_ok result) (K.store keeper.new) }
-        ensures kept { OnOk result (IsKept self.new (K.store keeper.new).records) }
-        ensures either { IsOldLimitOrKept (counting_at value) (K.store keeper.old).records
+        ensures kept { OnOk result (AgreesWith self.new (K.store keeper.new).records) }
+        ensures either { IsOldLimitOrAgrees (counting_at value) (K.store keeper.old).records
             (K.store keeper.new).records }
         ensures elsewhere { OutsideStays 2 2 (K.store keeper.old) (K.store keeper.new) }
     {

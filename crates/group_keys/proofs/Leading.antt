@@ -26,8 +26,8 @@ ring_reads : (x : rings.Ring) → IfSome x IsReadable → rings.ring_in (rings.r
 ring_reads None h = refl
 ring_reads (Some g) h = ring_in-ring_octets g h.grant h.address h.key0 h.key1
 
-pub ring_leads : (before after : rings.Ring) → IfSome after IsReadable → PutsLead rings.IsKept before (puts_of (rings.ring_write after)) after
-ring_leads before after h = leads_one rings.IsKept before after _
+pub ring_leads : (before after : rings.Ring) → IfSome after IsReadable → PutsLead rings.AgreesWith before (puts_of (rings.ring_write after)) after
+ring_leads before after h = leads_one rings.AgreesWith before after _
     (λ r k. record { stored = ap rings.ring_at (get-insert_same r 1 1 (rings.ring_octets after) refl) ∙ ring_reads after h })
 
 -- # Looking up

@@ -12,7 +12,7 @@ use Rattle.plc_base.specs.Grant.{Granted, IsGrant}
 use Rattle.plc_base.specs.declared.key.Key.{Key}
 use Rattle.store_tables.proofs.StoreLemmas.{get-insert_same}
 use Rattle.group_keys.specs.Fields.{held_in, held_octets}
-use Rattle.group_keys.specs.KeyRing.{Ring, IsKept, ring_slot, ring_at, ring_in, grant_in, grant_of, ring_octets, ring_write}
+use Rattle.group_keys.specs.KeyRing.{Ring, AgreesWith, ring_slot, ring_at, ring_in, grant_in, grant_of, ring_octets, ring_write}
 
 -- # Fields in a row
 
@@ -88,6 +88,6 @@ ring_either old new ring reads (inr written) =
     inr (ap (λ m. ring_at (get m ring_slot)) written ∙ ap ring_at (get-insert_same old ring_slot ring_slot (ring_octets ring) refl) ∙ reads)
 
 -- what is stored of the ring stays where other slots are put
-pub kept_elsewhere : (ring : Ring) (old new : Records) (first last : ℕ) → IsKept ring old → SameOutside first last old new
-    → (ring_slot < first) ⊎ (last < ring_slot) → IsKept ring new
+pub kept_elsewhere : (ring : Ring) (old new : Records) (first last : ℕ) → AgreesWith ring old → SameOutside first last old new
+    → (ring_slot < first) ⊎ (last < ring_slot) → AgreesWith ring new
 kept_elsewhere ring old new first last kept same apart = record { stored = ap ring_at (same ring_slot apart) ∙ kept.stored }

@@ -73,8 +73,8 @@ entries = record {
 }
 
 -- What the book holds is what the records give, and no record stands after them.
-abbrev pub IsKept : Book → Records → Type 0
-IsKept book records = slots.IsStored entries book records
+abbrev pub AgreesWith : Book → Records → Type 0
+AgreesWith book records = slots.IsStored entries book records
 
 -- # Looking up
 

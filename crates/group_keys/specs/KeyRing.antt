@@ -65,7 +65,7 @@ abbrev pub opened : Records → Result Ring BadStore
 opened records = ring_from (ring_at (get records ring_slot))
 
 -- What the ring holds is what the records give.
-pub record IsKept (ring : Ring) (records : Records) : Type 0 where
+pub record AgreesWith (ring : Ring) (records : Records) : Type 0 where
   pub stored : ring_at (get records ring_slot) ≡ Some ring
 
 -- the slot gives the ring that it gave in the records from before, or this one
@@ -74,8 +74,8 @@ IsOldOrNewRing ring old new =
     (ring_at (get new ring_slot) ≡ ring_at (get old ring_slot)) ⊎ (ring_at (get new ring_slot) ≡ Some ring)
 
 -- The same, where what the ring holds is what the new records give.
-abbrev pub IsOldRingOrKept : Ring → Records → Records → Type 0
-IsOldRingOrKept ring old new = (ring_at (get new ring_slot) ≡ ring_at (get old ring_slot)) ⊎ IsKept ring new
+abbrev pub IsOldRingOrAgrees : Ring → Records → Records → Type 0
+IsOldRingOrAgrees ring old new = (ring_at (get new ring_slot) ≡ ring_at (get old ring_slot)) ⊎ AgreesWith ring new
 
 -- the put of a ring
 abbrev pub ring_write : Ring → Option Write

@@ -38,7 +38,7 @@ pub record IsReadableEntry (entry : BookEntry) : Type 0 where
 abbrev pub RingsLead : Type 0
 RingsLead =
     (before after : rings.Ring) → IfSome after IsReadable
-    → PutsLead rings.IsKept before (puts_of (rings.ring_write after)) after
+    → PutsLead rings.AgreesWith before (puts_of (rings.ring_write after)) after
 
 -- # The book
 
@@ -68,7 +68,7 @@ AnEntryIsFound = (book : books.Book) (entry : BookEntry) → HasEntry book entry
 pub record IsBookIn (book : books.Book) (records : Records) : Type 0 where
   pub sound : slots.IsTable books.entries book
   pub each : All IsReadableEntry book
-  pub kept : books.IsKept book records
+  pub kept : books.AgreesWith book records
 
 -- Whatever becomes of the put of an entry, some book is what the records give.
 abbrev pub ChangesLead : Type 0

@@ -5,7 +5,7 @@ ghost use Rattle.std.specs.Option.{option_map, option_and_then};
 ghost use Rattle.plc_base.specs.Keeper.{Stores, OutsideStays, IsOldOrNew};
 ghost use Rattle.store_tables.specs.SlotTables.{IsTable, IsGapless, IsReading, IsBad, Reopens, ReopensInto, opened, read_into};
 ghost use Rattle.plc_base.specs.declared.address.Eui.{Eui};
-ghost use Rattle.group_keys.specs.KeyBook.{Book, entries, IsKept, AddressesStay, entry_for, holds, address_of, is_allowed, issued_at, has_room, place_for};
+ghost use Rattle.group_keys.specs.KeyBook.{Book, entries, AgreesWith, AddressesStay, entry_for, holds, address_of, is_allowed, issued_at, has_room, place_for};
 ghost use Rattle.group_keys.specs.KeyBook.{with_entry, change_write, allowed_one, allow_result, allow_after, allow_write, kick_result, kick_after, kick_write};
 ghost use Rattle.group_keys.specs.KeyBook.{issue_result, issue_after, issue_write, is_stored};
 
@@ -141,7 +141,7 @@ impl KeyBook {
         ensures reading { IfOk result (λ book. IsReading entries book (K.store keeper.now).records) }
         ensures bad { IfErr result (λ bad. IsBad entries (K.store keeper.now).records bad.slot) }
         ensures kept { IsGapless entries (K.store keeper.now).records
-            → IfOk result (λ book. IsKept book (K.store keeper.now).records) }
+            → IfOk result (λ book. AgreesWith book (K.store keeper.now).records) }
         // A book that was kept is opened again as it was.
         ensures reopened { Reopens entries (K.store keeper.now).records result }
     {
@@ -154,7 +154,7 @@ impl KeyBook {
         ensures book { read_into result self.new ≡ opened entries (K.store keeper.now).records }
         ensures reading { OnOk result (IsReading entries self.new (K.store keeper.now).records) }
         ensures kept { IsGapless entries (K.store keeper.now).records
-            → OnOk result (IsKept self.new (K.store keeper.now).records) }
+            → OnOk result (AgreesWith self.new (K.store keeper.now).records) }
         ensures reopened { ReopensInto entries (K.store keeper.now).records result self.new }
     {
         self.table.reload(keeper)
@@ -235,16 +235,16 @@ impl KeyBook {
     /// Only a failed put is an error. The book is then as it was, but may not be used until it is opened again.
     pub fn change<K: Keeper>(&mut self, keeper: &mut K, entry: BookEntry) -> Result<Short, Failed>
         requires room { has_room self.old entry.eui ≡ true }
-        requires kept { IsKept self.old (K.store keeper.old).records }
+        requires kept { AgreesWith self.old (K.store keeper.old).records }
         ensures address { IfOk result (λ address. address ≡ place_for self.old entry.eui + 1) }
         ensures book { OnOk result (self.new ≡ with_entry self.old entry) }
         ensures same { OnErr result (self.new ≡ self.old) }
         // The address of a meter never changes.
         ensures addresses { AddressesStay self.old self.new }
         ensures store { Stores (K.store keeper.old) (change_write self.old entry) (is_ok result) (K.store keeper.new) }
-        ensures kept { OnOk result (IsKept self.new (K.store keeper.new).records) }
+        ensures kept { OnOk result (AgreesWith self.new (K.store keeper.new).records) }
         // Whatever became of the put, the records are those of the book before or of the one after.
-        ensures either { IsOldOrNew IsKept self.old (with_entry self.old entry) (K.store keeper.new).records }
+        ensures either { IsOldOrNew AgreesWith self.old (with_entry self.old entry) (K.store keeper.new).records }
         ensures elsewhere { OutsideStays 0x1000 0x13E6 (K.store keeper.old) (K.store keeper.new) }
     {
         match self.table.place_of(entry.eui.number()) {
@@ -274,14 +274,14 @@ impl KeyBook {
         eui: Eui,
         psk: &Key,
     ) -> Result<Short, BookFault>
-        requires { IsKept self.old (K.store keeper.old).records }
+        requires { AgreesWith self.old (K.store keeper.old).records }
         ensures answer { result ≡ allow_result self.old eui psk.now (is_stored result) }
         ensures book { self.new ≡ allow_after self.old eui psk.now (is_stored result) }
         ensures addresses { AddressesStay self.old self.new }
         ensures store { Stores (K.store keeper.old) (allow_write self.old eui psk.now) (is_stored result)
             (K.store keeper.new) }
-        ensures kept { OnTrue (is_stored result) (IsKept self.new (K.store keeper.new).records) }
-        ensures either { IsOldOrNew IsKept self.old (allow_after self.old eui psk.now true)
+        ensures kept { OnTrue (is_stored result) (AgreesWith self.new (K.store keeper.new).records) }
+        ensures either { IsOldOrNew AgreesWith self.old (allow_after self.old eui psk.now true)
             (K.store keeper.new).records }
         ensures elsewhere { OutsideStays 0x1000 0x13E6 (K.store keeper.old) (K.store keeper.new) }
     {
@@ -307,13 +307,13 @@ impl KeyBook {
     /// NotAllowed exactly where no allowed entry of the EUI is there. Store where the put failed, and then the book may not be
     /// used until it is opened again. After each error the book is as it was.
     pub fn kick<K: Keeper>(&mut self, keeper: &mut K, eui: Eui) -> Result<Short, BookFault>
-        requires { IsKept self.old (K.store keeper.old).records }
+        requires { AgreesWith self.old (K.store keeper.old).records }
         ensures answer { result ≡ kick_result self.old eui (is_stored result) }
         ensures book { self.new ≡ kick_after self.old eui (is_stored result) }
         ensures addresses { AddressesStay self.old self.new }
         ensures store { Stores (K.store keeper.old) (kick_write self.old eui) (is_stored result) (K.store keeper.new) }
-        ensures kept { OnTrue (is_stored result) (IsKept self.new (K.store keeper.new).records) }
-        ensures either { IsOldOrNew IsKept self.old (kick_after self.old eui true) (K.store keeper.new).records }
+        ensures kept { OnTrue (is_stored result) (AgreesWith self.new (K.store keeper.new).records) }
+        ensures either { IsOldOrNew AgreesWith self.old (kick_after self.old eui true) (K.store keeper.new).records }
         ensures elsewhere { OutsideStays 0x1000 0x13E6 (K.store keeper.old) (K.store keeper.new) }
     {
         let Some(entry) = self.allowed_one(eui) else {
@@ -340,14 +340,14 @@ impl KeyBook {
         eui: Eui,
         grant: &Grant,
     ) -> Result<(), BookFault>
-        requires { IsKept self.old (K.store keeper.old).records }
+        requires { AgreesWith self.old (K.store keeper.old).records }
         ensures answer { result ≡ issue_result self.old eui grant.now (is_stored result) }
         ensures book { self.new ≡ issue_after self.old eui grant.now (is_stored result) }
         ensures addresses { AddressesStay self.old self.new }
         ensures store { Stores (K.store keeper.old) (issue_write self.old eui grant.now) (is_stored result)
             (K.store keeper.new) }
-        ensures kept { OnTrue (is_stored result) (IsKept self.new (K.store keeper.new).records) }
-        ensures either { IsOldOrNew IsKept self.old (issue_after self.old eui grant.now true)
+        ensures kept { OnTrue (is_stored result) (AgreesWith self.new (K.store keeper.new).records) }
+        ensures either { IsOldOrNew AgreesWith self.old (issue_after self.old eui grant.now true)
             (K.store keeper.new).records }
         ensures elsewhere { OutsideStays 0x1000 0x13E6 (K.store keeper.old) (K.store keeper.new) }
     {

@@ -4,7 +4,7 @@ ghost use Rattle.std.specs.Prelude.{◌≡◌, ◌⊎◌, ◌≤◌, true, Some,
 ghost use Rattle.std.specs.Bool.{OnTrue};
 ghost use Rattle.std.specs.Option.{option_map};
 ghost use Rattle.plc_base.specs.Keeper.{Stores, OutsideStays};
-ghost use Rattle.group_keys.specs.KeyRing.{IsKept, IsOldRingOrKept, IsOldOrNewRing, opened, ring_at, ring_slot, ring_in, grant_in, ring_octets, ring_write};
+ghost use Rattle.group_keys.specs.KeyRing.{AgreesWith, IsOldRingOrAgrees, IsOldOrNewRing, opened, ring_at, ring_slot, ring_in, grant_in, ring_octets, ring_write};
 ghost use Rattle.group_keys.specs.KeyRing.{key_in_ring, with_key, with_active, stored_result, activate_result, activate_write, activate_after, is_stored};
 
 use crate::RingFault;
@@ -108,7 +108,7 @@ impl KeyRing {
     /// its active index, an address above FFFD, or other octets than zeros where nothing is held.
     pub fn open<K: Keeper>(keeper: &K) -> Result<KeyRing, BadStore>
         ensures ring { result ≡ opened (K.store keeper.now).records }
-        ensures kept { IfOk result (λ ring. IsKept ring (K.store keeper.now).records) }
+        ensures kept { IfOk result (λ ring. AgreesWith ring (K.store keeper.now).records) }
     {
         let Some(record) = keeper.get(RING_SLOT) else {
             return Ok(KeyRing { grant: None });
@@ -154,9 +154,9 @@ impl KeyRing {
         ensures ring { OnOk result (self.new ≡ grant) }
         ensures same { OnErr result (self.new ≡ self.old) }
         ensures store { Stores (K.store keeper.old) (ring_write grant) (is_ok result) (K.store keeper.new) }
-        ensures kept { OnOk result (IsKept self.new (K.store keeper.new).records) }
+        ensures kept { OnOk result (AgreesWith self.new (K.store keeper.new).records) }
         // Whatever became of the put, the slot gives the ring that it gave before or this one.
-        ensures either { IsOldRingOrKept grant (K.store keeper.old).records (K.store keeper.new).records }
+        ensures either { IsOldRingOrAgrees grant (K.store keeper.old).records (K.store keeper.new).records }
         ensures elsewhere { OutsideStays 1 1 (K.store keeper.old) (K.store keeper.new) }
     {
         store_ring(keeper, &grant)?;
@@ -172,8 +172,8 @@ impl KeyRing {
         ensures ring { OnOk result (self.new ≡ Some grant.now) }
         ensures same { OnErr result (self.new ≡ self.old) }
         ensures store { Stores (K.store keeper.old) (ring_write (Some grant.now)) (is_ok result) (K.store keeper.new) }
-        ensures kept { OnOk result (IsKept self.new (K.store keeper.new).records) }
-        ensures either { IsOldRingOrKept (Some grant.now) (K.store keeper.old).records (K.store keeper.new).records }
+        ensures kept { OnOk result (AgreesWith self.new (K.store keeper.new).records) }
+        ensures either { IsOldRingOrAgrees (Some grant.now) (K.store keeper.old).records (K.store keeper.new).records }
         ensures elsewhere { OutsideStays 1 1 (K.store keeper.old) (K.store keeper.new) }
     {
         self.keep(keeper, Some(*grant))
@@ -195,8 +195,8 @@ impl KeyRing {
         ensures same { OnErr result (self.new ≡ self.old) }
         ensures store { Stores (K.store keeper.old) (ring_write (with_key self.old index key.now)) (is_ok result)
             (K.store keeper.new) }
-        ensures kept { OnOk result (IsKept self.new (K.store keeper.new).records) }
-        ensures either { IsOldRingOrKept (with_key self.old index key.now) (K.store keeper.old).records
+        ensures kept { OnOk result (AgreesWith self.new (K.store keeper.new).records) }
+        ensures either { IsOldRingOrAgrees (with_key self.old index key.now) (K.store keeper.old).records
             (K.store keeper.new).records }
         ensures elsewhere { OutsideStays 1 1 (K.store keeper.old) (K.store keeper.new) }
     {
@@ -213,9 +213,9 @@ impl KeyRing {
         ensures ring { self.new ≡ activate_after self.old index (is_stored result) }
         ensures store { Stores (K.store keeper.old) (activate_write self.old index) (is_stored result)
             (K.store keeper.new) }
-        ensures kept { IsKept self.old (K.store keeper.old).records
-            → OnTrue (is_stored result) (IsKept self.new (K.store keeper.new).records) }
-        ensures either { IsOldRingOrKept (with_active self.old index) (K.store keeper.old).records
+        ensures kept { AgreesWith self.old (K.store keeper.old).records
+            → OnTrue (is_stored result) (AgreesWith self.new (K.store keeper.new).records) }
+        ensures either { IsOldRingOrAgrees (with_active self.old index) (K.store keeper.old).records
             (K.store keeper.new).records }
         ensures elsewhere { OutsideStays 1 1 (K.store keeper.old) (K.store keeper.new) }
     {
@@ -234,8 +234,8 @@ impl KeyRing {
         ensures same { OnErr result (self.new ≡ self.old) }
         ensures store { Stores (K.store keeper.old) (ring_write (with_active self.old index)) (is_ok result)
             (K.store keeper.new) }
-        ensures kept { OnOk result (IsKept self.new (K.store keeper.new).records) }
-        ensures either { IsOldRingOrKept (with_active self.old index) (K.store keeper.old).records
+        ensures kept { OnOk result (AgreesWith self.new (K.store keeper.new).records) }
+        ensures either { IsOldRingOrAgrees (with_active self.old index) (K.store keeper.old).records
             (K.store keeper.new).records }
         ensures elsewhere { OutsideStays 1 1 (K.store keeper.old) (K.store keeper.new) }
     {
@@ -251,8 +251,8 @@ impl KeyRing {
         ensures ring { OnOk result (self.new ≡ None) }
         ensures same { OnErr result (self.new ≡ self.old) }
         ensures store { Stores (K.store keeper.old) (ring_write None) (is_ok result) (K.store keeper.new) }
-        ensures kept { OnOk result (IsKept self.new (K.store keeper.new).records) }
-        ensures either { IsOldRingOrKept None (K.store keeper.old).records (K.store keeper.new).records }
+        ensures kept { OnOk result (AgreesWith self.new (K.store keeper.new).records) }
+        ensures either { IsOldRingOrAgrees None (K.store keeper.old).records (K.store keeper.new).records }
         ensures elsewhere { OutsideStays 1 1 (K.store keeper.old) (K.store keeper.new) }
     {
         self.keep(keeper, None).map_err(|_| RingFault::Store)

@@ -3,7 +3,7 @@ use Rattle.std.proofs.Common.{◌≡◌, ◌<◌, List, [], ◌∷◌, ◌++◌,
 use Rattle.std.specs.Prelude.{All, IfSome}
 use Rattle.std.proofs.lemmas.List.Elements.{All-nil}
 use Rattle.node_rules.specs.Ciphers.{Ciphers}
-use Rattle.line_rules.specs.Agreement.{AgreesAfter}
+use Rattle.line_rules.specs.Agreement.{KeysAgreeAfter}
 use Rattle.line_rules.specs.Nonces.{AreApart, NoncesDiffer}
 use Rattle.line_rules.specs.Runs.{Entry, issued, one_of, takings}
 use Rattle.line_rules.specs.Worlds.{World, Pairing, start}
@@ -75,7 +75,7 @@ module _ (ciphers : Ciphers) (fits : KeepsRanges ciphers) where
       )
 
   agrees_from : (w : World) (before : List Entry) → Keyed w (issued before) → Confirmed w (takings before) → (entries : List Entry)
-      → AreLawful ciphers w entries → AgreesAfter before entries
+      → AreLawful ciphers w entries → KeysAgreeAfter before entries
   agrees_from w before k c [] l = tt
   agrees_from w before k c (x ∷ xs) l = λ honest.
       let b = l.0.before in

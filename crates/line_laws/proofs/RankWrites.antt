@@ -29,7 +29,7 @@ use Rattle.line_laws.proofs.RankAccount.{Account, account_trans, offered_account
 pub record RankKept (Own : ℕ → Type 0) (C : ℕ → ℕ → Rank → Type 0) (first now : routing.Routing) (r : Records) : Type 0 where
   pub account : Account Own C first now
   pub ranged : IsRanged now
-  pub kept : routing.IsKept now r
+  pub kept : routing.AgreesWith now r
 
 -- a write beside ranks and floors
 pub record IsAway (w : Write) : Type 0 where
@@ -53,10 +53,10 @@ module _ (Own : ℕ → Type 0) (C : ℕ → ℕ → Rank → Type 0) (first : r
   away_leads t (w ∷ ws) away = leads_append Q t t t (w ∷ []) ws (leads_one Q t t w (λ r q. stays_away t r w away.0 q)) (away_leads t ws away.1)
 
   -- the next ranks by their own account
-  moves : (t s : routing.Routing) (r v : Records) → Q t r → Account Own C t s → IsRanged s → routing.IsKept s v → Q s v
+  moves : (t s : routing.Routing) (r v : Records) → Q t r → Account Own C t s → IsRanged s → routing.AgreesWith s v → Q s v
   moves t s r v q a x kept = record { account = account_trans first t s q.account a; ranged = x; kept = kept }
 
-  floors_stay : (t : routing.Routing) (r : Records) (place : ℕ) (octets : List ℕ) → routing.IsKept t r
+  floors_stay : (t : routing.Routing) (r : Records) (place : ℕ) (octets : List ℕ) → routing.AgreesWith t r
       → routing.floors_in (get (insert r (0x0200 + place) octets) routing.floor_slot) ≡ Some t.floors
   floors_stay t r place octets kept = ap routing.floors_in (get-insert_other r (0x0200 + place) routing.floor_slot octets (omega arith)) ∙ kept.floors
 

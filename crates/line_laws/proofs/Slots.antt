@@ -33,19 +33,19 @@ apart_of a b ne = by_order (cases_lt a b)
     by_order (inr high) = inr (omega arith)
 
 module _ (r : Records) (slot : ℕ) (octets : List ℕ) where
-  pub ring_stays : (x : ring.Ring) → ring.IsKept x r → 1 ≢ slot → ring.IsKept x (insert r slot octets)
+  pub ring_stays : (x : ring.Ring) → ring.AgreesWith x r → 1 ≢ slot → ring.AgreesWith x (insert r slot octets)
   ring_stays x kept ne = rings.kept_elsewhere x r (insert r slot octets) slot slot kept (put_outside r slot octets) (apart_of 1 slot ne)
 
-  pub counter_stays : (c : counter.Counting) → counter.IsKept c r → 2 ≢ slot → counter.IsKept c (insert r slot octets)
+  pub counter_stays : (c : counter.Counting) → counter.AgreesWith c r → 2 ≢ slot → counter.AgreesWith c (insert r slot octets)
   counter_stays c kept ne = counter_limits.kept_elsewhere c r (insert r slot octets) slot slot kept (put_outside r slot octets) (apart_of 2 slot ne)
 
-  pub number_stays : (n : own_number.Numbering) → own_number.IsKept n r → 3 ≢ slot → own_number.IsKept n (insert r slot octets)
+  pub number_stays : (n : own_number.Numbering) → own_number.AgreesWith n r → 3 ≢ slot → own_number.AgreesWith n (insert r slot octets)
   number_stays n kept ne = number_limits.kept_elsewhere n r (insert r slot octets) slot slot kept (put_outside r slot octets) (apart_of 3 slot ne)
 
   pub tag_stays : (tag : ℕ) → tag_in (get r tag_slot) ≡ Ok tag → 4 ≢ slot → tag_in (get (insert r slot octets) tag_slot) ≡ Ok tag
   tag_stays tag kept ne = ap tag_in (get-insert_other r slot tag_slot octets ne) ∙ kept
 
-  pub routing_stays : (t : routing.Routing) → routing.IsKept t r → 5 ≢ slot → (slot < 0x0200) ⊎ (0x023F < slot) → routing.IsKept t (insert r slot octets)
+  pub routing_stays : (t : routing.Routing) → routing.AgreesWith t r → 5 ≢ slot → (slot < 0x0200) ⊎ (0x023F < slot) → routing.AgreesWith t (insert r slot octets)
   routing_stays t kept ne apart = record {
     floors = ap routing.floors_in (get-insert_other r slot routing.floor_slot octets ne) ∙ kept.floors;
     ranks = stored_elsewhere routing.ranks t.entries r (insert r slot octets) slot slot kept.ranks (put_outside r slot octets) (outside apart);
@@ -55,8 +55,8 @@ module _ (r : Records) (slot : ℕ) (octets : List ℕ) where
       outside (inl low) = inl low
       outside (inr high) = inr (omega arith)
 
-  pub marks_stay : (t : marks.Table) → marks.IsKept t r → (slot < 0x0100) ⊎ (0x0140 ≤ slot) → marks.IsKept t (insert r slot octets)
+  pub marks_stay : (t : marks.Table) → marks.AgreesWith t r → (slot < 0x0100) ⊎ (0x0140 ≤ slot) → marks.AgreesWith t (insert r slot octets)
   marks_stay t kept apart = stored_elsewhere marks.peers t r (insert r slot octets) slot slot kept (put_outside r slot octets) apart
 
-  pub book_stays : (b : book.Book) → book.IsKept b r → (slot < 0x1000) ⊎ (0x13E7 ≤ slot) → book.IsKept b (insert r slot octets)
+  pub book_stays : (b : book.Book) → book.AgreesWith b r → (slot < 0x1000) ⊎ (0x13E7 ≤ slot) → book.AgreesWith b (insert r slot octets)
   book_stays b kept apart = stored_elsewhere book.entries b r (insert r slot octets) slot slot kept (put_outside r slot octets) apart

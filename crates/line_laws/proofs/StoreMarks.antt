@@ -114,7 +114,7 @@ accept_is l own (Some x) = for_me_is l x (is_for_me l own x.head)
 -- # What it stores
 
 marks_kept : (l : StationMemory) (r : Records) (place : ℕ) (octets : List ℕ) (t : marks.Table) → IsStationKept l r → place < 64 → slots.IsTable marks.peers t
-    → marks.IsKept t (insert r (0x0100 + place) octets)
+    → marks.AgreesWith t (insert r (0x0100 + place) octets)
     → IsStationKept (record l { marks = t }) (insert r (0x0100 + place) octets)
 marks_kept l r place octets t k within table kept = record {
   range = record {
@@ -135,7 +135,7 @@ marks_kept l r place octets t k within table kept = record {
   marks = kept;
 }
 
-same_marks : (l : StationMemory) (r : Records) (t : marks.Table) → IsStationKept l r → slots.IsTable marks.peers t → marks.IsKept t r
+same_marks : (l : StationMemory) (r : Records) (t : marks.Table) → IsStationKept l r → slots.IsTable marks.peers t → marks.AgreesWith t r
     → IsStationKept (record l { marks = t }) r
 same_marks l r t k table kept = record {
   range = record {

@@ -43,7 +43,7 @@ pub record IsRanged (t : routing.Routing) : Type 0 where
 -- the others stay
 routing_kept : (l : StationMemory) (r : Records) (slot : ℕ) (octets : List ℕ) (t : routing.Routing) → IsStationKept l r → 4 < slot
     → (slot < 0x0100) ⊎ (0x0140 ≤ slot) → IsRanged t
-    → routing.IsKept t (insert r slot octets) → IsStationKept (record l { routing = t }) (insert r slot octets)
+    → routing.AgreesWith t (insert r slot octets) → IsStationKept (record l { routing = t }) (insert r slot octets)
 routing_kept l r slot octets t k above apart x kept = record {
   range = record {
     ring = k.range.ring;
@@ -64,7 +64,7 @@ routing_kept l r slot octets t k above apart x kept = record {
 }
 
 -- the floors stay where a rank is written
-floors_stay : (t : routing.Routing) (r : Records) (place : ℕ) (octets : List ℕ) → routing.IsKept t r
+floors_stay : (t : routing.Routing) (r : Records) (place : ℕ) (octets : List ℕ) → routing.AgreesWith t r
     → routing.floors_in (get (insert r (0x0200 + place) octets) routing.floor_slot) ≡ Some t.floors
 floors_stay t r place octets kept = ap routing.floors_in (get-insert_other r (0x0200 + place) routing.floor_slot octets (omega arith)) ∙ kept.floors
 

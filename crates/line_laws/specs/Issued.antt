@@ -3,7 +3,7 @@ use Rattle.std.specs.Prelude.{◌≡◌, false, List, [], ◌∷◌, ◌++◌}
 use Rattle.node_rules.specs.Ciphers.{Ciphers}
 use Rattle.line_rules.specs.Runs.{Entry, issued, IsLineRun}
 use Rattle.line_rules.specs.SafeRuns.{HasOnlyIssuedKeys}
-use Rattle.line_rules.specs.Agreement.{Agrees}
+use Rattle.line_rules.specs.Agreement.{KeysAgree}
 use Rattle.line_laws.specs.Owed.{KeepsRanges}
 use Rattle.line_laws.specs.Laws.{FlightsAreOctets}
 
@@ -24,4 +24,4 @@ OnlyIssuedKeys =
 abbrev pub EveryJoiningAgrees : Type 0
 EveryJoiningAgrees =
     (ciphers : Ciphers) → KeepsRanges ciphers → (entries : List Entry) → IsLineRun ciphers entries
-    → FlightsAreOctets entries → Agrees entries
+    → FlightsAreOctets entries → KeysAgree entries

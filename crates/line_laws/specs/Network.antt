@@ -2,7 +2,7 @@
 use Rattle.std.specs.Prelude.{All, List, [], ◌∷◌}
 use Rattle.plc_base.specs.Fields.{AreOctets}
 use Rattle.node_rules.specs.Ciphers.{Ciphers, network}
-use Rattle.line_rules.specs.Agreement.{Agrees, KickedStaysOut}
+use Rattle.line_rules.specs.Agreement.{KeysAgree, KickedStaysOut}
 use Rattle.line_rules.specs.Forgery.{IsForgedRight}
 use Rattle.line_rules.specs.FurtherRuns.{AreBroadcastOnce, AreOfHistory, AreWalked, LogsAlwaysKept}
 use Rattle.line_rules.specs.Nonces.{CountersRise, NoncesDiffer, AreSpelled, AreAddressed, AreApart}
@@ -44,7 +44,7 @@ pub record IsRight (entries : List Entry) : Type 0 where
   pub falls : FlightsAlwaysFall network start entries
   pub once : AcceptsOnce network start entries
   pub alone : AcceptedOnce network start entries
-  pub agrees : Agrees entries
+  pub agrees : KeysAgree entries
   pub said : All IsAgreedRight entries
   pub keys : IsIssuedAfter [] entries
   pub issued : AreIssuedRight start entries

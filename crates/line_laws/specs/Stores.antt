@@ -50,12 +50,12 @@ pub record IsInRange (l : StationMemory) : Type 0 where
 -- It is what the records give.
 pub record IsStationKept (l : StationMemory) (records : Records) : Type 0 where
   pub range : IsInRange l
-  pub ring : ring.IsKept l.ring records
-  pub counter : counter.IsKept l.counter records
-  pub number : own_number.IsKept l.own_number records
+  pub ring : ring.AgreesWith l.ring records
+  pub counter : counter.AgreesWith l.counter records
+  pub number : own_number.AgreesWith l.own_number records
   pub tag : tag_in (get records tag_slot) ≡ Ok l.next_tag
-  pub routing : routing.IsKept l.routing records
-  pub marks : marks.IsKept l.marks records
+  pub routing : routing.AgreesWith l.routing records
+  pub marks : marks.AgreesWith l.marks records
 
 -- an EUI of 8 octets
 abbrev pub HasEui : Eui → Type 0
@@ -76,7 +76,7 @@ pub record IsReadableEntry (e : BookEntry) : Type 0 where
 pub record IsBookKept (b : book.Book) (records : Records) : Type 0 where
   pub table : slots.IsTable book.entries b
   pub each : All IsReadableEntry b
-  pub stored : book.IsKept b records
+  pub stored : book.AgreesWith b records
 
 -- the coordinator's book belongs to what its records give; a meter has none, and its pair key is octets
 abbrev pub BookKept : Role → book.Book → Records → Type 0

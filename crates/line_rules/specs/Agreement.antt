@@ -17,15 +17,15 @@ pub record WasTaken (done : Pairing) (before : List Pairing) : Type 0 where
   pub is : slice_get before place ≡ Some done
 
 -- a joining that is done in an event that is not forged was taken before, with the same random values
-abbrev pub AgreesAfter : List Entry → List Entry → Type 0
-AgreesAfter before [] = Unit {0}
-AgreesAfter before (x ∷ xs) =
+abbrev pub KeysAgreeAfter : List Entry → List Entry → Type 0
+KeysAgreeAfter before [] = Unit {0}
+KeysAgreeAfter before (x ∷ xs) =
     x.trace.happened.forged ≡ false
-    → IfSome x.trace.done (λ done. WasTaken done (takings before)) × AgreesAfter (before ++ x ∷ []) xs
+    → IfSome x.trace.done (λ done. WasTaken done (takings before)) × KeysAgreeAfter (before ++ x ∷ []) xs
 
 -- the same from the beginning of a run
-abbrev pub Agrees : List Entry → Type 0
-Agrees entries = AgreesAfter [] entries
+abbrev pub KeysAgree : List Entry → Type 0
+KeysAgree entries = KeysAgreeAfter [] entries
 
 -- # Kicked
 

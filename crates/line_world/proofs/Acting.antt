@@ -18,7 +18,7 @@ use Rattle.line_events.specs.declared.event.Answer.{Answer}
 use Rattle.line_events.specs.declared.event.Answer.TheVariants as said
 use Rattle.line_world.specs.Nodes.{cut_ahead, node_in}
 use Rattle.line_world.specs.NodeOutcomes.{Took}
-use Rattle.line_world.specs.Soundness.{AgreesAs, IsSound}
+use Rattle.line_world.specs.Soundness.{NodeAgreesWith, IsSound}
 
 -- # What is there
 
@@ -104,10 +104,10 @@ took {A} role x y halted p answer out cut_known stayed carries = by x.memory ref
 -- # What a call leaves
 
 -- What a station that agrees holds of its tables is what its records give, and each entry has a slot.
-pub holds_tables : (role : Role) (m : Memory) (records : Records) → AgreesAs role m records → HoldsTables role m.station m.book records
+pub holds_tables : (role : Role) (m : Memory) (records : Records) → NodeAgreesWith role m records → HoldsTables role m.station m.book records
 holds_tables role m records a = record { marks = a.station.marks; ranks = a.station.routing.ranks; entries = a.book }
 
-pub short_tables : (role : Role) (m : Memory) (records : Records) → AgreesAs role m records → HasShortTables m.station
+pub short_tables : (role : Role) (m : Memory) (records : Records) → NodeAgreesWith role m records → HasShortTables m.station
 short_tables role m records a = record { marks = a.station.marks.short; ranks = a.station.routing.ranks.short }
 
 -- each write of a plan is in place
@@ -128,7 +128,7 @@ pub tables_after : {A : Type 0} (role : Role) (x y : State Memory) (halted : A) 
     → StayedHalted x halted answer out y → IfSome x.memory (λ m. Carries x (p m) answer out y) → HasGaplessTables role y.store.records
 tables_after {A} role x y halted p answer out places sound stayed carries = by x.memory sound.agrees stayed carries
   where
-    by : (o : Option Memory) → IfSome o (λ m. AgreesAs role m x.store.records) → IfNone o ((answer ≡ halted) × (out ≡ nothing) × (y ≡ x))
+    by : (o : Option Memory) → IfSome o (λ m. NodeAgreesWith role m x.store.records) → IfNone o ((answer ≡ halted) × (out ≡ nothing) × (y ≡ x))
         → IfSome o (λ m. Carries x (p m) answer out y) → HasGaplessTables role y.store.records
     by None a s c = subst (λ (z : State Memory). HasGaplessTables role z.store.records) (sym s.2) sound.tables
     by (Some m) a s c =

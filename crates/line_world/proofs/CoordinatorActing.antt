@@ -29,14 +29,14 @@ use Rattle.node_rules.specs.StoreReading.{blank_station, memory_of}
 use Rattle.node_rules.specs.Tables.{HasGaplessTables}
 use Rattle.node_rules.proofs.RingPuts.{writes_keep_ring}
 use Rattle.node_rules.proofs.TablePlans.{meters_in_place}
-use Rattle.coordinator.specs.CoordinatorAgreement.{HoldsWith, Holds, HasHome}
+use Rattle.coordinator.specs.CoordinatorAgreement.{CoordinatorAgreesWith, CoordinatorAgrees, HasHome}
 use Rattle.coordinator.specs.CoordinatorReading.{if_read, read_answer}
 use Rattle.coordinator.specs.CoordinatorStates.{CoordinatorState, memory_in, node_of}
 use Rattle.line_rules.specs.Steps.{memory_by, restart_word, restarts, ticked}
 use Rattle.line_events.specs.declared.event.Answer.{Answer}
 use Rattle.line_world.specs.Nodes.{node_in, stored_in, of_coordinator}
 use Rattle.line_world.specs.NodeOutcomes.{Took}
-use Rattle.line_world.specs.Soundness.{AgreesAs, IsSound}
+use Rattle.line_world.specs.Soundness.{NodeAgreesWith, IsSound}
 use Rattle.line_world.proofs.Acting.{took, known_after, tables_after, StayedHalted, Places, IsRestartWord}
 use Rattle.line_world.proofs.LentStations.{StationPlan, StationStayed, StationCarries, IsOwnPlan, lent, lent_took, lent_sound, node_says, same_home}
 
@@ -51,23 +51,23 @@ home_of : (ring : Ring) (records : Records) → ring_at (get records ring_slot) 
 home_of ring records stored home = sym (ap (option_and_then (option_map (λ (g : Granted). g.address))) stored) ∙ home
 
 -- a sound coordinator agrees with its keeper
-pub holds : (x : CoordinatorState) → IsSoundCoordinator x → Holds (node_of x)
+pub holds : (x : CoordinatorState) → IsSoundCoordinator x → CoordinatorAgrees (node_of x)
 holds x sound = by (node_of x).memory sound.agrees
   where
-    by : (o : Option Memory) → IfSome o (λ m. AgreesAs Coordinator m x.station.store.records) → IfSome o (λ m. HoldsWith m x.station.store.records)
+    by : (o : Option Memory) → IfSome o (λ m. NodeAgreesWith Coordinator m x.station.store.records) → IfSome o (λ m. CoordinatorAgreesWith m x.station.store.records)
     by None a = tt
     by (Some m) a = record { station = a.station; book = a.book; home = home_of m.station.ring x.station.store.records a.station.ring.stored sound.home }
 
-agrees_as : (y : CoordinatorState) → Holds (node_of y) → IfSome (node_of y).memory (λ m. AgreesAs Coordinator m y.station.store.records)
+agrees_as : (y : CoordinatorState) → CoordinatorAgrees (node_of y) → IfSome (node_of y).memory (λ m. NodeAgreesWith Coordinator m y.station.store.records)
 agrees_as y h = by (node_of y).memory h
   where
-    by : (o : Option Memory) → IfSome o (λ m. HoldsWith m y.station.store.records) → IfSome o (λ m. AgreesAs Coordinator m y.station.store.records)
+    by : (o : Option Memory) → IfSome o (λ m. CoordinatorAgreesWith m y.station.store.records) → IfSome o (λ m. NodeAgreesWith Coordinator m y.station.store.records)
     by None h = tt
     by (Some m) h = record { station = h.station; book = h.book }
 
 pub sound_with : (y : CoordinatorState) → IsSome y.station.store.known_cut → HasGaplessTables Coordinator y.station.store.records
     → HasHome y.station.store.records
-    → Holds (node_of y)
+    → CoordinatorAgrees (node_of y)
     → IsSoundCoordinator y
 sound_with y known_cut tables home h = record { known_cut = known_cut; tables = tables; home = home; agrees = agrees_as y h }
 
@@ -75,7 +75,7 @@ sound_with y known_cut tables home h = record { known_cut = known_cut; tables = 
 pub station_agrees : (x : CoordinatorState) → IsSoundCoordinator x → Agrees x.station
 station_agrees x sound = by x.station.memory sound.agrees
   where
-    by : (o : Option StationMemory) → IfSome (option_map (memory_in x.randoms x.sessions x.book) o) (λ m. AgreesAs Coordinator m x.station.store.records)
+    by : (o : Option StationMemory) → IfSome (option_map (memory_in x.randoms x.sessions x.book) o) (λ m. NodeAgreesWith Coordinator m x.station.store.records)
         → IfSome o (λ l. AgreesWith l x.station.store.records)
     by None a = tt
     by (Some l) a = a.station
@@ -105,7 +105,7 @@ own_took x y halted p answer out sound stayed carries =
 -- It is sound still where its home is as before.
 pub own_sound : {A : Type 0} (x y : CoordinatorState) (halted : A) (p : Memory → Plan Memory A) (answer : A) (out : Out) → Places p → IsSoundCoordinator x
     → Stayed x halted answer out y
-    → IfSome (node_of x).memory (λ m. Carries (node_of x) (p m) answer out (node_of y)) → HasHome y.station.store.records → Holds (node_of y)
+    → IfSome (node_of x).memory (λ m. Carries (node_of x) (p m) answer out (node_of y)) → HasHome y.station.store.records → CoordinatorAgrees (node_of y)
     → IsSoundCoordinator y
 own_sound x y halted p answer out places sound stayed carries home h =
     let s = stays x y halted answer out stayed in
@@ -131,7 +131,7 @@ home_after {A} x y halted p answer out rings sound stayed carries = by (node_of 
 -- It is sound still where it writes no ring.
 pub ringless_sound : {A : Type 0} (x y : CoordinatorState) (halted : A) (p : Memory → Plan Memory A) (answer : A) (out : Out) → Places p → NoRing p
     → IsSoundCoordinator x
-    → Stayed x halted answer out y → IfSome (node_of x).memory (λ m. Carries (node_of x) (p m) answer out (node_of y)) → Holds (node_of y)
+    → Stayed x halted answer out y → IfSome (node_of x).memory (λ m. Carries (node_of x) (p m) answer out (node_of y)) → CoordinatorAgrees (node_of y)
     → IsSoundCoordinator y
 ringless_sound x y halted p answer out places rings sound stayed carries h =
     own_sound x y halted p answer out places sound stayed carries (home_after x y halted p answer out rings sound stayed carries) h
@@ -189,7 +189,7 @@ pub ended : (now : ℕ) (x y : CoordinatorState) → node_of y ≡ record (node_
 ended now x y state = ap (λ (z : State Memory). node_in Coordinator z) state
 
 -- a coordinator that keeps its store, and holds what that gives, is sound as before
-pub stored_sound : (x y : CoordinatorState) → IsSoundCoordinator x → y.station.store ≡ x.station.store → Holds (node_of y) → IsSoundCoordinator y
+pub stored_sound : (x y : CoordinatorState) → IsSoundCoordinator x → y.station.store ≡ x.station.store → CoordinatorAgrees (node_of y) → IsSoundCoordinator y
 stored_sound x y sound store h =
     sound_with y (subst (λ (s : Store). IsSome s.known_cut) (sym store) sound.known_cut)
     (subst (λ (s : Store). HasGaplessTables Coordinator s.records) (sym store) sound.tables)

@@ -30,7 +30,7 @@ use Rattle.line_rules.specs.Answers as rules
 use Rattle.line_rules.specs.Steps.{hears}
 use Rattle.plc_station.specs.Heard.{Fits}
 use Rattle.meter_node.specs.MeterStates.{MeterState, memory_with}
-use Rattle.coordinator.specs.CoordinatorAgreement.{Holds}
+use Rattle.coordinator.specs.CoordinatorAgreement.{CoordinatorAgrees}
 use Rattle.coordinator.specs.CoordinatorStates.{CoordinatorState, memory_in, node_of, identity_of}
 use Rattle.line_world.specs.declared.nodes.reception.Reception.{Reception}
 use Rattle.line_world.specs.NodeOutcomes.{Took}
@@ -91,7 +91,7 @@ module _ (x y : CoordinatorState) (got : Accepted) (cost note now : ℕ) (r : Re
       → ReportsReception word (rules.coordinator_reception r) → ReportsReception word (hears network (of_coordinator x) got cost note now).answer
   reported carries word t = subst (λ (k : Result CoordinatorHeard Dropped). ReportsReception word (rules.coordinator_reception k)) (acted carries).answer_is t
 
-  pub heard_sound : IfSome (node_of x).memory (λ m. Carries (node_of x) (plan m) r out (node_of y)) → Holds (node_of y) → IsSoundCoordinator y
+  pub heard_sound : IfSome (node_of x).memory (λ m. Carries (node_of x) (plan m) r out (node_of y)) → CoordinatorAgrees (node_of y) → IsSoundCoordinator y
   heard_sound carries h =
       ringless_sound x y (Err drops.Store) plan r out (λ m short. (coordinators_in_place (identity_of x) m short).hears got cost note now)
       (λ m. (coordinators_write_no_ring (identity_of x) m).hears got cost note now) sound (not_none (node_of x).memory _ may.running) carries h

@@ -22,7 +22,7 @@ use Rattle.node_rules.specs.StoreReading.{memory_of, remembering, blank_station,
 use Rattle.node_rules.specs.Tables.{HasGaplessTables}
 use Rattle.node_rules.proofs.Blank.{blank}
 use Rattle.line_rules.specs.Steps.{blank_node, coordinator_node}
-use Rattle.coordinator.specs.CoordinatorAgreement.{HoldsWith, Holds, HasHome}
+use Rattle.coordinator.specs.CoordinatorAgreement.{CoordinatorAgreesWith, CoordinatorAgrees, HasHome}
 use Rattle.coordinator.specs.CoordinatorStates.{CoordinatorState, node_of}
 use Rattle.coordinator.specs.Opening.{Begins, MayBegin, read_state}
 use Rattle.line_world.specs.Nodes.{node_in, of_coordinator}
@@ -30,22 +30,22 @@ use Rattle.line_world.proofs.Acting.{took, still_known}
 use Rattle.line_world.proofs.CoordinatorActing.{IsSoundCoordinator, sound_with}
 
 -- what a coordinator that runs holds, its records hold without a gap, and the home
-gapless : (m : Memory) (records : Records) → HoldsWith m records → HasGaplessTables Coordinator records
+gapless : (m : Memory) (records : Records) → CoordinatorAgreesWith m records → HasGaplessTables Coordinator records
 gapless m records h = record {
   marks = stored_gapless marks.peers m.station.marks records h.station.marks;
   ranks = stored_gapless routing.ranks m.station.routing.entries records h.station.routing.ranks;
   entries = stored_gapless book.entries m.book records h.book;
 }
 
-home_of : (m : Memory) (records : Records) → HoldsWith m records → HasHome records
+home_of : (m : Memory) (records : Records) → CoordinatorAgreesWith m records → HasHome records
 home_of m records h = ap (option_and_then (option_map (λ (g : Granted). g.address))) h.station.ring.stored ∙ h.home
 
-runs_sound : (y : CoordinatorState) → IsSome (node_of y).memory → Holds (node_of y) → IsSome y.station.store.known_cut → IsSoundCoordinator y
+runs_sound : (y : CoordinatorState) → IsSome (node_of y).memory → CoordinatorAgrees (node_of y) → IsSome y.station.store.known_cut → IsSoundCoordinator y
 runs_sound y running h reported =
     let both = by (node_of y).memory running h in
     sound_with y reported both.0 both.1 h
   where
-    by : (o : Option Memory) → IsSome o → IfSome o (λ m. HoldsWith m y.station.store.records)
+    by : (o : Option Memory) → IsSome o → IfSome o (λ m. CoordinatorAgreesWith m y.station.store.records)
         → HasGaplessTables Coordinator y.station.store.records × HasHome y.station.store.records
     by None is h = absurd (cc)
     by (Some m) is h = (gapless m y.station.store.records h, home_of m y.station.store.records h)
@@ -76,7 +76,7 @@ module _ (store : Store) (eui : Eui) (key : Key) (y : CoordinatorState) (new : s
       let t = took Coordinator (read_state store eui b.memory) (node_of y) (Ok tt) (λ m. begin m (first_grant key)) (Ok tt) nothing reports tt b.carries in
       t.node_is ∙ ap (λ n. (acts n (Ok tt) (λ m. begin m (first_grant key))).node) (blank_is b.memory b.read)
 
-  pub made_sound : Begins store eui key (Ok tt) (node_of y) → IsSome (node_of y).memory → Holds (node_of y) → IsSoundCoordinator y
+  pub made_sound : Begins store eui key (Ok tt) (node_of y) → IsSome (node_of y).memory → CoordinatorAgrees (node_of y) → IsSoundCoordinator y
   made_sound b running h =
       runs_sound y running h (still_known (read_state store eui b.memory) (node_of y) (begin b.memory (first_grant key)) (Ok tt) nothing reports b.carries)
 

@@ -4,7 +4,7 @@ use Rattle.std.specs.Bool.{MatchBool}
 use Rattle.std.specs.Option.{option_and_then, option_map}
 use Rattle.std.specs.Prelude.{IfSome, IfNone, IsSome, is_some, not, if◌then◌else◌}
 use Rattle.plc_base.specs.declared.out_frame.Out.{Out}
-use Rattle.broadcast_log.specs.Log.{IsKept}
+use Rattle.broadcast_log.specs.Log.{AgreesWith}
 use Rattle.node_rules.specs.declared.refusal.Dropped.TheVariants.{Store}
 use Rattle.node_rules.specs.Agreement.{Agrees}
 use Rattle.node_rules.specs.Carrying.{nothing}
@@ -33,9 +33,9 @@ use Rattle.line_world.proofs.LentStations.{StationPlan, IsOwnPlan, lent, lent_so
 
 -- the log of the coordinator is that of its station
 pub log_lent : (x : CoordinatorState) (s : State StationMemory) (b : Beside) (old : Node) → of_coordinator x ≡ old → s ≡ x.station → IsLogOf b old
-    → IfSome s.memory (λ l. IsKept b.log s.store.records)
+    → IfSome s.memory (λ l. AgreesWith b.log s.store.records)
 log_lent x s b old view same h =
-    subst (λ (k : State StationMemory). IfSome k.memory (λ l. IsKept b.log k.store.records)) (sym same)
+    subst (λ (k : State StationMemory). IfSome k.memory (λ l. AgreesWith b.log k.store.records)) (sym same)
     (log_of_station (beside x) x.station b (subst (λ (n : Node). IsLogOf b n) (sym view) h))
 
 -- what its station is told to be
@@ -98,7 +98,7 @@ module _ {A : Type 0} (x : CoordinatorState) (old : Node) (s t : State StationMe
 
 module _ (x : CoordinatorState) (old : Node) (s t : State StationMemory) (b d : Beside) (c : NeighbourCommand) (reported : Commanded) (before out : Out)
     (view : of_coordinator x ≡ old) (same : s ≡ x.station)
-    (sound : IsSoundCoordinator x) (kept : IfSome s.memory (λ l. IsKept b.log s.store.records))
+    (sound : IsSoundCoordinator x) (kept : IfSome s.memory (λ l. AgreesWith b.log s.store.records))
     (r : ReachesCommand s b (λ y. hear_command alone y c) reported 0 before out t d) where
   are_lent : IsSome s.memory → AreLent b (λ y. hear_command in_memory y c) (λ y. hear_command alone y c)
   are_lent is m = command_lent b m (marks_short s b kept is) c

@@ -22,7 +22,7 @@ use Rattle.loadng_messages.specs.declared.message.Message.{Message}
 use Rattle.loadng_messages.specs.declared.message.Message.TheVariants.{Rreq, Rrep, Rerr}
 use Rattle.loadng_messages.specs.Reading.{message_in}
 use Rattle.routing_set.specs.declared.rank.Rank.{Rank}
-use Rattle.broadcast_log.specs.Log.{IsKept}
+use Rattle.broadcast_log.specs.Log.{AgreesWith}
 use Rattle.node_rules.specs.declared.heard.Accepted.{Accepted}
 use Rattle.node_rules.specs.declared.heard.CoordinatorHeard.{CoordinatorHeard}
 use Rattle.node_rules.specs.declared.heard.CoordinatorHeard.TheVariants as coordinator_words
@@ -227,7 +227,7 @@ module _ (x : Node) (got : Accepted) (cost note now : ℕ) (c : NeighbourCommand
 pub log_of : (b : Beside) (x : Node) → NodeIn b.log x → IsLogOf b x
 log_of b x h = by x.memory h
   where
-    by : (o : Option Memory) → LogIn b.log x.store.records o → IfSome o (λ _. IsKept b.log x.store.records)
+    by : (o : Option Memory) → LogIn b.log x.store.records o → IfSome o (λ _. AgreesWith b.log x.store.records)
     by None k = tt
     by (Some m) k = k.kept
 

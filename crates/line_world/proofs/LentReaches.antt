@@ -6,7 +6,7 @@ use Rattle.std.specs.Option.{option_map, option_map_or}
 use Rattle.plc_base.specs.declared.address.Eui.{Eui}
 use Rattle.plc_base.specs.declared.out_frame.Out.{Out}
 use Rattle.plc_base.specs.Keeper.{Store}
-use Rattle.broadcast_log.specs.Log.{IsKept}
+use Rattle.broadcast_log.specs.Log.{AgreesWith}
 use Rattle.node_rules.specs.Agreement.{Agrees}
 use Rattle.node_rules.specs.Carrying.{Carries, nothing}
 use Rattle.node_rules.specs.Memory.{StationMemory, Memory, Node, Role}
@@ -211,20 +211,20 @@ module _ {A : Type 0} (role : Role) (m : Memory) (s t : State StationMemory) (b 
 -- # The log beside
 
 -- the log of a node is that of its station
-pub log_of_station : (m : Memory) (s : State StationMemory) (b : Beside) → IfSome (holder m s).memory (λ n. IsKept b.log s.store.records)
-    → IfSome s.memory (λ l. IsKept b.log s.store.records)
+pub log_of_station : (m : Memory) (s : State StationMemory) (b : Beside) → IfSome (holder m s).memory (λ n. AgreesWith b.log s.store.records)
+    → IfSome s.memory (λ l. AgreesWith b.log s.store.records)
 log_of_station m s b h = by s.memory h
   where
-    by : (o : Option StationMemory) → IfSome (option_map (λ l. with_station l m) o) (λ n. IsKept b.log s.store.records)
-        → IfSome o (λ l. IsKept b.log s.store.records)
+    by : (o : Option StationMemory) → IfSome (option_map (λ l. with_station l m) o) (λ n. AgreesWith b.log s.store.records)
+        → IfSome o (λ l. AgreesWith b.log s.store.records)
     by None k = tt
     by (Some l) k = k
 
 -- and it has at most as many marks as slots
-pub marks_short : (s : State StationMemory) (b : Beside) → IfSome s.memory (λ l. IsKept b.log s.store.records) → IsSome s.memory → length b.log.marks ≤ 32
+pub marks_short : (s : State StationMemory) (b : Beside) → IfSome s.memory (λ l. AgreesWith b.log s.store.records) → IsSome s.memory → length b.log.marks ≤ 32
 marks_short s b h is = by s.memory h is
   where
-    by : (o : Option StationMemory) → IfSome o (λ l. IsKept b.log s.store.records) → IsSome o → length b.log.marks ≤ 32
+    by : (o : Option StationMemory) → IfSome o (λ l. AgreesWith b.log s.store.records) → IsSome o → length b.log.marks ≤ 32
     by None k is = absurd (cc)
     by (Some l) k is = k.marks.short
 

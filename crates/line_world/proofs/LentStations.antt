@@ -36,7 +36,7 @@ use Rattle.line_events.specs.declared.event.Answer.{Answer}
 use Rattle.line_events.specs.declared.event.Answer.TheVariants as said
 use Rattle.line_world.specs.Nodes.{node_in, stored_in}
 use Rattle.line_world.specs.NodeOutcomes.{Took}
-use Rattle.line_world.specs.Soundness.{AgreesAs, IsSound}
+use Rattle.line_world.specs.Soundness.{NodeAgreesWith, IsSound}
 use Rattle.line_world.proofs.Acting.{took, known_after, tables_after, short_tables, StayedHalted}
 
 -- the node over a station, by the memory beside it
@@ -130,7 +130,7 @@ membership : {A : Type 0} (role : Role) (m : Memory) (s t : State StationMemory)
     → StationStayed s halted answer out t → StationCarries s q answer out t → SameMembership s.store.records t.store.records
 membership {A} role m s t halted q answer out own sound stayed carries = by s.memory sound.agrees stayed carries
   where
-    by : (o : Option StationMemory) → IfSome (option_map (λ l. with_station l m) o) (λ n. AgreesAs role n s.store.records)
+    by : (o : Option StationMemory) → IfSome (option_map (λ l. with_station l m) o) (λ n. NodeAgreesWith role n s.store.records)
         → IfNone o ((answer ≡ halted) × (out ≡ nothing) × (t ≡ s))
         → IfSome o (λ l. Carries s (q s.eui l) answer out t) → SameMembership s.store.records t.store.records
     by None a h c =
@@ -151,8 +151,8 @@ home_stays Coordinator old new same home = same_home old new same.ring home
 home_stays (Meter psk) old new same home = tt
 
 -- the book is kept where its records are as before
-book_stays : (role : Role) (b : book.Book) (old new : Records) → SameMembership old new → OfCoordinator role (book.IsKept b old)
-    → OfCoordinator role (book.IsKept b new)
+book_stays : (role : Role) (b : book.Book) (old new : Records) → SameMembership old new → OfCoordinator role (book.AgreesWith b old)
+    → OfCoordinator role (book.AgreesWith b new)
 book_stays Coordinator b old new same kept = record {
   short = kept.short;
   each = λ q inside. ap (option_map (book.entries.read q)) (same.entries (slot_of book.entries q) (omega arith)) ∙ kept.each q inside;
@@ -161,19 +161,19 @@ book_stays (Meter psk) b old new same kept = tt
 
 agrees_left : {A : Type 0} (role : Role) (m : Memory) (s t : State StationMemory) (halted answer : A) (out : Out)
     → SameMembership s.store.records t.store.records → IsSound role (holder m s)
-    → StationStayed s halted answer out t → Agrees t → IfSome (holder m t).memory (λ n. AgreesAs role n t.store.records)
+    → StationStayed s halted answer out t → Agrees t → IfSome (holder m t).memory (λ n. NodeAgreesWith role n t.store.records)
 agrees_left {A} role m s t halted answer out same sound stayed agrees = by s.memory refl sound.agrees stayed
   where
-    both : OfCoordinator role (book.IsKept m.book t.store.records) → (o : Option StationMemory) → IfSome o (λ l. AgreesWith l t.store.records)
-        → IfSome (option_map (λ l. with_station l m) o) (λ n. AgreesAs role n t.store.records)
+    both : OfCoordinator role (book.AgreesWith m.book t.store.records) → (o : Option StationMemory) → IfSome o (λ l. AgreesWith l t.store.records)
+        → IfSome (option_map (λ l. with_station l m) o) (λ n. NodeAgreesWith role n t.store.records)
     both kept None a = tt
     both kept (Some l) a = record { station = a; book = kept }
 
-    by : (o : Option StationMemory) → s.memory ≡ o → IfSome (option_map (λ l. with_station l m) o) (λ n. AgreesAs role n s.store.records)
-        → IfNone o ((answer ≡ halted) × (out ≡ nothing) × (t ≡ s)) → IfSome (option_map (λ l. with_station l m) t.memory) (λ n. AgreesAs role n t.store.records)
+    by : (o : Option StationMemory) → s.memory ≡ o → IfSome (option_map (λ l. with_station l m) o) (λ n. NodeAgreesWith role n s.store.records)
+        → IfNone o ((answer ≡ halted) × (out ≡ nothing) × (t ≡ s)) → IfSome (option_map (λ l. with_station l m) t.memory) (λ n. NodeAgreesWith role n t.store.records)
     by None e a h =
         let none : t.memory ≡ None = ap (λ (k : State StationMemory). k.memory) h.2 ∙ e in
-        subst (λ (o : Option StationMemory). IfSome (option_map (λ l. with_station l m) o) (λ n. AgreesAs role n t.store.records)) (sym none) tt
+        subst (λ (o : Option StationMemory). IfSome (option_map (λ l. with_station l m) o) (λ n. NodeAgreesWith role n t.store.records)) (sym none) tt
     by (Some l) e a h = both (book_stays role m.book s.store.records t.store.records same a.book) t.memory agrees
 
 -- The node is sound still.

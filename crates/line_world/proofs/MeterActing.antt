@@ -22,7 +22,7 @@ use Rattle.line_rules.specs.Steps.{memory_by, restart_word, restarts, ticked}
 use Rattle.line_events.specs.declared.event.Answer.{Answer}
 use Rattle.line_world.specs.Nodes.{stored_in, node_in, of_meter}
 use Rattle.line_world.specs.NodeOutcomes.{Took}
-use Rattle.line_world.specs.Soundness.{AgreesAs, IsSoundMeter}
+use Rattle.line_world.specs.Soundness.{NodeAgreesWith, IsSoundMeter}
 use Rattle.line_world.proofs.Acting.{took, known_after, tables_after, StayedHalted, Places, not_some, IsRestartWord}
 use Rattle.line_world.proofs.LentStations.{StationPlan, StationStayed, StationCarries, IsOwnPlan, lent, lent_took, lent_sound, node_says}
 
@@ -30,11 +30,11 @@ use Rattle.line_world.proofs.LentStations.{StationPlan, StationStayed, StationCa
 pub gapless_of_meter : (a b : Key) (records : Records) → HasGaplessTables (Meter a) records → HasGaplessTables (Meter b) records
 gapless_of_meter a b records h = record { marks = h.marks; ranks = h.ranks; entries = tt }
 
-agrees_of_meter : (psk : Key) (y : MeterState) → Agrees y.station → IfSome (node_of y).memory (λ m. AgreesAs (Meter psk) m y.station.store.records)
+agrees_of_meter : (psk : Key) (y : MeterState) → Agrees y.station → IfSome (node_of y).memory (λ m. NodeAgreesWith (Meter psk) m y.station.store.records)
 agrees_of_meter psk y a = by y.station.memory a
   where
     by : (o : Option StationMemory) → IfSome o (λ l. AgreesWith l y.station.store.records)
-        → IfSome (option_map (memory_with y) o) (λ m. AgreesAs (Meter psk) m y.station.store.records)
+        → IfSome (option_map (memory_with y) o) (λ m. NodeAgreesWith (Meter psk) m y.station.store.records)
     by None a = tt
     by (Some l) a = record { station = a; book = tt }
 
@@ -71,7 +71,7 @@ beside x = memory_with x blank_station
 pub meter_agrees : (x : MeterState) → IsSoundMeter x → Agrees x.station
 meter_agrees x sound = by x.station.memory sound.agrees
   where
-    by : (o : Option StationMemory) → IfSome (option_map (memory_with x) o) (λ m. AgreesAs (Meter x.psk) m x.station.store.records)
+    by : (o : Option StationMemory) → IfSome (option_map (memory_with x) o) (λ m. NodeAgreesWith (Meter x.psk) m x.station.store.records)
         → IfSome o (λ l. AgreesWith l x.station.store.records)
     by None a = tt
     by (Some l) a = a.station

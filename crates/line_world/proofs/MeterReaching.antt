@@ -6,7 +6,7 @@ use Rattle.std.specs.Prelude.{All, IfSome, IfNone, IsSome, is_some, not, slice_g
 use Rattle.std.proofs.lemmas.List.{map-set}
 use Rattle.std.proofs.lemmas.List.Elements.{All-set}
 use Rattle.plc_base.specs.declared.out_frame.Out.{Out}
-use Rattle.broadcast_log.specs.Log.{IsKept}
+use Rattle.broadcast_log.specs.Log.{AgreesWith}
 use Rattle.node_rules.specs.declared.refusal.Dropped.TheVariants.{Store}
 use Rattle.node_rules.specs.Agreement.{Agrees}
 use Rattle.node_rules.specs.Carrying.{nothing}
@@ -39,9 +39,9 @@ use Rattle.line_world.proofs.Places.{at_place, did, found_at, sound_at}
 -- the log of a meter is that of its station
 pub log_lent_at : (ms : List MeterState) (old : List Node) (place : ℕ) (x : MeterState) (s : State StationMemory) (b : Beside) → map of_meter ms ≡ old
     → place < length old → x ≡ get_or ms place x → s ≡ x.station
-    → IfSome (slice_get old place) (λ n. IsLogOf b n) → IfSome s.memory (λ l. IsKept b.log s.store.records)
+    → IfSome (slice_get old place) (λ n. IsLogOf b n) → IfSome s.memory (λ l. AgreesWith b.log s.store.records)
 log_lent_at ms old place x s b view there here same h =
-    subst (λ (k : State StationMemory). IfSome k.memory (λ l. IsKept b.log k.store.records)) (sym same)
+    subst (λ (k : State StationMemory). IfSome k.memory (λ l. AgreesWith b.log k.store.records)) (sym same)
     (log_of_station (beside x) x.station b (at_place ms old place x (λ n. IsLogOf b n) view there here h))
 
 -- a node that stands at a place as a meter does
@@ -122,7 +122,7 @@ module _ (ms : List MeterState) (old : List Node) (place : ℕ) (x : MeterState)
 
   -- # A command that is heard
 
-  module _ (b d : Beside) (c : NeighbourCommand) (reported : Commanded) (before out : Out) (kept : IfSome s.memory (λ l. IsKept b.log s.store.records))
+  module _ (b d : Beside) (c : NeighbourCommand) (reported : Commanded) (before out : Out) (kept : IfSome s.memory (λ l. AgreesWith b.log s.store.records))
       (r : ReachesCommand s b (λ y. hear_command alone y c) reported (place + 1) before out t d) where
     are_lent : IsSome s.memory → AreLent b (λ y. hear_command in_memory y c) (λ y. hear_command alone y c)
     are_lent is m = command_lent b m (marks_short s b kept is) c

@@ -7,20 +7,20 @@ use Rattle.node_rules.specs.States.{State}
 use Rattle.node_rules.specs.Tables.{HasShortTables}
 use Rattle.meter_node.specs.MeterStates.{MeterState, node_of}
 use Rattle.line_world.specs.Nodes.{node_in, nodes_in, of_meter}
-use Rattle.line_world.specs.Soundness.{AgreesAs, IsBelow, IsShort, IsSound, IsSoundMeter}
+use Rattle.line_world.specs.Soundness.{NodeAgreesWith, IsBelow, IsShort, IsSound, IsSoundMeter}
 use Rattle.line_world.proofs.Acting.{short_tables}
 
 pub is_short : (role : Role) (s : State Memory) → IsSound role s → IsShort (node_in role s)
 is_short role s sound = by s.memory sound.agrees
   where
-    by : (o : Option Memory) → IfSome o (λ m. AgreesAs role m s.store.records) → IfSome o (λ m. HasShortTables m.station)
+    by : (o : Option Memory) → IfSome o (λ m. NodeAgreesWith role m s.store.records) → IfSome o (λ m. HasShortTables m.station)
     by None a = tt
     by (Some m) a = short_tables role m s.store.records a
 
 pub is_below : (role : Role) (s : State Memory) → IsSound role s → IsBelow (node_in role s)
 is_below role s sound = by s.memory sound.agrees
   where
-    by : (o : Option Memory) → IfSome o (λ m. AgreesAs role m s.store.records) → IfSome o (λ m. m.station.counter.next ≤ m.station.counter.limit)
+    by : (o : Option Memory) → IfSome o (λ m. NodeAgreesWith role m s.store.records) → IfSome o (λ m. m.station.counter.next ≤ m.station.counter.limit)
     by None a = tt
     by (Some m) a = a.station.counter.below
 

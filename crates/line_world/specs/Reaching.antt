@@ -2,7 +2,7 @@
 use Rattle.std.specs.Prelude.{◌≡◌, ℕ, List, Option, is_some, Result, Ok, Err, IfNone, IfSome, slice_set, if◌then◌else◌}
 use Rattle.plc_base.specs.declared.out_frame.Out.{Out}
 use Rattle.broadcast_log.specs.declared.broadcast.Broadcast.{Broadcast}
-use Rattle.broadcast_log.specs.Log.{IsKept}
+use Rattle.broadcast_log.specs.Log.{AgreesWith}
 use Rattle.neighbour_checks.specs.Neighbours.{Neighbours}
 use Rattle.node_rules.specs.declared.refusal.Dropped.TheVariants.{Store}
 use Rattle.node_rules.specs.declared.refusal.LocalRefusal.{LocalRefusal}
@@ -175,7 +175,7 @@ pub record TookCommand (x : Node) (b : Beside) (c : NeighbourCommand) (reported 
 
 -- the log of a node that is not halted is what its store gives
 abbrev pub IsLogOf : Beside → Node → Type 0
-IsLogOf b x = IfSome x.memory (λ _. IsKept b.log x.store.records)
+IsLogOf b x = IfSome x.memory (λ _. AgreesWith b.log x.store.records)
 
 -- One node took this step, after what was given out before, and nothing stands beside it.
 pub record TookAlone {A : Type 0} (step : NodeStep A) (answer : A) (before out : Out) (node : Node) : Type 0 where

@@ -11,9 +11,9 @@ use Rattle.meter_node.specs.MeterStates as meters
 use Rattle.coordinator.specs.CoordinatorAgreement.{HasHome}
 
 -- What a node holds as stored is what its records give, for the coordinator the book too.
-pub record AgreesAs (role : Role) (m : Memory) (records : Records) : Type 0 where
+pub record NodeAgreesWith (role : Role) (m : Memory) (records : Records) : Type 0 where
   pub station : AgreesWith m.station records
-  pub book : OfCoordinator role (book.IsKept m.book records)
+  pub book : OfCoordinator role (book.AgreesWith m.book records)
 
 -- The loss of power that is to come is known of a node's keeper; no table of its store has a gap, the coordinator's ring
 -- has the address 0000, and unless it is halted it agrees with its store.
@@ -21,7 +21,7 @@ pub record IsSound (role : Role) (s : State Memory) : Type 0 where
   pub known_cut : IsSome s.store.known_cut
   pub tables : HasGaplessTables role s.store.records
   pub home : OfCoordinator role (HasHome s.store.records)
-  pub agrees : IfSome s.memory (λ m. AgreesAs role m s.store.records)
+  pub agrees : IfSome s.memory (λ m. NodeAgreesWith role m s.store.records)
 
 -- a meter that is sound
 abbrev pub IsSoundMeter : MeterState → Type 0

@@ -14,11 +14,11 @@ use Rattle.node_rules.specs.States.{State}
 
 -- What a station holds as stored is what the records give, and no table has a record after its first empty slot.
 pub record AgreesWith (l : StationMemory) (records : Records) : Type 0 where
-  pub ring : ring.IsKept l.ring records
-  pub counter : counter.IsKept l.counter records
-  pub marks : marks.IsKept l.marks records
-  pub routing : routing.IsKept l.routing records
-  pub own_number : own_number.IsKept l.own_number records
+  pub ring : ring.AgreesWith l.ring records
+  pub counter : counter.AgreesWith l.counter records
+  pub marks : marks.AgreesWith l.marks records
+  pub routing : routing.AgreesWith l.routing records
+  pub own_number : own_number.AgreesWith l.own_number records
   pub tag : tag_in (get records tag_slot) ≡ Ok l.next_tag
 
 -- the same of a station, unless it is halted

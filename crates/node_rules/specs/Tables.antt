@@ -116,9 +116,9 @@ pub record HasGaplessTables (role : Role) (records : Records) : Type 0 where
 
 -- What is held of the tables is what the records give.
 pub record HoldsTables (role : Role) (l : StationMemory) (b : book.Book) (records : Records) : Type 0 where
-  pub marks : marks.IsKept l.marks records
+  pub marks : marks.AgreesWith l.marks records
   pub ranks : slots.IsStored routing.ranks l.routing.entries records
-  pub entries : OfCoordinator role (book.IsKept b records)
+  pub entries : OfCoordinator role (book.AgreesWith b records)
 
 -- no table gets a gap where writes in place are made, whichever of them fails
 abbrev pub WritesKeepTables : Type 0

@@ -22,7 +22,7 @@ use Rattle.node_rules.specs.Agreement.{Agrees, AgreesWith}
 use Rattle.node_rules.specs.States.{State}
 use Rattle.plc_station.specs.declared.parts.Parts.{Parts}
 
-pub agrees_counted : (l : StationMemory) (x : counter.Counting) (old new : Records) → AgreesWith l old → counter.IsKept x new → SameOutside 2 2 old new
+pub agrees_counted : (l : StationMemory) (x : counter.Counting) (old new : Records) → AgreesWith l old → counter.AgreesWith x new → SameOutside 2 2 old new
     → AgreesWith (record l { counter = x }) new
 agrees_counted l x old new a kept same = record {
   ring = record { stored = ap ring_at (same 1 (inl (omega arith))) ∙ a.ring.stored };
@@ -33,7 +33,7 @@ agrees_counted l x old new a kept same = record {
   tag = ap tag_in (same 4 (inr (omega arith))) ∙ a.tag;
 }
 
-pub agrees_numbered : (l : StationMemory) (x : own_number.Numbering) (old new : Records) → AgreesWith l old → own_number.IsKept x new → SameOutside 3 3 old new
+pub agrees_numbered : (l : StationMemory) (x : own_number.Numbering) (old new : Records) → AgreesWith l old → own_number.AgreesWith x new → SameOutside 3 3 old new
     → AgreesWith (record l { own_number = x }) new
 agrees_numbered l x old new a kept same = record {
   ring = record { stored = ap ring_at (same 1 (inl (omega arith))) ∙ a.ring.stored };
@@ -44,7 +44,7 @@ agrees_numbered l x old new a kept same = record {
   tag = ap tag_in (same 4 (inr (omega arith))) ∙ a.tag;
 }
 
-pub agrees_ranked : (l : StationMemory) (x : routing.Routing) (old new : Records) → AgreesWith l old → routing.IsKept x new → routing.SameElsewhere old new
+pub agrees_ranked : (l : StationMemory) (x : routing.Routing) (old new : Records) → AgreesWith l old → routing.AgreesWith x new → routing.SameElsewhere old new
     → AgreesWith (record l { routing = x }) new
 agrees_ranked l x old new a kept same = record {
   ring = record { stored = ap ring_at (same 1 (omega arith) (inl (omega arith))) ∙ a.ring.stored };
@@ -61,11 +61,11 @@ agrees_holding p h k records a = record { ring = a.ring; counter = a.counter; ma
 
 -- routes that end are not stored
 pub agrees_routed : (l : StationMemory) (r : routing.Routing) (records : Records) → AgreesWith l records
-    → ((k : Records) → routing.IsKept l.routing k → routing.IsKept r k) → AgreesWith (record l { routing = r }) records
+    → ((k : Records) → routing.AgreesWith l.routing k → routing.AgreesWith r k) → AgreesWith (record l { routing = r }) records
 agrees_routed l r records a keeps =
     record { ring = a.ring; counter = a.counter; marks = a.marks; routing = keeps records a.routing; own_number = a.own_number; tag = a.tag }
 
-pub agrees_ringed : (l : StationMemory) (x : Ring) (old new : Records) → AgreesWith l old → ring.IsKept x new → SameOutside 1 1 old new
+pub agrees_ringed : (l : StationMemory) (x : Ring) (old new : Records) → AgreesWith l old → ring.AgreesWith x new → SameOutside 1 1 old new
     → AgreesWith (record l { ring = x }) new
 agrees_ringed l x old new a kept same = record {
   ring = kept;

@@ -33,7 +33,7 @@ impl<K: Keeper + Drop> Station<K> {
         ensures carries { IfSome self.old.memory
             (λ l. Carries self.old (calls.put_key l index key.now) result nothing self.new) }
         // Whatever became of the put, the ring that the records give is the one before or the new one.
-        ensures either { IfSome self.old.memory (λ l. ring.IsOldRingOrKept (ring.with_key l.ring index key.now)
+        ensures either { IfSome self.old.memory (λ l. ring.IsOldRingOrAgrees (ring.with_key l.ring index key.now)
             self.old.store.records self.new.store.records) }
         ensures after { After self.old self.new }
     {
@@ -53,7 +53,7 @@ impl<K: Keeper + Drop> Station<K> {
             (λ l. Carries self.old
             (calls.ring_ends (drafts.with_ring (ring.with_active l.ring index)
             (drafts.empty_draft l))) result nothing self.new) }
-        ensures either { IfSome self.old.memory (λ l. ring.IsOldRingOrKept (ring.with_active l.ring index)
+        ensures either { IfSome self.old.memory (λ l. ring.IsOldRingOrAgrees (ring.with_active l.ring index)
             self.old.store.records self.new.store.records) }
         ensures after { After self.old self.new }
     {
@@ -71,7 +71,7 @@ impl<K: Keeper + Drop> Station<K> {
         ensures carries { IfSome self.old.memory
             (λ l. Carries self.old (calls.activate l index) result nothing self.new) }
         // Whatever became of the put, the ring that the records give is the one before or the new one.
-        ensures either { IfSome self.old.memory (λ l. ring.IsOldRingOrKept (ring.with_active l.ring index)
+        ensures either { IfSome self.old.memory (λ l. ring.IsOldRingOrAgrees (ring.with_active l.ring index)
             self.old.store.records self.new.store.records) }
         ensures after { After self.old self.new }
     {

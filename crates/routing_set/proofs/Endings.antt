@@ -5,7 +5,7 @@ use Rattle.std.proofs.lemmas.List.{drop_all, take_all, append-nil}
 use Rattle.plc_base.specs.Keeper.{Records}
 use Rattle.store_tables.proofs.SlotTables.{stored_map}
 use Rattle.routing_set.specs.declared.entry.RoutingEntry.{RoutingEntry}
-use Rattle.routing_set.specs.RoutingSet.{Routing, ranks, IsKept, without_route, ended}
+use Rattle.routing_set.specs.RoutingSet.{Routing, ranks, AgreesWith, without_route, ended}
 
 -- an ending changes no rank
 pub rest_same : (test : Bool) (e : RoutingEntry) → without_route (cond test (without_route e) e) ≡ without_route e
@@ -30,7 +30,7 @@ pub map_whole : {A : Type 0} (f : A → A) (xs : List A) (p : ℕ) → length xs
 map_whole f xs p h = rw (drop_all p xs h, take_all p xs h) (append-nil (map f xs))
 
 -- what was kept still is
-pub kept_ended : (test : RoutingEntry → Bool) (routing : Routing) (records : Records) → IsKept routing records → IsKept (ended test routing) records
+pub kept_ended : (test : RoutingEntry → Bool) (routing : Routing) (records : Records) → AgreesWith routing records → AgreesWith (ended test routing) records
 kept_ended test routing records kept = record {
   floors = kept.floors;
   ranks = stored_map ranks (λ e. cond (test e) (without_route e) e) routing.entries records (λ e. rest_same (test e) e) kept.ranks;

@@ -2,7 +2,7 @@
 use Rattle.plc_base.specs.Keeper.{Records}
 use Rattle.store_tables.specs.SlotTables.{IsGapless}
 use Rattle.store_tables.proofs.Opening.{stored_gapless}
-use Rattle.routing_set.specs.RoutingSet.{Routing, ranks, IsKept}
+use Rattle.routing_set.specs.RoutingSet.{Routing, ranks, AgreesWith}
 
-pub kept_gapless : (routing : Routing) (records : Records) → IsKept routing records → IsGapless ranks records
+pub kept_gapless : (routing : Routing) (records : Records) → AgreesWith routing records → IsGapless ranks records
 kept_gapless routing records kept = stored_gapless ranks routing.entries records kept.ranks

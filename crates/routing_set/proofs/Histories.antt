@@ -9,7 +9,7 @@ use Rattle.store_tables.proofs.Opening.{reopened}
 use Rattle.routing_set.specs.declared.rank.Rank.{Rank}
 use Rattle.routing_set.specs.declared.entry.RoutingEntry.{RoutingEntry}
 use Rattle.routing_set.specs.Ranks.{IsAtLeast}
-use Rattle.routing_set.specs.RoutingSet.{Routing, ranks, IsKept, floors_in, routing_of, opened, at_rest, held, is_better, is_full, offered, half_offered}
+use Rattle.routing_set.specs.RoutingSet.{Routing, ranks, AgreesWith, floors_in, routing_of, opened, at_rest, held, is_better, is_full, offered, half_offered}
 use Rattle.routing_set.specs.RoutingSet.{offered_entry, ended, without_route}
 use Rattle.routing_set.specs.Histories.{IsRouting, Leads, begins, offers, fails, ends, restarts, elsewhere}
 use Rattle.routing_set.proofs.RankOrder.{at_least_trans}
@@ -38,7 +38,7 @@ ended_sound test r h = record {
     same false e = refl
 
 -- what was kept is opened again
-pub opened_again : (r : Routing) (records : Records) → slots.IsTable ranks r.entries → IsKept r records → opened records ≡ Ok (at_rest r)
+pub opened_again : (r : Routing) (records : Records) → slots.IsTable ranks r.entries → AgreesWith r records → opened records ≡ Ok (at_rest r)
 opened_again r records h kept =
     ap (λ o. routing_of o (slots.opened ranks records)) kept.floors
     ∙ ap (routing_of (Some r.floors)) (reopened ranks records r.entries (λ _. refl) h kept.ranks)
@@ -47,13 +47,13 @@ opened_again r records h kept =
 record Holds (first : Routing) (was : Option Routing) (records : Records) : Type 0 where
   routing : Routing
   sound : IsRouting routing
-  kept : IsKept routing records
+  kept : AgreesWith routing records
   above : (dest : ℕ) → IsAtLeast (held routing dest) (held first dest)
   live : IfSome was (λ r. r ≡ routing)
 
 offers_holds : (first now : Routing) (dest : ℕ) (rank : Rank) (next at : ℕ) (old new : Records) → Holds first (Some now) old → is_better now dest rank ≡ true
     → is_full now dest at ≡ false
-    → IsKept (offered now dest rank next at) new → Holds first (Some (offered now dest rank next at)) new
+    → AgreesWith (offered now dest rank next at) new → Holds first (Some (offered now dest rank next at)) new
 offers_holds first now dest rank next at old new h better room kept =
     let sound = subst (λ (r : Routing). IsRouting r) (sym h.live) h.sound in
     let above = subst (λ (r : Routing). (d : ℕ) → IsAtLeast (held r d) (held first d)) (sym h.live) h.above in
@@ -68,7 +68,7 @@ offers_holds first now dest rank next at old new h better room kept =
 
 fails_holds : (first now : Routing) (dest : ℕ) (rank : Rank) (next at : ℕ) (old new : Records) → Holds first (Some now) old → is_better now dest rank ≡ true
     → is_full now dest at ≡ false
-    → IsKept now new ⊎ IsKept (half_offered now dest at) new ⊎ IsKept (offered now dest rank next at) new → Holds first None new
+    → AgreesWith now new ⊎ AgreesWith (half_offered now dest at) new ⊎ AgreesWith (offered now dest rank next at) new → Holds first None new
 fails_holds first now dest rank next at old new h better room either = by_either either
   where
     sound : IsRouting now
@@ -77,7 +77,7 @@ fails_holds first now dest rank next at old new h better room either = by_either
     above : (d : ℕ) → IsAtLeast (held now d) (held first d)
     above = subst (λ (r : Routing). (d : ℕ) → IsAtLeast (held r d) (held first d)) (sym h.live) h.above
 
-    by_either : IsKept now new ⊎ IsKept (half_offered now dest at) new ⊎ IsKept (offered now dest rank next at) new → Holds first None new
+    by_either : AgreesWith now new ⊎ AgreesWith (half_offered now dest at) new ⊎ AgreesWith (offered now dest rank next at) new → Holds first None new
     by_either (inl kept) = record { routing = now; sound = sound; kept = kept; above = above; live = tt }
     by_either (inr (inl kept)) = record {
       routing = half_offered now dest at;
@@ -94,7 +94,7 @@ ends_holds : (first now : Routing) (records : Records) (test : RoutingEntry → 
     → Holds first (Some (ended test now)) records
 ends_holds first now records test h =
     let sound = subst (λ (r : Routing). IsRouting r) (sym h.live) h.sound in
-    let kept = subst (λ (r : Routing). IsKept r records) (sym h.live) h.kept in
+    let kept = subst (λ (r : Routing). AgreesWith r records) (sym h.live) h.kept in
     let above = subst (λ (r : Routing). (d : ℕ) → IsAtLeast (held r d) (held first d)) (sym h.live) h.above in
     record {
       routing = ended test now;

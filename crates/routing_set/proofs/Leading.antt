@@ -16,7 +16,7 @@ use Rattle.store_tables.proofs.StoreLemmas.{get-insert_other}
 use Rattle.store_tables.proofs.SlotTables.{found, stored_set, stored_push, stored_elsewhere}
 use Rattle.routing_set.specs.declared.rank.Rank.{Rank}
 use Rattle.routing_set.specs.declared.entry.RoutingEntry.{RoutingEntry}
-use Rattle.routing_set.specs.RoutingSet.{Routing, IsKept, ranks, octets_of, floors_in, floor_slot, floors_due, floors_write, raised, raises, class_of, place_of}
+use Rattle.routing_set.specs.RoutingSet.{Routing, AgreesWith, ranks, octets_of, floors_in, floor_slot, floors_due, floors_write, raised, raises, class_of, place_of}
 use Rattle.routing_set.specs.RoutingSet.{entered, entry_writes, writes_of, after_of, first_to_go, is_full, offered_entry, offer_writes, offered}
 use Rattle.routing_set.specs.OwnNumber as numbers
 use Rattle.routing_set.specs.Histories.{IsRouting}
@@ -48,7 +48,7 @@ number_leads n left = by_due (numbers.passes n) refl
 -- # Ranks and floors
 
 -- the floors stay where a rank is written
-floors_stay : (t : Routing) (r : Records) (place : ℕ) (octets : List ℕ) → IsKept t r
+floors_stay : (t : Routing) (r : Records) (place : ℕ) (octets : List ℕ) → AgreesWith t r
     → floors_in (get (insert r (0x0200 + place) octets) floor_slot) ≡ Some t.floors
 floors_stay t r place octets kept = ap floors_in (get-insert_other r (0x0200 + place) floor_slot octets (omega arith)) ∙ kept.floors
 

@@ -15,7 +15,7 @@ use Rattle.store_tables.specs.SlotTables as slots
 use Rattle.store_tables.proofs.SlotTables.{apart, stored_elsewhere}
 use Rattle.routing_set.specs.declared.entry.RoutingEntry.{RoutingEntry}
 use Rattle.routing_set.specs.Laws.{Among}
-use Rattle.routing_set.specs.RoutingSet.{Routing, ranks, place_of, IsKept, Keeps, floor_slot, floors_in, is_fresh, goes_before, first_of, first_to_go, is_full}
+use Rattle.routing_set.specs.RoutingSet.{Routing, ranks, place_of, AgreesWith, Keeps, floor_slot, floors_in, is_fresh, goes_before, first_of, first_to_go, is_full}
 use Rattle.routing_set.specs.RoutingSet.{forgotten, raised, floors_due, writes_of, half_of, after_of, half_entered, entered, entry_writes}
 
 -- # Which entry is forgotten
@@ -130,7 +130,7 @@ room_old r dest now e whole room =
 -- # What becomes of the records
 
 -- only ranks were put
-pub one_put : (old : Routing) (entries : List RoutingEntry) (ok : Bool) (s t : Records) → IsKept old s → OnTrue ok (slots.IsStored ranks entries t)
+pub one_put : (old : Routing) (entries : List RoutingEntry) (ok : Bool) (s t : Records) → AgreesWith old s → OnTrue ok (slots.IsStored ranks entries t)
     → slots.IsStored ranks old.entries t ⊎ slots.IsStored ranks entries t → SameOutside 0x0200 0x023F s t
     → Keeps old old (record old { entries = entries }) ok s t
 one_put old entries ok s t kept stored either same = record {
@@ -142,21 +142,21 @@ one_put old entries ok s t kept stored either same = record {
     floors : floors_in (get t floor_slot) ≡ Some old.floors
     floors = ap floors_in (same floor_slot (inl (omega arith))) ∙ kept.floors
 
-    by_ok : (ok : Bool) → OnTrue ok (slots.IsStored ranks entries t) → OnTrue ok (IsKept (record old { entries = entries }) t)
+    by_ok : (ok : Bool) → OnTrue ok (slots.IsStored ranks entries t) → OnTrue ok (AgreesWith (record old { entries = entries }) t)
     by_ok true h = record { floors = floors; ranks = h }
     by_ok false h = tt
 
-    by_either : slots.IsStored ranks old.entries t ⊎ slots.IsStored ranks entries t → IsKept old t ⊎ IsKept old t ⊎ IsKept (record old { entries = entries }) t
+    by_either : slots.IsStored ranks old.entries t ⊎ slots.IsStored ranks entries t → AgreesWith old t ⊎ AgreesWith old t ⊎ AgreesWith (record old { entries = entries }) t
     by_either (inl h) = inl (record { floors = floors; ranks = h })
     by_either (inr h) = inr (inr (record { floors = floors; ranks = h }))
 
 -- floors were put, and then ranks
-pub two_puts : (old : Routing) (floors : List ℕ) (entries : List RoutingEntry) (ok : Bool) (s m t : Records) → IsKept old s
+pub two_puts : (old : Routing) (floors : List ℕ) (entries : List RoutingEntry) (ok : Bool) (s m t : Records) → AgreesWith old s
     → floors_in (get m floor_slot) ≡ Some floors → SameOutside 5 5 s m → OnTrue ok (slots.IsStored ranks entries t)
     → slots.IsStored ranks old.entries t ⊎ slots.IsStored ranks entries t → SameOutside 0x0200 0x023F m t
     → Keeps old (record old { floors = floors }) (record { entries = entries; floors = floors }) ok s t
 two_puts old floors entries ok s m t kept raised first stored either second =
-    let half : IsKept (record old { floors = floors })
+    let half : AgreesWith (record old { floors = floors })
     m = record { floors = raised; ranks = stored_elsewhere ranks old.entries s m 5 5 kept.ranks first (inl (omega arith)) } in
     let k = one_put (record old { floors = floors }) entries ok m t half stored either second in
     record {
@@ -165,8 +165,8 @@ two_puts old floors entries ok s m t kept raised first stored either second =
       elsewhere = λ slot ne outside. k.elsewhere slot ne outside ∙ first slot (apart_from slot ne outside);
     }
   where
-    by_either : IsKept (record old { floors = floors }) t ⊎ IsKept (record old { floors = floors }) t ⊎ IsKept (record { entries = entries; floors = floors }) t
-        → IsKept (record old { floors = floors }) t ⊎ IsKept (record { entries = entries; floors = floors }) t
+    by_either : AgreesWith (record old { floors = floors }) t ⊎ AgreesWith (record old { floors = floors }) t ⊎ AgreesWith (record { entries = entries; floors = floors }) t
+        → AgreesWith (record old { floors = floors }) t ⊎ AgreesWith (record { entries = entries; floors = floors }) t
     by_either (inl h) = inl h
     by_either (inr h) = h
 
@@ -178,7 +178,7 @@ two_puts old floors entries ok s m t kept raised first stored either second =
         by_order (inr high) = inr (omega arith)
 
 -- the put of the floors failed
-pub no_put : (old after : Routing) (floors : List ℕ) (s t : Records) → IsKept old s
+pub no_put : (old after : Routing) (floors : List ℕ) (s t : Records) → AgreesWith old s
     → (floors_in (get t floor_slot) ≡ Some old.floors) ⊎ (floors_in (get t floor_slot) ≡ Some floors)
     → SameOutside 5 5 s t → Keeps old (record old { floors = floors }) after false s t
 no_put old after floors s t kept either same = record {
@@ -191,7 +191,7 @@ no_put old after floors s t kept either same = record {
     ranked = stored_elsewhere ranks old.entries s t 5 5 kept.ranks same (inl (omega arith))
 
     by_either : (floors_in (get t floor_slot) ≡ Some old.floors) ⊎ (floors_in (get t floor_slot) ≡ Some floors)
-        → IsKept old t ⊎ IsKept (record old { floors = floors }) t ⊎ IsKept after t
+        → AgreesWith old t ⊎ AgreesWith (record old { floors = floors }) t ⊎ AgreesWith after t
     by_either (inl h) = inl (record { floors = h; ranks = ranked })
     by_either (inr h) = inr (inl (record { floors = h; ranks = ranked }))
 
@@ -295,7 +295,7 @@ gone_goes_on r gone e place ok s m t at first second =
     (wrote_then s m t (floors_due r.floors (Some gone)) (slots.entry_write ranks place e ∷ []) ok first
     (wrote_last m t (slots.entry_write ranks place e) ok second))
 
-pub gone_keeps : (r : Routing) (gone e : RoutingEntry) (place : ℕ) (ok : Bool) (s m t : Records) → place_of r.entries gone.address ≡ Some place → IsKept r s
+pub gone_keeps : (r : Routing) (gone e : RoutingEntry) (place : ℕ) (ok : Bool) (s m t : Records) → place_of r.entries gone.address ≡ Some place → AgreesWith r s
     → floors_in (get m floor_slot) ≡ Some (raised r.floors gone) → SameOutside 5 5 s m → OnTrue ok (slots.IsStored ranks (set r.entries place e) t)
     → slots.IsStored ranks r.entries t ⊎ slots.IsStored ranks (set r.entries place e) t → SameOutside 0x0200 0x023F m t
     → Keeps r (half_of r (Some gone)) (after_of r (Some gone) e) ok s t
@@ -309,7 +309,7 @@ err_not_ok (Err e) h = refl
 
 -- # What becomes of the records in an offer that is taken
 
-pub held_keeps : (r : Routing) (e : RoutingEntry) (now place : ℕ) (ok : Bool) (s t : Records) → place_of r.entries e.address ≡ Some place → IsKept r s
+pub held_keeps : (r : Routing) (e : RoutingEntry) (now place : ℕ) (ok : Bool) (s t : Records) → place_of r.entries e.address ≡ Some place → AgreesWith r s
     → OnTrue ok (slots.IsStored ranks (set r.entries place e) t)
     → slots.IsStored ranks r.entries t ⊎ slots.IsStored ranks (set r.entries place e) t → SameOutside 0x0200 0x023F s t
     → Keeps r (half_entered r e.address now) (entered r e now) ok s t
@@ -319,7 +319,7 @@ held_keeps r e now place ok s t at kept stored either same =
     subst (λ (h : Routing). Keeps r h (entered r e now) ok s t) (sym (half_same r e.address now (forgets_none r e.address now place at))) full
 
 pub new_keeps : (r : Routing) (e : RoutingEntry) (now : ℕ) (ok : Bool) (s t : Records) → place_of r.entries e.address ≡ None → (length r.entries == 64) ≡ false
-    → IsKept r s
+    → AgreesWith r s
     → OnTrue ok (slots.IsStored ranks (r.entries ++ e ∷ []) t)
     → slots.IsStored ranks r.entries t ⊎ slots.IsStored ranks (r.entries ++ e ∷ []) t → SameOutside 0x0200 0x023F s t
     → Keeps r (half_entered r e.address now) (entered r e now) ok s t

@@ -8,7 +8,7 @@ use Rattle.store_tables.specs.LeadingPuts.{PutsLead}
 use Rattle.routing_set.specs.declared.rank.Rank.{Rank}
 use Rattle.routing_set.specs.declared.entry.RoutingEntry.{RoutingEntry}
 use Rattle.routing_set.specs.Ranks.{IsAtLeast}
-use Rattle.routing_set.specs.RoutingSet.{Routing, IsKept, held, rank_of, route_of, next_of, is_full, is_fresh, goes_before, first_to_go, offered_entry}
+use Rattle.routing_set.specs.RoutingSet.{Routing, AgreesWith, held, rank_of, route_of, next_of, is_full, is_fresh, goes_before, first_to_go, offered_entry}
 use Rattle.routing_set.specs.RoutingSet.{offer_writes, offered, ended, without_next_to}
 use Rattle.routing_set.specs.OwnNumber as numbers
 use Rattle.routing_set.specs.Histories.{IsRouting, Leads}
@@ -101,7 +101,7 @@ pub record IsRanged (routing : Routing) : Type 0 where
 -- They are what the records give.
 pub record IsRoutingIn (routing : Routing) (records : Records) : Type 0 where
   pub ranged : IsRanged routing
-  pub kept : IsKept routing records
+  pub kept : AgreesWith routing records
 
 -- Whatever becomes of the puts of an offer, some ranks and floors are what the records give.
 abbrev pub OffersLead : Type 0
@@ -112,7 +112,7 @@ OffersLead =
 
 -- A number is what the records give, and its limit has a record.
 pub record IsNumberIn (numbering : numbers.Numbering) (records : Records) : Type 0 where
-  pub kept : numbers.IsKept numbering records
+  pub kept : numbers.AgreesWith numbering records
   pub low : 1 ≤ numbering.limit
   pub fits : numbering.limit < 2 ^ 16
 

@@ -52,12 +52,12 @@ abbrev pub opened : Records → Result Numbering BadStore
 opened records = numbering_from (limit_in (get records limit_slot))
 
 -- What the number holds as stored is what the records give.
-abbrev pub IsKept : Numbering → Records → Type 0
-IsKept numbering records = numbers.IsKept limit_at (counting_of numbering) records
+abbrev pub AgreesWith : Numbering → Records → Type 0
+AgreesWith numbering records = numbers.AgreesWith limit_at (counting_of numbering) records
 
 -- The limit is that of the records from before, or what the number holds is what the new records give.
-abbrev pub IsOldLimitOrKept : Numbering → Records → Records → Type 0
-IsOldLimitOrKept numbering old new = numbers.IsOldLimitOrKept limit_at (counting_of numbering) old new
+abbrev pub IsOldLimitOrAgrees : Numbering → Records → Records → Type 0
+IsOldLimitOrAgrees numbering old new = numbers.IsOldLimitOrAgrees limit_at (counting_of numbering) old new
 
 -- the put of a limit
 abbrev pub limit_write : ℕ → Option Write

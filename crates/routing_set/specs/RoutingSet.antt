@@ -113,7 +113,7 @@ AreOldOrNewFloors floors old new =
     (floors_in (get new floor_slot) ≡ floors_in (get old floor_slot)) ⊎ AreFloorsOf floors new
 
 -- What is held as stored is what the records give, and no record of a rank stands after them.
-pub record IsKept (routing : Routing) (records : Records) : Type 0 where
+pub record AgreesWith (routing : Routing) (records : Records) : Type 0 where
   pub floors : floors_in (get records floor_slot) ≡ Some routing.floors
   pub ranks : slots.IsStored ranks routing.entries records
 
@@ -286,15 +286,15 @@ offered routing dest rank next now = entered routing (offered_entry dest rank ne
 -- the records are those of what is kept before an offer, between its puts, or after it
 abbrev pub IsSomeOffered : Routing → ℕ → Rank → ℕ → ℕ → Records → Type 0
 IsSomeOffered routing dest rank next now records =
-    IsKept routing records
-    ⊎ IsKept (half_offered routing dest now) records
-    ⊎ IsKept (offered routing dest rank next now) records
+    AgreesWith routing records
+    ⊎ AgreesWith (half_offered routing dest now) records
+    ⊎ AgreesWith (offered routing dest rank next now) records
 
 -- What becomes of the records where an entry comes, whatever becomes of its puts; done says that none failed.
 pub record Keeps (old half after : Routing) (done : Bool) (before records : Records) : Type 0 where
-  pub kept : OnTrue done (IsKept after records)
+  pub kept : OnTrue done (AgreesWith after records)
   -- they are those of what was kept before, between the puts, or after
-  pub either : IsKept old records ⊎ IsKept half records ⊎ IsKept after records
+  pub either : AgreesWith old records ⊎ AgreesWith half records ⊎ AgreesWith after records
   pub elsewhere : SameElsewhere before records
 
 -- # Routes that end

@@ -2,7 +2,7 @@
 ghost use Rattle.std.specs.Prelude.{◌≡◌, ◌+◌, ◌<◌, ◌≤◌, IfOk, OnOk, OnErr, is_ok, Ok};
 ghost use Rattle.std.specs.Bool.{OnTrue};
 ghost use Rattle.plc_base.specs.Keeper.{Stores, OutsideStays, IsOldOrNew};
-ghost use Rattle.routing_set.specs.OwnNumber.{Numbering, IsKept, IsOldLimitOrKept, limit_at, opened, numbering_at, limit_write, advance_write, advanced};
+ghost use Rattle.routing_set.specs.OwnNumber.{Numbering, AgreesWith, IsOldLimitOrAgrees, limit_at, opened, numbering_at, limit_write, advance_write, advanced};
 ghost use Rattle.routing_set.specs.OwnNumber.{next_result, next_write, next_after, is_stored, preset_result};
 
 use crate::NumberFault;
@@ -39,9 +39,9 @@ impl OwnNumber {
     /// BadStore exactly where the record has another length than 2 octets or is 0.
     pub fn open<K: Keeper>(keeper: &K) -> Result<OwnNumber, BadStore>
         ensures number { result ≡ opened (K.store keeper.now).records }
-        ensures kept { IfOk result (λ number. IsKept number (K.store keeper.now).records) }
+        ensures kept { IfOk result (λ number. AgreesWith number (K.store keeper.now).records) }
         // A number that was kept goes on at its limit.
-        ensures reopened { (numbering : Numbering) → IsKept numbering (K.store keeper.now).records
+        ensures reopened { (numbering : Numbering) → AgreesWith numbering (K.store keeper.now).records
             → result ≡ Ok (numbering_at numbering.limit) }
     {
         let numbers = Numbers::open(keeper)?;
@@ -61,14 +61,14 @@ impl OwnNumber {
     /// Only a failed put is an error. The number is then as it was, but may not be used until it is opened again.
     pub fn advance<K: Keeper>(&mut self, keeper: &mut K) -> Result<u16, Failed>
         requires left { self.old.last < 65535 }
-        requires kept { IsKept self.old (K.store keeper.old).records }
+        requires kept { AgreesWith self.old (K.store keeper.old).records }
         ensures number { IfOk result (λ number. number ≡ self.old.last + 1) }
         ensures numbering { OnOk result (self.new ≡ advanced self.old) }
         ensures same { OnErr result (self.new ≡ self.old) }
         ensures store { Stores (K.store keeper.old) (advance_write self.old) (is_ok result) (K.store keeper.new) }
-        ensures kept { OnOk result (IsKept self.new (K.store keeper.new).records) }
+        ensures kept { OnOk result (AgreesWith self.new (K.store keeper.new).records) }
         // Whatever became of the put, the record is that of the number before or of the one after.
-        ensures either { IsOldOrNew IsKept self.old (advanced self.old) (K.store keeper.new).records }
+        ensures either { IsOldOrNew AgreesWith self.old (advanced self.old) (K.store keeper.new).records }
         ensures elsewhere { OutsideStays 3 3 (K.store keeper.old) (K.store keeper.new) }
     {
         let last = self.numbers.reserve(keeper, 1)?;
@@ -81,12 +81,12 @@ impl OwnNumber {
     /// SeqSpent exactly where the last number is 65,535. Store where that put failed, and then the number may not be used
     /// until it is opened again. After each error the number is as it was.
     pub fn next<K: Keeper>(&mut self, keeper: &mut K) -> Result<u16, NumberFault>
-        requires { IsKept self.old (K.store keeper.old).records }
+        requires { AgreesWith self.old (K.store keeper.old).records }
         ensures answer { result ≡ next_result self.old (is_stored result) }
         ensures numbering { self.new ≡ next_after self.old (is_stored result) }
         ensures store { Stores (K.store keeper.old) (next_write self.old) (is_stored result) (K.store keeper.new) }
-        ensures kept { OnTrue (is_stored result) (IsKept self.new (K.store keeper.new).records) }
-        ensures either { IsOldOrNew IsKept self.old (advanced self.old) (K.store keeper.new).records }
+        ensures kept { OnTrue (is_stored result) (AgreesWith self.new (K.store keeper.new).records) }
+        ensures either { IsOldOrNew AgreesWith self.old (advanced self.old) (K.store keeper.new).records }
         ensures elsewhere { OutsideStays 3 3 (K.store keeper.old) (K.store keeper.new) }
     {
         if self.last() == u16::MAX {
@@ -103,8 +103,8 @@ impl OwnNumber {
         ensures numbering { OnOk result (self.new ≡ numbering_at value) }
         ensures same { OnErr result (self.new ≡ self.old) }
         ensures store { Stores (K.store keeper.old) (limit_write value) (is_ok result) (K.store keeper.new) }
-        ensures kept { OnOk result (IsKept self.new (K.store keeper.new).records) }
-        ensures either { IsOldLimitOrKept (numbering_at value) (K.store keeper.old).records
+        ensures kept { OnOk result (AgreesWith self.new (K.store keeper.new).records) }
+        ensures either { IsOldLimitOrAgrees (numbering_at value) (K.store keeper.old).records
             (K.store keeper.new).records }
         ensures elsewhere { OutsideStays 3 3 (K.store keeper.old) (K.store keeper.new) }
     {
@@ -120,8 +120,8 @@ impl OwnNumber {
         ensures numbering { OnOk result (self.new ≡ numbering_at value) }
         ensures same { OnErr result (self.new ≡ self.old) }
         ensures store { Stores (K.store keeper.old) (limit_write value) (is_ok result) (K.store keeper.new) }
-        ensures kept { OnOk result (IsKept self.new (K.store keeper.new).records) }
-        ensures either { IsOldLimitOrKept (numbering_at value) (K.store keeper.old).records
+        ensures kept { OnOk result (AgreesWith self.new (K.store keeper.new).records) }
+        ensures either { IsOldLimitOrAgrees (numbering_at value) (K.store keeper.old).records
             (K.store keeper.new).records }
         ensures elsewhere { OutsideStays 3 3 (K.store keeper.old) (K.store keeper.new) }
     {

@@ -9,7 +9,7 @@ ghost use Rattle.store_tables.specs.SlotTables.{IsTable, IsGapless, IsReading};
 ghost use Rattle.routing_set.specs.Ranks.{beats, rank_by};
 ghost use Rattle.routing_set.specs.Endings.{takes};
 ghost use Rattle.routing_set.specs.FirstEnd.{first_end, IsStill};
-ghost use Rattle.routing_set.specs.RoutingSet.{Routing, ranks, IsKept, IsSomeOffered, IsBad, SameElsewhere, opened, at_rest, place_of, rank_of, route_of};
+ghost use Rattle.routing_set.specs.RoutingSet.{Routing, ranks, AgreesWith, IsSomeOffered, IsBad, SameElsewhere, opened, at_rest, place_of, rank_of, route_of};
 ghost use Rattle.routing_set.specs.RoutingSet.{next_of, held, floor_of, is_better, is_full, is_fresh, first_to_go, offered, half_offered, offer_writes};
 ghost use Rattle.routing_set.specs.RoutingSet.{entered, half_entered, entry_writes, Keeps, writes_of, half_of, after_of, offer_result, offer_puts, offer_after};
 ghost use Rattle.routing_set.specs.RoutingSet.{is_stored, ended, without_next, without_next_to, expired};
@@ -64,10 +64,10 @@ impl RoutingSet {
         ensures bad { IfErr result (λ bad. IsBad (K.store keeper.now).records bad.slot) }
         ensures unrouted { IfOk result (λ routing. (dest : ℕ) → route_of routing dest ≡ None) }
         ensures kept { IsGapless ranks (K.store keeper.now).records
-            → IfOk result (λ routing. IsKept routing (K.store keeper.now).records) }
+            → IfOk result (λ routing. AgreesWith routing (K.store keeper.now).records) }
         // What was kept is opened again, with no valid route.
         ensures reopened { (routing : Routing) → IsTable ranks routing.entries
-            → IsKept routing (K.store keeper.now).records
+            → AgreesWith routing (K.store keeper.now).records
             → result ≡ Ok (at_rest routing) }
     {
         let Some(floors) = stored_floors(keeper) else {
@@ -205,7 +205,7 @@ impl RoutingSet {
         requires new { place_of self.old.entries entry.address ≡ None }
         requires old { list_all (is_fresh now) self.old.entries ≡ false }
         requires valid { 1 ≤ entry.rank.number }
-        requires kept { IsKept self.old (K.store keeper.old).records }
+        requires kept { AgreesWith self.old (K.store keeper.old).records }
         ensures routing { OnOk result (self.new ≡ after_of self.old (first_to_go now self.old.entries) entry) }
         ensures same { OnErr result (self.new ≡ self.old) }
         ensures store { Wrote (K.store keeper.old) (writes_of self.old (first_to_go now self.old.entries) entry)
@@ -232,7 +232,7 @@ impl RoutingSet {
     ) -> Result<(), Failed>
         requires room { is_full self.old entry.address now ≡ false }
         requires valid { 1 ≤ entry.rank.number }
-        requires kept { IsKept self.old (K.store keeper.old).records }
+        requires kept { AgreesWith self.old (K.store keeper.old).records }
         ensures routing { OnOk result (self.new ≡ entered self.old entry now) }
         ensures same { OnErr result (self.new ≡ self.old) }
         ensures store { Wrote (K.store keeper.old) (entry_writes self.old entry now) (is_ok result)
@@ -270,12 +270,12 @@ impl RoutingSet {
         requires better { is_better self.old dest rank ≡ true }
         requires room { is_full self.old dest now ≡ false }
         requires valid { 1 ≤ rank.number }
-        requires kept { IsKept self.old (K.store keeper.old).records }
+        requires kept { AgreesWith self.old (K.store keeper.old).records }
         ensures routing { OnOk result (self.new ≡ offered self.old dest rank next now) }
         ensures same { OnErr result (self.new ≡ self.old) }
         ensures store { Wrote (K.store keeper.old) (offer_writes self.old dest rank next now) (is_ok result)
             (K.store keeper.new) }
-        ensures kept { OnOk result (IsKept self.new (K.store keeper.new).records) }
+        ensures kept { OnOk result (AgreesWith self.new (K.store keeper.new).records) }
         // Whatever became of the puts, the records are those of what was kept before, between the puts, or after.
         ensures either { IsSomeOffered self.old dest rank next now (K.store keeper.new).records }
         ensures elsewhere { SameElsewhere (K.store keeper.old).records (K.store keeper.new).records }
@@ -304,12 +304,12 @@ impl RoutingSet {
         now: u64,
     ) -> Result<Offered, OfferFault>
         requires valid { 1 ≤ number }
-        requires kept { IsKept self.old (K.store keeper.old).records }
+        requires kept { AgreesWith self.old (K.store keeper.old).records }
         ensures answer { result ≡ offer_result self.old dest (rank_by number cost) now (is_stored result) }
         ensures routing { self.new ≡ offer_after self.old dest (rank_by number cost) next now (is_stored result) }
         ensures store { Wrote (K.store keeper.old) (offer_puts self.old dest (rank_by number cost) next now)
             (is_stored result) (K.store keeper.new) }
-        ensures kept { OnTrue (is_stored result) (IsKept self.new (K.store keeper.new).records) }
+        ensures kept { OnTrue (is_stored result) (AgreesWith self.new (K.store keeper.new).records) }
         ensures either { IsSomeOffered self.old dest (rank_by number cost) next now (K.store keeper.new).records }
         ensures elsewhere { SameElsewhere (K.store keeper.old).records (K.store keeper.new).records }
     {
@@ -348,7 +348,7 @@ impl RoutingSet {
     // Ends routes. Every rank and floor stays.
     fn end_routes(&mut self, ending: &Ending)
         ensures routing { self.new ≡ ended (takes ending.now) self.old }
-        ensures kept { (records : Records) → IsKept self.old records → IsKept self.new records }
+        ensures kept { (records : Records) → AgreesWith self.old records → AgreesWith self.new records }
     {
         for place in 0..self.table.len() {
             let entry = self.table.get(place);
@@ -359,7 +359,7 @@ impl RoutingSet {
     /// Ends each route by a next hop. Every rank and floor stays.
     pub fn invalidate_next(&mut self, next: Short)
         ensures routing { self.new ≡ without_next self.old next }
-        ensures kept { (records : Records) → IsKept self.old records → IsKept self.new records }
+        ensures kept { (records : Records) → AgreesWith self.old records → AgreesWith self.new records }
     {
         self.end_routes(&Ending::By(next));
     }
@@ -367,7 +367,7 @@ impl RoutingSet {
     /// Ends the route to an address, if it goes by a next hop. Every rank and floor stays.
     pub fn invalidate(&mut self, dest: Short, next: Short)
         ensures routing { self.new ≡ without_next_to self.old dest next }
-        ensures kept { (records : Records) → IsKept self.old records → IsKept self.new records }
+        ensures kept { (records : Records) → AgreesWith self.old records → AgreesWith self.new records }
     {
         self.end_routes(&Ending::To(dest, next));
     }
@@ -375,7 +375,7 @@ impl RoutingSet {
     /// Ends every route. Every rank and floor stays.
     pub fn invalidate_all(&mut self)
         ensures routing { self.new ≡ at_rest self.old }
-        ensures kept { (records : Records) → IsKept self.old records → IsKept self.new records }
+        ensures kept { (records : Records) → AgreesWith self.old records → AgreesWith self.new records }
     {
         self.end_routes(&Ending::Every);
     }
@@ -383,7 +383,7 @@ impl RoutingSet {
     /// Ends each route that was offered at `now` - 21,600 or before, in seconds. Every rank and floor stays.
     pub fn expire(&mut self, now: u64)
         ensures routing { self.new ≡ expired self.old now }
-        ensures kept { (records : Records) → IsKept self.old records → IsKept self.new records }
+        ensures kept { (records : Records) → AgreesWith self.old records → AgreesWith self.new records }
     {
         if now < self.next_end {
             return;

@@ -5,7 +5,7 @@ use Rattle.std.specs.Prelude.{IfSome}
 use Rattle.std.specs.FinMap.{get}
 use Rattle.plc_base.specs.Keeper.{Records, Store, Stores}
 use Rattle.store_tables.specs.declared.number_slot.NumberSlot.{NumberSlot}
-use Rattle.store_tables.specs.Numberings.{Counting, IsKept, opened, counting_from, counting_at, limit_in, limit_write, greatest, raised, passes, reserve_write}
+use Rattle.store_tables.specs.Numberings.{Counting, AgreesWith, opened, counting_from, counting_at, limit_in, limit_write, greatest, raised, passes, reserve_write}
 use Rattle.store_tables.specs.Numberings.{reserved, run_of, AllBelow, EachAbove}
 use Rattle.store_tables.proofs.StoredLimits.{Reads, kept_reserved, raised_reads, reserved_reads, limit_either}
 
@@ -52,7 +52,7 @@ module _ (at : NumberSlot) (stride : ℕ) where
       → c.next + count ≤ greatest at.width
       → Stores old (reserve_write at stride c count) true new → HoldsGiven (run_of c.next count ++ given) (Some (reserved at stride c count)) new.records
   given_more given c count old new h few left stores =
-      let kept : IsKept at c old.records = record { limit = h.stored ∙ ap Some (sym h.live.0); below = h.live.1 } in
+      let kept : AgreesWith at c old.records = record { limit = h.stored ∙ ap Some (sym h.live.0); below = h.live.1 } in
       let reads : Reads at c.limit = subst (Reads at) (sym h.live.0) h.reads in
       let next = kept_reserved at stride c count old new kept reads few left stores in
       let below = AllBelow-run c.next count given h.live.2 in

@@ -11,7 +11,7 @@ use Rattle.store_tables.specs.LeadingPuts.{PutsLead}
 use Rattle.store_tables.proofs.StoreLemmas.{stores_elsewhere}
 use Rattle.store_tables.proofs.NumberSlots.{stored-insert, number_either}
 use Rattle.store_tables.proofs.LeadingPuts.{leads_one, leads_beside}
-use Rattle.store_tables.specs.Numberings.{Counting, IsKept, IsCountingIn, ReservationsLead, limit_in, limit_write, stored_limit, greatest, raised, passes}
+use Rattle.store_tables.specs.Numberings.{Counting, AgreesWith, IsCountingIn, ReservationsLead, limit_in, limit_write, stored_limit, greatest, raised, passes}
 use Rattle.store_tables.specs.Numberings.{reserve_write, reserved}
 
 module _ (at : NumberSlot) where
@@ -21,12 +21,12 @@ module _ (at : NumberSlot) where
   limit_in-insert records limit fits low = stored-insert at records limit fits low
 
   -- what a kept numbering holds is the stored limit
-  pub stored_limit-kept : (counting : Counting) (records : Records) → IsKept at counting records → stored_limit at records ≡ counting.limit
+  pub stored_limit-kept : (counting : Counting) (records : Records) → AgreesWith at counting records → stored_limit at records ≡ counting.limit
   stored_limit-kept counting records kept = ap (λ o. unwrap_or o 0) kept.limit
 
   -- what is stored of the numbering stays where other slots are put
-  pub kept_elsewhere : (counting : Counting) (old new : Records) (first last : ℕ) → IsKept at counting old → SameOutside first last old new
-      → (at.slot < first) ⊎ (last < at.slot) → IsKept at counting new
+  pub kept_elsewhere : (counting : Counting) (old new : Records) (first last : ℕ) → AgreesWith at counting old → SameOutside first last old new
+      → (at.slot < first) ⊎ (last < at.slot) → AgreesWith at counting new
   kept_elsewhere counting old new first last kept same apart = record { limit = ap (limit_in at) (same at.slot apart) ∙ kept.limit; below = kept.below }
 
   -- whatever became of a put of a limit, the old one is read or the new one
@@ -52,9 +52,9 @@ module _ (at : NumberSlot) (stride : ℕ) where
   reserved_below counting count false e below few left = ltb-false _ _ e
 
   -- after a reservation that stored what it had to
-  pub kept_reserved : (counting : Counting) (count : ℕ) (old new : Store) → IsKept at counting old.records → Reads at counting.limit → count ≤ stride
+  pub kept_reserved : (counting : Counting) (count : ℕ) (old new : Store) → AgreesWith at counting old.records → Reads at counting.limit → count ≤ stride
       → counting.next + count ≤ greatest at.width → Stores old (reserve_write at stride counting count) true new
-      → IsKept at (reserved at stride counting count) new.records
+      → AgreesWith at (reserved at stride counting count) new.records
   kept_reserved counting count old new kept reads few left stores =
       record { limit = by_due (passes counting count) stores; below = reserved_below counting count (passes counting count) refl kept.below few left }
     where

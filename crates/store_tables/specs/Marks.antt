@@ -80,8 +80,8 @@ module _ (first count : ℕ) where
   IsCovered table = All (λ entry. entry.mark ≤ entry.stored) table
 
   -- What the table holds as stored is what the records give, and no record stands after them.
-  abbrev pub IsKept : Table → Records → Type 0
-  IsKept table records = slots.IsStored layout table records
+  abbrev pub AgreesWith : Table → Records → Type 0
+  AgreesWith table records = slots.IsStored layout table records
 
   -- the place of an address in the table
   abbrev pub place_of : Table → ℕ → Option ℕ
@@ -133,7 +133,7 @@ module _ (first count : ℕ) where
 
   -- Marks are what the records give, each address at one place.
   pub record AreMarksIn (table : Table) (records : Records) : Type 0 where
-    pub kept : IsKept table records
+    pub kept : AgreesWith table records
     pub sound : slots.IsTable layout table
 
   -- Whatever becomes of the put for an admitted number, some marks are what the records give.

@@ -57,17 +57,17 @@ module _ (at : NumberSlot) where
   opened records = counting_from (limit_in (get records at.slot))
 
   -- What the numbering holds as stored is what the records give.
-  pub record IsKept (counting : Counting) (records : Records) : Type 0 where
+  pub record AgreesWith (counting : Counting) (records : Records) : Type 0 where
     pub limit : limit_in (get records at.slot) ≡ Some counting.limit
     pub below : counting.next ≤ counting.limit
 
   -- The limit is that of the records from before, or what the numbering holds is what the new records give.
-  abbrev pub IsOldLimitOrKept : Counting → Records → Records → Type 0
-  IsOldLimitOrKept counting old new = (stored_number at new ≡ stored_number at old) ⊎ IsKept counting new
+  abbrev pub IsOldLimitOrAgrees : Counting → Records → Records → Type 0
+  IsOldLimitOrAgrees counting old new = (stored_number at new ≡ stored_number at old) ⊎ AgreesWith counting new
 
   -- The numbering is what the records give, and its limit has a record.
   pub record IsCountingIn (counting : Counting) (records : Records) : Type 0 where
-    pub kept : IsKept counting records
+    pub kept : AgreesWith counting records
     pub fits : counting.limit < 256 ^ at.width
     pub low : at.least ≤ counting.limit
 

@@ -2,7 +2,7 @@
 ghost use Rattle.std.specs.Prelude.{◌≡◌, ◌≤◌, [], true, is_ok, IfOk, IfErr, OnOk, OnErr};
 ghost use Rattle.plc_base.specs.Keeper.{Stores, OutsideStays, IsOldOrNew};
 ghost use Rattle.store_tables.specs.SlotTables.{IsTable, IsGapless, IsReading, IsBad, Reopens, last_of, opened};
-ghost use Rattle.store_tables.specs.Marks.{layout, slots_of, IsKept, IsCovered, mark_ahead, mark_of, has_room, room_for, keep_write, kept_after};
+ghost use Rattle.store_tables.specs.Marks.{layout, slots_of, AgreesWith, IsCovered, mark_ahead, mark_of, has_room, room_for, keep_write, kept_after};
 
 use crate::{SlotEntry, SlotTable};
 use byteorder::{BigEndian, ByteOrder};
@@ -114,7 +114,7 @@ impl<const FIRST: u32, const SLOTS: usize> MarkTable<FIRST, SLOTS> {
         ensures reading { IfOk result (λ table. IsReading (layout FIRST SLOTS) table (K.store keeper.now).records) }
         ensures bad { IfErr result (λ bad. IsBad (layout FIRST SLOTS) (K.store keeper.now).records bad.slot) }
         ensures kept { IsGapless (layout FIRST SLOTS) (K.store keeper.now).records
-            → IfOk result (λ table. IsKept FIRST SLOTS table (K.store keeper.now).records) }
+            → IfOk result (λ table. AgreesWith FIRST SLOTS table (K.store keeper.now).records) }
         // Marks that were kept are opened again, each at its stored mark.
         ensures reopened { Reopens (layout FIRST SLOTS) (K.store keeper.now).records result }
     {
@@ -164,14 +164,14 @@ impl<const FIRST: u32, const SLOTS: usize> MarkTable<FIRST, SLOTS> {
         number: u32,
     ) -> Result<(), Failed>
         requires room { has_room FIRST SLOTS self.old address number ≡ true }
-        requires kept { IsKept FIRST SLOTS self.old (K.store keeper.old).records }
+        requires kept { AgreesWith FIRST SLOTS self.old (K.store keeper.old).records }
         ensures table { OnOk result (self.new ≡ kept_after FIRST SLOTS self.old address number) }
         ensures same { OnErr result (self.new ≡ self.old) }
         ensures store { Stores (K.store keeper.old) (keep_write FIRST SLOTS self.old address number) (is_ok result)
             (K.store keeper.new) }
-        ensures kept { OnOk result (IsKept FIRST SLOTS self.new (K.store keeper.new).records) }
+        ensures kept { OnOk result (AgreesWith FIRST SLOTS self.new (K.store keeper.new).records) }
         // Whatever became of the put, the records are those of the marks before or of those after.
-        ensures either { IsOldOrNew (IsKept FIRST SLOTS) self.old (kept_after FIRST SLOTS self.old address number)
+        ensures either { IsOldOrNew (AgreesWith FIRST SLOTS) self.old (kept_after FIRST SLOTS self.old address number)
             (K.store keeper.new).records }
         ensures elsewhere { OutsideStays FIRST (last_of (layout FIRST SLOTS)) (K.store keeper.old)
             (K.store keeper.new) }

@@ -2,7 +2,7 @@
 ghost use Rattle.std.specs.Prelude.{◌≡◌, ◌⊎◌, ◌+◌, ◌≤◌, ◌<◌, ◌^◌, IfOk, IfErr, OnOk, OnErr, None, is_ok};
 ghost use Rattle.std.specs.FinMap as map;
 ghost use Rattle.plc_base.specs.Keeper.{Stores, OutsideStays, IsOldOrNew};
-ghost use Rattle.store_tables.specs.Numberings.{IsKept, IsOldLimitOrKept, limit_at, limit_in, stored_limit, opened, greatest, reserve_write, reserved};
+ghost use Rattle.store_tables.specs.Numberings.{AgreesWith, IsOldLimitOrAgrees, limit_at, limit_in, stored_limit, opened, greatest, reserve_write, reserved};
 ghost use Rattle.store_tables.specs.Numberings.{limit_write, counting_at};
 ghost use Rattle.store_tables.specs.NumberSlots.{IsNumberSlot};
 
@@ -57,7 +57,7 @@ impl<const SLOT: u32, const WIDTH: usize, const LEAST: u32, const STRIDE: u32> N
     pub fn open<K: Keeper>(keeper: &K) -> Result<Numbering<SLOT, WIDTH, LEAST, STRIDE>, BadStore>
         requires { IsNumberSlot (limit_at SLOT WIDTH LEAST) }
         ensures numbering { result ≡ opened (limit_at SLOT WIDTH LEAST) (K.store keeper.now).records }
-        ensures kept { IfOk result (λ numbering. IsKept (limit_at SLOT WIDTH LEAST) numbering (K.store keeper.now).records) }
+        ensures kept { IfOk result (λ numbering. AgreesWith (limit_at SLOT WIDTH LEAST) numbering (K.store keeper.now).records) }
         ensures bad { IfErr result (λ bad. (bad.slot ≡ SLOT)
             × (limit_in (limit_at SLOT WIDTH LEAST) (map.get (K.store keeper.now).records SLOT) ≡ None)) }
         ensures limit { IfOk result (λ numbering.
@@ -92,15 +92,15 @@ impl<const SLOT: u32, const WIDTH: usize, const LEAST: u32, const STRIDE: u32> N
         requires slot { IsNumberSlot (limit_at SLOT WIDTH LEAST) }
         requires few { count ≤ STRIDE }
         requires left { self.old.next + count ≤ greatest WIDTH }
-        requires kept { IsKept (limit_at SLOT WIDTH LEAST) self.old (K.store keeper.old).records }
+        requires kept { AgreesWith (limit_at SLOT WIDTH LEAST) self.old (K.store keeper.old).records }
         ensures number { IfOk result (λ number. number ≡ self.old.next) }
         ensures numbering { OnOk result (self.new ≡ reserved (limit_at SLOT WIDTH LEAST) STRIDE self.old count) }
         ensures same { OnErr result (self.new ≡ self.old) }
         ensures store { Stores (K.store keeper.old) (reserve_write (limit_at SLOT WIDTH LEAST) STRIDE self.old count)
             (is_ok result) (K.store keeper.new) }
-        ensures kept { OnOk result (IsKept (limit_at SLOT WIDTH LEAST) self.new (K.store keeper.new).records) }
+        ensures kept { OnOk result (AgreesWith (limit_at SLOT WIDTH LEAST) self.new (K.store keeper.new).records) }
         // Whatever became of the put, the record is that of the numbering before or of the one after.
-        ensures either { IsOldOrNew (IsKept (limit_at SLOT WIDTH LEAST)) self.old
+        ensures either { IsOldOrNew (AgreesWith (limit_at SLOT WIDTH LEAST)) self.old
             (reserved (limit_at SLOT WIDTH LEAST) STRIDE self.old count) (K.store keeper.new).records }
         ensures elsewhere { OutsideStays SLOT SLOT (K.store keeper.old) (K.store keeper.new) }
         ensures fits { self.new.next ≤ greatest WIDTH }
@@ -126,8 +126,8 @@ impl<const SLOT: u32, const WIDTH: usize, const LEAST: u32, const STRIDE: u32> N
         ensures same { OnErr result (self.new ≡ self.old) }
         ensures store { Stores (K.store keeper.old) (limit_write (limit_at SLOT WIDTH LEAST) value) (is_ok result)
             (K.store keeper.new) }
-        ensures kept { OnOk result (IsKept (limit_at SLOT WIDTH LEAST) self.new (K.store keeper.new).records) }
-        ensures either { IsOldLimitOrKept (limit_at SLOT WIDTH LEAST) (counting_at value) (K.store keeper.old).records
+        ensures kept { OnOk result (AgreesWith (limit_at SLOT WIDTH LEAST) self.new (K.store keeper.new).records) }
+        ensures either { IsOldLimitOrAgrees (limit_at SLOT WIDTH LEAST) (counting_at value) (K.store keeper.old).records
             (K.store keeper.new).records }
         ensures elsewhere { OutsideStays SLOT SLOT (K.store keeper.old) (K.store keeper.new) }
     {

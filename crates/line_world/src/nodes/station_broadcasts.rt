@@ -2,7 +2,7 @@
 ghost use Rattle.std.specs.Prelude.{◌≡◌, ◌<◌, ◌≤◌, ◌==◌, ◌||◌, false, length, is_some, nat_lt, Ok, Err, Some, None, IfSome, IsSome, if◌then◌else◌};
 ghost use Rattle.std.specs.Option.{option_map};
 ghost use Rattle.broadcast_log.specs.Grammar.{spelling};
-ghost use Rattle.broadcast_log.specs.Log.{empty_log, IsKept, numbered_log, admitted_log};
+ghost use Rattle.broadcast_log.specs.Log.{empty_log, AgreesWith, numbered_log, admitted_log};
 ghost use Rattle.broadcast_log.specs.NextNumber.{is_spent, number_put};
 ghost use Rattle.broadcast_log.specs.OriginMarks.{keep_write, room_for};
 ghost use Rattle.broadcast_log.specs.Reading as broadcasts;
@@ -44,7 +44,7 @@ fn write_broadcast(hops: u8, origin: Short, number: u32, octets: &[u8], out: &mu
 
 // The number of the next own broadcast. Where it can't be stored, the station is halted and the log is empty.
 fn take_number(station: &mut Station<MemKeeper>, log: &mut BroadcastLog) -> Option<u32>
-    requires kept { IsKept log.old station.old.store.records }
+    requires kept { AgreesWith log.old station.old.store.records }
     requires left { is_spent log.old.numbering ≡ false }
     requires running { IsSome station.old.memory }
     requires agrees { Agrees station.old }
@@ -95,7 +95,7 @@ fn broadcast_from(
     requires running { IsSome station.old.memory }
     requires own { IfSome station.old.memory (λ l. address_of l ≡ Some own) }
     requires agrees { Agrees station.old }
-    requires kept { IsKept beside.old.log station.old.store.records }
+    requires kept { AgreesWith beside.old.log station.old.store.records }
     requires empty { out.old ≡ nothing }
     ensures reaches { ReachesFirst station.old beside.old (Err BroadcastRefusal.Halted)
         (λ y. broadcast_rules.broadcast_from alone y own datagram.now) result out.new station.new beside.new }
@@ -128,7 +128,7 @@ pub(crate) fn broadcast_at(
     out: &mut Out,
 ) -> Result<(), BroadcastRefusal>
     requires agrees { Agrees station.old }
-    requires kept { IfSome station.old.memory (λ _. IsKept beside.old.log station.old.store.records) }
+    requires kept { IfSome station.old.memory (λ _. AgreesWith beside.old.log station.old.store.records) }
     ensures reaches { ReachesFirst station.old beside.old (Err BroadcastRefusal.Halted)
         (λ y. broadcast_rules.broadcast alone y datagram.now) result out.new station.new beside.new }
     ensures agrees { Agrees station.new }
@@ -194,7 +194,7 @@ fn keep_mark(
     log: &mut BroadcastLog,
     broadcast: &BroadcastRef<'_>,
 ) -> bool
-    requires kept { IsKept log.old station.old.store.records }
+    requires kept { AgreesWith log.old station.old.store.records }
     requires room { room_for log.old.marks broadcast.now.origin broadcast.now.number ≡ Ok tt }
     requires agrees { Agrees station.old }
     ensures log { log.new ≡ (if result then admitted_log log.old broadcast.now.origin broadcast.now.number else empty_log) }
@@ -228,7 +228,7 @@ fn admit_broadcast(
     requires running { IsSome station.old.memory }
     requires joined { IfSome station.old.memory (λ l. IsSome l.ring) }
     requires agrees { Agrees station.old }
-    requires kept { IsKept beside.old.log station.old.store.records }
+    requires kept { AgreesWith beside.old.log station.old.store.records }
     requires marks { room_for beside.old.log.marks broadcast.now.origin broadcast.now.number ≡ Ok tt }
     requires fits { length broadcast.now.octets ≤ 360 }
     requires room { length out.old.frames < 24 }
@@ -274,7 +274,7 @@ fn hear_broadcast(
     requires running { IsSome station.old.memory }
     requires own { IfSome station.old.memory (λ l. address_of l ≡ Some own) }
     requires agrees { Agrees station.old }
-    requires kept { IsKept beside.old.log station.old.store.records }
+    requires kept { AgreesWith beside.old.log station.old.store.records }
     requires fits { length broadcast.now.octets ≤ 360 }
     requires room { length out.old.frames < 24 }
     ensures reaches { Reaches station.old beside.old (Err (Known drops.Store))
@@ -324,7 +324,7 @@ pub(crate) fn broadcast_command<'a>(
     requires running { IsSome station.old.memory }
     requires own { IfSome station.old.memory (λ l. address_of l ≡ Some own) }
     requires agrees { Agrees station.old }
-    requires kept { IsKept beside.old.log station.old.store.records }
+    requires kept { AgreesWith beside.old.log station.old.store.records }
     requires room { length out.old.frames < 24 }
     ensures reaches { ReachesCommand station.old beside.old
         (λ y. broadcast_rules.hear_broadcast alone y own command.now.to_all command.now.body) result number out.old out.new

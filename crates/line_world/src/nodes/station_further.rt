@@ -1,7 +1,7 @@
 //! What a station does about path requests, acknowledgements and the commands that it hears, halted or not.
 ghost use Rattle.std.specs.Prelude.{◌≡◌, ◌≢◌, ◌<◌, ◌≤◌, ◌∷◌, [], length, is_some, Ok, Err, Some, None, IfNone, IfSome, IfOk, IsSome, if◌then◌else◌};
 ghost use Rattle.std.specs.Option.{option_map};
-ghost use Rattle.broadcast_log.specs.Log.{empty_log, IsKept};
+ghost use Rattle.broadcast_log.specs.Log.{empty_log, AgreesWith};
 ghost use Rattle.node_rules.specs.declared.refusal.Dropped.TheVariants as drops;
 ghost use Rattle.node_rules.specs.Agreement.{Agrees};
 ghost use Rattle.node_rules.specs.Carrying.{nothing};
@@ -444,7 +444,7 @@ fn hear_command<'a>(
     requires running { IsSome station.old.memory }
     requires own { IfSome station.old.memory (λ l. address_of l ≡ Some own) }
     requires agrees { Agrees station.old }
-    requires kept { IsKept beside.old.log station.old.store.records }
+    requires kept { AgreesWith beside.old.log station.old.store.records }
     requires room { length out.old.frames < MOST_FRAMES }
     ensures reaches { ReachesCommand station.old beside.old
         (λ y. command_rules.hear_command_at alone y own (command_of command.now)) result number out.old out.new station.new
@@ -475,7 +475,7 @@ pub(crate) fn hear_command_at<'a>(
     out: &mut Out,
 ) -> Commanded<'a>
     requires agrees { Agrees station.old }
-    requires kept { IfSome station.old.memory (λ _. IsKept beside.old.log station.old.store.records) }
+    requires kept { IfSome station.old.memory (λ _. AgreesWith beside.old.log station.old.store.records) }
     requires room { length out.old.frames < MOST_FRAMES }
     ensures reaches { ReachesCommand station.old beside.old
         (λ y. command_rules.hear_command alone y (command_of command.now)) result number out.old out.new station.new beside.new }

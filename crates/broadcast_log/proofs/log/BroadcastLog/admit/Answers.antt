@@ -3,7 +3,7 @@ use Rattle.std.specs.Prelude.{OnOk}
 use Rattle.store_tables.proofs.MarkEntries.{room_has}
 use Rattle.broadcast_log.specs.declared.fault.LogFault.TheVariants.{Old, OriginsFull}
 use Rattle.broadcast_log.specs.Log.{Log}
-use Rattle.broadcast_log.specs.OriginMarks.{AreMarksKept, room_for}
+use Rattle.broadcast_log.specs.OriginMarks.{MarksAgree, room_for}
 use Rattle.broadcast_log.proofs.Runs.{admission_is_fresh}
 use Rattle.broadcast_log.proofs.log.BroadcastLog.admit.Goals as goal
 
@@ -14,7 +14,7 @@ on_ok (Err e) h = tt
 pub keep-requires : goal.keep-requires
 keep-requires g c =
     let records = (g.K.Keeper.store c.args.keeper.now).records in
-    let kept = subst (λ (l : Log). AreMarksKept l.marks records) (sym c.self.view_is) c.requires.marks in
+    let kept = subst (λ (l : Log). MarksAgree l.marks records) (sym c.self.view_is) c.requires.marks in
     (omega arith, (room_has 0x0300 32 Old OriginsFull c.self.inside.marks c.args.origin c.args.number kept.short (sym c.in-Ok.ensures), kept))
 
 pub returns-in-Ok-clause-fresh : goal.returns-in-Ok-clause-fresh

@@ -3,7 +3,7 @@ use Rattle.plc_base.specs.Keeper.{IsOldOrNew}
 use Rattle.store_tables.specs.Marks.{has_room}
 use Rattle.store_tables.proofs.MarkEntries.{kept_covered, room_has}
 use Rattle.frame_counters.specs.declared.fault.PeerFault.TheVariants.{Replayed, PeersFull}
-use Rattle.frame_counters.specs.PeerMarks.{Table, IsKept, kept_after}
+use Rattle.frame_counters.specs.PeerMarks.{Table, AgreesWith, kept_after}
 use Rattle.frame_counters.proofs.peer_marks.PeerMarks.keep.Goals as goal
 
 pub keep-requires : goal.keep-requires
@@ -13,14 +13,14 @@ keep-requires g c =
       omega arith,
       (
         subst (λ (t : Table). has_room 0x0100 64 t c.args.from c.args.counter ≡ true) (sym c.self.view_is) room,
-        subst (λ (t : Table). IsKept t records) (sym c.self.view_is) c.requires.kept,
+        subst (λ (t : Table). AgreesWith t records) (sym c.self.view_is) c.requires.kept,
       ),
     )
 
 pub returns-clause-either : goal.returns-clause-either
 returns-clause-either g c =
     let records = (g.K.Keeper.store c.keep.new.keeper).records in
-    subst (λ (t : Table). IsOldOrNew IsKept t (kept_after t c.args.from c.args.counter) records) c.self.view_is c.keep.ensures.either
+    subst (λ (t : Table). IsOldOrNew AgreesWith t (kept_after t c.args.from c.args.counter) records) c.self.view_is c.keep.ensures.either
 
 pub invariant_of-self : goal.invariant_of-self
 invariant_of-self g c =

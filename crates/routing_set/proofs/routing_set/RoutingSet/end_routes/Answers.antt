@@ -1,7 +1,7 @@
 use Rattle.std.proofs.Common.{◌≡◌, ℕ, suc, ◌+◌, ◌++◌, List, Some, map, take, drop, set, sym, ap, subst, ◌∙◌, arith}
 use Rattle.std.specs.Prelude.{slice_get}
 use Rattle.routing_set.specs.declared.entry.RoutingEntry.{RoutingEntry}
-use Rattle.routing_set.specs.RoutingSet.{Routing, IsKept, ended}
+use Rattle.routing_set.specs.RoutingSet.{Routing, AgreesWith, ended}
 use Rattle.routing_set.specs.Endings.{takes, after_ending}
 use Rattle.routing_set.specs.FirstEnd.{IsStill}
 use Rattle.routing_set.proofs.Endings.{map_step, map_whole, kept_ended}
@@ -41,7 +41,7 @@ returns-clause-routing c =
 
 pub returns-clause-kept : goal.returns-clause-kept
 returns-clause-kept c records kept =
-    subst (λ (r : Routing). IsKept r records) (sym (returns-clause-routing c)) (kept_ended (takes c.args.ending.now) c.args.self.now records kept)
+    subst (λ (r : Routing). AgreesWith r records) (sym (returns-clause-routing c)) (kept_ended (takes c.args.ending.now) c.args.self.now records kept)
 
 pub invariant_of-self : goal.invariant_of-self
 invariant_of-self c =

@@ -4,7 +4,7 @@ use Rattle.plc_base.specs.Keeper.{Write}
 use Rattle.store_tables.specs.Writes.{Wrote}
 use Rattle.store_tables.specs.SlotTables.{entry_write}
 use Rattle.routing_set.specs.declared.entry.RoutingEntry.{RoutingEntry}
-use Rattle.routing_set.specs.RoutingSet.{Routing, ranks, IsKept, place_of, entered, half_entered, entry_writes, Keeps}
+use Rattle.routing_set.specs.RoutingSet.{Routing, ranks, AgreesWith, place_of, entered, half_entered, entry_writes, Keeps}
 use Rattle.routing_set.proofs.Offers.{room_old, entered_held, entered_new, entered_first, writes_held, writes_new, writes_first, held_keeps, new_keeps}
 use Rattle.routing_set.proofs.Offers.{first_keeps, stored_ok, ok_is, wrote_last}
 use Rattle.routing_set.proofs.routing_set.RoutingSet.enter.Goals as goal
@@ -47,7 +47,7 @@ returns-in-Some-clause-keeps g c =
     let s = g.K.Keeper.store c.args.keeper.now in
     let t = g.K.Keeper.store c.set_stored.new.keeper in
     let at : place_of r.entries c.args.entry.address ≡ Some c.in-Some.place = ap (place_of r.entries) (sym c.key.ensures.value) ∙ sym c.in-Some.ensures.place in
-    let kept : IsKept r s.records = subst (λ (k : Routing). IsKept k s.records) (sym c.self.view_is) c.requires.kept in
+    let kept : AgreesWith r s.records = subst (λ (k : Routing). AgreesWith k s.records) (sym c.self.view_is) c.requires.kept in
     let stored = stored_ok c.set_stored.result _ _ t.records c.set_stored.ensures.table c.set_stored.ensures.kept in
     let keeps = held_keeps r c.args.entry c.args.now c.in-Some.place (is_ok c.set_stored.result) s.records t.records at kept stored c.set_stored.ensures.either
     c.set_stored.ensures.elsewhere in
@@ -120,7 +120,7 @@ returns-in-None-2-clause-keeps g c =
     let t = g.K.Keeper.store c.push_stored.new.keeper in
     let new : place_of r.entries c.args.entry.address ≡ None = ap (place_of r.entries) (sym c.key.ensures.value) ∙ sym c.in-None-2.ensures.place in
     let short : (length r.entries == 64) ≡ false = sym c.if-is_full.ensures in
-    let kept : IsKept r s.records = subst (λ (k : Routing). IsKept k s.records) (sym c.self.view_is) c.requires.kept in
+    let kept : AgreesWith r s.records = subst (λ (k : Routing). AgreesWith k s.records) (sym c.self.view_is) c.requires.kept in
     let stored = stored_ok c.push_stored.result _ _ t.records c.push_stored.ensures.table c.push_stored.ensures.kept in
     let keeps = new_keeps r c.args.entry c.args.now (is_ok c.push_stored.result) s.records t.records new short kept stored c.push_stored.ensures.either
     c.push_stored.ensures.elsewhere in

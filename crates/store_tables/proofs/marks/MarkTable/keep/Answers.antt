@@ -3,7 +3,7 @@ use Rattle.std.specs.Prelude.{is_ok, OnOk}
 use Rattle.plc_base.specs.Keeper.{Stores, Write, IsOldOrNew}
 use Rattle.store_tables.specs.SlotTables.{IsFree, entry_write}
 use Rattle.store_tables.specs.declared.marks.Mark.{Mark}
-use Rattle.store_tables.specs.Marks.{Table, layout, place_of, has_room, kept_after, keep_write, IsKept}
+use Rattle.store_tables.specs.Marks.{Table, layout, place_of, has_room, kept_after, keep_write, AgreesWith}
 use Rattle.store_tables.proofs.MarkEntries.{kept_low, write_low, kept_high, write_high, kept_new, write_new, ahead_covered, set_covered, push_covered, room_new}
 use Rattle.store_tables.proofs.marks.MarkTable.keep.Goals as goal
 
@@ -24,7 +24,7 @@ push_stored-requires g c =
           subst (λ (k : ℕ). IsFree (layout g.row.FIRST g.row.SLOTS) items (length items) k) key c.in-None.ensures.free,
           (
             refl,
-            subst (λ (t : Table g.row.FIRST g.row.SLOTS). IsKept g.row.FIRST g.row.SLOTS t (g.K.Keeper.store c.args.keeper.now).records)
+            subst (λ (t : Table g.row.FIRST g.row.SLOTS). AgreesWith g.row.FIRST g.row.SLOTS t (g.K.Keeper.store c.args.keeper.now).records)
                 (sym c.self.view_is) c.requires.kept,
           ),
         ),
@@ -86,7 +86,7 @@ pub returns-then-number-entry-clause-kept : goal.returns-then-number-entry-claus
 returns-then-number-entry-clause-kept g c =
     let records = (g.K.Keeper.store c.args.keeper.now).records in
     c.set_unstored.ensures.kept records
-    (subst (λ (t : Table g.row.FIRST g.row.SLOTS). IsKept g.row.FIRST g.row.SLOTS t records) (sym c.self.view_is) c.requires.kept)
+    (subst (λ (t : Table g.row.FIRST g.row.SLOTS). AgreesWith g.row.FIRST g.row.SLOTS t records) (sym c.self.view_is) c.requires.kept)
 
 pub returns-else-number-entry-clause-either : goal.returns-else-number-entry-clause-either
 returns-else-number-entry-clause-either g c =
@@ -98,8 +98,8 @@ returns-else-number-entry-clause-either g c =
     ∙ sym (kept_high g.row.FIRST g.row.SLOTS items c.args.address c.args.number c.in-Some.place c.get-entry.result at c.in-Some.ensures.within
     c.get-entry.ensures c.if-number-entry.false)
     ∙ ap (λ (t : Table g.row.FIRST g.row.SLOTS). kept_after g.row.FIRST g.row.SLOTS t c.args.address c.args.number) c.self.view_is in
-    subst (λ (t : Table g.row.FIRST g.row.SLOTS). IsOldOrNew (IsKept g.row.FIRST g.row.SLOTS) c.args.self.now t records) after
-    (subst (λ (t : Table g.row.FIRST g.row.SLOTS). IsOldOrNew (IsKept g.row.FIRST g.row.SLOTS) t (set items c.in-Some.place c.ahead_of.result) records)
+    subst (λ (t : Table g.row.FIRST g.row.SLOTS). IsOldOrNew (AgreesWith g.row.FIRST g.row.SLOTS) c.args.self.now t records) after
+    (subst (λ (t : Table g.row.FIRST g.row.SLOTS). IsOldOrNew (AgreesWith g.row.FIRST g.row.SLOTS) t (set items c.in-Some.place c.ahead_of.result) records)
     c.self.view_is c.set_stored.ensures.either)
 
 pub returns-in-None-clause-table : goal.returns-in-None-clause-table
@@ -132,8 +132,8 @@ returns-in-None-clause-either g c =
     let after = ap (λ (m : Mark g.row.FIRST g.row.SLOTS). items ++ m ∷ []) c.ahead_of-in-None.ensures
     ∙ sym (kept_new g.row.FIRST g.row.SLOTS items c.args.address c.args.number new)
     ∙ ap (λ (t : Table g.row.FIRST g.row.SLOTS). kept_after g.row.FIRST g.row.SLOTS t c.args.address c.args.number) c.self.view_is in
-    subst (λ (t : Table g.row.FIRST g.row.SLOTS). IsOldOrNew (IsKept g.row.FIRST g.row.SLOTS) c.args.self.now t records) after
-    (subst (λ (t : Table g.row.FIRST g.row.SLOTS). IsOldOrNew (IsKept g.row.FIRST g.row.SLOTS) t (items ++ c.ahead_of-in-None.result ∷ []) records)
+    subst (λ (t : Table g.row.FIRST g.row.SLOTS). IsOldOrNew (AgreesWith g.row.FIRST g.row.SLOTS) c.args.self.now t records) after
+    (subst (λ (t : Table g.row.FIRST g.row.SLOTS). IsOldOrNew (AgreesWith g.row.FIRST g.row.SLOTS) t (items ++ c.ahead_of-in-None.result ∷ []) records)
     c.self.view_is c.push_stored.ensures.either)
 
 pub set_stored-requires : goal.set_stored-requires
@@ -148,7 +148,7 @@ set_stored-requires g c =
           subst (λ (k : ℕ). IsFree (layout g.row.FIRST g.row.SLOTS) items c.in-Some.place k) key c.in-Some.ensures.free,
           (
             refl,
-            subst (λ (t : Table g.row.FIRST g.row.SLOTS). IsKept g.row.FIRST g.row.SLOTS t (g.K.Keeper.store c.args.keeper.now).records)
+            subst (λ (t : Table g.row.FIRST g.row.SLOTS). AgreesWith g.row.FIRST g.row.SLOTS t (g.K.Keeper.store c.args.keeper.now).records)
                 (sym c.self.view_is) c.requires.kept,
           ),
         ),
