@@ -2,7 +2,7 @@
 use Rattle.std.proofs.Common.{◌≡◌, ℕ, zero, suc, ◌+◌, ◌-◌, Bool, true, false, List, [], ◌∷◌, ◌++◌, length, codes, Option, Some, None, refl, sym, ◌∙◌, ap}
 use Rattle.std.proofs.Common.{append_assoc}
 use Rattle.std.proofs.lemmas.List.{append-nil}
-use Rattle.line_driver.specs.Lines.{Line, lines}
+use Rattle.script_lines.specs.Lines.{Line, lines}
 use Rattle.line_rules.specs.Worlds.{World, Flight, flight_at, start}
 use Rattle.line_rules.specs.Runs.{Entry}
 use Rattle.line_script.specs.Texts.{happened_text}

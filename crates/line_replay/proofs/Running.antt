@@ -3,11 +3,11 @@ use Rattle.std.proofs.Common.{◌≡◌, ℕ, ◌+◌, ◌<◌, Bool, true, fals
 use Rattle.std.proofs.Common.{add-zero, arith}
 use Rattle.std.proofs.lemmas.Bool.{ltb-true, ltb-false}
 use Rattle.std.proofs.lemmas.List.Elements.{All-nil, All-cons}
-use Rattle.line_driver.specs.Lines.{Content, Text, Long, TooMuch, Line, lines}
-use Rattle.line_driver.specs.Outcomes.{Outcome, Bad, Ended, outcome_turn, outcome_from}
-use Rattle.line_driver.specs.declared.machine.Exit.{Exit}
-use Rattle.line_driver.specs.declared.machine.Exit.TheVariants as exits
-use Rattle.line_driver.specs.Clauses.{Comes, Drives}
+use Rattle.script_lines.specs.Lines.{Content, Text, Long, TooMuch, Line, lines}
+use Rattle.script_lines.specs.Outcomes.{Outcome, Bad, Ended, outcome_turn, outcome_from}
+use Rattle.script_lines.specs.declared.machine.Exit.{Exit}
+use Rattle.script_lines.specs.declared.machine.Exit.TheVariants as exits
+use Rattle.script_lines.specs.Clauses.{Comes, Drives}
 use Rattle.plc_base.specs.Streams.{SourceState, SinkState, SourceRose, SinkRose}
 use Rattle.line_events.specs.declared.event.Event.{Event}
 use Rattle.line_events.specs.declared.event.StepFault.TheVariants as faults

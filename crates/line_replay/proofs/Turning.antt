@@ -3,10 +3,10 @@ use Rattle.std.proofs.Common.{◌≡◌, ℕ, ◌+◌, ◌<◌, Bool, List, [], 
 use Rattle.std.specs.Prelude.{OnOk}
 use Rattle.std.proofs.lemmas.Bool.{lt-ltb}
 use Rattle.plc_base.specs.Streams.{SinkState}
-use Rattle.line_driver.specs.declared.text_output.StopReason.{StopReason}
-use Rattle.line_driver.specs.Outcomes.{Turn, Takes}
-use Rattle.line_driver.specs.Clauses.{IsWritten, Turned}
-use Rattle.line_driver.proofs.Turned.{taken}
+use Rattle.script_lines.specs.declared.text_output.StopReason.{StopReason}
+use Rattle.script_lines.specs.Outcomes.{Turn, Takes}
+use Rattle.script_lines.specs.Clauses.{IsWritten, Turned}
+use Rattle.script_lines.proofs.Turned.{taken}
 use Rattle.line_events.specs.declared.event.Event.{Event}
 use Rattle.line_events.specs.declared.happenings.Happenings.{Happenings}
 use Rattle.line_events.specs.declared.event.TheConstants.{MAX_EVENTS}

@@ -1,9 +1,9 @@
 -- What a script does, line by line, and its report.
 use Rattle.std.specs.Prelude.{ℕ, ◌+◌, ◌==◌, Bool, not, List, [], ◌∷◌, ◌++◌, codes, if◌then◌else◌, nat_eq, nat_lt, Ok, Err}
 use Rattle.std.specs.List.{starts_with}
-use Rattle.line_driver.specs.Lines.{Content, Text, Long, TooMuch, Line, lines}
-use Rattle.line_driver.specs.Clauses.{IsStop}
-use Rattle.line_driver.specs.Outcomes.{Turn, Skips, Takes, Stops, Outcome, outcome as outcome_of}
+use Rattle.script_lines.specs.Lines.{Content, Text, Long, TooMuch, Line, lines}
+use Rattle.script_lines.specs.Clauses.{IsStop}
+use Rattle.script_lines.specs.Outcomes.{Turn, Skips, Takes, Stops, Outcome, outcome as outcome_of}
 use Rattle.line_events.specs.declared.event.Event.{Event}
 use Rattle.line_events.specs.declared.event.StepFault.TheVariants as faults
 use Rattle.line_events.specs.declared.event.TheConstants.{MAX_EVENTS}

@@ -2,9 +2,9 @@
 use Rattle.std.specs.Prelude.{ℕ, ◌+◌, ◌==◌, Bool, List, [], ◌∷◌, ◌++◌, length, codes, Option, None, Some, if◌then◌else◌}
 use Rattle.std.specs.Fmt.{decimal}
 use Rattle.hex.specs.Hex.{encode_lower}
-use Rattle.line_driver.specs.Lines.{Content, Text, Long, TooMuch}
-use Rattle.line_driver.specs.Clauses.{IsStop}
-use Rattle.line_driver.specs.Outcomes.{Turn, Skips, Takes, Stops, Outcome, outcome as outcome_of}
+use Rattle.script_lines.specs.Lines.{Content, Text, Long, TooMuch}
+use Rattle.script_lines.specs.Clauses.{IsStop}
+use Rattle.script_lines.specs.Outcomes.{Turn, Skips, Takes, Stops, Outcome, outcome as outcome_of}
 use Rattle.pan_discovery.specs.declared.message.Discovery.{Discovery}
 use Rattle.pan_discovery.specs.declared.message.Discovery.TheVariants.{Request, Beacon}
 use Rattle.pan_discovery.specs.Reading.{discovery_in}

@@ -7,10 +7,10 @@ use Rattle.std.specs.Option.{option_map}
 use Rattle.std.specs.declared.alloc.Global.{Global}
 use Rattle.std.specs.Io.KnownBytes.{Appends}
 use Rattle.plc_base.specs.Streams.{SourceState, SinkState, SinkFaults, SinkRose, IsPrefixOf}
-use Rattle.line_driver.specs.declared.machine.Exit.{Exit}
-use Rattle.line_driver.specs.declared.machine.Exit.TheVariants as exits
-use Rattle.line_driver.specs.Outcomes.{Outcome}
-use Rattle.line_driver.specs.Clauses.{Drives}
+use Rattle.script_lines.specs.declared.machine.Exit.{Exit}
+use Rattle.script_lines.specs.declared.machine.Exit.TheVariants as exits
+use Rattle.script_lines.specs.Outcomes.{Outcome}
+use Rattle.script_lines.specs.Clauses.{Drives}
 use Rattle.node_rules.specs.Ciphers.{network}
 use Rattle.line_laws.specs.Network.{IsRight}
 use Rattle.line_script.specs.Words.{number_within}

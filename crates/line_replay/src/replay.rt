@@ -1,6 +1,6 @@
 //! A world that takes the lines of a script and reports what they do.
 ghost use Rattle.std.specs.Prelude.{◌≡◌, ◌++◌, OnOk, string_bytes};
-ghost use Rattle.line_driver.specs.Clauses.{Turned};
+ghost use Rattle.script_lines.specs.Clauses.{Turned};
 ghost use Rattle.line_events.specs.Events.{IsEvent};
 ghost use Rattle.line_rules.specs.Worlds.{start};
 ghost use Rattle.line_script.specs.Texts.{happened_text};
@@ -8,7 +8,7 @@ ghost use Rattle.line_replay.specs.Texts.{sent_text};
 ghost use Rattle.line_replay.specs.Replay.{Playing, is_forged, event_taking, turn_by, turn_of, end_of, stops_at_too_much};
 
 use crate::report::{push_sent, refuse, totals};
-use line_driver::{LineKind, LineMachine, StopReason, write_made, write_text};
+use script_lines::{LineKind, LineMachine, StopReason, write_made, write_text};
 use line_events::{Event, Happenings, MAX_EVENTS, StepFault};
 use line_script::{LINE_OCTETS, Reading, Reason, end_text, push_happened, read_line};
 use line_world::{Space, World};
@@ -59,7 +59,7 @@ fn push_entry(
 
 impl Player {
     /// Takes an event that a line can say, and reports it.
-    #[tactic(auto, using(line_driver::proofs::Turned::stopped))]
+    #[tactic(auto, using(script_lines::proofs::Turned::stopped))]
     fn take_event<K: Sink>(
         &mut self,
         number: u32,
@@ -148,7 +148,7 @@ impl LineMachine for Replay {
 
     ghost stops = { stops_at_too_much };
 
-    #[tactic(auto, unfolding(crate::specs::Replay::taking), using(line_driver::proofs::Turned::stopped))]
+    #[tactic(auto, unfolding(crate::specs::Replay::taking), using(script_lines::proofs::Turned::stopped))]
     fn take<K: Sink>(
         &mut self,
         number: u32,

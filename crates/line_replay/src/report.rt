@@ -1,10 +1,10 @@
 //! The texts of a report that the world gives.
 ghost use Rattle.std.specs.Prelude.{◌≡◌, ◌+◌, ◌-◌, ◌++◌, length, OnOk, string_bytes};
-ghost use Rattle.line_driver.specs.Clauses.{StopsWith};
+ghost use Rattle.script_lines.specs.Clauses.{StopsWith};
 ghost use Rattle.line_script.specs.Texts.{bad_text};
 ghost use Rattle.line_replay.specs.Texts.{flight_text, flies_text, sent_text, totals};
 
-use line_driver::{StopReason, stop};
+use script_lines::{StopReason, stop};
 use line_script::{Reason, Totals, bad_text, push_fly};
 use line_world::World;
 use plc_base::Sink;

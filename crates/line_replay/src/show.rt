@@ -5,7 +5,7 @@ ghost use Rattle.line_replay.specs.Shown.{frame_text, shown_text, frames_text};
 ghost use Rattle.line_replay.specs.Shown.{show_turn, show_stops};
 
 use crate::report::refuse;
-use line_driver::{LineKind, LineMachine, StopReason, write_text};
+use script_lines::{LineKind, LineMachine, StopReason, write_text};
 use line_script::{LINE_OCTETS, Reason, hex_octets, short_word};
 use mac_frames::{FrameFault, FrameFaultKind, MacHead, read_frame};
 use pan_discovery::{Discovery, read_discovery};
@@ -206,7 +206,7 @@ impl LineMachine for Show {
 
     ghost stops = { show_stops };
 
-    #[tactic(auto, unfolding(crate::specs::Shown::show_turn), using(line_driver::proofs::Turned::stopped, line_driver::proofs::Turned::taken))]
+    #[tactic(auto, unfolding(crate::specs::Shown::show_turn), using(script_lines::proofs::Turned::stopped, script_lines::proofs::Turned::taken))]
     fn take<K: Sink>(
         &mut self,
         number: u32,

@@ -11,7 +11,7 @@ use crate::drill::drill_text;
 use crate::replay::Replay;
 use crate::show::Show;
 use crate::status::Status;
-use line_driver::{Exit, run};
+use script_lines::{Exit, run};
 use line_laws::every_network_run_is_right;
 use line_script::number_within;
 use plc_base::{Sink, Source, write_all};
