@@ -11,7 +11,7 @@ ghost use Rattle.coordinator.specs.CoordinatorStates.{node_of};
 ghost use Rattle.coordinator.specs.CoordinatorAgreement.{CoordinatorReady, CoordinatorReadyToAnswer, CoordinatorAgrees};
 ghost use Rattle.coordinator.specs.MeshCommands as mesh_plans;
 ghost use Rattle.coordinator.specs.JoiningReplies as saying;
-ghost use Rattle.waiting_bodies.specs.declared.bodies.TheConstants.{LONGEST_COMMAND};
+ghost use Rattle.station_queues.specs.declared.bodies.TheConstants.{LONGEST_COMMAND};
 
 use crate::coordinator::Coordinator;
 use joining_base::{CommandBuf, dropped_send, push_down, write_command};

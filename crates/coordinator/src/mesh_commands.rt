@@ -6,7 +6,7 @@ ghost use Rattle.node_rules.specs.Composing.{HasRoom};
 ghost use Rattle.coordinator.specs.CoordinatorStates.{node_of};
 ghost use Rattle.coordinator.specs.CoordinatorAgreement.{CoordinatorReady, CoordinatorAgrees};
 ghost use Rattle.coordinator.specs.MeshCommands as mesh_plans;
-ghost use Rattle.waiting_bodies.specs.declared.bodies.TheConstants.{LONGEST_COMMAND};
+ghost use Rattle.station_queues.specs.declared.bodies.TheConstants.{LONGEST_COMMAND};
 
 use crate::coordinator::Coordinator;
 use crate::orders::order_refusal;

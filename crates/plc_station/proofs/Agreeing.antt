@@ -16,7 +16,7 @@ use Rattle.routing_set.specs.OwnNumber as own_number
 use Rattle.routing_set.proofs.Beside.{kept_elsewhere as routing_elsewhere, stored_beside}
 use Rattle.node_rules.specs.Memory.{StationMemory}
 use Rattle.node_rules.specs.StoreReading.{tag_in}
-use Rattle.waiting_bodies.specs.Bodies.{Held}
+use Rattle.station_queues.specs.Bodies.{Held}
 use Rattle.plc_station.specs.StationReading.{station_in}
 use Rattle.node_rules.specs.Agreement.{Agrees, AgreesWith}
 use Rattle.node_rules.specs.States.{State}

@@ -3,7 +3,7 @@ use Rattle.std.proofs.Common.{get_or}
 use Rattle.fragment_buffers.specs.Loads.{Load, Datagram, Command, IsShort}
 use Rattle.node_rules.specs.Laws.{WaitingFits}
 use Rattle.node_rules.specs.Memory.{StationMemory}
-use Rattle.waiting_bodies.specs.Sizes.{IsLoadSized, AreSized}
+use Rattle.station_queues.specs.Sizes.{IsLoadSized, AreSized}
 
 short_load : (load : Load) → IsLoadSized load → IsShort load
 short_load (Datagram octets tag) s = s.1

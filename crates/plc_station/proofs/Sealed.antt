@@ -5,8 +5,8 @@ use Rattle.plc_base.specs.Grant.{Granted}
 use Rattle.plc_base.specs.declared.key.Key.{Key}
 use Rattle.plc_base.specs.declared.out_frame.OutFrame.{OutFrame}
 use Rattle.fragment_buffers.specs.Loads.{Outgoing}
-use Rattle.waiting_bodies.specs.Frames.{unit_frame, frames_of}
-use Rattle.waiting_bodies.proofs.Letters.{frames-append}
+use Rattle.station_queues.specs.Frames.{unit_frame, frames_of}
+use Rattle.station_queues.proofs.Letters.{frames-append}
 use Rattle.node_rules.specs.Ciphers.{network}
 use Rattle.node_rules.specs.Frames.{Sent, Sealed, spelled}
 use Rattle.node_rules.specs.Drafts.{letters, sealing_key, sealed_by}

@@ -6,7 +6,7 @@ use Rattle.fragment_buffers.specs.Waiting.{Body}
 use Rattle.node_rules.specs.Laws.{WaitingFits}
 use Rattle.node_rules.specs.Memory.{StationMemory}
 use Rattle.node_rules.specs.Tables.{HasShortTables}
-use Rattle.waiting_bodies.specs.Sizes.{IsLoadSized}
+use Rattle.station_queues.specs.Sizes.{IsLoadSized}
 
 -- No table passes its size, and no body that waits is empty or too long.
 pub record HasSizes (l : StationMemory) : Type 0 where

@@ -2,7 +2,7 @@
 use Rattle.std.specs.Prelude.{[], Option, Some, None, Result, Ok, Err}
 use Rattle.plc_base.specs.declared.keeper.BadStore.{BadStore}
 use Rattle.node_rules.specs.Memory.{StationMemory}
-use Rattle.waiting_bodies.specs.Bodies.{Held}
+use Rattle.station_queues.specs.Bodies.{Held}
 use Rattle.plc_station.specs.declared.parts.Parts.{Parts}
 
 -- no body

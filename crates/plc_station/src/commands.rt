@@ -12,7 +12,7 @@ ghost use Rattle.node_rules.specs.Agreement.{Agrees};
 ghost use Rattle.plc_station.specs.Ready.{After, ReadyToAnswer, ReadyToSend};
 ghost use Rattle.plc_station.specs.Rooms.{room_answer};
 ghost use Rattle.plc_base.specs.declared.limits.TheConstants.{GREATEST_COUNTER};
-ghost use Rattle.waiting_bodies.specs.declared.bodies.TheConstants.{LONGEST_COMMAND};
+ghost use Rattle.station_queues.specs.declared.bodies.TheConstants.{LONGEST_COMMAND};
 
 use crate::next_steps::{NextStep, refusal_of};
 use crate::sealing::seal_request;
@@ -20,7 +20,7 @@ use crate::station::Station;
 use mesh_header::Unit;
 use node_rules::{SendRefusal, SentHow};
 use plc_base::{Destination, Grant, Keeper, OctetRef, Out, Short};
-use waiting_bodies::own_mesh;
+use station_queues::own_mesh;
 
 // The unit of a command, whose code stands first.
 fn command_unit<'a>(grant: &Grant, to: Short, octets: &'a [u8]) -> Unit<'a>

@@ -24,7 +24,7 @@ use loadng_messages::{Message, MessageBuf, write_message};
 use mesh_header::{Mesh, Unit};
 use node_rules::{Dropped, Heard, Way};
 use plc_base::{DatagramBuf, Destination, Grant, Keeper, OctetRef, Out, Short};
-use waiting_bodies::seal;
+use station_queues::seal;
 
 // The unit of a route error.
 pub(crate) fn error_unit<'a>(lost: Short, to: Short, body: &'a mut MessageBuf) -> Unit<'a>

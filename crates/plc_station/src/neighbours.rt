@@ -13,7 +13,7 @@ use aes_modes::Aes;
 use mesh_header::Unit;
 use node_rules::LocalRefusal;
 use plc_base::{Destination, Grant, Keeper, OctetRef, Out, Short};
-use waiting_bodies::seal;
+use station_queues::seal;
 
 // A neighbour, or all.
 fn destination(to: Option<Short>) -> Destination

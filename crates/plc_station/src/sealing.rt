@@ -16,7 +16,7 @@ use aes_modes::Aes;
 use loadng_messages::{Message, MessageBuf, write_message};
 use mesh_header::Unit;
 use plc_base::{Destination, Grant, Key, OctetRef, Out, Short};
-use waiting_bodies::{seal, seal_load};
+use station_queues::{seal, seal_load};
 
 // Seals a datagram, whole or in pieces.
 pub(crate) fn seal_datagram(

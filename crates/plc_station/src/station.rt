@@ -17,7 +17,7 @@ use plc_base::{BadStore, Eui, Keeper, LONGEST_DATAGRAM, Short};
 use std::alloc::Global;
 use std::marker::Model;
 use thiserror::Error;
-use waiting_bodies::{Bodies, BodyRoom};
+use station_queues::{Bodies, BodyRoom};
 
 /// Why a station is not opened.
 #[derive(Clone, Copy, Debug, PartialEq, Eq, Error)]

@@ -1,6 +1,6 @@
 use Rattle.std.proofs.Common.{◌++◌, ap, ◌∙◌}
 use Rattle.fragment_buffers.specs.Loads.{Datagram, all_go, units_of}
-use Rattle.waiting_bodies.specs.Frames.{frames_of}
+use Rattle.station_queues.specs.Frames.{frames_of}
 use Rattle.plc_station.specs.Sealing.{only_frames}
 use Rattle.plc_station.proofs.Sealed.{sealed_alone}
 use Rattle.plc_station.proofs.sealing.seal_datagram.Goals as goal

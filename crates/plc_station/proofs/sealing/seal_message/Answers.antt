@@ -2,7 +2,7 @@ use Rattle.std.proofs.Common.{[], ◌∷◌, ◌++◌, List, ap, ◌∙◌}
 use Rattle.plc_base.specs.declared.out_frame.OutFrame.{OutFrame}
 use Rattle.loadng_messages.specs.Grammar as messages
 use Rattle.mesh_header.specs.declared.unit.Unit.TheVariants.{Local}
-use Rattle.waiting_bodies.specs.Frames.{unit_frame, with_frames}
+use Rattle.station_queues.specs.Frames.{unit_frame, with_frames}
 use Rattle.plc_station.proofs.Sealed.{one_sent}
 use Rattle.plc_station.proofs.sealing.seal_message.Goals as goal
 

@@ -11,9 +11,9 @@ use Rattle.node_rules.specs.Frames.{spelled}
 use Rattle.node_rules.specs.Memory.{StationMemory}
 use Rattle.node_rules.specs.Drafts.{empty_draft, goes, leave, with_own_number, with_rank, send_message, sealed_by}
 use Rattle.node_rules.specs.Hearing.{dropped, offers_numbered}
-use Rattle.waiting_bodies.specs.Bodies.{Held}
+use Rattle.station_queues.specs.Bodies.{Held}
 use Rattle.fragment_buffers.specs.Waiting.{leaving}
-use Rattle.waiting_bodies.specs.Frames.{frames_of}
+use Rattle.station_queues.specs.Frames.{frames_of}
 use Rattle.node_rules.specs.Agreement.{AgreesWith}
 use Rattle.plc_station.specs.Offers.{CanBeKept}
 use Rattle.plc_station.specs.StationReading.{station_in}
@@ -25,7 +25,7 @@ use Rattle.node_rules.specs.States.{unless_halted}
 use Rattle.plc_station.proofs.Agreeing.{agrees_counted, agrees_numbered, agrees_ranked, agrees_holding}
 use Rattle.plc_station.proofs.Ending.{ended, stopped, uncounted}
 use Rattle.plc_station.proofs.Replying.{answer_goes}
-use Rattle.waiting_bodies.proofs.Letters.{length-frames}
+use Rattle.station_queues.proofs.Letters.{length-frames}
 use Rattle.plc_station.proofs.Sealed.{sealed_then}
 use Rattle.plc_station.proofs.station.Station.answer.Goals as goal
 

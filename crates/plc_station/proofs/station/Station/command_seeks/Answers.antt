@@ -11,7 +11,7 @@ use Rattle.node_rules.specs.Frames.{spelled}
 use Rattle.node_rules.specs.Memory.{StationMemory, Command}
 use Rattle.node_rules.specs.Drafts.{empty_draft, goes, waits, seeks, with_own_number, sealed_by}
 use Rattle.node_rules.specs.Calls.{sending_ends}
-use Rattle.waiting_bodies.specs.Bodies.{Held}
+use Rattle.station_queues.specs.Bodies.{Held}
 use Rattle.plc_station.specs.StationReading.{station_in}
 use Rattle.plc_station.specs.Sealing.{only_frames}
 use Rattle.node_rules.specs.Agreement.{AgreesWith}

@@ -4,7 +4,7 @@ use Rattle.node_rules.specs.Memory.{Command}
 use Rattle.node_rules.specs.Drafts.{empty_draft, waits}
 use Rattle.node_rules.specs.Calls.{sending_ends}
 use Rattle.node_rules.specs.Agreement.{AgreesWith}
-use Rattle.waiting_bodies.specs.Bodies.{Held}
+use Rattle.station_queues.specs.Bodies.{Held}
 use Rattle.plc_station.specs.StationReading.{station_in}
 use Rattle.plc_station.proofs.Carrying.{at_some, on_memory, station_is}
 use Rattle.plc_station.proofs.Ending.{unsealed}

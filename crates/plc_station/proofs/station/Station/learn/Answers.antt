@@ -4,9 +4,9 @@ use Rattle.node_rules.specs.Frames.{spelled}
 use Rattle.node_rules.specs.Memory.{StationMemory}
 use Rattle.node_rules.specs.Drafts.{empty_draft, goes, leave, with_own_number, with_rank, sealed_by}
 use Rattle.node_rules.specs.Hearing.{dropped, offers}
-use Rattle.waiting_bodies.specs.Bodies.{Held}
+use Rattle.station_queues.specs.Bodies.{Held}
 use Rattle.fragment_buffers.specs.Waiting.{leaving}
-use Rattle.waiting_bodies.specs.Frames.{frames_of}
+use Rattle.station_queues.specs.Frames.{frames_of}
 use Rattle.node_rules.specs.Agreement.{AgreesWith}
 use Rattle.plc_station.specs.Offers.{CanBeKept}
 use Rattle.plc_station.specs.StationReading.{station_in}

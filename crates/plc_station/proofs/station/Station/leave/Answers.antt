@@ -5,7 +5,7 @@ use Rattle.store_tables.proofs.WritesLemmas.{wrote_one}
 use Rattle.group_keys.specs.KeyRing.{ring_write}
 use Rattle.node_rules.specs.Drafts.{empty_draft, with_ring}
 use Rattle.node_rules.specs.Calls.{ringing_ends, without_ring}
-use Rattle.waiting_bodies.specs.Bodies.{Held}
+use Rattle.station_queues.specs.Bodies.{Held}
 use Rattle.node_rules.specs.Agreement.{AgreesWith}
 use Rattle.plc_station.specs.StationReading.{station_in}
 use Rattle.node_rules.specs.States.{unless_halted}

@@ -2,7 +2,7 @@ use Rattle.std.proofs.Common.{◌≡◌, ◌∷◌, [], ◌++◌, Some, List, ma
 use Rattle.store_tables.proofs.WritesLemmas.{wrote_none}
 use Rattle.plc_base.specs.declared.out_frame.OutFrame.{OutFrame}
 use Rattle.mesh_header.specs.declared.unit.Unit.TheVariants.{Local}
-use Rattle.waiting_bodies.specs.Frames.{unit_frame, with_frames}
+use Rattle.station_queues.specs.Frames.{unit_frame, with_frames}
 use Rattle.node_rules.specs.Ciphers.{network}
 use Rattle.node_rules.specs.Frames.{spelled}
 use Rattle.node_rules.specs.Memory.{StationMemory}

@@ -8,9 +8,9 @@ use Rattle.node_rules.specs.Frames.{spelled}
 use Rattle.node_rules.specs.Memory.{StationMemory}
 use Rattle.node_rules.specs.Drafts.{empty_draft, goes, leave, with_own_number, with_rank, send_message, sealed_by}
 use Rattle.node_rules.specs.Hearing.{dropped, offers}
-use Rattle.waiting_bodies.specs.Bodies.{Held}
+use Rattle.station_queues.specs.Bodies.{Held}
 use Rattle.fragment_buffers.specs.Waiting.{leaving}
-use Rattle.waiting_bodies.specs.Frames.{frames_of}
+use Rattle.station_queues.specs.Frames.{frames_of}
 use Rattle.node_rules.specs.Agreement.{AgreesWith}
 use Rattle.plc_station.specs.Offers.{CanBeKept}
 use Rattle.plc_station.specs.StationReading.{station_in}
@@ -21,7 +21,7 @@ use Rattle.std.specs.Prelude.{IfSome}
 use Rattle.node_rules.specs.States.{unless_halted}
 use Rattle.plc_station.proofs.Agreeing.{agrees_counted, agrees_ranked, agrees_holding}
 use Rattle.plc_station.proofs.Ending.{ended, stopped, uncounted}
-use Rattle.waiting_bodies.proofs.Letters.{length-frames}
+use Rattle.station_queues.proofs.Letters.{length-frames}
 use Rattle.plc_station.proofs.Sealed.{sealed_then}
 use Rattle.plc_station.proofs.station.Station.relay.Goals as goal
 

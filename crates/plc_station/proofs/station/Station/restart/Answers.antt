@@ -4,7 +4,7 @@ use Rattle.store_tables.specs.SlotTables.{IsGapless}
 use Rattle.frame_counters.specs.PeerMarks.{peers}
 use Rattle.routing_set.specs.RoutingSet.{ranks}
 use Rattle.node_rules.specs.Memory.{StationMemory}
-use Rattle.waiting_bodies.specs.Bodies.{Held}
+use Rattle.station_queues.specs.Bodies.{Held}
 use Rattle.plc_station.specs.StationReading.{station_in}
 use Rattle.node_rules.specs.Agreement.{AgreesWith}
 use Rattle.node_rules.specs.States.{State}

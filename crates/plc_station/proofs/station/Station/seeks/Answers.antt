@@ -6,7 +6,7 @@ use Rattle.node_rules.specs.Frames.{spelled}
 use Rattle.node_rules.specs.Memory.{StationMemory, Datagram}
 use Rattle.node_rules.specs.Drafts.{Draft, empty_draft, sealed_by, waits, seeks, goes, with_own_number}
 use Rattle.node_rules.specs.Calls.{sending_ends, tag_taken}
-use Rattle.waiting_bodies.specs.Bodies.{Held}
+use Rattle.station_queues.specs.Bodies.{Held}
 use Rattle.plc_station.specs.StationReading.{station_in}
 use Rattle.plc_station.specs.Sealing.{only_frames}
 use Rattle.node_rules.specs.States.{State}

@@ -7,7 +7,7 @@ use Rattle.node_rules.specs.Drafts.{empty_draft, goes, sealed_by}
 use Rattle.node_rules.specs.Hearing.{dropped}
 use Rattle.plc_station.specs.StationReading.{station_in}
 use Rattle.plc_station.specs.Sealing.{only_frames}
-use Rattle.waiting_bodies.specs.Frames.{unit_frame}
+use Rattle.station_queues.specs.Frames.{unit_frame}
 use Rattle.node_rules.specs.States.{State}
 use Rattle.plc_station.proofs.Carrying.{on_memory, at_some, lines_are}
 use Rattle.plc_station.proofs.Ending.{ended, uncounted}

@@ -5,7 +5,7 @@ use Rattle.node_rules.specs.Memory.{Datagram}
 use Rattle.node_rules.specs.Drafts.{empty_draft, waits}
 use Rattle.node_rules.specs.Calls.{sending_ends, tag_taken}
 use Rattle.node_rules.specs.Agreement.{AgreesWith}
-use Rattle.waiting_bodies.specs.Bodies.{Held}
+use Rattle.station_queues.specs.Bodies.{Held}
 use Rattle.plc_station.specs.StationReading.{station_in}
 use Rattle.plc_station.proofs.Carrying.{at_some, on_memory, lines_are}
 use Rattle.plc_station.proofs.Ending.{settled, stopped}

@@ -1,0 +1,98 @@
+-- Before the first of the bodies ends, none does.
+use Rattle.std.proofs.Common.{◌≡◌, ℕ, suc, ◌+◌, ◌<◌, ◌≤◌, List, [], ◌∷◌, ◌++◌, take, drop, refl, sym, ap, ◌∙◌, arith}
+use Rattle.std.specs.Prelude.{fold}
+use Rattle.std.specs.List.{All, remove}
+use Rattle.std.proofs.lemmas.Bool.{cond-true, lt-ltb}
+use Rattle.std.proofs.lemmas.List.Folds.{fold-map}
+use Rattle.std.proofs.lemmas.List.Elements.{All-nil, All-head, All-tail, All-map, All-push, All-append, All-take, All-drop}
+use Rattle.plc_base.specs.Times.{earlier_end}
+use Rattle.plc_base.proofs.EarlierEnds.{earlier, all_last}
+use Rattle.block_pool.specs.Pool.{PoolState}
+use Rattle.mesh_header.specs.Pieces.{Placed}
+use Rattle.fragment_buffers.specs.Reassembly.{Reassembly}
+use Rattle.fragment_buffers.specs.Taking.{taken, unexpired}
+use Rattle.fragment_buffers.specs.Entries.{Entry, reassemblies_in, reassembly_in}
+use Rattle.fragment_buffers.specs.Waiting.{Body, still_waiting}
+use Rattle.fragment_buffers.specs.FirstEnd as pieces
+use Rattle.fragment_buffers.proofs.FirstEnds.{none_expires, still_sooner, still_taken, still_unexpired}
+use Rattle.station_queues.specs.Bodies.{Held, Slot}
+use Rattle.station_queues.specs.BodiesInPool.{body_in, bodies_in}
+use Rattle.station_queues.specs.FirstEnd.{end_by, first_end, IsStill}
+
+slots_last : (ws : List Slot) (time : ℕ) → (fold end_by time ws ≤ time) × All (λ w. fold end_by time ws ≤ w.since + 30) ws
+slots_last ws time = all_last end_by (λ (time : ℕ) (w : Slot). time ≤ w.since + 30) (λ time w. earlier time (w.since + 30))
+    (λ sooner later w le lasts. omega (arith, le, lasts)) ws time
+
+-- what is computed is such a time
+pub still : (pool : PoolState) (es : List Entry) (ws : List Slot) (time : ℕ) → pieces.IsStill time (reassemblies_in pool es)
+    → IsStill (fold end_by time ws) (record { reassemblies = reassemblies_in pool es; waiting = bodies_in pool ws })
+still pool es ws time before = record {
+  gathered = still_sooner (fold end_by time ws) time (reassemblies_in pool es) (slots_last ws time).0 before;
+  waiting = All-map (λ (b : Body). fold end_by time ws ≤ b.since + 30) (body_in pool) ws (slots_last ws time).1;
+}
+
+-- what is computed is the first end
+pub is_first : (pool : PoolState) (es : List Entry) (ws : List Slot)
+    → fold end_by (pieces.first_end es) ws ≡ first_end (record { reassemblies = reassemblies_in pool es; waiting = bodies_in pool ws })
+unfolding first_end pieces.first_end
+is_first pool es ws =
+    ap (λ (time : ℕ). fold end_by time ws)
+    (sym (fold-map (λ (time : ℕ) (r : Reassembly). earlier_end 60 time r.since) (reassembly_in pool) 18446744073709551615 es))
+    ∙ sym (fold-map (λ (time : ℕ) (b : Body). earlier_end 30 time b.since) (body_in pool) _ ws)
+
+wait_sooner : (a b : ℕ) (bs : List Body) → a ≤ b → All (λ x. b ≤ x.since + 30) bs → All (λ x. a ≤ x.since + 30) bs
+wait_sooner a b bs le h = λ k d lt. omega (arith, le, h k d lt)
+
+-- # Something comes
+
+pub still_taken_in : (h : Held) (origin : ℕ) (piece : Placed) (note now time first : ℕ) → first ≡ earlier_end 60 time now → IsStill time h
+    → IsStill first (record h { reassemblies = (taken h.reassemblies origin piece note now).held })
+still_taken_in h origin piece note now time first is s =
+    let one = earlier time (now + 60) in
+    let before : first ≤ time = omega (arith, is, one.0) in
+    record {
+      gathered = still_taken h.reassemblies origin piece note now first (omega (arith, is, one.1)) (still_sooner first time h.reassemblies before s.gathered);
+      waiting = wait_sooner first time h.waiting before s.waiting;
+    }
+
+pub still_pushed : (h : Held) (b : Body) (time first : ℕ) → first ≡ earlier_end 30 time b.since → IsStill time h
+    → IsStill first (record h { waiting = h.waiting ++ b ∷ [] })
+still_pushed h b time first is s =
+    let one = earlier time (b.since + 30) in
+    let before : first ≤ time = omega (arith, is, one.0) in
+    record {
+      gathered = still_sooner first time h.reassemblies before s.gathered;
+      waiting = All-push (λ (x : Body). first ≤ x.since + 30) h.waiting b (wait_sooner first time h.waiting before s.waiting) (omega (arith, is, one.1));
+    }
+
+-- # Something goes
+
+pub still_removed : (h : Held) (index time : ℕ) → IsStill time h → IsStill time (record h { waiting = remove h.waiting index })
+still_removed h index time s =
+    let P : Body → Type 0 = λ b. time ≤ b.since + 30 in
+    record {
+      gathered = s.gathered;
+      waiting =
+          All-append P (take index h.waiting) (drop (suc index) h.waiting) (All-take P index h.waiting s.waiting) (All-drop P (suc index) h.waiting s.waiting);
+    }
+
+pub still_cleared : (h : Held) (time : ℕ) → IsStill time h → IsStill time (record h { reassemblies = [] })
+still_cleared h time s = record { gathered = All-nil (λ (r : Reassembly). time ≤ r.since + 60); waiting = s.waiting }
+
+pub still_left : (h : Held) (now time : ℕ) → IsStill time h → IsStill time (record h { reassemblies = unexpired h.reassemblies now })
+still_left h now time s = record { gathered = still_unexpired h.reassemblies time now s.gathered; waiting = s.waiting }
+
+-- # A tick
+
+all_wait : (bs : List Body) (time now : ℕ) → now < time → All (λ b. time ≤ b.since + 30) bs → still_waiting now bs ≡ bs
+all_wait [] time now lt h = refl
+all_wait (b ∷ bs) time now lt h =
+    let one = All-head (λ (x : Body). time ≤ x.since + 30) b bs h in
+    cond-true _ _ _ (lt-ltb now (b.since + 30) (omega (arith, lt, one)))
+    ∙ ap (λ (xs : List Body). b ∷ xs) (all_wait bs time now lt (All-tail (λ (x : Body). time ≤ x.since + 30) b bs h))
+
+-- before the first end, a tick changes nothing
+pub none_ends : (h : Held) (time now : ℕ) → now < time → IsStill time h
+    → ◌≡◌ {A = Held} (record { reassemblies = unexpired h.reassemblies now; waiting = still_waiting now h.waiting }) h
+none_ends h time now lt s =
+    λ i. record { reassemblies = none_expires h.reassemblies time now lt s.gathered i; waiting = all_wait h.waiting time now lt s.waiting i }

@@ -1,9 +1,0 @@
-use Rattle.std.proofs.Common.{◌≡◌, ◌++◌, take}
-use Rattle.waiting_bodies.specs.Frames.{frames_of}
-use Rattle.fragment_buffers.specs.Waiting.{leaving}
-use Rattle.waiting_bodies.specs.Frames.{with_frames}
-use Rattle.waiting_bodies.proofs.bodies.Bodies.seal_leaving.Given as goal
-
-abbrev pub invariant-loop-index : goal.invariant-loop-index
-invariant-loop-index l =
-    l.out ≡ with_frames (l.fn.out.frames ++ frames_of l.grant l.key l.first (leaving l.grant.address l.dest l.hop (take l.index l.self.waiting))) l.fn.out

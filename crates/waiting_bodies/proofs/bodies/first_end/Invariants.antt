@@ -1,7 +1,0 @@
-use Rattle.std.proofs.Common.{◌≡◌, take}
-use Rattle.std.specs.Prelude.{fold}
-use Rattle.waiting_bodies.specs.FirstEnd.{end_by}
-use Rattle.waiting_bodies.proofs.bodies.first_end.Given as goal
-
-abbrev pub invariant-loop-body : goal.invariant-loop-body
-invariant-loop-body l = l.end ≡ fold end_by l.time (take l.body-index l.body-items)

@@ -1,6 +1,0 @@
-use Rattle.std.proofs.Common.{◌≡◌, ◌++◌}
-use Rattle.waiting_bodies.specs.Frames.{pieces_sent}
-use Rattle.waiting_bodies.proofs.sealing.seal_cut.Given as goal
-
-abbrev pub invariant-loop-k : goal.invariant-loop-k
-invariant-loop-k l = l.out ≡ record l.fn.out { frames = l.fn.out.frames ++ pieces_sent l.grant l.key l.first l.to l.hop l.note l.datagram l.tag l.k }
