@@ -10,7 +10,7 @@ use Rattle.mesh_header.specs.declared.unit.Unit.TheVariants as units
 use Rattle.mesh_header.specs.Pieces.{Placed}
 use Rattle.mesh_header.specs.Laws.{SpellsOctets}
 use Rattle.mesh_header.proofs.UnitOctets.{spelling_octets}
-use Rattle.fragment_buffers.specs.Cutting.{cut, piece_of}
+use Rattle.fragment_buffers.specs.Fragmentation.{pieces_cut, piece_of}
 use Rattle.fragment_buffers.specs.Loads.{Datagram, Command, own_mesh, units_of}
 use Rattle.fragment_buffers.specs.Laws.{LoadsSpellOctets}
 
@@ -22,7 +22,7 @@ few_pieces n k above below lt = omega arith
 
 -- the units of a load
 pub load_octets_spelled : LoadsSpellOctets
-unfolding cut
+unfolding pieces_cut
 load_octets_spelled own to (Command octets) are short =
     All-cons SpellsOctets (units.Carried (own_mesh own to) (drop 1 octets)) []
     (spelling_octets (units.Carried (own_mesh own to) (drop 1 octets)) (omega arith, All-drop IsOctet 1 octets are)) (All-nil SpellsOctets)

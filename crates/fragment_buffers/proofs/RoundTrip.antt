@@ -9,7 +9,7 @@ use Rattle.std.proofs.lemmas.Option.{slice_get-get_or, slice_get_past}
 use Rattle.std.proofs.lemmas.List.{map-append, take_all, get_or_append_left, get_or_push, get_or-take, get_or-drop}
 use Rattle.std.specs.Int.{div_ceil}
 use Rattle.std.specs.List.{list_any, slice_get, remove}
-use Rattle.fragment_buffers.specs.Cutting.{pieces_of, piece_of}
+use Rattle.fragment_buffers.specs.Fragmentation.{pieces_of, piece_of}
 use Rattle.fragment_buffers.specs.Reassembly.{PlacedPiece, Reassembly, placed, begun, overlap, overlaps, repeats, octet_of, octet_at, datagram_of}
 use Rattle.fragment_buffers.specs.Taking.{Taking, Held, Whole, same_name, grown, taken}
 use Rattle.fragment_buffers.specs.Answers.{nothing, settled_by, settled_at, joined_at}

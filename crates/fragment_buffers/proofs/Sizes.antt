@@ -9,14 +9,14 @@ use Rattle.std.proofs.lemmas.List.Concat.{length-flat_map}
 use Rattle.std.proofs.lemmas.List.FromFn.{length-map-range_with_len}
 use Rattle.std.proofs.lemmas.List.Filters.{sum_by-filter_both}
 use Rattle.std.proofs.lemmas.List.Sums.{sum_by-cons}
-use Rattle.fragment_buffers.specs.Cutting.{cut, pieces_of, piece_of}
+use Rattle.fragment_buffers.specs.Fragmentation.{pieces_cut, pieces_of, piece_of}
 use Rattle.mesh_header.specs.declared.unit.Unit.{Unit as MeshUnit}
 use Rattle.fragment_buffers.specs.Taking.{blocks}
 use Rattle.fragment_buffers.specs.Loads.{Load, Datagram, Command, load_octets, IsShort, Outgoing, units_of, units_in, all_go}
 use Rattle.fragment_buffers.specs.Waiting.{Body, waits_for, pending_in}
 
 pub length-units_of : (own to : ℕ) (load : Load) → length (units_of own to load) ≡ units_in load
-unfolding cut
+unfolding pieces_cut
 length-units_of own to (Command octets) = refl
 length-units_of own to (Datagram octets tag) = by_size (nat_le (length octets) 375) refl
   where

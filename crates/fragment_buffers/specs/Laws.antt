@@ -6,7 +6,7 @@ use Rattle.plc_base.specs.Fields.{AreOctets}
 use Rattle.mesh_header.specs.Pieces.{Placed}
 use Rattle.mesh_header.specs.Laws.{SpellsOctets}
 use Rattle.fragment_buffers.specs.Entries.{Entry, Keeps, IsBounded, IsOther, entry_at, blocks_used, reassemblies_in}
-use Rattle.fragment_buffers.specs.Cutting.{pieces_of, piece_of}
+use Rattle.fragment_buffers.specs.Fragmentation.{pieces_of, piece_of}
 use Rattle.fragment_buffers.specs.Loads.{Load, IsShort, load_octets, units_of}
 use Rattle.fragment_buffers.specs.Reassembly.{Reassembly, PlacedPiece, datagram_of, octet_of, overlap, begun}
 use Rattle.fragment_buffers.specs.Taking.{Held, Whole, blocks, blocks_held, same_name, taken, unexpired}

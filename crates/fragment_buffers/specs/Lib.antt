@@ -1,6 +1,6 @@
 pub mod Answers
 pub mod Buffer
-pub mod Cutting
+pub mod Fragmentation
 pub mod Entries
 pub mod FirstEnd
 pub mod Holding

@@ -4,7 +4,7 @@ use Rattle.std.specs.Coded.{Coded, code_by, coded×, coded_ℕ, coded_list, code
 use Rattle.mesh_header.specs.declared.unit.Mesh.{Mesh}
 use Rattle.mesh_header.specs.declared.unit.Unit.{Unit as MeshUnit}
 use Rattle.mesh_header.specs.declared.unit.Unit.TheVariants.{Whole, Part, Carried}
-use Rattle.fragment_buffers.specs.Cutting.{cut, pieces_of}
+use Rattle.fragment_buffers.specs.Fragmentation.{pieces_cut, pieces_of}
 
 -- # What is carried
 
@@ -53,7 +53,7 @@ own_mesh own to = record { hops = 14; origin = own; to = to }
 abbrev pub units_of : ℕ → ℕ → Load → List MeshUnit
 units_of own to (Datagram octets tag) =
     if nat_le (length octets) 375 then Whole (own_mesh own to) octets ∷ []
-    else map (λ piece. Part (own_mesh own to) piece) (cut octets tag)
+    else map (λ piece. Part (own_mesh own to) piece) (pieces_cut octets tag)
 units_of own to (Command octets) = Carried (own_mesh own to) (drop 1 octets) ∷ []
 
 -- how many they are

@@ -14,7 +14,7 @@ use Rattle.group_keys.specs.KeyRing as ring
 use Rattle.mesh_header.specs.declared.unit.Unit.{Unit as MeshUnit}
 use Rattle.mesh_header.specs.declared.unit.Unit.TheVariants as units
 use Rattle.mesh_header.specs.Pieces.{Placed}
-use Rattle.fragment_buffers.specs.Cutting.{piece_of, cut}
+use Rattle.fragment_buffers.specs.Fragmentation.{piece_of, pieces_cut}
 use Rattle.node_rules.specs.Memory.{StationMemory, Body, Load, Datagram, Command, address_of}
 use Rattle.node_rules.specs.Drafts.{Draft, own_mesh, units_of, all_go, waits_for, with_rank, with_own_number, with_next_tag, with_ring, with_routing_by, goes}
 use Rattle.node_rules.specs.Drafts.{body_goes, waits, leave}
@@ -46,7 +46,7 @@ piece_fits d tag k = record {
 module _ (S : ℕ → SentAs → Type 0) where
   -- the units of a body are of its send
   units_are_of : (own to note : ℕ) (load : Load) → LoadIsOf S own to note load → All (UnitIsOf S note) (units_of own to load)
-  unfolding cut
+  unfolding pieces_cut
   units_are_of own to note (Command octets) h = All-cons (UnitIsOf S note) _ [] tt (All-nil (UnitIsOf S note))
   units_are_of own to note (Datagram octets tag) h = by_size (nat_le (length octets) 375) refl
     where

@@ -10,7 +10,7 @@ use Rattle.std.proofs.lemmas.List.Sums.{sum_by-cons, sum_by-append}
 use Rattle.std.proofs.lemmas.List.Filters.{sum_by-filter_both}
 use Rattle.mesh_header.specs.declared.unit.Unit.{Unit as MeshUnit}
 use Rattle.mesh_header.specs.declared.unit.Unit.TheVariants as units
-use Rattle.fragment_buffers.specs.Cutting.{piece_of, cut}
+use Rattle.fragment_buffers.specs.Fragmentation.{piece_of, pieces_cut}
 use Rattle.node_rules.specs.Memory.{StationMemory, Body, Load, Datagram, Command}
 use Rattle.node_rules.specs.Drafts.{Draft, Outgoing, own_mesh, units_of, all_go, waits_for, with_rank, with_own_number, with_next_tag, with_ring}
 use Rattle.node_rules.specs.Drafts.{with_routing_by, goes, body_goes, waits, leave}
@@ -56,7 +56,7 @@ module _ (i own to : ℕ) (d : List ℕ) (tag : ℕ) where
 
 -- what a body is cut into has each of its octets once at most
 units_sum : (i own to : ℕ) (load : Load) → sum_by (content_is i) (units_of own to load) ≤ load_is i load
-unfolding cut
+unfolding pieces_cut
 units_sum i own to (Command octets) = omega arith
 units_sum i own to (Datagram octets tag) = by_size (nat_le (length octets) 375) refl
   where

@@ -13,7 +13,7 @@ use Rattle.mesh_header.specs.declared.unit.Unit.{Unit as MeshUnit}
 use Rattle.mesh_header.specs.declared.unit.Unit.TheVariants as units
 use Rattle.mesh_header.specs.Pieces.{Placed}
 use Rattle.joining_messages.specs.declared.message.JoinMessage.{JoinMessage}
-use Rattle.fragment_buffers.specs.Cutting.{cut}
+use Rattle.fragment_buffers.specs.Fragmentation.{pieces_cut}
 use Rattle.node_rules.specs.declared.heard.Accepted.{Accepted}
 use Rattle.node_rules.specs.declared.refusal.CoordinatorRefusal.{CoordinatorRefusal}
 use Rattle.node_rules.specs.declared.refusal.CoordinatorRefusal.TheVariants as orders
@@ -92,9 +92,9 @@ load_old own to hop note (Datagram octets tag) = by_size (nat_le (length octets)
     pieces (p ∷ ps) = All-cons IsOldOut _ _ (record { unit = tt }) (pieces ps)
 
     by_size : (b : Bool) → All IsOldOut (all_go hop note (if b then units.Whole (own_mesh own to) octets ∷ [] else map
-        (λ piece. units.Part (own_mesh own to) piece) (cut octets tag)))
+        (λ piece. units.Part (own_mesh own to) piece) (pieces_cut octets tag)))
     by_size true = All-cons IsOldOut _ [] (record { unit = tt }) (All-nil IsOldOut)
-    by_size false = pieces (cut octets tag)
+    by_size false = pieces (pieces_cut octets tag)
 
 bodies_old : (own hop : ℕ) (bodies : List Body) → All IsOldOut (flat_map (λ b. all_go hop b.note (units_of own b.to b.load)) bodies)
 bodies_old own hop [] = All-nil IsOldOut

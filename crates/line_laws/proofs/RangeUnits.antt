@@ -13,7 +13,7 @@ use Rattle.mesh_header.specs.declared.unit.Unit.{Unit as MeshUnit}
 use Rattle.mesh_header.specs.declared.unit.Unit.TheVariants as units
 use Rattle.mesh_header.specs.Pieces.{Placed, IsPiece}
 use Rattle.mesh_header.specs.Grammar.{IsMesh, hops_then, mesh_then, piece_spelling}
-use Rattle.fragment_buffers.specs.Cutting.{piece_of, cut}
+use Rattle.fragment_buffers.specs.Fragmentation.{piece_of, pieces_cut}
 use Rattle.node_rules.specs.Memory.{Load, Datagram, Command}
 use Rattle.node_rules.specs.Drafts.{own_mesh, units_of, all_go}
 use Rattle.line_laws.specs.Letters.{IsFit, IsRoute}
@@ -135,7 +135,7 @@ module _ (own to : ℕ) (here : own < 0xFFFE) (there : to < 0xFFFE) where
       (sym (get_or-range_with_len 0 (div_ceil (length d) 368) k e within ∙ omega arith)) (part_fit d tag k above below low within)))
 
   pub units_fit : (load : Load) → HasRoomInFrames load → All IsFit (units_of own to load)
-  unfolding cut
+  unfolding pieces_cut
   units_fit (Command octets) h = All-cons IsFit _ [] (record {
     fields = own_is;
     size = let one = own_length own to (0x40 ∷ 2 ∷ drop 1 octets) in let two = length-drop 1 octets in omega arith;
@@ -151,7 +151,7 @@ module _ (own to : ℕ) (here : own < 0xFFFE) (there : to < 0xFFFE) where
 
   routeless : (load : Load) → All IsRoute (units_of own to load)
   routeless (Command octets) = All-cons IsRoute _ [] tt (All-nil IsRoute)
-  routeless (Datagram octets tag) = by_size (nat_le (length octets) 375) (cut octets tag)
+  routeless (Datagram octets tag) = by_size (nat_le (length octets) 375) (pieces_cut octets tag)
     where
       by_size : (b : Bool) (pieces : List Placed)
           → All IsRoute (if b then units.Whole (own_mesh own to) octets ∷ [] else map (λ piece. units.Part (own_mesh own to) piece) pieces)

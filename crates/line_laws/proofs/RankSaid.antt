@@ -14,7 +14,7 @@ use Rattle.mesh_header.specs.declared.unit.Unit.{Unit as MeshUnit}
 use Rattle.mesh_header.specs.declared.unit.Unit.TheVariants as units
 use Rattle.loadng_messages.specs.declared.message.Message.{Message}
 use Rattle.loadng_messages.specs.declared.message.Message.TheVariants.{Rreq, Rrep, Rerr}
-use Rattle.fragment_buffers.specs.Cutting as cutting
+use Rattle.fragment_buffers.specs.Fragmentation as cutting
 use Rattle.group_keys.specs.KeyRing as ring
 use Rattle.routing_set.specs.declared.rank.Rank.{Rank}
 use Rattle.routing_set.specs.declared.entry.RoutingEntry.{RoutingEntry}
@@ -156,9 +156,9 @@ module _ (At : ℕ → Type 0) (t : routing.Routing) where
   load_backed from to (Datagram octets tag) = by_size (nat_le (length octets) 375)
     where
       by_size : (b : Bool) → All (UnitBacked At t)
-          (if b then units.Whole (own_mesh from to) octets ∷ [] else map (λ piece. units.Part (own_mesh from to) piece) (cutting.cut octets tag))
+          (if b then units.Whole (own_mesh from to) octets ∷ [] else map (λ piece. units.Part (own_mesh from to) piece) (cutting.pieces_cut octets tag))
       by_size true = All-push (UnitBacked At t) [] _ (All-nil (UnitBacked At t)) (IsWhole _ octets)
-      by_size false = All-map (UnitBacked At t) (λ piece. units.Part (own_mesh from to) piece) (cutting.cut octets tag) (λ k d lt. IsPart _ _)
+      by_size false = All-map (UnitBacked At t) (λ piece. units.Part (own_mesh from to) piece) (cutting.pieces_cut octets tag) (λ k d lt. IsPart _ _)
   load_backed from to (Command octets) = All-push (UnitBacked At t) [] _ (All-nil (UnitBacked At t)) (IsCarried _ _)
 
   go_backed : (hop note : ℕ) (us : List MeshUnit) → All (UnitBacked At t) us → All (Out At t) (all_go hop note us)

@@ -19,7 +19,7 @@ use Rattle.loadng_messages.specs.Reading.{fields_in, message_in}
 use Rattle.loadng_messages.proofs.Readings.{message_read}
 use Rattle.group_keys.specs.KeyRing.{Ring}
 use Rattle.routing_set.specs.declared.rank.Rank.{Rank}
-use Rattle.fragment_buffers.specs.Cutting.{cut}
+use Rattle.fragment_buffers.specs.Fragmentation.{pieces_cut}
 use Rattle.fragment_buffers.specs.Loads.{Load, Datagram, Command, own_mesh, units_of, Outgoing, all_go}
 use Rattle.fragment_buffers.specs.Waiting.{Body, units_by, waits_for}
 use Rattle.node_rules.specs.declared.heard.Heard.{Heard}
@@ -82,9 +82,9 @@ load_quiet : (own hop note to : ℕ) (load : Load) → reply_in (all_go hop note
 load_quiet own hop note to (Datagram octets tag) = by_size (nat_le (length octets) 375)
   where
     by_size : (b : Bool) → reply_in
-        (all_go hop note (if b then Whole (own_mesh own to) octets ∷ [] else map (λ piece. Part (own_mesh own to) piece) (cut octets tag))) ≡ None
+        (all_go hop note (if b then Whole (own_mesh own to) octets ∷ [] else map (λ piece. Part (own_mesh own to) piece) (pieces_cut octets tag))) ≡ None
     by_size true = refl
-    by_size false = whole_quiet hop note (own_mesh own to) (cut octets tag)
+    by_size false = whole_quiet hop note (own_mesh own to) (pieces_cut octets tag)
 load_quiet own hop note to (Command octets) = refl
 
 bodies_quiet : (own hop : ℕ) (bs : List Body) → reply_in (flat_map (units_by own hop) bs) ≡ None

@@ -2,7 +2,7 @@
 use Rattle.std.proofs.Common.{◌≡◌, ℕ, ◌+◌, ◌-◌, ◌<◌, ◌≤◌, true, false, List, length, Some, None, Result, Err, refl, sym, ap, subst, ◌∙◌, arith}
 use Rattle.std.specs.Prelude.{◌==◌, ◌||◌, nat_lt}
 use Rattle.std.proofs.lemmas.Bool.Decides.{nat_tests}
-use Rattle.fragment_buffers.specs.Cutting.{pieces_of}
+use Rattle.fragment_buffers.specs.Fragmentation.{pieces_of}
 use Rattle.node_rules.specs.declared.heard.SentHow.TheVariants.{Sent, Waiting}
 use Rattle.node_rules.specs.declared.refusal.SendRefusal.TheVariants.{NotJoined, BadSize, ToSelf, WaitingFull, SeqSpent, CounterSpent, Store}
 use Rattle.node_rules.specs.declared.heard.SentHow.{SentHow}

@@ -1,6 +1,6 @@
 //! What a station sends by itself.
 ghost use Rattle.std.specs.Prelude.{◌≡◌, ◌+◌, ◌<◌, ◌≤◌, ◌==◌, ◌||◌, nat_lt, true, false, Some, Ok, Err, IfSome, IfNone, length};
-ghost use Rattle.fragment_buffers.specs.Cutting.{pieces_of};
+ghost use Rattle.fragment_buffers.specs.Fragmentation.{pieces_of};
 ghost use Rattle.node_rules.specs.Memory.{Datagram};
 ghost use Rattle.node_rules.specs.Drafts as drafts;
 ghost use Rattle.node_rules.specs.Calls as calls;

@@ -24,7 +24,7 @@ use Rattle.mesh_header.specs.declared.unit.Mesh.{Mesh}
 use Rattle.mesh_header.specs.declared.unit.Unit.TheVariants.{Part}
 use Rattle.mesh_header.specs.Grammar.{spelling}
 use Rattle.mesh_header.specs.Pieces.{Placed}
-use Rattle.fragment_buffers.specs.Cutting.{cut, pieces_of, piece_of}
+use Rattle.fragment_buffers.specs.Fragmentation.{pieces_cut, pieces_of, piece_of}
 use Rattle.fragment_buffers.specs.Loads.{Outgoing, all_go, own_mesh}
 use Rattle.station_queues.specs.Frames.{unit_frame, frames_of, pieces_sent}
 
@@ -71,10 +71,10 @@ frames-suc g key first k units o lt is =
 -- # The pieces of a datagram
 
 units : Mesh → (hop note : ℕ) → List ℕ → ℕ → List Outgoing
-units mesh hop note datagram tag = all_go hop note (map (λ piece. Part mesh piece) (cut datagram tag))
+units mesh hop note datagram tag = all_go hop note (map (λ piece. Part mesh piece) (pieces_cut datagram tag))
 
-pub length-cut : (datagram : List ℕ) (tag : ℕ) → 376 ≤ length datagram → length (cut datagram tag) ≡ pieces_of (length datagram)
-unfolding cut
+pub length-cut : (datagram : List ℕ) (tag : ℕ) → 376 ≤ length datagram → length (pieces_cut datagram tag) ≡ pieces_of (length datagram)
+unfolding pieces_cut
 length-cut datagram tag long =
     let all : List Placed = map (piece_of datagram tag) (range_with_len 0 (pieces_of (length datagram))) in
     ap length (cond-false (nat_le (length datagram) 375) [] all (lt-leb (length datagram) 375 (omega arith)))
@@ -87,7 +87,7 @@ length-units mesh hop note datagram tag long = length-map _ _ ∙ length-map _ _
 
 pub pieces-suc : (g : Granted) (key : Key) (first to hop note : ℕ) (datagram : List ℕ) (tag k : ℕ) (piece : Placed) → 376 ≤ length datagram
     → k < pieces_of (length datagram)
-    → slice_get (cut datagram tag) k ≡ Some piece
+    → slice_get (pieces_cut datagram tag) k ≡ Some piece
     → pieces_sent g key first to hop note datagram tag (k + 1) ≡ pieces_sent g key first to hop note datagram tag k
     ++ unit_frame g key (first + k) (record { to = hop; unit = Part (own_mesh g.address to) piece; note = note }) ∷ []
 unfolding units
@@ -95,8 +95,8 @@ pieces-suc g key first to hop note datagram tag k piece long lt is =
     ap (pieces_sent g key first to hop note datagram tag) (one-more k)
     ∙ frames-suc g key first k (units (own_mesh g.address to) hop note datagram tag) _
     (omega (arith, length-units (own_mesh g.address to) hop note datagram tag long)) (λ d.
-    get_or-two (cut datagram tag) k d (omega (arith, length-cut datagram tag long))
-    ∙ ap (λ (p : Placed). record { to = hop; unit = Part (own_mesh g.address to) p; note = note }) (get_or_from_slice_get (cut datagram tag) k piece piece is))
+    get_or-two (pieces_cut datagram tag) k d (omega (arith, length-cut datagram tag long))
+    ∙ ap (λ (p : Placed). record { to = hop; unit = Part (own_mesh g.address to) p; note = note }) (get_or_from_slice_get (pieces_cut datagram tag) k piece piece is))
   where
     one-more : (n : ℕ) → n + 1 ≡ suc n
     one-more n = omega arith
@@ -111,7 +111,7 @@ pieces-suc g key first to hop note datagram tag k piece long lt is =
 pub pieces-length : (g : Granted) (key : Key) (first to hop note : ℕ) (datagram : List ℕ) (tag k : ℕ)
     → length (pieces_sent g key first to hop note datagram tag k) ≤ k
 pieces-length g key first to hop note datagram tag k =
-    let us : List Outgoing = all_go hop note (map (λ p. Part (own_mesh g.address to) p) (cut datagram tag)) in
+    let us : List Outgoing = all_go hop note (map (λ p. Part (own_mesh g.address to) p) (pieces_cut datagram tag)) in
     omega (arith, length-frames g key first (take k us), length-take k us)
   where
     length-take : (n : ℕ) (xs : List Outgoing) → length (take n xs) ≤ n
@@ -122,7 +122,7 @@ pieces-length g key first to hop note datagram tag k =
 -- all of them
 pub pieces-whole : (g : Granted) (key : Key) (first to hop note : ℕ) (datagram : List ℕ) (tag k : ℕ) → 376 ≤ length datagram → pieces_of (length datagram) ≤ k
     → pieces_sent g key first to hop note datagram tag k
-    ≡ frames_of g key first (all_go hop note (map (λ piece. Part (own_mesh g.address to) piece) (cut datagram tag)))
+    ≡ frames_of g key first (all_go hop note (map (λ piece. Part (own_mesh g.address to) piece) (pieces_cut datagram tag)))
 unfolding units
 pieces-whole g key first to hop note datagram tag k long all =
     ap (frames_of g key first) (take_all k (units (own_mesh g.address to) hop note datagram tag)

@@ -9,7 +9,7 @@ use Rattle.mac_frames.specs.Grammar.{header_then}
 use Rattle.mac_frames.specs.Sent.{sent_head, sealed_body}
 use Rattle.mesh_header.specs.declared.unit.Unit.TheVariants.{Part}
 use Rattle.mesh_header.specs.Grammar.{spelling}
-use Rattle.fragment_buffers.specs.Cutting.{cut}
+use Rattle.fragment_buffers.specs.Fragmentation.{pieces_cut}
 use Rattle.fragment_buffers.specs.Loads.{Outgoing, all_go, own_mesh, Command}
 use Rattle.fragment_buffers.specs.Waiting.{Body}
 
@@ -35,7 +35,7 @@ with_frames frames out = record out { frames = frames }
 abbrev pub pieces_sent : Granted → Key → (first to hop note : ℕ) → List ℕ → (tag count : ℕ) → List OutFrame
 pieces_sent g key first to hop note datagram tag count =
     frames_of g key first
-    (take count (all_go hop note (map (λ piece. Part (own_mesh g.address to) piece) (cut datagram tag))))
+    (take count (all_go hop note (map (λ piece. Part (own_mesh g.address to) piece) (pieces_cut datagram tag))))
 
 -- the body at a place
 abbrev pub body_at : List Body → ℕ → Body

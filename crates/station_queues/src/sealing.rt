@@ -2,14 +2,14 @@
 ghost use Rattle.std.specs.Prelude.{◌≡◌, ◌≢◌, ◌+◌, ◌<◌, ◌≤◌, ◌++◌, ◌∷◌, [], None, length, map};
 ghost use Rattle.mesh_header.specs.declared.unit.Unit.TheVariants as mesh;
 ghost use Rattle.mesh_header.specs.Grammar.{IsAllowed, spelled_length};
-ghost use Rattle.fragment_buffers.specs.Cutting.{pieces_of, cut};
+ghost use Rattle.fragment_buffers.specs.Fragmentation.{pieces_of, pieces_cut};
 ghost use Rattle.fragment_buffers.specs.Loads as loads;
 ghost use Rattle.station_queues.specs.Frames.{unit_frame, frames_of, with_frames};
 ghost use Rattle.plc_base.specs.declared.limits.TheConstants.{GREATEST_COUNTER, LONGEST_DATAGRAM, MOST_FRAMES};
 ghost use Rattle.station_queues.specs.declared.bodies.TheConstants.{LONGEST_COMMAND};
 
 use aes_modes::Aes;
-use fragment_buffers::{cut_piece, pieces};
+use fragment_buffers::{piece_at, pieces};
 use mac_frames::{MacHead, seal_written, write_header};
 use mesh_header::{LONGEST_WHOLE, Mesh, Unit, append_unit};
 use plc_base::{Destination, Grant, Key, OctetRef, Out, OutFrame, PAN, Short};
@@ -84,7 +84,7 @@ pub fn own_mesh(grant: &Grant, to: Short) -> Mesh
 }
 
 // Seals a datagram in pieces, after the other frames.
-fn seal_cut(
+fn seal_pieces(
     grant: &Grant,
     key: &Key,
     aes: &Aes,
@@ -103,10 +103,10 @@ fn seal_cut(
     requires room { length out.old.frames + pieces_of (length datagram.now) ≤ MOST_FRAMES }
     ensures { out.new ≡ with_frames (out.old.frames ++ frames_of grant.now key.now first
         (loads.all_go hop note (map (λ piece. mesh.Part (loads.own_mesh grant.now.address to) piece)
-        (cut datagram.now tag)))) out.old }
+        (pieces_cut datagram.now tag)))) out.old }
 {
     for k in 0..pieces(datagram.len() as u16) {
-        let piece = cut_piece(datagram, tag, k);
+        let piece = piece_at(datagram, tag, k);
         let unit = Unit::Part {
             mesh: own_mesh(grant, to),
             piece,
@@ -165,7 +165,7 @@ pub fn seal_load(
         return;
     };
     if octets.len() > LONGEST_WHOLE {
-        seal_cut(grant, key, aes, first, hop, to, note, tag, octets, out);
+        seal_pieces(grant, key, aes, first, hop, to, note, tag, octets, out);
         return;
     }
     let unit = Unit::Whole {

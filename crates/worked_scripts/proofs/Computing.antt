@@ -19,7 +19,7 @@ use Rattle.eap_psk.specs.Faults as packets_faults
 use Rattle.eap_psk.specs.Keys as packets_keys
 use Rattle.routing_set.specs.RoutingSet as routes_routing_set
 use Rattle.fragment_buffers.specs.Answers as pieces_answers
-use Rattle.fragment_buffers.specs.Cutting as pieces_cutting
+use Rattle.fragment_buffers.specs.Fragmentation as pieces_cutting
 use Rattle.fragment_buffers.specs.Reassembly as pieces_reassembly
 use Rattle.fragment_buffers.specs.Taking as pieces_taking
 use Rattle.node_rules.specs.Accepting as rules_accepting
@@ -98,7 +98,7 @@ routes = tt
 
 -- pieces
 unfoldable pub pieces : Unit {0}
-unfolding pieces_answers.settled_at pieces_answers.joined_at pieces_cutting.cut pieces_reassembly.datagram_of
+unfolding pieces_answers.settled_at pieces_answers.joined_at pieces_cutting.pieces_cut pieces_reassembly.datagram_of
     pieces_taking.taken_in pieces_taking.taken pieces_taking.unexpired
 pieces = tt
 

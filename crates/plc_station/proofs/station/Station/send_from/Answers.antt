@@ -1,6 +1,6 @@
 use Rattle.std.proofs.Common.{Ok, Err, length, sym, ap, subst, ◌∙◌}
 use Rattle.std.proofs.lemmas.Result.{err_from_is_err_and}
-use Rattle.fragment_buffers.specs.Cutting.{pieces_of}
+use Rattle.fragment_buffers.specs.Fragmentation.{pieces_of}
 use Rattle.node_rules.specs.Calls.{tag_taken}
 use Rattle.node_rules.specs.declared.refusal.SendRefusal.TheVariants.{BadSize, ToSelf}
 use Rattle.node_rules.specs.Drafts.{empty_draft}

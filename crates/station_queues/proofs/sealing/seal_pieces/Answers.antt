@@ -8,7 +8,7 @@ use Rattle.mesh_header.specs.Pieces.{Placed}
 use Rattle.mesh_header.specs.Grammar.{header_length}
 use Rattle.station_queues.specs.Frames.{unit_frame, pieces_sent, with_frames}
 use Rattle.station_queues.proofs.Letters.{pieces-suc, pieces-whole, pieces-length, piece-short}
-use Rattle.station_queues.proofs.sealing.seal_cut.Goals as goal
+use Rattle.station_queues.proofs.sealing.seal_pieces.Goals as goal
 
 pub loop-k-init : goal.loop-k-init
 loop-k-init c = λ i. record { frames = sym (append-nil c.args.out.now.frames) i; tags = c.args.out.now.tags }
@@ -18,7 +18,7 @@ seal-requires-clause-fits c =
     omega (
       arith,
       ap (λ (m : Mesh). header_length m.hops) c.own_mesh.ensures,
-      ap (λ (p : Placed). length p.octets) c.cut_piece-piece.ensures.value,
+      ap (λ (p : Placed). length p.octets) c.piece_at-piece.ensures.value,
       piece-short c.args.datagram.now c.args.tag c.loop-k.k,
     )
 
@@ -39,13 +39,13 @@ loop-k-preserved c =
     ∙ (λ i. record {
       frames = (c.loop-k.invariant i).frames
           ++ unit_frame c.args.grant.now c.args.key.now (c.args.first + c.from.ensures i)
-          (record { to = c.one.ensures.value i; unit = mesh.Part (c.own_mesh.ensures i) c.cut_piece-piece.result; note = c.args.note }) ∷ [];
+          (record { to = c.one.ensures.value i; unit = mesh.Part (c.own_mesh.ensures i) c.piece_at-piece.result; note = c.args.note }) ∷ [];
       tags = (c.loop-k.invariant i).tags;
     })
     ∙ ap (λ (frames : List OutFrame). with_frames frames c.args.out.now)
     (append_assoc c.args.out.now.frames _ _ ∙ ap (λ (fs : List OutFrame). c.args.out.now.frames ++ fs)
     (sym (pieces-suc c.args.grant.now c.args.key.now c.args.first c.args.to c.args.hop c.args.note c.args.datagram.now c.args.tag c.loop-k.k
-    c.cut_piece-piece.result c.requires.long (omega (arith, c.pieces-k-end.ensures)) c.cut_piece-piece.ensures.kth)))
+    c.piece_at-piece.result c.requires.long (omega (arith, c.pieces-k-end.ensures)) c.piece_at-piece.ensures.kth)))
 
 pub returns : goal.returns
 returns c =

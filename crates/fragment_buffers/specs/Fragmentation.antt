@@ -1,4 +1,4 @@
--- The cut of a datagram into pieces.
+-- The pieces of a datagram.
 use Rattle.std.specs.Prelude.{ℕ, ◌*◌, nat_le, if◌then◌else◌, List, [], length, map, take, drop}
 use Rattle.std.specs.Int.{div_ceil}
 use Rattle.std.specs.List.{range_with_len}
@@ -14,7 +14,7 @@ piece_of datagram tag k =
     record { size = length datagram; tag = tag; offset = 46 * k; octets = take 368 (drop (368 * k) datagram) }
 
 -- the pieces; a datagram of up to 375 octets has none, since it goes whole
-unfoldable pub cut : List ℕ → (tag : ℕ) → List Placed
-cut datagram tag =
+unfoldable pub pieces_cut : List ℕ → (tag : ℕ) → List Placed
+pieces_cut datagram tag =
     if nat_le (length datagram) 375 then [] else map (piece_of datagram tag)
     (range_with_len 0 (pieces_of (length datagram)))

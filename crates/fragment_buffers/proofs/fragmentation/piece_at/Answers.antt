@@ -1,8 +1,8 @@
 use Rattle.std.proofs.Common.{◌≡◌, ℕ, ◌*◌, List, length, ap, ◌∙◌, arith}
 use Rattle.mesh_header.specs.Pieces.{Placed}
-use Rattle.fragment_buffers.specs.Cutting.{piece_of}
+use Rattle.fragment_buffers.specs.Fragmentation.{piece_of}
 use Rattle.fragment_buffers.proofs.Cuts.{cut_octets, kth_of_cut}
-use Rattle.fragment_buffers.proofs.cutting.cut_piece.Goals as goal
+use Rattle.fragment_buffers.proofs.fragmentation.piece_at.Goals as goal
 
 -- the piece of these octets
 abbrev of_octets : ℕ → ℕ → ℕ → List ℕ → Placed

@@ -1,6 +1,6 @@
-//! The cut of a datagram into pieces.
+//! The pieces of a datagram.
 ghost use Rattle.std.specs.Prelude.{◌≡◌, ◌≤◌, ◌<◌, Some, length, slice_get};
-ghost use Rattle.fragment_buffers.specs.Cutting.{pieces_of, piece_of, cut};
+ghost use Rattle.fragment_buffers.specs.Fragmentation.{pieces_of, piece_of, pieces_cut};
 ghost use Rattle.plc_base.specs.declared.limits.TheConstants.{LONGEST_DATAGRAM};
 
 use mesh_header::{LONGEST_WHOLE, Piece};
@@ -24,11 +24,11 @@ pub fn pieces(octets: u16) -> u8
 ///
 /// The piece has the datagram's size and this tag, stands at 46 times `k` units of 8 octets, and has 368 octets or, as the last
 /// one, those that are left.
-pub fn cut_piece(datagram: &[u8], tag: u16, k: u8) -> Piece<'_>
+pub fn piece_at(datagram: &[u8], tag: u16, k: u8) -> Piece<'_>
     requires long { (376 ≤ length datagram.now) × (length datagram.now ≤ LONGEST_DATAGRAM) }
     requires there { k < pieces_of (length datagram.now) }
     ensures value { result ≡ piece_of datagram.now tag k }
-    ensures kth { slice_get (cut datagram.now tag) k ≡ Some result }
+    ensures kth { slice_get (pieces_cut datagram.now tag) k ≡ Some result }
 {
     let size = datagram.len() as u16;
     let left = &datagram[PIECE * k as usize..];
