@@ -7,7 +7,7 @@ ghost use Rattle.line_replay.specs.Drills.{make, draw, join, send, read, challen
 use crate::report::totals;
 use line_events::{Event, MAX_EVENTS, StepFault};
 use line_script::end_text;
-use line_world::{Space, World};
+use line_world::{Buffers, World};
 use plc_base::{Eui, Key, KeyIndex, LinkCost, OctetRef, Rand};
 use std::alloc::{AllocError, Global};
 use std::marker::Model;
@@ -75,7 +75,7 @@ fn reading(alloc: Global, node: u32, round: u16, zeros: usize) -> Result<Vec<u8>
 struct Drill {
     alloc: Global,
     world: World,
-    space: Space,
+    buffers: Buffers,
     drained: u32,
 }
 
@@ -99,7 +99,7 @@ impl Drill {
         if self.world.counts().events >= MAX_EVENTS {
             return Ok(());
         }
-        match self.world.step(event, &mut self.space) {
+        match self.world.step(event, &mut self.buffers) {
             Ok(_) => return Ok(()),
             Err(StepFault::Memory) => return Err(AllocError),
             Err(StepFault::Setup) => return Ok(()),
@@ -346,7 +346,7 @@ fn drilled(alloc: Global, meters: u8) -> Result<World, AllocError>
     let mut drill = Drill {
         alloc,
         world: World::new(alloc),
-        space: Space::new(),
+        buffers: Buffers::new(),
         drained: 0,
     };
     drill.run(meters)?;

@@ -11,7 +11,7 @@ use crate::report::{push_sent, refuse, totals};
 use script_lines::{LineKind, LineMachine, StopReason, write_made, write_text};
 use line_events::{Event, Happenings, MAX_EVENTS, StepFault};
 use line_script::{LINE_OCTETS, Reading, Reason, end_text, push_happened, read_line};
-use line_world::{Space, World};
+use line_world::{Buffers, World};
 use plc_base::Sink;
 use std::alloc::{AllocError, Global};
 use std::marker::Model;
@@ -23,7 +23,7 @@ struct Player {
     quiet: bool,
     world: World,
     // Where the datagram stands that was handed up last, and what was shown last.
-    space: Space,
+    buffers: Buffers,
     // The report of the event that was taken last.
     text: String,
 }
@@ -74,7 +74,7 @@ impl Player {
         if taken >= MAX_EVENTS {
             return refuse(self.alloc, number, Reason::Events, sink);
         }
-        let happened = match self.world.step(event, &mut self.space) {
+        let happened = match self.world.step(event, &mut self.buffers) {
             Ok(happened) => happened,
             Err(StepFault::Memory) => return Err(StopReason::Memory),
             Err(StepFault::Setup) => return refuse(self.alloc, number, Reason::Setup, sink),
@@ -101,7 +101,7 @@ pub struct Replay {
     alloc: Global,
     player: Player,
     // Where the octets are that the line holds in hexadecimal.
-    space: [u8; LINE_OCTETS],
+    buffers: [u8; LINE_OCTETS],
 }
 
 impl Model for Replay {
@@ -126,10 +126,10 @@ impl Replay {
                 alloc,
                 quiet,
                 world: World::new(alloc),
-                space: Space::new(),
+                buffers: Buffers::new(),
                 text: String::new(alloc),
             },
-            space: [0; LINE_OCTETS],
+            buffers: [0; LINE_OCTETS],
         }
     }
 
@@ -160,7 +160,7 @@ impl LineMachine for Replay {
         match kind {
             LineKind::TooMuch => refuse(alloc, number, Reason::Input, sink),
             LineKind::Long => refuse(alloc, number, Reason::Long, sink),
-            LineKind::Text => match read_line(line, &mut self.space) {
+            LineKind::Text => match read_line(line, &mut self.buffers) {
                 Reading::Quiet => Ok(()),
                 Reading::NoForm => refuse(alloc, number, Reason::Form, sink),
                 Reading::Reads(event) => self.player.take_event(number, &event, sink),

@@ -25,14 +25,14 @@ pub enum FrameLine<'a> {
 }
 
 #[tactic(auto, unfolding(crate::specs::Shown::frame_line))]
-fn frame_line<'a>(octets: &[u8], space: &'a mut [u8]) -> FrameLine<'a>
-    requires { length space.old ≡ LINE_OCTETS }
+fn frame_line<'a>(octets: &[u8], buffers: &'a mut [u8]) -> FrameLine<'a>
+    requires { length buffers.old ≡ LINE_OCTETS }
     ensures { result ≡ frame_line octets.now }
 {
     match octets.first() {
         None => FrameLine::Quiet,
         Some(b'#') => FrameLine::Quiet,
-        Some(_) => match hex_octets(octets, space) {
+        Some(_) => match hex_octets(octets, buffers) {
             Some(octets) => FrameLine::Reads(octets),
             None => FrameLine::NoForm,
         },
@@ -174,7 +174,7 @@ fn frames_text(alloc: Global, frames: u64) -> Result<String, AllocError>
 #[derive(Drop)]
 pub struct Show {
     alloc: Global,
-    space: [u8; LINE_OCTETS],
+    buffers: [u8; LINE_OCTETS],
     frames: u64,
 }
 
@@ -193,7 +193,7 @@ impl Show {
     {
         Show {
             alloc,
-            space: [0; LINE_OCTETS],
+            buffers: [0; LINE_OCTETS],
             frames: 0,
         }
     }
@@ -217,7 +217,7 @@ impl LineMachine for Show {
         match kind {
             LineKind::TooMuch => refuse(self.alloc, number, Reason::Input, sink),
             LineKind::Long => refuse(self.alloc, number, Reason::Long, sink),
-            LineKind::Text => match frame_line(line, &mut self.space) {
+            LineKind::Text => match frame_line(line, &mut self.buffers) {
                 FrameLine::Quiet => Ok(()),
                 FrameLine::NoForm => refuse(self.alloc, number, Reason::Form, sink),
                 FrameLine::Reads(octets) => {

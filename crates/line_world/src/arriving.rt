@@ -21,7 +21,7 @@ ghost use Rattle.plc_base.specs.declared.limits.TheConstants.{MOST_FRAMES};
 use crate::discovery::is_discovery;
 use crate::line::Line;
 use crate::nodes::{HandedUp, Reception};
-use crate::world::Space;
+use crate::world::Buffers;
 use line_events::{Answer, Handed, Happenings, StepFault};
 use line_flights::{Flights, Origin};
 use node_rules::{Accepted, FrameRefusal, Path};
@@ -249,7 +249,7 @@ impl Line {
         flight: u32,
         node: u32,
         cost: LinkCost,
-        space: &'a mut Space,
+        buffers: &'a mut Buffers,
     ) -> Result<Happenings<'a>, StepFault>
         requires bounds { IsBounded (world_of self.old) }
         requires beside { length self.old.beside.items ≡ length self.old.nodes }
@@ -273,10 +273,10 @@ impl Line {
             return Ok(self.discovered(number, frame, cost));
         }
         self.nodes.short_tables();
-        let accepted = self.nodes.accept(number, octets, &mut space.payload);
+        let accepted = self.nodes.accept(number, octets, &mut buffers.payload);
         payload_octets(&accepted);
         let origin = origin(&self.flights, octets, &accepted);
-        Ok(self.arrived(number, &accepted, origin, cost, &mut space.datagram))
+        Ok(self.arrived(number, &accepted, origin, cost, &mut buffers.datagram))
     }
 
     /// Octets of the script come to a node over a link of this cost.
@@ -285,7 +285,7 @@ impl Line {
         node: u32,
         cost: LinkCost,
         octets: &[u8],
-        space: &'a mut Space,
+        buffers: &'a mut Buffers,
     ) -> Result<Happenings<'a>, StepFault>
         requires bounds { IsBounded (world_of self.old) }
         requires beside { length self.old.beside.items ≡ length self.old.nodes }
@@ -302,10 +302,10 @@ impl Line {
             return Ok(self.discovered(number, frame, cost));
         }
         self.nodes.short_tables();
-        let accepted = self.nodes.accept(number, octets, &mut space.payload);
+        let accepted = self.nodes.accept(number, octets, &mut buffers.payload);
         payload_octets(&accepted);
         let origin = origin(&self.flights, octets, &accepted);
-        Ok(self.arrived(number, &accepted, origin, cost, &mut space.datagram))
+        Ok(self.arrived(number, &accepted, origin, cost, &mut buffers.datagram))
     }
 
     /// A flight is lost.

@@ -13,7 +13,7 @@ ghost use Rattle.line_world.specs.Steps.{Steps, takes_memory};
 
 use crate::beside::Beside;
 use crate::nodes::Nodes;
-use crate::world::Space;
+use crate::world::Buffers;
 use line_events::{Event, Happenings, StepFault};
 use line_flights::{Flights, MadeTags};
 use plc_base::{FrameBuf, Out};
@@ -51,7 +51,7 @@ impl Line {
     pub(crate) fn step<'a>(
         &mut self,
         event: &Event<'_>,
-        space: &'a mut Space,
+        buffers: &'a mut Buffers,
     ) -> Result<Happenings<'a>, StepFault>
         requires bounds { IsBounded (world_of self.old) }
         requires beside { length self.old.beside.items ≡ length self.old.nodes }
@@ -75,9 +75,9 @@ impl Line {
             Event::Join { node, agent } => self.join(*node, *agent),
             Event::Leave { node } => self.leave(*node),
             Event::Send { from, to, datagram } => self.send(*from, *to, datagram.octets()),
-            Event::Deliver { flight, node, cost } => self.deliver(*flight, *node, *cost, space),
+            Event::Deliver { flight, node, cost } => self.deliver(*flight, *node, *cost, buffers),
             Event::Inject { node, cost, octets } => {
-                self.inject(*node, *cost, octets.octets(), space)
+                self.inject(*node, *cost, octets.octets(), buffers)
             }
             Event::Lose { flight } => self.lose(*flight),
             Event::Break { node, next } => self.breaks(*node, *next),
@@ -92,7 +92,7 @@ impl Line {
             Event::Challenge { node } => self.challenge(*node),
             Event::Activate { node, index } => self.activate(*node, *index),
             Event::Kick { node } => self.kick(*node),
-            Event::Show { node } => self.show(*node, space),
+            Event::Show { node } => self.show(*node, buffers),
             Event::Checks => self.checks(),
             Event::Bcast { node, datagram } => self.bcast(*node, datagram.octets()),
             Event::Scan { node } => self.scan(*node),

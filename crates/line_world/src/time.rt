@@ -15,7 +15,7 @@ ghost use Rattle.line_world.specs.Lines.{world_of};
 ghost use Rattle.line_world.specs.Steps.{Steps};
 
 use crate::line::Line;
-use crate::world::Space;
+use crate::world::Buffers;
 use broadcast_log::BroadcastLog;
 use line_events::{Answer, Happenings, StepFault};
 use node_rules::ShownRef;
@@ -103,7 +103,7 @@ impl Line {
     pub(crate) fn show<'a>(
         &mut self,
         node: u32,
-        space: &'a mut Space,
+        buffers: &'a mut Buffers,
     ) -> Result<Happenings<'a>, StepFault>
         requires bounds { IsBounded (world_of self.old) }
         requires events { self.old.events < MAX_EVENTS }
@@ -111,7 +111,7 @@ impl Line {
             (rules.show (world_of self.old) node) }
     {
         let number = self.node(node)?;
-        self.nodes.show(number, &mut space.shown);
+        self.nodes.show(number, &mut buffers.shown);
         let happened = self.answered(Answer::Shown);
         Ok(Happenings {
             answer: Answer::Shown,
@@ -123,7 +123,7 @@ impl Line {
             grant: None,
             took: None,
             done: None,
-            shown: Some(ShownRef::new(&space.shown)),
+            shown: Some(ShownRef::new(&buffers.shown)),
             first_flight: happened.first_flight,
             flights: 0,
         })

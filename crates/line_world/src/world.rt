@@ -31,7 +31,7 @@ pub struct Counts {
 
 /// Where an event puts what it hands out: a datagram, or what is shown of a node.
 #[derive(Drop)]
-pub struct Space {
+pub struct Buffers {
     /// What is inside the last frame that was opened.
     pub payload: FrameBuf,
     /// The last datagram that came in pieces, whole.
@@ -40,15 +40,15 @@ pub struct Space {
     pub shown: Shown,
 }
 
-impl Space {
+impl Buffers {
     ghost use Rattle.std.specs.Prelude.{[]};
     ghost use Rattle.node_rules.specs.Showing.{nothing_shown};
 
     /// No octets, and what a halted node shows.
-    pub fn new() -> Space
+    pub fn new() -> Buffers
         ensures { result ≡ record { payload = []; datagram = []; shown = nothing_shown } }
     {
-        Space {
+        Buffers {
             payload: FrameBuf::new(),
             datagram: DatagramBuf::new(),
             shown: Shown {
@@ -206,11 +206,11 @@ impl World {
     /// `Setup`, `Node` and `Flight` come exactly where the rules say that the event is not taken for that reason. `Memory` comes only
     /// where the rules take it and it makes a node or may send frames. After each of them the world is as it was.
     ///
-    /// A datagram that is handed up, and what is shown of a node, stands in `space`.
+    /// A datagram that is handed up, and what is shown of a node, stands in `buffers`.
     pub fn step<'a>(
         &mut self,
         event: &Event<'_>,
-        space: &'a mut Space,
+        buffers: &'a mut Buffers,
     ) -> Result<Happenings<'a>, StepFault>
         requires events { self.old.events < MAX_EVENTS }
         requires event { IsEvent event.now }
@@ -218,6 +218,6 @@ impl World {
         ensures memory { HasMemory (takes_memory self.old event.now) result }
     {
         self.line.nodes.short_tables();
-        self.line.step(event, space)
+        self.line.step(event, buffers)
     }
 }

@@ -52,7 +52,7 @@ impl<K: Keeper + Drop> Station<K> {
             &aes,
             first,
             offer.by,
-            &mut self.room,
+            &mut self.buffer,
             out,
         );
         self.bodies.drop_for(offer.origin);

@@ -68,7 +68,7 @@ impl<K: Keeper + Drop> Station<K> {
             &aes,
             first,
             offer.by,
-            &mut self.room,
+            &mut self.buffer,
             out,
         );
         seal_message(grant, &key, &aes, first + units, to, message, out);

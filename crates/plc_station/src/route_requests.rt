@@ -66,7 +66,7 @@ impl<K: Keeper + Drop> Station<K> {
             &aes,
             first,
             offer.by,
-            &mut self.room,
+            &mut self.buffer,
             out,
         );
         let reply = Message::Rrep {

@@ -17,7 +17,7 @@ use plc_base::{BadStore, Eui, Keeper, LONGEST_DATAGRAM, Short};
 use std::alloc::Global;
 use std::marker::Model;
 use thiserror::Error;
-use station_queues::{Bodies, BodyRoom};
+use station_queues::{Bodies, BodyBuffer};
 
 /// Why a station is not opened.
 #[derive(Clone, Copy, Debug, PartialEq, Eq, Error)]
@@ -44,7 +44,7 @@ pub struct Station<K: Keeper + Drop> {
     pub(crate) parts: Parts,
     pub(crate) bodies: Bodies,
     // Each body that leaves is read into it. It is kept, so that no call zeroes 1,280 octets.
-    pub(crate) room: BodyRoom,
+    pub(crate) buffer: BodyBuffer,
     pub(crate) halted: bool,
     pub(crate) replied: Option<Reply>,
 }
@@ -97,7 +97,7 @@ impl<K: Keeper + Drop> Station<K> {
                 eui,
                 parts,
                 bodies,
-                room: [0; LONGEST_DATAGRAM],
+                buffer: [0; LONGEST_DATAGRAM],
                 halted: false,
                 replied: None,
             }),

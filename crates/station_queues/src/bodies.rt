@@ -104,7 +104,7 @@ impl Model for Bodies {
 pub const LONGEST_COMMAND: usize = 374;
 
 /// Where the octets of one body stand one after another while it is sealed.
-pub type BodyRoom = [u8; LONGEST_DATAGRAM];
+pub type BodyBuffer = [u8; LONGEST_DATAGRAM];
 
 /// How many blocks the pool has.
 const BLOCKS: u16 = 160;
@@ -265,7 +265,7 @@ impl Bodies {
         aes: &Aes,
         first: u32,
         hop: Short,
-        room: &mut BodyRoom,
+        buffer: &mut BodyBuffer,
         out: &mut Out,
     )
         requires there { index < length self.now.waiting }
@@ -276,7 +276,7 @@ impl Bodies {
             (units_by grant.now.address hop (body_at self.now.waiting index))) out.old }
     {
         let waiting = &self.waiting[index];
-        let octets = &mut room[..waiting.size as usize];
+        let octets = &mut buffer[..waiting.size as usize];
         let Some(chain) = &waiting.chain else {
             unreachable!()
         };
@@ -305,7 +305,7 @@ impl Bodies {
         aes: &Aes,
         first: u32,
         hop: Short,
-        room: &mut BodyRoom,
+        buffer: &mut BodyBuffer,
         out: &mut Out,
     )
         requires there { index < length self.now.waiting }
@@ -320,7 +320,7 @@ impl Bodies {
         if !self.waits_at(index, dest) {
             return;
         }
-        self.seal_at(index, grant, key, aes, first, hop, room, out);
+        self.seal_at(index, grant, key, aes, first, hop, buffer, out);
     }
 
     // Whether the body at a place waits for an address.
@@ -333,7 +333,7 @@ impl Bodies {
     }
 
     /// Seals the bodies that wait for an address for a next hop, in the order of their arrival, with counters from `first` on. Their
-    /// frames come after those that `out` has. They wait on until `drop_for`. Each is read into `room`, whose octets mean nothing
+    /// frames come after those that `out` has. They wait on until `drop_for`. Each is read into `buffer`, whose octets mean nothing
     /// before and after.
     pub fn seal_leaving(
         &self,
@@ -343,7 +343,7 @@ impl Bodies {
         aes: &Aes,
         first: u32,
         hop: Short,
-        room: &mut BodyRoom,
+        buffer: &mut BodyBuffer,
         out: &mut Out,
     )
         requires aes { aes.now ≡ key.now.0 }
@@ -355,7 +355,7 @@ impl Bodies {
         let before = out.frames.frames().len();
         for index in 0..self.waiting.len() {
             let sealed = (out.frames.frames().len() - before) as u32;
-            self.seal_if(index, dest, grant, key, aes, first + sealed, hop, room, out);
+            self.seal_if(index, dest, grant, key, aes, first + sealed, hop, buffer, out);
         }
     }
 

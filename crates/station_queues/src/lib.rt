@@ -8,5 +8,5 @@
 mod bodies;
 mod sealing;
 
-pub use bodies::{Bodies, BodyRoom, LONGEST_COMMAND, Waiting};
+pub use bodies::{Bodies, BodyBuffer, LONGEST_COMMAND, Waiting};
 pub use sealing::{own_mesh, seal, seal_load};

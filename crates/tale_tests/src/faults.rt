@@ -7,11 +7,11 @@ fn fault(cause: Cause, start: usize, end: usize) -> Option<Fault> {
 }
 
 fn found(line: &str) -> Option<Fault> {
-    let mut space = [0u8; LINE_OCTETS];
+    let mut buffers = [0u8; LINE_OCTETS];
     if line.len() > 4096 {
         return None;
     }
-    fault_of(line.as_bytes(), space.as_mut_slice())
+    fault_of(line.as_bytes(), buffers.as_mut_slice())
 }
 
 #[test]

@@ -11,7 +11,7 @@ const KEY: Key = Key([0, 1, 2, 3, 4, 5, 6, 7, 8, 9, 10, 11, 12, 13, 14, 15]);
 
 /// Where a station writes what it hears.
 #[derive(Drop)]
-struct Space {
+struct Buffers {
     payload: FrameBuf,
     datagram: DatagramBuf,
 }
@@ -80,8 +80,8 @@ impl Node {
 
     // Whether a frame is taken in.
     #[inline(never)]
-    fn takes(&mut self, frame: &[u8], cost: LinkCost, space: &mut Space) -> bool {
-        let Ok(got) = self.station.accept(frame, &mut space.payload) else {
+    fn takes(&mut self, frame: &[u8], cost: LinkCost, buffers: &mut Buffers) -> bool {
+        let Ok(got) = self.station.accept(frame, &mut buffers.payload) else {
             return false;
         };
         if self.station.halted() {
@@ -89,7 +89,7 @@ impl Node {
         }
         let heard = self
             .station
-            .hear(&got, cost, 0, 0, &mut space.datagram, &mut self.out);
+            .hear(&got, cost, 0, 0, &mut buffers.datagram, &mut self.out);
         matches!(heard, Ok(_))
     }
 }
@@ -108,7 +108,7 @@ fn pass(
     relay: &mut Node,
     to: Short,
     cost: LinkCost,
-    space: &mut Space,
+    buffers: &mut Buffers,
     count: u32,
 ) -> Passed {
     let mut datagram = [0xa5; 64];
@@ -118,7 +118,7 @@ fn pass(
     };
     for number in 0..count {
         datagram[0] = (number % 256) as u8;
-        if sender.sends(to, &datagram, number) && relay.takes(sender.frame(), cost, space) {
+        if sender.sends(to, &datagram, number) && relay.takes(sender.frame(), cost, buffers) {
             passed.frames = passed.frames.wrapping_add(1);
             passed.octets = passed.octets.wrapping_add(relay.frame().len() as u64);
         }
@@ -133,19 +133,19 @@ pub fn run(rt: &HostRuntime, count: u32) -> anyhow::Result<()> {
     let mut sender = Node::joined(rt.alloc(), 1)?;
     let mut relay = Node::joined(rt.alloc(), 2)?;
     let mut target = Node::joined(rt.alloc(), 3)?;
-    let mut space = Space {
+    let mut buffers = Buffers {
         payload: FrameBuf::new(),
         datagram: DatagramBuf::new(),
     };
     let found = sender.sends(to, &[0xa5; 64], 0)
-        && relay.takes(sender.frame(), cost, &mut space)
-        && target.takes(relay.frame(), cost, &mut space)
-        && relay.takes(target.frame(), cost, &mut space)
-        && sender.takes(relay.frame(), cost, &mut space);
+        && relay.takes(sender.frame(), cost, &mut buffers)
+        && target.takes(relay.frame(), cost, &mut buffers)
+        && relay.takes(target.frame(), cost, &mut buffers)
+        && sender.takes(relay.frame(), cost, &mut buffers);
     if !found {
         bail!("no route");
     }
-    let passed = pass(&mut sender, &mut relay, to, cost, &mut space, count);
+    let passed = pass(&mut sender, &mut relay, to, cost, &mut buffers, count);
     println!(rt; "sent on {} {}", passed.frames, passed.octets)?;
     Ok(())
 }

@@ -87,14 +87,14 @@ impl LineCoordinator {
         &mut self,
         beside: &mut Beside,
         datagram: &[u8],
-        room: &mut FrameBuf,
+        buffer: &mut FrameBuf,
         out: &mut Out,
     ) -> Result<(), BroadcastRefusal>
         requires log { IsLogOf beside.old self.old }
         ensures { TookFirst self.old beside.old (Err BroadcastRefusal.Halted)
             (λ y. broadcast_rules.broadcast in_memory y datagram.now) result out.new self.new beside.new }
     {
-        broadcast_at(self.coordinator.station(), beside, datagram, room, out)
+        broadcast_at(self.coordinator.station(), beside, datagram, buffer, out)
     }
 
     /// It asks for the way to an address.
@@ -102,20 +102,20 @@ impl LineCoordinator {
         &mut self,
         beside: &mut Beside,
         target: Short,
-        room: &mut FrameBuf,
+        buffer: &mut FrameBuf,
         out: &mut Out,
     ) -> Result<(), AskRefusal>
         ensures { TookFirst self.old beside.old (Err AskRefusal.Halted)
             (λ y. ask_path in_memory y target) result out.new self.new beside.new }
     {
-        ask_at(self.coordinator.station(), beside, target, room, out)
+        ask_at(self.coordinator.station(), beside, target, buffer, out)
     }
 
     /// It acknowledges a reply.
     pub fn acknowledge(
         &mut self,
         reply: Reply,
-        room: &mut FrameBuf,
+        buffer: &mut FrameBuf,
         out: &mut Out,
     ) -> Result<(), LocalRefusal>
         requires number { 0 < reply.number }
@@ -124,7 +124,7 @@ impl LineCoordinator {
         ensures { TookAlone (acts self.old (Err LocalRefusal.Store) (λ m. acknowledges in_memory reply.to reply.number reply.origin m))
             result out.old out.new self.new }
     {
-        acknowledge_at(self.coordinator.station(), reply, room, out)
+        acknowledge_at(self.coordinator.station(), reply, buffer, out)
     }
 
     /// It hears a command for its neighbours.
@@ -132,14 +132,14 @@ impl LineCoordinator {
         &mut self,
         beside: &mut Beside,
         command: &CommandRef<'a>,
-        room: &mut FrameBuf,
+        buffer: &mut FrameBuf,
         out: &mut Out,
     ) -> Commanded<'a>
         requires log { IsLogOf beside.old self.old }
         requires room { length out.old.frames < MOST_FRAMES }
         ensures { TookCommand self.old beside.old (command_of command.now) result out.old out.new self.new beside.new }
     {
-        hear_command_at(0, self.coordinator.station(), beside, command, room, out)
+        hear_command_at(0, self.coordinator.station(), beside, command, buffer, out)
     }
 }
 
@@ -177,7 +177,7 @@ impl Meters {
         place: usize,
         beside: &mut Beside,
         datagram: &[u8],
-        room: &mut FrameBuf,
+        buffer: &mut FrameBuf,
         out: &mut Out,
     ) -> Result<(), BroadcastRefusal>
         requires there { place < length self.old }
@@ -185,7 +185,7 @@ impl Meters {
         ensures { IfSome (slice_get self.old place) (λ x. ReachedFirst x beside.old (Err BroadcastRefusal.Halted)
             (λ y. broadcast_rules.broadcast in_memory y datagram.now) self.old place result out.new self.new beside.new) }
     {
-        broadcast_at(self.meters[place].station(), beside, datagram, room, out)
+        broadcast_at(self.meters[place].station(), beside, datagram, buffer, out)
     }
 
     /// A meter asks for the way to an address.
@@ -194,14 +194,14 @@ impl Meters {
         place: usize,
         beside: &mut Beside,
         target: Short,
-        room: &mut FrameBuf,
+        buffer: &mut FrameBuf,
         out: &mut Out,
     ) -> Result<(), AskRefusal>
         requires there { place < length self.old }
         ensures { IfSome (slice_get self.old place) (λ x. ReachedFirst x beside.old (Err AskRefusal.Halted)
             (λ y. ask_path in_memory y target) self.old place result out.new self.new beside.new) }
     {
-        ask_at(self.meters[place].station(), beside, target, room, out)
+        ask_at(self.meters[place].station(), beside, target, buffer, out)
     }
 
     /// A meter acknowledges a reply.
@@ -209,7 +209,7 @@ impl Meters {
         &mut self,
         place: usize,
         reply: Reply,
-        room: &mut FrameBuf,
+        buffer: &mut FrameBuf,
         out: &mut Out,
     ) -> Result<(), LocalRefusal>
         requires there { place < length self.old }
@@ -219,7 +219,7 @@ impl Meters {
         ensures { IfSome (slice_get self.old place) (λ x. DidAfter (acts x (Err LocalRefusal.Store)
             (λ m. acknowledges in_memory reply.to reply.number reply.origin m)) self.old place result out.old out.new self.new) }
     {
-        acknowledge_at(self.meters[place].station(), reply, room, out)
+        acknowledge_at(self.meters[place].station(), reply, buffer, out)
     }
 
     /// A meter hears a command for its neighbours. The node's number is one more than its place.
@@ -228,7 +228,7 @@ impl Meters {
         place: usize,
         beside: &mut Beside,
         command: &CommandRef<'a>,
-        room: &mut FrameBuf,
+        buffer: &mut FrameBuf,
         out: &mut Out,
     ) -> Commanded<'a>
         requires there { place < length self.old }
@@ -248,7 +248,7 @@ impl Meters {
             self.meters[place].station(),
             beside,
             command,
-            room,
+            buffer,
             out,
         )
     }
@@ -301,13 +301,13 @@ impl Nodes {
         coordinator.open_log()
     }
 
-    /// A node sends a datagram to all. `room` is overwritten, and what goes out is in `out`.
+    /// A node sends a datagram to all. `buffer` is overwritten, and what goes out is in `out`.
     pub fn broadcast(
         &mut self,
         number: usize,
         beside: &mut Beside,
         datagram: &[u8],
-        room: &mut FrameBuf,
+        buffer: &mut FrameBuf,
         out: &mut Out,
     ) -> Result<(), BroadcastRefusal>
         requires there { number < length self.old }
@@ -318,21 +318,21 @@ impl Nodes {
         if number > 0 {
             return self
                 .meters
-                .broadcast(number - 1, beside, datagram, room, out);
+                .broadcast(number - 1, beside, datagram, buffer, out);
         }
         let Some(coordinator) = &mut self.coordinator else {
             return Err(BroadcastRefusal::Halted);
         };
-        coordinator.broadcast(beside, datagram, room, out)
+        coordinator.broadcast(beside, datagram, buffer, out)
     }
 
-    /// A node asks for the way to an address. `room` is overwritten, and what goes out is in `out`.
+    /// A node asks for the way to an address. `buffer` is overwritten, and what goes out is in `out`.
     pub fn ask(
         &mut self,
         number: usize,
         beside: &mut Beside,
         target: Short,
-        room: &mut FrameBuf,
+        buffer: &mut FrameBuf,
         out: &mut Out,
     ) -> Result<(), AskRefusal>
         requires there { number < length self.old }
@@ -340,20 +340,20 @@ impl Nodes {
             (λ y. ask_path in_memory y target) self.old number result out.new self.new beside.new) }
     {
         if number > 0 {
-            return self.meters.ask(number - 1, beside, target, room, out);
+            return self.meters.ask(number - 1, beside, target, buffer, out);
         }
         let Some(coordinator) = &mut self.coordinator else {
             return Err(AskRefusal::Halted);
         };
-        coordinator.ask(beside, target, room, out)
+        coordinator.ask(beside, target, buffer, out)
     }
 
-    /// A node acknowledges a reply to the neighbour that sent it. `room` is overwritten, and what goes out comes after what `out` has.
+    /// A node acknowledges a reply to the neighbour that sent it. `buffer` is overwritten, and what goes out comes after what `out` has.
     pub fn acknowledge(
         &mut self,
         number: usize,
         reply: Reply,
-        room: &mut FrameBuf,
+        buffer: &mut FrameBuf,
         out: &mut Out,
     ) -> Result<(), LocalRefusal>
         requires there { number < length self.old }
@@ -364,21 +364,21 @@ impl Nodes {
             (λ m. acknowledges in_memory reply.to reply.number reply.origin m)) self.old number result out.old out.new self.new) }
     {
         if number > 0 {
-            return self.meters.acknowledge(number - 1, reply, room, out);
+            return self.meters.acknowledge(number - 1, reply, buffer, out);
         }
         let Some(coordinator) = &mut self.coordinator else {
             return Err(LocalRefusal::Store);
         };
-        coordinator.acknowledge(reply, room, out)
+        coordinator.acknowledge(reply, buffer, out)
     }
 
-    /// A node hears a command for its neighbours. `room` is overwritten, and what goes out comes after what `out` has.
+    /// A node hears a command for its neighbours. `buffer` is overwritten, and what goes out comes after what `out` has.
     pub fn hear_command<'a>(
         &mut self,
         number: usize,
         beside: &mut Beside,
         command: &CommandRef<'a>,
-        room: &mut FrameBuf,
+        buffer: &mut FrameBuf,
         out: &mut Out,
     ) -> Commanded<'a>
         requires there { number < length self.old }
@@ -391,7 +391,7 @@ impl Nodes {
         if number > 0 {
             return self
                 .meters
-                .hear_command(number - 1, beside, command, room, out);
+                .hear_command(number - 1, beside, command, buffer, out);
         }
         let Some(coordinator) = &mut self.coordinator else {
             return Commanded {
@@ -400,6 +400,6 @@ impl Nodes {
                 path: None,
             };
         };
-        coordinator.hear_command(beside, command, room, out)
+        coordinator.hear_command(beside, command, buffer, out)
     }
 }

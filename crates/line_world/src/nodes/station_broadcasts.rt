@@ -89,7 +89,7 @@ fn broadcast_from(
     station: &mut Station<MemKeeper>,
     beside: &mut Beside,
     datagram: &[u8],
-    room: &mut FrameBuf,
+    buffer: &mut FrameBuf,
     out: &mut Out,
 ) -> Result<(), BroadcastRefusal>
     requires running { IsSome station.old.memory }
@@ -114,17 +114,17 @@ fn broadcast_from(
         out.clear();
         return Err(BroadcastRefusal::Store);
     };
-    write_broadcast(14, own, number, datagram, room);
-    let sent = send_local(station, &mut beside.log, 4, None, room.octets(), out);
+    write_broadcast(14, own, number, datagram, buffer);
+    let sent = send_local(station, &mut beside.log, 4, None, buffer.octets(), out);
     broadcast_sent(sent)
 }
 
-// A datagram goes to all. `room` is overwritten, and what goes out is in `out`.
+// A datagram goes to all. `buffer` is overwritten, and what goes out is in `out`.
 pub(crate) fn broadcast_at(
     station: &mut Station<MemKeeper>,
     beside: &mut Beside,
     datagram: &[u8],
-    room: &mut FrameBuf,
+    buffer: &mut FrameBuf,
     out: &mut Out,
 ) -> Result<(), BroadcastRefusal>
     requires agrees { Agrees station.old }
@@ -140,7 +140,7 @@ pub(crate) fn broadcast_at(
     let Some(own) = station.ring().joined() else {
         return Err(BroadcastRefusal::NotJoined);
     };
-    broadcast_from(own, station, beside, datagram, room, out)
+    broadcast_from(own, station, beside, datagram, buffer, out)
 }
 
 // # Broadcasts that are heard
@@ -222,7 +222,7 @@ fn admit_broadcast(
     station: &mut Station<MemKeeper>,
     beside: &mut Beside,
     broadcast: &BroadcastRef<'_>,
-    room: &mut FrameBuf,
+    buffer: &mut FrameBuf,
     out: &mut Out,
 ) -> Result<(), ReachDropped>
     requires running { IsSome station.old.memory }
@@ -256,9 +256,9 @@ fn admit_broadcast(
         broadcast.origin,
         broadcast.number,
         broadcast.octets.octets(),
-        room,
+        buffer,
     );
-    let sent = send_local(station, &mut beside.log, 4, None, room.octets(), out);
+    let sent = send_local(station, &mut beside.log, 4, None, buffer.octets(), out);
     sent_on(sent)
 }
 
@@ -268,7 +268,7 @@ fn hear_broadcast(
     station: &mut Station<MemKeeper>,
     beside: &mut Beside,
     broadcast: &BroadcastRef<'_>,
-    room: &mut FrameBuf,
+    buffer: &mut FrameBuf,
     out: &mut Out,
 ) -> Result<(), ReachDropped>
     requires running { IsSome station.old.memory }
@@ -285,7 +285,7 @@ fn hear_broadcast(
     if let Some(fault) = broadcast_fault(own, &beside.log, broadcast) {
         return Err(fault);
     }
-    admit_broadcast(station, beside, broadcast, room, out)
+    admit_broadcast(station, beside, broadcast, buffer, out)
 }
 
 // What the report says of a broadcast, at the node of this number.
@@ -318,7 +318,7 @@ pub(crate) fn broadcast_command<'a>(
     station: &mut Station<MemKeeper>,
     beside: &mut Beside,
     command: &CommandRef<'a>,
-    room: &mut FrameBuf,
+    buffer: &mut FrameBuf,
     out: &mut Out,
 ) -> Commanded<'a>
     requires running { IsSome station.old.memory }
@@ -337,6 +337,6 @@ pub(crate) fn broadcast_command<'a>(
     let Some(broadcast) = broadcast_in(command.body.octets()) else {
         return only(Answer::BadUnit);
     };
-    let heard = hear_broadcast(own, station, beside, &broadcast, room, out);
+    let heard = hear_broadcast(own, station, beside, &broadcast, buffer, out);
     broadcast_reported(heard, number, &broadcast)
 }

@@ -79,7 +79,7 @@ fn path_goes(
     log: &mut BroadcastLog,
     to: Short,
     message: &PathMessage,
-    room: &mut FrameBuf,
+    buffer: &mut FrameBuf,
     out: &mut Out,
 ) -> Result<(), LocalRefusal>
     requires path { IsPath message.now }
@@ -93,9 +93,9 @@ fn path_goes(
     ensures agrees { Agrees station.new }
     ensures log { log.new ≡ (if is_some station.new.memory then log.old else empty_log) }
 {
-    room.clear();
-    write_path(message, room);
-    send_local(station, log, 5, Some(to), room.octets(), out)
+    buffer.clear();
+    write_path(message, buffer);
+    send_local(station, log, 5, Some(to), buffer.octets(), out)
 }
 
 // The walk of one node.
@@ -138,12 +138,12 @@ fn hop_to(station: &Station<MemKeeper>, dest: Short) -> Option<Short>
     Some(hop)
 }
 
-// The way to another node is asked for. `room` is overwritten, and what goes out is in `out`.
+// The way to another node is asked for. `buffer` is overwritten, and what goes out is in `out`.
 pub(crate) fn ask_at(
     station: &mut Station<MemKeeper>,
     beside: &mut Beside,
     target: Short,
-    room: &mut FrameBuf,
+    buffer: &mut FrameBuf,
     out: &mut Out,
 ) -> Result<(), AskRefusal>
     requires agrees { Agrees station.old }
@@ -165,17 +165,17 @@ pub(crate) fn ask_at(
         return Err(AskRefusal::NoRoute);
     };
     let message = ask_of(own, target);
-    let sent = path_goes(station, &mut beside.log, hop, &message, room, out);
+    let sent = path_goes(station, &mut beside.log, hop, &message, buffer, out);
     ask_sent(sent)
 }
 
 // # Acknowledging
 
-// A reply is acknowledged to the neighbour that sent it, after the frames that `out` has. `room` is overwritten.
+// A reply is acknowledged to the neighbour that sent it, after the frames that `out` has. `buffer` is overwritten.
 pub(crate) fn acknowledge_at(
     station: &mut Station<MemKeeper>,
     reply: Reply,
-    room: &mut FrameBuf,
+    buffer: &mut FrameBuf,
     out: &mut Out,
 ) -> Result<(), LocalRefusal>
     requires number { 0 < reply.number }
@@ -193,9 +193,9 @@ pub(crate) fn acknowledge_at(
         out.clear();
         return Err(LocalRefusal::Store);
     }
-    room.clear();
-    write_ack(reply.number, reply.origin, room);
-    station.send_local(3, Some(reply.to), room.octets(), out)
+    buffer.clear();
+    write_ack(reply.number, reply.origin, buffer);
+    station.send_local(3, Some(reply.to), buffer.octets(), out)
 }
 
 // The reply that a station gives as its last one.
@@ -288,7 +288,7 @@ fn follow_step(
     station: &mut Station<MemKeeper>,
     beside: &mut Beside,
     step: &PathStep,
-    room: &mut FrameBuf,
+    buffer: &mut FrameBuf,
     out: &mut Out,
 ) -> Result<PathHeard, ReachDropped>
     requires step { IsStep step.now }
@@ -303,11 +303,11 @@ fn follow_step(
 {
     match step {
         PathStep::Forward { to, message } => {
-            let sent = path_goes(station, &mut beside.log, *to, message, room, out);
+            let sent = path_goes(station, &mut beside.log, *to, message, buffer, out);
             path_sent(PathHeard::Relayed, sent_on(sent))
         }
         PathStep::Answer { to, message } => {
-            let sent = path_goes(station, &mut beside.log, *to, message, room, out);
+            let sent = path_goes(station, &mut beside.log, *to, message, buffer, out);
             path_sent(PathHeard::Answered, sent_on(sent))
         }
         PathStep::Done { walk } => Ok(PathHeard::Path {
@@ -321,7 +321,7 @@ fn follow_path(
     station: &mut Station<MemKeeper>,
     beside: &mut Beside,
     step: Result<PathStep, PathRefusal>,
-    room: &mut FrameBuf,
+    buffer: &mut FrameBuf,
     out: &mut Out,
 ) -> Result<PathHeard, ReachDropped>
     requires step { IfOk step IsStep }
@@ -335,7 +335,7 @@ fn follow_path(
 {
     match step {
         Err(reason) => Err(path_word(reason)),
-        Ok(step) => follow_step(station, beside, &step, room, out),
+        Ok(step) => follow_step(station, beside, &step, buffer, out),
     }
 }
 
@@ -345,7 +345,7 @@ fn hear_path(
     station: &mut Station<MemKeeper>,
     beside: &mut Beside,
     command: &CommandRef<'_>,
-    room: &mut FrameBuf,
+    buffer: &mut FrameBuf,
     out: &mut Out,
 ) -> Result<PathHeard, ReachDropped>
     requires running { IsSome station.old.memory }
@@ -365,7 +365,7 @@ fn hear_path(
     };
     let next = next_toward(station, &message);
     let step = take_path(own, command.from, next, &message);
-    follow_path(station, beside, step, room, out)
+    follow_path(station, beside, step, buffer, out)
 }
 
 // # What the report says of a command
@@ -438,7 +438,7 @@ fn hear_command<'a>(
     station: &mut Station<MemKeeper>,
     beside: &mut Beside,
     command: &CommandRef<'a>,
-    room: &mut FrameBuf,
+    buffer: &mut FrameBuf,
     out: &mut Out,
 ) -> Commanded<'a>
     requires running { IsSome station.old.memory }
@@ -456,22 +456,22 @@ fn hear_command<'a>(
         return acknowledgement_reported(heard, number);
     }
     if command.code == 4 {
-        return broadcast_command(number, own, station, beside, command, room, out);
+        return broadcast_command(number, own, station, beside, command, buffer, out);
     }
     if command.code == 5 {
-        let heard = hear_path(own, station, beside, command, room, out);
+        let heard = hear_path(own, station, beside, command, buffer, out);
         return path_reported(heard, number);
     }
     only(Answer::BadUnit)
 }
 
-// A command is heard at the node of this number. What goes out comes after what `out` has, and `room` is overwritten.
+// A command is heard at the node of this number. What goes out comes after what `out` has, and `buffer` is overwritten.
 pub(crate) fn hear_command_at<'a>(
     number: u16,
     station: &mut Station<MemKeeper>,
     beside: &mut Beside,
     command: &CommandRef<'a>,
-    room: &mut FrameBuf,
+    buffer: &mut FrameBuf,
     out: &mut Out,
 ) -> Commanded<'a>
     requires agrees { Agrees station.old }
@@ -488,5 +488,5 @@ pub(crate) fn hear_command_at<'a>(
     let Some(own) = station.ring().joined() else {
         return only(Answer::BadUnit);
     };
-    hear_command(number, own, station, beside, command, room, out)
+    hear_command(number, own, station, beside, command, buffer, out)
 }
