@@ -26,13 +26,13 @@ fn has_the_airtimes(rt: HostRuntime) {
 
 // What a run of 39 frames over a street came to: how many entries it has, when it ended, and a sum over its entries in their order.
 #[derive(Clone, Copy, Debug, PartialEq, Eq)]
-struct Course {
+struct SessionWay {
     entries: u32,
     end: u64,
     sum: u32,
 }
 
-impl Course {
+impl SessionWay {
     fn note(&mut self, now: u64, flight: u32, what: u32) {
         let entry = ((now % 0x1_0000_0000) as u32)
             .wrapping_mul(7)
@@ -99,12 +99,12 @@ fn end_of(
     air: &mut Air,
     calendar: &mut Calendar,
     end: &End,
-    course: &mut Course,
+    session_way: &mut SessionWay,
 ) -> Result<(), AllocError> {
     let mut came = Vec::new(alloc);
     let ended = air.end(alloc, end, &mut came)?;
     for to in came.iter() {
-        course.note(end.at, end.flight, *to);
+        session_way.note(end.at, end.flight, *to);
     }
     if let Ended::GivenUp {
         frame,
@@ -113,18 +113,18 @@ fn end_of(
     } = ended
     {
         if let Target::Node(to) = frame.target {
-            course.note(end.at, 0, end.node.wrapping_mul(1_000).wrapping_add(to));
+            session_way.note(end.at, 0, end.node.wrapping_mul(1_000).wrapping_add(to));
         }
     }
     air.go_on(calendar, end.at, end.node)
 }
 
-fn course_of(
+fn session_way_of(
     alloc: Global,
     seed: u64,
     loss: u16,
     settings: Settings,
-) -> Result<Course, AllocError> {
+) -> Result<SessionWay, AllocError> {
     let mut air = Air::new(alloc, street(alloc, loss)?, settings, seed)?;
     let mut calendar = Calendar::new(alloc);
     disturb(&mut air)?;
@@ -134,17 +134,17 @@ fn course_of(
     for k in 0..39 {
         calendar.put(u64::from(k) * 40_000, Moment::Task(k))?;
     }
-    let mut course = Course {
+    let mut session_way = SessionWay {
         entries: 0,
         end: 0,
         sum: 0,
     };
     for _ in 0..100_000 {
         let Some(due) = calendar.take() else {
-            return Ok(course);
+            return Ok(session_way);
         };
         let now = due.at;
-        course.end = now;
+        session_way.end = now;
         match due.moment {
             Moment::Task(k) => air.send(&mut calendar, now, k % 13, frame_of(k % 39))?,
             Moment::Attempt { node } => {
@@ -161,11 +161,11 @@ fn course_of(
                     flight,
                     segments,
                 };
-                end_of(alloc, &mut air, &mut calendar, &end, &mut course)?;
+                end_of(alloc, &mut air, &mut calendar, &end, &mut session_way)?;
             }
         }
     }
-    Ok(course)
+    Ok(session_way)
 }
 
 const USUAL: Settings = Settings {
@@ -209,8 +209,8 @@ fn has_the_same_courses_as_other_code(rt: HostRuntime) -> Result<(), Fail> {
         (9, 0, impatient, 12, 3_289_195, 3_541_662_653),
     ] {
         assert_eq!(rt;
-            course_of(rt.alloc(), seed, loss, settings)?,
-            Course { entries, end, sum }
+            session_way_of(rt.alloc(), seed, loss, settings)?,
+            SessionWay { entries, end, sum }
         );
     }
     Ok(())

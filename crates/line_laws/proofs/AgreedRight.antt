@@ -24,7 +24,7 @@ use Rattle.node_rules.specs.Drafts.{Draft, alone, checked, empty_draft, with_rin
 use Rattle.node_rules.specs.Hearing as station_rules
 use Rattle.node_rules.specs.Hearing.{dropped}
 use Rattle.node_rules.specs.Laws.{IsCutOff, IsWhole}
-use Rattle.node_rules.specs.Memory.{StationMemory, Memory, MeterSession, Course, ByAgent, ByCommand, Role, Coordinator, Meter, Node, address_of}
+use Rattle.node_rules.specs.Memory.{StationMemory, Memory, MeterSession, SessionWay, ByAgent, ByCommand, Role, Coordinator, Meter, Node, address_of}
 use Rattle.node_rules.specs.MemoryDrafts.{Unread, goes_down, goes_up, in_memory, oldest, on_station, packet_fault, unread, with_memory_by, with_pair_tags}
 use Rattle.node_rules.specs.MemoryDrafts.{is_commanded, with_station}
 use Rattle.node_rules.specs.Meters as meters
@@ -86,7 +86,7 @@ module _ (took : Option Agreed) where
   abbrev Under : Draft Memory → Type 0
   Under d = IfSome took (IsTakenUnder d.opened)
 
-  said : (course : Course) (own : Eui) (join : JoinMessage) (now : ℕ) (d : Draft Memory) → Under d → Under (says course own join now d)
+  said : (session_way : SessionWay) (own : Eui) (join : JoinMessage) (now : ℕ) (d : Draft Memory) → Under d → Under (says session_way own join now d)
   unfolding goes_up
   said (ByAgent agent) own join now d h = h
   said ByCommand own join now d h =
@@ -128,31 +128,31 @@ module _ (x : Identity) (m : Memory) (g : Given) where
   carry_down_is join body.Decline = carries_down_is join
   carry_down_is join _ = Refuses _
 
-  reply_is : (course : Course) (packet : List ℕ) → Is (reply x m course packet g.now)
-  reply_is course packet = checked_planned (λ e.
-      option_planned (λ value. checked dropped m (option_map packet_fault (first_fault packet)) (reply_with x m course packet g.now value)) (oldest m)
+  reply_is : (session_way : SessionWay) (packet : List ℕ) → Is (reply x m session_way packet g.now)
+  reply_is session_way packet = checked_planned (λ e.
+      option_planned (λ value. checked dropped m (option_map packet_fault (first_fault packet)) (reply_with x m session_way packet g.now value)) (oldest m)
       (drop_it m NoRandom) (λ value here. checked_planned (λ right. checked_planned (λ lacks. sealed_planned _ _ tt))) (λ none. Refuses _))
 
-  takes_is : (course : Course) (peer : Peer) (identifier : ℕ) (granted : Granted) (join : JoinMessage)
-      → Is (takes m course peer identifier granted join g.now)
-  takes_is course peer identifier granted join = checked_planned (λ e.
-      sealed_planned _ _ (said (Some (agreed_by peer)) course peer.eui join g.now _ (taken_under m peer identifier granted)))
+  takes_is : (session_way : SessionWay) (peer : Peer) (identifier : ℕ) (granted : Granted) (join : JoinMessage)
+      → Is (takes m session_way peer identifier granted join g.now)
+  takes_is session_way peer identifier granted join = checked_planned (λ e.
+      sealed_planned _ _ (said (Some (agreed_by peer)) session_way peer.eui join g.now _ (taken_under m peer identifier granted)))
 
-  take_with_is : (course : Course) (packet : List ℕ) (peer : Peer) (granted : Option Granted) → Is (take_with x m course packet g.now peer granted)
-  take_with_is course packet peer None = Refuses _
-  take_with_is course packet peer (Some granted) = takes_is course peer _ granted _
+  take_with_is : (session_way : SessionWay) (packet : List ℕ) (peer : Peer) (granted : Option Granted) → Is (take_with x m session_way packet g.now peer granted)
+  take_with_is session_way packet peer None = Refuses _
+  take_with_is session_way packet peer (Some granted) = takes_is session_way peer _ granted _
 
-  take_by_is : (course : Course) (packet : List ℕ) (peer : Option Peer) → Is (take_by x m course packet g.now peer)
-  take_by_is course packet None = Refuses _
-  take_by_is course packet (Some peer) = checked_planned (λ e. take_with_is course packet peer (x.ciphers.granted x.psk peer packet))
+  take_by_is : (session_way : SessionWay) (packet : List ℕ) (peer : Option Peer) → Is (take_by x m session_way packet g.now peer)
+  take_by_is session_way packet None = Refuses _
+  take_by_is session_way packet (Some peer) = checked_planned (λ e. take_with_is session_way packet peer (x.ciphers.granted x.psk peer packet))
 
-  take_is : (course : Course) (packet : List ℕ) → Is (take x m course packet g.now)
-  take_is course packet = checked_planned (λ e.
-      option_planned (λ (s : MeterSession). take_by x m course packet g.now s.peer) m.session (drop_it m NoSession)
-      (λ s here. take_by_is course packet s.peer) (λ none. Refuses _))
+  take_is : (session_way : SessionWay) (packet : List ℕ) → Is (take x m session_way packet g.now)
+  take_is session_way packet = checked_planned (λ e.
+      option_planned (λ (s : MeterSession). take_by x m session_way packet g.now s.peer) m.session (drop_it m NoSession)
+      (λ s here. take_by_is session_way packet s.peer) (λ none. Refuses _))
 
-  challenged_is : (course : Course) (packet : List ℕ) → Is (challenged x m course packet g.now)
-  challenged_is course packet = choose_planned (λ first. reply_is course packet) (λ third. take_is course packet)
+  challenged_is : (session_way : SessionWay) (packet : List ℕ) → Is (challenged x m session_way packet g.now)
+  challenged_is session_way packet = choose_planned (λ first. reply_is session_way packet) (λ third. take_is session_way packet)
 
   declined_is : (agent : ℕ) → Is (declined m agent)
   declined_is agent = choose_planned (λ joined. Refuses _) (λ outside. choose_planned (λ runs. sealed_planned _ _ tt) (λ none. Refuses _))

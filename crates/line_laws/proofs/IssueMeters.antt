@@ -29,7 +29,7 @@ use Rattle.node_rules.specs.declared.refusal.JoinRefusal.TheVariants.{AlreadyJoi
 use Rattle.node_rules.specs.declared.refusal.LeaveRefusal.{LeaveRefusal}
 use Rattle.node_rules.specs.declared.refusal.LeaveRefusal.TheVariants as leaving
 use Rattle.node_rules.specs.declared.refusal.Dropped.TheVariants.{BadUnit, NoSession, NoRandom}
-use Rattle.node_rules.specs.Memory.{StationMemory, Memory, MeterSession, Course, ByAgent, ByCommand, address_of}
+use Rattle.node_rules.specs.Memory.{StationMemory, Memory, MeterSession, SessionWay, ByAgent, ByCommand, address_of}
 use Rattle.node_rules.specs.Plans.{Plan, resting}
 use Rattle.node_rules.specs.Drafts.{Draft, Ends, alone, empty_draft, checked, choose, with_ring, sealing, refused}
 use Rattle.node_rules.specs.Hearing as station_rules
@@ -113,7 +113,7 @@ module _ (eui : Eui) (old : ring.Ring) (took : Option Agreed) where
   unfolding goes_down
   down own join d h = record { puts = h.puts; ring = h.ring; reads = h.reads; session = h.session; made = h.made }
 
-  pub said : (course : Course) (own : Eui) (join : JoinMessage) (now : ℕ) (d : Draft Memory) → Done d → Done (says course own join now d)
+  pub said : (session_way : SessionWay) (own : Eui) (join : JoinMessage) (now : ℕ) (d : Draft Memory) → Done d → Done (says session_way own join now d)
   said (ByAgent agent) own join now d h = up agent own join d h
   said ByCommand own join now d h = commanded 0 join now d h
 
@@ -165,12 +165,12 @@ turned_done eui took m index low held reads session = record {
     fits (Some g) e h = record { grant = record { index = low; held = e }; address = h.address; key0 = h.key0; key1 = h.key1 }
 
 -- the second packet
-replied_done : (x : Identity) (took : Option Agreed) (m : Memory) (course : Course) (peer : Peer) (now : ℕ) → peer.eui ≡ x.eui
+replied_done : (x : Identity) (took : Option Agreed) (m : Memory) (session_way : SessionWay) (peer : Peer) (now : ℕ) → peer.eui ≡ x.eui
     → IfSome m.station.ring IsReadable
     → MeterDone x.eui m.station.ring took (with_pair_tags (mac_p_tag peer.eui peer.id_s peer.rand_s peer.rand_p ∷ []) []
-    (with_memory_by (λ n. with_session (Some (record { course = course; peer = Some peer; since = now })) (without_oldest n)) (empty_draft m)))
+    (with_memory_by (λ n. with_session (Some (record { session_way = session_way; peer = Some peer; since = now })) (without_oldest n)) (empty_draft m)))
 unfolding empty_draft with_memory_by with_pair_tags
-replied_done x took m course peer now own reads = record {
+replied_done x took m session_way peer now own reads = record {
   puts = tt;
   ring = held_from x.eui m.station.ring;
   reads = reads;
@@ -245,47 +245,47 @@ module _ (x : Identity) (m : Memory) (now : ℕ) (reads : IfSome m.station.ring 
   carry_down_is join body.Decline = carries_down_is join
   carry_down_is join _ = Refuses _
 
-  replies_is : (course : Course) (peer : Peer) (join : JoinMessage) → peer.eui ≡ x.eui → Is (replies m course peer join now)
-  replies_is course peer join own =
-      checked_planned (λ e. sealed_planned _ _ (said x.eui m.station.ring None course peer.eui join now _ (replied_done x None m course peer now own reads)))
+  replies_is : (session_way : SessionWay) (peer : Peer) (join : JoinMessage) → peer.eui ≡ x.eui → Is (replies m session_way peer join now)
+  replies_is session_way peer join own =
+      checked_planned (λ e. sealed_planned _ _ (said x.eui m.station.ring None session_way peer.eui join now _ (replied_done x None m session_way peer now own reads)))
 
-  reply_is : (course : Course) (packet : List ℕ) → Is (reply x m course packet now)
-  reply_is course packet = checked_planned (λ e.
-      option_planned (λ value. checked dropped m (option_map packet_fault (first_fault packet)) (reply_with x m course packet now value)) (oldest m)
+  reply_is : (session_way : SessionWay) (packet : List ℕ) → Is (reply x m session_way packet now)
+  reply_is session_way packet = checked_planned (λ e.
+      option_planned (λ value. checked dropped m (option_map packet_fault (first_fault packet)) (reply_with x m session_way packet now value)) (oldest m)
       (drop_it m NoRandom)
-      (λ value here. checked_planned (λ right. replies_is course (peer_for x.eui value packet)
+      (λ value here. checked_planned (λ right. replies_is session_way (peer_for x.eui value packet)
       (message x.eui (body.Join (x.ciphers.second x.psk (identifier_of packet) (peer_for x.eui value packet)))) refl))
       (λ none. Refuses _))
 
-  takes_is : (course : Course) (peer : Peer) (identifier : ℕ) (granted : Granted) (join : JoinMessage) → peer.eui ≡ x.eui → IsReadable granted
-      → Is (takes m course peer identifier granted join now)
-  takes_is course peer identifier granted join own readable = checked_planned (λ e.
-      sealed_planned _ _ (said x.eui m.station.ring (Some (agreed_by peer)) course peer.eui join now _
+  takes_is : (session_way : SessionWay) (peer : Peer) (identifier : ℕ) (granted : Granted) (join : JoinMessage) → peer.eui ≡ x.eui → IsReadable granted
+      → Is (takes m session_way peer identifier granted join now)
+  takes_is session_way peer identifier granted join own readable = checked_planned (λ e.
+      sealed_planned _ _ (said x.eui m.station.ring (Some (agreed_by peer)) session_way peer.eui join now _
       (took_done x.eui m peer identifier granted own readable)))
 
   no_fault : {A B : Type 0} (f : A → B) (o : Option A) → option_map f o ≡ None → o ≡ None
   no_fault f None e = refl
   no_fault f (Some a) e = absurd (cc)
 
-  take_with_is : (course : Course) (packet : List ℕ) (peer : Peer) (granted : Option Granted) → peer.eui ≡ x.eui
+  take_with_is : (session_way : SessionWay) (packet : List ℕ) (peer : Peer) (granted : Option Granted) → peer.eui ≡ x.eui
       → x.ciphers.third_fault x.psk peer packet ≡ None → x.ciphers.granted x.psk peer packet ≡ granted → AreOctets packet
-      → Is (take_with x m course packet now peer granted)
-  take_with_is course packet peer None own right is are = Refuses _
-  take_with_is course packet peer (Some granted) own right is are = takes_is course peer _ granted _ own (granted_fits peer packet granted are right is)
+      → Is (take_with x m session_way packet now peer granted)
+  take_with_is session_way packet peer None own right is are = Refuses _
+  take_with_is session_way packet peer (Some granted) own right is are = takes_is session_way peer _ granted _ own (granted_fits peer packet granted are right is)
 
-  take_by_is : (course : Course) (packet : List ℕ) (peer : Option Peer) → AreOctets packet → IfSome peer (λ p. p.eui ≡ x.eui)
-      → Is (take_by x m course packet now peer)
-  take_by_is course packet None are own = Refuses _
-  take_by_is course packet (Some peer) are own = checked_planned (λ e.
-      take_with_is course packet peer (x.ciphers.granted x.psk peer packet) own (no_fault packet_fault (x.ciphers.third_fault x.psk peer packet) e) refl are)
+  take_by_is : (session_way : SessionWay) (packet : List ℕ) (peer : Option Peer) → AreOctets packet → IfSome peer (λ p. p.eui ≡ x.eui)
+      → Is (take_by x m session_way packet now peer)
+  take_by_is session_way packet None are own = Refuses _
+  take_by_is session_way packet (Some peer) are own = checked_planned (λ e.
+      take_with_is session_way packet peer (x.ciphers.granted x.psk peer packet) own (no_fault packet_fault (x.ciphers.third_fault x.psk peer packet) e) refl are)
 
-  take_is : (course : Course) (packet : List ℕ) → AreOctets packet → Is (take x m course packet now)
-  take_is course packet are = checked_planned (λ e.
-      option_planned (λ (s : MeterSession). take_by x m course packet now s.peer) m.session (drop_it m NoSession)
-      (λ s here. take_by_is course packet s.peer are (subst (PeerIs x.eui) here peer_is)) (λ none. Refuses _))
+  take_is : (session_way : SessionWay) (packet : List ℕ) → AreOctets packet → Is (take x m session_way packet now)
+  take_is session_way packet are = checked_planned (λ e.
+      option_planned (λ (s : MeterSession). take_by x m session_way packet now s.peer) m.session (drop_it m NoSession)
+      (λ s here. take_by_is session_way packet s.peer are (subst (PeerIs x.eui) here peer_is)) (λ none. Refuses _))
 
-  challenged_is : (course : Course) (packet : List ℕ) → AreOctets packet → Is (challenged x m course packet now)
-  challenged_is course packet are = choose_planned (λ first. reply_is course packet) (λ third. take_is course packet are)
+  challenged_is : (session_way : SessionWay) (packet : List ℕ) → AreOctets packet → Is (challenged x m session_way packet now)
+  challenged_is session_way packet are = choose_planned (λ first. reply_is session_way packet) (λ third. take_is session_way packet are)
 
   declined_is : (agent : ℕ) → Is (declined m agent)
   declined_is agent = choose_planned (λ joined. Refuses _)
@@ -421,7 +421,7 @@ pub joins_plan : (x : Identity) (m : Memory) (agent now : ℕ) → IfSome m.stat
     → MeterPlan x.eui m.station.ring None (join x m agent now)
 joins_plan x m agent now reads session = meter_plan x.eui m joining_ends (λ a. None) (λ a. None) (λ a. refl) reads session _
     (choose_planned (λ joined. Refuses _) (λ outside. sealing_planned _ tt
-    (asked_done x.eui m agent x.eui _ (record { course = ByAgent agent; peer = None; since = now }) refl reads) (few_units _ _ (asked_none m agent x.eui _ _))))
+    (asked_done x.eui m agent x.eui _ (record { session_way = ByAgent agent; peer = None; since = now }) refl reads) (few_units _ _ (asked_none m agent x.eui _ _))))
 
 pub leaves_plan : (eui : Eui) (m : Memory) → IfSome m.station.ring IsReadable → PeerIs eui m.session → MeterPlan eui m.station.ring None (leave m)
 leaves_plan eui m reads session = meter_plan eui m leaving_ends (λ a. None) (λ a. None) (λ a. refl) reads session _
@@ -434,7 +434,7 @@ joins_opened x m agent now = by_joined (is_some m.station.ring)
     by_joined : (b : Bool) → let p : Plan Memory (Result (Unit {0}) JoinRefusal) =
         (if b then refused joining_ends m AlreadyJoined
         else sealing in_memory joining_ends (goes_up agent x.eui (message x.eui (body.Join []))
-        (with_memory_by (with_session (Some (record { course = ByAgent agent; peer = None; since = now }))) (empty_draft m))) tt) in p.opened ≡ []
+        (with_memory_by (with_session (Some (record { session_way = ByAgent agent; peer = None; since = now }))) (empty_draft m))) tt) in p.opened ≡ []
     by_joined true = refl
     by_joined false = refl
 
@@ -454,7 +454,7 @@ joins_made x m agent now = by_joined (is_some m.station.ring)
     by_joined : (b : Bool) → let p : Plan Memory (Result (Unit {0}) JoinRefusal) =
         (if b then refused joining_ends m AlreadyJoined
         else sealing in_memory joining_ends (goes_up agent x.eui (message x.eui (body.Join []))
-        (with_memory_by (with_session (Some (record { course = ByAgent agent; peer = None; since = now }))) (empty_draft m))) tt) in p.made ≡ []
+        (with_memory_by (with_session (Some (record { session_way = ByAgent agent; peer = None; since = now }))) (empty_draft m))) tt) in p.made ≡ []
     by_joined true = refl
     by_joined false = refl
 

@@ -22,7 +22,7 @@ use Rattle.node_rules.specs.declared.heard.Way.{Way}
 use Rattle.node_rules.specs.declared.heard.Way.TheVariants.{Air, Near, Mesh}
 use Rattle.node_rules.specs.declared.refusal.Dropped.{Dropped}
 use Rattle.node_rules.specs.declared.refusal.Dropped.TheVariants.{BadUnit, NoSession, NoRandom}
-use Rattle.node_rules.specs.Memory.{StationMemory, Memory, Command, MeterSession, Course, ByAgent, ByCommand, address_of, next_hop}
+use Rattle.node_rules.specs.Memory.{StationMemory, Memory, Command, MeterSession, SessionWay, ByAgent, ByCommand, address_of, next_hop}
 use Rattle.node_rules.specs.Plans.{Plan}
 use Rattle.node_rules.specs.Drafts.{Draft, Outgoing, alone, empty_draft, checked, with_ring}
 use Rattle.node_rules.specs.Hearing as station_rules
@@ -135,22 +135,22 @@ module _ (L : Granted → Type 0) (P : Eui → Key → Type 0) (E : Eui → Type
 
   -- # Challenges
 
-  abbrev replied : Course → Peer → Draft Memory
-  replied course peer = with_pair_tags (mac_p_tag peer.eui peer.id_s peer.rand_s peer.rand_p ∷ []) []
-      (with_memory_by (λ n. with_session (Some (record { course = course; peer = Some peer; since = g.now })) (without_oldest n)) (empty_draft m))
+  abbrev replied : SessionWay → Peer → Draft Memory
+  replied session_way peer = with_pair_tags (mac_p_tag peer.eui peer.id_s peer.rand_s peer.rand_p ∷ []) []
+      (with_memory_by (λ n. with_session (Some (record { session_way = session_way; peer = Some peer; since = g.now })) (without_oldest n)) (empty_draft m))
 
-  replied_made : (course : Course) (peer : Peer) (value : Rand) → oldest m ≡ Some value → MadeHere (replied course peer)
+  replied_made : (session_way : SessionWay) (peer : Peer) (value : Rand) → oldest m ≡ Some value → MadeHere (replied session_way peer)
   unfolding empty_draft
-  replied_made course peer value here = Tags _ _ _
-      (Remembers (λ n. with_session (Some (record { course = course; peer = Some peer; since = g.now })) (without_oldest n)) (empty_draft m) Begins
-      (Replies (record { course = course; peer = Some peer; since = g.now }) value here))
+  replied_made session_way peer value here = Tags _ _ _
+      (Remembers (λ n. with_session (Some (record { session_way = session_way; peer = Some peer; since = g.now })) (without_oldest n)) (empty_draft m) Begins
+      (Replies (record { session_way = session_way; peer = Some peer; since = g.now }) value here))
 
-  replied_lacks : (course : Course) (peer : Peer) (octets : ℕ) → LacksNothing m.station 0 octets → LacksNothing (replied course peer).memory.station 0 octets
+  replied_lacks : (session_way : SessionWay) (peer : Peer) (octets : ℕ) → LacksNothing m.station 0 octets → LacksNothing (replied session_way peer).memory.station 0 octets
   unfolding empty_draft with_memory_by with_pair_tags
-  replied_lacks course peer octets f = f
+  replied_lacks session_way peer octets f = f
 
-  replies_is : (course : Course) (peer : Peer) (join : JoinMessage) (value : Rand) → IsSaidUp x m join → oldest m ≡ Some value
-      → Is (replies m course peer join g.now)
+  replies_is : (session_way : SessionWay) (peer : Peer) (join : JoinMessage) (value : Rand) → IsSaidUp x m join → oldest m ≡ Some value
+      → Is (replies m session_way peer join g.now)
   replies_is (ByAgent agent) peer join value said here =
       checked_planned (λ e. sealed_planned _ _ (Up _ _ _ _ (replied_made (ByAgent agent) peer value here), search memory_leaves depth 16, tt))
   replies_is ByCommand peer join value said here = checked_planned (λ e.
@@ -161,11 +161,11 @@ module _ (L : Granted → Type 0) (P : Eui → Key → Type 0) (E : Eui → Type
         tt,
       ))
 
-  reply_is : (course : Course) (packet : List ℕ) → Is (reply x m course packet g.now)
-  reply_is course packet = checked_planned (λ e.
-      option_planned (λ value. checked dropped m (option_map packet_fault (first_fault packet)) (reply_with x m course packet g.now value)) (oldest m)
+  reply_is : (session_way : SessionWay) (packet : List ℕ) → Is (reply x m session_way packet g.now)
+  reply_is session_way packet = checked_planned (λ e.
+      option_planned (λ value. checked dropped m (option_map packet_fault (first_fault packet)) (reply_with x m session_way packet g.now value)) (oldest m)
       (drop_it m NoRandom)
-      (λ value here. checked_planned (λ right. replies_is course (peer_for x.eui value packet)
+      (λ value here. checked_planned (λ right. replies_is session_way (peer_for x.eui value packet)
       (message x.eui (body.Join (x.ciphers.second x.psk (identifier_of packet) (peer_for x.eui value packet)))) value (Second packet value here) here))
       (λ none. Refuses _))
 
@@ -186,8 +186,8 @@ module _ (L : Granted → Type 0) (P : Eui → Key → Type 0) (E : Eui → Type
   unfolding empty_draft with_memory_by with_pair_tags on_station with_ring next_hop
   took_lacks peer identifier granted octets f = record { room = f.room; number = f.number }
 
-  takes_is : (course : Course) (peer : Peer) (identifier : ℕ) (granted : Granted) (join : JoinMessage) → IsSaidUp x m join → IsTaken g x m granted
-      → Is (takes m course peer identifier granted join g.now)
+  takes_is : (session_way : SessionWay) (peer : Peer) (identifier : ℕ) (granted : Granted) (join : JoinMessage) → IsSaidUp x m join → IsTaken g x m granted
+      → Is (takes m session_way peer identifier granted join g.now)
   takes_is (ByAgent agent) peer identifier granted join said taken =
       checked_planned (λ e. sealed_planned _ _ (Up _ _ _ _ (took_made peer identifier granted taken), search memory_leaves depth 16, tt))
   takes_is ByCommand peer identifier granted join said taken = checked_planned (λ e.
@@ -198,27 +198,27 @@ module _ (L : Granted → Type 0) (P : Eui → Key → Type 0) (E : Eui → Type
         tt,
       ))
 
-  take_with_is : (course : Course) (packet : List ℕ) → IsPacket g m packet → (s : MeterSession) (peer : Peer) (granted : Option Granted) → m.session ≡ Some s
+  take_with_is : (session_way : SessionWay) (packet : List ℕ) → IsPacket g m packet → (s : MeterSession) (peer : Peer) (granted : Option Granted) → m.session ≡ Some s
       → s.peer ≡ Some peer → x.ciphers.third_fault x.psk peer packet ≡ None → x.ciphers.granted x.psk peer packet ≡ granted
-      → Is (take_with x m course packet g.now peer granted)
-  take_with_is course packet c s peer None there has right is = Refuses _
-  take_with_is course packet c s peer (Some granted) there has right is = takes_is course peer _ granted _ (Fourth packet s peer there has)
+      → Is (take_with x m session_way packet g.now peer granted)
+  take_with_is session_way packet c s peer None there has right is = Refuses _
+  take_with_is session_way packet c s peer (Some granted) there has right is = takes_is session_way peer _ granted _ (Fourth packet s peer there has)
       (record { session = s; there = there; has = has; peer = peer; packet = packet; came = c; right = right; is = is })
 
-  take_by_is : (course : Course) (packet : List ℕ) → IsPacket g m packet → (s : MeterSession) (peer : Option Peer) → m.session ≡ Some s → s.peer ≡ peer
-      → Is (take_by x m course packet g.now peer)
-  take_by_is course packet c s None there has = Refuses _
-  take_by_is course packet c s (Some peer) there has = checked_planned (λ e.
-      take_with_is course packet c s peer (x.ciphers.granted x.psk peer packet) there has (no_fault packet_fault (x.ciphers.third_fault x.psk peer packet) e)
+  take_by_is : (session_way : SessionWay) (packet : List ℕ) → IsPacket g m packet → (s : MeterSession) (peer : Option Peer) → m.session ≡ Some s → s.peer ≡ peer
+      → Is (take_by x m session_way packet g.now peer)
+  take_by_is session_way packet c s None there has = Refuses _
+  take_by_is session_way packet c s (Some peer) there has = checked_planned (λ e.
+      take_with_is session_way packet c s peer (x.ciphers.granted x.psk peer packet) there has (no_fault packet_fault (x.ciphers.third_fault x.psk peer packet) e)
       refl)
 
-  take_is : (course : Course) (packet : List ℕ) → IsPacket g m packet → Is (take x m course packet g.now)
-  take_is course packet c = checked_planned (λ e.
-      option_planned (λ (s : MeterSession). take_by x m course packet g.now s.peer) m.session (drop_it m NoSession)
-      (λ s here. take_by_is course packet c s s.peer here refl) (λ none. Refuses _))
+  take_is : (session_way : SessionWay) (packet : List ℕ) → IsPacket g m packet → Is (take x m session_way packet g.now)
+  take_is session_way packet c = checked_planned (λ e.
+      option_planned (λ (s : MeterSession). take_by x m session_way packet g.now s.peer) m.session (drop_it m NoSession)
+      (λ s here. take_by_is session_way packet c s s.peer here refl) (λ none. Refuses _))
 
-  challenged_is : (course : Course) (packet : List ℕ) → IsPacket g m packet → Is (challenged x m course packet g.now)
-  challenged_is course packet c = choose_planned (λ first. reply_is course packet) (λ third. take_is course packet c)
+  challenged_is : (session_way : SessionWay) (packet : List ℕ) → IsPacket g m packet → Is (challenged x m session_way packet g.now)
+  challenged_is session_way packet c = choose_planned (λ first. reply_is session_way packet) (λ third. take_is session_way packet c)
 
   -- # What else the coordinator says
 
@@ -290,19 +290,19 @@ module _ (L : Granted → Type 0) (P : Eui → Key → Type 0) (E : Eui → Type
 
   abbrev asks : ℕ → Draft Memory
   asks agent = goes_up agent x.eui (message x.eui (body.Join []))
-      (with_memory_by (with_session (Some (record { course = ByAgent agent; peer = None; since = g.now }))) (empty_draft m))
+      (with_memory_by (with_session (Some (record { session_way = ByAgent agent; peer = None; since = g.now }))) (empty_draft m))
 
   asks_units : (agent : ℕ) → (asks agent).units ≡ []
   unfolding empty_draft with_memory_by goes_up
   asks_units agent = refl
 
   asks_fits : (agent : ℕ) → Fits m.station 0 1
-      (with_memory_by (with_session (Some (record { course = ByAgent agent; peer = None; since = g.now }))) (empty_draft m))
+      (with_memory_by (with_session (Some (record { session_way = ByAgent agent; peer = None; since = g.now }))) (empty_draft m))
   asks_fits agent = remembered_fits m.station _ _ (begun_fits m.station 1 m)
 
   pub joins_is : (agent : ℕ) → Planned in_memory joining_ends m Nothing (MadeBy W L P E g m AnyAnswer) (join x m agent g.now)
   joins_is agent = choose_planned (λ joined. Refuses _) (λ outside. sealing_planned (asks agent) tt (
-    Up agent x.eui _ _ (Remembers (with_session (Some (record { course = ByAgent agent; peer = None; since = g.now }))) (empty_draft m) Begins (Asks _)),
+    Up agent x.eui _ _ (Remembers (with_session (Some (record { session_way = ByAgent agent; peer = None; since = g.now }))) (empty_draft m) Begins (Asks _)),
     up_done m.station agent x.eui _ _ (asks_fits agent),
     tt,
   )

@@ -30,7 +30,7 @@ use Rattle.node_rules.specs.declared.heard.Way.TheVariants.{Air, Near, Mesh}
 use Rattle.node_rules.specs.declared.refusal.Dropped.{Dropped}
 use Rattle.node_rules.specs.declared.refusal.Dropped.TheVariants.{BadUnit, NoSession, NoRandom}
 use Rattle.node_rules.specs.Ciphers.{network}
-use Rattle.node_rules.specs.Memory.{StationMemory, Memory, MeterSession, Course, ByAgent, ByCommand, address_of}
+use Rattle.node_rules.specs.Memory.{StationMemory, Memory, MeterSession, SessionWay, ByAgent, ByCommand, address_of}
 use Rattle.node_rules.specs.Plans.{Plan}
 use Rattle.node_rules.specs.Drafts.{Draft, alone, empty_draft, checked, with_ring}
 use Rattle.node_rules.specs.Hearing as station_rules
@@ -112,32 +112,32 @@ module _ (eui : Eui) (psk : Key) (own : HasEui eui) (pair : AreOctets psk.0) (m 
 
   -- # Challenges
 
-  abbrev replied : Course → Peer → Draft Memory
-  replied course peer = with_pair_tags (mac_p_tag peer.eui peer.id_s peer.rand_s peer.rand_p ∷ []) []
-      (with_memory_by (λ n. with_session (Some (record { course = course; peer = Some peer; since = now })) (without_oldest n)) (empty_draft m))
+  abbrev replied : SessionWay → Peer → Draft Memory
+  replied session_way peer = with_pair_tags (mac_p_tag peer.eui peer.id_s peer.rand_s peer.rand_p ∷ []) []
+      (with_memory_by (λ n. with_session (Some (record { session_way = session_way; peer = Some peer; since = now })) (without_oldest n)) (empty_draft m))
 
-  replied_speaks : (course : Course) (peer : Peer) → PeerSpeaks peer → DraftSpeaksIn (replied course peer)
+  replied_speaks : (session_way : SessionWay) (peer : Peer) → PeerSpeaks peer → DraftSpeaksIn (replied session_way peer)
   unfolding empty_draft
-  replied_speaks course peer p = tagged_speaks (mac_p_tag peer.eui peer.id_s peer.rand_s peer.rand_p ∷ []) [] _
-      (remembers_speaks (λ n. with_session (Some (record { course = course; peer = Some peer; since = now })) (without_oldest n)) (empty_draft m) begun reads
+  replied_speaks session_way peer p = tagged_speaks (mac_p_tag peer.eui peer.id_s peer.rand_s peer.rand_p ∷ []) [] _
+      (remembers_speaks (λ n. with_session (Some (record { session_way = session_way; peer = Some peer; since = now })) (without_oldest n)) (empty_draft m) begun reads
       (record { waiting = h.waiting; randoms = All-drop RandSpeaks 1 m.randoms h.randoms; session = p; sessions = h.sessions }))
 
-  replies_is : (course : Course) (peer : Peer) (join : JoinMessage) → PeerSpeaks peer → JoinSpeaks join → PlanSpeaks (replies m course peer join now)
+  replies_is : (session_way : SessionWay) (peer : Peer) (join : JoinMessage) → PeerSpeaks peer → JoinSpeaks join → PlanSpeaks (replies m session_way peer join now)
   replies_is (ByAgent agent) peer join p says = checked_speaks m h _
       (λ e. sealed_speaks m h _ _ _ (up_speaks agent peer.eui join (replied (ByAgent agent) peer) (replied_speaks (ByAgent agent) peer p) p.0 says))
   replies_is ByCommand peer join p says =
       checked_speaks m h _ (λ e. sealed_speaks m h _ _ _ (commanded_speaks 0 join now (replied ByCommand peer) says (replied_speaks ByCommand peer p)))
 
-  reply_is : (course : Course) (packet : List ℕ) → AreOctets packet → PlanSpeaks (reply x m course packet now)
-  reply_is course packet are = checked_speaks m h _ (λ e.
-      option_speaks (λ value. checked dropped m (option_map packet_fault (first_fault packet)) (reply_with x m course packet now value)) (oldest m)
+  reply_is : (session_way : SessionWay) (packet : List ℕ) → AreOctets packet → PlanSpeaks (reply x m session_way packet now)
+  reply_is session_way packet are = checked_speaks m h _ (λ e.
+      option_speaks (λ value. checked dropped m (option_map packet_fault (first_fault packet)) (reply_with x m session_way packet now value)) (oldest m)
       (drop_it m NoRandom)
       (λ value here. checked_speaks m h _ (λ right.
       let peer : Peer = peer_for eui value packet in
       let rand_s : AreOctets peer.rand_s.0 = part_octets 6 16 packet are in
       let is : RandSpeaks value = oldest_speaks m value h here in
       let fits = second_fits (keys_of psk.0) (identifier_of packet) peer (part_short 6 16 packet) is.1 own.0 in
-      replies_is course peer (message eui (body.Join (network.second psk (identifier_of packet) peer))) (own.1, rand_s, part_short 6 16 packet)
+      replies_is session_way peer (message eui (body.Join (network.second psk (identifier_of packet) peer))) (own.1, rand_s, part_short 6 16 packet)
       (join_speaks eui (body.Join (network.second psk (identifier_of packet) peer)) own
       (second_octets psk.0 (identifier_of packet) peer pair (octet_low 1 packet are) own.1 rand_s is.0) (omega arith))))
       (refuses m h _ _))
@@ -156,36 +156,36 @@ module _ (eui : Eui) (psk : Key) (own : HasEui eui) (pair : AreOctets psk.0) (m 
   took_speaks peer identifier granted r = tagged_speaks _ _ (on_station (with_ring (Some granted)) (with_memory_by (with_session None) (empty_draft m)))
       (ringed_speaks (Some granted) (with_memory_by (with_session None) (empty_draft m)) ended_speaks r)
 
-  takes_is : (course : Course) (peer : Peer) (identifier : ℕ) (granted : Granted) (join : JoinMessage) → PeerSpeaks peer → IsReadable granted → JoinSpeaks join
-      → PlanSpeaks (takes m course peer identifier granted join now)
+  takes_is : (session_way : SessionWay) (peer : Peer) (identifier : ℕ) (granted : Granted) (join : JoinMessage) → PeerSpeaks peer → IsReadable granted → JoinSpeaks join
+      → PlanSpeaks (takes m session_way peer identifier granted join now)
   takes_is (ByAgent agent) peer identifier granted join p r says = checked_speaks m h _
       (λ e. sealed_speaks m h _ _ _ (up_speaks agent peer.eui join (took peer identifier granted) (took_speaks peer identifier granted r) p.0 says))
   takes_is ByCommand peer identifier granted join p r says = checked_speaks m h _
       (λ e. sealed_speaks m h _ _ _ (commanded_speaks 0 join now (took peer identifier granted) says (took_speaks peer identifier granted r)))
 
-  take_with_is : (course : Course) (packet : List ℕ) (peer : Peer) (granted : Option Granted) → AreOctets packet → PeerSpeaks peer
-      → network.third_fault psk peer packet ≡ None → network.granted psk peer packet ≡ granted → PlanSpeaks (take_with x m course packet now peer granted)
-  take_with_is course packet peer None are p right is = refuses m h _ _
-  take_with_is course packet peer (Some granted) are p right is =
-      takes_is course peer (identifier_of packet) granted (message eui (body.Join (network.fourth psk (identifier_of packet) peer))) p
+  take_with_is : (session_way : SessionWay) (packet : List ℕ) (peer : Peer) (granted : Option Granted) → AreOctets packet → PeerSpeaks peer
+      → network.third_fault psk peer packet ≡ None → network.granted psk peer packet ≡ granted → PlanSpeaks (take_with x m session_way packet now peer granted)
+  take_with_is session_way packet peer None are p right is = refuses m h _ _
+  take_with_is session_way packet peer (Some granted) are p right is =
+      takes_is session_way peer (identifier_of packet) granted (message eui (body.Join (network.fourth psk (identifier_of packet) peer))) p
       (network_ranges.granted psk peer packet granted pair are right is)
       (join_speaks eui (body.Join (network.fourth psk (identifier_of packet) peer)) own
       (fourth_octets psk.0 (identifier_of packet) peer pair (octet_low 1 packet are) p.1)
       (let fits = fourth_fits (keys_of psk.0) (identifier_of packet) peer p.2 in omega arith))
 
-  take_by_is : (course : Course) (packet : List ℕ) (peer : Option Peer) → AreOctets packet → IfSome peer PeerSpeaks
-      → PlanSpeaks (take_by x m course packet now peer)
-  take_by_is course packet None are p = refuses m h _ _
-  take_by_is course packet (Some peer) are p = checked_speaks m h _ (λ e.
-      take_with_is course packet peer (network.granted psk peer packet) are p (no_fault packet_fault (network.third_fault psk peer packet) e) refl)
+  take_by_is : (session_way : SessionWay) (packet : List ℕ) (peer : Option Peer) → AreOctets packet → IfSome peer PeerSpeaks
+      → PlanSpeaks (take_by x m session_way packet now peer)
+  take_by_is session_way packet None are p = refuses m h _ _
+  take_by_is session_way packet (Some peer) are p = checked_speaks m h _ (λ e.
+      take_with_is session_way packet peer (network.granted psk peer packet) are p (no_fault packet_fault (network.third_fault psk peer packet) e) refl)
 
-  take_is : (course : Course) (packet : List ℕ) → AreOctets packet → PlanSpeaks (take x m course packet now)
-  take_is course packet are = checked_speaks m h _ (λ e.
-      option_speaks (λ (s : MeterSession). take_by x m course packet now s.peer) m.session (drop_it m NoSession)
-      (λ s here. take_by_is course packet s.peer are (subst (λ o. IfSome o SessionSpeaks) here h.session)) (refuses m h _ _))
+  take_is : (session_way : SessionWay) (packet : List ℕ) → AreOctets packet → PlanSpeaks (take x m session_way packet now)
+  take_is session_way packet are = checked_speaks m h _ (λ e.
+      option_speaks (λ (s : MeterSession). take_by x m session_way packet now s.peer) m.session (drop_it m NoSession)
+      (λ s here. take_by_is session_way packet s.peer are (subst (λ o. IfSome o SessionSpeaks) here h.session)) (refuses m h _ _))
 
-  challenged_is : (course : Course) (packet : List ℕ) → AreOctets packet → PlanSpeaks (challenged x m course packet now)
-  challenged_is course packet are = choose_speaks (λ first. reply_is course packet are) (λ third. take_is course packet are)
+  challenged_is : (session_way : SessionWay) (packet : List ℕ) → AreOctets packet → PlanSpeaks (challenged x m session_way packet now)
+  challenged_is session_way packet are = choose_speaks (λ first. reply_is session_way packet are) (λ third. take_is session_way packet are)
 
   -- # What else the coordinator says
 
@@ -255,9 +255,9 @@ module _ (eui : Eui) (psk : Key) (own : HasEui eui) (pair : AreOctets psk.0) (m 
 
   -- # What a meter does by itself
 
-  asks_speaks : (agent : ℕ) → DraftSpeaksIn (with_memory_by (with_session (Some (record { course = ByAgent agent; peer = None; since = now }))) (empty_draft m))
+  asks_speaks : (agent : ℕ) → DraftSpeaksIn (with_memory_by (with_session (Some (record { session_way = ByAgent agent; peer = None; since = now }))) (empty_draft m))
   unfolding empty_draft
-  asks_speaks agent = remembers_speaks (with_session (Some (record { course = ByAgent agent; peer = None; since = now }))) (empty_draft m) begun reads
+  asks_speaks agent = remembers_speaks (with_session (Some (record { session_way = ByAgent agent; peer = None; since = now }))) (empty_draft m) begun reads
       (record { waiting = h.waiting; randoms = h.randoms; session = tt; sessions = h.sessions })
 
   pub joins_speaks : (agent : ℕ) → PlanSpeaks (join x m agent now)

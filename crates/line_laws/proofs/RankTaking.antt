@@ -22,13 +22,13 @@ use Rattle.node_rules.specs.declared.heard.Way.{Way}
 use Rattle.node_rules.specs.declared.heard.Way.TheVariants.{Air, Near, Mesh}
 use Rattle.node_rules.specs.declared.refusal.Dropped.{Dropped}
 use Rattle.node_rules.specs.declared.refusal.Dropped.TheVariants.{CounterSpent, NoSession, Store}
-use Rattle.node_rules.specs.Memory.{Memory, MeterSession, Course, ByAgent, ByCommand, address_of}
+use Rattle.node_rules.specs.Memory.{Memory, MeterSession, SessionWay, ByAgent, ByCommand, address_of}
 use Rattle.node_rules.specs.Plans.{resting}
 use Rattle.node_rules.specs.Drafts.{Draft, empty_draft, with_ring, counters_left, refused, sealing, sealed, checked, choose}
 use Rattle.node_rules.specs.Hearing.{dropped, hear}
 use Rattle.node_rules.specs.MemoryDrafts.{in_memory, on_station, with_memory_by, with_pair_tags, goes_up, unread, Unread, packet_fault}
 use Rattle.node_rules.specs.Joining.{is_first, message}
-use Rattle.node_rules.specs.Meters.{Identity, Hearing, with_session, says, ends, third_course_fault, take_with, take_by, take, challenged, hear_near}
+use Rattle.node_rules.specs.Meters.{Identity, Hearing, with_session, says, ends, third_way_fault, take_with, take_by, take, challenged, hear_near}
 use Rattle.node_rules.specs.Meters.{hear_order, hear_join, hear_join_in, heard_by, hear_meter}
 use Rattle.line_laws.proofs.IssueWords.{Among, Here, Later, among_right, commanded_leaves}
 use Rattle.line_laws.proofs.Made.{Given, Offered}
@@ -88,7 +88,7 @@ module _ (x : Identity) (m : Memory) (got : Accepted) (cost note now : ℕ) (ok 
   walk_lack q (Some reason) d agreed wrong tagged = Refused reason refl
 
   -- what is said opens no tag
-  said_opens : (way : Course) (own : Eui) (join : JoinMessage) (d : Draft Memory) → (says way own join now d).opened ≡ d.opened
+  said_opens : (way : SessionWay) (own : Eui) (join : JoinMessage) (d : Draft Memory) → (says way own join now d).opened ≡ d.opened
   unfolding goes_up
   said_opens (ByAgent agent) own join d = refl
   said_opens ByCommand own join d = (commanded_leaves (λ r. Unit {0}) 0 join now d).opened
@@ -105,15 +105,15 @@ module _ (x : Identity) (m : Memory) (got : Accepted) (cost note now : ℕ) (ok 
     read : join_in unread_is.body ≡ Some join
     challenge : join.body ≡ body.Challenge packet
 
-  module _ (packet : List ℕ) (came : Challenged packet) (course : Course) where
+  module _ (packet : List ℕ) (came : Challenged packet) (session_way : SessionWay) where
     walk_with : (s : MeterSession) (peer : Peer) → m.session ≡ Some s → s.peer ≡ Some peer → x.ciphers.third_fault x.psk peer packet ≡ None
         → (o : Option Granted) → x.ciphers.granted x.psk peer packet ≡ o
-        → Walk (take_with (picky ok x) m course packet now peer (only ok o)) (take_with x m course packet now peer o)
+        → Walk (take_with (picky ok x) m session_way packet now peer (only ok o)) (take_with x m session_way packet now peer o)
     walk_with s peer there has right None is = Same refl
     walk_with s peer there has right (Some g) is = by_ok (ok g) refl
       where
-        by_ok : (b : Bool) → ok g ≡ b → Walk (take_with (picky ok x) m course packet now peer (if b then Some g else None))
-            (take_with x m course packet now peer (Some g))
+        by_ok : (b : Bool) → ok g ≡ b → Walk (take_with (picky ok x) m session_way packet now peer (if b then Some g else None))
+            (take_with x m session_way packet now peer (Some g))
         by_ok true e = Same refl
         by_ok false e =
             let join = message x.eui (body.Join (x.ciphers.fourth x.psk (identifier_of packet) peer)) in
@@ -140,7 +140,7 @@ module _ (x : Identity) (m : Memory) (got : Accepted) (cost note now : ℕ) (ok 
               };
               wrong = e;
             })
-            (subst (Among (granting_tag peer.eui (identifier_of packet) peer.rand_s peer.rand_p (granting_text g))) (sym (said_opens course peer.eui join d))
+            (subst (Among (granting_tag peer.eui (identifier_of packet) peer.rand_s peer.rand_p (granting_text g))) (sym (said_opens session_way peer.eui join d))
             (tagged_draft made opened before _ (Later _ _ (Here []))))
 
     no_fault : {A B : Type 0} (f : A → B) (o : Option A) → option_map f o ≡ None → o ≡ None
@@ -148,21 +148,21 @@ module _ (x : Identity) (m : Memory) (got : Accepted) (cost note now : ℕ) (ok 
     no_fault f (Some a) e = absurd (cc)
 
     walk_by : (s : MeterSession) → m.session ≡ Some s → (o : Option Peer) → s.peer ≡ o
-        → Walk (take_by (picky ok x) m course packet now o) (take_by x m course packet now o)
+        → Walk (take_by (picky ok x) m session_way packet now o) (take_by x m session_way packet now o)
     walk_by s there None has = Same refl
     walk_by s there (Some peer) has = walk_checked (option_map packet_fault (x.ciphers.third_fault x.psk peer packet)) _ _
         (λ none. walk_with s peer there has (no_fault packet_fault _ none) (x.ciphers.granted x.psk peer packet) refl)
 
     walk_session : (o : Option MeterSession) → m.session ≡ o
-        → Walk (option_map_or (λ (s : MeterSession). take_by (picky ok x) m course packet now s.peer) o (refused dropped m NoSession))
-        (option_map_or (λ (s : MeterSession). take_by x m course packet now s.peer) o (refused dropped m NoSession))
+        → Walk (option_map_or (λ (s : MeterSession). take_by (picky ok x) m session_way packet now s.peer) o (refused dropped m NoSession))
+        (option_map_or (λ (s : MeterSession). take_by x m session_way packet now s.peer) o (refused dropped m NoSession))
     walk_session None e = Same refl
     walk_session (Some s) e = walk_by s e s.peer refl
 
-    walk_take : Walk (take (picky ok x) m course packet now) (take x m course packet now)
-    walk_take = walk_checked (third_course_fault m course) _ _ (λ none. walk_session m.session refl)
+    walk_take : Walk (take (picky ok x) m session_way packet now) (take x m session_way packet now)
+    walk_take = walk_checked (third_way_fault m session_way) _ _ (λ none. walk_session m.session refl)
 
-    walk_challenged : Walk (challenged (picky ok x) m course packet now) (challenged x m course packet now)
+    walk_challenged : Walk (challenged (picky ok x) m session_way packet now) (challenged x m session_way packet now)
     walk_challenged = walk_choose (is_first packet) _ _ _ _ (Same refl) walk_take
 
   -- # A joining message

@@ -95,7 +95,7 @@ module _ (ciphers : Ciphers) where
   unfolding resting goes_up with_memory_by empty_draft
   join_read x m agent now =
       let d : Draft Memory = goes_up agent x.eui (message x.eui (body.Join []))
-      (with_memory_by (meters.with_session (Some (record { course = ByAgent agent; peer = None; since = now }))) (empty_draft m)) in
+      (with_memory_by (meters.with_session (Some (record { session_way = ByAgent agent; peer = None; since = now }))) (empty_draft m)) in
       chosen (λ p. All (FrameRead ciphers) p.frames) (meters.is_joined m) (refused meters.joining_ends m _) (sealing in_memory meters.joining_ends d (tt {0}))
       (All-nil (FrameRead ciphers))
       (plain_read d refl (All-push (FrameRead ciphers) [] (Up agent x.eui (message x.eui (body.Join []))) (All-nil (FrameRead ciphers)) tt))

@@ -406,7 +406,7 @@ unfolding choose_plan goes_up with_memory_by empty_draft
 joining_stores_nothing own m agent now apart below =
     ap (λ (b : Bool). (if b then refused {H = Unit {0}} meters.joining_ends m joins.AlreadyJoined else sealing in_memory meters.joining_ends
     (goes_up agent own.eui (message own.eui (body.Join []))
-    (with_memory_by (meters.with_session (Some (record { course = ByAgent agent; peer = None; since = now }))) (empty_draft m))) tt).puts) apart
+    (with_memory_by (meters.with_session (Some (record { session_way = ByAgent agent; peer = None; since = now }))) (empty_draft m))) tt).puts) apart
     ∙ ap puts_of (reserve_none m.station.counter below)
 
 abbrev refusal : ChooseRefusal → Result ChosenAgent ChooseRefusal

@@ -47,7 +47,7 @@ use Rattle.node_rules.specs.Frames.{Sent, Up, Down, to_all}
 use Rattle.node_rules.specs.Hearing as stations
 use Rattle.node_rules.specs.Hearing.{dropped}
 use Rattle.node_rules.specs.Joining.{command_of, message, server_for}
-use Rattle.node_rules.specs.Memory.{ByAgent, ByCommand, Coordinator, CoordinatorSession, Course, Memory, Meter, MeterSession, Node, Role, StationMemory}
+use Rattle.node_rules.specs.Memory.{ByAgent, ByCommand, Coordinator, CoordinatorSession, SessionWay, Memory, Meter, MeterSession, Node, Role, StationMemory}
 use Rattle.node_rules.specs.Memory.{address_of, next_hop}
 use Rattle.node_rules.specs.MemoryDrafts.{Unread, goes_down, goes_up, in_memory, is_commanded, oldest, on_station, packet_fault, station_part, unread}
 use Rattle.node_rules.specs.MemoryDrafts.{with_memory_by, with_pair_tags}
@@ -244,38 +244,38 @@ module _ (x : meters.Identity) (m : Memory) where
   carry_down_quiet join body.Decline = carries_down_quiet join
   carry_down_quiet join _ = Rests _
 
-  replies_quiet : (course : Course) (peer : Peer) (join : JoinMessage) (now : ℕ) → OfMeter (meters.replies m course peer join now)
+  replies_quiet : (session_way : SessionWay) (peer : Peer) (join : JoinMessage) (now : ℕ) → OfMeter (meters.replies m session_way peer join now)
   replies_quiet (ByAgent agent) peer join now = search words depth 16
   replies_quiet ByCommand peer join now = search words depth 16
 
-  reply_quiet : (course : Course) (packet : List ℕ) (now : ℕ) → OfMeter (meters.reply x m course packet now)
-  reply_quiet course packet now = passed m _ _
-      (by_option m (λ value. checked dropped m (option_map packet_fault (first_fault packet)) (meters.reply_with x m course packet now value)) (oldest m)
+  reply_quiet : (session_way : SessionWay) (packet : List ℕ) (now : ℕ) → OfMeter (meters.reply x m session_way packet now)
+  reply_quiet session_way packet now = passed m _ _
+      (by_option m (λ value. checked dropped m (option_map packet_fault (first_fault packet)) (meters.reply_with x m session_way packet now value)) (oldest m)
       (meters.drop_it m drops.NoRandom)
-      (λ value. passed m _ _ (replies_quiet course (peer_for x.eui value packet)
+      (λ value. passed m _ _ (replies_quiet session_way (peer_for x.eui value packet)
       (message x.eui (body.Join (x.ciphers.second x.psk (identifier_of packet) (peer_for x.eui value packet)))) now)) (Rests _))
 
-  takes_quiet : (course : Course) (peer : Peer) (identifier : ℕ) (granted : Granted) (join : JoinMessage) (now : ℕ)
-      → OfMeter (meters.takes m course peer identifier granted join now)
+  takes_quiet : (session_way : SessionWay) (peer : Peer) (identifier : ℕ) (granted : Granted) (join : JoinMessage) (now : ℕ)
+      → OfMeter (meters.takes m session_way peer identifier granted join now)
   takes_quiet (ByAgent agent) peer identifier granted join now = search words depth 16
   takes_quiet ByCommand peer identifier granted join now = search words depth 16
 
-  take_with_quiet : (course : Course) (packet : List ℕ) (now : ℕ) (peer : Peer) (granted : Option Granted)
-      → OfMeter (meters.take_with x m course packet now peer granted)
-  take_with_quiet course packet now peer None = Rests _
-  take_with_quiet course packet now peer (Some granted) = takes_quiet course peer _ granted _ now
+  take_with_quiet : (session_way : SessionWay) (packet : List ℕ) (now : ℕ) (peer : Peer) (granted : Option Granted)
+      → OfMeter (meters.take_with x m session_way packet now peer granted)
+  take_with_quiet session_way packet now peer None = Rests _
+  take_with_quiet session_way packet now peer (Some granted) = takes_quiet session_way peer _ granted _ now
 
-  take_by_quiet : (course : Course) (packet : List ℕ) (now : ℕ) (peer : Option Peer) → OfMeter (meters.take_by x m course packet now peer)
-  take_by_quiet course packet now None = Rests _
-  take_by_quiet course packet now (Some peer) = passed m _ _ (take_with_quiet course packet now peer (x.ciphers.granted x.psk peer packet))
+  take_by_quiet : (session_way : SessionWay) (packet : List ℕ) (now : ℕ) (peer : Option Peer) → OfMeter (meters.take_by x m session_way packet now peer)
+  take_by_quiet session_way packet now None = Rests _
+  take_by_quiet session_way packet now (Some peer) = passed m _ _ (take_with_quiet session_way packet now peer (x.ciphers.granted x.psk peer packet))
 
-  take_quiet : (course : Course) (packet : List ℕ) (now : ℕ) → OfMeter (meters.take x m course packet now)
-  take_quiet course packet now = passed m _ _
-      (by_option m (λ (s : MeterSession). meters.take_by x m course packet now s.peer) m.session (meters.drop_it m drops.NoSession)
-      (λ s. take_by_quiet course packet now s.peer) (Rests _))
+  take_quiet : (session_way : SessionWay) (packet : List ℕ) (now : ℕ) → OfMeter (meters.take x m session_way packet now)
+  take_quiet session_way packet now = passed m _ _
+      (by_option m (λ (s : MeterSession). meters.take_by x m session_way packet now s.peer) m.session (meters.drop_it m drops.NoSession)
+      (λ s. take_by_quiet session_way packet now s.peer) (Rests _))
 
-  challenged_quiet : (course : Course) (packet : List ℕ) (now : ℕ) → OfMeter (meters.challenged x m course packet now)
-  challenged_quiet course packet now = chosen m _ _ _ (reply_quiet course packet now) (take_quiet course packet now)
+  challenged_quiet : (session_way : SessionWay) (packet : List ℕ) (now : ℕ) → OfMeter (meters.challenged x m session_way packet now)
+  challenged_quiet session_way packet now = chosen m _ _ _ (reply_quiet session_way packet now) (take_quiet session_way packet now)
 
   declined_quiet : (agent : ℕ) → OfMeter (meters.declined m agent)
   declined_quiet agent = search words depth 16

@@ -87,7 +87,7 @@ full x l value many = rw many refl
 
 -- the session of a meter that asked
 abbrev pub asking : ℕ → ℕ → MeterSession
-asking agent now = record { course = ByAgent agent; peer = None; since = now }
+asking agent now = record { session_way = ByAgent agent; peer = None; since = now }
 
 pub joins : (x : MeterState) (l : StationMemory) (agent now : ℕ) → is_some l.ring ≡ false
     → sealing in_memory meters.joining_ends

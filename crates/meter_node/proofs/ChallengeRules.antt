@@ -27,7 +27,7 @@ use Rattle.node_rules.specs.declared.refusal.Dropped.{Dropped}
 use Rattle.node_rules.specs.declared.refusal.Dropped.TheVariants.{NoSession, NoRandom, Form}
 use Rattle.node_rules.specs.Ciphers.{network}
 use Rattle.node_rules.specs.Frames.{Sent, Up, spelled}
-use Rattle.node_rules.specs.Memory.{StationMemory, Memory, MeterSession, Course, ByAgent, ByCommand}
+use Rattle.node_rules.specs.Memory.{StationMemory, Memory, MeterSession, SessionWay, ByAgent, ByCommand}
 use Rattle.node_rules.specs.Plans.{Plan}
 use Rattle.node_rules.specs.Drafts.{Ends, empty_draft, with_ring, refused, sealing, checked, choose}
 use Rattle.node_rules.specs.Hearing.{dropped}
@@ -124,16 +124,16 @@ checked_refused m f q reason e = λ i. checked dropped m (sym e i) q
 
 -- # Replies
 
-module _ (x : MeterState) (l : StationMemory) (course : Course) (packet : List ℕ) (now : ℕ) where
+module _ (x : MeterState) (l : StationMemory) (session_way : SessionWay) (packet : List ℕ) (now : ℕ) where
   -- what is left beside the station
   abbrev pub replying : Peer → MeterState
-  replying peer = record x { randoms = drop 1 x.randoms; session = Some (record { course = course; peer = Some peer; since = now }) }
+  replying peer = record x { randoms = drop 1 x.randoms; session = Some (record { session_way = session_way; peer = Some peer; since = now }) }
 
   abbrev Replies : Option Dropped → Option Rand → Option EapFault → meters.Hearing
   Replies f o k =
       checked dropped (memory_with x l) f
       (option_map_or (λ value. checked dropped (memory_with x l) (option_map packet_fault k)
-      (meters.reply_with (identity_of x) (memory_with x l) course packet now value)) o
+      (meters.reply_with (identity_of x) (memory_with x l) session_way packet now value)) o
       (meters.drop_it (memory_with x l) NoRandom))
 
   reply_refused_by : (f : Option Dropped) (o : Option Rand) (k : Option EapFault) (reason : Dropped)
@@ -146,9 +146,9 @@ module _ (x : MeterState) (l : StationMemory) (course : Course) (packet : List �
       ap (λ q. refused {H = MeterHeard} dropped (memory_with x l) q) (sym (same_reason (packet_fault fault) reason h))
   reply_refused_by None (Some v) None reason h = absurd (none_some reason h)
 
-  pub reply_refused : (reason : Dropped) → (meters.first_course_fault (memory_with x l) course then first_refusal x.randoms packet) ≡ Some reason
-      → refused {H = MeterHeard} dropped (memory_with x l) reason ≡ meters.reply (identity_of x) (memory_with x l) course packet now
-  reply_refused reason h = reply_refused_by (meters.first_course_fault (memory_with x l) course) (slice_get x.randoms 0) (first_fault packet) reason h
+  pub reply_refused : (reason : Dropped) → (meters.first_way_fault (memory_with x l) session_way then first_refusal x.randoms packet) ≡ Some reason
+      → refused {H = MeterHeard} dropped (memory_with x l) reason ≡ meters.reply (identity_of x) (memory_with x l) session_way packet now
+  reply_refused reason h = reply_refused_by (meters.first_way_fault (memory_with x l) session_way) (slice_get x.randoms 0) (first_fault packet) reason h
 
   no_fault : (o : Option Rand) (k : Option EapFault) (v : Rand) → o ≡ Some v
       → option_map_or (λ (value : Rand). option_map packet_fault k) o (Some NoRandom) ≡ None → k ≡ None
@@ -157,14 +157,14 @@ module _ (x : MeterState) (l : StationMemory) (course : Course) (packet : List �
   no_fault None k v e h = absurd (some_none NoRandom h)
 
   -- a first packet without a fault is answered
-  pub reply_goes : (peer : Peer) → meters.first_course_fault (memory_with x l) course ≡ None → first_refusal x.randoms packet ≡ None
+  pub reply_goes : (peer : Peer) → meters.first_way_fault (memory_with x l) session_way ≡ None → first_refusal x.randoms packet ≡ None
       → slice_get x.randoms 0 ≡ Some peer.rand_p
       → peer ≡ peer_for x.station.eui peer.rand_p packet
-      → meters.replies (memory_with x l) course peer (message x.station.eui (body.Join (second_packet (keys_of x.psk.0) (identifier_of packet) peer))) now
-      ≡ meters.reply (identity_of x) (memory_with x l) course packet now
+      → meters.replies (memory_with x l) session_way peer (message x.station.eui (body.Join (second_packet (keys_of x.psk.0) (identifier_of packet) peer))) now
+      ≡ meters.reply (identity_of x) (memory_with x l) session_way packet now
   unfolding checked
   reply_goes peer free fine value is =
-      ap (λ (p : Peer). meters.replies (memory_with x l) course p (message x.station.eui (body.Join (second_packet (keys_of x.psk.0) (identifier_of packet) p)))
+      ap (λ (p : Peer). meters.replies (memory_with x l) session_way p (message x.station.eui (body.Join (second_packet (keys_of x.psk.0) (identifier_of packet) p)))
       now) is
       ∙ (λ i. Replies (sym free i) (sym value i) (sym (no_fault (slice_get x.randoms 0) (first_fault packet) peer.rand_p value fine) i))
 
@@ -189,19 +189,19 @@ replies_in_command x l packet now own peer join = refl
 
 -- # Third packets
 
-module _ (x : MeterState) (l : StationMemory) (course : Course) (packet : List ℕ) (now : ℕ) where
+module _ (x : MeterState) (l : StationMemory) (session_way : SessionWay) (packet : List ℕ) (now : ℕ) where
   abbrev Takes : Option Dropped → Option MeterSession → meters.Hearing
   Takes f o =
       checked dropped (memory_with x l) f
-      (option_map_or (λ (s : MeterSession). meters.take_by (identity_of x) (memory_with x l) course packet now s.peer) o
+      (option_map_or (λ (s : MeterSession). meters.take_by (identity_of x) (memory_with x l) session_way packet now s.peer) o
       (meters.drop_it (memory_with x l) NoSession))
 
   peer_refused : (p : Option Peer) (reason : Dropped) → third_refusal_of (keys_of x.psk.0) p packet ≡ Some reason
-      → refused {H = MeterHeard} dropped (memory_with x l) reason ≡ meters.take_by (identity_of x) (memory_with x l) course packet now p
+      → refused {H = MeterHeard} dropped (memory_with x l) reason ≡ meters.take_by (identity_of x) (memory_with x l) session_way packet now p
   peer_refused None reason h = ap (λ q. refused {H = MeterHeard} dropped (memory_with x l) q) (sym (same_reason Form reason h))
   peer_refused (Some peer) reason h =
       checked_refused (memory_with x l) (option_map packet_fault (third_fault (keys_of x.psk.0) peer packet))
-      (meters.take_with (identity_of x) (memory_with x l) course packet now peer (granted_by (keys_of x.psk.0) peer packet)) reason h
+      (meters.take_with (identity_of x) (memory_with x l) session_way packet now peer (granted_by (keys_of x.psk.0) peer packet)) reason h
 
   take_refused_by : (f : Option Dropped) (o : Option MeterSession) (reason : Dropped) → (f then third_refusal (keys_of x.psk.0) o packet) ≡ Some reason
       → refused {H = MeterHeard} dropped (memory_with x l) reason ≡ Takes f o
@@ -211,25 +211,25 @@ module _ (x : MeterState) (l : StationMemory) (course : Course) (packet : List �
   take_refused_by None (Some s) reason h = peer_refused s.peer reason h
 
   pub take_refused : (reason : Dropped)
-      → (meters.third_course_fault (memory_with x l) course then third_refusal (keys_of x.psk.0) x.session packet) ≡ Some reason
-      → refused {H = MeterHeard} dropped (memory_with x l) reason ≡ meters.take (identity_of x) (memory_with x l) course packet now
-  take_refused reason h = take_refused_by (meters.third_course_fault (memory_with x l) course) x.session reason h
+      → (meters.third_way_fault (memory_with x l) session_way then third_refusal (keys_of x.psk.0) x.session packet) ≡ Some reason
+      → refused {H = MeterHeard} dropped (memory_with x l) reason ≡ meters.take (identity_of x) (memory_with x l) session_way packet now
+  take_refused reason h = take_refused_by (meters.third_way_fault (memory_with x l) session_way) x.session reason h
 
   module _ (peer : Peer) (granted : Granted) (is : granted_by (keys_of x.psk.0) peer packet ≡ Some granted) where
     abbrev pub Taken : meters.Hearing
-    Taken = meters.takes (memory_with x l) course peer (identifier_of packet) granted
+    Taken = meters.takes (memory_with x l) session_way peer (identifier_of packet) granted
         (message x.station.eui (body.Join (fourth_packet (keys_of x.psk.0) (identifier_of packet) peer))) now
 
     at_peer : option_map packet_fault (third_fault (keys_of x.psk.0) peer packet) ≡ None
-        → Taken ≡ meters.take_by (identity_of x) (memory_with x l) course packet now (Some peer)
+        → Taken ≡ meters.take_by (identity_of x) (memory_with x l) session_way packet now (Some peer)
     unfolding checked
-    at_peer h = λ i. checked dropped (memory_with x l) (sym h i) (meters.take_with (identity_of x) (memory_with x l) course packet now peer (sym is i))
+    at_peer h = λ i. checked dropped (memory_with x l) (sym h i) (meters.take_with (identity_of x) (memory_with x l) session_way packet now peer (sym is i))
 
     by_peer : (p : Option Peer) → p ≡ Some peer → third_refusal_of (keys_of x.psk.0) p packet ≡ None
-        → Taken ≡ meters.take_by (identity_of x) (memory_with x l) course packet now p
+        → Taken ≡ meters.take_by (identity_of x) (memory_with x l) session_way packet now p
     by_peer p e h =
         at_peer (ap (λ q. third_refusal_of (keys_of x.psk.0) q packet) (sym e) ∙ h)
-        ∙ ap (λ q. meters.take_by (identity_of x) (memory_with x l) course packet now q) (sym e)
+        ∙ ap (λ q. meters.take_by (identity_of x) (memory_with x l) session_way packet now q) (sym e)
 
     goes_by : (o : Option MeterSession) → peer_in o ≡ Some peer → third_refusal (keys_of x.psk.0) o packet ≡ None → Taken ≡ Takes None o
     unfolding checked
@@ -237,9 +237,9 @@ module _ (x : MeterState) (l : StationMemory) (course : Course) (packet : List �
     goes_by (Some s) e h = by_peer s.peer e h
 
     -- a third packet without a fault is taken
-    pub take_goes : meters.third_course_fault (memory_with x l) course ≡ None → peer_in x.session ≡ Some peer
+    pub take_goes : meters.third_way_fault (memory_with x l) session_way ≡ None → peer_in x.session ≡ Some peer
         → third_refusal (keys_of x.psk.0) x.session packet ≡ None
-        → Taken ≡ meters.take (identity_of x) (memory_with x l) course packet now
+        → Taken ≡ meters.take (identity_of x) (memory_with x l) session_way packet now
     take_goes free e h = goes_by x.session e h ∙ (λ i. Takes (sym free i) x.session)
 
 module _ (x : MeterState) (l : StationMemory) (now : ℕ) (peer : Peer) (identifier : ℕ) (granted : Granted) (join : JoinMessage) where
@@ -274,14 +274,14 @@ module _ (x : MeterState) (l : StationMemory) (now : ℕ) (peer : Peer) (identif
 
 -- # Which packet it is
 
-pub first_challenge : (x : MeterState) (l : StationMemory) (course : Course) (packet : List ℕ) (now : ℕ) → is_first packet ≡ true
-    → meters.reply (identity_of x) (memory_with x l) course packet now ≡ meters.challenged (identity_of x) (memory_with x l) course packet now
+pub first_challenge : (x : MeterState) (l : StationMemory) (session_way : SessionWay) (packet : List ℕ) (now : ℕ) → is_first packet ≡ true
+    → meters.reply (identity_of x) (memory_with x l) session_way packet now ≡ meters.challenged (identity_of x) (memory_with x l) session_way packet now
 unfolding choose
-first_challenge x l course packet now e =
-    λ i. choose (sym e i) (meters.reply (identity_of x) (memory_with x l) course packet now) (meters.take (identity_of x) (memory_with x l) course packet now)
+first_challenge x l session_way packet now e =
+    λ i. choose (sym e i) (meters.reply (identity_of x) (memory_with x l) session_way packet now) (meters.take (identity_of x) (memory_with x l) session_way packet now)
 
-pub other_challenge : (x : MeterState) (l : StationMemory) (course : Course) (packet : List ℕ) (now : ℕ) → is_first packet ≡ false
-    → meters.take (identity_of x) (memory_with x l) course packet now ≡ meters.challenged (identity_of x) (memory_with x l) course packet now
+pub other_challenge : (x : MeterState) (l : StationMemory) (session_way : SessionWay) (packet : List ℕ) (now : ℕ) → is_first packet ≡ false
+    → meters.take (identity_of x) (memory_with x l) session_way packet now ≡ meters.challenged (identity_of x) (memory_with x l) session_way packet now
 unfolding choose
-other_challenge x l course packet now e =
-    λ i. choose (sym e i) (meters.reply (identity_of x) (memory_with x l) course packet now) (meters.take (identity_of x) (memory_with x l) course packet now)
+other_challenge x l session_way packet now e =
+    λ i. choose (sym e i) (meters.reply (identity_of x) (memory_with x l) session_way packet now) (meters.take (identity_of x) (memory_with x l) session_way packet now)

@@ -22,7 +22,7 @@ use Rattle.node_rules.specs.declared.refusal.Dropped.{Dropped}
 use Rattle.node_rules.specs.declared.refusal.SendRefusal.{SendRefusal}
 use Rattle.node_rules.specs.Ciphers.{network}
 use Rattle.node_rules.specs.Frames.{Up, spelled}
-use Rattle.node_rules.specs.Memory.{StationMemory, Memory, Course, ByAgent, ByCommand, address_of}
+use Rattle.node_rules.specs.Memory.{StationMemory, Memory, SessionWay, ByAgent, ByCommand, address_of}
 use Rattle.node_rules.specs.Plans.{Plan}
 use Rattle.node_rules.specs.Drafts.{refused}
 use Rattle.node_rules.specs.Hearing.{dropped, dropped_for}
@@ -50,8 +50,8 @@ module _ (x : MeterState) (l : StationMemory) (packet : List ℕ) (now : ℕ) (p
   Second = message x.station.eui (body.Join (second_packet (keys_of x.psk.0) (identifier_of packet) peer))
 
   -- the meter that replied
-  abbrev pub Replied : Course → State StationMemory → List Rand → MeterState
-  Replied course u r = record x { station = u; randoms = r; session = Some (record { course = course; peer = Some peer; since = now }) }
+  abbrev pub Replied : SessionWay → State StationMemory → List Rand → MeterState
+  Replied session_way u r = record x { station = u; randoms = r; session = Some (record { session_way = session_way; peer = Some peer; since = now }) }
 
   module _ (fine : first_refusal x.randoms packet ≡ None) (value : slice_get x.randoms 0 ≡ Some peer.rand_p)
       (is : peer ≡ peer_for x.station.eui peer.rand_p packet) where
@@ -154,7 +154,7 @@ module _ (x : MeterState) (l : StationMemory) (packet : List ℕ) (now : ℕ) (p
           is_out
 
     module _ (t u : State StationMemory) (out more : Out) (running : x.station.memory ≡ Some l) (agrees : Agrees x.station)
-        (free : meters.third_course_fault (memory_with x l) ByCommand ≡ None)
+        (free : meters.third_way_fault (memory_with x l) ByCommand ≡ None)
         (room : HasRoom l 0 (length (command_of Fourth))) where
       known : AgreesWith l x.station.store.records
       known = at_some x.station.memory (λ k. AgreesWith k x.station.store.records) l running agrees
@@ -209,7 +209,7 @@ module _ (x : MeterState) (l : StationMemory) (packet : List ℕ) (now : ℕ) (p
           (third_tags peer (identifier_of packet) granted).opened
           granted.address 0 (command_of Fourth) now (heard.Took (agreed_by peer)) out more w.wrote w.eui w.memory is_more)
 
-    pub take_lacks : (reason : Dropped) → meters.third_course_fault (memory_with x l) ByCommand ≡ None
+    pub take_lacks : (reason : Dropped) → meters.third_way_fault (memory_with x l) ByCommand ≡ None
         → command_fault dropped dropped_for l 0 (length (command_of Fourth)) ≡ Some reason
         → refused {H = MeterHeard} dropped (memory_with x l) reason ≡ meters.take (identity_of x) (memory_with x l) ByCommand packet now
     take_lacks reason free fault =

@@ -5,35 +5,35 @@ use Rattle.plc_base.specs.declared.key.Rand.{Rand}
 use Rattle.plc_base.specs.declared.key.Key.{Key}
 use Rattle.eap_psk.specs.declared.peer.Peer.{Peer}
 use Rattle.node_rules.specs.Memory as memory
-use Rattle.meter_node.specs.declared.session.Course.{Course}
-use Rattle.meter_node.specs.declared.session.Course.TheVariants.{ByAgent, ByCommand}
+use Rattle.meter_node.specs.declared.session.SessionWay.{SessionWay}
+use Rattle.meter_node.specs.declared.session.SessionWay.TheVariants.{ByAgent, ByCommand}
 use Rattle.meter_node.specs.declared.session.Session.{Session}
 
 -- the course of a session
-abbrev pub course_of : Course → memory.Course
-course_of (ByAgent agent) = memory.ByAgent agent
-course_of ByCommand = memory.ByCommand
+abbrev pub session_way_of : SessionWay → memory.SessionWay
+session_way_of (ByAgent agent) = memory.ByAgent agent
+session_way_of ByCommand = memory.ByCommand
 
 abbrev pub session_of : Session → memory.MeterSession
-session_of s = record { course = course_of s.course; peer = s.peer; since = s.since }
+session_of s = record { session_way = session_way_of s.session_way; peer = s.peer; since = s.since }
 
 -- # How they are kept as values
 
 -- a course is kept as its agent, if it has one
-abbrev pub agent_of : memory.Course → Option ℕ
+abbrev pub agent_of : memory.SessionWay → Option ℕ
 agent_of (memory.ByAgent agent) = Some agent
 agent_of memory.ByCommand = None
 
-abbrev pub course_by : Option ℕ → memory.Course
-course_by (Some agent) = memory.ByAgent agent
-course_by None = memory.ByCommand
+abbrev pub session_way_by : Option ℕ → memory.SessionWay
+session_way_by (Some agent) = memory.ByAgent agent
+session_way_by None = memory.ByCommand
 
-pub course_back : (c : memory.Course) → course_by (agent_of c) ≡ c
-course_back (memory.ByAgent agent) = refl
-course_back memory.ByCommand = refl
+pub session_way_back : (c : memory.SessionWay) → session_way_by (agent_of c) ≡ c
+session_way_back (memory.ByAgent agent) = refl
+session_way_back memory.ByCommand = refl
 
-abbrev pub course_code : Coded memory.Course
-course_code = code_by (Option ℕ) (coded_option coded_ℕ) agent_of course_by (λ c. course_back c)
+abbrev pub session_way_code : Coded memory.SessionWay
+session_way_code = code_by (Option ℕ) (coded_option coded_ℕ) agent_of session_way_by (λ c. session_way_back c)
 
 abbrev pub peer_code : Coded Peer
 peer_code =
@@ -49,9 +49,9 @@ peer_code =
 
 abbrev pub session_code : Coded memory.MeterSession
 session_code =
-    code_by (memory.Course × (Option Peer × ℕ))
-    (coded× course_code (coded× (coded_option peer_code) coded_ℕ)) (λ s. (s.course, (s.peer, s.since)))
-    (λ t. record { course = t.0; peer = t.1.0; since = t.1.1 }) (λ _. refl)
+    code_by (memory.SessionWay × (Option Peer × ℕ))
+    (coded× session_way_code (coded× (coded_option peer_code) coded_ℕ)) (λ s. (s.session_way, (s.peer, s.since)))
+    (λ t. record { session_way = t.0; peer = t.1.0; since = t.1.1 }) (λ _. refl)
 
 abbrev pub rand_code : Coded Rand
 rand_code = code_by (List ℕ) (coded_list coded_ℕ) (λ r. r.0) (λ xs. record { 0 = xs }) (λ _. refl)

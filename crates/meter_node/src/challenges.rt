@@ -10,7 +10,7 @@ ghost use Rattle.meter_node.specs.MeterStates.{identity_of, node_of};
 
 use crate::commanding::{coordinator, join_with, write_up};
 use crate::meter::Meter;
-use crate::session::{Course, Session};
+use crate::session::{SessionWay, Session};
 use joining_base::{CommandBuf, push_up};
 use node_rules::{Dropped, MeterHeard};
 use plc_base::{EapBuf, Keeper, Out, Short, TagList};
@@ -47,7 +47,7 @@ impl<K: Keeper + Drop> Meter<K> {
         let peer = self.second(packet, &mut eap, &mut tags)?;
         self.randoms.drop_oldest();
         self.session = Some(Session {
-            course: Course::ByAgent(agent),
+            session_way: SessionWay::ByAgent(agent),
             peer: Some(peer),
             since: now,
         });
@@ -81,7 +81,7 @@ impl<K: Keeper + Drop> Meter<K> {
         self.room(&command)?;
         self.randoms.drop_oldest();
         self.session = Some(Session {
-            course: Course::ByCommand,
+            session_way: SessionWay::ByCommand,
             peer: Some(peer),
             since: now,
         });
@@ -139,7 +139,7 @@ impl<K: Keeper + Drop> Meter<K> {
             (meters.take (identity_of self.old) m memory.ByCommand packet.now now) result out.new (node_of self.new)) }
         ensures after { MeterAfter self.old self.new }
     {
-        if !self.has_session(Course::ByCommand) {
+        if !self.has_session(SessionWay::ByCommand) {
             return Err(Dropped::NoSession);
         }
         let mut eap = EapBuf::new();

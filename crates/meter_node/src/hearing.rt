@@ -13,11 +13,11 @@ ghost use Rattle.node_rules.specs.Hearing.{hear};
 ghost use Rattle.node_rules.specs.MemoryDrafts.{unread};
 ghost use Rattle.node_rules.specs.Replies.{reply_sent};
 ghost use Rattle.meter_node.specs.MeterStates.{identity_of, memory_with, node_of};
-ghost use Rattle.meter_node.specs.Sessions.{course_of};
+ghost use Rattle.meter_node.specs.Sessions.{session_way_of};
 ghost use Rattle.meter_node.specs.Hearing as hearing;
 
 use crate::meter::Meter;
-use crate::session::Course;
+use crate::session::SessionWay;
 use agent_node::goes_down;
 use group_keys::RingFault;
 use joining_base::{joining_command, push_down, read_message};
@@ -26,17 +26,17 @@ use node_rules::{Accepted, Dropped, Heard, MeterHeard, Way};
 use plc_base::{DatagramBuf, Keeper, KeyIndex, LinkCost, Out, Short};
 
 // Whether two sessions run alike.
-fn same_course(a: Course, b: Course) -> bool
-    ensures { result ≡ meters.same_course (course_of a) (course_of b) }
+fn same_session_way(a: SessionWay, b: SessionWay) -> bool
+    ensures { result ≡ meters.same_session_way (session_way_of a) (session_way_of b) }
 {
     match a {
-        Course::ByAgent(a) => match b {
-            Course::ByAgent(b) => a.number() == b.number(),
-            Course::ByCommand => false,
+        SessionWay::ByAgent(a) => match b {
+            SessionWay::ByAgent(b) => a.number() == b.number(),
+            SessionWay::ByCommand => false,
         },
-        Course::ByCommand => match b {
-            Course::ByAgent(_) => false,
-            Course::ByCommand => true,
+        SessionWay::ByCommand => match b {
+            SessionWay::ByAgent(_) => false,
+            SessionWay::ByCommand => true,
         },
     }
 }
@@ -64,13 +64,13 @@ fn heard_by_station<'a>(heard: Result<Heard<'a>, Dropped>) -> Result<MeterHeard<
 
 impl<K: Keeper + Drop> Meter<K> {
     // Whether the session that is open runs so.
-    pub(crate) fn has_session(&self, course: Course) -> bool
-        ensures { (l : StationMemory) → result ≡ meters.has_session (memory_with self.now l) (course_of course) }
+    pub(crate) fn has_session(&self, session_way: SessionWay) -> bool
+        ensures { (l : StationMemory) → result ≡ meters.has_session (memory_with self.now l) (session_way_of session_way) }
     {
         let Some(session) = self.session else {
             return false;
         };
-        same_course(session.course, course)
+        same_session_way(session.session_way, session_way)
     }
 
     // The coordinator does not let the meter in, as an agent says.
@@ -83,7 +83,7 @@ impl<K: Keeper + Drop> Meter<K> {
         if self.is_joined() {
             return Err(Dropped::BadUnit);
         }
-        if !self.has_session(Course::ByAgent(agent)) {
+        if !self.has_session(SessionWay::ByAgent(agent)) {
             return Err(Dropped::NoSession);
         }
         self.session = None;

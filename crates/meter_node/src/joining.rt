@@ -9,7 +9,7 @@ ghost use Rattle.meter_node.specs.MeterCalls.{MeterAfter};
 ghost use Rattle.meter_node.specs.MeterStates.{identity_of, node_of};
 
 use crate::meter::Meter;
-use crate::session::{Course, Session};
+use crate::session::{SessionWay, Session};
 use group_keys::RingFault;
 use joining_base::push_up;
 use joining_messages::{JoinBody, JoinMessage};
@@ -72,7 +72,7 @@ impl<K: Keeper + Drop> Meter<K> {
             return Err(JoinRefusal::AlreadyJoined);
         }
         self.session = Some(Session {
-            course: Course::ByAgent(agent),
+            session_way: SessionWay::ByAgent(agent),
             peer: None,
             since: now,
         });

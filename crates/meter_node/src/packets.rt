@@ -10,7 +10,7 @@ ghost use Rattle.meter_node.specs.MeterStates.{memory_with};
 ghost use Rattle.meter_node.specs.Hearing as hearing;
 
 use crate::meter::Meter;
-use crate::session::Course;
+use crate::session::SessionWay;
 use eap_psk::{Agreed, Peer};
 use joining_base::dropped_packet;
 use node_rules::Dropped;
@@ -36,7 +36,7 @@ impl<K: Keeper + Drop> Meter<K> {
         if self.is_joined() {
             return Err(Dropped::BadUnit);
         }
-        if !self.has_session(Course::ByAgent(agent)) {
+        if !self.has_session(SessionWay::ByAgent(agent)) {
             return Err(Dropped::NoSession);
         }
         Ok(())

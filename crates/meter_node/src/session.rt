@@ -4,7 +4,7 @@ use plc_base::Short;
 
 /// How a session runs.
 #[derive(Clone, Copy, Debug, PartialEq, Eq)]
-pub enum Course {
+pub enum SessionWay {
     /// Over the air, by the agent of this address.
     ByAgent(Short),
     /// In commands, over the mesh.
@@ -15,7 +15,7 @@ pub enum Course {
 #[derive(Clone, Copy, Debug)]
 pub struct Session {
     /// How it runs.
-    pub course: Course,
+    pub session_way: SessionWay,
     /// The peer that answered the first message.
     pub peer: Option<Peer>,
     /// When it began, in seconds.

@@ -17,7 +17,7 @@ use Rattle.node_rules.specs.declared.heard.Way.{Way}
 use Rattle.node_rules.specs.declared.heard.Way.TheVariants.{Air, Near, Mesh}
 use Rattle.node_rules.specs.declared.refusal.Dropped.{Dropped}
 use Rattle.node_rules.specs.declared.refusal.Dropped.TheVariants.{BadUnit, NoSession, NoRandom}
-use Rattle.node_rules.specs.Memory.{StationMemory, Memory, MeterSession, Course, ByAgent, ByCommand, address_of}
+use Rattle.node_rules.specs.Memory.{StationMemory, Memory, MeterSession, SessionWay, ByAgent, ByCommand, address_of}
 use Rattle.node_rules.specs.Plans.{Plan}
 use Rattle.node_rules.specs.Drafts.{Draft, empty_draft, checked, choose}
 use Rattle.node_rules.specs.Hearing as station_rules
@@ -65,38 +65,38 @@ module _ (x : Identity) (m : Memory) where
   carry_down_shape join body.Decline = carries_down_shape join
   carry_down_shape join _ = Rests _
 
-  replies_shape : (course : Course) (peer : Peer) (join : JoinMessage) (now : ℕ) → IsRule (replies m course peer join now)
+  replies_shape : (session_way : SessionWay) (peer : Peer) (join : JoinMessage) (now : ℕ) → IsRule (replies m session_way peer join now)
   replies_shape (ByAgent agent) peer join now = search words depth 16
   replies_shape ByCommand peer join now = search words depth 16
 
-  reply_shape : (course : Course) (packet : List ℕ) (now : ℕ) → IsRule (reply x m course packet now)
-  reply_shape course packet now = passed _ _
-      (by_option (λ value. checked dropped m (option_map packet_fault (first_fault packet)) (reply_with x m course packet now value)) (oldest m)
+  reply_shape : (session_way : SessionWay) (packet : List ℕ) (now : ℕ) → IsRule (reply x m session_way packet now)
+  reply_shape session_way packet now = passed _ _
+      (by_option (λ value. checked dropped m (option_map packet_fault (first_fault packet)) (reply_with x m session_way packet now value)) (oldest m)
       (drop_it m NoRandom)
-      (λ value. passed _ _ (replies_shape course (peer_for x.eui value packet)
+      (λ value. passed _ _ (replies_shape session_way (peer_for x.eui value packet)
       (message x.eui (body.Join (x.ciphers.second x.psk (identifier_of packet) (peer_for x.eui value packet)))) now)) (Rests _))
 
-  takes_shape : (course : Course) (peer : Peer) (identifier : ℕ) (granted : Granted) (join : JoinMessage) (now : ℕ)
-      → IsRule (takes m course peer identifier granted join now)
+  takes_shape : (session_way : SessionWay) (peer : Peer) (identifier : ℕ) (granted : Granted) (join : JoinMessage) (now : ℕ)
+      → IsRule (takes m session_way peer identifier granted join now)
   takes_shape (ByAgent agent) peer identifier granted join now = search words depth 16
   takes_shape ByCommand peer identifier granted join now = search words depth 16
 
-  take_with_shape : (course : Course) (packet : List ℕ) (now : ℕ) (peer : Peer) (granted : Option Granted)
-      → IsRule (take_with x m course packet now peer granted)
-  take_with_shape course packet now peer None = Rests _
-  take_with_shape course packet now peer (Some granted) = takes_shape course peer _ granted _ now
+  take_with_shape : (session_way : SessionWay) (packet : List ℕ) (now : ℕ) (peer : Peer) (granted : Option Granted)
+      → IsRule (take_with x m session_way packet now peer granted)
+  take_with_shape session_way packet now peer None = Rests _
+  take_with_shape session_way packet now peer (Some granted) = takes_shape session_way peer _ granted _ now
 
-  take_by_shape : (course : Course) (packet : List ℕ) (now : ℕ) (peer : Option Peer) → IsRule (take_by x m course packet now peer)
-  take_by_shape course packet now None = Rests _
-  take_by_shape course packet now (Some peer) = passed _ _ (take_with_shape course packet now peer (x.ciphers.granted x.psk peer packet))
+  take_by_shape : (session_way : SessionWay) (packet : List ℕ) (now : ℕ) (peer : Option Peer) → IsRule (take_by x m session_way packet now peer)
+  take_by_shape session_way packet now None = Rests _
+  take_by_shape session_way packet now (Some peer) = passed _ _ (take_with_shape session_way packet now peer (x.ciphers.granted x.psk peer packet))
 
-  take_shape : (course : Course) (packet : List ℕ) (now : ℕ) → IsRule (take x m course packet now)
-  take_shape course packet now = passed _ _
-      (by_option (λ (s : MeterSession). take_by x m course packet now s.peer) m.session (drop_it m NoSession) (λ s. take_by_shape course packet now s.peer)
+  take_shape : (session_way : SessionWay) (packet : List ℕ) (now : ℕ) → IsRule (take x m session_way packet now)
+  take_shape session_way packet now = passed _ _
+      (by_option (λ (s : MeterSession). take_by x m session_way packet now s.peer) m.session (drop_it m NoSession) (λ s. take_by_shape session_way packet now s.peer)
       (Rests _))
 
-  challenged_shape : (course : Course) (packet : List ℕ) (now : ℕ) → IsRule (challenged x m course packet now)
-  challenged_shape course packet now = chosen _ _ _ (reply_shape course packet now) (take_shape course packet now)
+  challenged_shape : (session_way : SessionWay) (packet : List ℕ) (now : ℕ) → IsRule (challenged x m session_way packet now)
+  challenged_shape session_way packet now = chosen _ _ _ (reply_shape session_way packet now) (take_shape session_way packet now)
 
   declined_shape : (agent : ℕ) → IsRule (declined m agent)
   declined_shape agent = search words depth 16

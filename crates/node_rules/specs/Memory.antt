@@ -51,13 +51,13 @@ next_hop l dest = routing.next_of l.routing dest
 -- # Sessions of a joining
 
 -- how a meter's session runs: by an agent over the air, or in commands over the mesh
-pub data Course : Type 0 where
-  ByAgent : (agent : ℕ) → Course
-  ByCommand : Course
+pub data SessionWay : Type 0 where
+  ByAgent : (agent : ℕ) → SessionWay
+  ByCommand : SessionWay
 
 -- A meter's end of a joining. With a peer it awaits the third message, and else the first.
 pub record MeterSession : Type 0 where
-  pub course : Course
+  pub session_way : SessionWay
   pub peer : Option Peer
   pub since : ℕ
 

@@ -28,7 +28,7 @@ use Rattle.node_rules.specs.declared.refusal.JoinRefusal.TheVariants.{AlreadyJoi
 use Rattle.node_rules.specs.declared.refusal.LeaveRefusal.{LeaveRefusal}
 use Rattle.node_rules.specs.declared.refusal.LeaveRefusal.TheVariants as leaving
 use Rattle.node_rules.specs.Ciphers.{Ciphers}
-use Rattle.node_rules.specs.Memory.{StationMemory, Memory, MeterSession, Course, ByAgent, ByCommand, address_of}
+use Rattle.node_rules.specs.Memory.{StationMemory, Memory, MeterSession, SessionWay, ByAgent, ByCommand, address_of}
 use Rattle.node_rules.specs.Plans.{Plan, within}
 use Rattle.node_rules.specs.Accepting.{same_eui}
 use Rattle.node_rules.specs.Drafts.{Draft, Ends, empty_draft, with_ring, refused, sealing, sealed, checked, choose}
@@ -68,15 +68,15 @@ is_joined m = is_some m.station.ring
 -- # Sessions
 
 -- whether a session runs so
-abbrev pub same_course : Course → Course → Bool
-same_course (ByAgent a) (ByAgent b) = a == b
-same_course (ByAgent a) ByCommand = false
-same_course ByCommand (ByAgent b) = false
-same_course ByCommand ByCommand = true
+abbrev pub same_session_way : SessionWay → SessionWay → Bool
+same_session_way (ByAgent a) (ByAgent b) = a == b
+same_session_way (ByAgent a) ByCommand = false
+same_session_way ByCommand (ByAgent b) = false
+same_session_way ByCommand ByCommand = true
 
 -- whether the session that is open took this course
-abbrev pub has_session : Memory → Course → Bool
-has_session m course = option_map_or (λ (s : MeterSession). same_course s.course course) m.session false
+abbrev pub has_session : Memory → SessionWay → Bool
+has_session m session_way = option_map_or (λ (s : MeterSession). same_session_way s.session_way session_way) m.session false
 
 -- the memory with another session, or with none
 abbrev pub with_session : Option MeterSession → Memory → Memory
@@ -110,61 +110,61 @@ carry_down m join _ = drop_it m BadUnit
 -- # Challenges
 
 -- what the meter says goes back the same way
-abbrev pub says : Course → Eui → JoinMessage → ℕ → Draft Memory → Draft Memory
+abbrev pub says : SessionWay → Eui → JoinMessage → ℕ → Draft Memory → Draft Memory
 says (ByAgent agent) own join now d = goes_up agent own join d
 says ByCommand own join now d = is_commanded 0 join now d
 
 -- what the message lacks: only a command lacks anything
-abbrev pub say_lack : Course → Memory → JoinMessage → Option Dropped
+abbrev pub say_lack : SessionWay → Memory → JoinMessage → Option Dropped
 say_lack (ByAgent agent) m join = None
 say_lack ByCommand m join = command_lack m 0 join
 
 -- what is wrong with a challenge over the air: the meter is joined, or no session runs by that agent. In a command a first packet needs
 -- no session, and any other one a session by command.
-abbrev pub air_fault : Memory → Course → Option Dropped
-air_fault m course = Some BadUnit when is_joined m then Some NoSession unless has_session m course
+abbrev pub air_fault : Memory → SessionWay → Option Dropped
+air_fault m session_way = Some BadUnit when is_joined m then Some NoSession unless has_session m session_way
 
 -- what stands in the way of the first packet by the course that it took
-abbrev pub first_course_fault : Memory → Course → Option Dropped
-first_course_fault m (ByAgent agent) = air_fault m (ByAgent agent)
-first_course_fault m ByCommand = None
+abbrev pub first_way_fault : Memory → SessionWay → Option Dropped
+first_way_fault m (ByAgent agent) = air_fault m (ByAgent agent)
+first_way_fault m ByCommand = None
 
 -- what stands in the way of the third packet by the course that it took
-abbrev pub third_course_fault : Memory → Course → Option Dropped
-third_course_fault m (ByAgent agent) = air_fault m (ByAgent agent)
-third_course_fault m ByCommand = Some NoSession unless has_session m ByCommand
+abbrev pub third_way_fault : Memory → SessionWay → Option Dropped
+third_way_fault m (ByAgent agent) = air_fault m (ByAgent agent)
+third_way_fault m ByCommand = Some NoSession unless has_session m ByCommand
 
 -- a first packet: the oldest random value is taken, the peer answers, and the session awaits the third message from now on
-abbrev pub replies : Memory → Course → Peer → JoinMessage → ℕ → Hearing
-replies m course peer join now =
-    checked dropped m (say_lack course m join)
+abbrev pub replies : Memory → SessionWay → Peer → JoinMessage → ℕ → Hearing
+replies m session_way peer join now =
+    checked dropped m (say_lack session_way m join)
     (ends m
-    (says course peer.eui join now
+    (says session_way peer.eui join now
     (with_pair_tags (mac_p_tag peer.eui peer.id_s peer.rand_s peer.rand_p ∷ []) []
-    (with_memory_by (λ n. with_session (Some (record { course = course; peer = Some peer; since = now }))
+    (with_memory_by (λ n. with_session (Some (record { session_way = session_way; peer = Some peer; since = now }))
     (without_oldest n)) (empty_draft m))))
     heard.Replied)
 
 -- the second packet goes out, made with a random value
-abbrev pub reply_with : Identity → Memory → Course → List ℕ → ℕ → Rand → Hearing
-reply_with x m course packet now value =
+abbrev pub reply_with : Identity → Memory → SessionWay → List ℕ → ℕ → Rand → Hearing
+reply_with x m session_way packet now value =
     let peer = peer_for x.eui value packet in
-    replies m course peer (message x.eui (body.Join (x.ciphers.second x.psk (identifier_of packet) peer))) now
+    replies m session_way peer (message x.eui (body.Join (x.ciphers.second x.psk (identifier_of packet) peer))) now
 
 -- the first packet is refused by its first fault, and answered else
-abbrev pub reply : Identity → Memory → Course → List ℕ → ℕ → Hearing
-reply x m course packet now =
-    checked dropped m (first_course_fault m course)
+abbrev pub reply : Identity → Memory → SessionWay → List ℕ → ℕ → Hearing
+reply x m session_way packet now =
+    checked dropped m (first_way_fault m session_way)
     (option_map_or (λ value. checked dropped m (option_map packet_fault (first_fault packet))
-    (reply_with x m course packet now value))
+    (reply_with x m session_way packet now value))
     (oldest m) (drop_it m NoRandom))
 
 -- a third packet without a fault: the ring is installed from its grant, the session ends, and the peer answers under that ring
-abbrev pub takes : Memory → Course → Peer → ℕ → Granted → JoinMessage → ℕ → Hearing
-takes m course peer identifier granted join now =
-    checked dropped m (say_lack course m join)
+abbrev pub takes : Memory → SessionWay → Peer → ℕ → Granted → JoinMessage → ℕ → Hearing
+takes m session_way peer identifier granted join now =
+    checked dropped m (say_lack session_way m join)
     (ends m
-    (says course peer.eui join now
+    (says session_way peer.eui join now
     (with_pair_tags (success_tag peer.eui identifier peer.rand_s peer.rand_p ∷ [])
     (mac_s_tag peer.eui peer.id_s peer.rand_p
     ∷ granting_tag peer.eui identifier peer.rand_s peer.rand_p (granting_text granted) ∷ [])
@@ -172,28 +172,28 @@ takes m course peer identifier granted join now =
     (heard.Took (agreed_by peer)))
 
 -- the third packet has to carry a grant
-abbrev pub take_with : Identity → Memory → Course → List ℕ → ℕ → Peer → Option Granted → Hearing
-take_with x m course packet now peer None = drop_it m NoSuccess
-take_with x m course packet now peer (Some granted) =
-    takes m course peer (identifier_of packet) granted
+abbrev pub take_with : Identity → Memory → SessionWay → List ℕ → ℕ → Peer → Option Granted → Hearing
+take_with x m session_way packet now peer None = drop_it m NoSuccess
+take_with x m session_way packet now peer (Some granted) =
+    takes m session_way peer (identifier_of packet) granted
     (message x.eui (body.Join (x.ciphers.fourth x.psk (identifier_of packet) peer))) now
 
 -- the third packet is refused by its first fault
-abbrev pub take_by : Identity → Memory → Course → List ℕ → ℕ → Option Peer → Hearing
-take_by x m course packet now None = drop_it m Form
-take_by x m course packet now (Some peer) =
+abbrev pub take_by : Identity → Memory → SessionWay → List ℕ → ℕ → Option Peer → Hearing
+take_by x m session_way packet now None = drop_it m Form
+take_by x m session_way packet now (Some peer) =
     checked dropped m (option_map packet_fault (x.ciphers.third_fault x.psk peer packet))
-    (take_with x m course packet now peer (x.ciphers.granted x.psk peer packet))
+    (take_with x m session_way packet now peer (x.ciphers.granted x.psk peer packet))
 
 -- the third packet needs a session
-abbrev pub take : Identity → Memory → Course → List ℕ → ℕ → Hearing
-take x m course packet now =
-    checked dropped m (third_course_fault m course)
-    (option_map_or (λ (s : MeterSession). take_by x m course packet now s.peer) m.session (drop_it m NoSession))
+abbrev pub take : Identity → Memory → SessionWay → List ℕ → ℕ → Hearing
+take x m session_way packet now =
+    checked dropped m (third_way_fault m session_way)
+    (option_map_or (λ (s : MeterSession). take_by x m session_way packet now s.peer) m.session (drop_it m NoSession))
 
 -- a first packet begins a session, any other one is taken for the third
-abbrev pub challenged : Identity → Memory → Course → List ℕ → ℕ → Hearing
-challenged x m course packet now = choose (is_first packet) (reply x m course packet now) (take x m course packet now)
+abbrev pub challenged : Identity → Memory → SessionWay → List ℕ → ℕ → Hearing
+challenged x m session_way packet now = choose (is_first packet) (reply x m session_way packet now) (take x m session_way packet now)
 
 -- # What else the coordinator says
 
@@ -280,7 +280,7 @@ join x m agent now =
     choose (is_joined m) (refused joining_ends m AlreadyJoined)
     (sealing in_memory joining_ends
     (goes_up agent x.eui (message x.eui (body.Join []))
-    (with_memory_by (with_session (Some (record { course = ByAgent agent; peer = None; since = now })))
+    (with_memory_by (with_session (Some (record { session_way = ByAgent agent; peer = None; since = now })))
     (empty_draft m))) tt)
 
 -- leaving takes no counter, so one word serves for both
