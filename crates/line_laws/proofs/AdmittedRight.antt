@@ -46,7 +46,7 @@ use Rattle.reach_rules.specs.PathAsking.{ask_path}
 use Rattle.reach_rules.specs.ReachingNodes.{Beside}
 use Rattle.reach_rules.specs.Receiving.{NeighbourCommand, hear_command}
 use Rattle.line_events.specs.declared.event.Answer.{Answer}
-use Rattle.line_events.specs.declared.event.Answer.TheVariants as said
+use Rattle.line_events.specs.declared.event.Answer.TheVariants as answers
 use Rattle.line_events.specs.declared.event.Event.{Event}
 use Rattle.line_events.specs.declared.event.Event.TheVariants as events
 use Rattle.line_events.specs.declared.event.StepFault.TheVariants as faults
@@ -56,7 +56,7 @@ use Rattle.line_rules.specs.Answers.{Reception, command_word, discovery_word, dr
 use Rattle.line_rules.specs.Further.{adds_frames, asks_by, beside_at, chooses_by, discovers_by, line_step, reaches, scans_by, sends_nothing}
 use Rattle.line_rules.specs.Further.{acknowledged, acknowledging}
 use Rattle.line_rules.specs.Runs.{Entry, IsLineRun, IsRun, events_of}
-use Rattle.line_rules.specs.Steps.{Step, acted, admission_by, allow, allowed, allowed_word, has_begun, identity, is_taken, note_by, on_node, psk_of, ran}
+use Rattle.line_rules.specs.Steps.{Step, node_outcome, admission_by, allow, allowed, allowed_word, has_begun, identity, is_taken, note_by, on_node, psk_of, running_world}
 use Rattle.line_rules.specs.Steps.{sent_if}
 use Rattle.line_rules.specs.Steps.{tag_of, world_after}
 use Rattle.line_rules.specs.Worlds.{World, Trace, node_at, start}
@@ -255,11 +255,11 @@ module _ (ciphers : Ciphers) (w : World) (n : ℕ) where
 
 -- Nothing is said of an admission.
 record NoneSaid (t : Trace) : Type 0 where
-  grant : t.happened.grant ≡ None
-  answer : is_admitted t.happened.answer ≡ false
+  grant : t.happenings.grant ≡ None
+  answer : is_admitted t.happenings.answer ≡ false
 
-none_said : (t : Trace) → t.happened.grant ≡ None → Quiet t.happened.answer → NoneSaid t
-none_said t none quiet = record { grant = none; answer = not_admitted t.happened.answer quiet }
+none_said : (t : Trace) → t.happenings.grant ≡ None → Quiet t.happenings.answer → NoneSaid t
+none_said t none quiet = record { grant = none; answer = not_admitted t.happenings.answer quiet }
 
 abbrev NoneIn : Step → Type 0
 NoneIn (Ok r) = NoneSaid r.1
@@ -288,7 +288,7 @@ module _ (ciphers : Ciphers) (w : World) where
   old_none event s (old.BreaksLink number next x a there call) other = none_said _ refl (breaks_quiet x a)
   old_none event s (old.SendsFrom from to datagram x a there call target) other =
       let d : NodeStep Answer = answering sent_word (acts x (Err sends.Halted) (λ m. of_station m (calls.send m.station a datagram (w.sends + 1) w.clock))) in
-      sent_none w from to datagram (tag_of x) (is_taken d.answer) (acted ciphers w from d)
+      sent_none w from to datagram (tag_of x) (is_taken d.answer) (node_outcome ciphers w from d)
       (none_said _ refl
       (sent_quiet (acts x (Err sends.Halted) (λ m. of_station m (calls.send m.station a datagram (w.sends + 1) w.clock))).answer))
   old_none event s (old.AllowsMeter number y c psk there call meter) other = nothing_true other

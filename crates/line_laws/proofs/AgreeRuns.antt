@@ -17,7 +17,7 @@ if_taken None taken h = tt
 if_taken (Some p) taken h = was_taken p taken h
 
 abbrev pub Agreed_in : List Pairing → Step → Type 0
-Agreed_in taken (Ok r) = r.1.happened.forged ≡ false → Confirmed r.0 (taken ++ one_of r.1.taken) × IfSome r.1.done (λ p. Among p taken)
+Agreed_in taken (Ok r) = r.1.happenings.forged ≡ false → Confirmed r.0 (taken ++ one_of r.1.taken) × IfSome r.1.done (λ p. Among p taken)
 Agreed_in taken (Err fault) = Unit {0}
 
 pub agreed : (w : World) (taken : List Pairing) (s : Step) → StepAgrees w taken s → Agreed_in taken s

@@ -23,7 +23,7 @@ use Rattle.node_rules.specs.declared.refusal.CoordinatorRefusal.TheVariants as o
 use Rattle.node_rules.specs.declared.refusal.Dropped.TheVariants as drops
 use Rattle.node_rules.specs.declared.refusal.FrameRefusal.{FrameRefusal}
 use Rattle.node_rules.specs.declared.refusal.FrameRefusal.TheVariants as frames
-use Rattle.line_events.specs.declared.event.Answer.TheVariants as said
+use Rattle.line_events.specs.declared.event.Answer.TheVariants as answers
 use Rattle.node_rules.specs.declared.refusal.RandomFault.TheVariants as randoms
 use Rattle.node_rules.specs.declared.refusal.JoinRefusal.TheVariants as joins
 use Rattle.node_rules.specs.declared.refusal.LeaveRefusal.TheVariants as leaves
@@ -39,10 +39,10 @@ use Rattle.node_rules.specs.Coordinators as coordinator_rules
 use Rattle.line_rules.specs.Answers.{Reception, meter_reception, coordinator_reception, random_word, join_word, leave_word, sent_word, ordered_word, frame_word}
 use Rattle.line_events.specs.Events.{IsEvent}
 use Rattle.line_rules.specs.Worlds.{World, Trace, node_at, flight_at, is_forged_tag}
-use Rattle.line_rules.specs.Steps.{Step, set_up, ran, world_after, acted, once_begun, in_setup, has_begun, takes_setup, on_node, on_meter, made_node}
+use Rattle.line_rules.specs.Steps.{Step, set_up, running_world, world_after, node_outcome, once_begun, in_setup, has_begun, takes_setup, on_node, on_meter, made_node}
 use Rattle.line_rules.specs.Steps.{blank_node}
 use Rattle.line_rules.specs.Steps.{identity, hears, restarts, ticked, rand, join, joins_by, leave, send, sends_by, sent_if, breaks, breaks_by, lose, tick}
-use Rattle.line_rules.specs.Steps.{restart, cut, show, psk_of, trace_of, happened, coordinator, coordinator_node, meter, is_known, depot, depot_by, provisioned}
+use Rattle.line_rules.specs.Steps.{restart, cut, show, psk_of, trace_of, happenings, coordinator, coordinator_node, meter, is_known, depot, depot_by, provisioned}
 use Rattle.line_rules.specs.Steps.{near, near_by, keeps_rank, ranks_full, offered_near, preset, allow, allowed, deliver, inject, arrives, accepted_by, received}
 use Rattle.line_rules.specs.Steps.{by_coordinator, forged_by, note_by, rekey, challenge, activate, kick, step}
 use Rattle.node_rules.specs.NodeSteps.{NodeStep, acts, stays, answering, of_station}
@@ -231,7 +231,7 @@ meter_taken number y nodes taken took there t (Fourth i s p is) = λ e. record {
 
 pub data StepAgrees (w : World) (taken : List Pairing) : Step → Type 0 where
   Refused : (fault : StepFault) → StepAgrees w taken (Err fault)
-  Happened : (r : World × Trace) → (r.1.happened.forged ≡ false → Confirmed r.0 (taken ++ one_of r.1.taken) × IfSome r.1.done (λ p. Among p taken))
+  Happened : (r : World × Trace) → (r.1.happenings.forged ≡ false → Confirmed r.0 (taken ++ one_of r.1.taken) × IfSome r.1.done (λ p. Among p taken))
       → StepAgrees w taken (Ok r)
 
 module _ (ciphers : Ciphers) (fits : KeepsRanges ciphers) (w : World) (ok : WorldOk w) (flown : All FlightFits w.flights) (given : List Issued)
@@ -266,11 +266,11 @@ module _ (ciphers : Ciphers) (fits : KeepsRanges ciphers) (w : World) (ok : Worl
   quiet r none undone h = Happened r (λ honest.
       (subst (Confirmed r.0) (sym (append-nil taken) ∙ ap (λ o. taken ++ one_of o) (sym none)) h, subst (λ o. IfSome o (λ p. Among p taken)) (sym undone) tt))
 
-  ran_confirmed : Confirmed (ran w) taken
+  ran_confirmed : Confirmed (running_world w) taken
   ran_confirmed = c
 
-  rests : (d : Trace) → d.taken ≡ None → d.done ≡ None → Good (Ok (ran w, d))
-  rests d none undone = quiet (ran w, d) none undone c
+  rests : (d : Trace) → d.taken ≡ None → d.done ≡ None → Good (Ok (running_world w, d))
+  rests d none undone = quiet (running_world w, d) none undone c
 
   sized_of : (x : Node) (m : Memory) → NodeOk x → x.memory ≡ Some m → IsMemorySized m
   sized_of x m good there = subst (λ o. IfSome o IsMemorySized) there good.sized
@@ -290,7 +290,7 @@ module _ (ciphers : Ciphers) (fits : KeepsRanges ciphers) (w : World) (ok : Worl
   rand_agrees : (number : ℕ) (value : Rand) → Good (rand ciphers w number value)
   unfolding rand
   rand_agrees number value = once _ (at_node number _ (λ x there. quiet _ refl refl
-      (plain_after (ran w) c number x there random_word (Err randoms.Halted) _
+      (plain_after (running_world w) c number x there random_word (Err randoms.Halted) _
       (λ m here. (random_quietly m (sized_of x m (node_ok number x there) here) value).made))))
 
   sent_agrees : (from to : ℕ) (datagram : List ℕ) (tag : ℕ) (b : Bool) (r : World × Trace) → r.1.taken ≡ None → r.1.done ≡ None → Confirmed r.0 taken
@@ -304,8 +304,8 @@ module _ (ciphers : Ciphers) (fits : KeepsRanges ciphers) (w : World) (ok : Worl
   sends_agrees from to datagram x (Some a) there =
       let plan : Memory → Plan Memory (Result _ _) = λ m. of_station m (calls.send m.station a datagram (w.sends + 1) w.clock) in
       let d : NodeStep Answer = answering sent_word (acts x (Err sends.Halted) plan) in
-      sent_agrees from to datagram (tag_of x) (is_taken d.answer) (acted ciphers w from d) refl refl
-      (plain_after (ran w) c from x there sent_word (Err sends.Halted) plan
+      sent_agrees from to datagram (tag_of x) (is_taken d.answer) (node_outcome ciphers w from d) refl refl
+      (plain_after (running_world w) c from x there sent_word (Err sends.Halted) plan
       (λ m here. (send_quietly m (sized_of x m (node_ok from x there) here) a datagram (w.sends + 1) w.clock).made))
 
   send_agrees : (from to : ℕ) (datagram : List ℕ) → Good (send ciphers w from to datagram)
@@ -315,7 +315,7 @@ module _ (ciphers : Ciphers) (fits : KeepsRanges ciphers) (w : World) (ok : Worl
   breaks_agrees : (number : ℕ) (x : Node) (next : Option ℕ) → node_at w number ≡ Some x → Good (Ok (breaks_by ciphers w number x next))
   breaks_agrees number x None there = rests _ refl refl
   breaks_agrees number x (Some next) there = quiet _ refl refl
-      (plain_acts (ran w) c number x there said.Halted _ (λ m here. (broke_quietly m (sized_of x m (node_ok number x there) here) next said.Broken).made))
+      (plain_acts (running_world w) c number x there answers.Halted _ (λ m here. (broke_quietly m (sized_of x m (node_ok number x there) here) next answers.Broken).made))
 
   break_agrees : (number next : ℕ) → Good (breaks ciphers w number next)
   unfolding breaks
@@ -326,7 +326,7 @@ module _ (ciphers : Ciphers) (fits : KeepsRanges ciphers) (w : World) (ok : Worl
   joins_agrees number agent x None psk there = rests _ refl refl
   joins_agrees number agent x (Some a) None there = rests _ refl refl
   joins_agrees number agent x (Some a) (Some psk) there = quiet _ refl refl
-      (plain_after (ran w) c number x there join_word (Err joins.Halted) (λ m. meters.join (identity ciphers x psk) m a w.clock)
+      (plain_after (running_world w) c number x there join_word (Err joins.Halted) (λ m. meters.join (identity ciphers x psk) m a w.clock)
       (λ m here. joins_made (identity ciphers x psk) m a w.clock))
 
   join_agrees : (number agent : ℕ) → Good (join ciphers w number agent)
@@ -337,7 +337,7 @@ module _ (ciphers : Ciphers) (fits : KeepsRanges ciphers) (w : World) (ok : Worl
   leave_agrees : (number : ℕ) → Good (leave ciphers w number)
   unfolding leave
   leave_agrees number = once _ (at_meter number _
-      (λ ne x there. quiet _ refl refl (plain_after (ran w) c number x there leave_word (Err leaves.Halted) meters.leave (λ m here. leaves_made m))))
+      (λ ne x there. quiet _ refl refl (plain_after (running_world w) c number x there leave_word (Err leaves.Halted) meters.leave (λ m here. leaves_made m))))
 
   lose_agrees : (number : ℕ) → Good (lose w number)
   unfolding lose
@@ -349,8 +349,8 @@ module _ (ciphers : Ciphers) (fits : KeepsRanges ciphers) (w : World) (ok : Worl
   show_agrees number = once _ (at_node number _ (λ x there. rests _ refl refl))
 
   same_agrees : (number : ℕ) (x : Node) (d : NodeStep Answer) → node_at w number ≡ Some x → d.node.eui ≡ x.eui → d.made ≡ []
-      → Good (Ok (acted ciphers w number d))
-  same_agrees number x d there eui none = quiet _ refl refl (after_nothing ciphers (ran w) number x d there eui taken c none)
+      → Good (Ok (node_outcome ciphers w number d))
+  same_agrees number x d there eui none = quiet _ refl refl (after_nothing ciphers (running_world w) number x d there eui taken c none)
 
   restart_agrees : (number : ℕ) → Good (restart ciphers w number)
   unfolding restart
@@ -363,7 +363,7 @@ module _ (ciphers : Ciphers) (fits : KeepsRanges ciphers) (w : World) (ok : Worl
   tick_agrees : (seconds : ℕ) → Good (tick w seconds)
   unfolding tick
   tick_agrees seconds = once _ (quiet _ refl refl
-      (confirmed_on w (record (ran w) { clock = w.clock + seconds; nodes = map (ticked (w.clock + seconds)) w.nodes }) taken c ticks refl))
+      (confirmed_on w (record (running_world w) { clock = w.clock + seconds; nodes = map (ticked (w.clock + seconds)) w.nodes }) taken c ticks refl))
     where
       ticks : Lasts w.nodes (map (ticked (w.clock + seconds)) w.nodes)
       ticks n x is = record {
@@ -374,36 +374,36 @@ module _ (ciphers : Ciphers) (fits : KeepsRanges ciphers) (w : World) (ok : Worl
 
   order_agrees : {A : Type 0} (x : Node) (answer : Answer) (order : Memory → Plan Memory (Result A CoordinatorRefusal)) → node_at w 0 ≡ Some x
       → ((m : Memory) → (order m).made ≡ []) → Good (Ok (by_coordinator ciphers w x answer order))
-  order_agrees x answer order there none = quiet _ refl refl (plain_after (ran w) c 0 x there (ordered_word answer) (Err orders.Halted) order (λ m here. none m))
+  order_agrees x answer order there none = quiet _ refl refl (plain_after (running_world w) c 0 x there (ordered_word answer) (Err orders.Halted) order (λ m here. none m))
 
   activate_agrees : (number index : ℕ) → Good (activate ciphers w number index)
   unfolding activate
   activate_agrees number index = once _ (at_node number _ (λ x is. at_node 0 _ (λ y there. by_number (number == 0) x y there)))
     where
       by_number : (b : Bool) (x y : Node) → node_at w 0 ≡ Some y
-          → Good (Ok (if b then by_coordinator ciphers w y said.Activated (λ m. coordinator_rules.activate_self m index)
-          else by_coordinator ciphers w y said.Ordered (λ m. coordinator_rules.activate m x.eui index w.clock)))
-      by_number true x y there = order_agrees y said.Activated _ there (λ m. (activate_self_untagged m index).0)
-      by_number false x y there = order_agrees y said.Ordered _ there (λ m. (activate_untagged m x.eui index w.clock).0)
+          → Good (Ok (if b then by_coordinator ciphers w y answers.Activated (λ m. coordinator_rules.activate_self m index)
+          else by_coordinator ciphers w y answers.Ordered (λ m. coordinator_rules.activate m x.eui index w.clock)))
+      by_number true x y there = order_agrees y answers.Activated _ there (λ m. (activate_self_untagged m index).0)
+      by_number false x y there = order_agrees y answers.Ordered _ there (λ m. (activate_untagged m x.eui index w.clock).0)
 
   rekey_agrees : (index : ℕ) (key : Key) → Good (rekey ciphers w index key)
   unfolding rekey
-  rekey_agrees index key = once _ (at_node 0 _ (λ y there. order_agrees y said.Drawn _ there (λ m. (rekey_untagged m index key).0)))
+  rekey_agrees index key = once _ (at_node 0 _ (λ y there. order_agrees y answers.Drawn _ there (λ m. (rekey_untagged m index key).0)))
 
   challenge_agrees : (number : ℕ) → Good (challenge ciphers w number)
   unfolding challenge
   challenge_agrees number = once _
-      (at_meter number _ (λ ne x is. at_node 0 _ (λ y there. order_agrees y said.Challenged _ there (λ m. (challenge_untagged m y.eui x.eui w.clock).0))))
+      (at_meter number _ (λ ne x is. at_node 0 _ (λ y there. order_agrees y answers.Challenged _ there (λ m. (challenge_untagged m y.eui x.eui w.clock).0))))
 
   kick_agrees : (number : ℕ) → Good (kick ciphers w number)
   unfolding kick
-  kick_agrees number = once _ (at_meter number _ (λ ne x is. at_node 0 _ (λ y there. order_agrees y said.Kicked _ there (λ m. (kick_untagged m x.eui).0))))
+  kick_agrees number = once _ (at_meter number _ (λ ne x is. at_node 0 _ (λ y there. order_agrees y answers.Kicked _ there (λ m. (kick_untagged m x.eui).0))))
 
   allow_agrees : (number : ℕ) → Good (allow ciphers w number)
   unfolding allow
   allow_agrees number = once _ (at_meter number _ (λ ne x is. at_node 0 _ (λ y there.
       by_option (λ psk. Ok (allowed ciphers w number (acts y (Err orders.Halted) (λ m. coordinator_rules.allow m x.eui psk)))) (psk_of x) (Err faults.Node)
-      (λ psk pair. quiet _ refl refl (plain_acts (ran w) c 0 y there (Err orders.Halted) _ (λ m here. (allow_untagged m x.eui psk).0))) (Refused faults.Node))))
+      (λ psk pair. quiet _ refl refl (plain_acts (running_world w) c 0 y there (Err orders.Halted) _ (λ m here. (allow_untagged m x.eui psk).0))) (Refused faults.Node))))
 
   preset_agrees : (number : ℕ) (plan : StationMemory → calls.Presetting) → ((m : Memory) → (of_station m (plan m.station)).made ≡ [])
       → Good (preset ciphers w number plan)
@@ -485,7 +485,7 @@ module _ (ciphers : Ciphers) (fits : KeepsRanges ciphers) (w : World) (ok : Worl
   meter_after : (number : ℕ) (x y : Node) (psk : Key) → y.role ≡ Meter psk → (got : Accepted) (cost note now : ℕ) → node_at w number ≡ Some x → NodeOk y
       → y.eui ≡ x.eui → IfSome y.memory (λ m. PeerIs y.eui m.session) → RoutesFit got
       → let d : NodeStep (Result MeterHeard Dropped) = acts y (Err drops.Store) (λ m. meters.hear_meter (identity ciphers y psk) m got cost note now) in
-      Confirmed (world_after ciphers (ran w) number d) (taken ++ one_of (paired number (meter_reception d.answer).took))
+      Confirmed (world_after ciphers (running_world w) number d) (taken ++ one_of (paired number (meter_reception d.answer).took))
   meter_after number x y psk role got cost note now there good eui peer routes =
       let plan : Memory → Plan Memory (Result MeterHeard Dropped) = λ m. meters.hear_meter (identity ciphers y psk) m got cost note now in
       let d = acts y (Err drops.Store) plan in
@@ -499,7 +499,7 @@ module _ (ciphers : Ciphers) (fits : KeepsRanges ciphers) (w : World) (ok : Worl
       (λ p packet granted are right is. fits.granted psk p packet granted (pair_octets y m psk kept role) are right is)
       (λ octets join index read e. (read_fits join octets read).index index e) got routes.payload refl)).made) in
       let here : slice_get (slice_set w.nodes number d.node) number ≡ Some d.node = slice_get-set w.nodes number d.node (place_within w.nodes number x there) in
-      after_confirmed ciphers (ran w) number x d there (same ∙ eui) taken (one_of (paired number (meter_reception d.answer).took)) c
+      after_confirmed ciphers (running_world w) number x d there (same ∙ eui) taken (one_of (paired number (meter_reception d.answer).took)) c
       (each_weaker (MeterTag y.eui (meter_reception d.answer).took)
       (TagTaken (slice_set w.nodes number d.node) (taken ++ one_of (paired number (meter_reception d.answer).took)))
       (λ t h. meter_taken number d.node (slice_set w.nodes number d.node) taken (meter_reception d.answer).took here t
@@ -587,7 +587,7 @@ module _ (ciphers : Ciphers) (fits : KeepsRanges ciphers) (w : World) (ok : Worl
 
   Agreeing : (number : ℕ) → NodeStep Reception → Type 0
   Agreeing number d =
-      Confirmed (world_after ciphers (ran w) number d) (taken ++ one_of (paired number d.answer.took)) × IfSome (done_by w d.answer.done) (λ p. Among p taken)
+      Confirmed (world_after ciphers (running_world w) number d) (taken ++ one_of (paired number d.answer.took)) × IfSome (done_by w d.answer.done) (λ p. Among p taken)
 
   hears_agree : (number : ℕ) (x y : Node) (got : Accepted) (cost note now : ℕ) → node_at w number ≡ Some x → NodeOk y → y.eui ≡ x.eui → y.role ≡ x.role
       → (number ≢ 0 → IfSome y.memory (λ m. PeerIs y.eui m.session)) → RoutesFit got
@@ -639,8 +639,8 @@ module _ (ciphers : Ciphers) (fits : KeepsRanges ciphers) (w : World) (ok : Worl
           (λ a t. TagTaken (slice_set w.nodes number d.node) (taken ++ []) t) y (Err drops.Store) plan
           (λ m here. each_weaker (CoordinatorTag m (coordinator_reception (plan m).answer).keyed) (TagTaken (slice_set w.nodes number d.node) (taken ++ []))
           (coordinator_taken m _ _ _) (plan m).made (says m).made) in (
-            subst (λ o. Confirmed (world_after ciphers (ran w) number d) (taken ++ one_of (paired number o))) (sym (took_none d.answer))
-                (after_confirmed ciphers (ran w) number x d there (acts_eui y (Err drops.Store) plan ∙ eui) taken [] c made),
+            subst (λ o. Confirmed (world_after ciphers (running_world w) number d) (taken ++ one_of (paired number o))) (sym (took_none d.answer))
+                (after_confirmed ciphers (running_world w) number x d there (acts_eui y (Err drops.Store) plan ∙ eui) taken [] c made),
             was_among (coordinator_reception d.answer).done d.opened (acts_done y plan
                 (λ m. planned_failed (plan m) (coordinator_hears own m (heard_given got cost note now) got refl)) (λ m. (says m).right))
                 (all_made w.made d.opened honest),
@@ -674,8 +674,8 @@ module _ (ciphers : Ciphers) (fits : KeepsRanges ciphers) (w : World) (ok : Worl
           → Good (Ok (accepted_by ciphers w number octets cost (acts x (Err frames.Halted) plan)))
       by_answer (Err reason) e =
           let d : NodeStep (Result Accepted FrameRefusal) = record (acts x (Err frames.Halted) plan) { answer = Err reason } in
-          rw e (quiet (world_after ciphers (ran w) number d, trace_of (happened w (frame_word reason))) refl refl
-          (after_nothing ciphers (ran w) number x d there (acts_eui x (Err frames.Halted) plan) taken c
+          rw e (quiet (world_after ciphers (running_world w) number d, trace_of (happenings w (frame_word reason))) refl refl
+          (after_nothing ciphers (running_world w) number x d there (acts_eui x (Err frames.Halted) plan) taken c
           (acts_nothing x (Err frames.Halted) plan (λ m here. (accept_quietly ciphers fits octets are m x.eui).made))))
       by_answer (Ok got) e =
           let y = (acts x (Err frames.Halted) plan).node in

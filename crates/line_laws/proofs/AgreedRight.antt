@@ -55,7 +55,7 @@ use Rattle.line_rules.specs.Answers.{CompletedJoining, Reception, coordinator_re
 use Rattle.line_rules.specs.Forgery.{accepting}
 use Rattle.line_rules.specs.Further.{line_step}
 use Rattle.line_rules.specs.Runs.{Entry}
-use Rattle.line_rules.specs.Steps.{Step, acted, done_by, hears, identity, is_taken, note_by, sent_if, tag_of}
+use Rattle.line_rules.specs.Steps.{Step, node_outcome, done_by, hears, identity, is_taken, note_by, sent_if, tag_of}
 use Rattle.line_rules.specs.Worlds.{Pairing, Trace, World, start}
 use Rattle.line_laws.specs.AgreedRight.{EveryAgreementIsSaid, Fourth, HasTag, IsAgreedRight, IsDoneUnder, IsTakenUnder, SaysFourth, SaysThird, Third}
 use Rattle.line_laws.specs.Keyed.{Among, Here, Later}
@@ -335,7 +335,7 @@ module _ (ciphers : Ciphers) (w : World) where
   step_says event s (BreaksLink number next x a there call) = record { taken = tt; done = tt }
   step_says event s (SendsFrom from to datagram x a there call target) =
       let d = answering sent_word (acts x (Err sends.Halted) (λ m. of_station m (calls.send m.station a datagram (w.sends + 1) w.clock))) in
-      sent_says from to datagram (tag_of x) (is_taken d.answer) (acted ciphers w from d) (record { taken = tt; done = tt })
+      sent_says from to datagram (tag_of x) (is_taken d.answer) (node_outcome ciphers w from d) (record { taken = tt; done = tt })
     where
       sent_says : (from to : ℕ) (datagram : List ℕ) (tag : ℕ) (b : Bool) (r : World × Trace) → TraceSays r.1
           → TraceSays (sent_if w from to datagram tag b r).1

@@ -9,7 +9,7 @@ use Rattle.store_tables.proofs.SlotTables.{slice_get-set, slice_get-set_other, s
 use Rattle.plc_base.specs.declared.key.Key.{Key}
 use Rattle.group_keys.specs.KeyBook as books
 use Rattle.line_events.specs.declared.event.Answer.{Answer}
-use Rattle.line_events.specs.declared.event.Answer.TheVariants as said
+use Rattle.line_events.specs.declared.event.Answer.TheVariants as answers
 use Rattle.line_events.specs.declared.event.Event.{Event}
 use Rattle.node_rules.specs.declared.heard.Accepted.{Accepted}
 use Rattle.node_rules.specs.declared.heard.CoordinatorHeard.{CoordinatorHeard}
@@ -36,7 +36,7 @@ use Rattle.line_rules.specs.Answers.{coordinator_reception, meter_reception, Rec
 use Rattle.line_events.specs.Events.{IsEvent}
 use Rattle.line_rules.specs.Forgery.{Comes, accepting}
 use Rattle.line_rules.specs.Worlds.{World, Issued, node_at}
-use Rattle.line_rules.specs.Steps.{Step, set_up, ran, world_after, acted, sending, sent_if, is_taken, tag_of, hears, offered_near, heard, note_by, identity}
+use Rattle.line_rules.specs.Steps.{Step, set_up, running_world, world_after, node_outcome, sending, sent_if, is_taken, tag_of, hears, offered_near, heard, note_by, identity}
 use Rattle.line_rules.specs.Steps.{issued_of}
 use Rattle.line_rules.specs.Steps.{psk_of, restarts, ticked}
 use Rattle.line_laws.specs.Stores.{IsReadable, IsBookKept}
@@ -121,7 +121,7 @@ module _ (ciphers : Ciphers) (fits : KeepsRanges ciphers) (w : World) (ok : Worl
   call_grows number x A halted plan there (Leaves ne) first = absurd (ne first)
   call_grows number x A halted plan there (Sends a datagram other are) first =
       quiet_grows number x _ _ first there (λ m sized. send_quietly m sized a datagram (w.sends + 1) w.clock)
-  call_grows number x A halted plan there (Breaks a other) first = quiet_grows number x _ _ first there (λ m sized. broke_quietly m sized a said.Broken)
+  call_grows number x A halted plan there (Breaks a other) first = quiet_grows number x _ _ first there (λ m sized. broke_quietly m sized a answers.Broken)
   call_grows number x A halted plan there (Nears a cost open_is other low) first =
       let small : a < 0xFFFE = address_low other.node a (good_at other.number other.node other.there) other.address in
       quiet_grows number x _ _ first there (λ m sized. near_quietly m sized a cost w.clock small (omega arith))
@@ -254,10 +254,10 @@ module _ (ciphers : Ciphers) (fits : KeepsRanges ciphers) (w : World) (ok : Worl
       (ap (λ ns. slice_get ns number) e ∙ there) (acts_eui x halted plan) (call_grows number x A halted plan there call)
 
   sent_nodes : (from to : ℕ) (datagram : List ℕ) (tag : ℕ) (d : NodeStep Answer)
-      → (sending ciphers w from to datagram tag d).0.nodes ≡ (world_after ciphers (ran w) from d).nodes
+      → (sending ciphers w from to datagram tag d).0.nodes ≡ (world_after ciphers (running_world w) from d).nodes
   sent_nodes from to datagram tag d = by_taken (is_taken d.answer)
     where
-      by_taken : (b : Bool) → (sent_if w from to datagram tag b (acted ciphers w from d)).0.nodes ≡ (world_after ciphers (ran w) from d).nodes
+      by_taken : (b : Bool) → (sent_if w from to datagram tag b (node_outcome ciphers w from d)).0.nodes ≡ (world_after ciphers (running_world w) from d).nodes
       by_taken true = refl
       by_taken false = refl
 
@@ -274,7 +274,7 @@ module _ (ciphers : Ciphers) (fits : KeepsRanges ciphers) (w : World) (ok : Worl
       (accept_is a.memory.station x.eui (arrived ciphers octets)) a.is in
       let y = (accepting ciphers x octets).node in
       let d = hears ciphers y got cost (note_by w octets got.path) w.clock in
-      goes_after (ran w) _ number x d (same_goes w (ran w) refl self_goes) (after_nodes (ran w) number d) there
+      goes_after (running_world w) _ number x d (same_goes w (running_world w) refl self_goes) (after_nodes (running_world w) number d) there
       (hears_eui y got cost (note_by w octets got.path) w.clock ∙ acts_eui x (Err frames.Halted) plan)
       (λ first.
       let c = coordinator_at number x first there in
@@ -290,15 +290,15 @@ module _ (ciphers : Ciphers) (fits : KeepsRanges ciphers) (w : World) (ok : Worl
     grows = λ c there. self_goes.grows c (sym (slice_get-push_other w.nodes 0 x (λ (z : 0 ≡ length w.nodes). omega arith)) ∙ there);
     euis = λ n y lt there. (y, sym (slice_get-push_other w.nodes n x (λ (z : n ≡ length w.nodes). omega arith)) ∙ there, refl);
   }
-  goes event s (Rests e quiet) = λ some. same_goes w (ran w) refl self_goes
-  goes event s (Shows number x) = λ some. same_goes w (ran w) refl self_goes
-  goes event s (Acts e number x A halted plan reads there call word asked) = λ some. called (ran w) _ number x A _ reads halted plan refl refl there call
-  goes event s (BreaksLink number next x a there call) = λ some. called (ran w) _ number x _ _ (λ (b : Answer). b) said.Halted _ refl refl there call
+  goes event s (Rests e quiet) = λ some. same_goes w (running_world w) refl self_goes
+  goes event s (Shows number x) = λ some. same_goes w (running_world w) refl self_goes
+  goes event s (Acts e number x A halted plan reads there call word asked) = λ some. called (running_world w) _ number x A _ reads halted plan refl refl there call
+  goes event s (BreaksLink number next x a there call) = λ some. called (running_world w) _ number x _ _ (λ (b : Answer). b) answers.Halted _ refl refl there call
   goes event s (SendsFrom from to datagram x a there call target) = λ some.
       let plan : Memory → Plan Memory (Result SentHow SendRefusal) = λ m. of_station m (calls.send m.station a datagram (w.sends + 1) w.clock) in
-      called (ran w) _ from x _ _ sent_word (Err sends.Halted) plan refl
+      called (running_world w) _ from x _ _ sent_word (Err sends.Halted) plan refl
       (sent_nodes from to datagram (tag_of x) (answering sent_word (acts x (Err sends.Halted) plan))) there call
-  goes event s (AllowsMeter number y c psk there call meter) = λ some. called (ran w) _ 0 c _ _ (λ a. a) (Err orders.Halted) _ refl refl there call
+  goes event s (AllowsMeter number y c psk there call meter) = λ some. called (running_world w) _ 0 c _ _ (λ a. a) (Err orders.Halted) _ refl refl there call
   goes event s (Sets e quiet number x plan there open_is is) =
       λ some. called (set_up w) _ number x _ _ (λ a. a) (Ok tt) _ refl refl there (preset_call ciphers w number x plan open_is is)
   goes event s (SetsTwo e quiet a b cost x y p q hx hy apart open_is first second fresh near) = λ some.
@@ -323,7 +323,7 @@ module _ (ciphers : Ciphers) (fits : KeepsRanges ciphers) (w : World) (ok : Worl
   goes event s (TurnsDown e number x octets reason d there says comes same is) = λ some.
       let kind : IsCall ciphers w number x _ (Err frames.Halted) (λ m. of_station m (accept m.station x.eui (arrived ciphers octets))) = Accepts octets e says
       comes in
-      goes_after (ran w) _ number x d (same_goes w (ran w) refl self_goes) (after_nodes (ran w) number d) there
+      goes_after (running_world w) _ number x d (same_goes w (running_world w) refl self_goes) (after_nodes (running_world w) number d) there
       (ap (λ (z : NodeStep _). z.node.eui) same ∙ acts_eui x (Err frames.Halted) _)
       (λ first. subst (λ (z : NodeStep _). BookGrows z.node) (sym same) (call_grows number x _ (Err frames.Halted) _ there kind first))
   goes event s (Hears e number x octets cost got there says comes low is) = λ some. heard_goes e number x octets cost got there says comes is
@@ -342,10 +342,10 @@ module _ (ciphers : Ciphers) (fits : KeepsRanges ciphers) (w : World) (ok : Worl
           → (x : Node) × (node_at w n ≡ Some x) × (x.eui ≡ y.eui)
       ticked_eui n y None at e = absurd (cc)
       ticked_eui n y (Some x) at e = (x, at, ap (λ (z : Node). z.eui) (same_Some _ _ e))
-  goes event s (Restarts number x there) = λ some. goes_after (ran w) _ number x (restarts x) (same_goes w (ran w) refl self_goes)
-      (after_nodes (ran w) number (restarts x)) there refl
+  goes event s (Restarts number x there) = λ some. goes_after (running_world w) _ number x (restarts x) (same_goes w (running_world w) refl self_goes)
+      (after_nodes (running_world w) number (restarts x)) there refl
       (λ first. let c = coordinator_at number x first there in record { book = k.book; kept = c.book_kept; grows = λ u a h. h })
   goes event s (Cuts number nth keeps_new x there) = λ some.
-      let d : NodeStep Answer = stays (record x { store = record x.store { cut = Some (record { nth = nth; keeps_new = keeps_new }) } }) said.Set in
-      goes_after (ran w) _ number x d (same_goes w (ran w) refl self_goes) (after_nodes (ran w) number d) there refl
+      let d : NodeStep Answer = stays (record x { store = record x.store { cut = Some (record { nth = nth; keeps_new = keeps_new }) } }) answers.Set in
+      goes_after (running_world w) _ number x d (same_goes w (running_world w) refl self_goes) (after_nodes (running_world w) number d) there refl
       (λ first. let c = coordinator_at number x first there in record { book = k.book; kept = c.book_kept; grows = λ u a h. h })

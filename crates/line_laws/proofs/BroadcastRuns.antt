@@ -63,7 +63,7 @@ use Rattle.reach_rules.specs.PathAsking.{ask_ends, ask_path, asks_by as asks_ove
 use Rattle.reach_rules.specs.ReachingNodes.{Beside, Reaching, drop_it, in_reach, reach_ends, adds_local}
 use Rattle.reach_rules.specs.Receiving.{NeighbourCommand, command_of, hear_command, hear_command_at}
 use Rattle.line_events.specs.declared.event.Answer.{Answer}
-use Rattle.line_events.specs.declared.event.Answer.TheVariants as said
+use Rattle.line_events.specs.declared.event.Answer.TheVariants as answers
 use Rattle.line_events.specs.declared.event.Event.{Event}
 use Rattle.line_events.specs.declared.happenings.BroadcastUp.{BroadcastUp}
 use Rattle.line_rules.specs.Answers.{discovery_word, only, scan_word, sent_word}
@@ -73,7 +73,7 @@ use Rattle.line_rules.specs.Further.{discovery_flights, due, has_discovered, lin
 use Rattle.line_rules.specs.FurtherRuns.{AreBroadcastOnce, AreBroadcastOnceAfter, IsFirst, WasBroadcast, broadcast_ups, broadcasts}
 use Rattle.line_rules.specs.Logs.{LogIn, LogsKept}
 use Rattle.line_rules.specs.Runs.{Entry, IsRun, events_of, one_of}
-use Rattle.line_rules.specs.Steps.{Step, acted, forged_by, heard, identity, is_taken, note_by, ran, restarts, sent_if, tag_of, world_after}
+use Rattle.line_rules.specs.Steps.{Step, node_outcome, forged_by, heard, identity, is_taken, note_by, running_world, restarts, sent_if, tag_of, world_after}
 use Rattle.line_rules.specs.Worlds.{Broadcasting, Flight, Noticed, Trace, World, node_at, start}
 use Rattle.line_laws.specs.FurtherLines.{HoldsAfter}
 use Rattle.line_laws.specs.Lines.{NodeOk, WorldOk}
@@ -385,17 +385,17 @@ module _ (sent : List Broadcasting) (ups : List BroadcastUp) (home number : ℕ)
 
 -- What an event hands up fits, what it sends is at its node's home, and what flies after it was sent.
 pub record CastsOn (sent : List Broadcasting) (ups : List BroadcastUp) (home : ℕ → ℕ) (v : World) (t : Trace) : Type 0 where
-  pub up : IfSome t.happened.bup (λ (u : BroadcastUp). IsSentAs sent u.origin u.number u.octets × (u.origin ≢ home u.node) × IsFirst u ups ×
+  pub up : IfSome t.happenings.bup (λ (u : BroadcastUp). IsSentAs sent u.origin u.number u.octets × (u.origin ≢ home u.node) × IsFirst u ups ×
       (u.node < length v.nodes))
   pub from : IfSome t.further.broadcast (λ (b : Broadcasting). b.address ≡ home b.node)
   pub flights : All (FlightSays (UnitSent (sent ++ one_of t.further.broadcast))) v.flights
 
 abbrev CastsIn : List Broadcasting → List BroadcastUp → (ℕ → ℕ) → Step → Type 0
-CastsIn sent ups home (Ok r) = r.1.happened.forged ≡ false → CastsOn sent ups home r.0 r.1
+CastsIn sent ups home (Ok r) = r.1.happenings.forged ≡ false → CastsOn sent ups home r.0 r.1
 CastsIn sent ups home (Err fault) = Unit {0}
 
 record IsSilent (t : Trace) : Type 0 where
-  bup : t.happened.bup ≡ None
+  bup : t.happenings.bup ≡ None
   broadcast : t.further.broadcast ≡ None
 
 abbrev SilentIn : Step → Type 0
@@ -416,7 +416,7 @@ old_silent w event s (old.Acts e number x A halted plan reads there call word as
 old_silent w event s (old.BreaksLink number next x a there call) = record { bup = refl; broadcast = refl }
 old_silent w event s (old.SendsFrom from to datagram x a there call target) =
     let d : NodeStep Answer = answering sent_word (acts x (Err sends_of.Halted) (λ m. of_station m (calls.send m.station a datagram (w.sends + 1) w.clock))) in
-    sent_silent w from to datagram (tag_of x) (is_taken d.answer) (acted network w from d) (record { bup = refl; broadcast = refl })
+    sent_silent w from to datagram (tag_of x) (is_taken d.answer) (node_outcome network w from d) (record { bup = refl; broadcast = refl })
 old_silent w event s (old.AllowsMeter number y c psk there call meter) = record { bup = refl; broadcast = refl }
 old_silent w event s (old.Sets e quiet number x plan there open_is is) = record { bup = refl; broadcast = refl }
 old_silent w event s (old.SetsTwo e quiet a b cost x y p q hx hy apart open_is first second fresh near) = record { bup = refl; broadcast = refl }
@@ -528,7 +528,7 @@ module _ (w : World) (ok : WorldOk w) (s : WorldSpeaks w) (logs : LogsKept w) (r
     is_heard : forged_by w octets got.path ≡ false → IsHeard w event number x octets got
     is_heard honest = record { says = a.says; there = a.there; comes = a.comes; is = a.is; honest = honest }
 
-    commanded_casts : (c : NeighbourCommand) → command_of got ≡ Some c → h.1.happened.forged ≡ false
+    commanded_casts : (c : NeighbourCommand) → command_of got ≡ Some c → h.1.happenings.forged ≡ false
         → let q : World × Trace = commanded network number left c h in CastsOn sent ups home q.0 q.1
     unfolding world_after
     commanded_casts c e honest = record { up = fits d.answer by.0; from = tt; flights = flown }
@@ -586,7 +586,7 @@ module _ (w : World) (ok : WorldOk w) (s : WorldSpeaks w) (logs : LogsKept w) (r
     abbrev noted : World × Trace
     noted = with_check w number (reply_among (heard_node network w x octets got cost).frames) h
 
-    checked_casts : h.1.happened.forged ≡ false → let q : World × Trace = checked network w number got (heard_node network w x octets got cost) h in CastsOn
+    checked_casts : h.1.happenings.forged ≡ false → let q : World × Trace = checked network w number got (heard_node network w x octets got cost) h in CastsOn
         sent ups home q.0 q.1
     unfolding world_after
     checked_casts honest = by_due (due got.path (message_of got) (heard_node network w x octets got cost).answer.answer) refl
@@ -609,16 +609,16 @@ module _ (w : World) (ok : WorldOk w) (s : WorldSpeaks w) (logs : LogsKept w) (r
         by_due (Some reply) e = by_memory reply e (is_some (acknowledging left reply).node.memory)
 
     -- an acknowledgement is not forged
-    checked_honest : (checked network w number got (heard_node network w x octets got cost) h).1.happened.forged ≡ false → h.1.happened.forged ≡ false
+    checked_honest : (checked network w number got (heard_node network w x octets got cost) h).1.happenings.forged ≡ false → h.1.happenings.forged ≡ false
     checked_honest = by_due (due got.path (message_of got) (heard_node network w x octets got cost).answer.answer)
       where
         by_memory : (reply : Reply) (t : Bool) → (if t then adds_frames (world_after network noted.0 number (acknowledging left reply)) noted.1
-            (acknowledging left reply) else sends_nothing w (world_after network noted.0 number (acknowledging left reply), noted.1)).1.happened.forged ≡ false
-            → h.1.happened.forged ≡ false
+            (acknowledging left reply) else sends_nothing w (world_after network noted.0 number (acknowledging left reply), noted.1)).1.happenings.forged ≡ false
+            → h.1.happenings.forged ≡ false
         by_memory reply true e = e
         by_memory reply false e = e
 
-        by_due : (o : Option Reply) → (acknowledged_if network w number left o noted).1.happened.forged ≡ false → h.1.happened.forged ≡ false
+        by_due : (o : Option Reply) → (acknowledged_if network w number left o noted).1.happenings.forged ≡ false → h.1.happenings.forged ≡ false
         by_due None e = e
         by_due (Some reply) e = by_memory reply (is_some (acknowledging left reply).node.memory) e
 
@@ -672,24 +672,24 @@ module _ (w : World) (ok : WorldOk w) (s : WorldSpeaks w) (logs : LogsKept w) (r
       record {
         up = tt;
         from = own_home number x (beside_at w number) datagram d.answer there;
-        flights = after_says (UnitSent (sent ++ one_of (broadcast_sent number x (beside_at w number) datagram d.answer))) (ran w) number d
+        flights = after_says (UnitSent (sent ++ one_of (broadcast_sent number x (beside_at w number) datagram d.answer))) (running_world w) number d
             (r.sends.broadcasts number x datagram there are) by (wider sent (one_of (broadcast_sent number x (beside_at w number) datagram d.answer)) w.flights
             before);
       }
   casts_on event st (Asks from to x y target there other address) = λ honest.
-      silent _ _ (record { bup = refl; broadcast = refl }) (after_says P (ran w) from
+      silent _ _ (record { bup = refl; broadcast = refl }) (after_says P (running_world w) from
       (reaches x (beside_at w from) (Err ask_faults.Halted) (λ z. ask_path in_memory z target)) (r.sends.asks from x target there)
       (ask_casts x (beside_at w from) target) before)
   casts_on event st (Scans number x m there here) = λ honest. discovered_casts number scan_word (scanning number) (begin_scan m (beside_at w number).scan)
   casts_on event st (Chooses number k x psk there pair) = λ honest.
-      silent _ _ (record { bup = refl; broadcast = refl }) (after_as_before P any (ran w) number
+      silent _ _ (record { bup = refl; broadcast = refl }) (after_as_before P any (running_world w) number
       (reaches x (beside_at w number) (Err choices.Halted) (λ y. choose_agent (identity network x psk) y k w.clock))
       (r.sends.choices number k x psk there pair) (choice_old x (beside_at w number) (identity network x psk) k w.clock) before)
   casts_on event st (Discovers e number x m octets link other there here comes over is) = λ honest.
       discovered_casts number discovery_word (beacon_taken number (discovery_in octets) link)
       (hear_discovery x.role m.station (beside_at w number).scan octets link)
   casts_on event st (Unbelieves e number x octets got a is) = λ honest. silent _ _ (record { bup = refl; broadcast = refl })
-      (after_silently P (ran w) number (stays (after_accepting network x octets) (only said.Blacklisted)) refl before)
+      (after_silently P (running_world w) number (stays (after_accepting network x octets) (only answers.Blacklisted)) refl before)
   casts_on event st (Commands e number x octets cost got c a low passes is) = λ honest. commanded_casts event number x octets cost got a c is honest
   casts_on event st (Checked e number x octets cost got a low passes none on) = λ honest. checked_casts event number x octets cost got a
       (checked_honest event number x octets cost got a honest)
@@ -697,14 +697,14 @@ module _ (w : World) (ok : WorldOk w) (s : WorldSpeaks w) (logs : LogsKept w) (r
       (heard_flights event number x octets cost got a (or_parts _ _ honest).0)
   casts_on event st (Ticks seconds) = λ honest. silent _ _ (record { bup = refl; broadcast = refl }) before
   casts_on event st (Restarts number x b there read) = λ honest. silent _ _ (record { bup = refl; broadcast = refl })
-      (after_silently P (ran w) number (restarts x) refl before)
+      (after_silently P (running_world w) number (restarts x) refl before)
 
 -- # Runs
 
-ups_more : (before : List Entry) (x : Entry) → broadcast_ups (before ++ x ∷ []) ≡ broadcast_ups before ++ one_of x.trace.happened.bup
-ups_more [] x = append-nil (one_of x.trace.happened.bup)
-ups_more (y ∷ before) x = ap (λ xs. one_of y.trace.happened.bup ++ xs) (ups_more before x) ∙ sym
-    (append_assoc (one_of y.trace.happened.bup) (broadcast_ups before) (one_of x.trace.happened.bup))
+ups_more : (before : List Entry) (x : Entry) → broadcast_ups (before ++ x ∷ []) ≡ broadcast_ups before ++ one_of x.trace.happenings.bup
+ups_more [] x = append-nil (one_of x.trace.happenings.bup)
+ups_more (y ∷ before) x = ap (λ xs. one_of y.trace.happenings.bup ++ xs) (ups_more before x) ∙ sym
+    (append_assoc (one_of y.trace.happenings.bup) (broadcast_ups before) (one_of x.trace.happenings.bup))
 
 broadcasts_more : (before : List Entry) (x : Entry) → broadcasts (before ++ x ∷ []) ≡ broadcasts before ++ one_of x.trace.further.broadcast
 broadcasts_more [] x = append-nil (one_of x.trace.further.broadcast)
@@ -746,26 +746,26 @@ all_once home w ok s logs before h (x ∷ xs) says run holds ranged = λ honest.
     let is : IsReachStep network w x.event (line_step network w x.event) = reach_step_is network w logs x.event event in
     let on : CastsOn sent ups home x.after x.trace = subst (CastsIn sent ups home) run.2
     (casts_on w ok s logs ranged.0.0 home ranged.0.1 sent ups h.marked h.flights x.event (line_step network w x.event) is) honest in
-    let marks : MarkedWorld (ups ++ one_of x.trace.happened.bup) x.after = subst (MarksOn ups) run.2
+    let marks : MarkedWorld (ups ++ one_of x.trace.happenings.bup) x.after = subst (MarksOn ups) run.2
     (marks_on w ok s.flights logs ups h.marked h.earlier x.event (line_step network w x.event) is) in
     let speaks : WorldSpeaks x.after = subst (SpeaksIn w ok s) run.2 (line_speaks w ok s logs x.event (line_step network w x.event)
     (line_step_is Octets Spelled network network_ranges w ok s.flights logs (octets_speak w ok s logs) x.event event)) in
     let after = All-head HoldsAfter x xs holds in
     let goes = line_steps network w x.after x.event x.trace run.2 in
     let longer = goes.nodes in
-    let next : CastHolds home (sent ++ one_of x.trace.further.broadcast) (ups ++ one_of x.trace.happened.bup) x.after = record {
+    let next : CastHolds home (sent ++ one_of x.trace.further.broadcast) (ups ++ one_of x.trace.happenings.bup) x.after = record {
       from = All-append (λ (b : Broadcasting). b.address ≡ home b.node) sent (one_of x.trace.further.broadcast) h.from
           (all_one (λ (b : Broadcasting). b.address ≡ home b.node) x.trace.further.broadcast on.from);
-      earlier = All-append (λ (u : BroadcastUp). u.node < length x.after.nodes) ups (one_of x.trace.happened.bup)
+      earlier = All-append (λ (u : BroadcastUp). u.node < length x.after.nodes) ups (one_of x.trace.happenings.bup)
           (All-weaker (λ (u : BroadcastUp). u.node < length w.nodes) (λ (u : BroadcastUp). u.node < length x.after.nodes) (λ u lt. omega arith) ups h.earlier)
-          (all_one (λ (u : BroadcastUp). u.node < length x.after.nodes) x.trace.happened.bup (node_of x.after x.trace.happened.bup on.up));
+          (all_one (λ (u : BroadcastUp). u.node < length x.after.nodes) x.trace.happenings.bup (node_of x.after x.trace.happenings.bup on.up));
       marked = marks;
       flights = on.flights;
     } in
     let again : CastHolds home (broadcasts (before ++ x ∷ [])) (broadcast_ups (before ++ x ∷ [])) x.after = subst
     (λ b. CastHolds home b (broadcast_ups (before ++ x ∷ [])) x.after) (sym (broadcasts_more before x))
     (subst (λ u. CastHolds home (sent ++ one_of x.trace.further.broadcast) u x.after) (sym (ups_more before x)) next) in (
-      up_of x.trace.happened.bup on.up,
+      up_of x.trace.happenings.bup on.up,
       all_once home x.after after.line speaks after.logs (before ++ x ∷ []) again xs
           (All-tail IsEvent x.event (events_of xs) says) run.3 (All-tail HoldsAfter x xs holds) (ranged.1 honest),
     )

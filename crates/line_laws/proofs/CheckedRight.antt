@@ -43,7 +43,7 @@ use Rattle.reach_rules.specs.ReachingNodes.{Beside}
 use Rattle.reach_rules.specs.Receiving.{NeighbourCommand, command_of, hear_command}
 use Rattle.line_rules.specs.Answers.{Reception, command_word, discovery_word, drop_word, scan_word}
 use Rattle.line_events.specs.declared.event.Answer.{Answer}
-use Rattle.line_events.specs.declared.event.Answer.TheVariants as said
+use Rattle.line_events.specs.declared.event.Answer.TheVariants as answers
 use Rattle.line_events.specs.declared.event.Event.{Event}
 use Rattle.line_events.specs.declared.event.Event.TheVariants as events
 use Rattle.line_events.specs.Events.{AreEvents, IsEvent}
@@ -85,17 +85,17 @@ module _ (w : World) (before : List Entry) (h : IsOfHistory before w) (n : ℕ) 
   CheckedIn event (Ok r) = IsCheckedRight w before (entry n event r)
   CheckedIn event (Err fault) = Unit {0}
 
-  other_checked : (event : Event) (v : World) (t : Trace) → NotNew t.happened.answer → (IsBlacklisted w before event → ⊥)
+  other_checked : (event : Event) (v : World) (t : Trace) → NotNew t.happenings.answer → (IsBlacklisted w before event → ⊥)
       → IsCheckedRight w before (entry n event (v, t))
   other_checked event v t old none = record {
-    blacklisted = (λ e. absurd (other_word t.happened.answer said.Blacklisted old refl e), λ b. absurd (none b));
-    acked = λ e. absurd (other_word t.happened.answer said.Acked old refl e);
-    not_awaited = λ e. absurd (other_word t.happened.answer said.NotAwaited old refl e);
+    blacklisted = (λ e. absurd (other_word t.happenings.answer answers.Blacklisted old refl e), λ b. absurd (none b));
+    acked = λ e. absurd (other_word t.happenings.answer answers.Acked old refl e);
+    not_awaited = λ e. absurd (other_word t.happenings.answer answers.NotAwaited old refl e);
   }
 
-  quiet_checked : (event : Event) (v : World) (t : Trace) → Quiet t.happened.answer → (IsBlacklisted w before event → ⊥)
+  quiet_checked : (event : Event) (v : World) (t : Trace) → Quiet t.happenings.answer → (IsBlacklisted w before event → ⊥)
       → IsCheckedRight w before (entry n event (v, t))
-  quiet_checked event v t quiet none = other_checked event v t (not_new t.happened.answer quiet) none
+  quiet_checked event v t quiet none = other_checked event v t (not_new t.happenings.answer quiet) none
 
   -- # Where no request was accepted
 
@@ -203,13 +203,13 @@ module _ (w : World) (before : List Entry) (h : IsOfHistory before w) (n : ℕ) 
           (subst (λ k. FrameCame w event number c.from c.to_all (units.Local k c.body)) code
           (command_came w event number x octets got c a.there a.comes a.is carries))
 
-      no_black : (o : Result CommandHeard ReachDropped) → Says b c o → command_word o ≡ said.Blacklisted → ⊥
+      no_black : (o : Result CommandHeard ReachDropped) → Says b c o → command_word o ≡ answers.Blacklisted → ⊥
       no_black (Ok heard_of.Acked) s e = cc (e)
       no_black (Ok (heard_of.Broadcast origin count body)) s e = cc (e)
       no_black (Ok heard_of.Relayed) s e = cc (e)
       no_black (Ok heard_of.Answered) s e = cc (e)
       no_black (Ok (heard_of.Path walk)) s e = cc (e)
-      no_black (Err (reach_drops.Known reason)) s e = new_word (drop_word reason) said.Blacklisted (drop_quiet reason) refl e
+      no_black (Err (reach_drops.Known reason)) s e = new_word (drop_word reason) answers.Blacklisted (drop_quiet reason) refl e
       no_black (Err reach_drops.Blacklisted) s e = s
       no_black (Err reach_drops.NotAwaited) s e = cc (e)
       no_black (Err reach_drops.Old) s e = cc (e)
@@ -217,7 +217,7 @@ module _ (w : World) (before : List Entry) (h : IsOfHistory before w) (n : ℕ) 
       no_black (Err reach_drops.Revisited) s e = cc (e)
       no_black (Err reach_drops.PathLong) s e = cc (e)
 
-      acked_is : (o : Result CommandHeard ReachDropped) → Says b c o → command_word o ≡ said.Acked → IsAwaited w before event
+      acked_is : (o : Result CommandHeard ReachDropped) → Says b c o → command_word o ≡ answers.Acked → IsAwaited w before event
       acked_is (Ok heard_of.Acked) s e =
           let o = some_open (waits_for c.from s.number s.origin) (check_history number [] before)
           (sym (ap (λ (z : Neighbours). is_awaited z c.from s.number s.origin) (h.checks number)) ∙ s.waits) in
@@ -237,7 +237,7 @@ module _ (w : World) (before : List Entry) (h : IsOfHistory before w) (n : ℕ) 
       acked_is (Ok heard_of.Relayed) s e = absurd (cc (e))
       acked_is (Ok heard_of.Answered) s e = absurd (cc (e))
       acked_is (Ok (heard_of.Path walk)) s e = absurd (cc (e))
-      acked_is (Err (reach_drops.Known reason)) s e = absurd (new_word (drop_word reason) said.Acked (drop_quiet reason) refl e)
+      acked_is (Err (reach_drops.Known reason)) s e = absurd (new_word (drop_word reason) answers.Acked (drop_quiet reason) refl e)
       acked_is (Err reach_drops.Blacklisted) s e = absurd s
       acked_is (Err reach_drops.NotAwaited) s e = absurd (cc (e))
       acked_is (Err reach_drops.Old) s e = absurd (cc (e))
@@ -245,7 +245,7 @@ module _ (w : World) (before : List Entry) (h : IsOfHistory before w) (n : ℕ) 
       acked_is (Err reach_drops.Revisited) s e = absurd (cc (e))
       acked_is (Err reach_drops.PathLong) s e = absurd (cc (e))
 
-      unawaited_is : (o : Result CommandHeard ReachDropped) → Says b c o → command_word o ≡ said.NotAwaited → IsNotAwaited w before event
+      unawaited_is : (o : Result CommandHeard ReachDropped) → Says b c o → command_word o ≡ answers.NotAwaited → IsNotAwaited w before event
       unawaited_is (Err reach_drops.NotAwaited) s e = record {
         number = number;
         from = c.from;
@@ -270,7 +270,7 @@ module _ (w : World) (before : List Entry) (h : IsOfHistory before w) (n : ℕ) 
       unawaited_is (Ok heard_of.Relayed) s e = absurd (cc (e))
       unawaited_is (Ok heard_of.Answered) s e = absurd (cc (e))
       unawaited_is (Ok (heard_of.Path walk)) s e = absurd (cc (e))
-      unawaited_is (Err (reach_drops.Known reason)) s e = absurd (new_word (drop_word reason) said.NotAwaited (drop_quiet reason) refl e)
+      unawaited_is (Err (reach_drops.Known reason)) s e = absurd (new_word (drop_word reason) answers.NotAwaited (drop_quiet reason) refl e)
       unawaited_is (Err reach_drops.Blacklisted) s e = absurd s
       unawaited_is (Err reach_drops.Old) s e = absurd (cc (e))
       unawaited_is (Err reach_drops.OriginsFull) s e = absurd (cc (e))
@@ -321,7 +321,7 @@ module _ (w : World) (before : List Entry) (h : IsOfHistory before w) (n : ℕ) 
 
   -- # Words of scans and beacons
 
-  scan_other : (number : ℕ) (v : World) (t : Trace) (o : Result (Unit {0}) ScanRefusal) → t.happened.answer ≡ scan_word o
+  scan_other : (number : ℕ) (v : World) (t : Trace) (o : Result (Unit {0}) ScanRefusal) → t.happenings.answer ≡ scan_word o
       → IsCheckedRight w before (entry n (events.Scan number) (v, t))
   scan_other number v t o is = record {
     blacklisted = (λ e. absurd (no_black o (sym is ∙ e)), λ b. absurd (comes_brought w (events.Scan number) b.number b.came.octets b.came.comes));
@@ -329,22 +329,22 @@ module _ (w : World) (before : List Entry) (h : IsOfHistory before w) (n : ℕ) 
     not_awaited = λ e. absurd (no_wait o (sym is ∙ e));
   }
     where
-      no_black : (o : Result (Unit {0}) ScanRefusal) → scan_word o ≡ said.Blacklisted → ⊥
+      no_black : (o : Result (Unit {0}) ScanRefusal) → scan_word o ≡ answers.Blacklisted → ⊥
       no_black (Ok u) e = cc (e)
       no_black (Err scan_faults.Halted) e = cc (e)
       no_black (Err scan_faults.AlreadyJoined) e = cc (e)
 
-      no_ack : (o : Result (Unit {0}) ScanRefusal) → scan_word o ≡ said.Acked → ⊥
+      no_ack : (o : Result (Unit {0}) ScanRefusal) → scan_word o ≡ answers.Acked → ⊥
       no_ack (Ok u) e = cc (e)
       no_ack (Err scan_faults.Halted) e = cc (e)
       no_ack (Err scan_faults.AlreadyJoined) e = cc (e)
 
-      no_wait : (o : Result (Unit {0}) ScanRefusal) → scan_word o ≡ said.NotAwaited → ⊥
+      no_wait : (o : Result (Unit {0}) ScanRefusal) → scan_word o ≡ answers.NotAwaited → ⊥
       no_wait (Ok u) e = cc (e)
       no_wait (Err scan_faults.Halted) e = cc (e)
       no_wait (Err scan_faults.AlreadyJoined) e = cc (e)
 
-  discovery_other : (event : Event) (v : World) (t : Trace) (o : Result DiscoveryHeard DiscoveryDropped) → t.happened.answer ≡ discovery_word o
+  discovery_other : (event : Event) (v : World) (t : Trace) (o : Result DiscoveryHeard DiscoveryDropped) → t.happenings.answer ≡ discovery_word o
       → (IsBlacklisted w before event → ⊥) → IsCheckedRight w before (entry n event (v, t))
   discovery_other event v t o is none = record {
     blacklisted = (λ e. absurd (no_black o (sym is ∙ e)), λ b. absurd (none b));
@@ -352,20 +352,20 @@ module _ (w : World) (before : List Entry) (h : IsOfHistory before w) (n : ℕ) 
     not_awaited = λ e. absurd (no_wait o (sym is ∙ e));
   }
     where
-      no_black : (o : Result DiscoveryHeard DiscoveryDropped) → discovery_word o ≡ said.Blacklisted → ⊥
+      no_black : (o : Result DiscoveryHeard DiscoveryDropped) → discovery_word o ≡ answers.Blacklisted → ⊥
       no_black (Ok discovered.Beacon) e = cc (e)
       no_black (Ok discovered.Beaconed) e = cc (e)
-      no_black (Err reason) e = new_word (discovery_word (Err reason)) said.Blacklisted (lost_quiet reason) refl e
+      no_black (Err reason) e = new_word (discovery_word (Err reason)) answers.Blacklisted (lost_quiet reason) refl e
 
-      no_ack : (o : Result DiscoveryHeard DiscoveryDropped) → discovery_word o ≡ said.Acked → ⊥
+      no_ack : (o : Result DiscoveryHeard DiscoveryDropped) → discovery_word o ≡ answers.Acked → ⊥
       no_ack (Ok discovered.Beacon) e = cc (e)
       no_ack (Ok discovered.Beaconed) e = cc (e)
-      no_ack (Err reason) e = new_word (discovery_word (Err reason)) said.Acked (lost_quiet reason) refl e
+      no_ack (Err reason) e = new_word (discovery_word (Err reason)) answers.Acked (lost_quiet reason) refl e
 
-      no_wait : (o : Result DiscoveryHeard DiscoveryDropped) → discovery_word o ≡ said.NotAwaited → ⊥
+      no_wait : (o : Result DiscoveryHeard DiscoveryDropped) → discovery_word o ≡ answers.NotAwaited → ⊥
       no_wait (Ok discovered.Beacon) e = cc (e)
       no_wait (Ok discovered.Beaconed) e = cc (e)
-      no_wait (Err reason) e = new_word (discovery_word (Err reason)) said.NotAwaited (lost_quiet reason) refl e
+      no_wait (Err reason) e = new_word (discovery_word (Err reason)) answers.NotAwaited (lost_quiet reason) refl e
 
   -- # Every event
 

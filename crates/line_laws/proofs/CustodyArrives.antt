@@ -25,7 +25,7 @@ use Rattle.line_rules.specs.Answers.{Reception, Up, station_reception, meter_rec
 use Rattle.node_rules.specs.Meters as meters
 use Rattle.node_rules.specs.Coordinators as coordinators
 use Rattle.node_rules.specs.NodeSteps.{NodeStep, acts, of_station, answering}
-use Rattle.line_rules.specs.Steps.{identity, hears, note_by, world_after, ran, trace_of, happened, flights_of, flight_by, handed_by, heard, arrives}
+use Rattle.line_rules.specs.Steps.{identity, hears, note_by, world_after, running_world, trace_of, happenings, flights_of, flight_by, handed_by, heard, arrives}
 use Rattle.line_rules.specs.Worlds.{Trace, World}
 use Rattle.line_events.specs.declared.happenings.Handed.{Handed}
 use Rattle.node_rules.specs.Ciphers.{OpensWhatItSeals}
@@ -164,7 +164,7 @@ module _ (ciphers : Ciphers) (opens : OpensWhatItSeals ciphers) (S : ℕ → Sen
     pub nodes : v.nodes ≡ slice_set w.nodes number node
     pub is : NodeTrue S own node
     pub flights : All (FlightIsOf ciphers S) v.flights
-    pub up : (u : Handed) → d.happened.up ≡ Some u → HandedIsOf S own u.note u.octets
+    pub up : (u : Handed) → d.happenings.up ≡ Some u → HandedIsOf S own u.note u.octets
 
   handed_true : (up : Option Up) → ((u : Up) → up ≡ Some u → HandedIsOf S own u.note u.octets) → (h : Handed) → handed_by number up ≡ Some h
       → HandedIsOf S own h.note h.octets
@@ -180,7 +180,7 @@ module _ (ciphers : Ciphers) (opens : OpensWhatItSeals ciphers) (S : ℕ → Sen
       → TakesHome own got cost (note_by w octets got.path) w.clock (identity ciphers accepting.node psk) m)
       × ((m : Memory) → accepting.node.memory ≡ Some m → Agrees (heard_given got cost (note_by w octets got.path) w.clock) m.station)
       × All IsSent (hears ciphers accepting.node got cost (note_by w octets got.path) w.clock).frames)
-      → (arrives ciphers w number x octets cost).1.happened.forged ≡ false
+      → (arrives ciphers w number x octets cost).1.happenings.forged ≡ false
       → LeavesTrue (arrives ciphers w number x octets cost).0 (arrives ciphers w number x octets cost).1
   unfolding arrives world_after
   arrives_true ok sent well unforged = by_answer accepting.answer refl unforged
@@ -191,9 +191,9 @@ module _ (ciphers : Ciphers) (opens : OpensWhatItSeals ciphers) (S : ℕ → Sen
 
       after : Result Accepted FrameRefusal → World × Trace
       after (Ok got) = heard ciphers w number accepting.node octets got cost
-      after (Err reason) = (world_after ciphers (ran w) number accepting, trace_of (happened w (frame_word reason)))
+      after (Err reason) = (world_after ciphers (running_world w) number accepting, trace_of (happenings w (frame_word reason)))
 
-      by_answer : (a : Result Accepted FrameRefusal) → accepting.answer ≡ a → (after a).1.happened.forged ≡ false → LeavesTrue (after a).0 (after a).1
+      by_answer : (a : Result Accepted FrameRefusal) → accepting.answer ≡ a → (after a).1.happenings.forged ≡ false → LeavesTrue (after a).0 (after a).1
       by_answer (Err reason) e unforged = record {
         node = accepting.node;
         nodes = refl;

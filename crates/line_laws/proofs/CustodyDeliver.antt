@@ -33,7 +33,7 @@ use Rattle.node_rules.specs.Laws.{IsWhole, IsCutOff}
 use Rattle.node_rules.specs.Meters as meters
 use Rattle.node_rules.specs.Coordinators as coordinators
 use Rattle.node_rules.specs.NodeSteps.{NodeStep, acts, stays, left_by, of_station, answering}
-use Rattle.line_rules.specs.Steps.{identity, hears, note_by, forged_by, world_after, ran, trace_of, happened, flights_of, handed_by, heard, arrives}
+use Rattle.line_rules.specs.Steps.{identity, hears, note_by, forged_by, world_after, running_world, trace_of, happenings, flights_of, handed_by, heard, arrives}
 use Rattle.line_rules.specs.Worlds.{Flight, Trace, World, has_octets, note_of, is_forged_frame}
 use Rattle.line_events.specs.declared.happenings.Handed.{Handed}
 use Rattle.node_rules.proofs.Writing.{clean}
@@ -296,7 +296,7 @@ module _ (ciphers : Ciphers) (opens : OpensWhatItSeals ciphers) (w : World) (are
     pub nodes : v.nodes ≡ slice_set w.nodes number node
     pub flights : v.flights ≡ w.flights ++ new
     pub sends : v.sends ≡ w.sends
-    pub kept : (node_keeps n i node.memory + sum_by (flight_is ciphers n i) new) + sum_by (handed_is n i) (option_to_list d.happened.up)
+    pub kept : (node_keeps n i node.memory + sum_by (flight_is ciphers n i) new) + sum_by (handed_is n i) (option_to_list d.happenings.up)
         ≤ node_keeps n i x.memory + opened_is ciphers n i w.flights (opened_at w octets accepting.answer)
 
   handed_sum : (up : Option Up) → sum_by (handed_is n i) (option_to_list (handed_by number up))
@@ -305,16 +305,16 @@ module _ (ciphers : Ciphers) (opens : OpensWhatItSeals ciphers) (w : World) (are
   handed_sum (Some u) = sum_by-cons (handed_is n i) (record { node = number; note = u.note; octets = u.octets }) [] ∙ omega arith
 
   pub arrives_kept : All IsSent accepting.frames → ((got : Accepted) → accepting.answer ≡ Ok got → HeardWell got)
-      → (arrives ciphers w number x octets cost).1.happened.forged ≡ false
+      → (arrives ciphers w number x octets cost).1.happenings.forged ≡ false
       → Delivered (arrives ciphers w number x octets cost).0 (arrives ciphers w number x octets cost).1
   unfolding arrives world_after
   arrives_kept sent well unforged = by_answer accepting.answer refl unforged
     where
       after : Result Accepted FrameRefusal → World × Trace
       after (Ok got) = heard ciphers w number accepting.node octets got cost
-      after (Err reason) = (world_after ciphers (ran w) number accepting, trace_of (happened w (frame_word reason)))
+      after (Err reason) = (world_after ciphers (running_world w) number accepting, trace_of (happenings w (frame_word reason)))
 
-      by_answer : (a : Result Accepted FrameRefusal) → accepting.answer ≡ a → (after a).1.happened.forged ≡ false → Delivered (after a).0 (after a).1
+      by_answer : (a : Result Accepted FrameRefusal) → accepting.answer ≡ a → (after a).1.happenings.forged ≡ false → Delivered (after a).0 (after a).1
       by_answer (Err reason) e unforged =
           let k = accepted_kept.kept in
           let f = sent_flies ciphers opens n i number accepting.frames sent in
@@ -343,13 +343,13 @@ pub arrival_in_custody : (ciphers : Ciphers) (live : World → Flight → Bool) 
     All IsSent first.frames → ((got : Accepted) → first.answer ≡ Ok got
     → ((m : Memory) → first.node.memory ≡ Some m → Agrees (heard_given got cost (note_by w octets got.path) w.clock) m.station)
     × All IsSent (hears ciphers first.node got cost (note_by w octets got.path) w.clock).frames)
-    → (arrives ciphers w number x octets cost).1.happened.forged ≡ false
+    → (arrives ciphers w number x octets cost).1.happenings.forged ≡ false
     → LiveFalls live w (arrives ciphers w number x octets cost).0 (opened_at w octets first.answer)
-    → IsInCustody ciphers live (arrives ciphers w number x octets cost).0 (before ++ option_to_list (arrives ciphers w number x octets cost).1.happened.up))
+    → IsInCustody ciphers live (arrives ciphers w number x octets cost).0 (before ++ option_to_list (arrives ciphers w number x octets cost).1.happenings.up))
 arrival_in_custody ciphers live opens w are number x here octets cost before held sent well unforged falls = record {
   at_most = λ n i some.
       let v : World = (arrives ciphers w number x octets cost).0 in
-      let up : Option Handed = (arrives ciphers w number x octets cost).1.happened.up in
+      let up : Option Handed = (arrives ciphers w number x octets cost).1.happenings.up in
       let d = arrives_kept ciphers opens w are number x octets cost n i some sent (λ got e. let h = well got e in record { agrees = h.0; frames = h.1 })
       unforged in
       let same : issued n v.sends ≡ issued n w.sends = ap (issued n) d.sends in

@@ -19,7 +19,7 @@ use Rattle.node_rules.specs.Drafts.{alone, empty_draft}
 use Rattle.line_rules.specs.Answers.{sent_word, send_word}
 use Rattle.node_rules.specs.Laws.{IsWhole, IsCutOff}
 use Rattle.node_rules.specs.NodeSteps.{NodeStep, acts, stays, left_by, of_station, answering}
-use Rattle.line_rules.specs.Steps.{is_taken, tag_of, sending, sent_if, acted, world_after, ran, flights_of, ticked}
+use Rattle.line_rules.specs.Steps.{is_taken, tag_of, sending, sent_if, node_outcome, world_after, running_world, flights_of, ticked}
 use Rattle.line_rules.specs.Worlds.{Flight, World}
 use Rattle.line_events.specs.declared.happenings.Handed.{Handed}
 use Rattle.node_rules.proofs.Writing.{clean}
@@ -155,14 +155,14 @@ module _ (ciphers : Ciphers) (live : World → Flight → Bool) (opens : OpensWh
         (record { kept = omega arith }) more (held.at_most n i some));
   }
     where
-      one_node : (b : Bool) → OneNode w (sent_if w from to datagram (tag_of x) b (acted ciphers w from (answering sent_word sends_it))).0 x sends_it.node
+      one_node : (b : Bool) → OneNode w (sent_if w from to datagram (tag_of x) b (node_outcome ciphers w from (answering sent_word sends_it))).0 x sends_it.node
           (flights_of ciphers from sends_it)
       one_node true = record { number = from; here = here; nodes = refl; flights = refl }
       one_node false = record { number = from; here = here; nodes = refl; flights = refl }
 
       issues_by : (n i : ℕ) → 0 < n → (a : Result SentHow SendRefusal)
           → issued n w.sends + taken_is (weigh n (w.sends + 1) (below i (length datagram))) a
-          ≤ issued n (sent_if w from to datagram (tag_of x) (is_taken (sent_word a)) (acted ciphers w from (answering sent_word sends_it))).0.sends
+          ≤ issued n (sent_if w from to datagram (tag_of x) (is_taken (sent_word a)) (node_outcome ciphers w from (answering sent_word sends_it))).0.sends
       issues_by n i some (Ok h) = rw (word_taken h) (issues n i w.sends (length datagram) some)
       issues_by n i some (Err e) = rw (word_refused e) (omega arith)
 
@@ -186,12 +186,12 @@ ticked_keeps n i some now x = by_memory x.memory x.role
 
 -- time passes for all nodes at once
 pub tick_in_custody : (ciphers : Ciphers) (live : World → Flight → Bool) (w : World) (seconds : ℕ) (before : List Handed) → IsInCustody ciphers live w before
-    → let v : World = record (ran w) { clock = w.clock + seconds; nodes = map (ticked (w.clock + seconds)) w.nodes } in LiveFalls live w v None
+    → let v : World = record (running_world w) { clock = w.clock + seconds; nodes = map (ticked (w.clock + seconds)) w.nodes } in LiveFalls live w v None
     → IsInCustody ciphers live v before
 tick_in_custody ciphers live w seconds before held falls = record {
   at_most = λ n i some.
       let h = held.at_most n i some in
-      let v : World = record (ran w) { clock = w.clock + seconds; nodes = map (ticked (w.clock + seconds)) w.nodes } in
+      let v : World = record (running_world w) { clock = w.clock + seconds; nodes = map (ticked (w.clock + seconds)) w.nodes } in
       let nodes = mapped_sum (λ (x : Node). node_keeps n i x.memory) (ticked (w.clock + seconds)) (ticked_keeps n i some (w.clock + seconds)) w.nodes in
       let flights : sum_by (live_is ciphers (live v) n i) w.flights
       ≤ sum_by (live_is ciphers (live w) n i) w.flights = sum_by-le-sum_by (live_is ciphers (live v) n i) (live_is ciphers (live w) n i) w.flights

@@ -23,7 +23,7 @@ use Rattle.line_laws.proofs.Worlds.{within}
 -- so it is along a run, before the first forged event
 abbrev pub HomedAlong : (ℕ → ℕ) → World → List Entry → Type 0
 HomedAlong home w [] = HomedAt home w
-HomedAlong home w (x ∷ xs) = HomedAt home w × (x.trace.happened.forged ≡ false → HomedAlong home x.after xs)
+HomedAlong home w (x ∷ xs) = HomedAt home w × (x.trace.happenings.forged ≡ false → HomedAlong home x.after xs)
 
 pub homed_here : (home : ℕ → ℕ) (w : World) (entries : List Entry) → HomedAlong home w entries → HomedAt home w
 homed_here home w [] h = h

@@ -26,7 +26,7 @@ use Rattle.routing_set.specs.OwnNumber as own_number
 use Rattle.node_rules.specs.Drafts.{tag_slot}
 use Rattle.node_rules.specs.StoreReading.{tag_in, reading, station_of, memory_of, remembering}
 use Rattle.node_rules.specs.NodeSteps.{NodeStep}
-use Rattle.line_rules.specs.Steps.{acted, world_after, restarts, memory_by, flights_of}
+use Rattle.line_rules.specs.Steps.{node_outcome, world_after, restarts, memory_by, flights_of}
 use Rattle.line_rules.specs.Worlds.{Flight, World}
 use Rattle.line_events.specs.declared.happenings.Handed.{Handed}
 use Rattle.node_rules.specs.Ciphers.{OpensWhatItSeals}
@@ -47,12 +47,12 @@ use Rattle.line_laws.proofs.CustodyWorld.{custody_after, sent_flies}
 -- what one node did, where nothing came and nothing is sent out anew
 pub acted_in_custody : (ciphers : Ciphers) (live : World → Flight → Bool) → OpensWhatItSeals ciphers → (w : World) (number : ℕ) (x : Node)
     → slice_get w.nodes number ≡ Some x → (d : NodeStep Answer) (before : List Handed) → IsInCustody ciphers live w before → All IsSent d.frames
-    → ((n i : ℕ) → 0 < n → DidKeep n i 0 (λ (a : Answer). 0) x d) → LiveFalls live w (acted ciphers w number d).0 None
-    → IsInCustody ciphers live (acted ciphers w number d).0 before
+    → ((n i : ℕ) → 0 < n → DidKeep n i 0 (λ (a : Answer). 0) x d) → LiveFalls live w (node_outcome ciphers w number d).0 None
+    → IsInCustody ciphers live (node_outcome ciphers w number d).0 before
 unfolding world_after
 acted_in_custody ciphers live opens w number x here d before held sent kept falls = record {
   at_most = λ n i some.
-      let v : World = (acted ciphers w number d).0 in
+      let v : World = (node_outcome ciphers w number d).0 in
       let k = (kept n i some).kept in
       let fly = sent_flies ciphers opens n i number d.frames sent in
       let node : OneNode w v x d.node (flights_of ciphers number d) = record { number = number; here = here; nodes = refl; flights = refl } in

@@ -12,7 +12,7 @@ use Rattle.std.proofs.lemmas.Option.{same_Some, slice_get-get_or}
 use Rattle.plc_base.specs.declared.key.Key.{Key}
 use Rattle.group_keys.specs.KeyRing as ring
 use Rattle.line_events.specs.declared.event.Answer.{Answer}
-use Rattle.line_events.specs.declared.event.Answer.TheVariants as said
+use Rattle.line_events.specs.declared.event.Answer.TheVariants as answers
 use Rattle.line_events.specs.declared.event.Event.{Event}
 use Rattle.line_events.specs.declared.event.Event.TheVariants as events
 use Rattle.line_events.specs.declared.event.StepFault.{StepFault}
@@ -219,7 +219,7 @@ came_by w event number octets cost (ByFlight flight n c f e) = OfFlight flight n
 came_by w event number octets cost (ByScript n c o) = OfScript n c o
 
 up_not_taken : (a : Answer) → is_up a ≡ true → is_taken a ≡ false
-up_not_taken said.Up e = refl
+up_not_taken answers.Up e = refl
 up_not_taken _ e = absurd (cc)
 
 -- # What is owed
@@ -357,8 +357,8 @@ module _ (ciphers : Ciphers) (opens : OpensWhatItSeals ciphers) (fits : KeepsRan
   module _ (w : World) (before : List Handed) (c : Custody ciphers live S home w before) where
     abbrev ByArrival : Event → Step → Type 0
     ByArrival event (Ok r) = ((number : ℕ) (y : Node) (octets : List ℕ) (cost : ℕ) → node_at w number ≡ Some y → ArrivesBy w event number octets cost
-        → LiveFalls live w r.0 (opened_at w octets (accepting ciphers y octets).answer)) → r.1.happened.forged ≡ false
-        → After w event before r.0 r.1.happened.up
+        → LiveFalls live w r.0 (opened_at w octets (accepting ciphers y octets).answer)) → r.1.happenings.forged ≡ false
+        → After w event before r.0 r.1.happenings.up
     ByArrival event (Err fault) = Unit {0}
 
     arrival : (event : Event) (s : Step)
@@ -389,17 +389,17 @@ module _ (ciphers : Ciphers) (opens : OpensWhatItSeals ciphers) (fits : KeepsRan
         record { custody = k.0; handed = λ u e. record { number = number; octets = octets; cost = cost; by = by; is = k.1 u e } }
 
     pub after_event : (ok : WorldOk w) → All FlightFits w.flights → (x : Entry) → IsEvent x.event → step ciphers w x.event ≡ Ok (x.after, x.trace)
-        → IfSome x.trace.happened.up (λ (u : Handed). ComesTo x.event u.node) → ((s : Sending) → x.trace.sent ≡ Some s → S (w.sends + 1) (sent_as home s))
-        → Owed ciphers live w x → (given : List Issued) → Keyed w given → home 0 ≡ 0 → HomedAt home w → HomedAt home x.after → x.trace.happened.forged ≡ false
-        → After w x.event before x.after x.trace.happened.up
+        → IfSome x.trace.happenings.up (λ (u : Handed). ComesTo x.event u.node) → ((s : Sending) → x.trace.sent ≡ Some s → S (w.sends + 1) (sent_as home s))
+        → Owed ciphers live w x → (given : List Issued) → Keyed w given → home 0 ≡ 0 → HomedAt home w → HomedAt home x.after → x.trace.happenings.forged ≡ false
+        → After w x.event before x.after x.trace.happenings.up
     after_event ok flown x says is up_at is_sent owed given k first homed later honest = ⊎_elim came quiet (is_brought x.event)
       where
-        came : IsBrought x.event → After w x.event before x.after x.trace.happened.up
+        came : IsBrought x.event → After w x.event before x.after x.trace.happenings.up
         came b = subst (ByArrival x.event) is (arrival x.event (step ciphers w x.event) ok flown says owed.joins
             (keeps_home ciphers home first w ok given k homed fits flown) (event_brings ciphers w x.event b)) owed.falls honest
 
-        quiet : (IsBrought x.event → ⊥) → After w x.event before x.after x.trace.happened.up
-        quiet none = by_up x.trace.happened.up up_at
+        quiet : (IsBrought x.event → ⊥) → After w x.event before x.after x.trace.happenings.up
+        quiet none = by_up x.trace.happenings.up up_at
           where
             held : Custody ciphers (λ _ f. live w f) S home w before
             held = record { flights = c.flights; ranged = c.ranged; sent = c.sent; nodes = c.nodes; places = record { at_most = c.places.at_most } }

@@ -17,7 +17,7 @@ use Rattle.group_keys.specs.KeyRing as ring
 use Rattle.group_keys.specs.declared.fault.RingFault.{RingFault}
 use Rattle.group_keys.specs.declared.fault.RingFault.TheVariants as ring_faults
 use Rattle.line_events.specs.declared.event.Answer.{Answer}
-use Rattle.line_events.specs.declared.event.Answer.TheVariants as said
+use Rattle.line_events.specs.declared.event.Answer.TheVariants as answers
 use Rattle.line_events.specs.declared.event.Event.{Event}
 use Rattle.line_events.specs.declared.happenings.Handed.{Handed}
 use Rattle.node_rules.specs.declared.heard.SentHow.{SentHow}
@@ -37,7 +37,7 @@ use Rattle.node_rules.specs.Plans.{Plan, resting}
 use Rattle.node_rules.specs.StoreReading.{blank_station, first_grant}
 use Rattle.line_rules.specs.Answers.{sent_word}
 use Rattle.line_rules.specs.Forgery.{Comes, OfFlight, OfScript}
-use Rattle.line_rules.specs.Steps.{Step, set_up, ran, world_after, flights_of, made_node, blank_node, psk_of, ticked, acted, sending, sent_if, is_taken, tag_of}
+use Rattle.line_rules.specs.Steps.{Step, set_up, running_world, world_after, flights_of, made_node, blank_node, psk_of, ticked, node_outcome, sending, sent_if, is_taken, tag_of}
 use Rattle.line_rules.specs.Steps.{offered_near, identity, restarts, memory_by}
 use Rattle.line_rules.specs.Worlds.{World, Flight, Sending, node_at, flight_at}
 use Rattle.line_laws.specs.Letters.{IsFlight, AreFlights}
@@ -147,7 +147,7 @@ module _ (ciphers : Ciphers) (opens : OpensWhatItSeals ciphers) (S : ℕ → Sen
     all_fall : (u v : World) → LiveFalls (λ _ f. L f) u v None
     all_fall u v = record { falls = λ f h. h; passes = λ place f e. absurd (no_some place e) }
 
-    pub ran_at : (w : World) → At w → At (ran w)
+    pub ran_at : (w : World) → At w → At (running_world w)
     ran_at w c = record { flights = c.flights; ranged = c.ranged; sent = c.sent; nodes = c.nodes; places = record { at_most = c.places.at_most } }
 
     set_at : (w : World) → At w → At (set_up w)
@@ -341,8 +341,8 @@ module _ (ciphers : Ciphers) (opens : OpensWhatItSeals ciphers) (fits : KeepsRan
 
   -- one node did something
   ran_after : {A : Type 0} (number : ℕ) (x : Node) (d : NodeStep A) → node_at w number ≡ Some x → DidClean S (home number) x d
-      → Now (world_after ciphers (ran w) number d)
-  ran_after number x d there did = after_at ciphers opens S home L before (ran w) number x d (ran_at ciphers opens S home L before w c) there did
+      → Now (world_after ciphers (running_world w) number d)
+  ran_after number x d there did = after_at ciphers opens S home L before (running_world w) number x d (ran_at ciphers opens S home L before w c) there did
 
   set_after : {A : Type 0} (number : ℕ) (x : Node) (d : NodeStep A) → node_at w number ≡ Some x → DidClean S (home number) x d
       → Now (world_after ciphers (set_up w) number d)
@@ -414,7 +414,7 @@ module _ (ciphers : Ciphers) (opens : OpensWhatItSeals ciphers) (fits : KeepsRan
       after_of : (h : SentHow) → d.answer ≡ Ok h
           → (sending ciphers w from to datagram (tag_of x) (answering sent_word d)).1.sent
           ≡ Some (record { from = from; to = to; datagram = datagram; tag = tag_of x })
-      after_of h e = ap (λ (b : Bool). (sent_if w from to datagram (tag_of x) b (acted ciphers w from (answering sent_word d))).1.sent)
+      after_of h e = ap (λ (b : Bool). (sent_if w from to datagram (tag_of x) b (node_outcome ciphers w from (answering sent_word d))).1.sent)
           (ap (λ r. is_taken (sent_word r)) e ∙ word_taken h)
 
       is_of : (h : SentHow) → d.answer ≡ Ok h → (m : Memory) → x.memory ≡ Some m
@@ -428,14 +428,14 @@ module _ (ciphers : Ciphers) (opens : OpensWhatItSeals ciphers) (fits : KeepsRan
       did : SentDid S (home from) d
       did = sends_did S (home from) x a datagram (w.sends + 1) w.clock (ranged_at from x there) (c.nodes from x there) is_of
 
-      after_so : Rest ciphers opens S home (world_after ciphers (ran w) from (answering sent_word d))
-      after_so = after_rest ciphers opens S home (ran w) from x (answering sent_word d)
-          (rest_of ciphers opens S home L before (ran w) (ran_at ciphers opens S home L before w c)) there ranged.station ranged.frames did.station did.frames
+      after_so : Rest ciphers opens S home (world_after ciphers (running_world w) from (answering sent_word d))
+      after_so = after_rest ciphers opens S home (running_world w) from x (answering sent_word d)
+          (rest_of ciphers opens S home L before (running_world w) (ran_at ciphers opens S home L before w c)) there ranged.station ranged.frames did.station did.frames
 
       rest : Rest ciphers opens S home v
       rest = by_taken (is_taken (sent_word d.answer))
         where
-          by_taken : (b : Bool) → Rest ciphers opens S home (sent_if w from to datagram (tag_of x) b (acted ciphers w from (answering sent_word d))).0
+          by_taken : (b : Bool) → Rest ciphers opens S home (sent_if w from to datagram (tag_of x) b (node_outcome ciphers w from (answering sent_word d))).0
           by_taken true = record { flights = after_so.flights; ranged = after_so.ranged; sent = after_so.sent; nodes = after_so.nodes }
           by_taken false = after_so
 
@@ -453,7 +453,7 @@ module _ (ciphers : Ciphers) (opens : OpensWhatItSeals ciphers) (fits : KeepsRan
       by_number false e = e
 
   lost_at : (number : ℕ) (f : Flight) → slice_get w.flights (number - 1) ≡ Some f
-      → Now (record (ran w) { flights = slice_set w.flights (number - 1) (record f { lost = true }) })
+      → Now (record (running_world w) { flights = slice_set w.flights (number - 1) (record f { lost = true }) })
   lost_at number f there =
       let g : Flight = record f { lost = true } in
       let is : IsFlight ciphers f = at_place (IsFlight ciphers) w.flights (number - 1) f there c.flights in
@@ -484,7 +484,7 @@ module _ (ciphers : Ciphers) (opens : OpensWhatItSeals ciphers) (fits : KeepsRan
   ticked_at now (x ∷ xs) zero y e = (x, refl, same_Some _ _ e)
   ticked_at now (x ∷ xs) (suc k) y e = ticked_at now xs k y e
 
-  tick_at : (seconds : ℕ) → Now (record (ran w) { clock = w.clock + seconds; nodes = map (ticked (w.clock + seconds)) w.nodes })
+  tick_at : (seconds : ℕ) → Now (record (running_world w) { clock = w.clock + seconds; nodes = map (ticked (w.clock + seconds)) w.nodes })
   tick_at seconds = record {
     flights = c.flights;
     ranged = All-map NodeRanged (ticked (w.clock + seconds)) w.nodes
@@ -493,7 +493,7 @@ module _ (ciphers : Ciphers) (opens : OpensWhatItSeals ciphers) (fits : KeepsRan
     nodes = λ k y there. let p = ticked_at (w.clock + seconds) w.nodes k y there in
         subst (NodeTrue S (home k)) p.2 (ticked_true S (home k) (w.clock + seconds) p.0 (ranged_at k p.0 p.1) (c.nodes k p.0 p.1));
     places = tick_in_custody ciphers (λ _ f. L f) w seconds before c.places
-        (all_fall ciphers opens S home L before w (record (ran w) { clock = w.clock + seconds; nodes = map (ticked (w.clock + seconds)) w.nodes }));
+        (all_fall ciphers opens S home L before w (record (running_world w) { clock = w.clock + seconds; nodes = map (ticked (w.clock + seconds)) w.nodes }));
   }
 
   -- # The workshop
@@ -558,9 +558,9 @@ module _ (ciphers : Ciphers) (opens : OpensWhatItSeals ciphers) (fits : KeepsRan
   event_at event s (Acts e number x A halts plan reads there call word asked) silent later = λ sent. ran_after number x (answering reads (acts x halts plan))
       there (read_as number x reads (acts x halts plan) (asked_clean number x A halts plan there asked))
   event_at event s (BreaksLink number next x a there call) silent later = λ sent.
-      let plan : Memory → Plan Memory Answer = λ m. changing said.Broken (with_station (calls.broke a m.station) m) in
-      ran_after number x (acts x said.Halted plan) there
-      (clean_at number x said.Halted plan there (λ m here r t. broke_clean S (home number) m r t a said.Broken))
+      let plan : Memory → Plan Memory Answer = λ m. changing answers.Broken (with_station (calls.broke a m.station) m) in
+      ran_after number x (acts x answers.Halted plan) there
+      (clean_at number x answers.Halted plan there (λ m here r t. broke_clean S (home number) m r t a answers.Broken))
   event_at event s (SendsFrom from to datagram x a there call target) silent later = send_at from to datagram x a there target
   event_at event s (AllowsMeter number y cn psk there call meter) silent later = λ sent.
       ran_after 0 cn (acts cn (Err orders.Halted) (λ m. coordinator_rules.allow m y.eui psk)) there
@@ -595,7 +595,7 @@ module _ (ciphers : Ciphers) (opens : OpensWhatItSeals ciphers) (fits : KeepsRan
   event_at event s (Restarts number x there) silent later =
       λ sent. ran_after number x (restarts x) there (restart_clean S (home number) x (good_at number x there) (owed.homes number x there))
   event_at event s (Cuts number nth keeps_new x there) silent later = λ sent.
-      ran_after number x (stays (record x { store = record x.store { cut = Some (record { nth = nth; keeps_new = keeps_new }) } }) said.Set) there
+      ran_after number x (stays (record x { store = record x.store { cut = Some (record { nth = nth; keeps_new = keeps_new }) } }) answers.Set) there
       (record {
         ranged = ranged_at number x there;
         fits = All-nil IsSent;

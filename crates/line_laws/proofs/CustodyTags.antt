@@ -22,7 +22,7 @@ use Rattle.node_rules.specs.Frames.{arrived}
 use Rattle.node_rules.specs.Memory.{StationMemory, Memory, Meter, Node}
 use Rattle.node_rules.specs.Accepting.{accept}
 use Rattle.node_rules.specs.NodeSteps.{NodeStep, acts, of_station}
-use Rattle.line_rules.specs.Steps.{identity, hears, note_by, forged_by, arrives, heard, world_after, ran, trace_of, happened}
+use Rattle.line_rules.specs.Steps.{identity, hears, note_by, forged_by, arrives, heard, world_after, running_world, trace_of, happenings}
 use Rattle.line_rules.specs.Worlds.{Flight, Trace, World, is_forged_tag}
 use Rattle.line_events.specs.declared.happenings.Handed.{Handed}
 use Rattle.node_rules.specs.Ciphers.{OpensWhatItSeals}
@@ -86,30 +86,30 @@ module _ (ciphers : Ciphers) (opens : OpensWhatItSeals ciphers) (live : World �
       (came_true ciphers opens S one w c.flights c.sent number (home number) x octets cost got o.what) station.held
 
   -- the second plan's frame is not forged
-  unforged_by : (arrives ciphers w number x octets cost).1.happened.forged ≡ false → (got : Accepted) → accepting.answer ≡ Ok got
+  unforged_by : (arrives ciphers w number x octets cost).1.happenings.forged ≡ false → (got : Accepted) → accepting.answer ≡ Ok got
       → forged_by w octets got.path ≡ false
   unfolding arrives
   unforged_by unforged got e = by_answer accepting.answer e unforged
     where
       after : Result Accepted FrameRefusal → World × Trace
       after (Ok a) = heard ciphers w number accepting.node octets a cost
-      after (Err reason) = (world_after ciphers (ran w) number accepting, trace_of (happened w (frame_word reason)))
+      after (Err reason) = (world_after ciphers (running_world w) number accepting, trace_of (happenings w (frame_word reason)))
 
-      by_answer : (a : Result Accepted FrameRefusal) → a ≡ Ok got → (after a).1.happened.forged ≡ false → forged_by w octets got.path ≡ false
+      by_answer : (a : Result Accepted FrameRefusal) → a ≡ Ok got → (after a).1.happenings.forged ≡ false → forged_by w octets got.path ≡ false
       by_answer (Ok g) is h = let same : g ≡ got = cc in subst (λ (k : Accepted). forged_by w octets k.path ≡ false) same (or_parts _ _ h).0
       by_answer (Err reason) is h = absurd (cc)
 
   -- and no tag that it opened is
-  pub untagged_by : (arrives ciphers w number x octets cost).1.happened.forged ≡ false → (got : Accepted) → accepting.answer ≡ Ok got
+  pub untagged_by : (arrives ciphers w number x octets cost).1.happenings.forged ≡ false → (got : Accepted) → accepting.answer ≡ Ok got
       → list_any (is_forged_tag w.made) (hears ciphers accepting.node got cost (note_by w octets got.path) w.clock).opened ≡ false
   unfolding arrives
   untagged_by unforged got e = by_answer accepting.answer e unforged
     where
       after : Result Accepted FrameRefusal → World × Trace
       after (Ok a) = heard ciphers w number accepting.node octets a cost
-      after (Err reason) = (world_after ciphers (ran w) number accepting, trace_of (happened w (frame_word reason)))
+      after (Err reason) = (world_after ciphers (running_world w) number accepting, trace_of (happenings w (frame_word reason)))
 
-      by_answer : (a : Result Accepted FrameRefusal) → a ≡ Ok got → (after a).1.happened.forged ≡ false
+      by_answer : (a : Result Accepted FrameRefusal) → a ≡ Ok got → (after a).1.happenings.forged ≡ false
           → list_any (is_forged_tag w.made) (hears ciphers accepting.node got cost (note_by w octets got.path) w.clock).opened ≡ false
       by_answer (Ok g) is h = let same : g ≡ got = cc in
           subst (λ (k : Accepted). list_any (is_forged_tag w.made) (hears ciphers accepting.node k cost (note_by w octets k.path) w.clock).opened ≡ false) same
@@ -121,10 +121,10 @@ module _ (ciphers : Ciphers) (opens : OpensWhatItSeals ciphers) (live : World �
       → ((psk : Key) (m : Memory) → accepting.node.role ≡ Meter psk → accepting.node.memory ≡ Some m
       → TakesHome (home number) got cost (note_by w octets got.path) w.clock (identity ciphers accepting.node psk) m)
       × JoinsWell ciphers accepting.node got cost (note_by w octets got.path) w.clock)
-      → (arrives ciphers w number x octets cost).1.happened.forged ≡ false
+      → (arrives ciphers w number x octets cost).1.happenings.forged ≡ false
       → LiveFalls live w (arrives ciphers w number x octets cost).0 (opened_at w octets accepting.answer)
-      → Custody ciphers live S home (arrives ciphers w number x octets cost).0 (before ++ option_to_list (arrives ciphers w number x octets cost).1.happened.up)
-      × ((u : Handed) → (arrives ciphers w number x octets cost).1.happened.up ≡ Some u → HandedIsOf S (home number) u.note u.octets)
+      → Custody ciphers live S home (arrives ciphers w number x octets cost).0 (before ++ option_to_list (arrives ciphers w number x octets cost).1.happenings.up)
+      × ((u : Handed) → (arrives ciphers w number x octets cost).1.happenings.up ≡ Some u → HandedIsOf S (home number) u.note u.octets)
   arrival_keeps owed unforged falls =
       let ok : NodeRanged x = at_place NodeRanged w.nodes number x here c.ranged in
       let sent : All IsSent accepting.frames = (accepts_ranged ciphers opens w c.flights number x octets cost ok).frames in

@@ -21,7 +21,7 @@ use Rattle.node_rules.specs.declared.refusal.CoordinatorRefusal.{CoordinatorRefu
 use Rattle.node_rules.specs.declared.refusal.SendRefusal.{SendRefusal}
 use Rattle.node_rules.specs.declared.refusal.SendRefusal.TheVariants as sends
 use Rattle.line_rules.specs.Answers.{sent_word}
-use Rattle.line_events.specs.declared.event.Answer.TheVariants as said
+use Rattle.line_events.specs.declared.event.Answer.TheVariants as answers
 use Rattle.node_rules.specs.Ciphers.{Ciphers}
 use Rattle.node_rules.specs.Frames.{Sent, Sealed, Up, Down, spelled, arrived}
 use Rattle.node_rules.specs.Memory.{Memory, Coordinator, Node, address_of, node_address}
@@ -37,7 +37,7 @@ use Rattle.line_rules.specs.Forgery.{Comes, OfFlight, OfScript, accepting}
 use Rattle.line_rules.specs.Worlds.{World, Flight, node_at, flight_at}
 use Rattle.line_rules.specs.SafeRuns.{HasAddress}
 use Rattle.line_rules.specs.Nonces.{NonceParts, IsSpelled, HasSender}
-use Rattle.line_rules.specs.Steps.{Step, set_up, ran, world_after, made_node, ticked, flights_of, flight_by, acted, sending, sent_if, is_taken, tag_of, hears}
+use Rattle.line_rules.specs.Steps.{Step, set_up, running_world, world_after, made_node, ticked, flights_of, flight_by, node_outcome, sending, sent_if, is_taken, tag_of, hears}
 use Rattle.line_rules.specs.Steps.{offered_near, heard, note_by, identity, restarts}
 use Rattle.line_laws.specs.Stores.{IsReadable, IsKept}
 use Rattle.line_laws.specs.Owed.{AreOctets, KeepsRanges}
@@ -69,9 +69,9 @@ module _ (ciphers : Ciphers) (P : Flight → Type 0) (sent : (number : ℕ) (f :
 
   sending_all : (w : World) (from to : ℕ) (datagram : List ℕ) (tag : ℕ) (d : NodeStep Answer) → All P w.flights
       → All P (sending ciphers w from to datagram tag d).0.flights
-  sending_all w from to datagram tag d all = by_taken (is_taken d.answer) (after_all (ran w) from d all)
+  sending_all w from to datagram tag d all = by_taken (is_taken d.answer) (after_all (running_world w) from d all)
     where
-      by_taken : (b : Bool) → All P (world_after ciphers (ran w) from d).flights → All P (sent_if w from to datagram tag b (acted ciphers w from d)).0.flights
+      by_taken : (b : Bool) → All P (world_after ciphers (running_world w) from d).flights → All P (sent_if w from to datagram tag b (node_outcome ciphers w from d)).0.flights
       by_taken true k = k
       by_taken false k = k
 
@@ -91,20 +91,20 @@ module _ (ciphers : Ciphers) (P : Flight → Type 0) (sent : (number : ℕ) (f :
   every_flight w event s (Makes e x is) all = all
   every_flight w event s (Rests e quiet) all = all
   every_flight w event s (Shows number x) all = all
-  every_flight w event s (Acts e number x A halted plan reads there call word asked) all = after_all (ran w) number _ all
-  every_flight w event s (BreaksLink number next x a there call) all = after_all (ran w) number _ all
+  every_flight w event s (Acts e number x A halted plan reads there call word asked) all = after_all (running_world w) number _ all
+  every_flight w event s (BreaksLink number next x a there call) all = after_all (running_world w) number _ all
   every_flight w event s (SendsFrom from to datagram x a there call target) all = sending_all w from to datagram (tag_of x) _ all
-  every_flight w event s (AllowsMeter number y c psk there call meter) all = after_all (ran w) 0 _ all
+  every_flight w event s (AllowsMeter number y c psk there call meter) all = after_all (running_world w) 0 _ all
   every_flight w event s (Sets e quiet number x plan there open_is is) all = after_all (set_up w) number _ all
   every_flight w event s (SetsTwo e quiet a b cost x y p q hx hy apart open_is first second fresh near) all = after_all _ b _ (after_all (set_up w) a _ all)
   every_flight w event s (Provides number x c psk g d ne open_is hx hc pair same is) all = after_all _ number _ (after_all (set_up w) 0 _ all)
-  every_flight w event s (TurnsDown e number x octets reason d there says comes same is) all = after_all (ran w) number _ all
-  every_flight w event s (Hears e number x octets cost got there says comes low is) all = after_all (ran w) number _ all
+  every_flight w event s (TurnsDown e number x octets reason d there says comes same is) all = after_all (running_world w) number _ all
+  every_flight w event s (Hears e number x octets cost got there says comes low is) all = after_all (running_world w) number _ all
   every_flight w event s (Loses number f there) all =
       All-set P w.flights (number - 1) (record f { lost = true }) (lost f (at_place P w.flights (number - 1) f (flight_is w number f there) all)) all
   every_flight w event s (Ticks seconds) all = all
-  every_flight w event s (Restarts number x there) all = after_all (ran w) number _ all
-  every_flight w event s (Cuts number nth keeps_new x there) all = after_all (ran w) number _ all
+  every_flight w event s (Restarts number x there) all = after_all (running_world w) number _ all
+  every_flight w event s (Cuts number nth keeps_new x there) all = after_all (running_world w) number _ all
 
 pub lost_spelled : (ciphers : Ciphers) (f : Flight) → IsSpelled ciphers f → IsSpelled ciphers (record f { lost = true })
 lost_spelled ciphers f h = record { sealed = h.sealed; plain = h.plain }
@@ -224,7 +224,7 @@ module _ (ciphers : Ciphers) (fits : KeepsRanges ciphers) (w : World) (ok : Worl
   call_sent number x A halted plan there (Sends a datagram other are) =
       speaks x _ (acts_ok x _ _ (good_at number x there) (λ m here kept sized. send_ok x.role m sized a datagram (w.sends + 1) w.clock))
   call_sent number x A halted plan there (Breaks a other) =
-      speaks x _ (acts_ok x _ _ (good_at number x there) (λ m here kept sized. broke_ok x.role m sized a said.Broken))
+      speaks x _ (acts_ok x _ _ (good_at number x there) (λ m here kept sized. broke_ok x.role m sized a answers.Broken))
   call_sent number x A halted plan there (Nears a cost open_is other low) = Silent (acts_quiet x _ _ (λ m. near_quiet m.station a cost w.clock))
   call_sent number x A halted plan there (Counts value open_is low) = Silent (acts_quiet x _ _ (λ m. counter_quiet m.station value))
   call_sent number x A halted plan there (Numbers value open_is some low) = Silent (acts_quiet x _ _ (λ m. number_quiet m.station value))
@@ -257,10 +257,10 @@ module _ (ciphers : Ciphers) (fits : KeepsRanges ciphers) (w : World) (ok : Worl
   sending_senders : (from to : ℕ) (datagram : List ℕ) (x : Node) (d : NodeStep Answer) → node_at w from ≡ Some x → IsSentFrom d
       → NewSenders w (sending ciphers w from to datagram (tag_of x) d).0
   sending_senders from to datagram x d there sent =
-      by_taken (is_taken d.answer) (one_after (ran w) (world_after ciphers (ran w) from d) from x d refl refl refl refl there sent)
+      by_taken (is_taken d.answer) (one_after (running_world w) (world_after ciphers (running_world w) from d) from x d refl refl refl refl there sent)
     where
-      by_taken : (b : Bool) → NewSenders w (world_after ciphers (ran w) from d)
-          → NewSenders w (sent_if w from to datagram (tag_of x) b (acted ciphers w from d)).0
+      by_taken : (b : Bool) → NewSenders w (world_after ciphers (running_world w) from d)
+          → NewSenders w (sent_if w from to datagram (tag_of x) b (node_outcome ciphers w from d)).0
       by_taken true k = k
       by_taken false k = k
 
@@ -277,7 +277,7 @@ module _ (ciphers : Ciphers) (fits : KeepsRanges ciphers) (w : World) (ok : Worl
       (accept_is a.memory.station x.eui (arrived ciphers octets)) a.is in
       let y = (accepting ciphers x octets).node in
       let d = hears ciphers y got cost (note_by w octets got.path) w.clock in
-      one_after (ran w) (heard ciphers w number y octets got cost).0 number x d refl refl refl refl there
+      one_after (running_world w) (heard ciphers w number y octets got cost).0 number x d refl refl refl refl there
       (speaks y d (hears_ok ciphers fits w ok flown y got cost (note_by w octets got.path) w.clock did.node routes))
 
   after_one : {A : Type 0} (u : World) (number : ℕ) (x : Node) (d : NodeStep A) → u.flights ≡ w.flights → u.nodes ≡ w.nodes → node_at w number ≡ Some x
@@ -291,20 +291,20 @@ module _ (ciphers : Ciphers) (fits : KeepsRanges ciphers) (w : World) (ok : Worl
   pub senders : (event : Event) (s : Step) → IsStep ciphers w event s → SendersIn s
   senders event s (Fails e fault) = tt
   senders event s (Makes e x is) = none_new w (made_node w x).0 refl
-  senders event s (Rests e quiet) = none_new w (ran w) refl
-  senders event s (Shows number x) = none_new w (ran w) refl
-  senders event s (Acts e number x A halted plan reads there call word asked) = after_one (ran w) number x (answering reads (acts x halted plan)) refl refl there
+  senders event s (Rests e quiet) = none_new w (running_world w) refl
+  senders event s (Shows number x) = none_new w (running_world w) refl
+  senders event s (Acts e number x A halted plan reads there call word asked) = after_one (running_world w) number x (answering reads (acts x halted plan)) refl refl there
       (answered reads (acts x halted plan) (call_sent number x A halted plan there call))
   senders event s (BreaksLink number next x a there call) =
-      let plan : Memory → Plan Memory Answer = λ m. changing said.Broken (with_station (calls.broke a m.station) m) in
-      after_one (ran w) number x (acts x said.Halted plan) refl refl there (call_sent number x Answer said.Halted plan there call)
+      let plan : Memory → Plan Memory Answer = λ m. changing answers.Broken (with_station (calls.broke a m.station) m) in
+      after_one (running_world w) number x (acts x answers.Halted plan) refl refl there (call_sent number x Answer answers.Halted plan there call)
   senders event s (SendsFrom from to datagram x a there call target) =
       let plan : Memory → Plan Memory (Result SentHow SendRefusal) = λ m. of_station m (calls.send m.station a datagram (w.sends + 1) w.clock) in
       sending_senders from to datagram x (answering sent_word (acts x (Err sends.Halted) plan)) there
       (answered sent_word (acts x (Err sends.Halted) plan) (call_sent from x _ (Err sends.Halted) plan there call))
   senders event s (AllowsMeter number y c psk there call meter) =
       let plan : Memory → Plan Memory (Result ℕ CoordinatorRefusal) = λ m. coordinator_rules.allow m y.eui psk in
-      after_one (ran w) 0 c (acts c (Err orders.Halted) plan) refl refl there (call_sent 0 c _ (Err orders.Halted) plan there call)
+      after_one (running_world w) 0 c (acts c (Err orders.Halted) plan) refl refl there (call_sent 0 c _ (Err orders.Halted) plan there call)
   senders event s (Sets e quiet number x plan there open_is is) =
       after_one (set_up w) number x (acts x (Ok tt) (λ m. of_station m (plan m.station))) refl refl there
       (call_sent number x _ (Ok tt) (λ m. of_station m (plan m.station)) there (preset_call ciphers w number x plan open_is is))
@@ -327,11 +327,11 @@ module _ (ciphers : Ciphers) (fits : KeepsRanges ciphers) (w : World) (ok : Worl
       let quiet : d.frames ≡ [] = ap (λ (z : NodeStep (Result Accepted FrameRefusal)). z.frames) same
       ∙ acts_quiet x (Err frames.Halted) (λ m. of_station m (accept m.station x.eui (arrived ciphers octets)))
       (λ m. accept_quiet m.station _ _ (accept_is m.station x.eui (arrived ciphers octets))) in
-      none_new w (world_after ciphers (ran w) number d) (ap length (after_silent ciphers (ran w) number d quiet))
+      none_new w (world_after ciphers (running_world w) number d) (ap length (after_silent ciphers (running_world w) number d quiet))
   senders event s (Hears e number x octets cost got there says comes low is) = heard_senders event number x octets cost got there says comes is
-  senders event s (Loses number f there) = none_new w (record (ran w) { flights = slice_set w.flights (number - 1) (record f { lost = true }) })
+  senders event s (Loses number f there) = none_new w (record (running_world w) { flights = slice_set w.flights (number - 1) (record f { lost = true }) })
       (length-set w.flights (number - 1) (record f { lost = true }))
-  senders event s (Ticks seconds) = none_new w (record (ran w) { clock = w.clock + seconds; nodes = map (ticked (w.clock + seconds)) w.nodes }) refl
-  senders event s (Restarts number x there) = after_one (ran w) number x (restarts x) refl refl there (Silent refl)
-  senders event s (Cuts number nth keeps_new x there) = after_one (ran w) number x
-      (stays (record x { store = record x.store { cut = Some (record { nth = nth; keeps_new = keeps_new }) } }) said.Set) refl refl there (Silent refl)
+  senders event s (Ticks seconds) = none_new w (record (running_world w) { clock = w.clock + seconds; nodes = map (ticked (w.clock + seconds)) w.nodes }) refl
+  senders event s (Restarts number x there) = after_one (running_world w) number x (restarts x) refl refl there (Silent refl)
+  senders event s (Cuts number nth keeps_new x there) = after_one (running_world w) number x
+      (stays (record x { store = record x.store { cut = Some (record { nth = nth; keeps_new = keeps_new }) } }) answers.Set) refl refl there (Silent refl)

@@ -21,7 +21,7 @@ use Rattle.reach_rules.specs.Beacons.{begin_scan, choose_agent, hear_discovery}
 use Rattle.reach_rules.specs.Broadcasts.{broadcast}
 use Rattle.reach_rules.specs.PathAsking.{ask_path}
 use Rattle.reach_rules.specs.Receiving.{hear_command}
-use Rattle.line_events.specs.declared.event.Answer.TheVariants as said
+use Rattle.line_events.specs.declared.event.Answer.TheVariants as answers
 use Rattle.line_events.specs.declared.event.Event.{Event}
 use Rattle.line_rules.specs.Answers.{Reception, only}
 use Rattle.line_events.specs.Events.{AreEvents, IsEvent}
@@ -29,7 +29,7 @@ use Rattle.line_rules.specs.Further.{acknowledging, adds_frames, asks_by, beside
 use Rattle.line_rules.specs.Further.{reaches, scans_by, sends_nothing, acknowledged}
 use Rattle.line_rules.specs.Nonces.{IsDiscoveryFrame, IsPlainFrame, IsSpelled}
 use Rattle.line_rules.specs.Runs.{Entry, IsRun, events_of}
-use Rattle.line_rules.specs.Steps.{Step, flight_by, identity, ran, world_after}
+use Rattle.line_rules.specs.Steps.{Step, flight_by, identity, running_world, world_after}
 use Rattle.line_rules.specs.Worlds.{World, Flight, Trace, start}
 use Rattle.line_laws.specs.Laws.{AreFrames, EveryFlightIsAFrame, IsDiscoveryOctets, IsFrame}
 use Rattle.line_laws.proofs.FlightFolds.{AllOf, every_flight, after_all}
@@ -56,7 +56,7 @@ module _ (ciphers : Ciphers) (P : Flight → Type 0) (sent : (number : ℕ) (f :
   module _ (w : World) (all : All P w.flights) where
     asks_all : (number : ℕ) (x : Node) (target : Option ℕ) → Stay (asks_by ciphers w number x target).0
     asks_all number x None = all
-    asks_all number x (Some target) = act_all (ran w) number (reaches x (beside_at w number) (Err asks.Halted) (λ y. ask_path in_memory y target)) all
+    asks_all number x (Some target) = act_all (running_world w) number (reaches x (beside_at w number) (Err asks.Halted) (λ y. ask_path in_memory y target)) all
 
     scans_all : (number : ℕ) (o : Option Memory) → Stay (scans_by w number o).0
     scans_all number None = all
@@ -65,7 +65,7 @@ module _ (ciphers : Ciphers) (P : Flight → Type 0) (sent : (number : ℕ) (f :
     chooses_all : (number : ℕ) (x : Node) (k : ℕ) (psk : Option Key) → Stay (chooses_by ciphers w number x k psk).0
     chooses_all number x k None = all
     chooses_all number x k (Some psk) =
-        act_all (ran w) number (reaches x (beside_at w number) (Err choices.Halted) (λ y. choose_agent (identity ciphers x psk) y k w.clock)) all
+        act_all (running_world w) number (reaches x (beside_at w number) (Err choices.Halted) (λ y. choose_agent (identity ciphers x psk) y k w.clock)) all
 
     discovers_all : (number : ℕ) (x : Node) (octets : List ℕ) (link : ℕ) (o : Option Memory) → Stay (discovers_by w number x octets link o).0
     discovers_all number x octets link None = all
@@ -81,7 +81,7 @@ module _ (ciphers : Ciphers) (P : Flight → Type 0) (sent : (number : ℕ) (f :
       hears_so = hearing ciphers w x octets got cost
 
       plain_all : Stay plainly.0
-      plain_all = act_all (ran w) number hears_so all
+      plain_all = act_all (running_world w) number hears_so all
 
       -- and a reply among them that is acknowledged
       answers_all : (reply : Reply) → Stay (acknowledged ciphers w number (acknowledging hears_so.node reply) (checks_so ciphers w number x octets got cost)).0
@@ -99,7 +99,7 @@ module _ (ciphers : Ciphers) (P : Flight → Type 0) (sent : (number : ℕ) (f :
           by_memory false = all
 
       heard_all : (r : World × Trace) → IsHeard ciphers w number x octets got cost r → Stay r.0
-      heard_all r IsUnbelieved = act_all (ran w) number (stays (taker ciphers x octets) (only said.Blacklisted)) all
+      heard_all r IsUnbelieved = act_all (running_world w) number (stays (taker ciphers x octets) (only answers.Blacklisted)) all
       heard_all r IsPlain = plain_all
       heard_all r (IsCommand c e) = act_all plainly.0 number
           (reaches hears_so.node (beside_at plainly.0 number) (Err (reach_drops.Known drops.Store)) (λ y. hear_command in_memory y c)) plain_all
@@ -110,14 +110,14 @@ module _ (ciphers : Ciphers) (P : Flight → Type 0) (sent : (number : ℕ) (f :
     every_further_flight event s (Old e t is) = every_flight ciphers P sent lost w e t is all
     every_further_flight event s (TurnsOn begun) = all
     every_further_flight event s (Spreads number x datagram there) =
-        act_all (ran w) number (reaches x (beside_at w number) (Err broadcasts.Halted) (λ y. broadcast in_memory y datagram)) all
+        act_all (running_world w) number (reaches x (beside_at w number) (Err broadcasts.Halted) (λ y. broadcast in_memory y datagram)) all
     every_further_flight event s (Seeks number to x target there) = asks_all number x target
     every_further_flight event s (Looks number x there) = scans_all number x.memory
     every_further_flight event s (Picks number k x psk ne there e) = chooses_all number x k psk
     every_further_flight event s (Finds e number x octets link there says comes is) = discovers_all number x octets link x.memory
     every_further_flight event s (Takes e number x octets cost got r there says comes low is how) = heard_all number x octets got cost r how
     every_further_flight event s (Puts e r bs quiet is) = every_flight ciphers P sent lost w e (Ok r) is all
-    every_further_flight event s (Unread number x bad there e) = act_all (ran w) number (stays (record x { memory = None }) said.BadStore) all
+    every_further_flight event s (Unread number x bad there e) = act_all (running_world w) number (stays (record x { memory = None }) answers.BadStore) all
 
 -- # Every run
 

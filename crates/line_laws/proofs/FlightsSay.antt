@@ -34,12 +34,12 @@ use Rattle.node_rules.specs.Plans.{Plan}
 use Rattle.node_rules.proofs.NetworkOpens.{network_opens_again}
 use Rattle.line_rules.specs.Answers.{sent_word}
 use Rattle.line_events.specs.declared.event.Answer.{Answer}
-use Rattle.line_events.specs.declared.event.Answer.TheVariants as said
+use Rattle.line_events.specs.declared.event.Answer.TheVariants as answers
 use Rattle.line_events.specs.declared.event.Event.{Event}
 use Rattle.line_events.specs.Events.{IsEvent}
 use Rattle.line_rules.specs.Forgery.{Comes, accepting}
 use Rattle.line_rules.specs.Further.{discovery_flight}
-use Rattle.line_rules.specs.Steps.{Step, acted, flight_by, flights_of, forged_by, heard, hears, is_taken, note_by, offered_near, ran, restarts, sent_if}
+use Rattle.line_rules.specs.Steps.{Step, node_outcome, flight_by, flights_of, forged_by, heard, hears, is_taken, note_by, offered_near, running_world, restarts, sent_if}
 use Rattle.line_rules.specs.Steps.{sending, set_up, tag_of, world_after}
 use Rattle.line_rules.specs.Worlds.{World, Flight, flight_at, node_at}
 use Rattle.line_laws.specs.Letters.{IsLetter}
@@ -131,7 +131,7 @@ module _ (P : ℕ → MeshUnit → Type 0) where
 
     module _ (w : World) (ok : WorldOk w) (s : WorldSpeaks w) (r : WorldRanged w) where
       abbrev pub SaysIn : Step → Type 0
-      SaysIn (Ok t) = t.1.happened.forged ≡ false → All FlightSays w.flights → All FlightSays t.0.flights
+      SaysIn (Ok t) = t.1.happenings.forged ≡ false → All FlightSays w.flights → All FlightSays t.0.flights
       SaysIn (Err fault) = Unit {0}
 
       -- what was heard of octets that were accepted
@@ -140,16 +140,16 @@ module _ (P : ℕ → MeshUnit → Type 0) where
           → All FlightSays w.flights → All FlightSays (heard network w number (accepting network x octets).node octets got cost).0.flights
       heard_says number x octets cost got event there says comes is honest before =
           let d = hears network (accepting network x octets).node got cost (note_by w octets got.path) w.clock in
-          after_as_before (ran w) number d (heard_did w ok s r number x octets cost got there
+          after_as_before (running_world w) number d (heard_did w ok s r number x octets cost got there
           (came_octets network network_ranges w ok s.flights event number octets says comes) is honest).frames
           (hears_old network w got cost (note_by w octets got.path) w.clock (accepting network x octets).node) before
 
-      sending_says : (from to : ℕ) (datagram : List ℕ) (x : Node) (d : NodeStep Answer) → All FlightSays (world_after network (ran w) from d).flights
+      sending_says : (from to : ℕ) (datagram : List ℕ) (x : Node) (d : NodeStep Answer) → All FlightSays (world_after network (running_world w) from d).flights
           → All FlightSays (sending network w from to datagram (tag_of x) d).0.flights
       sending_says from to datagram x d h = by_taken (is_taken d.answer) h
         where
-          by_taken : (b : Bool) → All FlightSays (world_after network (ran w) from d).flights
-              → All FlightSays (sent_if w from to datagram (tag_of x) b (acted network w from d)).0.flights
+          by_taken : (b : Bool) → All FlightSays (world_after network (running_world w) from d).flights
+              → All FlightSays (sent_if w from to datagram (tag_of x) b (node_outcome network w from d)).0.flights
           by_taken true k = k
           by_taken false k = k
 
@@ -166,20 +166,20 @@ module _ (P : ℕ → MeshUnit → Type 0) where
       old_flights event st (Rests e quiet) = λ honest before. before
       old_flights event st (Shows number x) = λ honest before. before
       old_flights event st (Acts e number x A halts plan reads there call word asked) = λ honest before.
-          after_as_before (ran w) number (answering reads (acts x halts plan)) (call_ranged w ok s r number x A halts plan there call).frames
+          after_as_before (running_world w) number (answering reads (acts x halts plan)) (call_ranged w ok s r number x A halts plan there call).frames
           (call_old network w number x A halts plan call) before
       old_flights event st (BreaksLink number next x a there call) = λ honest before.
-          let plan : Memory → Plan Memory Answer = λ m. changing said.Broken (with_station (calls.broke a m.station) m) in
-          after_as_before (ran w) number (acts x said.Halted plan) (call_ranged w ok s r number x Answer said.Halted plan there call).frames
-          (call_old network w number x Answer said.Halted plan call) before
+          let plan : Memory → Plan Memory Answer = λ m. changing answers.Broken (with_station (calls.broke a m.station) m) in
+          after_as_before (running_world w) number (acts x answers.Halted plan) (call_ranged w ok s r number x Answer answers.Halted plan there call).frames
+          (call_old network w number x Answer answers.Halted plan call) before
       old_flights event st (SendsFrom from to datagram x a there call asked) = λ honest before.
           let plan : Memory → Plan Memory (Result SentHow SendRefusal) = λ m. of_station m (calls.send m.station a datagram (w.sends + 1) w.clock) in
           sending_says from to datagram x (answering sent_word (acts x (Err sends.Halted) plan))
-          (after_as_before (ran w) from (answering sent_word (acts x (Err sends.Halted) plan))
+          (after_as_before (running_world w) from (answering sent_word (acts x (Err sends.Halted) plan))
           (call_ranged w ok s r from x _ (Err sends.Halted) plan there call).frames (call_old network w from x _ (Err sends.Halted) plan call) before)
       old_flights event st (AllowsMeter number y c psk there call meter) = λ honest before.
           let plan : Memory → Plan Memory (Result ℕ CoordinatorRefusal) = λ m. coordinator_rules.allow m y.eui psk in
-          after_as_before (ran w) 0 (acts c (Err orders.Halted) plan) (call_ranged w ok s r 0 c _ (Err orders.Halted) plan there call).frames
+          after_as_before (running_world w) 0 (acts c (Err orders.Halted) plan) (call_ranged w ok s r 0 c _ (Err orders.Halted) plan there call).frames
           (call_old network w 0 c _ (Err orders.Halted) plan call) before
       old_flights event st (Sets e quiet number x plan there open_is is) = λ honest before.
           let call = preset_call network w number x plan open_is is in
@@ -201,14 +201,14 @@ module _ (P : ℕ → MeshUnit → Type 0) where
           let quiet : d.frames ≡ [] = ap (λ (z : NodeStep (Result Accepted FrameRefusal)). z.frames) same ∙ acts_quiet x (Err frames.Halted)
           (λ m. of_station m (accept m.station x.eui (arrived network octets)))
           (λ m. accept_quiet m.station _ _ (accept_is m.station x.eui (arrived network octets))) in
-          after_silently (ran w) number d quiet before
+          after_silently (running_world w) number d quiet before
       old_flights event st (Hears e number x octets cost got there says comes low is) = λ honest before. heard_says number x octets cost got e there says comes
           is (or_parts _ _ honest).0 before
       old_flights event st (Loses number f there) = λ honest before.
           All-set FlightSays w.flights (number - 1) (record f { lost = true })
           (lost_says f (at_place FlightSays w.flights (number - 1) f (flight_there number f there) before)) before
       old_flights event st (Ticks seconds) = λ honest before. before
-      old_flights event st (Restarts number x there) = λ honest before. after_silently (ran w) number (restarts x) refl before
+      old_flights event st (Restarts number x there) = λ honest before. after_silently (running_world w) number (restarts x) refl before
       old_flights event st (Cuts number nth keeps_new x there) = λ honest before.
-          after_silently (ran w) number (stays (record x { store = record x.store { cut = Some (record { nth = nth; keeps_new = keeps_new }) } }) said.Set) refl
+          after_silently (running_world w) number (stays (record x { store = record x.store { cut = Some (record { nth = nth; keeps_new = keeps_new }) } }) answers.Set) refl
           before

@@ -13,7 +13,7 @@ use Rattle.node_rules.specs.NodeSteps.{acts, of_station, stays}
 use Rattle.plc_base.specs.declared.address.Eui.{Eui}
 use Rattle.reach_rules.specs.declared.refusal.ChooseRefusal.TheVariants as choices
 use Rattle.reach_rules.specs.Beacons.{choose_agent}
-use Rattle.line_events.specs.declared.event.Answer.TheVariants as said
+use Rattle.line_events.specs.declared.event.Answer.TheVariants as answers
 use Rattle.line_events.specs.declared.event.Event.{Event}
 use Rattle.line_rules.specs.Answers.{only}
 use Rattle.line_events.specs.Events.{IsEvent}
@@ -21,7 +21,7 @@ use Rattle.line_rules.specs.Forgery.{accepting}
 use Rattle.line_rules.specs.Further.{beside_at, line_step, reaches, with_beside}
 use Rattle.line_rules.specs.Logs.{LogsKept}
 use Rattle.line_rules.specs.Runs.{one_of}
-use Rattle.line_rules.specs.Steps.{Step, identity, ran, world_after}
+use Rattle.line_rules.specs.Steps.{Step, identity, running_world, world_after}
 use Rattle.line_rules.specs.Worlds.{World, Trace, Issued, Pairing, node_at}
 use Rattle.line_laws.specs.Agreed.{Confirmed, TagTaken}
 use Rattle.line_laws.specs.IssuedRight.{IsIssuedRight}
@@ -64,14 +64,14 @@ module _ (ciphers : Ciphers) (fits : KeepsRanges ciphers) (w : World) (ok : Worl
     subst (λ o. IfSome o (λ p. Among p taken)) (sym undone) tt,
   ))
 
-  agreed_then : (r : World × Trace) → StepAgrees w taken (Ok r) → r.1.happened.forged ≡ false → Confirmed r.0 (taken ++ one_of r.1.taken) × IfSome r.1.done
+  agreed_then : (r : World × Trace) → StepAgrees w taken (Ok r) → r.1.happenings.forged ≡ false → Confirmed r.0 (taken ++ one_of r.1.taken) × IfSome r.1.done
       (λ p. Among p taken)
   agreed_then r (Happened z f) honest = f honest
 
   rests_confirmed : {A : Type 0} (answer : A) (number : ℕ) (x : Node) (octets : List ℕ) → node_at w number ≡ Some x
-      → Confirmed (world_after ciphers (ran w) number (stays (accepting ciphers x octets).node answer)) taken
+      → Confirmed (world_after ciphers (running_world w) number (stays (accepting ciphers x octets).node answer)) taken
   rests_confirmed answer number x octets there =
-      after_nothing ciphers (ran w) number x (stays (accepting ciphers x octets).node answer) there
+      after_nothing ciphers (running_world w) number x (stays (accepting ciphers x octets).node answer) there
       (acts_eui x (Err frames.Halted) (λ m. of_station m (accept m.station x.eui (arrived ciphers octets)))) taken c refl
 
   module _ (U : List Outgoing → Type 0) (D : Discovery → Type 0) where
@@ -82,7 +82,7 @@ module _ (ciphers : Ciphers) (fits : KeepsRanges ciphers) (w : World) (ok : Worl
     pub line_agrees_is : (event : Event) → IsEvent event → (s : Step) → IsLineStepBy (OldStep ciphers w) U D ciphers w event s → StepAgrees w taken s
     line_agrees_is event says s (Known e z old) = old_agrees event says s old
     line_agrees_is event says s (Opens begun) = of_none _ refl refl c
-    line_agrees_is event says s (Anew e v t moves silent) = of_none (v, t) silent.taken silent.done (moved_confirmed U D ciphers (ran w) v moves taken c)
+    line_agrees_is event says s (Anew e v t moves silent) = of_none (v, t) silent.taken silent.done (moved_confirmed U D ciphers (running_world w) v moves taken c)
     line_agrees_is event says s (After e r v t old good runs moves same_words) = Happened (v, t) (λ honest.
         let h = agreed_then r (old_agrees event says (Ok r) old) (sym same_words.forged ∙ honest) in (
           subst (λ o. Confirmed v (taken ++ one_of o)) (sym same_words.taken) (moved_confirmed U D ciphers r.0 v moves (taken ++ one_of r.1.taken) h.0),
@@ -95,9 +95,9 @@ module _ (ciphers : Ciphers) (fits : KeepsRanges ciphers) (w : World) (ok : Worl
           subst (λ o. IfSome o (λ p. Among p taken)) (sym same_words.done) h.1,
         ))
     line_agrees_is event says s (Unbelieves e number x octets got there known comes is) =
-        of_none _ refl refl (rests_confirmed (only said.Blacklisted) number x octets there)
+        of_none _ refl refl (rests_confirmed (only answers.Blacklisted) number x octets there)
     line_agrees_is event says s (Chooses number count x psk ne there pair) = of_none _ refl refl
-        (after_nothing ciphers (ran w) number x (reaches x (beside_at w number) (Err choices.Halted)
+        (after_nothing ciphers (running_world w) number x (reaches x (beside_at w number) (Err choices.Halted)
         (λ y. choose_agent (identity ciphers x psk) y count w.clock)) there
         (acts_eui x (Err choices.Halted) (with_beside (beside_at w number) (λ y. choose_agent (identity ciphers x psk) y count w.clock))) taken c
         (acts_nothing x (Err choices.Halted) (with_beside (beside_at w number) (λ y. choose_agent (identity ciphers x psk) y count w.clock))

@@ -28,7 +28,7 @@ use Rattle.reach_rules.specs.declared.refusal.ChooseRefusal.{ChooseRefusal}
 use Rattle.reach_rules.specs.declared.refusal.ChooseRefusal.TheVariants as choices
 use Rattle.reach_rules.specs.Beacons.{ChosenAgent, choose_agent, choosing_ends, joins_by}
 use Rattle.reach_rules.specs.ReachingNodes.{Beside}
-use Rattle.line_events.specs.declared.event.Answer.TheVariants as said
+use Rattle.line_events.specs.declared.event.Answer.TheVariants as answers
 use Rattle.line_events.specs.declared.event.Event.{Event}
 use Rattle.line_events.specs.declared.event.Event.TheVariants as events
 use Rattle.line_events.specs.declared.happenings.Handed.{Handed}
@@ -38,7 +38,7 @@ use Rattle.line_rules.specs.Forgery.{accepting}
 use Rattle.line_rules.specs.Further.{beside_at, discovery_flight, line_step, of_memory, reaches, with_beside}
 use Rattle.line_rules.specs.Logs.{LogsKept}
 use Rattle.line_rules.specs.Runs.{Entry, issued}
-use Rattle.line_rules.specs.Steps.{Step, acted, flights_of, identity, made_node, offered_near, ran, sent_if, set_up, step, ticked, world_after}
+use Rattle.line_rules.specs.Steps.{Step, node_outcome, flights_of, identity, made_node, offered_near, running_world, sent_if, set_up, step, ticked, world_after}
 use Rattle.line_rules.specs.Traces.{ComesTo}
 use Rattle.line_rules.specs.Worlds.{World, Flight, Trace, Sending, node_at}
 use Rattle.line_laws.specs.InCustody.{Custody, FlightIsOf, StationIsTrue, SentUnder, sent_as}
@@ -124,13 +124,13 @@ sent_appends w from to datagram tag false r h = h
 pub step_appends : (ciphers : Ciphers) (w : World) (event : Event) (s : Step) → IsStep ciphers w event s → (IsLoss event → ⊥) → AppendsBy w s
 step_appends ciphers w event s (step_kinds.Fails e fault) kept = tt
 step_appends ciphers w event s (step_kinds.Makes e x is) kept = same_appends w (made_node w x).0 refl
-step_appends ciphers w event s (step_kinds.Rests e quiet) kept = same_appends w (ran w) refl
-step_appends ciphers w event s (step_kinds.Shows number x) kept = same_appends w (ran w) refl
-step_appends ciphers w event s (step_kinds.Acts e number x A halted plan reads there call word asked) kept = after_appends ciphers (ran w) number _
-step_appends ciphers w event s (step_kinds.BreaksLink number next x a there call) kept = after_appends ciphers (ran w) number _
-step_appends ciphers w event s (step_kinds.SendsFrom from to datagram x a there call target) kept = sent_appends w from to datagram _ _ (acted ciphers w from _)
-    (after_appends ciphers (ran w) from _)
-step_appends ciphers w event s (step_kinds.AllowsMeter number y c psk there call meter) kept = after_appends ciphers (ran w) 0 _
+step_appends ciphers w event s (step_kinds.Rests e quiet) kept = same_appends w (running_world w) refl
+step_appends ciphers w event s (step_kinds.Shows number x) kept = same_appends w (running_world w) refl
+step_appends ciphers w event s (step_kinds.Acts e number x A halted plan reads there call word asked) kept = after_appends ciphers (running_world w) number _
+step_appends ciphers w event s (step_kinds.BreaksLink number next x a there call) kept = after_appends ciphers (running_world w) number _
+step_appends ciphers w event s (step_kinds.SendsFrom from to datagram x a there call target) kept = sent_appends w from to datagram _ _ (node_outcome ciphers w from _)
+    (after_appends ciphers (running_world w) from _)
+step_appends ciphers w event s (step_kinds.AllowsMeter number y c psk there call meter) kept = after_appends ciphers (running_world w) 0 _
 step_appends ciphers w event s (step_kinds.Sets e quiet number x plan there open_is is) kept = after_appends ciphers (set_up w) number _
 step_appends ciphers w event s (step_kinds.SetsTwo e quiet a b cost x y p q hx hy apart open_is first second fresh near) kept =
     let v : World = world_after ciphers (set_up w) a (offered_near x q cost w.clock) in
@@ -140,13 +140,13 @@ step_appends ciphers w event s (step_kinds.Provides number x c psk g d ne open_i
     let v : World = world_after ciphers (set_up w) 0 d in
     let p = acts x (Ok tt) (λ m. meters.provision m g) in
     appends_both (set_up w) v (world_after ciphers v number p) (after_appends ciphers (set_up w) 0 d) (after_appends ciphers v number p)
-step_appends ciphers w event s (step_kinds.TurnsDown e number x octets reason d there says comes same is) kept = after_appends ciphers (ran w) number d
-step_appends ciphers w event s (step_kinds.Hears e number x octets cost got there says comes low is) kept = after_appends ciphers (ran w) number _
+step_appends ciphers w event s (step_kinds.TurnsDown e number x octets reason d there says comes same is) kept = after_appends ciphers (running_world w) number d
+step_appends ciphers w event s (step_kinds.Hears e number x octets cost got there says comes low is) kept = after_appends ciphers (running_world w) number _
 step_appends ciphers w event s (step_kinds.Loses number f there) kept = absurd (kept tt)
 step_appends ciphers w event s (step_kinds.Ticks seconds) kept =
-    same_appends w (record (ran w) { clock = w.clock + seconds; nodes = map (ticked (w.clock + seconds)) w.nodes }) refl
-step_appends ciphers w event s (step_kinds.Restarts number x there) kept = after_appends ciphers (ran w) number _
-step_appends ciphers w event s (step_kinds.Cuts number nth keeps_new x there) kept = after_appends ciphers (ran w) number _
+    same_appends w (record (running_world w) { clock = w.clock + seconds; nodes = map (ticked (w.clock + seconds)) w.nodes }) refl
+step_appends ciphers w event s (step_kinds.Restarts number x there) kept = after_appends ciphers (running_world w) number _
+step_appends ciphers w event s (step_kinds.Cuts number nth keeps_new x there) kept = after_appends ciphers (running_world w) number _
 
 -- # What nodes do
 
@@ -272,16 +272,16 @@ module _ (home : ℕ → ℕ) (apart : (i j : ℕ) → home i ≡ home j → i �
   -- where no flight comes to life, homes are those after it, what it hands up comes to its node, and what it sends is of the sends
   abbrev pub Done : Event → Step → Type 0
   Done event (Ok q) =
-      LiveFalls live w q.0 None → HomedAt home q.0 → IfSome q.1.happened.up (λ (u : Handed). ComesTo event u.node)
-      → ((z : Sending) → q.1.sent ≡ Some z → S (w.sends + 1) (sent_as home z)) → q.1.happened.forged ≡ false
-      → HoldsThen event q.0 q.1.happened.up
+      LiveFalls live w q.0 None → HomedAt home q.0 → IfSome q.1.happenings.up (λ (u : Handed). ComesTo event u.node)
+      → ((z : Sending) → q.1.sent ≡ Some z → S (w.sends + 1) (sent_as home z)) → q.1.happenings.forged ≡ false
+      → HoldsThen event q.0 q.1.happenings.up
   Done event (Err fault) = Unit {0}
 
   -- custody of the world before, where what was live then is live
   held : Custody network (λ _ f. live w f) S home w before
   held = record { flights = c.flights; ranged = c.ranged; sent = c.sent; nodes = c.nodes; places = record { at_most = c.places.at_most } }
 
-  ran_held : Custody network (λ _ f. live w f) S home (ran w) before
+  ran_held : Custody network (λ _ f. live w f) S home (running_world w) before
   ran_held = ran_at network network_opens_again S home (live w) before w held
 
   -- nothing is handed up
@@ -293,12 +293,12 @@ module _ (home : ℕ → ℕ) (apart : (i j : ℕ) → home i ≡ home j → i �
   }
 
   rests_held : {A : Type 0} (answer : A) (number : ℕ) (x : Node) (octets : List ℕ) → node_at w number ≡ Some x
-      → Custody network (λ _ f. live w f) S home (world_after network (ran w) number (stays (accepting network x octets).node answer)) before
+      → Custody network (λ _ f. live w f) S home (world_after network (running_world w) number (stays (accepting network x octets).node answer)) before
   rests_held answer number x octets there =
       let plan : Memory → Plan Memory (Result Accepted FrameRefusal) = λ m. of_station m (accept m.station x.eui (arrived network octets)) in
       let did = acts_clean S (home number) x (Err frames.Halted) plan (at_place NodeRanged w.nodes number x there c.ranged) (c.nodes number x there)
       (λ m here h own. accept_clean S (home number) m h own x.eui (arrived network octets)) in
-      after_at network network_opens_again S home (live w) before (ran w) number x (stays (accepting network x octets).node answer) ran_held there
+      after_at network network_opens_again S home (live w) before (running_world w) number x (stays (accepting network x octets).node answer) ran_held there
       (record {
         ranged = did.ranged;
         fits = All-nil IsSent;
@@ -310,10 +310,10 @@ module _ (home : ℕ → ℕ) (apart : (i j : ℕ) → home i ≡ home j → i �
 
   chosen_held : (number count : ℕ) (x : Node) (psk : Key) → node_at w number ≡ Some x
       → Custody network (λ _ f. live w f) S home
-      (world_after network (ran w) number (reaches x (beside_at w number) (Err choices.Halted) (λ y. choose_agent (identity network x psk) y count w.clock)))
+      (world_after network (running_world w) number (reaches x (beside_at w number) (Err choices.Halted) (λ y. choose_agent (identity network x psk) y count w.clock)))
       before
   chosen_held number count x psk there =
-      after_at network network_opens_again S home (live w) before (ran w) number x
+      after_at network network_opens_again S home (live w) before (running_world w) number x
       (reaches x (beside_at w number) (Err choices.Halted) (λ y. choose_agent (identity network x psk) y count w.clock)) ran_held there
       (acts_clean S (home number) x (Err choices.Halted) (with_beside (beside_at w number) (λ y. choose_agent (identity network x psk) y count w.clock))
       (at_place NodeRanged w.nodes number x there c.ranged) (c.nodes number x there)
@@ -325,19 +325,19 @@ module _ (home : ℕ → ℕ) (apart : (i j : ℕ) → home i ≡ home j → i �
     entry q = record { number = 0; event = event; trace = q.1; after = q.0 }
 
     -- as without further reach
-    same_done : (q : World × Trace) → step network w event ≡ Ok q → HomedAt home q.0 → IfSome q.1.happened.up (λ (u : Handed). ComesTo event u.node)
-        → ((z : Sending) → q.1.sent ≡ Some z → S (w.sends + 1) (sent_as home z)) → q.1.happened.forged ≡ false → HoldsThen event q.0 q.1.happened.up
+    same_done : (q : World × Trace) → step network w event ≡ Ok q → HomedAt home q.0 → IfSome q.1.happenings.up (λ (u : Handed). ComesTo event u.node)
+        → ((z : Sending) → q.1.sent ≡ Some z → S (w.sends + 1) (sent_as home z)) → q.1.happenings.forged ≡ false → HoldsThen event q.0 q.1.happenings.up
     same_done q is later up_at is_sent honest =
         let owed = owed_at w past (record { ok = ok; speaks = s; ranged = r; keyed = k }) (entry q) says is in
         after_event network network_opens_again network_ranges live (λ w f e. e) home apart sent rises some w before c ok s.flights (entry q) says is up_at
         is_sent owed (issued past) k first homed later honest
 
     -- and then moves
-    then_done : (q : World × Trace) (v : World) (up : Option Handed) → up ≡ q.1.happened.up → Moves IsOne IsDiscovery network q.0 v
-        → HoldsThen event q.0 q.1.happened.up
+    then_done : (q : World × Trace) (v : World) (up : Option Handed) → up ≡ q.1.happenings.up → Moves IsOne IsDiscovery network q.0 v
+        → HoldsThen event q.0 q.1.happenings.up
         → Custody network (λ _ f. live q.0 f) S home v (before ++ option_to_list up)
     then_done q v up same moves h =
-        let now : Custody network (λ _ f. live q.0 f) S home q.0 (before ++ option_to_list q.1.happened.up) =
+        let now : Custody network (λ _ f. live q.0 f) S home q.0 (before ++ option_to_list q.1.happenings.up) =
         record {
           flights = h.custody.flights;
           ranged = h.custody.ranged;
@@ -346,10 +346,10 @@ module _ (home : ℕ → ℕ) (apart : (i j : ℕ) → home i ≡ home j → i �
           places = record { at_most = h.custody.places.at_most };
         } in
         subst (λ o. Custody network (λ _ f. live q.0 f) S home v (before ++ option_to_list o)) (sym same)
-        (moved_now S home (live q.0) (before ++ option_to_list q.1.happened.up) q.0 v moves now)
+        (moved_now S home (live q.0) (before ++ option_to_list q.1.happenings.up) q.0 v moves now)
 
     module _ (q : World × Trace) (v : World) (old : OldStep network w event (Ok q)) (fine : WorldOk q.0) (runs : q.0.running ≡ true)
-        (moves : Moves IsOne IsDiscovery network q.0 v) (honest : q.1.happened.forged ≡ false) where
+        (moves : Moves IsOne IsDiscovery network q.0 v) (honest : q.1.happenings.forged ≡ false) where
       keyed_then : Keyed q.0 (issued past ++ q.1.issued)
       keyed_then = old_keyed network network_ranges w ok s.flights (issued past) k event says q old honest
 
@@ -380,13 +380,13 @@ module _ (home : ℕ → ℕ) (apart : (i j : ℕ) → home i ≡ home j → i �
   line_done_is event says kept st (Opens begun) = λ falls later up_at is_sent honest.
       silent event _ None refl (falls_on network live S home w _ before (same_now S home (live w) before w _ refl refl refl held) falls)
   line_done_is event says kept st (Anew e v t moves quiet) = λ falls later up_at is_sent honest.
-      silent event v t.happened.up quiet.up (falls_on network live S home w v before (moved_now S home (live w) before (ran w) v moves ran_held) falls)
+      silent event v t.happenings.up quiet.up (falls_on network live S home w v before (moved_now S home (live w) before (running_world w) v moves ran_held) falls)
   line_done_is event says kept st (After e q v t old fine runs moves same_words) = λ falls later up_at is_sent honest.
       let unforged = sym same_words.forged ∙ honest in
       let was = same_done event says q (old.same q refl) (homed_then event says q v old fine runs moves unforged later)
       (subst (λ o. IfSome o (λ (u : Handed). ComesTo event u.node)) same_words.up up_at) (λ z is. is_sent z (same_words.sent ∙ is)) unforged in
       record {
-        custody = falls_on network live S home q.0 v (before ++ option_to_list t.happened.up) (then_done event says q v t.happened.up same_words.up moves was)
+        custody = falls_on network live S home q.0 v (before ++ option_to_list t.happenings.up) (then_done event says q v t.happenings.up same_words.up moves was)
             (falls_then event says q v old fine runs moves unforged);
         handed = λ u is. was.handed u (sym same_words.up ∙ is);
       }
@@ -397,19 +397,19 @@ module _ (home : ℕ → ℕ) (apart : (i j : ℕ) → home i ≡ home j → i �
       let on : Appends w v = appends_both w q.0 v (step_appends network w event (Ok q) old.is kept) (moved_appends IsOne IsDiscovery network q.0 v moves) in
       let down = falls_then event says q v old fine runs moves unforged in
       record {
-        custody = falls_on network live S home q.0 _ (before ++ option_to_list t.happened.up)
-            (unsent_now S home (live q.0) (before ++ option_to_list t.happened.up) w v _ on c.flights c.sent refl refl refl
-            (then_done event says q v t.happened.up same_words.up moves was))
+        custody = falls_on network live S home q.0 _ (before ++ option_to_list t.happenings.up)
+            (unsent_now S home (live q.0) (before ++ option_to_list t.happenings.up) w v _ on c.flights c.sent refl refl refl
+            (then_done event says q v t.happenings.up same_words.up moves was))
             (record { falls = down.falls; passes = λ place g is. absurd (none_some place is) });
         handed = λ u is. was.handed u (sym same_words.up ∙ is);
       }
   line_done_is event says kept st (Unbelieves e number x octets got there known comes is) = λ falls later up_at is_sent honest.
       silent event _ None refl (falls_on network live S home w _ before
-      (same_now S home (live w) before (world_after network (ran w) number (stays (accepting network x octets).node (only said.Blacklisted))) _ refl refl refl
-      (rests_held (only said.Blacklisted) number x octets there)) falls)
+      (same_now S home (live w) before (world_after network (running_world w) number (stays (accepting network x octets).node (only answers.Blacklisted))) _ refl refl refl
+      (rests_held (only answers.Blacklisted) number x octets there)) falls)
   line_done_is event says kept st (Chooses number count x psk ne there pair) = λ falls later up_at is_sent honest.
       silent event _ None refl (falls_on network live S home w _ before
-      (same_now S home (live w) before (world_after network (ran w) number
+      (same_now S home (live w) before (world_after network (running_world w) number
       (reaches x (beside_at w number) (Err choices.Halted) (λ y. choose_agent (identity network x psk) y count w.clock))) _ refl refl refl
       (chosen_held number count x psk there)) falls)
 

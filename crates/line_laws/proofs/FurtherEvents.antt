@@ -31,7 +31,7 @@ use Rattle.reach_rules.specs.ReachingNodes.{Beside, restarted, tick_beside}
 use Rattle.reach_rules.specs.Receiving.{NeighbourCommand, command_of}
 use Rattle.line_events.specs.declared.event.Event.{Event}
 use Rattle.line_events.specs.declared.event.Event.TheVariants as events
-use Rattle.line_events.specs.declared.event.Answer.TheVariants as said
+use Rattle.line_events.specs.declared.event.Answer.TheVariants as answers
 use Rattle.line_events.specs.declared.event.StepFault.{StepFault}
 use Rattle.line_events.specs.declared.event.StepFault.TheVariants as faults
 use Rattle.line_rules.specs.Answers.{Reception}
@@ -40,8 +40,8 @@ use Rattle.line_rules.specs.Forgery.{Comes, OfFlight, OfScript, accepting}
 use Rattle.line_rules.specs.Further.{line_step, checks, bcast, broadcasts_by, path, asks_by, scan, scans_by, choose, chooses_by, discovers_by, commanded}
 use Rattle.line_rules.specs.Further.{checked, acknowledged_if, acknowledged, acknowledging, unbelieved, heard_by, heard_further, is_dropped, accepted_further}
 use Rattle.line_rules.specs.Further.{comes, delivers, injects, ticks, after_ok, due, with_check, restarts_by, restarts_further}
-use Rattle.line_rules.specs.Steps.{Step, set_up, ran, happened, trace_of, has_begun, takes_setup, once_begun, in_setup, on_node, on_meter, on_flight, psk_of}
-use Rattle.line_rules.specs.Steps.{acted, ticked, hears, heard, note_by, restarts, tick}
+use Rattle.line_rules.specs.Steps.{Step, set_up, running_world, happenings, trace_of, has_begun, takes_setup, once_begun, in_setup, on_node, on_meter, on_flight, psk_of}
+use Rattle.line_rules.specs.Steps.{node_outcome, ticked, hears, heard, note_by, restarts, tick}
 use Rattle.line_rules.specs.Worlds.{World, Flight, Trace, node_at, flight_at}
 use Rattle.line_laws.proofs.IssueNodes.{acts_whole}
 use Rattle.line_laws.proofs.TracesRight.{comes_is, is_same}
@@ -114,7 +114,7 @@ module _ (ciphers : Ciphers) (w : World) (number : ℕ) (x : Node) (octets : Lis
 
 pub data IsFurtherStep (ciphers : Ciphers) (w : World) : Event → Step → Type 1 where
   Old : (event : Event) (s : Step) → IsStep ciphers w event s → IsFurtherStep ciphers w event s
-  TurnsOn : takes_setup w ≡ true → IsFurtherStep ciphers w events.Checks (Ok (record (set_up w) { checks_on = true }, trace_of (happened w said.Set)))
+  TurnsOn : takes_setup w ≡ true → IsFurtherStep ciphers w events.Checks (Ok (record (set_up w) { checks_on = true }, trace_of (happenings w answers.Set)))
   Spreads : (number : ℕ) (x : Node) (datagram : List ℕ) → node_at w number ≡ Some x
       → IsFurtherStep ciphers w (events.Bcast number datagram) (Ok (broadcasts_by ciphers w number x datagram))
   Seeks : (number to : ℕ) (x : Node) (target : Option ℕ) → node_at w number ≡ Some x
@@ -198,19 +198,19 @@ module _ (ciphers : Ciphers) (w : World) where
           → Is (events.Tick seconds)
           (after_ok (λ r. (record r.0 { beside = map (tick_beside (w.clock + seconds)) w.beside }, r.1))
           (if b then Ok (
-            record (ran w) { clock = w.clock + seconds; nodes = map (ticked (w.clock + seconds)) w.nodes },
+            record (running_world w) { clock = w.clock + seconds; nodes = map (ticked (w.clock + seconds)) w.nodes },
             trace_of
-                (happened w said.Ticked),
+                (happenings w answers.Ticked),
           ) else Err faults.Setup))
       by_start false = failed _ faults.Setup
       by_start true = Puts _
-          (record (ran w) { clock = w.clock + seconds; nodes = map (ticked (w.clock + seconds)) w.nodes }, trace_of (happened w said.Ticked))
+          (record (running_world w) { clock = w.clock + seconds; nodes = map (ticked (w.clock + seconds)) w.nodes }, trace_of (happenings w answers.Ticked))
           (map (tick_beside (w.clock + seconds)) w.beside) (λ b. b) (Ticks seconds)
 
   restarts_step : (number : ℕ) (x : Node) → node_at w number ≡ Some x → (o : Result Beside BadStore) → restarted x.store.records ≡ o
       → Is (events.Restart number) (Ok (restarts_by ciphers w number x o))
   restarts_step number x there (Err bad) e = Unread number x bad there e
-  restarts_step number x there (Ok b) e = Puts _ (acted ciphers w number (restarts x)) (restarts_by ciphers w number x (Ok b)).0.beside (λ b. b)
+  restarts_step number x there (Ok b) e = Puts _ (node_outcome ciphers w number (restarts x)) (restarts_by ciphers w number x (Ok b)).0.beside (λ b. b)
       (Restarts number x there)
 
   restart_step : (number : ℕ) → Is (events.Restart number) (restarts_further ciphers w number)

@@ -20,7 +20,7 @@ use Rattle.node_rules.specs.Plans.{Outcome, Plan, carry_out}
 use Rattle.reach_rules.specs.declared.refusal.ChooseRefusal.TheVariants as choices
 use Rattle.reach_rules.specs.Beacons.{choose_agent}
 use Rattle.line_rules.specs.Agreement.{is_allow_of}
-use Rattle.line_events.specs.declared.event.Answer.TheVariants as said
+use Rattle.line_events.specs.declared.event.Answer.TheVariants as answers
 use Rattle.line_events.specs.declared.event.Event.{Event}
 use Rattle.line_events.specs.declared.event.Event.TheVariants as events
 use Rattle.line_rules.specs.Answers.{only}
@@ -28,7 +28,7 @@ use Rattle.line_events.specs.Events.{IsEvent}
 use Rattle.line_rules.specs.Forgery.{Comes, accepting}
 use Rattle.line_rules.specs.Further.{line_step, chooses_by, unbelieved, beside_at, reaches}
 use Rattle.line_rules.specs.Logs.{LogsKept}
-use Rattle.line_rules.specs.Steps.{Step, ran, world_after, identity}
+use Rattle.line_rules.specs.Steps.{Step, running_world, world_after, identity}
 use Rattle.line_rules.specs.Worlds.{World, Trace, Issued, node_at}
 use Rattle.line_laws.specs.LineAccounts.{BooksIn, LineBooksGrow, LineStepsShut, ShutIn}
 use Rattle.line_laws.specs.Lines.{FlightFits, NodeOk, WorldOk}
@@ -125,7 +125,7 @@ module _ (V : books.Book → Type 0) where
 
     -- an event of the line, where events without further reach keep it
     module _ (w : World) (ok : WorldOk w) (flown : All FlightFits w.flights) (has : FirstHas w) where
-      ran_good : WorldOk (ran w)
+      ran_good : WorldOk (running_world w)
       ran_good = ran_ok ciphers fits w ok flown
 
       abbrev Kept : Event → Type 1
@@ -145,16 +145,16 @@ module _ (V : books.Book → Type 0) where
       line_has : (event : Event) → Kept event → (s : Step) → IsLineStep U D ciphers w event s → HasIn s
       line_has event old s (Known e t is) = known_has e old t is
       line_has event old s (Opens begun) = λ c at. has c at
-      line_has event old s (Anew e v t moves silent) = moved_has (ran w) v moves ran_good refl (λ c at. has c at)
+      line_has event old s (Anew e v t moves silent) = moved_has (running_world w) v moves ran_good refl (λ c at. has c at)
       line_has event old s (After e r v t is good runs moves same_words) = moved_has r.0 v moves good runs (old r is)
       line_has event old s (Unsends e r v t is good runs moves same_words) = let h = moved_has r.0 v moves good runs (old r is) in λ c at. h c at
       line_has event old s (Unbelieves e number x octets got there says comes is) =
-          let d = stays (accepting ciphers x octets).node (only said.Blacklisted) in
-          after_has w (unbelieved ciphers w number (accepting ciphers x octets).node octets got).0 number x d has (after_nodes (ran w) number d) there
+          let d = stays (accepting ciphers x octets).node (only answers.Blacklisted) in
+          after_has w (unbelieved ciphers w number (accepting ciphers x octets).node octets got).0 number x d has (after_nodes (running_world w) number d) there
           (accepted_has e number x octets there says comes)
       line_has event old s (Chooses number k x psk ne there e) =
           let d = reaches x (beside_at w number) (Err choices.Halted) (λ y. choose_agent (identity ciphers x psk) y k w.clock) in
-          after_has w (chooses_by ciphers w number x k (Some psk)).0 number x d has (after_nodes (ran w) number d) there (λ first. absurd (ne first))
+          after_has w (chooses_by ciphers w number x k (Some psk)).0 number x d has (after_nodes (running_world w) number d) there (λ first. absurd (ne first))
 
 -- # Addresses stay
 

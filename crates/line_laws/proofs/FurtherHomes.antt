@@ -24,7 +24,7 @@ use Rattle.line_laws.proofs.Readings.{network_ranges}
 -- # One event
 
 module _ (w : World) (before : List Entry) (o : Sound w before) (x : Entry) (event : IsEvent x.event) (is : LeadsTo w x)
-    (honest : x.trace.happened.forged ≡ false) where
+    (honest : x.trace.happenings.forged ≡ false) where
   abbrev h : Stands w
   h = o.stands
 
@@ -63,13 +63,13 @@ pub reach_homes : (w : World) (before : List Entry) → Sound w before → (entr
 reach_homes w before o [] says run = let here = homes_at w (issued before) o.keyed in
     record { home = here.home; apart = here.apart; first = here.first; along = here.at }
 reach_homes w before o (x ∷ xs) says run =
-    by_forged x.trace.happened.forged refl (λ honest. reach_homes x.after (before ++ x ∷ []) (sound_on w before o x event run.2 honest) xs
+    by_forged x.trace.happenings.forged refl (λ honest. reach_homes x.after (before ++ x ∷ []) (sound_on w before o x event run.2 honest) xs
     (All-tail IsEvent x.event (events_of xs) says) run.3)
   where
     event : IsEvent x.event
     event = All-head IsEvent x.event (events_of xs) says
 
-    by_forged : (b : Bool) → x.trace.happened.forged ≡ b → (x.trace.happened.forged ≡ false → HomesFor x.after xs) → HomesFor w (x ∷ xs)
+    by_forged : (b : Bool) → x.trace.happenings.forged ≡ b → (x.trace.happenings.forged ≡ false → HomesFor x.after xs) → HomesFor w (x ∷ xs)
     by_forged true e more = let here = homes_at w (issued before) o.keyed in
         record { home = here.home; apart = here.apart; first = here.first; along = (here.at, λ honest. absurd (true_false (sym e ∙ honest))) }
     by_forged false e more =

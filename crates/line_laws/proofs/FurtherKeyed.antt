@@ -21,14 +21,14 @@ use Rattle.reach_rules.specs.declared.refusal.ChooseRefusal.{ChooseRefusal}
 use Rattle.reach_rules.specs.declared.refusal.ChooseRefusal.TheVariants as choices
 use Rattle.reach_rules.specs.Beacons.{ChosenAgent, choose_agent, choosing_ends, joins_by}
 use Rattle.reach_rules.specs.ReachingNodes.{Beside}
-use Rattle.line_events.specs.declared.event.Answer.TheVariants as said
+use Rattle.line_events.specs.declared.event.Answer.TheVariants as answers
 use Rattle.line_events.specs.declared.event.Event.{Event}
 use Rattle.line_rules.specs.Answers.{only}
 use Rattle.line_events.specs.Events.{IsEvent}
 use Rattle.line_rules.specs.Forgery.{Comes, accepting}
 use Rattle.line_rules.specs.Further.{beside_at, line_step, of_memory, reaches, with_beside}
 use Rattle.line_rules.specs.Logs.{LogsKept}
-use Rattle.line_rules.specs.Steps.{Step, identity, ran, world_after}
+use Rattle.line_rules.specs.Steps.{Step, identity, running_world, world_after}
 use Rattle.line_rules.specs.Worlds.{World, Trace, Issued, node_at}
 use Rattle.line_laws.specs.Keyed.{Each, Keyed, PeerIs, TagOk}
 use Rattle.line_laws.specs.Lines.{FlightFits, NodeOk, WorldOk}
@@ -139,17 +139,17 @@ unsent_keyed w v u given on nodes made k =
 
 module _ (ciphers : Ciphers) (fits : KeepsRanges ciphers) (w : World) (ok : WorldOk w) (flown : All FlightFits w.flights) (given : List Issued)
     (k : Keyed w given) where
-  ran_keyed : Keyed (ran w) given
-  ran_keyed = same_keyed w (ran w) given k refl refl
+  ran_keyed : Keyed (running_world w) given
+  ran_keyed = same_keyed w (running_world w) given k refl refl
 
   of_none : (r : World × Trace) → r.1.issued ≡ [] → Keyed r.0 given → StepKeyed w given (Ok r)
   of_none r none h = Taken r (λ honest. subst (Keyed r.0) (sym (append-nil given) ∙ ap (λ more. given ++ more) (sym none)) h)
 
-  keyed_then : (r : World × Trace) → StepKeyed w given (Ok r) → r.1.happened.forged ≡ false → Keyed r.0 (given ++ r.1.issued)
+  keyed_then : (r : World × Trace) → StepKeyed w given (Ok r) → r.1.happenings.forged ≡ false → Keyed r.0 (given ++ r.1.issued)
   keyed_then r (Taken z f) honest = f honest
 
   -- so it is of the event without further reach
-  pub old_keyed : (event : Event) → IsEvent event → (r : World × Trace) → OldStep ciphers w event (Ok r) → r.1.happened.forged ≡ false
+  pub old_keyed : (event : Event) → IsEvent event → (r : World × Trace) → OldStep ciphers w event (Ok r) → r.1.happenings.forged ≡ false
       → Keyed r.0 (given ++ r.1.issued)
   old_keyed event says r old honest = keyed_then r (of_old ciphers w event (StepKeyed w given) (λ fault. Fails fault)
       (step_keyed ciphers fits w ok flown given k event says) (Ok r) old) honest
@@ -159,24 +159,24 @@ module _ (ciphers : Ciphers) (fits : KeepsRanges ciphers) (w : World) (ok : Worl
 
   -- what a node is that accepted octets and does nothing more
   rests_keyed : {A : Type 0} (answer : A) (event : Event) (number : ℕ) (x : Node) (octets : List ℕ) → node_at w number ≡ Some x → IsEvent event
-      → Comes w event number octets → Keyed (world_after ciphers (ran w) number (stays (accepting ciphers x octets).node answer)) given
+      → Comes w event number octets → Keyed (world_after ciphers (running_world w) number (stays (accepting ciphers x octets).node answer)) given
   unfolding world_after
   rests_keyed answer event number x octets there says comes =
       let are : AreOctets octets = came_octets ciphers fits w ok flown event number octets says comes in
       let plan : Memory → Plan Memory (Result Accepted FrameRefusal) = λ m. of_station m (accept m.station x.eui (arrived ciphers octets)) in
       let none : (accepting ciphers x octets).made ≡ [] =
       acts_nothing x (Err frames.Halted) plan (λ m here. (accept_quietly ciphers fits octets are m x.eui).made) in
-      same_keyed (world_after ciphers (ran w) number (acts x (Err frames.Halted) plan))
-      (world_after ciphers (ran w) number (stays (accepting ciphers x octets).node answer))
+      same_keyed (world_after ciphers (running_world w) number (acts x (Err frames.Halted) plan))
+      (world_after ciphers (running_world w) number (stays (accepting ciphers x octets).node answer))
       given
-      (quiet_after ciphers fits (ran w) given ran_keyed number x there (good_at number x there) (Err frames.Halted) plan
+      (quiet_after ciphers fits (running_world w) given ran_keyed number x there (good_at number x there) (Err frames.Halted) plan
       (λ m sized. accept_quietly ciphers fits octets are m x.eui)) refl (ap (λ more. w.made ++ more) (sym none))
 
   chosen_keyed : (number k : ℕ) (x : Node) (psk : Key) → number ≢ 0 → node_at w number ≡ Some x
-      → Keyed (world_after ciphers (ran w) number
+      → Keyed (world_after ciphers (running_world w) number
       (reaches x (beside_at w number) (Err choices.Halted) (λ y. choose_agent (identity ciphers x psk) y k w.clock))) given
   chosen_keyed number k x psk ne there =
-      own_after ciphers fits (ran w) given ran_keyed number x ne there (good_at number x there) (Err choices.Halted)
+      own_after ciphers fits (running_world w) given ran_keyed number x ne there (good_at number x there) (Err choices.Halted)
       (with_beside (beside_at w number) (λ y. choose_agent (identity ciphers x psk) y k w.clock))
       (λ m reads session. chosen_plan m (beside_at w number) (identity ciphers x psk) k w.clock session
       (λ agent. joins_plan (identity ciphers x psk) m agent w.clock reads session))
@@ -188,7 +188,7 @@ module _ (ciphers : Ciphers) (fits : KeepsRanges ciphers) (w : World) (ok : Worl
         (step_keyed ciphers fits w ok flown given k event says) s old
     line_keyed_is event says s (Opens begun) = of_none _ refl (same_keyed w _ given k refl refl)
     line_keyed_is event says s (Anew e v t moves silent) =
-        of_none (v, t) silent.issued (moved_keyed U D ciphers fits (ran w) v moves (steps_ran_ok ciphers fits w ok flown) refl given ran_keyed)
+        of_none (v, t) silent.issued (moved_keyed U D ciphers fits (running_world w) v moves (steps_ran_ok ciphers fits w ok flown) refl given ran_keyed)
     line_keyed_is event says s (After e r v t old good runs moves same_words) = Taken (v, t) (λ honest.
         let h = old_keyed event says r old (sym same_words.forged ∙ honest) in
         subst (λ more. Keyed v (given ++ more)) (sym same_words.issued) (moved_keyed U D ciphers fits r.0 v moves good runs (given ++ r.1.issued) h))
@@ -197,10 +197,10 @@ module _ (ciphers : Ciphers) (fits : KeepsRanges ciphers) (w : World) (ok : Worl
         unsent_keyed w v _ (given ++ t.issued) (after_made U D ciphers w event r v old moves) refl refl
         (subst (λ more. Keyed v (given ++ more)) (sym same_words.issued) (moved_keyed U D ciphers fits r.0 v moves good runs (given ++ r.1.issued) h)))
     line_keyed_is event says s (Unbelieves e number x octets got there known comes is) =
-        of_none _ refl (same_keyed (world_after ciphers (ran w) number (stays (accepting ciphers x octets).node (only said.Blacklisted))) _ given
-        (rests_keyed (only said.Blacklisted) event number x octets there known comes) refl refl)
+        of_none _ refl (same_keyed (world_after ciphers (running_world w) number (stays (accepting ciphers x octets).node (only answers.Blacklisted))) _ given
+        (rests_keyed (only answers.Blacklisted) event number x octets there known comes) refl refl)
     line_keyed_is event says s (Chooses number count x psk ne there pair) =
-        of_none _ refl (same_keyed (world_after ciphers (ran w) number
+        of_none _ refl (same_keyed (world_after ciphers (running_world w) number
         (reaches x (beside_at w number) (Err choices.Halted) (λ y. choose_agent (identity ciphers x psk) y count w.clock))) _ given
         (chosen_keyed number count x psk ne there) refl refl)
 

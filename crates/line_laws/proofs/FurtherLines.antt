@@ -27,7 +27,7 @@ use Rattle.line_events.specs.declared.event.Answer.{Answer}
 use Rattle.line_rules.specs.Further.{beside_at, beside_after, commanded, has_reached, broadcasts_by, asks_by, scans_by, discovers_by, has_discovered}
 use Rattle.line_rules.specs.Further.{beacon_taken, scanning, discovery_flight, discovery_flights, reaches, with_beside}
 use Rattle.line_rules.specs.Nonces.{CounterRises, NonceParts, nonce_parts}
-use Rattle.line_rules.specs.Steps.{ran, world_after}
+use Rattle.line_rules.specs.Steps.{running_world, world_after}
 use Rattle.line_rules.specs.Worlds.{World, Flight, Noticed, Trace, node_at}
 use Rattle.line_laws.specs.FurtherLines.{LineHolds, LogFits, CallsKeepTheLine, CommandsKeepTheLine, DiscoveryKeepsTheLine}
 use Rattle.line_laws.specs.Lines.{IsBelow, NodeOk, Rising, WorldOk, frontier}
@@ -44,8 +44,8 @@ true_false : true ≡ false → ⊥
 true_false e = cc
 
 module _ (w : World) (ok : WorldOk w) where
-  ran_ok : WorldOk (ran w)
-  ran_ok = counts_ok w (ran w) ok refl refl (λ e. absurd (true_false e))
+  ran_ok : WorldOk (running_world w)
+  ran_ok = counts_ok w (running_world w) ok refl refl (λ e. absurd (true_false e))
 
   -- # Calls
 
@@ -58,10 +58,10 @@ module _ (w : World) (ok : WorldOk w) where
       did : DidOk x (reaches x b halted plan)
       did = acts_ok x halted (with_beside b plan) good (λ m here kept sized. further_ok AnyUnits x.role m sized (with_beside b plan m) (is m))
 
-      reached : (bs : List Beside) → WorldOk (record (world_after ciphers (ran w) number (reaches x b halted plan)) { beside = bs })
+      reached : (bs : List Beside) → WorldOk (record (world_after ciphers (running_world w) number (reaches x b halted plan)) { beside = bs })
       reached bs =
-          let v : World = world_after ciphers (ran w) number (reaches x b halted plan) in
-          counts_ok v (record v { beside = bs }) (ok_after ciphers fits (ran w) number x (reaches x b halted plan) ran_ok there did (λ e. absurd (true_false e)))
+          let v : World = world_after ciphers (running_world w) number (reaches x b halted plan) in
+          counts_ok v (record v { beside = bs }) (ok_after ciphers fits (running_world w) number x (reaches x b halted plan) ran_ok there did (λ e. absurd (true_false e)))
           refl refl (λ e. e)
 
     broadcast_holds : (datagram : List ℕ) → LineHolds (broadcasts_by ciphers w number x datagram)
@@ -87,7 +87,7 @@ module _ (w : World) (ok : WorldOk w) where
     unsaid : (frame : Discovery) (P : NonceParts → Type 0) → IfSome (nonce_parts (discovery_flight number frame)) P
     unsaid frame P = subst (λ o. IfSome o P) (sym (discovery_nonce frame)) tt
 
-    pub flown_ok : (frame : Discovery) (bs : List Beside) → WorldOk (record (ran w) { flights = w.flights ++ discovery_flight number frame ∷ []; beside = bs })
+    pub flown_ok : (frame : Discovery) (bs : List Beside) → WorldOk (record (running_world w) { flights = w.flights ++ discovery_flight number frame ∷ []; beside = bs })
     flown_ok frame bs = record {
       nodes = ok.nodes;
       fits = ok.fits;
@@ -113,9 +113,9 @@ module _ (w : World) (ok : WorldOk w) where
         by_sent : (o : Option Discovery) → d.sent ≡ o → LineHolds (has_discovered w number word noticed d)
         by_sent None e = rw e (still _, zero-le)
           where
-            still : (bs : List Beside) → WorldOk (record (ran w) { flights = w.flights ++ []; beside = bs })
-            still bs = subst (λ fs. WorldOk (record (ran w) { flights = fs; beside = bs })) (sym (nil_after w.flights))
-                (counts_ok w (record (ran w) { beside = bs }) ok refl refl (λ e. absurd (true_false e)))
+            still : (bs : List Beside) → WorldOk (record (running_world w) { flights = w.flights ++ []; beside = bs })
+            still bs = subst (λ fs. WorldOk (record (running_world w) { flights = fs; beside = bs })) (sym (nil_after w.flights))
+                (counts_ok w (record (running_world w) { beside = bs }) ok refl refl (λ e. absurd (true_false e)))
               where
                 nil_after : (fs : List Flight) → fs ++ [] ≡ fs
                 nil_after [] = refl
@@ -139,7 +139,7 @@ discovery_keeps w ok number x there = (scan_holds w ok number x there x.memory, 
 
 -- # Commands
 
-module _ (ciphers : Ciphers) (fits : KeepsRanges ciphers) (r : World × Trace) (ok : WorldOk r.0) (runs : r.0.running ≡ true) (silent : r.1.happened.flights ≡ 0)
+module _ (ciphers : Ciphers) (fits : KeepsRanges ciphers) (r : World × Trace) (ok : WorldOk r.0) (runs : r.0.running ≡ true) (silent : r.1.happenings.flights ≡ 0)
     (number : ℕ) (x : Node) (there : node_at r.0 number ≡ Some x) (logs : (m : Memory) → x.memory ≡ Some m → LogFits (beside_at r.0 number)) where
   not_both : r.0.running ≡ false → ⊥
   not_both e = cc (runs, e)

@@ -14,7 +14,7 @@ use Rattle.node_rules.specs.NodeSteps.{of_station, stays}
 use Rattle.node_rules.specs.Plans.{Plan}
 use Rattle.reach_rules.specs.declared.refusal.ChooseRefusal.TheVariants as choices
 use Rattle.reach_rules.specs.Beacons.{choose_agent}
-use Rattle.line_events.specs.declared.event.Answer.TheVariants as said
+use Rattle.line_events.specs.declared.event.Answer.TheVariants as answers
 use Rattle.line_events.specs.declared.event.Event.{Event}
 use Rattle.line_rules.specs.Answers.{only}
 use Rattle.line_events.specs.Events.{AreEvents, IsEvent}
@@ -22,7 +22,7 @@ use Rattle.line_rules.specs.Forgery.{accepting}
 use Rattle.line_rules.specs.Further.{beside_at, line_step, reaches, with_beside}
 use Rattle.line_rules.specs.Logs.{LogsKept}
 use Rattle.line_rules.specs.Runs.{Entry, IsRun, events_of, issued}
-use Rattle.line_rules.specs.Steps.{Step, identity, ran}
+use Rattle.line_rules.specs.Steps.{Step, identity, running_world}
 use Rattle.line_rules.specs.Worlds.{World, Trace, Issued, start, node_at}
 use Rattle.line_rules.proofs.StepsOn.{line_steps}
 use Rattle.line_laws.specs.Keyed.{Keyed}
@@ -76,16 +76,16 @@ module _ (ciphers : Ciphers) (fits : KeepsRanges ciphers) (w : World) (ok : Worl
         (z.0, z.1, z.2 ∙ x.2);
   }
 
-  ran_goes : GoesTo (ran w)
+  ran_goes : GoesTo (running_world w)
   ran_goes = let g = self_goes ciphers fits w ok flown given k in record { grows = g.grows; euis = g.euis }
 
   abbrev pub LineGoesBy : Step → Type 0
-  LineGoesBy (Ok r) = r.1.happened.forged ≡ false → 0 < length w.nodes → GoesTo r.0
+  LineGoesBy (Ok r) = r.1.happenings.forged ≡ false → 0 < length w.nodes → GoesTo r.0
   LineGoesBy (Err fault) = Unit {0}
 
   module _ (U : List Outgoing → Type 0) (D : Discovery → Type 0) where
     after_goes : (event : Event) → IsEvent event → (r : World × Trace) (v : World) → OldStep ciphers w event (Ok r) → WorldOk r.0 → r.0.running ≡ true
-        → Moves U D ciphers r.0 v → length w.nodes ≤ length r.0.nodes → r.1.happened.forged ≡ false → 0 < length w.nodes → GoesTo v
+        → Moves U D ciphers r.0 v → length w.nodes ≤ length r.0.nodes → r.1.happenings.forged ≡ false → 0 < length w.nodes → GoesTo v
     after_goes event says r v old fine runs moves longer honest some =
         moved_goes U D r.0 v moves fine runs (given ++ r.1.issued) (old_keyed ciphers fits w ok flown given k event says r old honest) longer some
         (goes ciphers fits w ok flown given k event (Ok r) old.is some)
@@ -95,7 +95,7 @@ module _ (ciphers : Ciphers) (fits : KeepsRanges ciphers) (w : World) (ok : Worl
     line_goes_is event says (Err fault) (Known e z old) = tt
     line_goes_is event says s (Opens begun) = λ honest some. record { grows = ran_goes.grows; euis = ran_goes.euis }
     line_goes_is event says s (Anew e v t moves silent) = λ honest some.
-        moved_goes U D (ran w) v moves (steps_ran_ok ciphers fits w ok flown) refl given (same_keyed w (ran w) given k refl refl) (omega arith) some ran_goes
+        moved_goes U D (running_world w) v moves (steps_ran_ok ciphers fits w ok flown) refl given (same_keyed w (running_world w) given k refl refl) (omega arith) some ran_goes
     line_goes_is event says s (After e r v t old fine runs moves same_words) = λ honest some.
         after_goes event says r v old fine runs moves (old_on ciphers w event r old).nodes (sym same_words.forged ∙ honest) some
     line_goes_is event says s (Unsends e r v t old fine runs moves same_words) = λ honest some.
@@ -104,13 +104,13 @@ module _ (ciphers : Ciphers) (fits : KeepsRanges ciphers) (w : World) (ok : Worl
     line_goes_is event says s (Unbelieves e number x octets got there known comes is) = λ honest some.
         let are : AreOctets octets = came_octets ciphers fits w ok flown event number octets known comes in
         let plan : Memory → Plan Memory _ = λ m. of_station m (accept m.station x.eui (arrived ciphers octets)) in
-        goes_after ciphers fits w ok flown given k (ran w) _ number x (stays (accepting ciphers x octets).node (only said.Blacklisted)) ran_goes
-        (after_nodes ciphers (ran w) number (stays (accepting ciphers x octets).node (only said.Blacklisted))) there
+        goes_after ciphers fits w ok flown given k (running_world w) _ number x (stays (accepting ciphers x octets).node (only answers.Blacklisted)) ran_goes
+        (after_nodes ciphers (running_world w) number (stays (accepting ciphers x octets).node (only answers.Blacklisted))) there
         (acts_eui x (Err frames.Halted) plan) (λ first. quiet_grows ciphers fits w ok flown given k number x (Err frames.Halted) plan first there
         (λ m sized. accept_quietly ciphers fits octets are m x.eui))
     line_goes_is event says s (Chooses number count x psk ne there pair) = λ honest some.
         let d = reaches x (beside_at w number) (Err choices.Halted) (λ y. choose_agent (identity ciphers x psk) y count w.clock) in
-        goes_after ciphers fits w ok flown given k (ran w) _ number x d ran_goes (after_nodes ciphers (ran w) number d) there
+        goes_after ciphers fits w ok flown given k (running_world w) _ number x d ran_goes (after_nodes ciphers (running_world w) number d) there
         (acts_eui x (Err choices.Halted) (with_beside (beside_at w number) (λ y. choose_agent (identity ciphers x psk) y count w.clock)))
         (λ first. absurd (ne first))
 
@@ -125,7 +125,7 @@ pub nodes_stay : (w : World) (x : Entry) → LeadsTo w x → length w.nodes ≤ 
 nodes_stay w x is = (line_steps network w x.after x.event x.trace is).nodes
 
 module _ (w : World) (before : List Entry) (o : Sound w before) (x : Entry) (event : IsEvent x.event) (is : LeadsTo w x)
-    (honest : x.trace.happened.forged ≡ false) where
+    (honest : x.trace.happenings.forged ≡ false) where
   goes_here : 0 < length w.nodes → Goes network network_ranges w o.stands.ok o.stands.speaks.flights (issued before) o.keyed x.after
   goes_here = subst (LineGoesBy network network_ranges w o.stands.ok o.stands.speaks.flights (issued before) o.keyed) is
       (line_goes network network_ranges w o.stands.ok o.stands.speaks.flights (issued before) o.keyed o.stands.logs x.event event) honest
@@ -147,7 +147,7 @@ pub record Routed (w : World) (before : List Entry) : Type 0 where
   pub routes : RoutingHolds network (homes_of sound.keyed.book w) w
 
 module _ (w : World) (before : List Entry) (o : Routed w before) (x : Entry) (event : IsEvent x.event) (is : LeadsTo w x)
-    (honest : x.trace.happened.forged ≡ false) where
+    (honest : x.trace.happenings.forged ≡ false) where
   abbrev h : Stands w
   h = o.sound.stands
 

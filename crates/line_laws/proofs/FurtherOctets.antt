@@ -60,7 +60,7 @@ use Rattle.reach_rules.specs.Broadcasts.{hop_less, own_broadcast}
 use Rattle.reach_rules.specs.CheckedReplies.{acknowledges}
 use Rattle.reach_rules.specs.PathAsking.{next_toward}
 use Rattle.reach_rules.specs.ReachingNodes.{Beside}
-use Rattle.line_events.specs.declared.event.Answer.TheVariants as said
+use Rattle.line_events.specs.declared.event.Answer.TheVariants as answers
 use Rattle.line_events.specs.declared.event.Event.{Event}
 use Rattle.line_rules.specs.Answers.{only}
 use Rattle.line_events.specs.Events.{AreEvents, IsEvent}
@@ -68,7 +68,7 @@ use Rattle.line_rules.specs.Forgery.{accepting}
 use Rattle.line_rules.specs.Further.{beside_at, discovery_flight, line_step, of_memory, reaches, with_beside}
 use Rattle.line_rules.specs.Logs.{LogsKept}
 use Rattle.line_rules.specs.Runs.{Entry, IsRun, events_of}
-use Rattle.line_rules.specs.Steps.{Step, identity, psk_of, ran}
+use Rattle.line_rules.specs.Steps.{Step, identity, psk_of, running_world}
 use Rattle.line_rules.specs.Worlds.{World, node_at, start}
 use Rattle.line_laws.specs.FurtherLines.{EveryRunHolds, HoldsAfter, LogsHold, StepHolds}
 use Rattle.line_laws.specs.Laws.{EveryFlightIsOctets}
@@ -282,7 +282,7 @@ ack_speaks m reply = by_left (nat_lt (counters_left m.station) 1) refl
 -- # Events
 
 module _ (w : World) (ok : WorldOk w) (s : WorldSpeaks w) (logs : LogsKept w) where
-  ran_octets : WorldSpeaks (ran w)
+  ran_octets : WorldSpeaks (running_world w)
   ran_octets = record { nodes = s.nodes; flights = s.flights }
 
   choice_speaks : (number : ℕ) (x : Node) (psk : Key) → node_at w number ≡ Some x → psk_of x ≡ Some psk → (m : Memory) → x.memory ≡ Some m → MemorySpeaks m
@@ -294,19 +294,19 @@ module _ (w : World) (ok : WorldOk w) (s : WorldSpeaks w) (logs : LogsKept w) wh
   pub line_speaks : (event : Event) (st : Step) → IsLineStep Octets Spelled network w event st → SpeaksIn w ok s st
   line_speaks event st (Known e t is) = event_speaks w ok s event st is
   line_speaks event st (Opens begun) = record { nodes = s.nodes; flights = s.flights }
-  line_speaks event st (Anew e v t moves silent) = moved_speaks (ran w) v moves (steps_ran_ok network network_ranges w ok s.flights) refl ran_octets
+  line_speaks event st (Anew e v t moves silent) = moved_speaks (running_world w) v moves (steps_ran_ok network network_ranges w ok s.flights) refl ran_octets
   line_speaks event st (After e r v t is good runs moves same_words) = moved_speaks r.0 v moves good runs (event_speaks w ok s event (Ok r) is)
   line_speaks event st (Unsends e r v t is good runs moves same_words) =
       let m = moved_speaks r.0 v moves good runs (event_speaks w ok s event (Ok r) is) in record { nodes = m.nodes; flights = s.flights }
   line_speaks event st (Unbelieves e number x octets got there says comes is) =
       let left = acts_speaks x (Err frames.Halted) (λ m. of_station m (accept m.station x.eui (arrived network octets)))
       (at_place NodeSpeaks w.nodes number x there s.nodes) (λ m here h. accept_speaks m h x.eui (arrived network octets)) in
-      let t = after_speaks (ran w) number (stays (accepting network x octets).node (only said.Blacklisted)) ran_octets
+      let t = after_speaks (running_world w) number (stays (accepting network x octets).node (only answers.Blacklisted)) ran_octets
       (record { node = left.node; frames = All-nil SentOctets }) in
       record { nodes = t.nodes; flights = t.flights }
   line_speaks event st (Chooses number k x psk ne there pair) =
       let fit = at_place NodeFits w.nodes number x there ok.fits in
-      let t = after_speaks (ran w) number (reaches x (beside_at w number) (Err choices.Halted) (λ y. choose_agent (identity network x psk) y k w.clock))
+      let t = after_speaks (running_world w) number (reaches x (beside_at w number) (Err choices.Halted) (λ y. choose_agent (identity network x psk) y k w.clock))
       ran_octets
       (acts_speaks x (Err choices.Halted) (with_beside (beside_at w number) (λ y. choose_agent (identity network x psk) y k w.clock))
       (at_place NodeSpeaks w.nodes number x there s.nodes)

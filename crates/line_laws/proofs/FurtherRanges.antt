@@ -75,14 +75,14 @@ use Rattle.mesh_header.specs.declared.unit.Unit.{Unit as MeshUnit}
 use Rattle.mesh_header.specs.declared.unit.Unit.TheVariants as units
 use Rattle.mesh_header.specs.Reading.{unit_in}
 use Rattle.line_events.specs.declared.event.Answer.{Answer as Word}
-use Rattle.line_events.specs.declared.event.Answer.TheVariants as said
+use Rattle.line_events.specs.declared.event.Answer.TheVariants as answers
 use Rattle.line_events.specs.declared.event.Event.{Event}
 use Rattle.line_rules.specs.Answers.{Reception, coordinator_reception, meter_reception, only}
 use Rattle.line_events.specs.Events.{IsEvent}
 use Rattle.line_rules.specs.Forgery.{Comes, accepting}
 use Rattle.line_rules.specs.Further.{beside_at, discovery_flight, due, due_of, is_reply_taken, line_step, of_memory, reaches, with_beside}
 use Rattle.line_rules.specs.Logs.{LogsKept}
-use Rattle.line_rules.specs.Steps.{Step, hears, identity, note_by, ran}
+use Rattle.line_rules.specs.Steps.{Step, hears, identity, note_by, running_world}
 use Rattle.line_rules.specs.Worlds.{World, node_at}
 use Rattle.line_laws.specs.FurtherLines.{LineStepsSpell, LinesSpellBeacons}
 use Rattle.line_laws.specs.Later.{MayBeSealed}
@@ -464,12 +464,12 @@ chosen_ranged m b own k now h joins = by_joined (meters.is_joined m)
     by_joined false = by_agent (kth_of b.scan.agents k)
 
 module _ (w : World) (ok : WorldOk w) (s : WorldSpeaks w) (r : WorldRanged w) where
-  ran_ranged : WorldRanged (ran w)
+  ran_ranged : WorldRanged (running_world w)
   ran_ranged = record { nodes = r.nodes; flights = r.flights }
 
   -- what is taken keeps it, unless it is forged
   abbrev pub LineRangedIn : Step → Type 0
-  LineRangedIn (Ok t) = t.1.happened.forged ≡ false → WorldRanged t.0
+  LineRangedIn (Ok t) = t.1.happenings.forged ≡ false → WorldRanged t.0
   LineRangedIn (Err fault) = Unit {0}
 
   pub choice_ranged : (number k : ℕ) (x : Node) (psk : Key) → node_at w number ≡ Some x
@@ -485,7 +485,7 @@ module _ (w : World) (ok : WorldOk w) (s : WorldSpeaks w) (r : WorldRanged w) wh
   line_ranged_is event (Ok t) (Known e z is) = event_ranged w ok s r event (Ok t) is
   line_ranged_is event (Err fault) (Known e z is) = tt
   line_ranged_is event st (Opens begun) = λ honest. record { nodes = r.nodes; flights = r.flights }
-  line_ranged_is event st (Anew e v t moves silent) = λ honest. moved_ranged (ran w) v moves ran_ranged
+  line_ranged_is event st (Anew e v t moves silent) = λ honest. moved_ranged (running_world w) v moves ran_ranged
   line_ranged_is event st (After e q v t is good runs moves same_words) =
       λ honest. moved_ranged q.0 v moves (event_ranged w ok s r event (Ok q) is (sym same_words.forged ∙ honest))
   line_ranged_is event st (Unsends e q v t is good runs moves same_words) = λ honest.
@@ -493,11 +493,11 @@ module _ (w : World) (ok : WorldOk w) (s : WorldSpeaks w) (r : WorldRanged w) wh
       record { nodes = m.nodes; flights = r.flights }
   line_ranged_is event st (Unbelieves e number x octets got there says comes is) = λ honest.
       let left = accepts_ranged network network_opens_again w r.flights number x octets 0 (at_place NodeRanged w.nodes number x there r.nodes) in
-      let t = after_ranged (ran w) number (stays (accepting network x octets).node (only said.Blacklisted)) ran_ranged
+      let t = after_ranged (running_world w) number (stays (accepting network x octets).node (only answers.Blacklisted)) ran_ranged
       (record { station = left.station; frames = All-nil IsSent }) in
       record { nodes = t.nodes; flights = t.flights }
   line_ranged_is event st (Chooses number k x psk ne there pair) = λ honest.
-      let t = after_ranged (ran w) number (reaches x (beside_at w number) (Err choices.Halted) (λ y. choose_agent (identity network x psk) y k w.clock))
+      let t = after_ranged (running_world w) number (reaches x (beside_at w number) (Err choices.Halted) (λ y. choose_agent (identity network x psk) y k w.clock))
       ran_ranged (choice_ranged number k x psk there) in
       record { nodes = t.nodes; flights = t.flights }
 

@@ -8,7 +8,7 @@ use Rattle.plc_base.specs.declared.keeper.BadStore.{BadStore}
 use Rattle.node_rules.specs.Ciphers.{Ciphers, network}
 use Rattle.node_rules.specs.Memory.{Node, node_route}
 use Rattle.reach_rules.specs.ReachingNodes.{Beside, restarted}
-use Rattle.line_events.specs.declared.event.Answer.TheVariants as said
+use Rattle.line_events.specs.declared.event.Answer.TheVariants as answers
 use Rattle.line_events.specs.declared.event.Event.{Event}
 use Rattle.line_events.specs.declared.event.Event.TheVariants as events
 use Rattle.line_events.specs.declared.event.StepFault.TheVariants as faults
@@ -17,7 +17,7 @@ use Rattle.line_rules.specs.Further.{line_step, restarts_by, restarts_further}
 use Rattle.line_rules.specs.Logs.{LogsKept}
 use Rattle.line_rules.specs.Runs.{Entry, IsRun, events_of}
 use Rattle.line_rules.specs.SafeRuns.{is_restart}
-use Rattle.line_rules.specs.Steps.{Step, has_begun, ran, restarts}
+use Rattle.line_rules.specs.Steps.{Step, has_begun, running_world, restarts}
 use Rattle.line_rules.specs.Worlds.{World, node_at, start}
 use Rattle.line_laws.specs.FurtherLines.{LogsHold, StepHolds}
 use Rattle.line_laws.specs.Laws.{EveryNetworkRunIsSized}
@@ -39,7 +39,7 @@ use Rattle.line_laws.proofs.Worlds.{at_place}
 -- # Restarts
 
 abbrev pub AnsweredIn : Step → Type 0
-AnsweredIn (Ok r) = r.1.happened.answer ≡ said.Restarted
+AnsweredIn (Ok r) = r.1.happenings.answer ≡ answers.Restarted
 AnsweredIn (Err fault) = Unit {0}
 
 answered_in : (number : ℕ) (s : Step) → RestartIn number s → AnsweredIn s
@@ -54,7 +54,7 @@ module _ (ciphers : Ciphers) (w : World) (ok : WorldOk w) (logs : LogsKept w) wh
       let good = at_place NodeOk w.nodes number x there ok.nodes in (
         restart_answers x good,
         λ y is dest.
-            let same : (restarts x).node ≡ y = same_Some _ _ (sym (after_here ciphers (ran w) number x (restarts x) there) ∙ is) in
+            let same : (restarts x).node ≡ y = same_Some _ _ (sym (after_here ciphers (running_world w) number x (restarts x) there) ∙ is) in
             subst (λ (z : Node). node_route z dest ≡ None) same (no_routes x good dest),
       )
 

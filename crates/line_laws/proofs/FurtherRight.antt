@@ -59,7 +59,7 @@ use Rattle.reach_rules.specs.PathAsking.{ask_path}
 use Rattle.reach_rules.specs.ReachingNodes.{Beside}
 use Rattle.reach_rules.specs.Receiving.{NeighbourCommand, command_of, command_on, command_with, hear_command}
 use Rattle.line_events.specs.declared.event.Answer.{Answer}
-use Rattle.line_events.specs.declared.event.Answer.TheVariants as said
+use Rattle.line_events.specs.declared.event.Answer.TheVariants as answers
 use Rattle.line_events.specs.declared.event.Event.{Event}
 use Rattle.line_events.specs.declared.event.Event.TheVariants as events
 use Rattle.line_events.specs.declared.event.StepFault.TheVariants as faults
@@ -73,7 +73,7 @@ use Rattle.line_rules.specs.Forgery.{Comes, IsForged, accepting}
 use Rattle.line_rules.specs.Further.{line_step, agent_line, asks_by, beacon_taken, beside_at, broadcasts_by, choice_word, chooses_by, commanded, discovers_by}
 use Rattle.line_rules.specs.Further.{discovery_flights, due, due_of, has_discovered, is_reply_taken, acknowledged, acknowledging, adds_frames, bcast, of_memory}
 use Rattle.line_rules.specs.Further.{restarts_by, scanning, unbelieved, scans_by, sends_nothing, with_beside}
-use Rattle.line_rules.specs.Steps.{Step, acted, forged_by, happened, has_begun, identity, is_taken, note_by, ran, set_up, world_after, trace_of}
+use Rattle.line_rules.specs.Steps.{Step, node_outcome, forged_by, happenings, has_begun, identity, is_taken, note_by, running_world, set_up, world_after, trace_of}
 use Rattle.line_rules.specs.Traces.{Adds, IsTracedRight, is_broadcast, is_done, is_issue, is_took, is_up}
 use Rattle.line_rules.specs.Worlds.{World, Trace, Further, Noticed, nothing_further, node_at}
 use Rattle.line_rules.specs.Runs.{Entry}
@@ -149,8 +149,8 @@ command_plain (Err reach_drops.Revisited) = (refl, refl, refl, refl, refl)
 command_plain (Err reach_drops.PathLong) = (refl, refl, refl, refl, refl)
 
 reply_plain : (a : Answer) → is_reply_taken a ≡ true → Plain a
-reply_plain said.Learned e = (refl, refl, refl, refl, refl)
-reply_plain said.Relayed e = (refl, refl, refl, refl, refl)
+reply_plain answers.Learned e = (refl, refl, refl, refl, refl)
+reply_plain answers.Relayed e = (refl, refl, refl, refl, refl)
 reply_plain _ e = absurd (false_true e)
 
 due_plain : (p : Path) (m : Option Message) (a : Answer) (reply : Reply) → due p m a ≡ Some reply → Plain a
@@ -272,13 +272,13 @@ module _ (ciphers : Ciphers) (w : World) where
   -- where something else stands beside, or is told of further reach
   more_adds : (n : ℕ) (event : Event) (v : World) (t : Trace) (on : Bool) (bs : List Beside) (f : Further) (a : Option AgentLine)
       → Adds w (entry n event (v, t))
-      → Adds w (entry n event (record v { checks_on = on; beside = bs }, record t { happened = record t.happened { agent = a }; further = f }))
+      → Adds w (entry n event (record v { checks_on = on; beside = bs }, record t { happenings = record t.happenings { agent = a }; further = f }))
   more_adds n event v t on bs f a r =
       record { events = r.events; sends = r.sends; ups = r.ups; forged = r.forged; done = r.done; first = r.first; flights = r.flights; made = r.made }
 
   more_after : (n : ℕ) (event : Event) (v : World) (t : Trace) (on : Bool) (bs : List Beside) (f : Further) (a : Option AgentLine)
       → Right ciphers w (entry n event (v, t))
-      → Right ciphers w (entry n event (record v { checks_on = on; beside = bs }, record t { happened = record t.happened { agent = a }; further = f }))
+      → Right ciphers w (entry n event (record v { checks_on = on; beside = bs }, record t { happenings = record t.happenings { agent = a }; further = f }))
   more_after n event v t on bs f a r = record {
     adds = more_adds n event v t on bs f a r.adds;
     traced = record {
@@ -307,10 +307,10 @@ module _ (ciphers : Ciphers) (w : World) where
 
   -- another plain word, and other flights
   reworded : (n : ℕ) (event : Event) (v u : World) (t : Trace) (answer : Answer) (bup : Option BroadcastUp) (path : Option PathLine) (flights : ℕ)
-      (made : List PairTag) (f : Further) → Right ciphers w (entry n event (v, t)) → Plain t.happened.answer → Plain answer
+      (made : List PairTag) (f : Further) → Right ciphers w (entry n event (v, t)) → Plain t.happenings.answer → Plain answer
       → AsCounted v u → length u.flights ≡ length w.flights + flights → u.made ≡ w.made ++ made
       → Right ciphers w (entry n event
-      (u, record t { happened = record t.happened { answer = answer; bup = bup; path = path; flights = flights }; made = made; further = f }))
+      (u, record t { happenings = record t.happenings { answer = answer; bup = bup; path = path; flights = flights }; made = made; further = f }))
   reworded n event v u t answer bup path flights made f r p q c flies made_is = record {
     adds = record {
       events = c.events ∙ r.adds.events;
@@ -340,42 +340,42 @@ module _ (ciphers : Ciphers) (w : World) where
 
   seeks_right : (n number to : ℕ) (x : Node) (target : Option ℕ) → Right ciphers w (entry n (events.Path number to) (asks_by ciphers w number x target))
   unfolding world_after
-  seeks_right n number to x None = still_right ciphers w n (events.Path number to) (ran w) said.NoAddress (refl, refl, refl, refl, refl)
+  seeks_right n number to x None = still_right ciphers w n (events.Path number to) (running_world w) answers.NoAddress (refl, refl, refl, refl, refl)
       (unbrought ciphers w (events.Path number to) (λ b. b)) (ran_counted w) (omega arith) (sym (append-nil w.made))
   seeks_right n number to x (Some target) =
       let does = with_beside (beside_at w number) (λ y. ask_path in_memory y target) in
       let d = acts x (Err asks.Halted) does in
       let e = answering ask_word d in
       let none = makes_none AnyUnits x (Err asks.Halted) does (λ m here. ask_is AnyUnits (beside_at w number) target m (λ own hop at route. tt)) in
-      more_after n (events.Path number to) (acted ciphers w number e).0 (acted ciphers w number e).1 w.checks_on
+      more_after n (events.Path number to) (node_outcome ciphers w number e).0 (node_outcome ciphers w number e).1 w.checks_on
       (asks_by ciphers w number x (Some target)).0.beside (asks_by ciphers w number x (Some target)).1.further None
       (acted_right ciphers w n (events.Path number to) number e (ask_plain d.answer) none.1 (unbrought ciphers w (events.Path number to) (λ b. b)))
 
   picks_right : (n number k : ℕ) (x : Node) (psk : Option Key) → Right ciphers w (entry n (events.Choose number k) (chooses_by ciphers w number x k psk))
   unfolding world_after
-  picks_right n number k x None = still_right ciphers w n (events.Choose number k) (ran w) said.NoBeacon (refl, refl, refl, refl, refl)
+  picks_right n number k x None = still_right ciphers w n (events.Choose number k) (running_world w) answers.NoBeacon (refl, refl, refl, refl, refl)
       (unbrought ciphers w (events.Choose number k) (λ b. b)) (ran_counted w) (omega arith) (sym (append-nil w.made))
   picks_right n number k x (Some psk) =
       let does = with_beside (beside_at w number) (λ y. choose_agent (identity ciphers x psk) y k w.clock) in
       let d = acts x (Err choices.Halted) does in
       let e = answering choice_word d in
       let none = acts_opened x (Err choices.Halted) does (λ m. choice_opened m (identity ciphers x psk) (beside_at w number) k w.clock) in
-      more_after n (events.Choose number k) (acted ciphers w number e).0 (acted ciphers w number e).1 w.checks_on
+      more_after n (events.Choose number k) (node_outcome ciphers w number e).0 (node_outcome ciphers w number e).1 w.checks_on
       (chooses_by ciphers w number x k (Some psk)).0.beside nothing_further (agent_line number d.answer)
       (acted_right ciphers w n (events.Choose number k) number e (choice_plain d.answer) none (unbrought ciphers w (events.Choose number k) (λ b. b)))
 
   discovered_right : {A : Type 0} (n : ℕ) (event : Event) (number : ℕ) (word : A → Answer) (noticed : A → Option Noticed) (d : Discovering A)
       → Plain (word d.answer) → NoneCame ciphers w event → Right ciphers w (entry n event (has_discovered w number word noticed d))
   discovered_right n event number word noticed d plain came =
-      let v : World = record (ran w) { flights = w.flights ++ discovery_flights number d.sent } in
-      let h : Happenings = record (happened w (word d.answer)) { flights = length (discovery_flights number d.sent) } in
+      let v : World = record (running_world w) { flights = w.flights ++ discovery_flights number d.sent } in
+      let h : Happenings = record (happenings w (word d.answer)) { flights = length (discovery_flights number d.sent) } in
       more_after n event v (trace_of h) w.checks_on (has_discovered w number word noticed d).0.beside (has_discovered w number word noticed d).1.further None
       (quiet_right ciphers w n event v h [] [] plain refl refl refl refl refl came
       (record { events = refl; sends = refl; ups = refl; forged = refl; done = refl }) refl (length-append w.flights (discovery_flights number d.sent))
       (sym (append-nil w.made)))
 
   looks_right : (n number : ℕ) (o : Option Memory) → Right ciphers w (entry n (events.Scan number) (scans_by w number o))
-  looks_right n number None = still_right ciphers w n (events.Scan number) (ran w) said.Halted (refl, refl, refl, refl, refl)
+  looks_right n number None = still_right ciphers w n (events.Scan number) (running_world w) answers.Halted (refl, refl, refl, refl, refl)
       (unbrought ciphers w (events.Scan number) (λ b. b)) (ran_counted w) (omega arith) (sym (append-nil w.made))
   looks_right n number (Some m) =
       let d = begin_scan m (beside_at w number).scan in
@@ -383,7 +383,7 @@ module _ (ciphers : Ciphers) (w : World) where
 
   finds_right : (n : ℕ) (event : Event) (number : ℕ) (x : Node) (octets : List ℕ) (link : ℕ) → NoneCame ciphers w event → (o : Option Memory)
       → Right ciphers w (entry n event (discovers_by w number x octets link o))
-  finds_right n event number x octets link came None = still_right ciphers w n event (ran w) said.Halted (refl, refl, refl, refl, refl) came (ran_counted w)
+  finds_right n event number x octets link came None = still_right ciphers w n event (running_world w) answers.Halted (refl, refl, refl, refl, refl) came (ran_counted w)
       (omega arith) (sym (append-nil w.made))
   finds_right n event number x octets link came (Some m) =
       let d = hear_discovery x.role m.station (beside_at w number).scan octets link in
@@ -433,7 +433,7 @@ module _ (ciphers : Ciphers) (w : World) (n : ℕ)
   unbelieved_right : Right ciphers w (entry n event (unbelieved ciphers w number y octets got))
   unbelieved_right =
       let f = forged_right ciphers w event number x octets got there comes_so is [] in
-      received_right ciphers w n event number octets (forged_by w octets got.path) (stays y (only said.Blacklisted)) comes_so
+      received_right ciphers w n event number octets (forged_by w octets got.path) (stays y (only answers.Blacklisted)) comes_so
       (record { taken = refl; up = refl; took = refl; done = refl; keyed = refl })
       (λ e. f.0 (either_left _ _ e), λ h. or_nothing _ (f.1 h))
 
@@ -445,16 +445,16 @@ module _ (ciphers : Ciphers) (w : World) (n : ℕ)
       let a = acts d.node halted does in
       let none = acts_made d.node halted does (command_made (beside_at r.0 number) c) in
       let more : length (world_after ciphers r.0 number a).flights ≡ length r.0.flights + length a.frames = after_flights ciphers r.0 number a in
-      let before : length r.0.flights ≡ length w.flights + r.1.happened.flights = plainly.adds.flights in
+      let before : length r.0.flights ≡ length w.flights + r.1.happenings.flights = plainly.adds.flights in
       let made : r.0.made ++ a.made ≡ w.made ++ r.1.made = ap (λ ts. r.0.made ++ ts) none ∙ append-nil r.0.made ∙ plainly.adds.made in
       let t : Trace = (commanded ciphers number d.node c r).1 in
-      reworded ciphers w n event r.0 (commanded ciphers number d.node c r).0 r.1 (command_word a.answer) t.happened.bup t.happened.path
-      (r.1.happened.flights + length a.frames) r.1.made t.further plainly
+      reworded ciphers w n event r.0 (commanded ciphers number d.node c r).0 r.1 (command_word a.answer) t.happenings.bup t.happenings.path
+      (r.1.happenings.flights + length a.frames) r.1.made t.further plainly
       (command_silent_word ciphers y got cost (note_by w octets got.path) w.clock c e y.role) (command_plain a.answer)
       (record { events = refl; sends = refl; ups = refl; forged = refl; done = refl }) (omega arith) made
 
   checks_right : Right ciphers w (entry n event with_it)
-  checks_right = more_after ciphers w n event r.0 r.1 r.0.checks_on with_it.0.beside with_it.1.further r.1.happened.agent plainly
+  checks_right = more_after ciphers w n event r.0 r.1 r.0.checks_on with_it.0.beside with_it.1.further r.1.happenings.agent plainly
 
   answers_right : (reply : Reply) → Plain d.answer.answer → Right ciphers w (entry n event (acknowledged ciphers w number (acknowledging d.node reply) with_it))
   unfolding world_after
@@ -475,17 +475,17 @@ module _ (ciphers : Ciphers) (w : World) (n : ℕ)
       made : v.made ≡ w.made ++ r.1.made
       made = ap (λ ts. r.0.made ++ ts) none ∙ append-nil r.0.made ∙ plainly.adds.made
 
-      flies : length v.flights ≡ length w.flights + (r.1.happened.flights + length a.frames)
+      flies : length v.flights ≡ length w.flights + (r.1.happenings.flights + length a.frames)
       flies =
           let more : length v.flights ≡ length with_it.0.flights + length a.frames = after_flights ciphers with_it.0 number a in
-          let before : length r.0.flights ≡ length w.flights + r.1.happened.flights = plainly.adds.flights in
+          let before : length r.0.flights ≡ length w.flights + r.1.happenings.flights = plainly.adds.flights in
           omega arith
 
       by_memory : (b : Bool) → Right ciphers w (entry n event (if b then adds_frames v with_it.1 a else sends_nothing w (v, with_it.1)))
-      by_memory true = reworded ciphers w n event r.0 v r.1 r.1.happened.answer r.1.happened.bup r.1.happened.path
-          (r.1.happened.flights + length a.frames) r.1.made with_it.1.further plainly plain plain
+      by_memory true = reworded ciphers w n event r.0 v r.1 r.1.happenings.answer r.1.happenings.bup r.1.happenings.path
+          (r.1.happenings.flights + length a.frames) r.1.made with_it.1.further plainly plain plain
           (record { events = refl; sends = refl; ups = refl; forged = refl; done = refl }) flies made
-      by_memory false = reworded ciphers w n event r.0 (sends_nothing w (v, with_it.1)).0 r.1 said.Store r.1.happened.bup r.1.happened.path 0
+      by_memory false = reworded ciphers w n event r.0 (sends_nothing w (v, with_it.1)).0 r.1 answers.Store r.1.happenings.bup r.1.happenings.path 0
           [] nothing_further plainly plain (refl, refl, refl, refl, refl)
           (record { events = refl; sends = refl; ups = refl; forged = refl; done = refl }) (omega arith) (sym (append-nil w.made))
 
@@ -503,7 +503,7 @@ module _ (ciphers : Ciphers) (w : World) where
   record RightOn (x : Entry) : Type 0 where
     adds : Adds w x
     traced : is_broadcast x.event ≡ false → IsTracedSo w x
-    forged : (x.trace.happened.forged ≡ true) ↔ IsForged ciphers w x.event x.trace.opened
+    forged : (x.trace.happenings.forged ≡ true) ↔ IsForged ciphers w x.event x.trace.opened
 
   abbrev GoodOn : ℕ → Event → Step → Type 0
   GoodOn n event (Ok r) = RightOn (entry n event r)
@@ -524,13 +524,13 @@ module _ (ciphers : Ciphers) (w : World) where
       let b = acts x (Err broadcasts.Halted) does in
       let e = answering broadcast_word b in
       let none = makes_none AnyUnits x (Err broadcasts.Halted) does (λ m here. broadcast_is AnyUnits (beside_at w number) datagram m (λ own at fault. tt)) in
-      let v : World = world_after ciphers (ran w) number e in
-      let h : Happenings = record (happened w (broadcast_word b.answer)) { flights = length b.frames } in
+      let v : World = world_after ciphers (running_world w) number e in
+      let h : Happenings = record (happenings w (broadcast_word b.answer)) { flights = length b.frames } in
       record {
-        adds = more_adds ciphers w n event v (acted ciphers w number e).1 w.checks_on (broadcasts_by ciphers w number x datagram).0.beside
+        adds = more_adds ciphers w n event v (node_outcome ciphers w number e).1 w.checks_on (broadcasts_by ciphers w number x datagram).0.beside
             (broadcasts_by ciphers w number x datagram).1.further None
-            (quiet_adds ciphers w n event v h b.made b.opened refl refl (after_counted ciphers w (ran w) number e (ran_counted w)) refl
-            (after_flights ciphers (ran w) number e) (made_after ciphers (ran w) number e));
+            (quiet_adds ciphers w n event v h b.made b.opened refl refl (after_counted ciphers w (running_world w) number e (ran_counted w)) refl
+            (after_flights ciphers (running_world w) number e) (made_after ciphers (running_world w) number e));
         traced = λ other. absurd (false_true (sym other));
         forged = unforged ciphers w event false b.opened refl none.1 (unbrought ciphers w event (λ q. q));
       }
@@ -540,15 +540,15 @@ module _ (ciphers : Ciphers) (w : World) where
       → Right ciphers w (entry n (events.Restart number) (restarts_by ciphers w number x (Err bad)))
   unfolding world_after
   unread_right n number x bad =
-      let e = stays (record x { memory = None }) said.BadStore in
-      more_after ciphers w n (events.Restart number) (acted ciphers w number e).0 (acted ciphers w number e).1 w.checks_on
+      let e = stays (record x { memory = None }) answers.BadStore in
+      more_after ciphers w n (events.Restart number) (node_outcome ciphers w number e).0 (node_outcome ciphers w number e).1 w.checks_on
       (restarts_by ciphers w number x (Err bad)).0.beside nothing_further None
       (acted_right ciphers w n (events.Restart number) number e (refl, refl, refl, refl, refl) refl (unbrought ciphers w (events.Restart number) (λ b. b)))
 
   line_right : (n : ℕ) (event : Event) (s : Step) → IsFurtherStep ciphers w event s → GoodOn n event s
   line_right n event s (Old e t is) = old_right n e t (right ciphers w e t is n)
   line_right n event s (TurnsOn begun) =
-      as_right _ (still_right ciphers w n events.Checks (record (set_up w) { checks_on = true }) said.Set (refl, refl, refl, refl, refl)
+      as_right _ (still_right ciphers w n events.Checks (record (set_up w) { checks_on = true }) answers.Set (refl, refl, refl, refl, refl)
       (unbrought ciphers w events.Checks (λ b. b)) (record { events = refl; sends = refl; ups = refl; forged = refl; done = refl }) (omega arith)
       (sym (append-nil w.made)))
   line_right n event s (Spreads number x datagram there) = spreads_right n number x datagram
@@ -561,7 +561,7 @@ module _ (ciphers : Ciphers) (w : World) where
   line_right n event s (Takes e number x octets cost got t there says comes_so low is how) = as_right _
       (heard_right ciphers w n e number x octets cost got there says comes_so low is t how)
   line_right n event s (Puts e r bs quiet is) = as_right _
-      (more_after ciphers w n e r.0 r.1 r.0.checks_on bs r.1.further r.1.happened.agent (right ciphers w e (Ok r) is n))
+      (more_after ciphers w n e r.0 r.1 r.0.checks_on bs r.1.further r.1.happenings.agent (right ciphers w e (Ok r) is n))
   line_right n event s (Unread number x bad there e) = as_right _ (unread_right n number x bad)
 
   -- # What the history has
@@ -604,7 +604,7 @@ module _ (ciphers : Ciphers) (w : World) where
   -- of any other event
   other_traced : (x : Entry) → is_broadcast x.event ≡ false → IsTracedSo w x → IsTracedRight w x
   other_traced x other r = record {
-    sent = r.sent ∙ sym (ap (λ b. is_taken x.trace.happened.answer && not b) other ∙ and_true (is_taken x.trace.happened.answer));
+    sent = r.sent ∙ sym (ap (λ b. is_taken x.trace.happenings.answer && not b) other ∙ and_true (is_taken x.trace.happenings.answer));
     send = r.send;
     up = r.up;
     up_at = r.up_at;

@@ -25,14 +25,14 @@ use Rattle.reach_rules.specs.declared.refusal.ChooseRefusal.{ChooseRefusal}
 use Rattle.reach_rules.specs.declared.refusal.ChooseRefusal.TheVariants as choices
 use Rattle.reach_rules.specs.Beacons.{ChosenAgent, choose_agent, choosing_ends, joins_by}
 use Rattle.reach_rules.specs.ReachingNodes.{Beside}
-use Rattle.line_events.specs.declared.event.Answer.TheVariants as said
+use Rattle.line_events.specs.declared.event.Answer.TheVariants as answers
 use Rattle.line_events.specs.declared.event.Event.{Event}
 use Rattle.line_rules.specs.Answers.{only}
 use Rattle.line_events.specs.Events.{IsEvent}
 use Rattle.line_rules.specs.Forgery.{accepting}
 use Rattle.line_rules.specs.Further.{beside_at, discovery_flight, line_step, of_memory, reaches, with_beside}
 use Rattle.line_rules.specs.Logs.{LogsKept}
-use Rattle.line_rules.specs.Steps.{Step, identity, ran, world_after}
+use Rattle.line_rules.specs.Steps.{Step, identity, running_world, world_after}
 use Rattle.line_rules.specs.Worlds.{World, Issued, Trace, node_at}
 use Rattle.line_laws.specs.Keyed.{Keyed}
 use Rattle.line_laws.specs.Later.{flown as flown_world}
@@ -225,21 +225,21 @@ module _ (h : Homes) (w : World) (ok : WorldOk w) (s : WorldSpeaks w) (r : World
   start_here : Reached network h w w
   start_here = record { holds = good; later = λ i x there. record { node = x; there = there; above = λ dest. inl refl } }
 
-  ran_reached : Reached network h w (ran w)
-  ran_reached = counts_hold network h w (ran w) refl refl start_here
+  ran_reached : Reached network h w (running_world w)
+  ran_reached = counts_hold network h w (running_world w) refl refl start_here
 
   good_at : (number : ℕ) (x : Node) → node_at w number ≡ Some x → NodeOk x
   good_at number x there = at_place NodeOk w.nodes number x there ok.nodes
 
   -- a node that accepted octets and does nothing more
   rests_reached : {A : Type 0} (answer : A) (number : ℕ) (x : Node) (octets : List ℕ) → node_at w number ≡ Some x
-      → Reached network h w (world_after network (ran w) number (stays (accepting network x octets).node answer))
+      → Reached network h w (world_after network (running_world w) number (stays (accepting network x octets).node answer))
   rests_reached answer number x octets there =
       let plan : Memory → Plan Memory (Result Accepted FrameRefusal) = λ m. of_station m (accept m.station x.eui (arrived network octets)) in
-      let ranks = acts_ranks (At h number) (Own h number) (IsNearer h (ran w)) x (Err frames.Halted) plan (good_at number x there)
-      (λ m here kept. accept_ranks (At h number) (Own h number) (IsNearer h (ran w)) m (at_home h w homes.addressed number x m there here) x.eui
+      let ranks = acts_ranks (At h number) (Own h number) (IsNearer h (running_world w)) x (Err frames.Halted) plan (good_at number x there)
+      (λ m here kept. accept_ranks (At h number) (Own h number) (IsNearer h (running_world w)) m (at_home h w homes.addressed number x m there here) x.eui
       (arrived network octets) kept.station.range.marks) in
-      after_keeps h w (ran w) number x (stays (accepting network x octets).node answer) there
+      after_keeps h w (running_world w) number x (stays (accepting network x octets).node answer) there
       (record {
         above = ranks.above;
         not_own = ranks.not_own;
@@ -248,13 +248,13 @@ module _ (h : Homes) (w : World) (ok : WorldOk w) (s : WorldSpeaks w) (r : World
       }) (All-nil IsSent) ran_reached
 
   chosen_reached : (number k : ℕ) (x : Node) (psk : _) → node_at w number ≡ Some x
-      → Reached network h w (world_after network (ran w) number
+      → Reached network h w (world_after network (running_world w) number
       (reaches x (beside_at w number) (Err choices.Halted) (λ y. choose_agent (identity network x psk) y k w.clock)))
   chosen_reached number k x psk there =
-      after_keeps h w (ran w) number x (reaches x (beside_at w number) (Err choices.Halted) (λ y. choose_agent (identity network x psk) y k w.clock)) there
-      (acts_ranks (At h number) (Own h number) (IsNearer h (ran w)) x (Err choices.Halted)
+      after_keeps h w (running_world w) number x (reaches x (beside_at w number) (Err choices.Halted) (λ y. choose_agent (identity network x psk) y k w.clock)) there
+      (acts_ranks (At h number) (Own h number) (IsNearer h (running_world w)) x (Err choices.Halted)
       (with_beside (beside_at w number) (λ y. choose_agent (identity network x psk) y k w.clock)) (good_at number x there)
-      (λ m here kept. chosen_ranks (At h number) (Own h number) (IsNearer h (ran w)) m (at_home h w homes.addressed number x m there here) (beside_at w number)
+      (λ m here kept. chosen_ranks (At h number) (Own h number) (IsNearer h (running_world w)) m (at_home h w homes.addressed number x m there here) (beside_at w number)
       (identity network x psk) k w.clock))
       (choice_ranged w ok s r number k x psk there).frames ran_reached
 
@@ -272,12 +272,12 @@ module _ (h : Homes) (w : World) (ok : WorldOk w) (s : WorldSpeaks w) (r : World
     old_holds st old = of_old network w event (StepHolds network h w) (λ fault. Fails fault) (event_holds network network_ranges h w (calls_read w ok s r) ok
         s.flights homes good event says depot) st old
 
-    reached_then : (q : World × Trace) → StepHolds network h w (Ok q) → q.1.happened.forged ≡ false → Reached network h w q.0
+    reached_then : (q : World × Trace) → StepHolds network h w (Ok q) → q.1.happenings.forged ≡ false → Reached network h w q.0
     reached_then q (Taken z f) honest = f honest
 
     -- the homes fit the world that the event without further reach leads to
     addressed_then : (q : World × Trace) (v u : World) → OldStep network w event (Ok q) → WorldOk q.0 → q.0.running ≡ true
-        → Moves IsOne IsDiscovery network q.0 v → q.1.happened.forged ≡ false → u.nodes ≡ v.nodes
+        → Moves IsOne IsDiscovery network q.0 v → q.1.happenings.forged ≡ false → u.nodes ≡ v.nodes
         → (more : List Issued) (l : Keyed u more) → WorldOk u → h ≡ homes_of l.book u → Addressed h q.0
     addressed_then q v u old fine runs moves honest nodes more l good_u is =
         let kq = old_keyed network network_ranges w ok s.flights given k event says q old honest in
@@ -297,7 +297,7 @@ module _ (h : Homes) (w : World) (ok : WorldOk w) (s : WorldSpeaks w) (r : World
           low = at_u.low;
         }
 
-    old_keeps : (q : World × Trace) → OldStep network w event (Ok q) → q.1.happened.forged ≡ false → Addressed h q.0 → Keeps h w q.0
+    old_keeps : (q : World × Trace) → OldStep network w event (Ok q) → q.1.happenings.forged ≡ false → Addressed h q.0 → Keeps h w q.0
     old_keeps q old honest fit = record {
       addressed = fit;
       ranged = event_ranged w ok s r event (Ok q) old.is honest;
@@ -309,9 +309,9 @@ module _ (h : Homes) (w : World) (ok : WorldOk w) (s : WorldSpeaks w) (r : World
   line_holds_is event says depot st (Known e z old) are = old_holds event says depot st old
   line_holds_is event says depot st (Opens begun) are = Taken _ (λ honest. counts_hold network h w _ refl refl start_here)
   line_holds_is event says depot st (Anew e v t moves silent) are = Taken (v, t) (λ honest.
-      (moved_keeps h w (ran w) v moves (steps_ran_ok network network_ranges w ok s.flights) refl
+      (moved_keeps h w (running_world w) v moves (steps_ran_ok network network_ranges w ok s.flights) refl
       (record {
-        addressed = same_addressed h w (ran w) refl homes.addressed;
+        addressed = same_addressed h w (running_world w) refl homes.addressed;
         ranged = record { nodes = r.nodes; flights = r.flights };
         reached = ran_reached;
       })).reached)
@@ -325,10 +325,10 @@ module _ (h : Homes) (w : World) (ok : WorldOk w) (s : WorldSpeaks w) (r : World
       (old_keeps event says depot q old unforged (addressed_then event says depot q v _ old fine runs moves unforged refl are.0 are.1 are.2
       are.3))).reached)
   line_holds_is event says depot st (Unbelieves e number x octets got there known comes is) are = Taken _ (λ honest.
-      counts_hold network h (world_after network (ran w) number (stays (accepting network x octets).node (only said.Blacklisted))) _ refl refl
-      (rests_reached (only said.Blacklisted) number x octets there))
+      counts_hold network h (world_after network (running_world w) number (stays (accepting network x octets).node (only answers.Blacklisted))) _ refl refl
+      (rests_reached (only answers.Blacklisted) number x octets there))
   line_holds_is event says depot st (Chooses number count x psk ne there pair) are = Taken _ (λ honest.
-      counts_hold network h (world_after network (ran w) number
+      counts_hold network h (world_after network (running_world w) number
       (reaches x (beside_at w number) (Err choices.Halted) (λ y. choose_agent (identity network x psk) y count w.clock))) _ refl refl
       (chosen_reached number count x psk there))
 

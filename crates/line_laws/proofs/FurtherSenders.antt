@@ -38,7 +38,7 @@ use Rattle.reach_rules.specs.CheckedReplies.{acknowledges}
 use Rattle.reach_rules.specs.PathAsking.{ask_path}
 use Rattle.reach_rules.specs.ReachingNodes.{Beside}
 use Rattle.reach_rules.specs.Receiving.{NeighbourCommand, command_of, hear_command}
-use Rattle.line_events.specs.declared.event.Answer.TheVariants as said
+use Rattle.line_events.specs.declared.event.Answer.TheVariants as answers
 use Rattle.line_events.specs.declared.event.Event.{Event}
 use Rattle.line_rules.specs.Answers.{Reception, only}
 use Rattle.line_events.specs.Events.{IsEvent}
@@ -48,7 +48,7 @@ use Rattle.line_rules.specs.Further.{acknowledged, acknowledging, adds_frames, s
 use Rattle.line_rules.specs.Logs.{LogsKept}
 use Rattle.line_rules.specs.Nonces.{HasSender}
 use Rattle.line_rules.specs.SafeRuns.{HasAddress}
-use Rattle.line_rules.specs.Steps.{Step, ran, set_up, world_after, flights_of, flight_by, identity, note_by}
+use Rattle.line_rules.specs.Steps.{Step, running_world, set_up, world_after, flights_of, flight_by, identity, note_by}
 use Rattle.line_rules.specs.Worlds.{World, Trace, node_at}
 use Rattle.line_laws.specs.LineAccounts.{LineSendersAreRight, SendersIn}
 use Rattle.line_laws.specs.Lines.{FlightFits, NodeOk, WorldOk}
@@ -128,46 +128,46 @@ module _ (ciphers : Ciphers) (fits : KeepsRanges ciphers) (w : World) (ok : Worl
       (all_senders ciphers v number y here fs from (λ a e. address_low y a good e)))
 
   discovered : (number : ℕ) (o : Option Discovery) (bs : List Beside)
-      → NewSenders w (record (ran w) { flights = w.flights ++ discovery_flights number o; beside = bs })
-  discovered number None bs = none_new w (record (ran w) { flights = w.flights ++ []; beside = bs }) (ap length (append-nil w.flights))
+      → NewSenders w (record (running_world w) { flights = w.flights ++ discovery_flights number o; beside = bs })
+  discovered number None bs = none_new w (record (running_world w) { flights = w.flights ++ []; beside = bs }) (ap length (append-nil w.flights))
   discovered number (Some frame) bs =
-      let v : World = record (ran w) { flights = w.flights ++ discovery_flights number (Some frame); beside = bs } in
+      let v : World = record (running_world w) { flights = w.flights ++ discovery_flights number (Some frame); beside = bs } in
       subst (All (HasSender v)) (sym (drop-append_seam w.flights (discovery_flight number frame ∷ [])))
       (All-cons (HasSender v) (discovery_flight number frame) [] (found_sender v number frame) (All-nil (HasSender v)))
 
   scans_senders : (number : ℕ) (o : Option Memory) → NewSenders w (scans_by w number o).0
-  scans_senders number None = none_new w (ran w) refl
+  scans_senders number None = none_new w (running_world w) refl
   scans_senders number (Some m) = discovered number (begin_scan m (beside_at w number).scan).sent (scans_by w number (Some m)).0.beside
 
   finds_senders : (number : ℕ) (x : Node) (octets : List ℕ) (link : ℕ) (o : Option Memory) → NewSenders w (discovers_by w number x octets link o).0
-  finds_senders number x octets link None = none_new w (ran w) refl
+  finds_senders number x octets link None = none_new w (running_world w) refl
   finds_senders number x octets link (Some m) = discovered number (hear_discovery x.role m.station (beside_at w number).scan octets link).sent
       (discovers_by w number x octets link (Some m)).0.beside
 
   asks_senders : (number : ℕ) (x : Node) → node_at w number ≡ Some x → (target : Option ℕ) → NewSenders w (asks_by ciphers w number x target).0
-  asks_senders number x there None = none_new w (ran w) refl
+  asks_senders number x there None = none_new w (running_world w) refl
   asks_senders number x there (Some target) =
       let d = reaches x (beside_at w number) (Err asks.Halted) (λ z. ask_path in_memory z target) in
       let did = further_did x (Err asks.Halted) (with_beside (beside_at w number) (λ z. ask_path in_memory z target)) (good_at number x there)
       (λ m here. ask_is AnyUnits (beside_at w number) target m (λ own hop e route. tt)) in
-      one_after ciphers fits w ok flown (ran w) (asks_by ciphers w number x (Some target)).0 number x d refl refl refl refl there (speaks x d did)
+      one_after ciphers fits w ok flown (running_world w) (asks_by ciphers w number x (Some target)).0 number x d refl refl refl refl there (speaks x d did)
 
   spreads_senders : (number : ℕ) (x : Node) → node_at w number ≡ Some x → (datagram : List ℕ) → NewSenders w (broadcasts_by ciphers w number x datagram).0
   spreads_senders number x there datagram =
       let d = reaches x (beside_at w number) (Err broadcasts.Halted) (λ z. broadcast in_memory z datagram) in
       let did = further_did x (Err broadcasts.Halted) (with_beside (beside_at w number) (λ z. broadcast in_memory z datagram)) (good_at number x there)
       (λ m here. broadcast_is AnyUnits (beside_at w number) datagram m (λ own e none. tt)) in
-      one_after ciphers fits w ok flown (ran w) (broadcasts_by ciphers w number x datagram).0 number x d refl refl refl refl there (speaks x d did)
+      one_after ciphers fits w ok flown (running_world w) (broadcasts_by ciphers w number x datagram).0 number x d refl refl refl refl there (speaks x d did)
 
   picks_senders : (number k : ℕ) (x : Node) → node_at w number ≡ Some x → (psk : Option Key) → NewSenders w (chooses_by ciphers w number x k psk).0
-  picks_senders number k x there None = none_new w (ran w) refl
+  picks_senders number k x there None = none_new w (running_world w) refl
   picks_senders number k x there (Some psk) =
       let d : NodeStep (Result ChosenAgent ChooseRefusal) = reaches x (beside_at w number) (Err choices.Halted)
       (λ z. choose_agent (identity ciphers x psk) z k w.clock) in
       let did : DidOk x d = acts_ok x (Err choices.Halted) (with_beside (beside_at w number) (λ z. choose_agent (identity ciphers x psk) z k w.clock))
       (good_at number x there)
       (λ m here kept sized. choice_ok x.role m sized ciphers fits (identity ciphers x psk) refl (beside_at w number) k w.clock) in
-      one_after ciphers fits w ok flown (ran w) (chooses_by ciphers w number x k (Some psk)).0 number x d refl refl refl refl there (speaks x d did)
+      one_after ciphers fits w ok flown (running_world w) (chooses_by ciphers w number x k (Some psk)).0 number x d refl refl refl refl there (speaks x d did)
 
   -- # Octets that were accepted
 
@@ -250,7 +250,7 @@ module _ (ciphers : Ciphers) (fits : KeepsRanges ciphers) (w : World) (ok : Worl
 
     heard_senders : (t : World × Trace) → cost ≤ 255 → IsHeard ciphers w number x octets got cost t → NewSenders w t.0
     heard_senders t low IsUnbelieved = none_new w (unbelieved ciphers w number y octets got).0
-        (ap length (after_silent ciphers (ran w) number (stays y (only said.Blacklisted)) refl))
+        (ap length (after_silent ciphers (running_world w) number (stays y (only answers.Blacklisted)) refl))
     heard_senders t low IsPlain = plainly low
     heard_senders t low (IsCommand c e) = commands_senders c e
     heard_senders t low IsChecked = plainly low

@@ -83,7 +83,7 @@ module _ (w : World) (h : Stands w) (x : Entry) (event : IsEvent x.event) (is : 
         (line_keys_right network network_ranges w h.ok h.speaks.flights h.logs (first_node w given k) x.event event)
 
 module _ (w : World) (before : List Entry) (o : Sound w before) (x : Entry) (event : IsEvent x.event) (is : LeadsTo w x)
-    (honest : x.trace.happened.forged ≡ false) where
+    (honest : x.trace.happenings.forged ≡ false) where
   abbrev h : Stands w
   h = o.stands
 

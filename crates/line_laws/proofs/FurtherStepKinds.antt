@@ -68,7 +68,7 @@ use Rattle.reach_rules.specs.PathAsking.{ask_path}
 use Rattle.reach_rules.specs.ReachingNodes.{Beside, nothing_beside, restarted, restarted_by, tick_beside}
 use Rattle.reach_rules.specs.Receiving.{NeighbourCommand, command_of, command_on, command_with, hear_command as hear_neighbours}
 use Rattle.line_events.specs.declared.event.Answer.{Answer}
-use Rattle.line_events.specs.declared.event.Answer.TheVariants as said
+use Rattle.line_events.specs.declared.event.Answer.TheVariants as answers
 use Rattle.line_events.specs.declared.event.Event.{Event}
 use Rattle.line_events.specs.declared.event.Event.TheVariants as events
 use Rattle.line_events.specs.declared.event.StepFault.{StepFault}
@@ -80,7 +80,7 @@ use Rattle.line_rules.specs.Further.{discovery_flights, commanded, checked, ackn
 use Rattle.line_rules.specs.Further.{unbelieved, heard_by, heard_further, is_dropped, accepted_further, comes, delivers, injects, ticks, after_ok, due}
 use Rattle.line_rules.specs.Further.{with_check, restarts_by, restarts_further, beside_at, reaches, with_beside, of_memory}
 use Rattle.line_rules.specs.Logs.{AreLogged, HaveShortTables, LogIn, LogsKept}
-use Rattle.line_rules.specs.Steps.{Step, set_up, ran, world_after, acted, ticked, flights_of, happened, trace_of, has_begun, takes_setup, once_begun, in_setup}
+use Rattle.line_rules.specs.Steps.{Step, set_up, running_world, world_after, node_outcome, ticked, flights_of, happenings, trace_of, has_begun, takes_setup, once_begun, in_setup}
 use Rattle.line_rules.specs.Steps.{on_node, on_meter, psk_of, identity, on_flight, hears, heard, received, forged_by, note_by, restarts, tick, step}
 use Rattle.line_rules.specs.Worlds.{World, Flight, Trace, node_at, flight_at, is_forged_tag}
 use Rattle.line_rules.proofs.LogSteps.{logged_at}
@@ -160,8 +160,8 @@ pub data Moves (U : List Outgoing → Type 0) (D : Discovery → Type 0) (cipher
 
 -- Nothing of it is forged, handed up, sent, issued or joined, and no pair tag is made or checked.
 pub record IsSilent (t : Trace) : Type 0 where
-  pub forged : t.happened.forged ≡ false
-  pub up : t.happened.up ≡ None
+  pub forged : t.happenings.forged ≡ false
+  pub up : t.happenings.up ≡ None
   pub sent : t.sent ≡ None
   pub issued : t.issued ≡ []
   pub taken : t.taken ≡ None
@@ -171,8 +171,8 @@ pub record IsSilent (t : Trace) : Type 0 where
 
 -- The one event is told as the other, but for its answer, its flights and what is told of further reach.
 pub record SaysTheSame (s t : Trace) : Type 0 where
-  pub forged : t.happened.forged ≡ s.happened.forged
-  pub up : t.happened.up ≡ s.happened.up
+  pub forged : t.happenings.forged ≡ s.happenings.forged
+  pub up : t.happenings.up ≡ s.happenings.up
   pub sent : t.sent ≡ s.sent
   pub issued : t.issued ≡ s.issued
   pub taken : t.taken ≡ s.taken
@@ -188,9 +188,9 @@ pub data IsLineStepBy (Old : Event → Step → Type 1) (U : List Outgoing → T
   -- as without further reach
   Known : (event : Event) (s : Step) → Old event s → IsLineStepBy Old U D ciphers w event s
   -- neighbours are checked from now on
-  Opens : takes_setup w ≡ true → IsLineStepBy Old U D ciphers w events.Checks (Ok (record (set_up w) { checks_on = true }, trace_of (happened w said.Set)))
+  Opens : takes_setup w ≡ true → IsLineStepBy Old U D ciphers w events.Checks (Ok (record (set_up w) { checks_on = true }, trace_of (happenings w answers.Set)))
   -- moves alone
-  Anew : (event : Event) (v : World) (t : Trace) → Moves U D ciphers (ran w) v → IsSilent t → IsLineStepBy Old U D ciphers w event (Ok (v, t))
+  Anew : (event : Event) (v : World) (t : Trace) → Moves U D ciphers (running_world w) v → IsSilent t → IsLineStepBy Old U D ciphers w event (Ok (v, t))
   -- as without further reach, and then moves
   After : (event : Event) (r : World × Trace) (v : World) (t : Trace) → Old event (Ok r) → WorldOk r.0 → r.0.running ≡ true → Moves U D ciphers r.0 v
       → SaysTheSame r.1 t → IsLineStepBy Old U D ciphers w event (Ok (v, t))
@@ -254,7 +254,7 @@ module _ (U : List Outgoing → Type 0) {A : Type 0} (x : Node) (halted : A) (do
       by_memory None e = (refl, refl)
       by_memory (Some m) e = by_outcome m (is m e)
 
-same_said_of : (s t : Trace) → t.happened.forged ≡ s.happened.forged → t.happened.up ≡ s.happened.up → t.sent ≡ s.sent → t.issued ≡ s.issued → t.taken ≡ s.taken
+same_said_of : (s t : Trace) → t.happenings.forged ≡ s.happenings.forged → t.happenings.up ≡ s.happenings.up → t.sent ≡ s.sent → t.issued ≡ s.issued → t.taken ≡ s.taken
     → t.done ≡ s.done → t.made ≡ s.made → t.opened ≡ s.opened → SaysTheSame s t
 same_said_of s t a b c d e f g h = record { forged = a; up = b; sent = c; issued = d; taken = e; done = f; made = g; opened = h }
 
@@ -296,10 +296,10 @@ module _ (U : List Outgoing → Type 0) (D : Discovery → Type 0) (ciphers : Ci
       (λ x e. branch event x.lost (Err faults.Flight) (f x) (λ _. failed event faults.Flight) (λ _. h x e)) (failed event faults.Flight)
 
   -- nothing is done
-  rests : (event : Event) (t : Trace) → IsSilent t → Is event (Ok (ran w, t))
-  rests event t s = Anew event (ran w) t (Stays (ran w)) s
+  rests : (event : Event) (t : Trace) → IsSilent t → Is event (Ok (running_world w, t))
+  rests event t s = Anew event (running_world w) t (Stays (running_world w)) s
 
-  silent : (answer : Answer) → IsSilent (trace_of (happened w answer))
+  silent : (answer : Answer) → IsSilent (trace_of (happenings w answer))
   silent answer = record { forged = refl; up = refl; sent = refl; issued = refl; taken = refl; done = refl; made = refl; opened = refl }
 
   checks_step : Is events.Checks (checks w)
@@ -311,20 +311,20 @@ module _ (U : List Outgoing → Type 0) (D : Discovery → Type 0) (ciphers : Ci
   bcast_step number datagram are = once _ _ (at_node _ number _ (λ x there.
       let is = λ (m : Memory) (e : x.memory ≡ Some m). speaks.broadcasts number x m datagram are there e in
       let n = makes_none U x (Err broadcasts.Halted) (with_beside (beside_at w number) (λ y. broadcast in_memory y datagram)) is in
-      let v : World = world_after ciphers (ran w) number (reaches x (beside_at w number) (Err broadcasts.Halted) (λ y. broadcast in_memory y datagram)) in
+      let v : World = world_after ciphers (running_world w) number (reaches x (beside_at w number) (Err broadcasts.Halted) (λ y. broadcast in_memory y datagram)) in
       Anew _ (broadcasts_by ciphers w number x datagram).0 (broadcasts_by ciphers w number x datagram).1
-      (Turns (ran w) v _ (Carries (ran w) number x _ (Err broadcasts.Halted) (with_beside (beside_at w number) (λ y. broadcast in_memory y datagram)) there is)
+      (Turns (running_world w) v _ (Carries (running_world w) number x _ (Err broadcasts.Halted) (with_beside (beside_at w number) (λ y. broadcast in_memory y datagram)) there is)
       (Besides v v.checks_on (broadcasts_by ciphers w number x datagram).0.beside))
       (record { forged = refl; up = refl; sent = refl; issued = refl; taken = refl; done = refl; made = n.0; opened = n.1 })))
 
   asks_step : (from to : ℕ) (x : Node) → node_at w from ≡ Some x → (target : Option ℕ) → Is (events.Path from to) (Ok (asks_by ciphers w from x target))
-  asks_step from to x there None = rests _ _ (silent said.NoAddress)
+  asks_step from to x there None = rests _ _ (silent answers.NoAddress)
   asks_step from to x there (Some target) =
       let is = λ (m : Memory) (e : x.memory ≡ Some m). speaks.asks from x m target there e in
       let n = makes_none U x (Err asks.Halted) (with_beside (beside_at w from) (λ y. ask_path in_memory y target)) is in
-      let v : World = world_after ciphers (ran w) from (reaches x (beside_at w from) (Err asks.Halted) (λ y. ask_path in_memory y target)) in
+      let v : World = world_after ciphers (running_world w) from (reaches x (beside_at w from) (Err asks.Halted) (λ y. ask_path in_memory y target)) in
       Anew _ (asks_by ciphers w from x (Some target)).0 (asks_by ciphers w from x (Some target)).1
-      (Turns (ran w) v _ (Carries (ran w) from x _ (Err asks.Halted) (with_beside (beside_at w from) (λ y. ask_path in_memory y target)) there is)
+      (Turns (running_world w) v _ (Carries (running_world w) from x _ (Err asks.Halted) (with_beside (beside_at w from) (λ y. ask_path in_memory y target)) there is)
       (Besides v v.checks_on (asks_by ciphers w from x (Some target)).0.beside))
       (record { forged = refl; up = refl; sent = refl; issued = refl; taken = refl; done = refl; made = n.0; opened = n.1 })
 
@@ -336,17 +336,17 @@ module _ (U : List Outgoing → Type 0) (D : Discovery → Type 0) (ciphers : Ci
       → (word : A → Answer) (noticed : A → Option Noticed) (d : Discovering A) → ((frame : Discovery) → d.sent ≡ Some frame → D frame)
       → Is event (Ok (has_discovered w number word noticed d))
   discovered_step event number x there word noticed d known = by_sent d.sent known (has_discovered w number word noticed d).0.beside
-      (record (trace_of (record (happened w (word d.answer)) { flights = length (discovery_flights number d.sent) }))
+      (record (trace_of (record (happenings w (word d.answer)) { flights = length (discovery_flights number d.sent) }))
       { further = record nothing_further { noticed = noticed d.answer } })
       (record { forged = refl; up = refl; sent = refl; issued = refl; taken = refl; done = refl; made = refl; opened = refl })
     where
       by_sent : (o : Option Discovery) → ((frame : Discovery) → o ≡ Some frame → D frame) → (bs : List Beside) (t : Trace) → IsSilent t
-          → Is event (Ok (record (ran w) { flights = w.flights ++ discovery_flights number o; beside = bs }, t))
-      by_sent None known bs t s = subst (λ fs. Is event (Ok (record (ran w) { flights = fs; beside = bs }, t))) (sym (append-nil w.flights))
-          (Anew event (record (ran w) { beside = bs }) t (Besides (ran w) w.checks_on bs) s)
-      by_sent (Some frame) known bs t s = Anew event (record (ran w) { flights = w.flights ++ discovery_flights number (Some frame); beside = bs }) t
-          (Turns (ran w) (flown_world number frame (ran w)) _ (Flies (ran w) number x frame there (known frame refl))
-          (Besides (flown_world number frame (ran w)) w.checks_on bs)) s
+          → Is event (Ok (record (running_world w) { flights = w.flights ++ discovery_flights number o; beside = bs }, t))
+      by_sent None known bs t s = subst (λ fs. Is event (Ok (record (running_world w) { flights = fs; beside = bs }, t))) (sym (append-nil w.flights))
+          (Anew event (record (running_world w) { beside = bs }) t (Besides (running_world w) w.checks_on bs) s)
+      by_sent (Some frame) known bs t s = Anew event (record (running_world w) { flights = w.flights ++ discovery_flights number (Some frame); beside = bs }) t
+          (Turns (running_world w) (flown_world number frame (running_world w)) _ (Flies (running_world w) number x frame there (known frame refl))
+          (Besides (flown_world number frame (running_world w)) w.checks_on bs)) s
 
   request_known : (m : Memory) (frame : Discovery) (scan : Scanned) → (begin_scan m scan).sent ≡ Some frame → D frame
   request_known m frame scan e = by_joined (meters.is_joined m) scan e
@@ -358,7 +358,7 @@ module _ (U : List Outgoing → Type 0) (D : Discovery → Type 0) (ciphers : Ci
       by_joined false scan is = subst D (same_Some _ _ is) speaks.scans
 
   scans_step : (number : ℕ) (x : Node) → node_at w number ≡ Some x → (o : Option Memory) → Is (events.Scan number) (Ok (scans_by w number o))
-  scans_step number x there None = rests _ _ (silent said.Halted)
+  scans_step number x there None = rests _ _ (silent answers.Halted)
   scans_step number x there (Some m) = discovered_step _ number x there scan_word (scanning number) (begin_scan m (beside_at w number).scan)
       (λ frame e. request_known m frame (beside_at w number).scan e)
 
@@ -368,7 +368,7 @@ module _ (U : List Outgoing → Type 0) (D : Discovery → Type 0) (ciphers : Ci
 
   chooses_step : (number k : ℕ) (x : Node) → number ≢ 0 → node_at w number ≡ Some x → (psk : Option Key) → psk_of x ≡ psk
       → Is (events.Choose number k) (Ok (chooses_by ciphers w number x k psk))
-  chooses_step number k x ne there None e = rests _ _ (silent said.NoBeacon)
+  chooses_step number k x ne there None e = rests _ _ (silent answers.NoBeacon)
   chooses_step number k x ne there (Some psk) e = Chooses number k x psk ne there e
 
   choose_step : (number k : ℕ) → Is (events.Choose number k) (choose ciphers w number k)
@@ -380,12 +380,12 @@ module _ (U : List Outgoing → Type 0) (D : Discovery → Type 0) (ciphers : Ci
   ticks_step seconds says = by_start (has_begun w) (tick_good ciphers fits w ok flown_are seconds) (old (events.Tick seconds) says)
     where
       r : World × Trace
-      r = (record (ran w) { clock = w.clock + seconds; nodes = map (ticked (w.clock + seconds)) w.nodes }, trace_of (happened w said.Ticked))
+      r = (record (running_world w) { clock = w.clock + seconds; nodes = map (ticked (w.clock + seconds)) w.nodes }, trace_of (happenings w answers.Ticked))
 
       as_before : Bool → Step
       as_before b = if b then Ok (
-        record (ran w) { clock = w.clock + seconds; nodes = map (ticked (w.clock + seconds)) w.nodes },
-        trace_of (happened w said.Ticked),
+        record (running_world w) { clock = w.clock + seconds; nodes = map (ticked (w.clock + seconds)) w.nodes },
+        trace_of (happenings w answers.Ticked),
       ) else Err faults.Setup
 
       taken : (r : World × Trace) → StepGood w (Ok r) → WorldOk r.0
@@ -398,15 +398,15 @@ module _ (U : List Outgoing → Type 0) (D : Discovery → Type 0) (ciphers : Ci
           After _ r (record r.0 { beside = map (tick_beside (w.clock + seconds)) w.beside }) r.1 known (taken r g) refl
           (Besides r.0 w.checks_on (map (tick_beside (w.clock + seconds)) w.beside)) (same_said_of r.1 r.1 refl refl refl refl refl refl refl refl)
 
-  restarts_step : (number : ℕ) (x : Node) → node_at w number ≡ Some x → Old (events.Restart number) (Ok (acted ciphers w number (restarts x)))
+  restarts_step : (number : ℕ) (x : Node) → node_at w number ≡ Some x → Old (events.Restart number) (Ok (node_outcome ciphers w number (restarts x)))
       → (o : Result Beside BadStore) → restarted x.store.records ≡ o
       → Is (events.Restart number) (Ok (restarts_by ciphers w number x o))
   unfolding world_after
   restarts_step number x there known (Err bad) e = absurd (restarts_read ciphers w logs number x there bad e)
   restarts_step number x there known (Ok b) e =
-      let r : World × Trace = acted ciphers w number (restarts x) in
+      let r : World × Trace = node_outcome ciphers w number (restarts x) in
       After _ r (restarts_by ciphers w number x (Ok b)).0 r.1 known
-      (ok_after ciphers fits (ran w) number x (restarts x) (steps_ran_ok ciphers fits w ok flown_are) there
+      (ok_after ciphers fits (running_world w) number x (restarts x) (steps_ran_ok ciphers fits w ok flown_are) there
       (restarts_ok x (at_place NodeOk w.nodes number x there ok.nodes)) (λ e. absurd (true_false e))) refl
       (Besides r.0 r.0.checks_on (restarts_by ciphers w number x (Ok b)).0.beside) (same_said_of r.1 r.1 refl refl refl refl refl refl refl refl)
 
@@ -415,7 +415,7 @@ module _ (U : List Outgoing → Type 0) (D : Discovery → Type 0) (ciphers : Ci
   restart_step number says = by_node (has_begun w) (node_at w number) refl (old (events.Restart number) says)
     where
       by_node : (b : Bool) (o : Option Node) → node_at w number ≡ o
-          → Old (events.Restart number) (if b then option_map_or (λ x. Ok (acted ciphers w number (restarts x))) o (Err faults.Node) else Err faults.Setup)
+          → Old (events.Restart number) (if b then option_map_or (λ x. Ok (node_outcome ciphers w number (restarts x))) o (Err faults.Node) else Err faults.Setup)
           → Is (events.Restart number) (if b then option_map_or (λ x. Ok (restarts_by ciphers w number x (restarted x.store.records))) o (Err faults.Node) else
           Err faults.Setup)
       by_node false o e known = failed _ faults.Setup
@@ -508,7 +508,7 @@ module _ (U : List Outgoing → Type 0) (D : Discovery → Type 0) (ciphers : Ci
 
   discovers_step : (event : Event) (number : ℕ) (x : Node) → node_at w number ≡ Some x → (octets : List ℕ) (link : ℕ) (o : Option Memory) → x.memory ≡ o
       → Is event (Ok (discovers_by w number x octets link o))
-  discovers_step event number x there octets link None here = rests _ _ (silent said.Halted)
+  discovers_step event number x there octets link None here = rests _ _ (silent answers.Halted)
   discovers_step event number x there octets link (Some m) here = discovered_step event number x there discovery_word
       (beacon_taken number (discovery_in octets) link) (hear_discovery x.role m.station (beside_at w number).scan octets link)
       (λ frame e. speaks.beacons number x m octets link frame there here e)
@@ -669,12 +669,12 @@ module _ (U : List Outgoing → Type 0) (D : Discovery → Type 0) (ciphers : Ci
   pub every_line_flight : (w : World) (event : Event) (s : Step) → IsLineStep U D ciphers w event s → All P w.flights → AllOf ciphers P sent lost s
   every_line_flight w event s (Known e t is) all = every_flight ciphers P sent lost w event s is all
   every_line_flight w event s (Opens begun) all = all
-  every_line_flight w event s (Anew e v t moves silent) all = moved_all (ran w) v moves all
+  every_line_flight w event s (Anew e v t moves silent) all = moved_all (running_world w) v moves all
   every_line_flight w event s (After e r v t is good runs moves same_words) all = moved_all r.0 v moves (every_flight ciphers P sent lost w event (Ok r) is all)
   every_line_flight w event s (Unsends e r v t is good runs moves same_words) all = all
   every_line_flight w event s (Unbelieves e number x octets got there says comes is) all =
-      after_all ciphers P sent lost (ran w) number (stays (accepting ciphers x octets).node (only said.Blacklisted)) all
-  every_line_flight w event s (Chooses number k x psk ne there e) all = after_all ciphers P sent lost (ran w) number
+      after_all ciphers P sent lost (running_world w) number (stays (accepting ciphers x octets).node (only answers.Blacklisted)) all
+  every_line_flight w event s (Chooses number k x psk ne there e) all = after_all ciphers P sent lost (running_world w) number
       (reaches x (beside_at w number) (Err choices.Halted) (λ y. choose_agent (identity ciphers x psk) y k w.clock)) all
 
 found_spelled : (ciphers : Ciphers) (number : ℕ) (frame : Discovery) → IsDiscovery frame → IsSpelled ciphers (discovery_flight number frame)
@@ -714,7 +714,7 @@ module _ (U : List Outgoing → Type 0) (D : Discovery → Type 0) (ciphers : Ci
   )
   moved_ok v u (Flies z number x frame there known) ok runs = (
     counts_ok
-        (record (ran v) { flights = v.flights ++ discovery_flight number frame ∷ []; beside = v.beside }) (flown_world number frame v)
+        (record (running_world v) { flights = v.flights ++ discovery_flight number frame ∷ []; beside = v.beside }) (flown_world number frame v)
         (flown_ok v ok number x there frame v.beside) refl refl (λ e. absurd (true_false (sym runs ∙ e))),
     runs,
   )
@@ -735,7 +735,7 @@ module _ (U : List Outgoing → Type 0) (D : Discovery → Type 0) (ciphers : Ci
       let m = moved_ok v between first ok runs in moved_follows w between u (moved_follows w v between f first ok runs) rest m.0 m.1
 
   module _ (w : World) (ok : WorldOk w) (flown_are : All FlightFits w.flights) where
-    ran_good : WorldOk (ran w)
+    ran_good : WorldOk (running_world w)
     ran_good = steps_ran_ok ciphers fits w ok flown_are
 
     -- a node that accepted octets and did nothing more
@@ -749,7 +749,7 @@ module _ (U : List Outgoing → Type 0) (D : Discovery → Type 0) (ciphers : Ci
     pub line_follows : (event : Event) (s : Step) → IsLineStep U D ciphers w event s → FollowsIn ciphers fits w ok flown_are s
     line_follows event s (Known e t is) = follows ciphers fits w ok flown_are event s is
     line_follows event s (Opens begun) = same_follows w _ refl
-    line_follows event s (Anew e v t moves silent) = moved_follows w (ran w) v (same_follows w (ran w) refl) moves ran_good refl
+    line_follows event s (Anew e v t moves silent) = moved_follows w (running_world w) v (same_follows w (running_world w) refl) moves ran_good refl
     line_follows event s (After e r v t is good runs moves same_words) = moved_follows w r.0 v (follows ciphers fits w ok flown_are event (Ok r) is) moves good runs
     line_follows event s (Unsends e r v t is good runs moves same_words) =
         let f = moved_follows w r.0 v (follows ciphers fits w ok flown_are event (Ok r) is) moves good runs in
@@ -757,17 +757,17 @@ module _ (U : List Outgoing → Type 0) (D : Discovery → Type 0) (ciphers : Ci
     line_follows event s (Unbelieves e number x octets got there says comes is) =
         let y : Node = (accepting ciphers x octets).node in
         let first = accepted_did event number x octets there says comes in
-        let did : DidOk x (stays y (only said.Blacklisted)) = did_on x (accepting ciphers x octets) (stays y (only said.Blacklisted)) first
-        (rests_ok y (only said.Blacklisted) first.node) in
-        after_follows w (ran w) _ number x (stays y (only said.Blacklisted)) (same_follows w (ran w) refl) there
-        (after_nodes ciphers (ran w) number (stays y (only said.Blacklisted))) (of_did x (stays y (only said.Blacklisted)) did)
+        let did : DidOk x (stays y (only answers.Blacklisted)) = did_on x (accepting ciphers x octets) (stays y (only answers.Blacklisted)) first
+        (rests_ok y (only answers.Blacklisted) first.node) in
+        after_follows w (running_world w) _ number x (stays y (only answers.Blacklisted)) (same_follows w (running_world w) refl) there
+        (after_nodes ciphers (running_world w) number (stays y (only answers.Blacklisted))) (of_did x (stays y (only answers.Blacklisted)) did)
     line_follows event s (Chooses number k x psk ne there e) =
         let d : NodeStep (Result ChosenAgent ChooseRefusal) = reaches x (beside_at w number) (Err choices.Halted)
         (λ y. choose_agent (identity ciphers x psk) y k w.clock) in
         let did : DidOk x d = acts_ok x (Err choices.Halted) (with_beside (beside_at w number) (λ y. choose_agent (identity ciphers x psk) y k w.clock))
         (at_place NodeOk w.nodes number x there ok.nodes)
         (λ m here kept sized. choice_ok x.role m sized ciphers fits (identity ciphers x psk) refl (beside_at w number) k w.clock) in
-        after_follows w (ran w) _ number x d (same_follows w (ran w) refl) there (after_nodes ciphers (ran w) number d) (of_did x d did)
+        after_follows w (running_world w) _ number x d (same_follows w (running_world w) refl) there (after_nodes ciphers (running_world w) number d) (of_did x d did)
 
 rises_in : (ciphers : Ciphers) (fits : KeepsRanges ciphers) (w : World) (ok : WorldOk w) (flown_are : All FlightFits w.flights) (s : Step)
     → FollowsIn ciphers fits w ok flown_are s → RisesIn w s

@@ -68,7 +68,7 @@ use Rattle.reach_rules.specs.PathAsking.{ask_path}
 use Rattle.reach_rules.specs.ReachingNodes.{Beside, nothing_beside, restarted, restarted_by, tick_beside}
 use Rattle.reach_rules.specs.Receiving.{NeighbourCommand, command_of, command_on, command_with, hear_command as hear_neighbours}
 use Rattle.line_events.specs.declared.event.Answer.{Answer}
-use Rattle.line_events.specs.declared.event.Answer.TheVariants as said
+use Rattle.line_events.specs.declared.event.Answer.TheVariants as answers
 use Rattle.line_events.specs.declared.event.Event.{Event}
 use Rattle.line_events.specs.declared.event.Event.TheVariants as events
 use Rattle.line_events.specs.declared.event.StepFault.{StepFault}
@@ -80,7 +80,7 @@ use Rattle.line_rules.specs.Further.{discovery_flights, commanded, checked, ackn
 use Rattle.line_rules.specs.Further.{unbelieved, heard_by, heard_further, is_dropped, accepted_further, comes, delivers, injects, ticks, after_ok, due}
 use Rattle.line_rules.specs.Further.{with_check, restarts_by, restarts_further, beside_at, reaches, with_beside, of_memory}
 use Rattle.line_rules.specs.Logs.{AreLogged, HaveShortTables, LogIn, LogsKept}
-use Rattle.line_rules.specs.Steps.{Step, set_up, ran, world_after, flights_of, happened, trace_of, has_begun, takes_setup, once_begun, in_setup, on_node}
+use Rattle.line_rules.specs.Steps.{Step, set_up, running_world, world_after, flights_of, happenings, trace_of, has_begun, takes_setup, once_begun, in_setup, on_node}
 use Rattle.line_rules.specs.Steps.{on_meter}
 use Rattle.line_rules.specs.Steps.{psk_of, identity, on_flight, hears, heard, received, forged_by, note_by, restarts, tick, step}
 use Rattle.line_rules.specs.Worlds.{World, Flight, Trace, node_at, flight_at, is_forged_tag}
@@ -343,7 +343,7 @@ module _ (ciphers : Ciphers) (fits : KeepsRanges ciphers) (w : World) (ok : Worl
   at_meter : (number : ℕ) (f : Node → Step) → ((x : Node) → node_at w number ≡ Some x → StepGood w (f x)) → StepGood w (on_meter w number f)
   at_meter number f h = steps.at_meter ciphers fits w ok flown number f h
 
-  ran_ok : WorldOk (ran w)
+  ran_ok : WorldOk (running_world w)
   ran_ok = steps.ran_ok ciphers fits w ok flown
 
   node_ok : (number : ℕ) (x : Node) → node_at w number ≡ Some x → NodeOk x
@@ -356,7 +356,7 @@ module _ (ciphers : Ciphers) (fits : KeepsRanges ciphers) (w : World) (ok : Worl
   checks_good : StepGood w (checks w)
   unfolding checks
   checks_good = steps.setup ciphers fits w ok flown _ (steps.branch ciphers fits w ok flown w.checks_on (Err faults.Setup)
-      (Ok (record (set_up w) { checks_on = true }, trace_of (happened w said.Set))) (λ _. Fails faults.Setup)
+      (Ok (record (set_up w) { checks_on = true }, trace_of (happenings w answers.Set))) (λ _. Fails faults.Setup)
       (λ _. Taken _ (counts_ok w (record (set_up w) { checks_on = true }) ok refl refl (λ e. e)) zero-le
       (none_more w (record (set_up w) { checks_on = true }) refl)))
 
@@ -365,14 +365,14 @@ module _ (ciphers : Ciphers) (fits : KeepsRanges ciphers) (w : World) (ok : Worl
   bcast_good number datagram = once _ (at_node number _ (λ x there.
       let h = (calls_keep ciphers fits w ok number x there).0 datagram in
       Taken (broadcasts_by ciphers w number x datagram) h.0 h.1
-      (after_more ciphers (ran w) number (reaches x (beside_at w number) (Err broadcasts.Halted) (λ y. broadcast in_memory y datagram)))))
+      (after_more ciphers (running_world w) number (reaches x (beside_at w number) (Err broadcasts.Halted) (λ y. broadcast in_memory y datagram)))))
 
   asks_good : (number : ℕ) (x : Node) → node_at w number ≡ Some x → (target : Option ℕ) → StepGood w (Ok (asks_by ciphers w number x target))
-  asks_good number x there None = Taken _ ran_ok zero-le (none_more w (ran w) refl)
+  asks_good number x there None = Taken _ ran_ok zero-le (none_more w (running_world w) refl)
   asks_good number x there (Some target) =
       let h = (calls_keep ciphers fits w ok number x there).1 (Some target) in
       Taken (asks_by ciphers w number x (Some target)) h.0 h.1
-      (after_more ciphers (ran w) number (reaches x (beside_at w number) (Err asks.Halted) (λ y. ask_path in_memory y target)))
+      (after_more ciphers (running_world w) number (reaches x (beside_at w number) (Err asks.Halted) (λ y. ask_path in_memory y target)))
 
   path_good : (from to : ℕ) → StepGood w (path ciphers w from to)
   unfolding path
@@ -382,7 +382,7 @@ module _ (ciphers : Ciphers) (fits : KeepsRanges ciphers) (w : World) (ok : Worl
   scans_good number x there = by_memory x.memory (discovery_keeps w ok number x there).0
     where
       by_memory : (o : Option Memory) → LineHolds (scans_by w number o) → StepGood w (Ok (scans_by w number o))
-      by_memory None h = Taken _ h.0 h.1 (none_more w (ran w) refl)
+      by_memory None h = Taken _ h.0 h.1 (none_more w (running_world w) refl)
       by_memory (Some m) h = Taken _ h.0 h.1 (length-append w.flights (discovery_flights number (begin_scan m (beside_at w number).scan).sent))
 
   scan_good : (number : ℕ) → StepGood w (scan w number)
@@ -394,21 +394,21 @@ module _ (ciphers : Ciphers) (fits : KeepsRanges ciphers) (w : World) (ok : Worl
   discovers_good number x there octets link = by_memory x.memory ((discovery_keeps w ok number x there).1 octets link)
     where
       by_memory : (o : Option Memory) → LineHolds (discovers_by w number x octets link o) → StepGood w (Ok (discovers_by w number x octets link o))
-      by_memory None h = Taken _ h.0 h.1 (none_more w (ran w) refl)
+      by_memory None h = Taken _ h.0 h.1 (none_more w (running_world w) refl)
       by_memory (Some m) h =
           Taken _ h.0 h.1 (length-append w.flights (discovery_flights number (hear_discovery x.role m.station (beside_at w number).scan octets link).sent))
 
   chooses_good : (number : ℕ) (x : Node) → node_at w number ≡ Some x → (k : ℕ) (psk : Option Key) → StepGood w (Ok (chooses_by ciphers w number x k psk))
-  chooses_good number x there k None = Taken _ ran_ok zero-le (none_more w (ran w) refl)
+  chooses_good number x there k None = Taken _ ran_ok zero-le (none_more w (running_world w) refl)
   chooses_good number x there k (Some psk) =
       let d : NodeStep (Result ChosenAgent ChooseRefusal) = reaches x (beside_at w number) (Err choices.Halted)
       (λ y. choose_agent (identity ciphers x psk) y k w.clock) in
       let did : DidOk x d = acts_ok x (Err choices.Halted) (with_beside (beside_at w number) (λ y. choose_agent (identity ciphers x psk) y k w.clock))
       (node_ok number x there)
       (λ m here kept sized. choice_ok x.role m sized ciphers fits (identity ciphers x psk) refl (beside_at w number) k w.clock) in
-      let v : World = world_after ciphers (ran w) number d in
+      let v : World = world_after ciphers (running_world w) number d in
       Taken (chooses_by ciphers w number x k (Some psk)) (counts_ok v (chooses_by ciphers w number x k (Some psk)).0
-      (ok_after ciphers fits (ran w) number x d ran_ok there did (λ e. absurd (true_false e))) refl refl (λ e. e)) did.few (after_more ciphers (ran w) number d)
+      (ok_after ciphers fits (running_world w) number x d ran_ok there did (λ e. absurd (true_false e))) refl refl (λ e. e)) did.few (after_more ciphers (running_world w) number d)
 
   choose_good : (number k : ℕ) → StepGood w (choose ciphers w number k)
   unfolding choose
@@ -445,11 +445,11 @@ module _ (ciphers : Ciphers) (fits : KeepsRanges ciphers) (w : World) (ok : Worl
 
       pub heard_ok : WorldOk r.0
       heard_ok =
-          counts_ok (world_after ciphers (ran w) number d) r.0 (ok_after ciphers fits (ran w) number x d ran_ok there heard_did (λ e. absurd (true_false e)))
+          counts_ok (world_after ciphers (running_world w) number d) r.0 (ok_after ciphers fits (running_world w) number x d ran_ok there heard_did (λ e. absurd (true_false e)))
           refl refl (λ e. e)
 
       heard_good : StepGood w (Ok r)
-      heard_good = Taken r heard_ok heard_did.few (after_more ciphers (ran w) number d)
+      heard_good = Taken r heard_ok heard_did.few (after_more ciphers (running_world w) number d)
 
       now_there : node_at r.0 number ≡ Some d.node
       unfolding world_after
@@ -475,11 +475,11 @@ module _ (ciphers : Ciphers) (fits : KeepsRanges ciphers) (w : World) (ok : Worl
       commanded_good : (c : NeighbourCommand) → command_of got ≡ Some c → StepGood w (Ok (commanded ciphers number d.node c r))
       commanded_good c e =
           let none : d.frames ≡ [] = command_silent ciphers y got cost (note_by w octets got.path) w.clock c e y.role in
-          let silent : r.1.happened.flights ≡ 0 = ap length none in
+          let silent : r.1.happenings.flights ≡ 0 = ap length none in
           let h : LineHolds (commanded ciphers number d.node c r) = commands_keep ciphers fits r heard_ok goes_on silent number d.node now_there fits_now c in
           let more = after_more ciphers r.0 number
           (reaches d.node (beside_at r.0 number) (Err (reach_drops.Known drops.Store)) (λ z. hear_neighbours in_memory z c)) in
-          let first_more : length r.0.flights ≡ length w.flights + length d.frames = after_more ciphers (ran w) number d in
+          let first_more : length r.0.flights ≡ length w.flights + length d.frames = after_more ciphers (running_world w) number d in
           Taken (commanded ciphers number d.node c r) h.0 h.1 (omega arith)
 
       -- a reply that is acknowledged sends little
@@ -505,7 +505,7 @@ module _ (ciphers : Ciphers) (fits : KeepsRanges ciphers) (w : World) (ok : Worl
       with_ok = counts_ok r.0 with_it.0 heard_ok refl refl (λ e. e)
 
       first_more : length with_it.0.flights ≡ length w.flights + length d.frames
-      first_more = after_more ciphers (ran w) number d
+      first_more = after_more ciphers (running_world w) number d
 
       acknowledged_good : (reply : Reply) → length d.frames ≤ 22 → StepGood w (Ok (acknowledged ciphers w number (acknowledging d.node reply) with_it))
       unfolding world_after
@@ -540,7 +540,7 @@ module _ (ciphers : Ciphers) (fits : KeepsRanges ciphers) (w : World) (ok : Worl
       checked_good = by_due (due got.path (message_of got) d.answer.answer) refl
         where
           by_due : (o : Option Reply) → due got.path (message_of got) d.answer.answer ≡ o → StepGood w (Ok (acknowledged_if ciphers w number d.node o with_it))
-          by_due None e = Taken with_it with_ok heard_did.few (after_more ciphers (ran w) number d)
+          by_due None e = Taken with_it with_ok heard_did.few (after_more ciphers (running_world w) number d)
           by_due (Some reply) e = acknowledged_good reply (due_few got.path (message_of got) d.answer.answer reply refl refl e)
 
       heard_by_good : (o : Option NeighbourCommand) → command_of got ≡ o → StepGood w (Ok (heard_by ciphers w number y octets got cost o))
@@ -556,8 +556,8 @@ module _ (ciphers : Ciphers) (fits : KeepsRanges ciphers) (w : World) (ok : Worl
         where
           by_dropped : (b : Bool) → StepGood w
               (Ok (if b then unbelieved ciphers w number y octets got else heard_by ciphers w number y octets got cost (command_of got)))
-          by_dropped true = steps.received_good ciphers fits w ok flown number x (forged_by w octets got.path) (stays y (only said.Blacklisted)) there
-              (and_then (stays y (only said.Blacklisted)) (rests_ok y (only said.Blacklisted) good))
+          by_dropped true = steps.received_good ciphers fits w ok flown number x (forged_by w octets got.path) (stays y (only answers.Blacklisted)) there
+              (and_then (stays y (only answers.Blacklisted)) (rests_ok y (only answers.Blacklisted) good))
           by_dropped false = heard_by_good (command_of got) refl
 
   comes_good : (number : ℕ) (x : Node) (octets : List ℕ) (cost : ℕ) → node_at w number ≡ Some x → AreOctets octets
@@ -584,8 +584,8 @@ module _ (ciphers : Ciphers) (fits : KeepsRanges ciphers) (w : World) (ok : Worl
       by_answer : (r : Result Accepted FrameRefusal) → first.answer ≡ r → StepGood w (Ok (accepted_further ciphers w number octets cost first))
       by_answer (Err reason) e =
           let k : NodeStep (Result Accepted FrameRefusal) = record first { answer = Err reason } in
-          rw e (Taken (world_after ciphers (ran w) number k, trace_of (happened w (frame_word reason)))
-          (ok_after ciphers fits (ran w) number x k ran_ok there (record {
+          rw e (Taken (world_after ciphers (running_world w) number k, trace_of (happenings w (frame_word reason)))
+          (ok_after ciphers fits (running_world w) number x k ran_ok there (record {
             node = did.node;
             role = did.role;
             eui = did.eui;
@@ -594,7 +594,7 @@ module _ (ciphers : Ciphers) (fits : KeepsRanges ciphers) (w : World) (ok : Worl
             from = did.from;
             marked = did.marked;
           }) (λ e. absurd (true_false e))) zero-le
-          (after_none ciphers (ran w) number k
+          (after_none ciphers (running_world w) number k
           (acts_quiet x (Err frames.Halted) plan (λ m. accept_quiet m.station _ _ (accept_is m.station x.eui (arrived ciphers octets))))))
       by_answer (Ok got) e =
           rw e (further_good number x first.node there first refl did (λ m here. acts_down x (Err frames.Halted) plan m here) octets got cost (routes got e))

@@ -23,11 +23,11 @@ use Rattle.reach_rules.specs.Beacons.{ChosenAgent, choose_agent, choosing_ends, 
 use Rattle.reach_rules.specs.ReachingNodes.{Beside}
 use Rattle.node_rules.specs.Drafts.{choose as choose_plan}
 use Rattle.line_rules.specs.Answers.{only}
-use Rattle.line_events.specs.declared.event.Answer.TheVariants as said
+use Rattle.line_events.specs.declared.event.Answer.TheVariants as answers
 use Rattle.line_events.specs.declared.event.Event.{Event}
 use Rattle.line_rules.specs.Forgery.{accepting}
 use Rattle.line_rules.specs.Further.{line_step, chooses_by, sends_nothing, beside_at, of_memory, reaches, with_beside}
-use Rattle.line_rules.specs.Steps.{Step, ran, set_up, world_after, identity}
+use Rattle.line_rules.specs.Steps.{Step, running_world, set_up, world_after, identity}
 use Rattle.line_rules.specs.Worlds.{World, Sending, node_at}
 use Rattle.line_laws.specs.LineAccounts.{LineTagsRise, TagsIn}
 use Rattle.line_laws.specs.Keyed.{Each}
@@ -159,8 +159,8 @@ module _ (U : List Outgoing → Type 0) (D : Discovery → Type 0) (ciphers : Ci
       (event_tags ciphers fits w ok event (Ok r) is, q.adds.events)
   old_tags event (Err fault) is = tt
 
-  ran_tags : StepTags w (ran w) None
-  ran_tags = record { nodes = same_moved ciphers w; more = omega arith; took = none_took w (ran w) }
+  ran_tags : StepTags w (running_world w) None
+  ran_tags = record { nodes = same_moved ciphers w; more = omega arith; took = none_took w (running_world w) }
 
   -- what else changes is of no account
   as_sent : (v u : World) (sent : Option Sending) → StepTags w v sent → u.nodes ≡ v.nodes → StepTags w u sent
@@ -176,20 +176,20 @@ module _ (U : List Outgoing → Type 0) (D : Discovery → Type 0) (ciphers : Ci
   }
 
   chooses_tags : (number k : ℕ) (x : Node) (own : meters.Identity) → node_at w number ≡ Some x
-      → StepTags w (world_after ciphers (ran w) number (reaches x (beside_at w number) (Err choices.Halted) (λ y. choose_agent own y k w.clock))) None
+      → StepTags w (world_after ciphers (running_world w) number (reaches x (beside_at w number) (Err choices.Halted) (λ y. choose_agent own y k w.clock))) None
   chooses_tags number k x own there =
       let d : NodeStep (Result ChosenAgent ChooseRefusal) = reaches x (beside_at w number) (Err choices.Halted) (λ y. choose_agent own y k w.clock) in
       let leaves = acts_leave x (Err choices.Halted) (with_beside (beside_at w number) (λ y. choose_agent own y k w.clock))
       (λ m here. choice_away m own (beside_at w number) k w.clock) in
-      then_kept w (ran w) (world_after ciphers (ran w) number d) None None ran_tags (after_kept ciphers (ran w) number x d there leaves) refl
+      then_kept w (running_world w) (world_after ciphers (running_world w) number d) None None ran_tags (after_kept ciphers (running_world w) number x d there leaves) refl
 
   pub line_tags : (event : Event) (s : Step) → IsLineStep U D ciphers w event s → Counts s
   unfolding world_after
   line_tags event s (Known e t is) = old_tags e t is
   line_tags event s (Opens begun) =
       (record { nodes = same_moved ciphers w; more = omega arith; took = none_took w (record (set_up w) { checks_on = true }) }, refl)
-  line_tags event s (Anew e v t moves silent) = let k = moved_kept U D ciphers (ran w) v moves in
-      (then_kept w (ran w) v None t.sent ran_tags k silent.sent, k.events)
+  line_tags event s (Anew e v t moves silent) = let k = moved_kept U D ciphers (running_world w) v moves in
+      (then_kept w (running_world w) v None t.sent ran_tags k silent.sent, k.events)
   line_tags event s (After e r v t is good runs moves same_words) =
       let o = old_tags e (Ok r) is in
       let k = moved_kept U D ciphers r.0 v moves in
@@ -200,14 +200,14 @@ module _ (U : List Outgoing → Type 0) (D : Discovery → Type 0) (ciphers : Ci
       let a = then_kept w r.0 v r.1.sent t.sent o.0 k same_words.sent in
       (as_sent v (sends_nothing w (v, t)).0 t.sent a refl, k.events ∙ o.1)
   line_tags event s (Unbelieves e number x octets got there says comes is) =
-      let d = stays (accepting ciphers x octets).node (only said.Blacklisted) in
-      let a = after_tags ciphers fits w ok (ran w) number x d (same_moved ciphers w) refl there
+      let d = stays (accepting ciphers x octets).node (only answers.Blacklisted) in
+      let a = after_tags ciphers fits w ok (running_world w) number x d (same_moved ciphers w) refl there
       (λ t q. Remains (accepts_stays ciphers fits w ok x octets t q)) in
-      (as_sent (world_after ciphers (ran w) number d) _ None a refl, refl)
+      (as_sent (world_after ciphers (running_world w) number d) _ None a refl, refl)
   line_tags event s (Chooses number k x psk ne there e) =
       let own = identity ciphers x psk in
       let d : NodeStep (Result ChosenAgent ChooseRefusal) = reaches x (beside_at w number) (Err choices.Halted) (λ y. choose_agent own y k w.clock) in
-      (as_sent (world_after ciphers (ran w) number d) (chooses_by ciphers w number x k (Some psk)).0 None (chooses_tags number k x own there) refl, refl)
+      (as_sent (world_after ciphers (running_world w) number d) (chooses_by ciphers w number x k (Some psk)).0 None (chooses_tags number k x own there) refl, refl)
 
   tags_in : (sent : List Sending) → TagsOk w sent → w.events < 50000 → (s : Step) → Counts s → TagsIn sent s
   tags_in sent tags few (Ok r) c = next_tags w r.0 sent tags few c.1 r.1.sent c.0

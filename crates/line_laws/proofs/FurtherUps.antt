@@ -58,18 +58,18 @@ module _ (home : ℕ → ℕ) (apart : (i j : ℕ) → home i ≡ home j → i �
       let done = subst (Done home apart sent rises some w (ups_of before) c o.stands.ok o.stands.speaks o.ranged before o.keyed first homed.0 x.event) run.2
       (line_done home apart sent rises some w (ups_of before) c o.stands.ok o.stands.speaks o.ranged before o.keyed first homed.0 o.stands.logs x.event event)
       in
-      let next : AfterIt w x.event (ups_of before) x.after x.trace.happened.up =
+      let next : AfterIt w x.event (ups_of before) x.after x.trace.happenings.up =
       done (falls w before o x event run.2 honest) (homed_here home x.after xs (homed.1 honest)) traced.0.up_at is_sent honest in
-      let ups_now : ups_of before ++ option_to_list x.trace.happened.up ≡ ups_of (before ++ x ∷ []) =
-      ap (λ (us : List Handed). ups_of before ++ us) (one_list x.trace.happened.up) ∙ sym (all_of_one (λ d. one_of d.happened.up) before x) in
+      let ups_now : ups_of before ++ option_to_list x.trace.happenings.up ≡ ups_of (before ++ x ∷ []) =
+      ap (λ (us : List Handed). ups_of before ++ us) (one_list x.trace.happenings.up) ∙ sym (all_of_one (λ d. one_of d.happenings.up) before x) in
       let sends_now : sends_of (before ++ x ∷ []) ≡ sends_of before ++ one_of x.trace.sent = all_of_one (λ d. one_of d.sent) before x in
       let longer = length-append (sends_of before) (one_of x.trace.sent) in
       let adds = counts.0.sends in
       let length_now : length (sends_of (before ++ x ∷ [])) ≡ length (sends_of before ++ one_of x.trace.sent) = ap length sends_now in (
-        by_up x.trace.happened.up refl next traced.0.sent traced.0.up traced.0.up_at adds,
+        by_up x.trace.happenings.up refl next traced.0.sent traced.0.up traced.0.up_at adds,
         ups_from x.after (before ++ x ∷ []) (sound_on w before o x event run.2 honest) (omega arith)
             (subst (Custody network live (SentUnder home sent) home x.after) ups_now next.custody)
-            (subst (All IsNoted) ups_now (all_noted x.trace.happened.up next)) xs (All-tail IsEvent x.event (events_of xs) says) run.3
+            (subst (All IsNoted) ups_now (all_noted x.trace.happenings.up next)) xs (All-tail IsEvent x.event (events_of xs) says) run.3
             (same ∙ sym (append_assoc (sends_of before) (one_of x.trace.sent) (sends_of xs)) ∙ ap (λ (ss : List Sending). ss ++ sends_of xs) (sym sends_now))
             (homed.1 honest) counts.1 traced.1,
       )
@@ -86,14 +86,14 @@ module _ (home : ℕ → ℕ) (apart : (i j : ℕ) → home i ≡ home j → i �
       all_noted (Some u) h = All-push IsNoted (ups_of before) u all (noted network network_opens_again network_ranges live (λ w f e. e) home apart sent rises
           some w x.event u (h.handed u refl))
 
-      by_up : (p : Option Handed) → x.trace.happened.up ≡ p → AfterIt w x.event (ups_of before) x.after p
-          → is_some x.trace.sent ≡ (is_taken x.trace.happened.answer && not (is_broadcast x.event)) → is_some p ≡ is_up x.trace.happened.answer
+      by_up : (p : Option Handed) → x.trace.happenings.up ≡ p → AfterIt w x.event (ups_of before) x.after p
+          → is_some x.trace.sent ≡ (is_taken x.trace.happenings.answer && not (is_broadcast x.event)) → is_some p ≡ is_up x.trace.happenings.answer
           → IfSome p (λ (u : Handed). ComesTo x.event u.node)
           → x.after.sends ≡ w.sends + length (one_of x.trace.sent) → IfSome p (λ (up : Handed). WasSent up (sends_of before) × IsNew up (ups_of before))
       by_up None e h st ut at adds = tt
       by_up (Some u) e h st ut at adds =
           let none : x.trace.sent ≡ None = none_lists network network_opens_again network_ranges live (λ w f e. e) home apart sent rises some x.trace.sent
-          (Some u) x.trace.happened.answer (not (is_broadcast x.event)) st ut u refl in
+          (Some u) x.trace.happenings.answer (not (is_broadcast x.event)) st ut u refl in
           let zero_more : length (one_of x.trace.sent) ≡ 0 = ap (λ (q : Option Sending). length (one_of q)) none in
           let up = h.handed u refl in (
             was_sent network network_opens_again network_ranges live (λ w f e. e) home apart sent rises some w x.after x.event u (ups_of before)

@@ -117,7 +117,7 @@ start_keyed = record {
     none n x e = cc
 
 abbrev pub Kept : List Issued → Step → Type 0
-Kept given (Ok r) = r.1.happened.forged ≡ false → Keyed r.0 (given ++ r.1.issued)
+Kept given (Ok r) = r.1.happenings.forged ≡ false → Keyed r.0 (given ++ r.1.issued)
 Kept given (Err fault) = Unit {0}
 
 pub kept : (w : World) (given : List Issued) (s : Step) → StepKeyed w given s → Kept given s

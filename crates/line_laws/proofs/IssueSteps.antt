@@ -27,7 +27,7 @@ use Rattle.node_rules.specs.declared.refusal.CoordinatorRefusal.TheVariants as o
 use Rattle.node_rules.specs.declared.refusal.Dropped.TheVariants as drops
 use Rattle.node_rules.specs.declared.refusal.FrameRefusal.{FrameRefusal}
 use Rattle.node_rules.specs.declared.refusal.FrameRefusal.TheVariants as frames
-use Rattle.line_events.specs.declared.event.Answer.TheVariants as said
+use Rattle.line_events.specs.declared.event.Answer.TheVariants as answers
 use Rattle.node_rules.specs.declared.refusal.RandomFault.TheVariants as randoms
 use Rattle.node_rules.specs.declared.refusal.JoinRefusal.TheVariants as joins
 use Rattle.node_rules.specs.declared.refusal.LeaveRefusal.TheVariants as leaves
@@ -47,10 +47,10 @@ use Rattle.node_rules.specs.Drafts.{choose, empty_draft, with_ring}
 use Rattle.node_rules.specs.MemoryDrafts.{with_station}
 use Rattle.line_events.specs.Events.{IsEvent}
 use Rattle.line_rules.specs.Worlds.{World, Flight, Trace, node_at, flight_at, is_forged_tag}
-use Rattle.line_rules.specs.Steps.{Step, set_up, ran, world_after, acted, once_begun, in_setup, has_begun, takes_setup, on_node, on_meter, blank_node, identity}
+use Rattle.line_rules.specs.Steps.{Step, set_up, running_world, world_after, node_outcome, once_begun, in_setup, has_begun, takes_setup, on_node, on_meter, blank_node, identity}
 use Rattle.line_rules.specs.Steps.{hears}
 use Rattle.line_rules.specs.Steps.{restarts, memory_by, ticked, rand, join, joins_by, leave, send, sends_by, sent_if, breaks, breaks_by, lose, tick, restart}
-use Rattle.line_rules.specs.Steps.{cut, show, psk_of, trace_of, happened, coordinator, coordinator_node, meter, is_known, depot, depot_by, near, near_by}
+use Rattle.line_rules.specs.Steps.{cut, show, psk_of, trace_of, happenings, coordinator, coordinator_node, meter, is_known, depot, depot_by, near, near_by}
 use Rattle.line_rules.specs.Steps.{keeps_rank, ranks_full, offered_near, preset, allow, allowed, deliver, inject, arrives, accepted_by, received}
 use Rattle.line_rules.specs.Steps.{by_coordinator, forged_by, note_by, rekey, challenge, activate, kick, step}
 use Rattle.node_rules.specs.NodeSteps.{NodeStep, acts, stays, answering, of_station}
@@ -102,7 +102,7 @@ use Rattle.line_events.specs.Events.{IsEui}
 
 pub data StepKeyed (w : World) (given : List Issued) : Step → Type 0 where
   Fails : (fault : StepFault) → StepKeyed w given (Err fault)
-  Taken : (r : World × Trace) → (r.1.happened.forged ≡ false → Keyed r.0 (given ++ r.1.issued)) → StepKeyed w given (Ok r)
+  Taken : (r : World × Trace) → (r.1.happenings.forged ≡ false → Keyed r.0 (given ++ r.1.issued)) → StepKeyed w given (Ok r)
 
 -- the answer does not matter
 after_as : {A B : Type 0} (ciphers : Ciphers) (w : World) (number : ℕ) (reads : A → B) (d : NodeStep A) (given : List Issued)
@@ -199,21 +199,21 @@ module _ (ciphers : Ciphers) (fits : KeepsRanges ciphers) (w : World) (ok : Worl
   taken_none : (r : World × Trace) → r.1.issued ≡ [] → Keyed r.0 given → Good (Ok r)
   taken_none r none h = Taken r (λ honest. subst (Keyed r.0) (sym (append-nil given) ∙ ap (λ more. given ++ more) (sym none)) h)
 
-  ran_keyed : Keyed (ran w) given
-  ran_keyed = same_keyed w (ran w) given k refl refl
+  ran_keyed : Keyed (running_world w) given
+  ran_keyed = same_keyed w (running_world w) given k refl refl
 
   set_up_keyed : Keyed (set_up w) given
   set_up_keyed = same_keyed w (set_up w) given k refl refl
 
-  rests : (d : Trace) → d.issued ≡ [] → Good (Ok (ran w, d))
-  rests d none = taken_none (ran w, d) none ran_keyed
+  rests : (d : Trace) → d.issued ≡ [] → Good (Ok (running_world w, d))
+  rests d none = taken_none (running_world w, d) none ran_keyed
 
   -- calls of one node
   acted_quiet : {A : Type 0} (number : ℕ) (x : Node) (reads : A → Answer) (halted : A) (plan : Memory → Plan Memory A) → node_at w number ≡ Some x
-      → ((m : Memory) → IsMemorySized m → Quietly m (plan m)) → Good (Ok (acted ciphers w number (answering reads (acts x halted plan))))
+      → ((m : Memory) → IsMemorySized m → Quietly m (plan m)) → Good (Ok (node_outcome ciphers w number (answering reads (acts x halted plan))))
   acted_quiet number x reads halted plan there q = taken_none _ refl
-      (after_as ciphers (ran w) number reads (acts x halted plan) given
-      (quiet_after ciphers fits (ran w) given ran_keyed number x there (node_ok number x there) halted plan q))
+      (after_as ciphers (running_world w) number reads (acts x halted plan) given
+      (quiet_after ciphers fits (running_world w) given ran_keyed number x there (node_ok number x there) halted plan q))
 
   rand_keyed : (number : ℕ) (value : Rand) → Good (rand ciphers w number value)
   unfolding rand
@@ -229,8 +229,8 @@ module _ (ciphers : Ciphers) (fits : KeepsRanges ciphers) (w : World) (ok : Worl
       → Good (Ok (sends_by ciphers w from to datagram x address))
   sends_keyed from to datagram x None there = rests _ refl
   sends_keyed from to datagram x (Some a) there =
-      sent_keyed from to datagram _ _ _ refl (after_as ciphers (ran w) from sent_word (acts x (Err sends.Halted) _) given
-      (quiet_after ciphers fits (ran w) given ran_keyed from x there (node_ok from x there) (Err sends.Halted)
+      sent_keyed from to datagram _ _ _ refl (after_as ciphers (running_world w) from sent_word (acts x (Err sends.Halted) _) given
+      (quiet_after ciphers fits (running_world w) given ran_keyed from x there (node_ok from x there) (Err sends.Halted)
       (λ m. of_station m (calls.send m.station a datagram (w.sends + 1) w.clock)) (λ m sized. send_quietly m sized a datagram (w.sends + 1) w.clock)))
 
   send_keyed : (from to : ℕ) (datagram : List ℕ) → Good (send ciphers w from to datagram)
@@ -239,8 +239,8 @@ module _ (ciphers : Ciphers) (fits : KeepsRanges ciphers) (w : World) (ok : Worl
 
   breaks_keyed : (number : ℕ) (x : Node) (next : Option ℕ) → node_at w number ≡ Some x → Good (Ok (breaks_by ciphers w number x next))
   breaks_keyed number x None there = rests _ refl
-  breaks_keyed number x (Some next) there = taken_none _ refl (quiet_after ciphers fits (ran w) given ran_keyed number x there (node_ok number x there)
-      said.Halted _ (λ m sized. broke_quietly m sized next said.Broken))
+  breaks_keyed number x (Some next) there = taken_none _ refl (quiet_after ciphers fits (running_world w) given ran_keyed number x there (node_ok number x there)
+      answers.Halted _ (λ m sized. broke_quietly m sized next answers.Broken))
 
   break_keyed : (number next : ℕ) → Good (breaks ciphers w number next)
   unfolding breaks
@@ -251,8 +251,8 @@ module _ (ciphers : Ciphers) (fits : KeepsRanges ciphers) (w : World) (ok : Worl
   joins_keyed number agent x None psk ne there = rests _ refl
   joins_keyed number agent x (Some a) None ne there = rests _ refl
   joins_keyed number agent x (Some a) (Some psk) ne there =
-      taken_none _ refl (after_as ciphers (ran w) number join_word (acts x (Err joins.Halted) (λ m. meters.join (identity ciphers x psk) m a w.clock)) given
-      (own_after ciphers fits (ran w) given ran_keyed number x ne there (node_ok number x there) (Err joins.Halted)
+      taken_none _ refl (after_as ciphers (running_world w) number join_word (acts x (Err joins.Halted) (λ m. meters.join (identity ciphers x psk) m a w.clock)) given
+      (own_after ciphers fits (running_world w) given ran_keyed number x ne there (node_ok number x there) (Err joins.Halted)
       (λ m. meters.join (identity ciphers x psk) m a w.clock) (λ m reads session. joins_plan (identity ciphers x psk) m a w.clock reads session)
       (λ m. joins_opened (identity ciphers x psk) m a w.clock)))
 
@@ -264,8 +264,8 @@ module _ (ciphers : Ciphers) (fits : KeepsRanges ciphers) (w : World) (ok : Worl
   leave_keyed : (number : ℕ) → Good (leave ciphers w number)
   unfolding leave
   leave_keyed number =
-      once _ (at_meter number _ (λ ne x there. taken_none _ refl (after_as ciphers (ran w) number leave_word (acts x (Err leaves.Halted) meters.leave) given
-      (own_after ciphers fits (ran w) given ran_keyed number x ne there (node_ok number x there) (Err leaves.Halted) meters.leave
+      once _ (at_meter number _ (λ ne x there. taken_none _ refl (after_as ciphers (running_world w) number leave_word (acts x (Err leaves.Halted) meters.leave) given
+      (own_after ciphers fits (running_world w) given ran_keyed number x ne there (node_ok number x there) (Err leaves.Halted) meters.leave
       (λ m reads session. leaves_plan x.eui m reads session) leaves_opened))))
 
   lose_keyed : (number : ℕ) → Good (lose w number)
@@ -289,13 +289,13 @@ module _ (ciphers : Ciphers) (fits : KeepsRanges ciphers) (w : World) (ok : Worl
       (λ m here kept. f m (sized_at ciphers fits c m good here) ran_keyed.book (h.ring m.station.ring kept.station.ring.stored) kept.station.range.ring)
 
   coordinator_after : {A : Type 0} (c : Node) (d : NodeStep A) → node_at w 0 ≡ Some c → CoordinatorDid ran_keyed.book given [] c d
-      → Keyed (world_after ciphers (ran w) 0 d) given
-  coordinator_after c d there did = subst (Keyed _) (append-nil given) (after_coordinator ciphers (ran w) 0 c d there did.eui given [] ran_keyed refl did)
+      → Keyed (world_after ciphers (running_world w) 0 d) given
+  coordinator_after c d there did = subst (Keyed _) (append-nil given) (after_coordinator ciphers (running_world w) 0 c d there did.eui given [] ran_keyed refl did)
 
   ordered_keyed : {A : Type 0} (c : Node) (answer : Answer) (order : Memory → Plan Memory (Result A CoordinatorRefusal)) → node_at w 0 ≡ Some c
       → ((m : Memory) → IsMemorySized m → (b : book.Book) → Nought m.station.ring → IfSome m.station.ring IsReadable → CoordinatorPlan b m None (order m))
       → Good (Ok (by_coordinator ciphers w c answer order))
-  ordered_keyed c answer order there f = taken_none _ refl (after_as ciphers (ran w) 0 (ordered_word answer) (acts c (Err orders.Halted) order) given
+  ordered_keyed c answer order there f = taken_none _ refl (after_as ciphers (running_world w) 0 (ordered_word answer) (acts c (Err orders.Halted) order) given
       (coordinator_after c (acts c (Err orders.Halted) order) there (order_keyed c answer order there f)))
 
   abbrev own_of : Node → coordinator_rules.CoordinatorIdentity
@@ -303,13 +303,13 @@ module _ (ciphers : Ciphers) (fits : KeepsRanges ciphers) (w : World) (ok : Worl
 
   rekey_keyed : (index : ℕ) (key : Key) → length key.0 ≡ 16 → AreOctets key.0 → Good (rekey ciphers w index key)
   unfolding rekey
-  rekey_keyed index key long are = once _ (at_node 0 _ (λ c there. ordered_keyed c said.Drawn _ there
+  rekey_keyed index key long are = once _ (at_node 0 _ (λ c there. ordered_keyed c answers.Drawn _ there
       (λ m sized b nought reads. rekey_coordinator ciphers fits (own_of c) m sized b nought reads index key (held key long are))))
 
   challenge_keyed : (number : ℕ) → Good (challenge ciphers w number)
   unfolding challenge
   challenge_keyed number = once _ (at_meter number _ (λ ne x is. at_node 0 _
-      (λ c there. ordered_keyed c said.Challenged _ there
+      (λ c there. ordered_keyed c answers.Challenged _ there
       (λ m sized b nought reads. challenge_coordinator ciphers fits (own_of c) m sized b nought reads x.eui w.clock (node_fits number x is).eui))))
 
   activate_keyed : (number index : ℕ) → index ≤ 1 → Good (activate ciphers w number index)
@@ -317,17 +317,17 @@ module _ (ciphers : Ciphers) (fits : KeepsRanges ciphers) (w : World) (ok : Worl
   activate_keyed number index low = once _ (at_node number _ (λ x is. at_node 0 _ (λ c there. by_number (number == 0) x c there)))
     where
       by_number : (b : Bool) (x c : Node) → node_at w 0 ≡ Some c
-          → Good (Ok (if b then by_coordinator ciphers w c said.Activated (λ m. coordinator_rules.activate_self m index)
-          else by_coordinator ciphers w c said.Ordered (λ m. coordinator_rules.activate m x.eui index w.clock)))
+          → Good (Ok (if b then by_coordinator ciphers w c answers.Activated (λ m. coordinator_rules.activate_self m index)
+          else by_coordinator ciphers w c answers.Ordered (λ m. coordinator_rules.activate m x.eui index w.clock)))
       by_number true x c there =
-          ordered_keyed c said.Activated _ there (λ m sized b nought reads. activate_self_coordinator ciphers fits (own_of c) m sized b nought reads index low)
-      by_number false x c there = ordered_keyed c said.Ordered _ there
+          ordered_keyed c answers.Activated _ there (λ m sized b nought reads. activate_self_coordinator ciphers fits (own_of c) m sized b nought reads index low)
+      by_number false x c there = ordered_keyed c answers.Ordered _ there
           (λ m sized b nought reads. activate_coordinator ciphers fits (own_of c) m sized b nought reads x.eui index w.clock)
 
   kick_keyed : (number : ℕ) → Good (kick ciphers w number)
   unfolding kick
   kick_keyed number = once _ (at_meter number _ (λ ne x is. at_node 0 _
-      (λ c there. ordered_keyed c said.Kicked _ there
+      (λ c there. ordered_keyed c answers.Kicked _ there
       (λ m sized b nought reads. kick_coordinator ciphers fits (own_of c) m sized b nought reads x.eui (node_fits number x is).eui))))
 
   psk_is : (x : Node) (psk : Key) → psk_of x ≡ Some psk → x.role ≡ Meter psk
@@ -341,7 +341,7 @@ module _ (ciphers : Ciphers) (fits : KeepsRanges ciphers) (w : World) (ok : Worl
   unfolding allow
   allow_keyed number = once _ (at_meter number _ (λ ne x is. at_node 0 _ (λ c there.
       by_option (λ psk. Ok (allowed ciphers w number (acts c (Err orders.Halted) (λ m. coordinator_rules.allow m x.eui psk)))) (psk_of x) (Err faults.Node)
-      (λ psk pair. taken_none _ refl (coordinator_after c _ there (order_keyed c said.Kicked _ there
+      (λ psk pair. taken_none _ refl (coordinator_after c _ there (order_keyed c answers.Kicked _ there
       (λ m sized b nought reads. allow_coordinator ciphers fits (own_of c) m sized b nought reads x.eui psk (node_fits number x is).eui
       ((node_fits number x is).psk psk (psk_is x psk pair)))))) (Fails faults.Node))))
 
@@ -349,11 +349,11 @@ module _ (ciphers : Ciphers) (fits : KeepsRanges ciphers) (w : World) (ok : Worl
 
   same_store : {A : Type 0} (number : ℕ) (x : Node) (d : NodeStep A) → node_at w number ≡ Some x → d.node.store.records ≡ x.store.records → d.node.role ≡ x.role
       → d.node.eui ≡ x.eui → d.made ≡ []
-      → (IsMeter x.role → IfSome d.node.memory (λ m. PeerIs d.node.eui m.session)) → Keyed (world_after ciphers (ran w) number d) given
+      → (IsMeter x.role → IfSome d.node.memory (λ m. PeerIs d.node.eui m.session)) → Keyed (world_after ciphers (running_world w) number d) given
   same_store number x d there records role eui made peer = ⊎_elim
       (λ (e : number ≡ 0).
       let c = ran_keyed.coordinator x (ap (slice_get w.nodes) (sym e) ∙ there) in
-      subst (Keyed _) (append-nil given) (after_coordinator ciphers (ran w) number x d there eui given [] ran_keyed e
+      subst (Keyed _) (append-nil given) (after_coordinator ciphers (running_world w) number x d there eui given [] ran_keyed e
       (record {
         book = ran_keyed.book;
         node = record {
@@ -367,7 +367,7 @@ module _ (ciphers : Ciphers) (fits : KeepsRanges ciphers) (w : World) (ok : Worl
       })))
       (λ (ne : number ≢ 0).
       let h = ran_keyed.meters number x ne there in
-      after_meter ciphers (ran w) number x d there eui given ran_keyed ne
+      after_meter ciphers (running_world w) number x d there eui given ran_keyed ne
       (record {
         node = record {
           ring = subst (λ u. RingIn (RingOk ran_keyed.book given u) d.node.store.records) (sym eui)
@@ -510,25 +510,25 @@ module _ (ciphers : Ciphers) (fits : KeepsRanges ciphers) (w : World) (ok : Worl
         made = subst (Each (TagOk b given)) (sym t.made) tt;
       })
 
-  after_answer : {A : Type 0} (number : ℕ) (d : NodeStep A) (r : A) → Keyed (world_after ciphers (ran w) number d) given
-      → Keyed (world_after ciphers (ran w) number (record d { answer = r })) given
+  after_answer : {A : Type 0} (number : ℕ) (d : NodeStep A) (r : A) → Keyed (world_after ciphers (running_world w) number d) given
+      → Keyed (world_after ciphers (running_world w) number (record d { answer = r })) given
   unfolding world_after
   after_answer number d r h = same_keyed _ _ given h refl refl
 
   received_keyed : (number : ℕ) (forged : Bool) (d : NodeStep Reception)
-      → (forged ≡ false → Keyed (world_after ciphers (ran w) number d) (given ++ issued_of d.answer.keyed)) → Good (Ok (received ciphers w number forged d))
-  received_keyed number forged d h = Taken _ (λ honest. same_keyed (world_after ciphers (ran w) number d) _ _ (h honest) refl refl)
+      → (forged ≡ false → Keyed (world_after ciphers (running_world w) number d) (given ++ issued_of d.answer.keyed)) → Good (Ok (received ciphers w number forged d))
+  received_keyed number forged d h = Taken _ (λ honest. same_keyed (world_after ciphers (running_world w) number d) _ _ (h honest) refl refl)
 
   after_later : {A : Type 0} (number : ℕ) (reads : A → Reception) (d : NodeStep A) (more : List Issued)
-      → Keyed (world_after ciphers (ran w) number d) (given ++ more)
-      → Keyed (world_after ciphers (ran w) number (answering reads d)) (given ++ more)
-  after_later number reads d more h = after_as ciphers (ran w) number reads d (given ++ more) h
+      → Keyed (world_after ciphers (running_world w) number d) (given ++ more)
+      → Keyed (world_after ciphers (running_world w) number (answering reads d)) (given ++ more)
+  after_later number reads d more h = after_as ciphers (running_world w) number reads d (given ++ more) h
 
   hears_after : (number : ℕ) (x y : Node) (got : Accepted) (cost note now : ℕ) → node_at w number ≡ Some x → NodeOk y → y.role ≡ x.role → y.eui ≡ x.eui
       → RoutesFit got
       → (number ≡ 0 → CoordinatorDid ran_keyed.book given [] x (stays y (tt {0}))) → (number ≢ 0 → MeterOk ran_keyed.book given y)
       → list_any (is_forged_tag w.made) (hears ciphers y got cost note now).opened ≡ false
-      → Keyed (world_after ciphers (ran w) number (hears ciphers y got cost note now)) (given ++ issued_of (hears ciphers y got cost note now).answer.keyed)
+      → Keyed (world_after ciphers (running_world w) number (hears ciphers y got cost note now)) (given ++ issued_of (hears ciphers y got cost note now).answer.keyed)
   hears_after number x y got cost note now there good role eui routes coordinator meter = by_role y.role refl
     where
       hears_as : Role → NodeStep Reception
@@ -543,7 +543,7 @@ module _ (ciphers : Ciphers) (fits : KeepsRanges ciphers) (w : World) (ok : Worl
       not_meter psk e = cc
 
       by_role : (r : Role) → y.role ≡ r → list_any (is_forged_tag w.made) (hears_as r).opened ≡ false
-          → Keyed (world_after ciphers (ran w) number (hears_as r)) (given ++ issued_of (hears_as r).answer.keyed)
+          → Keyed (world_after ciphers (running_world w) number (hears_as r)) (given ++ issued_of (hears_as r).answer.keyed)
       by_role Coordinator is honest = ⊎_elim
           (λ (e : number ≡ 0).
           let c = coordinator e in
@@ -552,7 +552,7 @@ module _ (ciphers : Ciphers) (fits : KeepsRanges ciphers) (w : World) (ok : Worl
           let did = coordinator_hears_did y got cost note now c.book routes good c.node in
           let d = acts y (Err drops.Store) plan in
           let more = issued_of (coordinator_reception d.answer).keyed in
-          after_later number coordinator_reception d more (after_coordinator ciphers (ran w) number x d there (did.eui ∙ eui) given more ran_keyed e
+          after_later number coordinator_reception d more (after_coordinator ciphers (running_world w) number x d there (did.eui ∙ eui) given more ran_keyed e
           (record { book = did.book; node = did.node; grows = λ u a h. did.grows u a (c.grows u a h); eui = did.eui ∙ eui; made = did.made })))
           (λ (ne : number ≢ 0). absurd (wrong is ne)) (cases_eq number 0)
       by_role (Meter psk) is honest = ⊎_elim
@@ -562,8 +562,8 @@ module _ (ciphers : Ciphers) (fits : KeepsRanges ciphers) (w : World) (ok : Worl
           let d = acts y (Err drops.Store) (λ m. meters.hear_meter (identity ciphers y psk) m got cost note now) in
           let none : issued_of (meter_reception d.answer).keyed ≡ [] = ap issued_of (no_keys d.answer) in
           after_later number meter_reception d _
-          (subst (Keyed (world_after ciphers (ran w) number d)) (sym (append-nil given) ∙ ap (λ more. given ++ more) (sym none))
-          (after_meter ciphers (ran w) number x d there (did.eui ∙ eui) given ran_keyed ne
+          (subst (Keyed (world_after ciphers (running_world w) number d)) (sym (append-nil given) ∙ ap (λ more. given ++ more) (sym none))
+          (after_meter ciphers (running_world w) number x d there (did.eui ∙ eui) given ran_keyed ne
           (record { node = did.node; eui = did.eui ∙ eui; role = did.role ∙ role; made = did.made }))))
           (cases_eq number 0)
 
@@ -599,11 +599,11 @@ module _ (ciphers : Ciphers) (fits : KeepsRanges ciphers) (w : World) (ok : Worl
           → Good (Ok (accepted_by ciphers w number octets cost (acts x (Err frames.Halted) plan)))
       by_answer (Err reason) e =
           rw e (taken_none (
-            world_after ciphers (ran w) number (record (acts x (Err frames.Halted) plan) { answer = Err reason }),
-            trace_of (happened w (frame_word reason)),
+            world_after ciphers (running_world w) number (record (acts x (Err frames.Halted) plan) { answer = Err reason }),
+            trace_of (happenings w (frame_word reason)),
           ) refl
           (after_answer number (acts x (Err frames.Halted) plan) (Err reason)
-          (quiet_after ciphers fits (ran w) given ran_keyed number x there (node_ok number x there) (Err frames.Halted) plan quiet)))
+          (quiet_after ciphers fits (running_world w) given ran_keyed number x there (node_ok number x there) (Err frames.Halted) plan quiet)))
       by_answer (Ok got) e =
           let y = (acts x (Err frames.Halted) plan).node in
           let d = hears ciphers y got cost (note_by w octets got.path) w.clock in

@@ -29,7 +29,7 @@ use Rattle.line_events.specs.Events.{IsEvent}
 use Rattle.line_rules.specs.Forgery.{Comes, accepting}
 use Rattle.line_rules.specs.Runs.{Entry}
 use Rattle.line_rules.specs.Worlds.{World, Issued, Trace, node_at}
-use Rattle.line_rules.specs.Steps.{Step, identity, hears, note_by, issued_at, issued_by, issued_of, sent_if, is_taken, tag_of, acted}
+use Rattle.line_rules.specs.Steps.{Step, identity, hears, note_by, issued_at, issued_by, issued_of, sent_if, is_taken, tag_of, node_outcome}
 use Rattle.line_laws.specs.Stores.{HasEui, IsNamed}
 use Rattle.line_laws.specs.Owed.{KeepsRanges}
 use Rattle.line_laws.proofs.Planned.{planned_failed}
@@ -130,7 +130,7 @@ module _ (ciphers : Ciphers) (fits : KeepsRanges ciphers) (w : World) (ok : Worl
   names event s (BreaksLink number next x a there call) = tt
   names event s (SendsFrom from to datagram x a there call target) =
       let d = answering sent_word (acts x (Err sends.Halted) (λ m. of_station m (calls.send m.station a datagram (w.sends + 1) w.clock))) in
-      sent_named from to datagram (tag_of x) (is_taken d.answer) (acted ciphers w from d) tt
+      sent_named from to datagram (tag_of x) (is_taken d.answer) (node_outcome ciphers w from d) tt
   names event s (AllowsMeter number y c psk there call meter) = tt
   names event s (Sets e quiet number x plan there open_is is) = tt
   names event s (SetsTwo e quiet a b cost x y p q hx hy apart open_is first second fresh near) = tt

@@ -13,7 +13,7 @@ use Rattle.line_rules.specs.Agreement.{NodeHasKey}
 use Rattle.line_rules.specs.Answers.{Reception, coordinator_reception, meter_reception, sent_word}
 use Rattle.line_events.specs.Events.{IsEvent}
 use Rattle.line_rules.specs.Forgery.{Comes, accepting}
-use Rattle.line_rules.specs.Steps.{Step, issued_at, issued_by, issued_of, acted, sent_if, is_taken, tag_of, hears, note_by, identity, takes_setup, psk_of}
+use Rattle.line_rules.specs.Steps.{Step, issued_at, issued_by, issued_of, node_outcome, sent_if, is_taken, tag_of, hears, note_by, identity, takes_setup, psk_of}
 use Rattle.line_rules.specs.Worlds.{World, Issued, Trace, node_at}
 use Rattle.line_events.specs.declared.event.Event.{Event}
 use Rattle.line_events.specs.declared.event.Event.TheVariants as events
@@ -245,7 +245,7 @@ module _ (ciphers : Ciphers) (fits : KeepsRanges ciphers) (w : World) (ok : Worl
   issues P frame workshop event s (BreaksLink number next x a there call) = tt
   issues P frame workshop event s (SendsFrom from to datagram x a there call target) =
       let d = answering sent_word (acts x (Err sends.Halted) (λ m. of_station m (calls.send m.station a datagram (w.sends + 1) w.clock))) in
-      sent_by from to datagram (tag_of x) (is_taken d.answer) (acted ciphers w from d) tt
+      sent_by from to datagram (tag_of x) (is_taken d.answer) (node_outcome ciphers w from d) tt
     where
       sent_by : (from to : ℕ) (datagram : List ℕ) (tag : ℕ) (b : Bool) (r : World × Trace) → Each (P (events.Send from to datagram)) r.1.issued
           → Each (P (events.Send from to datagram)) (sent_if w from to datagram tag b r).1.issued

@@ -41,7 +41,7 @@ abbrev IsNamed : Issued → Type 0
 IsNamed i = IsEui i.eui
 
 abbrev IsHonest : Entry → Type 0
-IsHonest x = x.trace.happened.forged ≡ false
+IsHonest x = x.trace.happenings.forged ≡ false
 
 each_place : (P : Issued → Type 0) (xs : List Issued) (place : ℕ) (i : Issued) → slice_get xs place ≡ Some i → Each P xs → P i
 each_place P [] place i e h = absurd (cc)

@@ -22,7 +22,7 @@ use Rattle.node_rules.specs.NodeSteps.{NodeStep}
 use Rattle.node_rules.specs.Plans.{Plan}
 use Rattle.line_rules.specs.Laws.{KeepsFlights}
 use Rattle.line_rules.specs.Nonces.{HasSender, IsSpelled}
-use Rattle.line_rules.specs.Steps.{flight_by, flights_of, ran, world_after}
+use Rattle.line_rules.specs.Steps.{flight_by, flights_of, running_world, world_after}
 use Rattle.line_rules.specs.Worlds.{World, Flight, Issued, Pairing, Sending, node_at}
 use Rattle.line_events.specs.declared.happenings.Handed.{Handed}
 use Rattle.line_laws.specs.Agreed.{Confirmed}
@@ -501,7 +501,7 @@ further_keeps halted does is w number x one runs there given sent taken all home
       goes_on given sent taken all home ups w h number x (acts x halted does) runs there f,
     )
 
-ran_homes : (b : books.Book) (w : World) → homed.Grows (homes_of b w) (homes_of b (ran w))
+ran_homes : (b : books.Book) (w : World) → homed.Grows (homes_of b w) (homes_of b (running_world w))
 unfolding homes_of
 ran_homes b w i a e = e
 
@@ -509,7 +509,7 @@ ran_homes b w i a e = e
 pub running_keeps : RunningKeeps
 running_keeps w given sent taken all home ups h = (
   record {
-    line = counts_ok w (ran w) h.line refl refl (λ e. absurd (true_false e));
+    line = counts_ok w (running_world w) h.line refl refl (λ e. absurd (true_false e));
     octets = h.octets;
     spelled = h.spelled;
     ranged = record { nodes = h.ranged.nodes; flights = h.ranged.flights };
@@ -531,7 +531,7 @@ running_keeps w given sent taken all home ups h = (
       homes = h.tags.homes;
       pairs = h.tags.pairs;
     };
-    custody = falls_on network live (SentUnder home all) home w (ran w) ups
+    custody = falls_on network live (SentUnder home all) home w (running_world w) ups
         (ran_at network network_opens_again (SentUnder home all) home (live w) ups w
         (record {
           flights = h.custody.flights;
@@ -542,11 +542,11 @@ running_keeps w given sent taken all home ups h = (
         })) falls;
   },
   record {
-    marks = marks_rise w (ran w) follows;
+    marks = marks_rise w (running_world w) follows;
     live = falls;
     ranks = λ i x there. record { node = x; there = there; above = λ dest. inl refl };
     shut = λ eui out c is. out c is;
-    senders = subst (All (HasSender (ran w))) (sym (drop-length w.flights)) (All-nil (HasSender (ran w)));
+    senders = subst (All (HasSender (running_world w))) (sym (drop-length w.flights)) (All-nil (HasSender (running_world w)));
   },
 )
   where
@@ -556,13 +556,13 @@ running_keeps w given sent taken all home ups h = (
     true_false : true ≡ false → ⊥
     true_false e = cc (e)
 
-    follows : Follows w (ran w)
-    follows = same_follows w (ran w) refl
+    follows : Follows w (running_world w)
+    follows = same_follows w (running_world w) refl
 
-    falls : LiveFalls live w (ran w) None
-    falls = none_falls w (ran w) follows (λ some u a e. e)
+    falls : LiveFalls live w (running_world w) None
+    falls = none_falls w (running_world w) follows (λ some u a e. e)
 
-    routes : RoutingHolds network (homes_of h.keyed.book (ran w)) (ran w)
-    routes = grow_homes network (homes_of h.keyed.book w) (homes_of h.keyed.book (ran w)) (ran_homes h.keyed.book w) (ran w)
-        (counts_hold network (homes_of h.keyed.book w) {b = w} w (ran w) refl refl
+    routes : RoutingHolds network (homes_of h.keyed.book (running_world w)) (running_world w)
+    routes = grow_homes network (homes_of h.keyed.book w) (homes_of h.keyed.book (running_world w)) (ran_homes h.keyed.book w) (running_world w)
+        (counts_hold network (homes_of h.keyed.book w) {b = w} w (running_world w) refl refl
         (record { holds = h.routes; later = λ i x there. record { node = x; there = there; above = λ dest. inl refl } })).holds

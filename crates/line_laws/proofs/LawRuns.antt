@@ -7,7 +7,7 @@ use Rattle.node_rules.specs.Ciphers.{Ciphers, network}
 use Rattle.node_rules.specs.Memory.{Memory, Node, Role, node_route}
 use Rattle.node_rules.specs.StoreReading.{memory_of}
 use Rattle.plc_base.specs.Keeper.{Records}
-use Rattle.line_events.specs.declared.event.Answer.TheVariants as said
+use Rattle.line_events.specs.declared.event.Answer.TheVariants as answers
 use Rattle.line_events.specs.declared.event.Event.{Event}
 use Rattle.line_events.specs.declared.event.Event.TheVariants as events
 use Rattle.line_events.specs.Events.{AreEvents, IsEvent}
@@ -128,7 +128,7 @@ module _ (ciphers : Ciphers) (fits : KeepsRanges ciphers) where
       by_memory (Some m) left = kept_reads m left
 
   abbrev EntrySized : Entry → Type 0
-  EntrySized x = IsSizedBy IsAnyLoad x.after × (x.trace.happened.flights ≤ 24)
+  EntrySized x = IsSizedBy IsAnyLoad x.after × (x.trace.happenings.flights ≤ 24)
 
   sized_from : (w : World) (entries : List Entry) → AreLawful ciphers w entries → IsAlwaysSizedBy IsAnyLoad entries
   sized_from w [] l = All-nil EntrySized
@@ -151,7 +151,7 @@ module _ (ciphers : Ciphers) (fits : KeepsRanges ciphers) where
   -- # Restarts
 
   abbrev EntryAnswered : Entry → Type 0
-  EntryAnswered x = is_restart x.event ≡ true → x.trace.happened.answer ≡ said.Restarted
+  EntryAnswered x = is_restart x.event ≡ true → x.trace.happenings.answer ≡ answers.Restarted
 
   readable_from : (w : World) (entries : List Entry) → AreLawful ciphers w entries → StoresAreReadable entries
   readable_from w [] l = All-nil EntryReads

@@ -48,7 +48,7 @@ pub record Lawful (ciphers : Ciphers) (w : World) (x : Entry) : Type 0 where
   pub few : w.events < MAX_EVENTS
   pub step : line_step ciphers w x.event ≡ Ok (x.after, x.trace)
   pub after : Stood x.after
-  pub flights : x.trace.happened.flights ≤ 24
+  pub flights : x.trace.happenings.flights ≤ 24
 
 abbrev pub AreLawful : Ciphers → World → List Entry → Type 0
 AreLawful ciphers w [] = Unit {0}
@@ -95,7 +95,7 @@ module _ (ciphers : Ciphers) (fits : KeepsRanges ciphers) where
     accepted_at = line_nodes_accept_once ciphers fits w l.before.ok l.before.flown l.before.logs x l.says l.step
 
     module _ (given : List Issued) (k : Keyed w given) where
-      pub keyed_on : x.trace.happened.forged ≡ false → Keyed x.after (given ++ x.trace.issued)
+      pub keyed_on : x.trace.happenings.forged ≡ false → Keyed x.after (given ++ x.trace.issued)
       keyed_on honest = subst (Kept given) l.step
           (kept w given _ (line_keyed ciphers fits w l.before.ok l.before.flown given k l.before.logs x.event l.says)) honest
 
@@ -108,5 +108,5 @@ module _ (ciphers : Ciphers) (fits : KeepsRanges ciphers) where
       pub ends_at : FlightsEnd ciphers w x
       ends_at = line_flights_fall ciphers fits w l.before.ok l.before.flown l.before.logs given k x l.says l.step
 
-    pub keyed_at : (past : List Entry) → Keyed w (issued past) → x.trace.happened.forged ≡ false → Keyed x.after (issued (past ++ x ∷ []))
+    pub keyed_at : (past : List Entry) → Keyed w (issued past) → x.trace.happenings.forged ≡ false → Keyed x.after (issued (past ++ x ∷ []))
     keyed_at past k honest = subst (Keyed x.after) (sym (all_of_one (λ d. d.issued) past x)) (keyed_on (issued past) k honest)

@@ -36,7 +36,7 @@ use Rattle.line_events.specs.Events.{IsEvent}
 use Rattle.line_rules.specs.Forgery.{Comes, OfFlight, OfScript, accepting}
 use Rattle.line_rules.specs.Runs.{Entry}
 use Rattle.line_rules.specs.Worlds.{World, Flight, Trace, Issued, node_at, has_octets}
-use Rattle.line_rules.specs.Steps.{Step, memory_by, once_begun, has_begun, on_flight, ran, world_after, trace_of, happened, heard, hears, note_by, arrives}
+use Rattle.line_rules.specs.Steps.{Step, memory_by, once_begun, has_begun, on_flight, running_world, world_after, trace_of, happenings, heard, hears, note_by, arrives}
 use Rattle.line_rules.specs.Steps.{deliver}
 use Rattle.line_rules.specs.Steps.{inject, step}
 use Rattle.line_laws.specs.Live.{holding, marks_of, admits, book_in, book_of, home_by, home, is_past, is_live, live, FlightsFall}
@@ -340,7 +340,7 @@ module _ (ciphers : Ciphers) (w : World) where
     where
       after : Result Accepted FrameRefusal → World × Trace
       after (Ok g) = heard ciphers w number (accepting ciphers x octets).node octets g cost
-      after (Err reason) = (world_after ciphers (ran w) number (accepting ciphers x octets), trace_of (happened w (frame_word reason)))
+      after (Err reason) = (world_after ciphers (running_world w) number (accepting ciphers x octets), trace_of (happenings w (frame_word reason)))
 
   pub taken_begun : (s : Step) (r : World × Trace) → once_begun w s ≡ Ok r → s ≡ Ok r
   taken_begun s r e = by_test (has_begun w) e

@@ -109,7 +109,7 @@ module _ (ciphers : Ciphers) (fits : KeepsRanges ciphers) (w v : World) (ok : Wo
   line_depot_fits _ t e = tt
 
 abbrev pub HoldsBy : Homes → World → Step → Type 0
-HoldsBy h w (Ok r) = r.1.happened.forged ≡ false → Reached network h w r.0
+HoldsBy h w (Ok r) = r.1.happenings.forged ≡ false → Reached network h w r.0
 HoldsBy h w (Err fault) = Unit {0}
 
 pub holds_by : (h : Homes) (w : World) (s : Step) → StepHolds network h w s → HoldsBy h w s

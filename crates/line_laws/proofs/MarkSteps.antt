@@ -10,7 +10,7 @@ use Rattle.plc_base.specs.declared.address.Eui.{Eui}
 use Rattle.plc_base.specs.declared.key.Key.{Key}
 use Rattle.store_tables.proofs.SlotTables.{slice_get-set, slice_get-set_other, slice_get-map, slice_get-push_other}
 use Rattle.line_events.specs.declared.event.Answer.{Answer}
-use Rattle.line_events.specs.declared.event.Answer.TheVariants as said
+use Rattle.line_events.specs.declared.event.Answer.TheVariants as answers
 use Rattle.line_events.specs.declared.event.Event.{Event}
 use Rattle.node_rules.specs.declared.heard.Accepted.{Accepted}
 use Rattle.node_rules.specs.declared.heard.SentHow.{SentHow}
@@ -35,7 +35,7 @@ use Rattle.line_events.specs.Events.{IsEvent}
 use Rattle.line_rules.specs.Forgery.{Comes, accepting}
 use Rattle.line_rules.specs.Runs.{Entry}
 use Rattle.line_rules.specs.Worlds.{World, node_at}
-use Rattle.line_rules.specs.Steps.{Step, set_up, ran, world_after, acted, sending, sent_if, is_taken, tag_of, hears, offered_near, note_by, identity, psk_of}
+use Rattle.line_rules.specs.Steps.{Step, set_up, running_world, world_after, node_outcome, sending, sent_if, is_taken, tag_of, hears, offered_near, note_by, identity, psk_of}
 use Rattle.line_rules.specs.Steps.{restarts}
 use Rattle.line_rules.specs.Steps.{ticked, step}
 use Rattle.line_laws.specs.Live.{marks_of, MarksRise}
@@ -176,7 +176,7 @@ module _ (ciphers : Ciphers) (fits : KeepsRanges ciphers) (w : World) (ok : Worl
   call_marks number x A halted plan there (Sends a datagram other are) =
       of_did x _ (acts_ok x _ _ (good_at number x there) (λ m here kept sized. send_ok x.role m sized a datagram (w.sends + 1) w.clock))
   call_marks number x A halted plan there (Breaks a other) =
-      of_did x _ (acts_ok x _ _ (good_at number x there) (λ m here kept sized. broke_ok x.role m sized a said.Broken))
+      of_did x _ (acts_ok x _ _ (good_at number x there) (λ m here kept sized. broke_ok x.role m sized a answers.Broken))
   call_marks number x A halted plan there (Nears a cost open_is other low) =
       let small : a < 0xFFFE = address_low other.node a (good_at other.number other.node other.there) other.address in
       of_did x _ (acts_ok x _ _ (good_at number x there) (λ m here kept sized. near_ok x.role m sized a cost w.clock small (omega arith)))
@@ -245,9 +245,9 @@ module _ (ciphers : Ciphers) (fits : KeepsRanges ciphers) (w : World) (ok : Worl
       → (sending ciphers w from to datagram tag d).0.nodes ≡ slice_set w.nodes from d.node
   sent_nodes from to datagram tag d = by_taken (is_taken d.answer)
     where
-      by_taken : (b : Bool) → (sent_if w from to datagram tag b (acted ciphers w from d)).0.nodes ≡ slice_set w.nodes from d.node
-      by_taken true = after_nodes ciphers (ran w) from d
-      by_taken false = after_nodes ciphers (ran w) from d
+      by_taken : (b : Bool) → (sent_if w from to datagram tag b (node_outcome ciphers w from d)).0.nodes ≡ slice_set w.nodes from d.node
+      by_taken true = after_nodes ciphers (running_world w) from d
+      by_taken false = after_nodes ciphers (running_world w) from d
 
   pub follows : (event : Event) (s : Step) → IsStep ciphers w event s → FollowsIn s
   follows event s (Fails e fault) = tt
@@ -262,15 +262,15 @@ module _ (ciphers : Ciphers) (fits : KeepsRanges ciphers) (w : World) (ok : Worl
           raised = raised_same (marks_of y);
         };
   }
-  follows event s (Rests e quiet) = same_follows w (ran w) refl
-  follows event s (Shows number x) = same_follows w (ran w) refl
+  follows event s (Rests e quiet) = same_follows w (running_world w) refl
+  follows event s (Shows number x) = same_follows w (running_world w) refl
   follows event s (Acts e number x A halted plan reads there call word asked) =
-      one_follows (ran w) _ number x (answering reads (acts x halted plan)) refl (after_nodes ciphers (ran w) number (answering reads (acts x halted plan)))
+      one_follows (running_world w) _ number x (answering reads (acts x halted plan)) refl (after_nodes ciphers (running_world w) number (answering reads (acts x halted plan)))
       there (answered x reads _ (call_marks number x A halted plan there call))
   follows event s (BreaksLink number next x a there call) =
-      let plan : Memory → Plan Memory Answer = λ m. changing said.Broken (with_station (calls.broke a m.station) m) in
-      one_follows (ran w) _ number x (acts x said.Halted plan) refl (after_nodes ciphers (ran w) number (acts x said.Halted plan)) there
-      (call_marks number x Answer said.Halted plan there call)
+      let plan : Memory → Plan Memory Answer = λ m. changing answers.Broken (with_station (calls.broke a m.station) m) in
+      one_follows (running_world w) _ number x (acts x answers.Halted plan) refl (after_nodes ciphers (running_world w) number (acts x answers.Halted plan)) there
+      (call_marks number x Answer answers.Halted plan there call)
   follows event s (SendsFrom from to datagram x a there call asked) =
       let plan : Memory → Plan Memory (Result SentHow SendRefusal) = λ m. of_station m (calls.send m.station a datagram (w.sends + 1) w.clock) in
       let d = answering sent_word (acts x (Err sends.Halted) plan) in
@@ -278,7 +278,7 @@ module _ (ciphers : Ciphers) (fits : KeepsRanges ciphers) (w : World) (ok : Worl
       (answered x sent_word _ (call_marks from x _ (Err sends.Halted) plan there call))
   follows event s (AllowsMeter number y c psk there call meter) =
       let plan : Memory → Plan Memory (Result ℕ CoordinatorRefusal) = λ m. coordinator_rules.allow m y.eui psk in
-      one_follows (ran w) _ 0 c (acts c (Err orders.Halted) plan) refl (after_nodes ciphers (ran w) 0 (acts c (Err orders.Halted) plan)) there
+      one_follows (running_world w) _ 0 c (acts c (Err orders.Halted) plan) refl (after_nodes ciphers (running_world w) 0 (acts c (Err orders.Halted) plan)) there
       (call_marks 0 c _ (Err orders.Halted) plan there call)
   follows event s (Sets e quiet number x plan there open_is is) =
       one_follows (set_up w) _ number x (acts x (Ok tt) (λ m. of_station m (plan m.station))) refl
@@ -311,12 +311,12 @@ module _ (ciphers : Ciphers) (fits : KeepsRanges ciphers) (w : World) (ok : Worl
       comes in
       let did : DidMark x d = subst (λ (z : NodeStep (Result Accepted FrameRefusal)). DidMark x z) (sym same)
       (call_marks number x _ (Err frames.Halted) (λ m. of_station m (accept m.station x.eui (arrived ciphers octets))) there kind) in
-      one_follows (ran w) _ number x d refl (after_nodes ciphers (ran w) number d) there did
+      one_follows (running_world w) _ number x d refl (after_nodes ciphers (running_world w) number d) there did
   follows event s (Hears e number x octets cost got there says comes low is) =
       let a = accepting ciphers x octets in
       let d = hears ciphers a.node got cost (note_by w octets got.path) w.clock in
       let h = heard_marks e number x octets cost got there says comes is in
-      one_follows (ran w) _ number x d refl (after_nodes ciphers (ran w) number d) there (both_marks x a d h.0 h.1)
+      one_follows (running_world w) _ number x d refl (after_nodes ciphers (running_world w) number d) there (both_marks x a d h.0 h.1)
   follows event s (Loses number f there) = same_follows w _ refl
   follows event s (Ticks seconds) = record {
     at = λ n y there.
@@ -329,11 +329,11 @@ module _ (ciphers : Ciphers) (fits : KeepsRanges ciphers) (w : World) (ok : Worl
           raised = t.0;
         };
   }
-  follows event s (Restarts number x there) = one_follows (ran w) _ number x (restarts x) refl (after_nodes ciphers (ran w) number (restarts x)) there
+  follows event s (Restarts number x there) = one_follows (running_world w) _ number x (restarts x) refl (after_nodes ciphers (running_world w) number (restarts x)) there
       (of_did x _ (restarts_ok x (good_at number x there)))
   follows event s (Cuts number nth keeps_new x there) =
-      let d : NodeStep Answer = stays (record x { store = record x.store { cut = Some (record { nth = nth; keeps_new = keeps_new }) } }) said.Set in
-      one_follows (ran w) _ number x d refl (after_nodes ciphers (ran w) number d) there (record { role = refl; eui = refl; raised = raised_same (marks_of x) })
+      let d : NodeStep Answer = stays (record x { store = record x.store { cut = Some (record { nth = nth; keeps_new = keeps_new }) } }) answers.Set in
+      one_follows (running_world w) _ number x d refl (after_nodes ciphers (running_world w) number d) there (record { role = refl; eui = refl; raised = raised_same (marks_of x) })
 
 -- # Runs
 

@@ -50,7 +50,7 @@ use Rattle.reach_rules.specs.ReachingNodes.{Beside, Reaching, nothing_beside, ti
 use Rattle.reach_rules.specs.Receiving.{NeighbourCommand, command_of, hear_command}
 use Rattle.line_rules.specs.Answers.{Reception, coordinator_reception, meter_reception, only, sent_word}
 use Rattle.line_events.specs.declared.event.Answer.{Answer}
-use Rattle.line_events.specs.declared.event.Answer.TheVariants as said
+use Rattle.line_events.specs.declared.event.Answer.TheVariants as answers
 use Rattle.line_events.specs.declared.event.Event.{Event}
 use Rattle.line_events.specs.declared.happenings.BroadcastUp.{BroadcastUp}
 use Rattle.line_rules.specs.Forgery.{accepting}
@@ -58,7 +58,7 @@ use Rattle.line_rules.specs.Further.{acknowledged_if, acknowledging, adds_frames
 use Rattle.line_rules.specs.Further.{chooses_by, commanded, discovers_by, due, reaches, restarts_by, scans_by, sends_nothing, unbelieved, with_check}
 use Rattle.line_rules.specs.Logs.{AreLogged, HaveShortTables, LogsKept}
 use Rattle.line_rules.specs.Runs.{one_of}
-use Rattle.line_rules.specs.Steps.{Step, acted, blank_node, coordinator_node, happened, heard, hears, identity, is_taken, note_by, offered_near, ran, restarts}
+use Rattle.line_rules.specs.Steps.{Step, node_outcome, blank_node, coordinator_node, happenings, heard, hears, identity, is_taken, note_by, offered_near, running_world, restarts}
 use Rattle.line_rules.specs.Steps.{sent_if, set_up, tag_of, ticked, world_after, trace_of}
 use Rattle.line_rules.specs.Worlds.{Trace, World, node_at}
 use Rattle.line_rules.proofs.LogPlans.{accept_short, acts_short, leave_leaves, random_leaves, acknowledging_leaves}
@@ -305,21 +305,21 @@ module _ (ciphers : Ciphers) (w : World) (short : HaveShortTables w) where
                 let ne : n ≢ length w.nodes = eqb-false n (length w.nodes) at in
                 subst (λ (b : Beside). MarkedIn ups n b.log y.store.records y.memory) (sym (aside_more w.beside n))
                 (held n y (sym (slice_get-push_other w.nodes n x ne) ∙ here))
-    old_marks event s other (old.Rests e quiet) = at_none ups w held (ran w) refl (λ n. refl)
-    old_marks event s other (old.Shows number x) = at_none ups w held (ran w) refl (λ n. refl)
-    old_marks event s other (old.Acts e number x A halts plan reads there call word asked) = one_quiet (ran w) number x (answering reads (acts x halts plan))
+    old_marks event s other (old.Rests e quiet) = at_none ups w held (running_world w) refl (λ n. refl)
+    old_marks event s other (old.Shows number x) = at_none ups w held (running_world w) refl (λ n. refl)
+    old_marks event s other (old.Acts e number x A halts plan reads there call word asked) = one_quiet (running_world w) number x (answering reads (acts x halts plan))
         refl refl there (call_quiet number x A halts plan there call)
     old_marks event s other (old.BreaksLink number next x a there call) =
-        let plan : Memory → Plan Memory Answer = λ m. changing said.Broken (with_station (calls.broke a m.station) m) in
-        one_quiet (ran w) number x (acts x said.Halted plan) refl refl there (call_quiet number x Answer said.Halted plan there call)
+        let plan : Memory → Plan Memory Answer = λ m. changing answers.Broken (with_station (calls.broke a m.station) m) in
+        one_quiet (running_world w) number x (acts x answers.Halted plan) refl refl there (call_quiet number x Answer answers.Halted plan there call)
     old_marks event s other (old.SendsFrom from to datagram x a there call target) =
         let plan : Memory → Plan Memory (Result SentHow SendRefusal) = λ m. of_station m (calls.send m.station a datagram (w.sends + 1) w.clock) in
         let d : NodeStep Answer = answering sent_word (acts x (Err sends.Halted) plan) in
-        sent_marks from to datagram (tag_of x) (is_taken d.answer) (acted ciphers w from d)
-        (one_quiet (ran w) from x d refl refl there (call_quiet from x _ (Err sends.Halted) plan there call))
+        sent_marks from to datagram (tag_of x) (is_taken d.answer) (node_outcome ciphers w from d)
+        (one_quiet (running_world w) from x d refl refl there (call_quiet from x _ (Err sends.Halted) plan there call))
     old_marks event s other (old.AllowsMeter number y c psk there call meter) =
         let plan : Memory → Plan Memory (Result ℕ CoordinatorRefusal) = λ m. coordinator_rules.allow m y.eui psk in
-        one_quiet (ran w) 0 c (acts c (Err orders.Halted) plan) refl refl there (call_quiet 0 c _ (Err orders.Halted) plan there call)
+        one_quiet (running_world w) 0 c (acts c (Err orders.Halted) plan) refl refl there (call_quiet 0 c _ (Err orders.Halted) plan there call)
     old_marks event s other (old.Sets e quiet number x plan there open_is is) =
         one_quiet (set_up w) number x (acts x (Ok tt) (λ m. of_station m (plan m.station))) refl refl there
         (call_quiet number x _ (Ok tt) (λ m. of_station m (plan m.station)) there (old.preset_call ciphers w number x plan open_is is))
@@ -334,33 +334,33 @@ module _ (ciphers : Ciphers) (w : World) (short : HaveShortTables w) where
         (λ m e. (coordinators_leave_log (own_of c) m (short 0 c m hc e)).depots x.eui psk)))
         (acts_quiet x (Ok tt) (λ m. meters.provision m g) (λ m e. (stations_leave_log m.station (short number x m hx e)).installs g))
     old_marks event s other (old.TurnsDown e number x octets reason d there says comes same is) =
-        one_quiet (ran w) number x d refl refl there (subst (λ (z : NodeStep (Result Accepted FrameRefusal)). Quiet x z.node) (sym same)
+        one_quiet (running_world w) number x d refl refl there (subst (λ (z : NodeStep (Result Accepted FrameRefusal)). Quiet x z.node) (sym same)
         (accepts_quiet number x octets there))
     old_marks event s other (old.Hears e number x octets cost got there says comes low is) =
         at_quiet ups w held (heard ciphers w number (accepting ciphers x octets).node octets got cost).0 number x
         (hears ciphers (accepting ciphers x octets).node got cost (note_by w octets got.path) w.clock).node there refl (λ n. refl)
         (heard_quiet number x octets got cost (note_by w octets got.path) there)
     old_marks event s other (old.Loses number f there) = at_none ups w held
-        (record (ran w) { flights = slice_set w.flights (number - 1) (record f { lost = true }) }) refl (λ n. refl)
+        (record (running_world w) { flights = slice_set w.flights (number - 1) (record f { lost = true }) }) refl (λ n. refl)
     old_marks event s other (old.Ticks seconds) = absurd (cc (other.0))
     old_marks event s other (old.Restarts number x there) = absurd (restart_other number (other.1 number))
       where
         restart_other : (k : ℕ) → (k == k) ≡ false → ⊥
         restart_other k e = eqb-false k k e refl
-    old_marks event s other (old.Cuts number nth keeps_new x there) = one_quiet (ran w) number x
-        (stays (record x { store = record x.store { cut = Some (record { nth = nth; keeps_new = keeps_new }) } }) said.Set) refl refl there
+    old_marks event s other (old.Cuts number nth keeps_new x there) = one_quiet (running_world w) number x
+        (stays (record x { store = record x.store { cut = Some (record { nth = nth; keeps_new = keeps_new }) } }) answers.Set) refl refl there
         (record { same = λ slot is. refl; down = λ e. e })
 
 -- # Every event
 
 -- what a step hands up
 abbrev pub MarksOn : List BroadcastUp → Step → Type 0
-MarksOn ups (Ok r) = MarkedWorld (ups ++ one_of r.1.happened.bup) r.0
+MarksOn ups (Ok r) = MarkedWorld (ups ++ one_of r.1.happenings.bup) r.0
 MarksOn ups (Err fault) = Unit {0}
 
 -- nothing
 abbrev pub NoneUp : Step → Type 0
-NoneUp (Ok r) = r.1.happened.bup ≡ None
+NoneUp (Ok r) = r.1.happenings.bup ≡ None
 NoneUp (Err fault) = Unit {0}
 
 module _ (w : World) (ok : WorldOk w) (flown_are : All FlightFits w.flights) (logs : LogsKept w) (ups : List BroadcastUp) (held : MarkedWorld ups w)
@@ -371,7 +371,7 @@ module _ (w : World) (ok : WorldOk w) (flown_are : All FlightFits w.flights) (lo
   within : (number : ℕ) (x : Node) → node_at w number ≡ Some x → number < length w.beside
   within number x there = beside_within w.beside w.nodes number x logs there
 
-  none : (r : World × Trace) → r.1.happened.bup ≡ None → MarkedWorld ups r.0 → MarksOn ups (Ok r)
+  none : (r : World × Trace) → r.1.happenings.bup ≡ None → MarkedWorld ups r.0 → MarksOn ups (Ok r)
   none r e h = rw e (λ n x there. subst (λ us. MarkedIn us n (beside_at r.0 n).log x.store.records x.memory) (sym (append-nil ups)) (h n x there))
 
   old_none : (event : Event) (s : Step) → old.IsStep network w event s → NoneUp s
@@ -383,9 +383,9 @@ module _ (w : World) (ok : WorldOk w) (flown_are : All FlightFits w.flights) (lo
   old_none event s (old.BreaksLink number next x a there call) = refl
   old_none event s (old.SendsFrom from to datagram x a there call target) =
       let d : NodeStep Answer = answering sent_word (acts x (Err sends.Halted) (λ m. of_station m (calls.send m.station a datagram (w.sends + 1) w.clock))) in
-      by_taken (is_taken d.answer) (acted network w from d) refl
+      by_taken (is_taken d.answer) (node_outcome network w from d) refl
     where
-      by_taken : (t : Bool) (r : World × Trace) → r.1.happened.bup ≡ None → (sent_if w from to datagram (tag_of x) t r).1.happened.bup ≡ None
+      by_taken : (t : Bool) (r : World × Trace) → r.1.happenings.bup ≡ None → (sent_if w from to datagram (tag_of x) t r).1.happenings.bup ≡ None
       by_taken true r e = e
       by_taken false r e = e
   old_none event s (old.AllowsMeter number y c psk there call meter) = refl
@@ -408,7 +408,7 @@ module _ (w : World) (ok : WorldOk w) (flown_are : All FlightFits w.flights) (lo
 
   -- a node that carries out a further plan, and hands nothing up
   carried : {A : Type 0} (v : World) (t : Trace) (number : ℕ) (x : Node) (halted : A) (plan : Reaching Memory → Plan (Reaching Memory) A)
-      → t.happened.bup ≡ None → node_at w number ≡ Some x
+      → t.happenings.bup ≡ None → node_at w number ≡ Some x
       → ((m : Memory) → x.memory ≡ Some m → PlanMarks ups number (beside_at w number) (λ _. None) (plan (record { memory = m; beside = beside_at w number })))
       → v.nodes ≡ slice_set w.nodes number (reaches x (beside_at w number) halted plan).node
       → v.beside ≡ slice_set w.beside number (beside_after x (beside_at w number) plan (reaches x (beside_at w number) halted plan).node)
@@ -502,8 +502,8 @@ module _ (w : World) (ok : WorldOk w) (flown_are : All FlightFits w.flights) (lo
   unfolding world_after
   marks_on event s (Fails e fault) = tt
   marks_on event s (Known e t other is nothing) = known_marks event s other is
-  marks_on event s (Rests e answer idle other nothing) = none (ran w, trace_of (happened w answer)) refl (at_none ups w held (ran w) refl (λ n. refl))
-  marks_on event s Opens = none (record (set_up w) { checks_on = true }, trace_of (happened w said.Set)) refl
+  marks_on event s (Rests e answer idle other nothing) = none (running_world w, trace_of (happenings w answer)) refl (at_none ups w held (running_world w) refl (λ n. refl))
+  marks_on event s Opens = none (record (set_up w) { checks_on = true }, trace_of (happenings w answers.Set)) refl
       (at_none ups w held (record (set_up w) { checks_on = true }) refl (λ n. refl))
   marks_on event s (Bcasts number x datagram there are) =
       carried (broadcasts_by network w number x datagram).0 (broadcasts_by network w number x datagram).1 number x (Err broadcast_faults.Halted)
@@ -533,13 +533,13 @@ module _ (w : World) (ok : WorldOk w) (flown_are : All FlightFits w.flights) (lo
       (at_quiet ups w held (heard network w number (after_accepting network x octets) octets got cost).0 number x (heard_node network w x octets got cost).node
       a.there refl (λ n. refl) (left_quiet event number x octets cost got a))
   marks_on event s (Ticks seconds) =
-      let v : World = record (ran w) {
+      let v : World = record (running_world w) {
         clock = w.clock + seconds;
         nodes = map (ticked (w.clock + seconds)) w.nodes;
         beside = map
             (tick_beside (w.clock + seconds)) w.beside;
       } in
-      none (v, trace_of (happened w said.Ticked)) refl (time_marks network w short ups held logs earlier v (w.clock + seconds) refl
+      none (v, trace_of (happenings w answers.Ticked)) refl (time_marks network w short ups held logs earlier v (w.clock + seconds) refl
       (λ n. ap (λ (c : Beside). c.log) (aside_ticked (w.clock + seconds) w.beside n)))
   marks_on event s (Restarts number x b there read) =
       at_one ups w held (restarts_by network w number x (Ok b)).0 number x (restarts x).node b None there (within number x there) refl refl tt

@@ -62,4 +62,4 @@ pub world_within : (w : World) → WorldOk w → WorldSpeaks w → IsSized w
 world_within w ok s = record { nodes = ok.count; memories = nodes_within w.nodes ok.nodes s.nodes }
 
 abbrev pub EntrySized : Entry → Type 0
-EntrySized x = IsSized x.after × (x.trace.happened.flights ≤ 24)
+EntrySized x = IsSized x.after × (x.trace.happenings.flights ≤ 24)

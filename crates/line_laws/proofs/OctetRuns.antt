@@ -7,7 +7,7 @@ use Rattle.plc_base.specs.Grant.{Granted}
 use Rattle.plc_base.specs.declared.key.Key.{Key}
 use Rattle.line_rules.specs.Answers.{Reception, meter_reception, coordinator_reception, sent_word}
 use Rattle.line_events.specs.declared.event.Answer.{Answer}
-use Rattle.line_events.specs.declared.event.Answer.TheVariants as said
+use Rattle.line_events.specs.declared.event.Answer.TheVariants as answers
 use Rattle.line_events.specs.declared.event.Event.{Event}
 use Rattle.node_rules.specs.declared.heard.Accepted.{Accepted}
 use Rattle.node_rules.specs.declared.heard.SentHow.{SentHow}
@@ -32,7 +32,7 @@ use Rattle.node_rules.specs.StoreReading.{first_grant}
 use Rattle.line_events.specs.Events.{IsEvent}
 use Rattle.line_rules.specs.Forgery.{Comes, accepting}
 use Rattle.line_rules.specs.Worlds.{World, Flight, node_at, flight_at, start}
-use Rattle.line_rules.specs.Steps.{Step, set_up, ran, world_after, blank_node, ticked, flights_of, flight_by, acted, sending, sent_if, is_taken, tag_of, hears}
+use Rattle.line_rules.specs.Steps.{Step, set_up, running_world, world_after, blank_node, ticked, flights_of, flight_by, node_outcome, sending, sent_if, is_taken, tag_of, hears}
 use Rattle.line_rules.specs.Steps.{offered_near, heard, note_by, identity, restarts, psk_of}
 use Rattle.line_laws.specs.Stores.{IsReadable, HasEui}
 use Rattle.line_laws.specs.Owed.{AreOctets}
@@ -88,7 +88,7 @@ module _ (w : World) (ok : WorldOk w) (s : WorldSpeaks w) where
   speaks_at : (number : ℕ) (x : Node) → node_at w number ≡ Some x → NodeSpeaks x
   speaks_at number x there = at_place NodeSpeaks w.nodes number x there s.nodes
 
-  ran_speaks : WorldSpeaks (ran w)
+  ran_speaks : WorldSpeaks (running_world w)
   ran_speaks = record { nodes = s.nodes; flights = s.flights }
 
   set_up_speaks : WorldSpeaks (set_up w)
@@ -119,7 +119,7 @@ module _ (w : World) (ok : WorldOk w) (s : WorldSpeaks w) where
       (ring_readable x m (good_at number x there) here) w.clock)
   call_speaks number x A halts plan there (Sends a datagram other are) = acts_speaks x _ _ (speaks_at number x there)
       (λ m here h. send_speaks m h (ring_readable x m (good_at number x there) here) a datagram (w.sends + 1) w.clock are.2)
-  call_speaks number x A halts plan there (Breaks a other) = acts_speaks x _ _ (speaks_at number x there) (λ m here h. broke_speaks m h a said.Broken)
+  call_speaks number x A halts plan there (Breaks a other) = acts_speaks x _ _ (speaks_at number x there) (λ m here h. broke_speaks m h a answers.Broken)
   call_speaks number x A halts plan there (Nears a cost open_is other low) =
       acts_speaks x _ _ (speaks_at number x there) (λ m here h. near_speaks m h (ring_readable x m (good_at number x there) here) a cost w.clock)
   call_speaks number x A halts plan there (Counts value open_is low) = acts_speaks x _ _ (speaks_at number x there) (λ m here h. counter_speaks m h value)
@@ -192,17 +192,17 @@ module _ (w : World) (ok : WorldOk w) (s : WorldSpeaks w) where
   made_is event x (OfMeter eui psk some room new known long) = new_speaks
 
   sending_is : (from to : ℕ) (datagram : List ℕ) (x : Node) (d : NodeStep Answer) → DidSpeak d → WorldSpeaks (sending network w from to datagram (tag_of x) d).0
-  sending_is from to datagram x d did = by_taken (is_taken d.answer) (after_speaks (ran w) from d ran_speaks did)
+  sending_is from to datagram x d did = by_taken (is_taken d.answer) (after_speaks (running_world w) from d ran_speaks did)
     where
-      by_taken : (b : Bool) → WorldSpeaks (world_after network (ran w) from d)
-          → WorldSpeaks (sent_if w from to datagram (tag_of x) b (acted network w from d)).0
+      by_taken : (b : Bool) → WorldSpeaks (world_after network (running_world w) from d)
+          → WorldSpeaks (sent_if w from to datagram (tag_of x) b (node_outcome network w from d)).0
       by_taken true k = record { nodes = k.nodes; flights = k.flights }
       by_taken false k = k
 
   heard_is : (number : ℕ) (y : Node) (octets : List ℕ) (got : Accepted) (cost : ℕ) → DidSpeak (hears network y got cost (note_by w octets got.path) w.clock)
       → WorldSpeaks (heard network w number y octets got cost).0
   heard_is number y octets got cost did =
-      let k = after_speaks (ran w) number (hears network y got cost (note_by w octets got.path) w.clock) ran_speaks did in
+      let k = after_speaks (running_world w) number (hears network y got cost (note_by w octets got.path) w.clock) ran_speaks did in
       record { nodes = k.nodes; flights = k.flights }
 
   flight_place : (number : ℕ) (f : Flight) → flight_at w number ≡ Some f → slice_get w.flights (number - 1) ≡ Some f
@@ -218,18 +218,18 @@ module _ (w : World) (ok : WorldOk w) (s : WorldSpeaks w) where
   event_speaks event st (Rests e quiet) = ran_speaks
   event_speaks event st (Shows number x) = ran_speaks
   event_speaks event st (Acts e number x A halts plan reads there call word asked) =
-      after_speaks (ran w) number (answering reads (acts x halts plan)) ran_speaks
+      after_speaks (running_world w) number (answering reads (acts x halts plan)) ran_speaks
       (answering_speaks reads (acts x halts plan) (call_speaks number x A halts plan there call))
   event_speaks event st (BreaksLink number next x a there call) =
-      let plan : Memory → Plan Memory Answer = λ m. changing said.Broken (with_station (calls.broke a m.station) m) in
-      after_speaks (ran w) number (acts x said.Halted plan) ran_speaks (call_speaks number x Answer said.Halted plan there call)
+      let plan : Memory → Plan Memory Answer = λ m. changing answers.Broken (with_station (calls.broke a m.station) m) in
+      after_speaks (running_world w) number (acts x answers.Halted plan) ran_speaks (call_speaks number x Answer answers.Halted plan there call)
   event_speaks event st (SendsFrom from to datagram x a there call target) =
       let plan : Memory → Plan Memory (Result SentHow SendRefusal) = λ m. of_station m (calls.send m.station a datagram (w.sends + 1) w.clock) in
       sending_is from to datagram x (answering sent_word (acts x (Err sends.Halted) plan))
       (answering_speaks sent_word (acts x (Err sends.Halted) plan) (call_speaks from x _ (Err sends.Halted) plan there call))
   event_speaks event st (AllowsMeter number y c psk there call meter) =
       let plan : Memory → Plan Memory (Result ℕ CoordinatorRefusal) = λ m. coordinator_rules.allow m y.eui psk in
-      after_speaks (ran w) 0 (acts c (Err orders.Halted) plan) ran_speaks (call_speaks 0 c _ (Err orders.Halted) plan there call)
+      after_speaks (running_world w) 0 (acts c (Err orders.Halted) plan) ran_speaks (call_speaks 0 c _ (Err orders.Halted) plan there call)
   event_speaks event st (Sets e quiet number x plan there open_is is) =
       after_speaks (set_up w) number (acts x (Ok tt) (λ m. of_station m (plan m.station))) set_up_speaks
       (call_speaks number x _ (Ok tt) (λ m. of_station m (plan m.station)) there (preset_call network w number x plan open_is is))
@@ -248,7 +248,7 @@ module _ (w : World) (ok : WorldOk w) (s : WorldSpeaks w) where
       let did : DidSpeak d = subst (λ (z : NodeStep (Result Accepted FrameRefusal)). DidSpeak z) (sym same)
       (acts_speaks x (Err frames.Halted) (λ m. of_station m (accept m.station x.eui (arrived network octets))) (speaks_at number x there)
       (λ m here h. accept_speaks m h x.eui (arrived network octets))) in
-      after_speaks (ran w) number d ran_speaks did
+      after_speaks (running_world w) number d ran_speaks did
   event_speaks event st (Hears e number x octets cost got there says comes low is) =
       heard_is number (accepting network x octets).node octets got cost (heard_did e number x octets cost got there says comes is)
   event_speaks event st (Loses number f there) = record {
@@ -261,9 +261,9 @@ module _ (w : World) (ok : WorldOk w) (s : WorldSpeaks w) where
         (All-weaker NodeSpeaks (λ x. NodeSpeaks (ticked (w.clock + seconds) x)) (ticked_speaks (w.clock + seconds)) w.nodes s.nodes);
     flights = s.flights;
   }
-  event_speaks event st (Restarts number x there) = after_speaks (ran w) number (restarts x) ran_speaks (restarts_speaks x (good_at number x there))
+  event_speaks event st (Restarts number x there) = after_speaks (running_world w) number (restarts x) ran_speaks (restarts_speaks x (good_at number x there))
   event_speaks event st (Cuts number nth keeps_new x there) =
-      after_speaks (ran w) number (stays (record x { store = record x.store { cut = Some (record { nth = nth; keeps_new = keeps_new }) } }) said.Set) ran_speaks
+      after_speaks (running_world w) number (stays (record x { store = record x.store { cut = Some (record { nth = nth; keeps_new = keeps_new }) } }) answers.Set) ran_speaks
       (record { node = speaks_at number x there; frames = All-nil SentOctets })
 
 -- # Runs

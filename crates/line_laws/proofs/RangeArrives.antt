@@ -16,7 +16,7 @@ use Rattle.line_rules.specs.Answers.{Reception, meter_reception, coordinator_rec
 use Rattle.node_rules.specs.Meters as meters
 use Rattle.node_rules.specs.Coordinators as coordinators
 use Rattle.node_rules.specs.NodeSteps.{NodeStep, acts, of_station, answering}
-use Rattle.line_rules.specs.Steps.{identity, hears, note_by, forged_by, world_after, ran, trace_of, happened, flights_of, heard, arrives}
+use Rattle.line_rules.specs.Steps.{identity, hears, note_by, forged_by, world_after, running_world, trace_of, happenings, flights_of, heard, arrives}
 use Rattle.line_rules.specs.Worlds.{Trace, World}
 use Rattle.node_rules.specs.Ciphers.{OpensWhatItSeals}
 use Rattle.line_laws.specs.Letters.{IsFlight, AreFlights}
@@ -112,16 +112,16 @@ module _ (ciphers : Ciphers) (opens : OpensWhatItSeals ciphers) (w : World) (are
 
   pub arrives_ranged : All NodeRanged w.nodes → NodeRanged x
       → ((got : Accepted) → accepts.answer ≡ Ok got → JoinsWell ciphers accepts.node got cost (note_by w octets got.path) w.clock)
-      → (arrives ciphers w number x octets cost).1.happened.forged ≡ false
+      → (arrives ciphers w number x octets cost).1.happenings.forged ≡ false
       → LeavesRanged (arrives ciphers w number x octets cost).0
   unfolding arrives world_after
   arrives_ranged nodes ok joins unforged = by_answer accepts.answer refl unforged
     where
       after : Result Accepted FrameRefusal → World × Trace
       after (Ok got) = heard ciphers w number accepts.node octets got cost
-      after (Err reason) = (world_after ciphers (ran w) number accepts, trace_of (happened w (frame_word reason)))
+      after (Err reason) = (world_after ciphers (running_world w) number accepts, trace_of (happenings w (frame_word reason)))
 
-      by_answer : (a : Result Accepted FrameRefusal) → accepts.answer ≡ a → (after a).1.happened.forged ≡ false → LeavesRanged (after a).0
+      by_answer : (a : Result Accepted FrameRefusal) → accepts.answer ≡ a → (after a).1.happenings.forged ≡ false → LeavesRanged (after a).0
       by_answer (Err reason) e unforged =
           let r = accepts_ranged ok in
           record {

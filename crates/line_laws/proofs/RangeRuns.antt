@@ -10,11 +10,11 @@ use Rattle.routing_set.specs.declared.entry.RoutingEntry.{RoutingEntry}
 use Rattle.routing_set.specs.declared.entry.Route.{Route}
 use Rattle.line_rules.specs.Answers.{sent_word}
 use Rattle.line_events.specs.declared.event.Answer.{Answer}
-use Rattle.line_events.specs.declared.event.Answer.TheVariants as said
+use Rattle.line_events.specs.declared.event.Answer.TheVariants as answers
 use Rattle.line_events.specs.declared.event.Event.{Event}
 use Rattle.line_rules.specs.Forgery.{accepting}
 use Rattle.line_rules.specs.Worlds.{World, Flight, node_at, flight_at, start}
-use Rattle.line_rules.specs.Steps.{Step, set_up, ran, world_after, acted, sending, sent_if, is_taken, tag_of, hears, heard, note_by, forged_by, identity}
+use Rattle.line_rules.specs.Steps.{Step, set_up, running_world, world_after, node_outcome, sending, sent_if, is_taken, tag_of, hears, heard, note_by, forged_by, identity}
 use Rattle.line_rules.specs.Steps.{psk_of}
 use Rattle.line_rules.specs.Steps.{flights_of, offered_near, blank_node, restarts, memory_by, ticked}
 use Rattle.node_rules.specs.declared.heard.Accepted.{Accepted}
@@ -220,7 +220,7 @@ module _ (w : World) (ok : WorldOk w) (s : WorldSpeaks w) (r : WorldRanged w) wh
       network_ranges x.eui (record { 0 = [] }) (short_at number x (record { 0 = [] }) there m here))
   call_ranged number x A halts plan there (Sends a datagram other are) = acts_ranged x _ _ (ranged_at number x there)
       (λ m here h. send_ranged m h a datagram (w.sends + 1) w.clock (address_low other.node a (good_at other.number other.node other.there) other.address))
-  call_ranged number x A halts plan there (Breaks a other) = acts_ranged x _ _ (ranged_at number x there) (λ m here h. broke_ranged m h a said.Broken)
+  call_ranged number x A halts plan there (Breaks a other) = acts_ranged x _ _ (ranged_at number x there) (λ m here h. broke_ranged m h a answers.Broken)
   call_ranged number x A halts plan there (Nears a cost open_is other low) = acts_ranged x _ _ (ranged_at number x there)
       (λ m here h. near_ranged m h a cost w.clock (address_low other.node a (good_at other.number other.node other.there) other.address) (omega arith))
   call_ranged number x A halts plan there (Counts value open_is low) = acts_ranged x _ _ (ranged_at number x there) (λ m here h. counter_ranged m h value)
@@ -315,14 +315,14 @@ module _ (w : World) (ok : WorldOk w) (s : WorldSpeaks w) (r : WorldRanged w) wh
 
   -- # Events
 
-  ran_ranged : WorldRanged (ran w)
+  ran_ranged : WorldRanged (running_world w)
   ran_ranged = record { nodes = r.nodes; flights = r.flights }
 
   set_up_ranged : WorldRanged (set_up w)
   set_up_ranged = record { nodes = r.nodes; flights = r.flights }
 
   abbrev pub RangedIn : Step → Type 0
-  RangedIn (Ok t) = t.1.happened.forged ≡ false → WorldRanged t.0
+  RangedIn (Ok t) = t.1.happenings.forged ≡ false → WorldRanged t.0
   RangedIn (Err fault) = Unit {0}
 
   made_is : (event : Event) (x : Node) → IsMade w event x → NodeRanged x
@@ -334,17 +334,17 @@ module _ (w : World) (ok : WorldOk w) (s : WorldSpeaks w) (r : WorldRanged w) wh
 
   sending_is : (from to : ℕ) (datagram : List ℕ) (x : Node) (d : NodeStep Answer) → DidRanged d
       → WorldRanged (sending network w from to datagram (tag_of x) d).0
-  sending_is from to datagram x d did = by_taken (is_taken d.answer) (after_ranged (ran w) from d ran_ranged did)
+  sending_is from to datagram x d did = by_taken (is_taken d.answer) (after_ranged (running_world w) from d ran_ranged did)
     where
-      by_taken : (b : Bool) → WorldRanged (world_after network (ran w) from d)
-          → WorldRanged (sent_if w from to datagram (tag_of x) b (acted network w from d)).0
+      by_taken : (b : Bool) → WorldRanged (world_after network (running_world w) from d)
+          → WorldRanged (sent_if w from to datagram (tag_of x) b (node_outcome network w from d)).0
       by_taken true k = record { nodes = k.nodes; flights = k.flights }
       by_taken false k = k
 
   heard_is : (number : ℕ) (y : Node) (octets : List ℕ) (got : Accepted) (cost : ℕ) → DidRanged (hears network y got cost (note_by w octets got.path) w.clock)
       → WorldRanged (heard network w number y octets got cost).0
   heard_is number y octets got cost did =
-      let k = after_ranged (ran w) number (hears network y got cost (note_by w octets got.path) w.clock) ran_ranged did in
+      let k = after_ranged (running_world w) number (hears network y got cost (note_by w octets got.path) w.clock) ran_ranged did in
       record { nodes = k.nodes; flights = k.flights }
 
   flight_place : (number : ℕ) (f : Flight) → flight_at w number ≡ Some f → slice_get w.flights (number - 1) ≡ Some f
@@ -360,18 +360,18 @@ module _ (w : World) (ok : WorldOk w) (s : WorldSpeaks w) (r : WorldRanged w) wh
   event_ranged event st (Rests e quiet) = λ honest. ran_ranged
   event_ranged event st (Shows number x) = λ honest. ran_ranged
   event_ranged event st (Acts e number x A halts plan reads there call word asked) = λ honest.
-      after_ranged (ran w) number (answering reads (acts x halts plan)) ran_ranged
+      after_ranged (running_world w) number (answering reads (acts x halts plan)) ran_ranged
       (answering_ranged reads (acts x halts plan) (call_ranged number x A halts plan there call))
   event_ranged event st (BreaksLink number next x a there call) = λ honest.
-      let plan : Memory → Plan Memory Answer = λ m. changing said.Broken (with_station (calls.broke a m.station) m) in
-      after_ranged (ran w) number (acts x said.Halted plan) ran_ranged (call_ranged number x Answer said.Halted plan there call)
+      let plan : Memory → Plan Memory Answer = λ m. changing answers.Broken (with_station (calls.broke a m.station) m) in
+      after_ranged (running_world w) number (acts x answers.Halted plan) ran_ranged (call_ranged number x Answer answers.Halted plan there call)
   event_ranged event st (SendsFrom from to datagram x a there call asked) = λ honest.
       let plan : Memory → Plan Memory (Result SentHow SendRefusal) = λ m. of_station m (calls.send m.station a datagram (w.sends + 1) w.clock) in
       sending_is from to datagram x (answering sent_word (acts x (Err sends.Halted) plan))
       (answering_ranged sent_word (acts x (Err sends.Halted) plan) (call_ranged from x _ (Err sends.Halted) plan there call))
   event_ranged event st (AllowsMeter number y c psk there call meter) = λ honest.
       let plan : Memory → Plan Memory (Result ℕ CoordinatorRefusal) = λ m. coordinator_rules.allow m y.eui psk in
-      after_ranged (ran w) 0 (acts c (Err orders.Halted) plan) ran_ranged (call_ranged 0 c _ (Err orders.Halted) plan there call)
+      after_ranged (running_world w) 0 (acts c (Err orders.Halted) plan) ran_ranged (call_ranged 0 c _ (Err orders.Halted) plan there call)
   event_ranged event st (Sets e quiet number x plan there open_is is) = λ honest.
       after_ranged (set_up w) number (acts x (Ok tt) (λ m. of_station m (plan m.station))) set_up_ranged
       (call_ranged number x _ (Ok tt) (λ m. of_station m (plan m.station)) there (preset_call network w number x plan open_is is))
@@ -393,7 +393,7 @@ module _ (w : World) (ok : WorldOk w) (s : WorldSpeaks w) (r : WorldRanged w) wh
       let did : DidRanged d = subst (λ (z : NodeStep (Result Accepted FrameRefusal)). DidRanged z) (sym same)
       (acts_ranged x (Err frames.Halted) (λ m. of_station m (accept m.station x.eui (arrived network octets))) (ranged_at number x there)
       (λ m here h. accept_ranged m h x.eui (arrived network octets))) in
-      after_ranged (ran w) number d ran_ranged did
+      after_ranged (running_world w) number d ran_ranged did
   event_ranged event st (Hears e number x octets cost got there says comes low is) = λ honest.
       heard_is number (accepting network x octets).node octets got cost
       (heard_did number x octets cost got there (came_octets network network_ranges w ok s.flights e number octets says comes) is (or_parts _ _ honest).0)
@@ -407,7 +407,7 @@ module _ (w : World) (ok : WorldOk w) (s : WorldSpeaks w) (r : WorldRanged w) wh
         (All-weaker NodeRanged (λ x. NodeRanged (ticked (w.clock + seconds) x)) (ticked_ranged (w.clock + seconds)) w.nodes r.nodes);
     flights = r.flights;
   }
-  event_ranged event st (Restarts number x there) = λ honest. after_ranged (ran w) number (restarts x) ran_ranged (restarts_ranged x (good_at number x there))
+  event_ranged event st (Restarts number x there) = λ honest. after_ranged (running_world w) number (restarts x) ran_ranged (restarts_ranged x (good_at number x there))
   event_ranged event st (Cuts number nth keeps_new x there) = λ honest.
-      after_ranged (ran w) number (stays (record x { store = record x.store { cut = Some (record { nth = nth; keeps_new = keeps_new }) } }) said.Set) ran_ranged
+      after_ranged (running_world w) number (stays (record x { store = record x.store { cut = Some (record { nth = nth; keeps_new = keeps_new }) } }) answers.Set) ran_ranged
       (record { station = ranged_at number x there; frames = All-nil IsSent })

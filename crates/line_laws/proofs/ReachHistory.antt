@@ -75,7 +75,7 @@ use Rattle.line_rules.specs.Further.{line_step, reaches, replied, restarts_by, s
 use Rattle.line_rules.specs.FurtherRuns.{AreOfHistoryAfter, IsOfHistory, check_history, check_step, checked_by, scan_history, scan_step, scanned_by}
 use Rattle.line_rules.specs.Logs.{AreLogged, LogsKept}
 use Rattle.line_rules.specs.Runs.{Entry, IsRun, events_of}
-use Rattle.line_rules.specs.Steps.{Step, acted, heard, identity, is_taken, sent_if, tag_of, world_after}
+use Rattle.line_rules.specs.Steps.{Step, node_outcome, heard, identity, is_taken, sent_if, tag_of, world_after}
 use Rattle.line_rules.specs.Worlds.{Acknowledged, Further, Noticed, Replied, Scans, Trace, World, node_at, nothing_further, start}
 use Rattle.line_rules.specs.Worlds.{Heard as HeardOf}
 use Rattle.line_laws.specs.FurtherLines.{HoldsAfter}
@@ -524,7 +524,7 @@ module _ (ciphers : Ciphers) (w : World) where
   untouched event s (old.BreaksLink number next x a there call) = same _ _ refl refl
   untouched event s (old.SendsFrom from to datagram x a there call target) =
       let d : NodeStep Answer = answering sent_word (acts x (Err sends.Halted) (λ m. of_station m (calls.send m.station a datagram (w.sends + 1) w.clock))) in
-      sent_untouched from to datagram (tag_of x) (is_taken d.answer) (acted ciphers w from d) refl refl
+      sent_untouched from to datagram (tag_of x) (is_taken d.answer) (node_outcome ciphers w from d) refl refl
   untouched event s (old.AllowsMeter number y c psk there call meter) = same _ _ refl refl
   untouched event s (old.Sets e quiet number x plan there open_is is) = same _ _ refl refl
   untouched event s (old.SetsTwo e quiet a b cost x y p q hx hy apart open_is first second fresh near) = same _ _ refl refl

@@ -57,7 +57,7 @@ use Rattle.reach_rules.specs.ReachingNodes.{Beside, Reaching}
 use Rattle.reach_rules.specs.Receiving.{NeighbourCommand, command_of, hear_command}
 use Rattle.line_rules.specs.Answers.{Reception, ask_word, broadcast_word, command_word, discovery_word, frame_word, order_word, scan_word, sent_word}
 use Rattle.line_events.specs.declared.event.Answer.{Answer}
-use Rattle.line_events.specs.declared.event.Answer.TheVariants as said
+use Rattle.line_events.specs.declared.event.Answer.TheVariants as answers
 use Rattle.line_events.specs.declared.event.Event.{Event}
 use Rattle.line_events.specs.declared.event.Event.TheVariants as events
 use Rattle.line_events.specs.Events.{AreEvents, IsEvent}
@@ -66,7 +66,7 @@ use Rattle.line_rules.specs.Further.{broadcasts_by, checked, commanded, discover
 use Rattle.line_rules.specs.Further.{scans_by, sends_nothing, with_beside, with_check}
 use Rattle.line_rules.specs.Logs.{LogsKept}
 use Rattle.line_rules.specs.Runs.{Entry, IsRun, events_of, one_of}
-use Rattle.line_rules.specs.Steps.{Step, acted, allowed_word, flight_by, flights_of, happened, heard, identity, is_taken, note_by, ran, sent_if, tag_of}
+use Rattle.line_rules.specs.Steps.{Step, node_outcome, allowed_word, flight_by, flights_of, happenings, heard, identity, is_taken, note_by, running_world, sent_if, tag_of}
 use Rattle.line_rules.specs.Steps.{trace_of, world_after}
 use Rattle.line_rules.specs.Forgery.{Comes}
 use Rattle.line_rules.specs.FurtherRuns.{broadcasts}
@@ -89,10 +89,10 @@ use Rattle.line_laws.proofs.TracesRight.{entry}
 -- # What tells nothing of further reach
 
 record IsUnreported (event : Event) (t : Trace) : Type 0 where
-  word : NotNew t.happened.answer
-  spread : IsUnsent event t.happened.answer
-  bup : t.happened.bup ≡ None
-  path : t.happened.path ≡ None
+  word : NotNew t.happenings.answer
+  spread : IsUnsent event t.happenings.answer
+  bup : t.happenings.bup ≡ None
+  path : t.happenings.path ≡ None
   broadcast : t.further.broadcast ≡ None
   noticed : t.further.noticed ≡ None
 
@@ -100,15 +100,15 @@ abbrev UnreportedIn : Event → Step → Type 0
 UnreportedIn event (Ok r) = IsUnreported event r.1
 UnreportedIn event (Err fault) = Unit {0}
 
-silent : (event : Event) (t : Trace) → Quiet t.happened.answer → IsUnsent event t.happened.answer → t.happened.bup ≡ None → t.happened.path ≡ None
+silent : (event : Event) (t : Trace) → Quiet t.happenings.answer → IsUnsent event t.happenings.answer → t.happenings.bup ≡ None → t.happenings.path ≡ None
     → t.further.broadcast ≡ None → t.further.noticed ≡ None → IsUnreported event t
 silent event t word spread bup path cast noticed =
-    record { word = not_new t.happened.answer word; spread = spread; bup = bup; path = path; broadcast = cast; noticed = noticed }
+    record { word = not_new t.happenings.answer word; spread = spread; bup = bup; path = path; broadcast = cast; noticed = noticed }
 
 -- of an event that sends nothing to all
-quietly : (event : Event) (t : Trace) → Quiet t.happened.answer → as_bcast event ≡ None → t.happened.bup ≡ None → t.happened.path ≡ None
+quietly : (event : Event) (t : Trace) → Quiet t.happenings.answer → as_bcast event ≡ None → t.happenings.bup ≡ None → t.happenings.path ≡ None
     → t.further.broadcast ≡ None → t.further.noticed ≡ None → IsUnreported event t
-quietly event t word none = silent event t word (unsent_event event t.happened.answer none)
+quietly event t word none = silent event t word (unsent_event event t.happenings.answer none)
 
 sent_unreported : (w : World) (event : Event) (from to : ℕ) (datagram : List ℕ) (tag : ℕ) (t : Bool) (r : World × Trace) → IsUnreported event r.1
     → IsUnreported event (sent_if w from to datagram tag t r).1
@@ -129,7 +129,7 @@ old_unreported w event s (old.BreaksLink number next x a there call) =
     quietly (events.Break number next) _ (breaks_quiet x a) refl refl refl refl refl
 old_unreported w event s (old.SendsFrom from to datagram x a there call target) =
     let d : NodeStep Answer = answering sent_word (acts x (Err sends.Halted) (λ m. of_station m (calls.send m.station a datagram (w.sends + 1) w.clock))) in
-    sent_unreported w (events.Send from to datagram) from to datagram (tag_of x) (is_taken d.answer) (acted network w from d)
+    sent_unreported w (events.Send from to datagram) from to datagram (tag_of x) (is_taken d.answer) (node_outcome network w from d)
     (quietly (events.Send from to datagram) _
     (sent_quiet (acts x (Err sends.Halted) (λ m. of_station m (calls.send m.station a datagram (w.sends + 1) w.clock))).answer)
     refl refl refl refl refl)
@@ -164,7 +164,7 @@ old_unreported w event s (old.Cuts number nth keeps_new x there) =
     silent (events.Cut number nth keeps_new) _ refl refl refl refl refl refl
 
 abbrev pub QuietIn : Step → Type 0
-QuietIn (Ok r) = NotNew r.1.happened.answer
+QuietIn (Ok r) = NotNew r.1.happenings.answer
 QuietIn (Err fault) = Unit {0}
 
 -- its word is none of further reach
@@ -227,7 +227,7 @@ module _ (w : World) (logs : LogsKept w) (n : ℕ) where
   ReportedIn event (Err fault) = Unit {0}
 
   unreported_is : (event : Event) (v : World) (t : Trace) → IsUnreported event t → IsReachReported w (entry n event (v, t))
-  unreported_is event v t u = let q = none_new t.happened.answer u.word in record {
+  unreported_is event v t u = let q = none_new t.happenings.answer u.word in record {
     broadcast = ap (option_map to_all_of) u.broadcast ∙ sym u.spread;
     bup = ap is_some u.bup ∙ sym q.0;
     bup_came = subst (λ o. IfSome o (BroadcastCame w event)) (sym u.bup) tt;
@@ -586,18 +586,18 @@ module _ (w : World) (logs : LogsKept w) (n : ℕ) where
                 carries = h.carries;
               }
 
-      replied_reported : (v : World) (t : Trace) → Quiet t.happened.answer → t.happened.bup ≡ None → t.happened.path ≡ None → t.further.broadcast ≡ None
+      replied_reported : (v : World) (t : Trace) → Quiet t.happenings.answer → t.happenings.bup ≡ None → t.happenings.path ≡ None → t.further.broadcast ≡ None
           → t.further.noticed ≡ replied number (reply_among d.frames)
           → IfSome (replied number (reply_among d.frames)) (HasFrame w (entry n event (v, t))) → IsReachReported w (entry n event (v, t))
       replied_reported v t quiet_is bup path cast noticed frame = record {
-        broadcast = ap (option_map to_all_of) cast ∙ sym (unsent_event event t.happened.answer (unsent_octets a.comes));
-        bup = ap is_some bup ∙ sym (unreported t.happened.answer quiet_is).0;
+        broadcast = ap (option_map to_all_of) cast ∙ sym (unsent_event event t.happenings.answer (unsent_octets a.comes));
+        bup = ap is_some bup ∙ sym (unreported t.happenings.answer quiet_is).0;
         bup_came = subst (λ o. IfSome o (BroadcastCame w event)) (sym bup) tt;
-        path = ap is_some path ∙ sym (unreported t.happened.answer quiet_is).1;
+        path = ap is_some path ∙ sym (unreported t.happenings.answer quiet_is).1;
         path_came = subst (λ o. IfSome o (WalkCame w event)) (sym path) tt;
-        acked = ap is_acknowledged noticed ∙ no_ack (reply_among d.frames) ∙ sym (unreported t.happened.answer quiet_is).2;
-        scans = ap is_scan noticed ∙ no_scan (reply_among d.frames) ∙ sym (unreported t.happened.answer quiet_is).3;
-        beacons = ap is_beacon noticed ∙ no_beacon (reply_among d.frames) ∙ sym (unreported t.happened.answer quiet_is).4;
+        acked = ap is_acknowledged noticed ∙ no_ack (reply_among d.frames) ∙ sym (unreported t.happenings.answer quiet_is).2;
+        scans = ap is_scan noticed ∙ no_scan (reply_among d.frames) ∙ sym (unreported t.happenings.answer quiet_is).3;
+        beacons = ap is_beacon noticed ∙ no_beacon (reply_among d.frames) ∙ sym (unreported t.happenings.answer quiet_is).4;
         noticed = subst (λ o. IfSome o (HasFrame w (entry n event (v, t)))) (sym noticed) frame;
       }
         where
@@ -693,7 +693,7 @@ list_from w (x ∷ xs) world_after =
     by_one None = refl
     by_one (Some b) = refl
 
-    first : map to_all_of (one_of x.trace.further.broadcast) ≡ one_of (sent_to_all x.event x.trace.happened.answer)
+    first : map to_all_of (one_of x.trace.further.broadcast) ≡ one_of (sent_to_all x.event x.trace.happenings.answer)
     first = by_one x.trace.further.broadcast ∙ ap one_of world_after.0.broadcast
 
 pub every_list : EveryBroadcastIsListed

@@ -17,7 +17,7 @@ use Rattle.reach_rules.specs.Beacons.{is_discovery}
 use Rattle.reach_rules.specs.ReachingNodes.{Beside, restarted, tick_beside}
 use Rattle.reach_rules.specs.Receiving.{NeighbourCommand, command_of}
 use Rattle.line_events.specs.declared.event.Answer.{Answer}
-use Rattle.line_events.specs.declared.event.Answer.TheVariants as said
+use Rattle.line_events.specs.declared.event.Answer.TheVariants as answers
 use Rattle.line_events.specs.declared.event.Event.{Event}
 use Rattle.line_events.specs.declared.event.Event.TheVariants as events
 use Rattle.line_events.specs.declared.event.StepFault.{StepFault}
@@ -30,7 +30,7 @@ use Rattle.line_rules.specs.Further.{accepted_further, after_ok, asks_by, bcast,
 use Rattle.line_rules.specs.Further.{discovers_by, heard_by, heard_further, injects, is_dropped, line_step, path, restarts_by, restarts_further, scan, scans_by}
 use Rattle.line_rules.specs.Further.{ticks, unbelieved}
 use Rattle.line_rules.specs.Logs.{LogsKept}
-use Rattle.line_rules.specs.Steps.{Step, happened, has_begun, heard, hears, in_setup, note_by, on_flight, on_meter, on_node, once_begun, psk_of, ran, set_up}
+use Rattle.line_rules.specs.Steps.{Step, happenings, has_begun, heard, hears, in_setup, note_by, on_flight, on_meter, on_node, once_begun, psk_of, running_world, set_up}
 use Rattle.line_rules.specs.Steps.{takes_setup, tick, ticked, world_after, trace_of}
 use Rattle.line_rules.specs.Worlds.{World, Trace, Flight, flight_at, node_at}
 use Rattle.line_laws.specs.ReachTraces.{link_of}
@@ -60,9 +60,9 @@ heard_node ciphers w x octets got cost = hears ciphers (after_accepting ciphers 
 
 -- the words of a node that does nothing
 abbrev pub is_idle : Answer → Bool
-is_idle said.Halted = true
-is_idle said.NoAddress = true
-is_idle said.NoBeacon = true
+is_idle answers.Halted = true
+is_idle answers.NoAddress = true
+is_idle answers.NoBeacon = true
 is_idle _ = false
 
 pub data IsReachStep (ciphers : Ciphers) (w : World) : Event → Step → Type 1 where
@@ -76,9 +76,9 @@ pub data IsReachStep (ciphers : Ciphers) (w : World) : Event → Step → Type 1
   -- nothing is done
   Rests : (event : Event) (answer : Answer) → is_idle answer ≡ true → IsOther event
       → ((number : ℕ) (octets : List ℕ) → Comes w event number octets → is_discovery octets ≡ false → ⊥)
-      → IsReachStep ciphers w event (Ok (ran w, trace_of (happened w answer)))
+      → IsReachStep ciphers w event (Ok (running_world w, trace_of (happenings w answer)))
   -- neighbours are checked from now on
-  Opens : IsReachStep ciphers w events.Checks (Ok (record (set_up w) { checks_on = true }, trace_of (happened w said.Set)))
+  Opens : IsReachStep ciphers w events.Checks (Ok (record (set_up w) { checks_on = true }, trace_of (happenings w answers.Set)))
   Bcasts : (number : ℕ) (x : Node) (datagram : List ℕ) → node_at w number ≡ Some x → IsLineOctets datagram
       → IsReachStep ciphers w (events.Bcast number datagram) (Ok (broadcasts_by ciphers w number x datagram))
   Asks : (from to : ℕ) (x y : Node) (target : ℕ) → node_at w from ≡ Some x → node_at w to ≡ Some y → node_address y ≡ Some target
@@ -110,13 +110,13 @@ pub data IsReachStep (ciphers : Ciphers) (w : World) : Event → Step → Type 1
   -- time and a restart
   Ticks : (seconds : ℕ) → IsReachStep ciphers w (events.Tick seconds)
       (Ok (
-        record (ran w) {
+        record (running_world w) {
           clock = w.clock + seconds;
           nodes = map (ticked (w.clock + seconds)) w.nodes;
           beside = map (tick_beside (w.clock + seconds))
               w.beside;
         },
-        trace_of (happened w said.Ticked),
+        trace_of (happenings w answers.Ticked),
       ))
   Restarts : (number : ℕ) (x : Node) (b : Beside) → node_at w number ≡ Some x → restarted x.store.records ≡ Ok b
       → IsReachStep ciphers w (events.Restart number) (Ok (restarts_by ciphers w number x (Ok b)))
@@ -177,7 +177,7 @@ module _ (ciphers : Ciphers) (w : World) (logs : LogsKept w) where
     where
       by_address : (x y : Node) → node_at w from ≡ Some x → node_at w to ≡ Some y → (o : Option ℕ) → node_address y ≡ o
           → Is (events.Path from to) (Ok (asks_by ciphers w from x o))
-      by_address x y there other None e = Rests _ said.NoAddress refl (refl, λ n. refl) (λ n ys c s. brought c)
+      by_address x y there other None e = Rests _ answers.NoAddress refl (refl, λ n. refl) (λ n ys c s. brought c)
       by_address x y there other (Some target) e = Asks from to x y target there other e
 
   scan_step : (number : ℕ) → Is (events.Scan number) (scan w number)
@@ -185,7 +185,7 @@ module _ (ciphers : Ciphers) (w : World) (logs : LogsKept w) where
   scan_step number = once _ _ (at_meter _ number _ (λ x there. by_memory x there x.memory refl))
     where
       by_memory : (x : Node) → node_at w number ≡ Some x → (o : Option Memory) → x.memory ≡ o → Is (events.Scan number) (Ok (scans_by w number o))
-      by_memory x there None e = Rests _ said.Halted refl (refl, λ n. refl) (λ n ys c s. brought c)
+      by_memory x there None e = Rests _ answers.Halted refl (refl, λ n. refl) (λ n ys c s. brought c)
       by_memory x there (Some m) e = Scans number x m there e
 
   choose_step : (number k : ℕ) → Is (events.Choose number k) (choose ciphers w number k)
@@ -193,7 +193,7 @@ module _ (ciphers : Ciphers) (w : World) (logs : LogsKept w) where
   choose_step number k = once _ _ (at_meter _ number _ (λ x there. by_key x there (psk_of x) refl))
     where
       by_key : (x : Node) → node_at w number ≡ Some x → (o : Option Key) → psk_of x ≡ o → Is (events.Choose number k) (Ok (chooses_by ciphers w number x k o))
-      by_key x there None e = Rests _ said.NoBeacon refl (refl, λ n. refl) (λ n ys c s. brought c)
+      by_key x there None e = Rests _ answers.NoBeacon refl (refl, λ n. refl) (λ n ys c s. brought c)
       by_key x there (Some psk) e = Chooses number k x psk there e
 
   checks_step : Is events.Checks (checks w)
@@ -205,7 +205,7 @@ module _ (ciphers : Ciphers) (w : World) (logs : LogsKept w) where
   ticks_step seconds = by_start (has_begun w)
     where
       by_start : (b : Bool) → Is (events.Tick seconds) (after_ok (λ r. (record r.0 { beside = map (tick_beside (w.clock + seconds)) w.beside }, r.1))
-          (if b then Ok (record (ran w) { clock = w.clock + seconds; nodes = map (ticked (w.clock + seconds)) w.nodes }, trace_of (happened w said.Ticked)) else
+          (if b then Ok (record (running_world w) { clock = w.clock + seconds; nodes = map (ticked (w.clock + seconds)) w.nodes }, trace_of (happenings w answers.Ticked)) else
           Err faults.Setup))
       by_start true = Ticks seconds
       by_start false = Fails _ faults.Setup
@@ -224,7 +224,7 @@ module _ (ciphers : Ciphers) (w : World) (logs : LogsKept w) where
   module _ (event : Event) (number : ℕ) (x : Node) (octets : List ℕ) (cost : ℕ) (other : IsOther event) (there : node_at w number ≡ Some x)
       (says : IsEvent event) (comes_so : Comes w event number octets) (low : cost ≤ 255) (over : link_of event ≡ cost) where
     discovers_step : is_discovery octets ≡ true → (o : Option Memory) → x.memory ≡ o → Is event (Ok (discovers_by w number x octets cost o))
-    discovers_step is None e = Rests event said.Halted refl other (λ n ys c s. cc (is, s, (same_comes w event number n octets ys comes_so c).1))
+    discovers_step is None e = Rests event answers.Halted refl other (λ n ys c s. cc (is, s, (same_comes w event number n octets ys comes_so c).1))
     discovers_step is (Some m) e = Discovers event number x m octets cost other there e comes_so over is
 
     accepted_step : is_discovery octets ≡ false → (got : Accepted) → (accepting ciphers x octets).answer ≡ Ok got

@@ -16,7 +16,7 @@ use Rattle.reach_rules.specs.declared.refusal.ReachDropped.TheVariants as reach_
 use Rattle.reach_rules.specs.declared.refusal.DiscoveryDropped.{DiscoveryDropped}
 use Rattle.reach_rules.specs.declared.refusal.DiscoveryDropped.TheVariants as discovery_drops
 use Rattle.line_rules.specs.Steps.{hears, identity, restart_word}
-use Rattle.line_events.specs.declared.event.Answer.TheVariants as said
+use Rattle.line_events.specs.declared.event.Answer.TheVariants as answers
 use Rattle.line_events.specs.declared.event.Answer.{Answer}
 use Rattle.line_events.specs.declared.event.Event.{Event}
 use Rattle.node_rules.specs.Calls as calls
@@ -61,13 +61,13 @@ use Rattle.reach_rules.specs.declared.refusal.ChooseRefusal.{ChooseRefusal}
 
 -- whether a word is of a broadcast, a walk, a check, a scan or a beacon
 abbrev pub is_new : Answer → Bool
-is_new said.Bup = true
-is_new said.Path = true
-is_new said.Acked = true
-is_new said.NotAwaited = true
-is_new said.Blacklisted = true
-is_new said.Scanning = true
-is_new said.Beaconed = true
+is_new answers.Bup = true
+is_new answers.Path = true
+is_new answers.Acked = true
+is_new answers.NotAwaited = true
+is_new answers.Blacklisted = true
+is_new answers.Scanning = true
+is_new answers.Beaconed = true
 is_new _ = false
 
 abbrev pub NotNew : Answer → Type 0
@@ -75,26 +75,26 @@ NotNew a = is_new a ≡ false
 
 -- whether it is one of these, or of a meter that is allowed
 abbrev pub is_told : Answer → Bool
-is_told said.Allowed = true
+is_told answers.Allowed = true
 is_told a = is_new a
 
 abbrev pub Quiet : Answer → Type 0
 Quiet a = is_told a ≡ false
 
 pub not_new : (a : Answer) → Quiet a → NotNew a
-not_new said.Allowed e = refl
-not_new said.Bup e = e
-not_new said.Path e = e
-not_new said.Acked e = e
-not_new said.NotAwaited e = e
-not_new said.Blacklisted e = e
-not_new said.Scanning e = e
-not_new said.Beaconed e = e
+not_new answers.Allowed e = refl
+not_new answers.Bup e = e
+not_new answers.Path e = e
+not_new answers.Acked e = e
+not_new answers.NotAwaited e = e
+not_new answers.Blacklisted e = e
+not_new answers.Scanning e = e
+not_new answers.Beaconed e = e
 not_new _ e = refl
 
 -- no meter is allowed
 pub not_admitted : (a : Answer) → Quiet a → is_admitted a ≡ false
-not_admitted said.Allowed e = absurd (cc (e))
+not_admitted answers.Allowed e = absurd (cc (e))
 not_admitted _ e = refl
 
 -- no broadcast was handed up, no walk reported, no acknowledgement and no beacon taken, and no scan begun
@@ -102,11 +102,11 @@ abbrev pub Unreported : Answer → Type 0
 Unreported a = (is_bup a ≡ false) × (is_path a ≡ false) × (is_acked a ≡ false) × (is_scanning a ≡ false) × (is_beaconed a ≡ false)
 
 pub none_new : (a : Answer) → NotNew a → Unreported a
-none_new said.Bup e = absurd (cc (e))
-none_new said.Path e = absurd (cc (e))
-none_new said.Acked e = absurd (cc (e))
-none_new said.Scanning e = absurd (cc (e))
-none_new said.Beaconed e = absurd (cc (e))
+none_new answers.Bup e = absurd (cc (e))
+none_new answers.Path e = absurd (cc (e))
+none_new answers.Acked e = absurd (cc (e))
+none_new answers.Scanning e = absurd (cc (e))
+none_new answers.Beaconed e = absurd (cc (e))
 none_new _ e = (refl, refl, refl, refl, refl)
 
 pub unreported : (a : Answer) → Quiet a → Unreported a
@@ -170,11 +170,11 @@ word_quiet A reads event (OfLeave number) a = by_case a
     by_case (Err leaves.Halted) = refl
     by_case (Err leaves.NotJoined) = refl
     by_case (Err leaves.Store) = refl
-word_quiet A reads event (OfDraw B index key) a = ordered_quiet said.Drawn refl a
-word_quiet A reads event (OfChallenge B number) a = ordered_quiet said.Challenged refl a
-word_quiet A reads event (OfTurn B number index) a = ordered_quiet said.Activated refl a
-word_quiet A reads event (OfOrder B number index) a = ordered_quiet said.Ordered refl a
-word_quiet A reads event (OfKick B number) a = ordered_quiet said.Kicked refl a
+word_quiet A reads event (OfDraw B index key) a = ordered_quiet answers.Drawn refl a
+word_quiet A reads event (OfChallenge B number) a = ordered_quiet answers.Challenged refl a
+word_quiet A reads event (OfTurn B number index) a = ordered_quiet answers.Activated refl a
+word_quiet A reads event (OfOrder B number index) a = ordered_quiet answers.Ordered refl a
+word_quiet A reads event (OfKick B number) a = ordered_quiet answers.Kicked refl a
 
 pub drop_quiet : (reason : Dropped) → Quiet (drop_word reason)
 drop_quiet drops.BadUnit = refl
@@ -231,12 +231,12 @@ pub restart_quiet : (r : Result Memory BadStore) → Quiet (restart_word r)
 restart_quiet (Ok m) = refl
 restart_quiet (Err bad) = refl
 
-pub breaks_quiet : (x : Node) (a : ℕ) → Quiet (acts x said.Halted (λ m. changing said.Broken (with_station (calls.broke a m.station) m))).answer
+pub breaks_quiet : (x : Node) (a : ℕ) → Quiet (acts x answers.Halted (λ m. changing answers.Broken (with_station (calls.broke a m.station) m))).answer
 unfolding acts carry_out resting
 breaks_quiet x a = by_memory x.memory
   where
     by_memory : (o : Option Memory) → Quiet (option_map_or (λ m. left_by x (carry_out x.store.records x.store.cut
-        (changing said.Broken (with_station (calls.broke a m.station) m)))) o (stays x said.Halted)).answer
+        (changing answers.Broken (with_station (calls.broke a m.station) m)))) o (stays x answers.Halted)).answer
     by_memory None = refl
     by_memory (Some m) = refl
 
@@ -332,7 +332,7 @@ unsent_octets (OfScript number cost octets) = refl
 
 -- a node that does nothing
 pub idle_quiet : (a : Answer) → is_idle a ≡ true → Quiet a × (is_sent a ≡ false)
-idle_quiet said.Halted e = (refl, refl)
-idle_quiet said.NoAddress e = (refl, refl)
-idle_quiet said.NoBeacon e = (refl, refl)
+idle_quiet answers.Halted e = (refl, refl)
+idle_quiet answers.NoAddress e = (refl, refl)
+idle_quiet answers.NoBeacon e = (refl, refl)
 idle_quiet _ e = absurd (cc (e))

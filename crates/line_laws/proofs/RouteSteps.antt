@@ -18,7 +18,7 @@ use Rattle.routing_set.specs.RoutingSet as routing
 use Rattle.line_events.specs.declared.event.Event.{Event}
 use Rattle.line_events.specs.declared.event.Event.TheVariants as events
 use Rattle.line_events.specs.declared.event.Answer.{Answer}
-use Rattle.line_events.specs.declared.event.Answer.TheVariants as said
+use Rattle.line_events.specs.declared.event.Answer.TheVariants as answers
 use Rattle.line_events.specs.declared.event.StepFault.{StepFault}
 use Rattle.line_events.specs.declared.event.StepFault.TheVariants as faults
 use Rattle.node_rules.specs.declared.heard.Accepted.{Accepted}
@@ -43,10 +43,10 @@ use Rattle.line_rules.specs.Answers.{Reception, meter_reception, coordinator_rec
 use Rattle.node_rules.specs.MemoryDrafts.{with_station, give_random}
 use Rattle.line_events.specs.Events.{IsEvent, IsLineOctets}
 use Rattle.line_rules.specs.Worlds.{World, Flight, Trace, node_at, flight_at, is_forged_tag}
-use Rattle.line_rules.specs.Steps.{Step, set_up, ran, world_after, acted, once_begun, in_setup, has_begun, takes_setup, on_node, on_meter, made_node}
+use Rattle.line_rules.specs.Steps.{Step, set_up, running_world, world_after, node_outcome, once_begun, in_setup, has_begun, takes_setup, on_node, on_meter, made_node}
 use Rattle.line_rules.specs.Steps.{blank_node}
 use Rattle.line_rules.specs.Steps.{identity, hears, restarts, ticked, rand, join, joins_by, leave, send, sends_by, sent_if, breaks, breaks_by, lose, tick}
-use Rattle.line_rules.specs.Steps.{restart, cut, show, psk_of, trace_of, happened, coordinator, coordinator_node, meter, is_known, depot, depot_by, provisioned}
+use Rattle.line_rules.specs.Steps.{restart, cut, show, psk_of, trace_of, happenings, coordinator, coordinator_node, meter, is_known, depot, depot_by, provisioned}
 use Rattle.line_rules.specs.Steps.{near, near_by, keeps_rank, ranks_full, offered_near, preset, allow, allowed, deliver, inject, arrives, accepted_by, received}
 use Rattle.line_rules.specs.Steps.{by_coordinator, forged_by, note_by, rekey, challenge, activate, kick, step}
 use Rattle.node_rules.specs.NodeSteps.{NodeStep, acts, answering, of_station, changing}
@@ -85,7 +85,7 @@ use Rattle.line_laws.specs.Ranked.{via}
 -- what an event that is taken keeps, where it is not forged
 pub data StepHolds (ciphers : Ciphers) (h : Homes) (w : World) : Step → Type 0 where
   Fails : (fault : StepFault) → StepHolds ciphers h w (Err fault)
-  Taken : (r : World × Trace) → (r.1.happened.forged ≡ false → Reached ciphers h w r.0) → StepHolds ciphers h w (Ok r)
+  Taken : (r : World × Trace) → (r.1.happenings.forged ≡ false → Reached ciphers h w r.0) → StepHolds ciphers h w (Ok r)
 
 -- whether a grant has this home
 abbrev is_home : Option ℕ → Granted → Bool
@@ -214,8 +214,8 @@ module _ (ciphers : Ciphers) (fits : KeepsRanges ciphers) (h : Homes) (w : World
   start_here : Reached ciphers h w w
   start_here = record { holds = good; later = λ i x there. record { node = x; there = there; above = λ dest. inl refl } }
 
-  ran_holds : Reached ciphers h w (ran w)
-  ran_holds = counts_hold ciphers h w (ran w) refl refl start_here
+  ran_holds : Reached ciphers h w (running_world w)
+  ran_holds = counts_hold ciphers h w (running_world w) refl refl start_here
 
   set_up_holds : Reached ciphers h w (set_up w)
   set_up_holds = counts_hold ciphers h w (set_up w) refl refl start_here
@@ -239,28 +239,28 @@ module _ (ciphers : Ciphers) (fits : KeepsRanges ciphers) (h : Homes) (w : World
       → CallHolds ciphers h u number x (acts x halted plan)
   call u number x halted plan there ranks read = one_call ciphers h w u homes.addressed number x halted plan there (node_ok number x there) ranks read
 
-  acted_holds : (number : ℕ) (x : Node) (d : NodeStep Answer) → node_at w number ≡ Some x → CallHolds ciphers h (ran w) number x d
-      → Holds (Ok (acted ciphers w number d))
-  acted_holds number x d there c = Taken _ (λ honest. after_holds ciphers h (ran w) number x d there c ran_holds)
+  acted_holds : (number : ℕ) (x : Node) (d : NodeStep Answer) → node_at w number ≡ Some x → CallHolds ciphers h (running_world w) number x d
+      → Holds (Ok (node_outcome ciphers w number d))
+  acted_holds number x d there c = Taken _ (λ honest. after_holds ciphers h (running_world w) number x d there c ran_holds)
 
   abbrev HearsFor : ℕ → ℕ → ℕ → Rank → Type 0
-  HearsFor number = IsNearer h (ran w)
+  HearsFor number = IsNearer h (running_world w)
 
   -- # The calls of one node
 
   rand_holds : (number : ℕ) (value : Rand) → Holds (rand ciphers w number value)
   unfolding rand
-  rand_holds number value = once _ (at_node number _ (λ x there. acted_holds number x _ there (answering_holds ciphers h (ran w) number x random_word _
-      (call (ran w) number x (Err randoms.Halted) (λ m. give_random m value) there
-      (λ m here kept sized. random_ranks (At h number) (Own h number) (IsNearer h (ran w)) m here value) (λ m is. none_read (random_quiet m value))))))
+  rand_holds number value = once _ (at_node number _ (λ x there. acted_holds number x _ there (answering_holds ciphers h (running_world w) number x random_word _
+      (call (running_world w) number x (Err randoms.Halted) (λ m. give_random m value) there
+      (λ m here kept sized. random_ranks (At h number) (Own h number) (IsNearer h (running_world w)) m here value) (λ m is. none_read (random_quiet m value))))))
 
   joins_hold : (number agent : ℕ) (x : Node) (address : Option ℕ) (psk : Option Key) → node_at w number ≡ Some x
       → Holds (Ok (joins_by ciphers w number x address psk))
   joins_hold number agent x None psk there = Taken _ (λ honest. ran_holds)
   joins_hold number agent x (Some a) None there = Taken _ (λ honest. ran_holds)
-  joins_hold number agent x (Some a) (Some psk) there = acted_holds number x _ there (answering_holds ciphers h (ran w) number x join_word _
-      (call (ran w) number x (Err joins.Halted) (λ m. meters.join (identity ciphers x psk) m a w.clock) there
-      (λ m here kept sized. join_ranks (At h number) (Own h number) (IsNearer h (ran w)) m here (identity ciphers x psk) a w.clock)
+  joins_hold number agent x (Some a) (Some psk) there = acted_holds number x _ there (answering_holds ciphers h (running_world w) number x join_word _
+      (call (running_world w) number x (Err joins.Halted) (λ m. meters.join (identity ciphers x psk) m a w.clock) there
+      (λ m here kept sized. join_ranks (At h number) (Own h number) (IsNearer h (running_world w)) m here (identity ciphers x psk) a w.clock)
       (λ m is. join_read ciphers (identity ciphers x psk) m a w.clock)))
 
   join_holds : (number agent : ℕ) → Holds (join ciphers w number agent)
@@ -269,9 +269,9 @@ module _ (ciphers : Ciphers) (fits : KeepsRanges ciphers) (h : Homes) (w : World
 
   leave_holds : (number : ℕ) → Holds (leave ciphers w number)
   unfolding leave
-  leave_holds number = once _ (at_meter number _ (λ x there. acted_holds number x _ there (answering_holds ciphers h (ran w) number x leave_word _
-      (call (ran w) number x (Err leaves.Halted) meters.leave there
-      (λ m here kept sized. leave_ranks (At h number) (Own h number) (IsNearer h (ran w)) m here (identity ciphers x (record { 0 = [] })))
+  leave_holds number = once _ (at_meter number _ (λ x there. acted_holds number x _ there (answering_holds ciphers h (running_world w) number x leave_word _
+      (call (running_world w) number x (Err leaves.Halted) meters.leave there
+      (λ m here kept sized. leave_ranks (At h number) (Own h number) (IsNearer h (running_world w)) m here (identity ciphers x (record { 0 = [] })))
       (λ m is. none_read (leave_quiet m))))))
 
   sent_holds : (from to : ℕ) (datagram : List ℕ) (tag : ℕ) (b : Bool) (r : World × Trace) → Reached ciphers h w r.0
@@ -283,11 +283,11 @@ module _ (ciphers : Ciphers) (fits : KeepsRanges ciphers) (h : Homes) (w : World
       → IsLineOctets datagram → Holds (Ok (sends_by ciphers w from to datagram x address))
   sends_hold from to datagram x y None there other address says = Taken _ (λ honest. ran_holds)
   sends_hold from to datagram x y (Some a) there other address says =
-      let c = answering_holds ciphers h (ran w) from x sent_word _
-      (call (ran w) from x (Err sends.Halted) (λ m. of_station m (calls.send m.station a datagram (w.sends + 1) w.clock)) there
-      (λ m here kept sized. send_ranks (At h from) (Own h from) (IsNearer h (ran w)) m here a datagram (w.sends + 1) w.clock)
+      let c = answering_holds ciphers h (running_world w) from x sent_word _
+      (call (running_world w) from x (Err sends.Halted) (λ m. of_station m (calls.send m.station a datagram (w.sends + 1) w.clock)) there
+      (λ m here kept sized. send_ranks (At h from) (Own h from) (IsNearer h (running_world w)) m here a datagram (w.sends + 1) w.clock)
       (λ m is. reads.send from x m there is to y a datagram other address says)) in
-      sent_holds from to datagram _ _ _ (after_holds ciphers h (ran w) from x _ there c ran_holds)
+      sent_holds from to datagram _ _ _ (after_holds ciphers h (running_world w) from x _ there c ran_holds)
 
   send_holds : (from to : ℕ) (datagram : List ℕ) → IsLineOctets datagram → Holds (send ciphers w from to datagram)
   unfolding send
@@ -298,8 +298,8 @@ module _ (ciphers : Ciphers) (fits : KeepsRanges ciphers) (h : Homes) (w : World
   unfolding resting
   breaks_hold number x None there = Taken _ (λ honest. ran_holds)
   breaks_hold number x (Some next) there = acted_holds number x _ there
-      (call (ran w) number x said.Halted (λ m. changing said.Broken (with_station (calls.broke next m.station) m)) there
-      (λ m here kept sized. broke_ranks (At h number) (Own h number) (IsNearer h (ran w)) m here next said.Broken) (λ m is. All-nil (FrameRead ciphers)))
+      (call (running_world w) number x answers.Halted (λ m. changing answers.Broken (with_station (calls.broke next m.station) m)) there
+      (λ m here kept sized. broke_ranks (At h number) (Own h number) (IsNearer h (running_world w)) m here next answers.Broken) (λ m is. All-nil (FrameRead ciphers)))
 
   break_holds : (number next : ℕ) → Holds (breaks ciphers w number next)
   unfolding breaks
@@ -308,12 +308,12 @@ module _ (ciphers : Ciphers) (fits : KeepsRanges ciphers) (h : Homes) (w : World
   restart_holds : (number : ℕ) → Holds (restart ciphers w number)
   unfolding restart CallHolds
   restart_holds number = once _ (at_node number _ (λ x there. acted_holds number x (restarts x) there
-      (restarted_ranks (At h number) (Own h number) (IsNearer h (ran w)) x (node_ok number x there), All-nil (FrameRead ciphers))))
+      (restarted_ranks (At h number) (Own h number) (IsNearer h (running_world w)) x (node_ok number x there), All-nil (FrameRead ciphers))))
 
   cut_holds : (number nth : ℕ) (keeps_new : Bool) → Holds (cut ciphers w number nth keeps_new)
   unfolding cut CallHolds via
   cut_holds number nth keeps_new = once _ (at_node number _ (λ x there. acted_holds number x _ there (
-    same_store (At h number) (Own h number) (IsNearer h (ran w)) x
+    same_store (At h number) (Own h number) (IsNearer h (running_world w)) x
         (record x { store = record x.store { cut = Some (record { nth = nth; keeps_new = keeps_new }) } }) refl (λ dest next e. e),
     All-nil (FrameRead ciphers),
   )))
@@ -333,7 +333,7 @@ module _ (ciphers : Ciphers) (fits : KeepsRanges ciphers) (h : Homes) (w : World
   lose_holds number = once _ (by_flight (flight_at w number) refl)
     where
       v : Flight → World
-      v f = record (ran w) { flights = slice_set w.flights (number - 1) (record f { lost = true }) }
+      v f = record (running_world w) { flights = slice_set w.flights (number - 1) (record f { lost = true }) }
 
       backed_at : (f : Flight) → flight_at w number ≡ Some f → FlightBacked ciphers h w f
       backed_at f = by_number (number == 0)
@@ -354,12 +354,12 @@ module _ (ciphers : Ciphers) (fits : KeepsRanges ciphers) (h : Homes) (w : World
             (All-weaker (FlightBacked ciphers h w) (FlightBacked ciphers h (v f)) (λ x b. flight_later ciphers h w (v f) (forward f) x b) w.flights old);
       }) start_here
 
-      by_lost : (f : Flight) (b : Bool) → flight_at w number ≡ Some f → Holds (if b then Err faults.Flight else Ok (v f, trace_of (happened w said.Lost)))
+      by_lost : (f : Flight) (b : Bool) → flight_at w number ≡ Some f → Holds (if b then Err faults.Flight else Ok (v f, trace_of (happenings w answers.Lost)))
       by_lost f true there = Fails faults.Flight
       by_lost f false there = Taken _ (λ honest. lost_holds f there)
 
       by_flight : (o : Option Flight) → flight_at w number ≡ o
-          → Holds (option_map_or (λ f. if f.lost then Err faults.Flight else Ok (v f, trace_of (happened w said.Lost))) o (Err faults.Flight))
+          → Holds (option_map_or (λ f. if f.lost then Err faults.Flight else Ok (v f, trace_of (happenings w answers.Lost))) o (Err faults.Flight))
       by_flight None there = Fails faults.Flight
       by_flight (Some f) there = by_lost f f.lost there
 
@@ -372,7 +372,7 @@ module _ (ciphers : Ciphers) (fits : KeepsRanges ciphers) (h : Homes) (w : World
   }) start_here))
     where
       v : World
-      v = record (ran w) { clock = w.clock + seconds; nodes = map (ticked (w.clock + seconds)) w.nodes }
+      v = record (running_world w) { clock = w.clock + seconds; nodes = map (ticked (w.clock + seconds)) w.nodes }
 
       forward : (i : ℕ) (x : Node) → node_at w i ≡ Some x → Later v i x
       forward i x there = record {
@@ -392,21 +392,21 @@ module _ (ciphers : Ciphers) (fits : KeepsRanges ciphers) (h : Homes) (w : World
   own_of c = record { eui = c.eui; ciphers = ciphers }
 
   order_holds : {A : Type 0} (c : Node) (answer : Answer) (order : Memory → Plan Memory (Result A CoordinatorRefusal)) → node_at w 0 ≡ Some c
-      → ((m : Memory) → IsAt (At h 0) (address_of m.station) → PlanRanks (At h 0) (Own h 0) (IsNearer h (ran w)) m (order m))
+      → ((m : Memory) → IsAt (At h 0) (address_of m.station) → PlanRanks (At h 0) (Own h 0) (IsNearer h (running_world w)) m (order m))
       → ((m : Memory) → c.memory ≡ Some m → Reads ciphers (order m))
       → Holds (Ok (by_coordinator ciphers w c answer order))
-  order_holds c answer order there ranks read = acted_holds 0 c _ there (answering_holds ciphers h (ran w) 0 c (ordered_word answer) _
-      (call (ran w) 0 c (Err orders.Halted) order there (λ m here kept sized. ranks m here) read))
+  order_holds c answer order there ranks read = acted_holds 0 c _ there (answering_holds ciphers h (running_world w) 0 c (ordered_word answer) _
+      (call (running_world w) 0 c (Err orders.Halted) order there (λ m here kept sized. ranks m here) read))
 
   rekey_holds : (index : ℕ) (key : Key) → Holds (rekey ciphers w index key)
   unfolding rekey
-  rekey_holds index key = once _ (at_node 0 _ (λ c there. order_holds c said.Drawn _ there
-      (λ m here. rekey_ranks (At h 0) (Own h 0) (IsNearer h (ran w)) m here (own_of c) index key) (λ m is. none_read (rekey_quiet m index key))))
+  rekey_holds index key = once _ (at_node 0 _ (λ c there. order_holds c answers.Drawn _ there
+      (λ m here. rekey_ranks (At h 0) (Own h 0) (IsNearer h (running_world w)) m here (own_of c) index key) (λ m is. none_read (rekey_quiet m index key))))
 
   challenge_holds : (number : ℕ) → Holds (challenge ciphers w number)
   unfolding challenge
-  challenge_holds number = once _ (at_meter number _ (λ x is. at_node 0 _ (λ c there. order_holds c said.Challenged _ there
-      (λ m here. challenge_ranks (At h 0) (Own h 0) (IsNearer h (ran w)) m here (own_of c) x.eui w.clock)
+  challenge_holds number = once _ (at_meter number _ (λ x is. at_node 0 _ (λ c there. order_holds c answers.Challenged _ there
+      (λ m here. challenge_ranks (At h 0) (Own h 0) (IsNearer h (running_world w)) m here (own_of c) x.eui w.clock)
       (λ m at. reads.challenge 0 c m there at number x is))))
 
   activate_holds : (number index : ℕ) → index ≤ 1 → Holds (activate ciphers w number index)
@@ -414,26 +414,26 @@ module _ (ciphers : Ciphers) (fits : KeepsRanges ciphers) (h : Homes) (w : World
   activate_holds number index low = once _ (at_node number _ (λ x is. at_node 0 _ (λ c there. by_number (number == 0) x c is there)))
     where
       by_number : (b : Bool) (x c : Node) → node_at w number ≡ Some x → node_at w 0 ≡ Some c
-          → Holds (Ok (if b then by_coordinator ciphers w c said.Activated (λ m. coordinator_rules.activate_self m index)
-          else by_coordinator ciphers w c said.Ordered (λ m. coordinator_rules.activate m x.eui index w.clock)))
-      by_number true x c other there = order_holds c said.Activated _ there
-          (λ m here. activate_self_ranks (At h 0) (Own h 0) (IsNearer h (ran w)) m here (own_of c) index) (λ m at. none_read (activate_self_quiet m index))
-      by_number false x c other there = order_holds c said.Ordered _ there
-          (λ m here. activate_ranks (At h 0) (Own h 0) (IsNearer h (ran w)) m here (own_of c) x.eui index w.clock)
+          → Holds (Ok (if b then by_coordinator ciphers w c answers.Activated (λ m. coordinator_rules.activate_self m index)
+          else by_coordinator ciphers w c answers.Ordered (λ m. coordinator_rules.activate m x.eui index w.clock)))
+      by_number true x c other there = order_holds c answers.Activated _ there
+          (λ m here. activate_self_ranks (At h 0) (Own h 0) (IsNearer h (running_world w)) m here (own_of c) index) (λ m at. none_read (activate_self_quiet m index))
+      by_number false x c other there = order_holds c answers.Ordered _ there
+          (λ m here. activate_ranks (At h 0) (Own h 0) (IsNearer h (running_world w)) m here (own_of c) x.eui index w.clock)
           (λ m at. reads.activate 0 c m there at number x index other low)
 
   kick_holds : (number : ℕ) → Holds (kick ciphers w number)
   unfolding kick
-  kick_holds number = once _ (at_meter number _ (λ x is. at_node 0 _ (λ c there. order_holds c said.Kicked _ there
-      (λ m here. kick_ranks (At h 0) (Own h 0) (IsNearer h (ran w)) m here (own_of c) x.eui) (λ m at. reads.kick 0 c m there at number x is))))
+  kick_holds number = once _ (at_meter number _ (λ x is. at_node 0 _ (λ c there. order_holds c answers.Kicked _ there
+      (λ m here. kick_ranks (At h 0) (Own h 0) (IsNearer h (running_world w)) m here (own_of c) x.eui) (λ m at. reads.kick 0 c m there at number x is))))
 
   allow_holds : (number : ℕ) → Holds (allow ciphers w number)
   unfolding allow
   allow_holds number = once _ (at_meter number _ (λ x is. at_node 0 _ (λ c there.
       by_option (λ psk. Ok (allowed ciphers w number (acts c (Err orders.Halted) (λ m. coordinator_rules.allow m x.eui psk)))) (psk_of x) (Err faults.Node)
-      (λ psk pair. Taken _ (λ honest. after_holds ciphers h (ran w) 0 c _ there
-      (call (ran w) 0 c (Err orders.Halted) (λ m. coordinator_rules.allow m x.eui psk) there
-      (λ m here kept sized. allow_ranks (At h 0) (Own h 0) (IsNearer h (ran w)) m here (own_of c) x.eui psk) (λ m at. none_read (allow_quiet m x.eui psk)))
+      (λ psk pair. Taken _ (λ honest. after_holds ciphers h (running_world w) 0 c _ there
+      (call (running_world w) 0 c (Err orders.Halted) (λ m. coordinator_rules.allow m x.eui psk) there
+      (λ m here kept sized. allow_ranks (At h 0) (Own h 0) (IsNearer h (running_world w)) m here (own_of c) x.eui psk) (λ m at. none_read (allow_quiet m x.eui psk)))
       ran_holds)) (Fails faults.Node))))
 
   -- # Setup
@@ -551,7 +551,7 @@ module _ (ciphers : Ciphers) (fits : KeepsRanges ciphers) (h : Homes) (w : World
   -- # deliver, inject
 
   -- what a node makes of a frame, as it is after accepting it
-  hears_hold : (number : ℕ) (y : Node) (got : Accepted) (cost note : ℕ) → NodeOk y → RoutesFit got → SaidRight h (ran w) got → 1 ≤ cost
+  hears_hold : (number : ℕ) (y : Node) (got : Accepted) (cost note : ℕ) → NodeOk y → RoutesFit got → SaidRight h (running_world w) got → 1 ≤ cost
       → ((psk : Key) → y.role ≡ Meter psk → (m : Memory) → y.memory ≡ Some m → (agreed : Agreed)
       → (meters.hear_meter (identity ciphers y psk) m got cost note w.clock).answer ≡ Ok (meter_heard.Took agreed)
       → (granted : Granted) → (t : TakenFrom (identity ciphers y psk) m got cost note w.clock granted)
@@ -561,7 +561,7 @@ module _ (ciphers : Ciphers) (fits : KeepsRanges ciphers) (h : Homes) (w : World
       → ((psk : Key) → y.role ≡ Meter psk → (m : Memory) → y.memory ≡ Some m
       → Reads ciphers (meters.hear_meter (identity ciphers y psk) m got cost note w.clock))
       → ((m : Memory) → y.memory ≡ Some m → IsAt (At h number) (address_of m.station))
-      → CallHolds ciphers h (ran w) number y (hears ciphers y got cost note w.clock)
+      → CallHolds ciphers h (running_world w) number y (hears ciphers y got cost note w.clock)
   unfolding CallHolds
   hears_hold number y got cost note k routes right far took coordinator_reads meter_reads here = by_role y.role refl
     where
@@ -570,23 +570,23 @@ module _ (ciphers : Ciphers) (fits : KeepsRanges ciphers) (h : Homes) (w : World
           (acts y (Err drops.Store) (λ m. coordinator_rules.hear_coordinator (record { eui = y.eui; ciphers = ciphers }) m got cost note w.clock))
       hears_as (Meter psk) = answering meter_reception (acts y (Err drops.Store) (λ m. meters.hear_meter (identity ciphers y psk) m got cost note w.clock))
 
-      by_role : (role : Role) → y.role ≡ role → CallHolds ciphers h (ran w) number y (hears_as role)
-      by_role Coordinator is = answering_holds ciphers h (ran w) number y coordinator_reception
+      by_role : (role : Role) → y.role ≡ role → CallHolds ciphers h (running_world w) number y (hears_as role)
+      by_role Coordinator is = answering_holds ciphers h (running_world w) number y coordinator_reception
           (acts y (Err drops.Store) (λ m. coordinator_rules.hear_coordinator (record { eui = y.eui; ciphers = ciphers }) m got cost note w.clock)) (
-            acts_ranks (At h number) (Own h number) (IsNearer h (ran w)) y (Err drops.Store)
+            acts_ranks (At h number) (Own h number) (IsNearer h (running_world w)) y (Err drops.Store)
                 (λ m. coordinator_rules.hear_coordinator (record { eui = y.eui; ciphers = ciphers }) m got cost note w.clock) k
-                (λ m e kept. coordinator_hears_ranks (At h number) (Own h number) (IsNearer h (ran w)) m (here m e) got cost note w.clock
-                (said_offers h (ran w) number got cost note w.clock routes right far) (record { eui = y.eui; ciphers = ciphers })),
+                (λ m e kept. coordinator_hears_ranks (At h number) (Own h number) (IsNearer h (running_world w)) m (here m e) got cost note w.clock
+                (said_offers h (running_world w) number got cost note w.clock routes right far) (record { eui = y.eui; ciphers = ciphers })),
             acts_frames (FrameRead ciphers) y (Err drops.Store)
                 (λ m. coordinator_rules.hear_coordinator (record { eui = y.eui; ciphers = ciphers }) m got cost note w.clock) k
                 (λ m e kept sized. coordinator_reads m e),
           )
-      by_role (Meter psk) is = answering_holds ciphers h (ran w) number y meter_reception
+      by_role (Meter psk) is = answering_holds ciphers h (running_world w) number y meter_reception
           (acts y (Err drops.Store) (λ m. meters.hear_meter (identity ciphers y psk) m got cost note w.clock)) (
-            acts_ranks (At h number) (Own h number) (IsNearer h (ran w)) y (Err drops.Store)
+            acts_ranks (At h number) (Own h number) (IsNearer h (running_world w)) y (Err drops.Store)
                 (λ m. meters.hear_meter (identity ciphers y psk) m got cost note w.clock) k
-                (λ m e kept. taking_ranks (At h number) (Own h number) (IsNearer h (ran w)) m (here m e) got cost note w.clock
-                (said_offers h (ran w) number got cost note w.clock routes right far)
+                (λ m e kept. taking_ranks (At h number) (Own h number) (IsNearer h (running_world w)) m (here m e) got cost note w.clock
+                (said_offers h (running_world w) number got cost note w.clock routes right far)
                 (is_home (h number)) (home_passes (h number)) (home_fails (h number)) (identity ciphers y psk) (took psk is m e)),
             acts_frames (FrameRead ciphers) y (Err drops.Store) (λ m. meters.hear_meter (identity ciphers y psk) m got cost note w.clock) k
                 (λ m e kept sized. meter_reads psk is m e),
@@ -608,9 +608,9 @@ module _ (ciphers : Ciphers) (fits : KeepsRanges ciphers) (h : Homes) (w : World
       no_frames m p (Plain got plain) = All-nil (FrameRead ciphers)
       no_frames m p (Marked from counter got a) = All-nil (FrameRead ciphers)
 
-      accepts : CallHolds ciphers h (ran w) number x (acts x (Err frames.Halted) plan)
-      accepts = call (ran w) number x (Err frames.Halted) plan there
-          (λ m here kept sized. accept_ranks (At h number) (Own h number) (IsNearer h (ran w)) m here x.eui (arrived ciphers octets) kept.station.range.marks)
+      accepts : CallHolds ciphers h (running_world w) number x (acts x (Err frames.Halted) plan)
+      accepts = call (running_world w) number x (Err frames.Halted) plan there
+          (λ m here kept sized. accept_ranks (At h number) (Own h number) (IsNearer h (running_world w)) m here x.eui (arrived ciphers octets) kept.station.range.marks)
           (λ m is. no_frames m _ (accept_is m.station x.eui (arrived ciphers octets)))
 
       answered : (got : Accepted) → (acts x (Err frames.Halted) plan).answer ≡ Ok got → Answered x plan got
@@ -621,8 +621,8 @@ module _ (ciphers : Ciphers) (fits : KeepsRanges ciphers) (h : Homes) (w : World
       routes got a = accepted_routes ciphers fits octets are a.memory.station (ring_readable x a.memory (node_ok number x there) a.there) _ got
           (accept_is a.memory.station x.eui (arrived ciphers octets)) a.is
 
-      right : (got : Accepted) → Answered x plan got → forged_by w octets got.path ≡ false → SaidRight h (ran w) got
-      right got a honest = accepted_said ciphers h (ran w) homes.addressed.low ran_holds.holds.ranks.backed octets a.memory.station _ got
+      right : (got : Accepted) → Answered x plan got → forged_by w octets got.path ≡ false → SaidRight h (running_world w) got
+      right got a honest = accepted_said ciphers h (running_world w) homes.addressed.low ran_holds.holds.ranks.backed octets a.memory.station _ got
           (accept_is a.memory.station x.eui (arrived ciphers octets)) a.is honest
 
       here_after : (n : Memory) → (acts x (Err frames.Halted) plan).node.memory ≡ Some n → IsAt (At h number) (address_of n.station)
@@ -639,8 +639,8 @@ module _ (ciphers : Ciphers) (fits : KeepsRanges ciphers) (h : Homes) (w : World
           → Holds (Ok (accepted_by ciphers w number octets cost (acts x (Err frames.Halted) plan)))
       by_answer (Err reason) e =
           let k : NodeStep (Result Accepted FrameRefusal) = record (acts x (Err frames.Halted) plan) { answer = Err reason } in
-          rw e (Taken (world_after ciphers (ran w) number k, trace_of (happened w (frame_word reason)))
-          (λ honest. after_holds ciphers h (ran w) number x k there accepts ran_holds))
+          rw e (Taken (world_after ciphers (running_world w) number k, trace_of (happenings w (frame_word reason)))
+          (λ honest. after_holds ciphers h (running_world w) number x k there accepts ran_holds))
       by_answer (Ok got) e =
           let y = (acts x (Err frames.Halted) plan).node in
           let a = answered got e in
@@ -650,9 +650,9 @@ module _ (ciphers : Ciphers) (fits : KeepsRanges ciphers) (h : Homes) (w : World
           (homes.took number x octets cost there are got e (or_parts _ _ honest).1)
           (λ m at. reads.coordinator_hears number x octets cost got m there are e (or_parts _ _ honest).0 at)
           (λ psk is m at. reads.meter_hears number x octets cost got psk m there are e (or_parts _ _ honest).0 is at) here_after in
-          counts_hold ciphers h (world_after ciphers (ran w) number d) _ refl refl
-          (after_holds ciphers h (ran w) number x d there
-          (ranks_trans (At h number) (Own h number) (IsNearer h (ran w)) x y d.node _ d.frames accepts.0 second.0, second.1) ran_holds)))
+          counts_hold ciphers h (world_after ciphers (running_world w) number d) _ refl refl
+          (after_holds ciphers h (running_world w) number x d there
+          (ranks_trans (At h number) (Own h number) (IsNearer h (running_world w)) x y d.node _ d.frames accepts.0 second.0, second.1) ran_holds)))
 
   deliver_holds : (flight number cost : ℕ) → 1 ≤ cost → Holds (deliver ciphers w flight number cost)
   unfolding deliver

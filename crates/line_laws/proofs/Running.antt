@@ -3,7 +3,7 @@ use Rattle.std.proofs.Common.{◌≡◌, ◌≤◌, [], ◌∷◌, length, Optio
 use Rattle.std.specs.Prelude.{All, IfSome, if◌then◌else◌}
 use Rattle.std.proofs.lemmas.List.Elements.{All-nil, All-weaker}
 use Rattle.plc_base.specs.Keeper.{Records}
-use Rattle.line_events.specs.declared.event.Answer.TheVariants as said
+use Rattle.line_events.specs.declared.event.Answer.TheVariants as answers
 use Rattle.node_rules.specs.Ciphers.{Ciphers}
 use Rattle.line_events.specs.Events.{IsEvent}
 use Rattle.node_rules.specs.Memory.{Memory, Role, Coordinator, Meter, Node}
@@ -32,7 +32,7 @@ start_ok = record {
 
 -- what holds of a step that was taken
 abbrev Good : Step → Type 0
-Good (Ok r) = WorldOk r.0 × (r.1.happened.flights ≤ 24)
+Good (Ok r) = WorldOk r.0 × (r.1.happenings.flights ≤ 24)
 Good (Err fault) = Unit {0}
 
 good : (w : World) (s : Step) → StepGood w s → Good s
@@ -40,7 +40,7 @@ good w s (Fails fault) = tt
 good w s (Taken r ok few is) = (ok, few)
 
 pub taken_good : (ciphers : Ciphers) → KeepsRanges ciphers → (w : World) → WorldOk w → All FlightFits w.flights → (x : Entry) → IsEvent x.event
-    → step ciphers w x.event ≡ Ok (x.after, x.trace) → WorldOk x.after × (x.trace.happened.flights ≤ 24)
+    → step ciphers w x.event ≡ Ok (x.after, x.trace) → WorldOk x.after × (x.trace.happenings.flights ≤ 24)
 taken_good ciphers fits w ok flown x says e = subst Good e (good w _ (step_good ciphers fits w ok flown x.event says))
 
 -- # Sizes
@@ -77,7 +77,7 @@ world_sized w ok = record { nodes = ok.count; memories = All-weaker NodeOk NodeS
 
 -- # Restarts
 
-pub restart_answers : (x : Node) → NodeOk x → (restarts x).answer ≡ said.Restarted
+pub restart_answers : (x : Node) → NodeOk x → (restarts x).answer ≡ answers.Restarted
 restart_answers x ok =
     let a = read_again x.role x.store.records x.memory ok.kept in
     ap restart_word a.is

@@ -17,7 +17,7 @@ use Rattle.line_laws.proofs.FurtherRestarts.{every_size}
 use Rattle.line_laws.proofs.FurtherUps.{every_up}
 
 abbrev EntrySized : Entry → Type 0
-EntrySized x = IsSized x.after × (x.trace.happened.flights ≤ 24)
+EntrySized x = IsSized x.after × (x.trace.happenings.flights ≤ 24)
 
 safe_from : (w : World) (before entries : List Entry) → UpsAreSentAfter before entries → AreLoopFree w entries → IsIssuedAfter before entries
     → IsAlwaysSized entries → IsSafeAfter before entries

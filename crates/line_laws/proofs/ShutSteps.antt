@@ -12,12 +12,12 @@ use Rattle.line_rules.specs.Agreement.{is_allow_of}
 use Rattle.line_rules.specs.Answers.{Reception, coordinator_reception, meter_reception, ordered_word, order_word, sent_word}
 use Rattle.line_events.specs.Events.{IsEvent}
 use Rattle.line_rules.specs.Forgery.{Comes, accepting}
-use Rattle.line_rules.specs.Steps.{Step, ran, world_after, acted, allow, kick, by_coordinator, takes_setup, has_begun, sending, sent_if, is_taken, tag_of}
+use Rattle.line_rules.specs.Steps.{Step, running_world, world_after, node_outcome, allow, kick, by_coordinator, takes_setup, has_begun, sending, sent_if, is_taken, tag_of}
 use Rattle.line_rules.specs.Steps.{hears}
 use Rattle.line_rules.specs.Steps.{heard, note_by, identity, psk_of, restarts, ticked, step}
 use Rattle.line_rules.specs.Worlds.{World, Trace, node_at}
 use Rattle.line_events.specs.declared.event.Answer.{Answer}
-use Rattle.line_events.specs.declared.event.Answer.TheVariants as said
+use Rattle.line_events.specs.declared.event.Answer.TheVariants as answers
 use Rattle.line_events.specs.declared.event.Event.{Event}
 use Rattle.line_events.specs.declared.event.Event.TheVariants as events
 use Rattle.line_events.specs.declared.event.StepFault.{StepFault}
@@ -178,17 +178,17 @@ module _ (eui : Eui) where
         (accept_is a.memory.station x.eui (arrived ciphers octets)) a.is in
         let y = (accepting ciphers x octets).node in
         let d = hears ciphers y got cost (note_by w octets got.path) w.clock in
-        after_shut (ran w) (heard ciphers w number y octets got cost).0 number x d (same_shut w (ran w) refl shut) (after_nodes (ran w) number d) there
+        after_shut (running_world w) (heard ciphers w number y octets got cost).0 number x d (same_shut w (running_world w) refl shut) (after_nodes (running_world w) number d) there
         (λ first. hears_at y got cost (note_by w octets got.path) w.clock did.node (did.role ∙ first_role number x first there)
         (accepted_shut event number x octets there says comes first) routes)
 
     -- # Events
 
     sent_nodes : (from to : ℕ) (datagram : List ℕ) (tag : ℕ) (d : NodeStep Answer)
-        → (sending ciphers w from to datagram tag d).0.nodes ≡ (world_after ciphers (ran w) from d).nodes
+        → (sending ciphers w from to datagram tag d).0.nodes ≡ (world_after ciphers (running_world w) from d).nodes
     sent_nodes from to datagram tag d = by_taken (is_taken d.answer)
       where
-        by_taken : (b : Bool) → (sent_if w from to datagram tag b (acted ciphers w from d)).0.nodes ≡ (world_after ciphers (ran w) from d).nodes
+        by_taken : (b : Bool) → (sent_if w from to datagram tag b (node_outcome ciphers w from d)).0.nodes ≡ (world_after ciphers (running_world w) from d).nodes
         by_taken true = refl
         by_taken false = refl
 
@@ -202,7 +202,7 @@ module _ (eui : Eui) where
         (λ y hy. found_one ShutBy shut_failed (node_at w 0) _ (λ c hc. found_one ShutBy shut_failed (psk_of y) _ (λ psk pair.
         let d = acts c (Err orders.Halted) (λ m. coordinator_rules.allow m y.eui psk) in
         let fit = given_at n y hy in
-        after_shut (ran w) (world_after ciphers (ran w) 0 d) 0 c d (same_shut w (ran w) refl shut) (after_nodes (ran w) 0 d) hc
+        after_shut (running_world w) (world_after ciphers (running_world w) 0 d) 0 c d (same_shut w (running_world w) refl shut) (after_nodes (running_world w) 0 d) hc
         (λ first. acts_shut eui c (Err orders.Halted) (λ m. coordinator_rules.allow m y.eui psk) (good_at 0 c hc) (first_role 0 c refl hc)
         (first_shut 0 c refl hc)
         (λ m sized. allow_shut eui (own_of c) m sized y.eui psk fit.eui
@@ -223,22 +223,22 @@ module _ (eui : Eui) where
       stays_shut event s (Fails e fault) e_is other running some = tt
       stays_shut event s (Makes e x is) e_is other running some =
           λ c there. shut c (sym (slice_get-push_other w.nodes 0 x (λ (z : 0 ≡ length w.nodes). omega arith)) ∙ there)
-      stays_shut event s (Rests e quiet) e_is other running some = same_shut w (ran w) refl shut
-      stays_shut event s (Shows number x) e_is other running some = same_shut w (ran w) refl shut
+      stays_shut event s (Rests e quiet) e_is other running some = same_shut w (running_world w) refl shut
+      stays_shut event s (Shows number x) e_is other running some = same_shut w (running_world w) refl shut
       stays_shut event s (Acts e number x A halted plan reads there call word asked) e_is other running some =
-          after_shut (ran w) (world_after ciphers (ran w) number (answering reads (acts x halted plan))) number x (answering reads (acts x halted plan))
-          (same_shut w (ran w) refl shut) (after_nodes (ran w) number (answering reads (acts x halted plan))) there
+          after_shut (running_world w) (world_after ciphers (running_world w) number (answering reads (acts x halted plan))) number x (answering reads (acts x halted plan))
+          (same_shut w (running_world w) refl shut) (after_nodes (running_world w) number (answering reads (acts x halted plan))) there
           (asked_shut number x A halted plan there asked)
       stays_shut event s (BreaksLink number next x a there call) e_is other running some =
-          let plan : Memory → Plan Memory Answer = λ m. changing said.Broken (with_station (calls.broke a m.station) m) in
-          after_shut (ran w) (world_after ciphers (ran w) number (acts x said.Halted plan)) number x (acts x said.Halted plan) (same_shut w (ran w) refl shut)
-          (after_nodes (ran w) number (acts x said.Halted plan)) there
-          (quiet_shut number x said.Halted plan there (λ m sized. broke_quietly m sized a said.Broken))
+          let plan : Memory → Plan Memory Answer = λ m. changing answers.Broken (with_station (calls.broke a m.station) m) in
+          after_shut (running_world w) (world_after ciphers (running_world w) number (acts x answers.Halted plan)) number x (acts x answers.Halted plan) (same_shut w (running_world w) refl shut)
+          (after_nodes (running_world w) number (acts x answers.Halted plan)) there
+          (quiet_shut number x answers.Halted plan there (λ m sized. broke_quietly m sized a answers.Broken))
       stays_shut event s (SendsFrom from to datagram x a there call target) e_is other running some =
           let plan : Memory → Plan Memory (Result SentHow SendRefusal) = λ m. of_station m (calls.send m.station a datagram (w.sends + 1) w.clock) in
           let d = answering sent_word (acts x (Err sends.Halted) plan) in
-          after_shut (ran w) (sending ciphers w from to datagram (tag_of x) d).0 from x d (same_shut w (ran w) refl shut)
-          (sent_nodes from to datagram (tag_of x) d ∙ after_nodes (ran w) from d) there
+          after_shut (running_world w) (sending ciphers w from to datagram (tag_of x) d).0 from x d (same_shut w (running_world w) refl shut)
+          (sent_nodes from to datagram (tag_of x) d ∙ after_nodes (running_world w) from d) there
           (quiet_shut from x (Err sends.Halted) plan there (λ m sized. send_quietly m sized a datagram (w.sends + 1) w.clock))
       stays_shut event s (AllowsMeter number y c psk hc call hy) e_is other running some =
           subst ShutBy (sym (e_is number refl)) (allows_shut number meter z (eqb-false _ _ other) there named apart)
@@ -246,12 +246,12 @@ module _ (eui : Eui) where
       stays_shut event s (SetsTwo e quiet a b cost x y p q hx hy apart open_is first second fresh near) e_is other running some = absurd (over running open_is)
       stays_shut event s (Provides number x c psk g d ne open_is hx hc pair same is) e_is other running some = absurd (over running open_is)
       stays_shut event s (TurnsDown e number x octets reason d there says comes same is) e_is other running some =
-          after_shut (ran w) (world_after ciphers (ran w) number d) number x d (same_shut w (ran w) refl shut) (after_nodes (ran w) number d) there
+          after_shut (running_world w) (world_after ciphers (running_world w) number d) number x d (same_shut w (running_world w) refl shut) (after_nodes (running_world w) number d) there
           (λ first. subst (λ (z : NodeStep _). BookShut eui z.node) (sym same) (accepted_shut e number x octets there says comes first))
       stays_shut event s (Hears e number x octets cost got there says comes low is) e_is other running some =
           heard_shut e number x octets cost got there says comes is
       stays_shut event s (Loses number f there) e_is other running some =
-          same_shut w (record (ran w) { flights = slice_set w.flights (number - 1) (record f { lost = true }) }) refl shut
+          same_shut w (record (running_world w) { flights = slice_set w.flights (number - 1) (record f { lost = true }) }) refl shut
       stays_shut event s (Ticks seconds) e_is other running some =
           λ c there. ticked_shut c (slice_get w.nodes 0) refl (sym (slice_get-map (ticked (w.clock + seconds)) w.nodes 0) ∙ there)
         where
@@ -259,11 +259,11 @@ module _ (eui : Eui) where
           ticked_shut c None at e = absurd (cc)
           ticked_shut c (Some x) at e = λ b kept. shut x at b (subst (λ (z : Node). IsBookKept b z.store.records) (sym (same_Some _ _ e)) kept)
       stays_shut event s (Restarts number x there) e_is other running some =
-          after_shut (ran w) (world_after ciphers (ran w) number (restarts x)) number x (restarts x)
-          (same_shut w (ran w) refl shut) (after_nodes (ran w) number (restarts x)) there (λ first. first_shut number x first there)
+          after_shut (running_world w) (world_after ciphers (running_world w) number (restarts x)) number x (restarts x)
+          (same_shut w (running_world w) refl shut) (after_nodes (running_world w) number (restarts x)) there (λ first. first_shut number x first there)
       stays_shut event s (Cuts number nth keeps_new x there) e_is other running some =
-          let d : NodeStep Answer = stays (record x { store = record x.store { cut = Some (record { nth = nth; keeps_new = keeps_new }) } }) said.Set in
-          after_shut (ran w) (world_after ciphers (ran w) number d) number x d (same_shut w (ran w) refl shut) (after_nodes (ran w) number d) there
+          let d : NodeStep Answer = stays (record x { store = record x.store { cut = Some (record { nth = nth; keeps_new = keeps_new }) } }) answers.Set in
+          after_shut (running_world w) (world_after ciphers (running_world w) number d) number x d (same_shut w (running_world w) refl shut) (after_nodes (running_world w) number d) there
           (λ first. first_shut number x first there)
 
     -- every event but one that allows the meter
@@ -287,14 +287,14 @@ module _ (eui : Eui) where
 
 abbrev IsShutOut : ℕ → Ciphers → World → Step → Type 0
 IsShutOut number ciphers w (Ok r) =
-    r.1.happened.answer ≡ said.Kicked → WorldOk r.0 → (number ≢ 0) × ((z : Node) × (node_at w number ≡ Some z) × (ShutAt z.eui r.0) × (r.0.running ≡ true))
+    r.1.happenings.answer ≡ answers.Kicked → WorldOk r.0 → (number ≢ 0) × ((z : Node) × (node_at w number ≡ Some z) × (ShutAt z.eui r.0) × (r.0.running ≡ true))
 IsShutOut number ciphers w (Err fault) = Unit {0}
 
-kicked_word : (r : Result (Unit {0}) CoordinatorRefusal) → ordered_word said.Kicked r ≡ said.Kicked → r ≡ Ok tt
+kicked_word : (r : Result (Unit {0}) CoordinatorRefusal) → ordered_word answers.Kicked r ≡ answers.Kicked → r ≡ Ok tt
 kicked_word (Ok tt) e = refl
 kicked_word (Err reason) e = absurd (by_reason reason e)
   where
-    by_reason : (x : CoordinatorRefusal) → order_word x ≡ said.Kicked → ⊥
+    by_reason : (x : CoordinatorRefusal) → order_word x ≡ answers.Kicked → ⊥
     by_reason orders.Halted e = cc
     by_reason orders.MetersFull e = cc
     by_reason orders.NotAllowed e = cc
@@ -310,8 +310,8 @@ kicked_word (Err reason) e = absurd (by_reason reason e)
 
 module _ (ciphers : Ciphers) (w : World) (ok : WorldOk w) where
   coordinator_kicks : (number : ℕ) (y c : Node) → node_at w number ≡ Some y → node_at w 0 ≡ Some c
-      → (by_coordinator ciphers w c said.Kicked (λ m. coordinator_rules.kick m y.eui)).1.happened.answer ≡ said.Kicked → (v : World)
-      → v ≡ (by_coordinator ciphers w c said.Kicked (λ m. coordinator_rules.kick m y.eui)).0 → WorldOk v → ShutAt y.eui v
+      → (by_coordinator ciphers w c answers.Kicked (λ m. coordinator_rules.kick m y.eui)).1.happenings.answer ≡ answers.Kicked → (v : World)
+      → v ≡ (by_coordinator ciphers w c answers.Kicked (λ m. coordinator_rules.kick m y.eui)).0 → WorldOk v → ShutAt y.eui v
   coordinator_kicks number y c hy hc e v same okv k there b kept =
       let plan : Memory → Plan Memory (Result (Unit {0}) CoordinatorRefusal) = λ m. coordinator_rules.kick m y.eui in
       let fit = at_place NodeFits w.nodes number y hy ok.fits in
@@ -322,14 +322,14 @@ module _ (ciphers : Ciphers) (w : World) (ok : WorldOk w) where
       let before : IsKept Coordinator a.memory c.store.records = subst (λ r. IsKept r a.memory c.store.records) (ok.first c hc)
       (node_kept c a.memory good a.there) in
       let this : d.node ≡ k = same_Some _ _
-      (sym (after_here ciphers (ran w) 0 c (answering (ordered_word said.Kicked) d) hc) ∙ ap (λ (u : World). node_at u 0) (sym same) ∙ there) in
+      (sym (after_here ciphers (running_world w) 0 c (answering (ordered_word answers.Kicked) d) hc) ∙ ap (λ (u : World). node_at u 0) (sym same) ∙ there) in
       let left : k.memory ≡ Some (plan a.memory).memory = ap (λ (z : Node). z.memory) (sym this) ∙ a.leaves in
       let after : IsKept Coordinator (plan a.memory).memory k.store.records = subst (λ r. IsKept r (plan a.memory).memory k.store.records) (okv.first k there)
       (node_kept k (plan a.memory).memory (at_place NodeOk v.nodes 0 k there okv.nodes) left) in
       subst (Shut y.eui) (one_book (plan a.memory).memory.book b k.store.records after.book kept) (kick_leaves_shut y.eui a.memory before.book.table a.is)
 
   after_running : (c : Node) (plan : Memory → Plan Memory (Result (Unit {0}) CoordinatorRefusal))
-      → (by_coordinator ciphers w c said.Kicked plan).0.running ≡ true
+      → (by_coordinator ciphers w c answers.Kicked plan).0.running ≡ true
   unfolding world_after
   after_running c plan = refl
 
@@ -345,6 +345,6 @@ module _ (ciphers : Ciphers) (w : World) (ok : WorldOk w) where
       fails : (fault : StepFault) → P (Err fault)
       fails fault = tt
 
-  pub kicked_out : (number : ℕ) (v : World) (d : Trace) → kick ciphers w number ≡ Ok (v, d) → d.happened.answer ≡ said.Kicked → WorldOk v
+  pub kicked_out : (number : ℕ) (v : World) (d : Trace) → kick ciphers w number ≡ Ok (v, d) → d.happenings.answer ≡ answers.Kicked → WorldOk v
       → (number ≢ 0) × ((z : Node) × (node_at w number ≡ Some z) × (ShutAt z.eui v) × (v.running ≡ true))
   kicked_out number v d e = subst (IsShutOut number ciphers w) e (kick_shuts number)

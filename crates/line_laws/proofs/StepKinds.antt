@@ -9,7 +9,7 @@ use Rattle.plc_base.specs.declared.key.Key.{Key}
 use Rattle.plc_base.specs.declared.key.Rand.{Rand}
 use Rattle.plc_base.specs.Grant.{Granted}
 use Rattle.line_events.specs.declared.event.Answer.{Answer}
-use Rattle.line_events.specs.declared.event.Answer.TheVariants as said
+use Rattle.line_events.specs.declared.event.Answer.TheVariants as answers
 use Rattle.line_events.specs.declared.event.Event.{Event}
 use Rattle.line_events.specs.declared.event.Event.TheVariants as events
 use Rattle.line_events.specs.declared.event.StepFault.{StepFault}
@@ -38,10 +38,10 @@ use Rattle.line_rules.specs.Answers.{random_word, join_word, leave_word, sent_wo
 use Rattle.line_events.specs.Events.{AreOctets, IsEui, IsKey, IsLineOctets, IsEvent}
 use Rattle.line_rules.specs.Forgery.{Comes, OfFlight, OfScript, accepting}
 use Rattle.line_rules.specs.Worlds.{World, Flight, node_at, flight_at}
-use Rattle.line_rules.specs.Steps.{Step, set_up, ran, world_after, acted, sending, tag_of, once_begun, in_setup, has_begun, takes_setup, on_node, on_meter}
+use Rattle.line_rules.specs.Steps.{Step, set_up, running_world, world_after, node_outcome, sending, tag_of, once_begun, in_setup, has_begun, takes_setup, on_node, on_meter}
 use Rattle.line_rules.specs.Steps.{made_node}
 use Rattle.line_rules.specs.Steps.{blank_node, coordinator_node, identity, is_known, restarts, rand, join, joins_by, leave, send, sends_by, breaks, breaks_by}
-use Rattle.line_rules.specs.Steps.{lose, on_flight, tick, ticked, restart, cut, show, psk_of, trace_of, happened, coordinator, meter, depot, depot_by}
+use Rattle.line_rules.specs.Steps.{lose, on_flight, tick, ticked, restart, cut, show, psk_of, trace_of, happenings, coordinator, meter, depot, depot_by}
 use Rattle.line_rules.specs.Steps.{provisioned, near, near_by, keeps_rank, ranks_full, offered_near, preset, allow, allowed, deliver, inject, arrives}
 use Rattle.line_rules.specs.Steps.{accepted_by, heard, by_coordinator, rekey, challenge, activate, kick, step}
 
@@ -71,7 +71,7 @@ pub data IsCall (ciphers : Ciphers) (w : World) (number : ℕ) (x : Node) : (A :
   Leaves : number ≢ 0 → IsCall ciphers w number x _ (Err leaves.Halted) meters.leave
   Sends : (a : ℕ) (datagram : List ℕ) → IsAddressed w a → IsLineOctets datagram
       → IsCall ciphers w number x _ (Err sends.Halted) (λ m. of_station m (calls.send m.station a datagram (w.sends + 1) w.clock))
-  Breaks : (a : ℕ) → IsAddressed w a → IsCall ciphers w number x _ said.Halted (λ m. changing said.Broken (with_station (calls.broke a m.station) m))
+  Breaks : (a : ℕ) → IsAddressed w a → IsCall ciphers w number x _ answers.Halted (λ m. changing answers.Broken (with_station (calls.broke a m.station) m))
   Nears : (a cost : ℕ) → takes_setup w ≡ true → IsAddressed w a → cost ≤ 255
       → IsCall ciphers w number x _ (Ok tt) (λ m. of_station m (calls.preset_near m.station a cost w.clock))
   Counts : (value : ℕ) → takes_setup w ≡ true → value < 2 ^ 32 → IsCall ciphers w number x _ (Ok tt) (λ m. of_station m (calls.preset_counter m.station value))
@@ -153,11 +153,11 @@ pub data IsWord : (A : Type 0) → (A → Answer) → Event → Type 1 where
   OfRandom : (number : ℕ) (value : Rand) → IsWord _ random_word (events.Rand number value)
   OfJoin : (number agent : ℕ) → IsWord _ join_word (events.Join number agent)
   OfLeave : (number : ℕ) → IsWord _ leave_word (events.Leave number)
-  OfDraw : (A : Type 0) (index : ℕ) (key : Key) → IsWord (Result A CoordinatorRefusal) (ordered_word said.Drawn) (events.Rekey index key)
-  OfChallenge : (A : Type 0) (number : ℕ) → IsWord (Result A CoordinatorRefusal) (ordered_word said.Challenged) (events.Challenge number)
-  OfTurn : (A : Type 0) (number index : ℕ) → IsWord (Result A CoordinatorRefusal) (ordered_word said.Activated) (events.Activate number index)
-  OfOrder : (A : Type 0) (number index : ℕ) → IsWord (Result A CoordinatorRefusal) (ordered_word said.Ordered) (events.Activate number index)
-  OfKick : (A : Type 0) (number : ℕ) → IsWord (Result A CoordinatorRefusal) (ordered_word said.Kicked) (events.Kick number)
+  OfDraw : (A : Type 0) (index : ℕ) (key : Key) → IsWord (Result A CoordinatorRefusal) (ordered_word answers.Drawn) (events.Rekey index key)
+  OfChallenge : (A : Type 0) (number : ℕ) → IsWord (Result A CoordinatorRefusal) (ordered_word answers.Challenged) (events.Challenge number)
+  OfTurn : (A : Type 0) (number index : ℕ) → IsWord (Result A CoordinatorRefusal) (ordered_word answers.Activated) (events.Activate number index)
+  OfOrder : (A : Type 0) (number index : ℕ) → IsWord (Result A CoordinatorRefusal) (ordered_word answers.Ordered) (events.Activate number index)
+  OfKick : (A : Type 0) (number : ℕ) → IsWord (Result A CoordinatorRefusal) (ordered_word answers.Kicked) (events.Kick number)
 
 pub data IsStep (ciphers : Ciphers) (w : World) : Event → Step → Type 1 where
   -- the event is not taken
@@ -165,16 +165,16 @@ pub data IsStep (ciphers : Ciphers) (w : World) : Event → Step → Type 1 wher
   -- a node more
   Makes : (event : Event) (x : Node) → IsMade w event x → IsStep ciphers w event (Ok (made_node w x))
   -- nothing is done
-  Rests : (event : Event) → (IsBrought event → ⊥) → IsStep ciphers w event (Ok (ran w, trace_of (happened w said.NoAddress)))
-  Shows : (number : ℕ) (x : Node) → IsStep ciphers w (events.Show number) (Ok (ran w, trace_of (record (happened w said.Shown) { shown = Some (shown_of x) })))
+  Rests : (event : Event) → (IsBrought event → ⊥) → IsStep ciphers w event (Ok (running_world w, trace_of (happenings w answers.NoAddress)))
+  Shows : (number : ℕ) (x : Node) → IsStep ciphers w (events.Show number) (Ok (running_world w, trace_of (record (happenings w answers.Shown) { shown = Some (shown_of x) })))
   -- one node acts
   Acts : (event : Event) (number : ℕ) (x : Node) (A : Type 0) (halted : A) (plan : Memory → Plan Memory A) (reads : A → Answer) → node_at w number ≡ Some x
       → IsCall ciphers w number x A halted plan → IsWord A reads event → IsAsked ciphers w number x A halted plan
-      → IsStep ciphers w event (Ok (acted ciphers w number (answering reads (acts x halted plan))))
+      → IsStep ciphers w event (Ok (node_outcome ciphers w number (answering reads (acts x halted plan))))
   BreaksLink : (number next : ℕ) (x : Node) (a : ℕ) → node_at w number ≡ Some x
-      → IsCall ciphers w number x _ said.Halted (λ m. changing said.Broken (with_station (calls.broke a m.station) m))
+      → IsCall ciphers w number x _ answers.Halted (λ m. changing answers.Broken (with_station (calls.broke a m.station) m))
       → IsStep ciphers w (events.Break number next)
-      (Ok (acted ciphers w number (acts x said.Halted (λ m. changing said.Broken (with_station (calls.broke a m.station) m)))))
+      (Ok (node_outcome ciphers w number (acts x answers.Halted (λ m. changing answers.Broken (with_station (calls.broke a m.station) m)))))
   SendsFrom : (from to : ℕ) (datagram : List ℕ) (x : Node) (a : ℕ) → node_at w from ≡ Some x
       → IsCall ciphers w from x _ (Err sends.Halted) (λ m. of_station m (calls.send m.station a datagram (w.sends + 1) w.clock)) → IsAddressedAt w to a
       → IsStep ciphers w (events.Send from to datagram) (Ok (sending ciphers w from to datagram (tag_of x)
@@ -186,7 +186,7 @@ pub data IsStep (ciphers : Ciphers) (w : World) : Event → Step → Type 1 wher
       → takes_setup w ≡ true → IsPreset plan
       → IsStep ciphers w event (Ok (
         world_after ciphers (set_up w) number (acts x (Ok tt) (λ m. of_station m (plan m.station))),
-        trace_of (happened w said.Set),
+        trace_of (happenings w answers.Set),
       ))
   -- two nodes act, one after the other
   SetsTwo : (event : Event) → (IsBrought event → ⊥) → (a b cost : ℕ) (x y : Node) (p q : ℕ) → node_at w a ≡ Some x → node_at w b ≡ Some y → b ≢ a
@@ -196,7 +196,7 @@ pub data IsStep (ciphers : Ciphers) (w : World) : Event → Step → Type 1 wher
       → keeps_rank x q ≡ false → AreNear w p q cost
       → IsStep ciphers w event (Ok (
         world_after ciphers (world_after ciphers (set_up w) a (offered_near x q cost w.clock)) b (offered_near y p cost w.clock),
-        trace_of (happened w said.Set),
+        trace_of (happenings w answers.Set),
       ))
   Provides : (number : ℕ) (x c : Node) (psk : Key) (g : Granted) (d : NodeStep (Result Granted CoordinatorRefusal)) → number ≢ 0 → takes_setup w ≡ true
       → node_at w number ≡ Some x → node_at w 0 ≡ Some c → psk_of x ≡ Some psk
@@ -206,21 +206,21 @@ pub data IsStep (ciphers : Ciphers) (w : World) : Event → Step → Type 1 wher
   TurnsDown : (event : Event) (number : ℕ) (x : Node) (octets : List ℕ) (reason : FrameRefusal) (d : NodeStep (Result Accepted FrameRefusal))
       → node_at w number ≡ Some x → IsEvent event → Comes w event number octets
       → d ≡ accepting ciphers x octets → d.answer ≡ Err reason
-      → IsStep ciphers w event (Ok (world_after ciphers (ran w) number d, trace_of (happened w (frame_word reason))))
+      → IsStep ciphers w event (Ok (world_after ciphers (running_world w) number d, trace_of (happenings w (frame_word reason))))
   Hears : (event : Event) (number : ℕ) (x : Node) (octets : List ℕ) (cost : ℕ) (got : Accepted) → node_at w number ≡ Some x → IsEvent event
       → Comes w event number octets → cost ≤ 255
       → (accepting ciphers x octets).answer ≡ Ok got → IsStep ciphers w event (Ok (heard ciphers w number (accepting ciphers x octets).node octets got cost))
   -- flights alone
   Loses : (number : ℕ) (f : Flight) → flight_at w number ≡ Some f
       → IsStep ciphers w (events.Lose number)
-      (Ok (record (ran w) { flights = slice_set w.flights (number - 1) (record f { lost = true }) }, trace_of (happened w said.Lost)))
+      (Ok (record (running_world w) { flights = slice_set w.flights (number - 1) (record f { lost = true }) }, trace_of (happenings w answers.Lost)))
   -- time, a restart, and a loss of power that is to come
   Ticks : (seconds : ℕ) → IsStep ciphers w (events.Tick seconds)
-      (Ok (record (ran w) { clock = w.clock + seconds; nodes = map (ticked (w.clock + seconds)) w.nodes }, trace_of (happened w said.Ticked)))
-  Restarts : (number : ℕ) (x : Node) → node_at w number ≡ Some x → IsStep ciphers w (events.Restart number) (Ok (acted ciphers w number (restarts x)))
+      (Ok (record (running_world w) { clock = w.clock + seconds; nodes = map (ticked (w.clock + seconds)) w.nodes }, trace_of (happenings w answers.Ticked)))
+  Restarts : (number : ℕ) (x : Node) → node_at w number ≡ Some x → IsStep ciphers w (events.Restart number) (Ok (node_outcome ciphers w number (restarts x)))
   Cuts : (number nth : ℕ) (keeps_new : Bool) (x : Node) → node_at w number ≡ Some x
       → IsStep ciphers w (events.Cut number nth keeps_new)
-      (Ok (acted ciphers w number (stays (record x { store = record x.store { cut = Some (record { nth = nth; keeps_new = keeps_new }) } }) said.Set)))
+      (Ok (node_outcome ciphers w number (stays (record x { store = record x.store { cut = Some (record { nth = nth; keeps_new = keeps_new }) } }) answers.Set)))
 
 -- # Every event is one of them
 
@@ -432,8 +432,8 @@ module _ (ciphers : Ciphers) (w : World) where
   activate_step number index low = once _ _ (at_node _ number _ (λ y hy. at_node _ 0 _ (λ c hc. by_number (number == 0) refl y c hy hc)))
     where
       by_number : (b : Bool) → (number == 0) ≡ b → (y c : Node) → node_at w number ≡ Some y → node_at w 0 ≡ Some c
-          → Is (events.Activate number index) (Ok (if b then by_coordinator ciphers w c said.Activated (λ m. coordinator_rules.activate_self m index)
-          else by_coordinator ciphers w c said.Ordered (λ m. coordinator_rules.activate m y.eui index w.clock)))
+          → Is (events.Activate number index) (Ok (if b then by_coordinator ciphers w c answers.Activated (λ m. coordinator_rules.activate_self m index)
+          else by_coordinator ciphers w c answers.Ordered (λ m. coordinator_rules.activate m y.eui index w.clock)))
       by_number true e y c hy hc = Acts _ 0 c _ _ _ _ hc (Turns index refl low) (OfTurn _ number index) (AskTurn index refl low)
       by_number false e y c hy hc = Acts _ 0 c _ _ _ _ hc (Activates number y index refl (record { other = eqb-false _ _ e; there = hy }) low)
           (OfOrder _ number index) (AskActivate number y index refl (record { other = eqb-false _ _ e; there = hy }) low)

@@ -37,7 +37,7 @@ use Rattle.node_rules.specs.declared.refusal.CoordinatorRefusal.TheVariants as o
 use Rattle.node_rules.specs.declared.refusal.Dropped.TheVariants as drops
 use Rattle.node_rules.specs.declared.refusal.FrameRefusal.{FrameRefusal}
 use Rattle.node_rules.specs.declared.refusal.FrameRefusal.TheVariants as frames
-use Rattle.line_events.specs.declared.event.Answer.TheVariants as said
+use Rattle.line_events.specs.declared.event.Answer.TheVariants as answers
 use Rattle.node_rules.specs.declared.refusal.RandomFault.TheVariants as randoms
 use Rattle.node_rules.specs.declared.refusal.JoinRefusal.TheVariants as joins
 use Rattle.node_rules.specs.declared.refusal.LeaveRefusal.TheVariants as leaves
@@ -58,10 +58,10 @@ use Rattle.node_rules.specs.MemoryDrafts.{with_station}
 use Rattle.node_rules.specs.Laws.{IsShort}
 use Rattle.line_events.specs.Events.{IsEvent}
 use Rattle.line_rules.specs.Worlds.{World, Flight, Trace, node_at, flight_at, is_forged_tag}
-use Rattle.line_rules.specs.Steps.{Step, set_up, ran, world_after, flights_of, acted, once_begun, in_setup, has_begun, takes_setup, on_node, on_meter}
+use Rattle.line_rules.specs.Steps.{Step, set_up, running_world, world_after, flights_of, node_outcome, once_begun, in_setup, has_begun, takes_setup, on_node, on_meter}
 use Rattle.line_rules.specs.Steps.{made_node}
 use Rattle.line_rules.specs.Steps.{blank_node, identity, hears, restarts, memory_by, ticked, rand, join, joins_by, leave, send, sends_by, sent_if, breaks}
-use Rattle.line_rules.specs.Steps.{breaks_by, lose, tick, restart, cut, show, psk_of, trace_of, happened, coordinator, coordinator_node, meter, is_known, depot}
+use Rattle.line_rules.specs.Steps.{breaks_by, lose, tick, restart, cut, show, psk_of, trace_of, happenings, coordinator, coordinator_node, meter, is_known, depot}
 use Rattle.line_rules.specs.Steps.{depot_by, provisioned, near, near_by, keeps_rank, ranks_full, offered_near, preset, allow, allowed, deliver, inject, arrives}
 use Rattle.line_rules.specs.Steps.{accepted_by, received, by_coordinator, forged_by, note_by, rekey, challenge, activate, kick, step}
 use Rattle.node_rules.specs.NodeSteps.{NodeStep, acts, stays, answering, of_station}
@@ -280,11 +280,11 @@ true_false e = cc
 
 -- the flights that an event says are those that it adds
 abbrev pub CountsFlights : World → World × Trace → Type 0
-CountsFlights w r = length r.0.flights ≡ length w.flights + r.1.happened.flights
+CountsFlights w r = length r.0.flights ≡ length w.flights + r.1.happenings.flights
 
 pub data StepGood (w : World) : Step → Type 0 where
   Fails : (fault : StepFault) → StepGood w (Err fault)
-  Taken : (r : World × Trace) → WorldOk r.0 → r.1.happened.flights ≤ 24 → CountsFlights w r → StepGood w (Ok r)
+  Taken : (r : World × Trace) → WorldOk r.0 → r.1.happenings.flights ≤ 24 → CountsFlights w r → StepGood w (Ok r)
 
 -- a node's frames are flights more
 pub after_more : {A : Type 0} (ciphers : Ciphers) (w : World) (number : ℕ) (d : NodeStep A)
@@ -342,8 +342,8 @@ module _ (ciphers : Ciphers) (fits : KeepsRanges ciphers) (w : World) (ok : Worl
   pub set_up_ok : WorldOk (set_up w)
   set_up_ok = counts_ok w (set_up w) ok refl refl (λ e. e)
 
-  pub ran_ok : WorldOk (ran w)
-  ran_ok = counts_ok w (ran w) ok refl refl (λ e. absurd (true_false e))
+  pub ran_ok : WorldOk (running_world w)
+  ran_ok = counts_ok w (running_world w) ok refl refl (λ e. absurd (true_false e))
 
   -- the octets of a flight
   pub flight_octets : (number : ℕ) (f : Flight) → flight_at w number ≡ Some f → FlightFits f
@@ -354,9 +354,9 @@ module _ (ciphers : Ciphers) (fits : KeepsRanges ciphers) (w : World) (ok : Worl
       by_number false e = at_place FlightFits w.flights (number - 1) f e flown
 
   -- what a node did goes into the world and into the report
-  pub acted_good : (number : ℕ) (x : Node) (d : NodeStep Answer) → node_at w number ≡ Some x → DidOk x d → StepGood w (Ok (acted ciphers w number d))
+  pub acted_good : (number : ℕ) (x : Node) (d : NodeStep Answer) → node_at w number ≡ Some x → DidOk x d → StepGood w (Ok (node_outcome ciphers w number d))
   acted_good number x d there did =
-      Taken _ (ok_after ciphers fits (ran w) number x d ran_ok there did (λ e. absurd (true_false e))) did.few (after_more ciphers (ran w) number d)
+      Taken _ (ok_after ciphers fits (running_world w) number x d ran_ok there did (λ e. absurd (true_false e))) did.few (after_more ciphers (running_world w) number d)
 
   -- # coordinator, meter
 
@@ -393,8 +393,8 @@ module _ (ciphers : Ciphers) (fits : KeepsRanges ciphers) (w : World) (ok : Worl
 
   joins_good : (number agent : ℕ) (x : Node) (address : Option ℕ) (psk : Option Key) → node_at w number ≡ Some x
       → StepGood w (Ok (joins_by ciphers w number x address psk))
-  joins_good number agent x None psk there = Taken _ ran_ok (omega arith) (none_more w (ran w) refl)
-  joins_good number agent x (Some a) None there = Taken _ ran_ok (omega arith) (none_more w (ran w) refl)
+  joins_good number agent x None psk there = Taken _ ran_ok (omega arith) (none_more w (running_world w) refl)
+  joins_good number agent x (Some a) None there = Taken _ ran_ok (omega arith) (none_more w (running_world w) refl)
   joins_good number agent x (Some a) (Some psk) there =
       acted_good number x _ there (answering_ok x join_word _ (acts_ok x (Err joins.Halted) _ (node_ok number x there)
       (λ m here kept sized. join_ok x.role m sized ciphers fits (identity ciphers x psk) refl a w.clock)))
@@ -409,28 +409,28 @@ module _ (ciphers : Ciphers) (fits : KeepsRanges ciphers) (w : World) (ok : Worl
       acted_good number x _ there (answering_ok x leave_word _ (acts_ok x (Err leaves.Halted) meters.leave (node_ok number x there)
       (λ m here kept sized. leave_ok x.role m sized ciphers fits (identity ciphers x (record { 0 = [] })) refl)))))
 
-  sent_good : (from to : ℕ) (datagram : List ℕ) (tag : ℕ) (b : Bool) (r : World × Trace) → WorldOk r.0 → r.1.happened.flights ≤ 24 → CountsFlights w r
+  sent_good : (from to : ℕ) (datagram : List ℕ) (tag : ℕ) (b : Bool) (r : World × Trace) → WorldOk r.0 → r.1.happenings.flights ≤ 24 → CountsFlights w r
       → StepGood w (Ok (sent_if w from to datagram tag b r))
   sent_good from to datagram tag false r g few is = Taken _ g few is
   sent_good from to datagram tag true r g few is = Taken _ (counts_ok r.0 (record r.0 { sends = r.0.sends + 1 }) g refl refl (λ e. e)) few is
 
   sends_good : (from to : ℕ) (datagram : List ℕ) (x : Node) (address : Option ℕ) → node_at w from ≡ Some x
       → StepGood w (Ok (sends_by ciphers w from to datagram x address))
-  sends_good from to datagram x None there = Taken _ ran_ok (omega arith) (none_more w (ran w) refl)
+  sends_good from to datagram x None there = Taken _ ran_ok (omega arith) (none_more w (running_world w) refl)
   sends_good from to datagram x (Some a) there =
       let did = answering_ok x sent_word _ (acts_ok x (Err sends.Halted) (λ m. of_station m (calls.send m.station a datagram (w.sends + 1) w.clock))
       (node_ok from x there) (λ m here kept sized. send_ok x.role m sized a datagram (w.sends + 1) w.clock)) in
-      sent_good from to datagram _ _ _ (ok_after ciphers fits (ran w) from x _ ran_ok there did (λ e. absurd (true_false e))) did.few
-      (after_more ciphers (ran w) from _)
+      sent_good from to datagram _ _ _ (ok_after ciphers fits (running_world w) from x _ ran_ok there did (λ e. absurd (true_false e))) did.few
+      (after_more ciphers (running_world w) from _)
 
   send_good : (from to : ℕ) (datagram : List ℕ) → StepGood w (send ciphers w from to datagram)
   unfolding send
   send_good from to datagram = once _ (at_node from _ (λ x there. at_node to _ (λ y other. sends_good from to datagram x (node_address y) there)))
 
   breaks_good : (number : ℕ) (x : Node) (next : Option ℕ) → node_at w number ≡ Some x → StepGood w (Ok (breaks_by ciphers w number x next))
-  breaks_good number x None there = Taken _ ran_ok (omega arith) (none_more w (ran w) refl)
+  breaks_good number x None there = Taken _ ran_ok (omega arith) (none_more w (running_world w) refl)
   breaks_good number x (Some next) there =
-      acted_good number x _ there (acts_ok x said.Halted _ (node_ok number x there) (λ m here kept sized. broke_ok x.role m sized next said.Broken))
+      acted_good number x _ there (acts_ok x answers.Halted _ (node_ok number x there) (λ m here kept sized. broke_ok x.role m sized next answers.Broken))
 
   break_good : (number next : ℕ) → StepGood w (breaks ciphers w number next)
   unfolding breaks
@@ -444,7 +444,7 @@ module _ (ciphers : Ciphers) (fits : KeepsRanges ciphers) (w : World) (ok : Worl
       by_number false e = e
 
   lost_rising : (number : ℕ) (f : Flight) → flight_at w number ≡ Some f
-      → Rising (record (ran w) { flights = slice_set w.flights (number - 1) (record f { lost = true }) })
+      → Rising (record (running_world w) { flights = slice_set w.flights (number - 1) (record f { lost = true }) })
   lost_rising number f there =
       let is = flight_is number f there in
       record {
@@ -461,7 +461,7 @@ module _ (ciphers : Ciphers) (fits : KeepsRanges ciphers) (w : World) (ok : Worl
     where
       by_lost : (f : Flight) (b : Bool) → flight_at w number ≡ Some f
           → StepGood w (if b then Err faults.Flight
-          else Ok (record (ran w) { flights = slice_set w.flights (number - 1) (record f { lost = true }) }, trace_of (happened w said.Lost)))
+          else Ok (record (running_world w) { flights = slice_set w.flights (number - 1) (record f { lost = true }) }, trace_of (happenings w answers.Lost)))
       by_lost f true there = Fails faults.Flight
       by_lost f false there = Taken _ (record {
         nodes = ok.nodes;
@@ -474,7 +474,7 @@ module _ (ciphers : Ciphers) (fits : KeepsRanges ciphers) (w : World) (ok : Worl
 
       by_flight : (o : Option Flight) → flight_at w number ≡ o
           → StepGood w (option_map_or (λ f. if f.lost then Err faults.Flight
-          else Ok (record (ran w) { flights = slice_set w.flights (number - 1) (record f { lost = true }) }, trace_of (happened w said.Lost))) o
+          else Ok (record (running_world w) { flights = slice_set w.flights (number - 1) (record f { lost = true }) }, trace_of (happenings w answers.Lost))) o
           (Err faults.Flight))
       by_flight None there = Fails faults.Flight
       by_flight (Some f) there = by_lost f f.lost there
@@ -495,7 +495,7 @@ module _ (ciphers : Ciphers) (fits : KeepsRanges ciphers) (w : World) (ok : Worl
           let same : length (map (ticked (w.clock + seconds)) w.nodes) ≡ length w.nodes = length-map w.nodes _ in omega arith;
     };
     quiet = λ e. absurd (true_false e);
-  }) (omega arith) (none_more w (ran w) refl))
+  }) (omega arith) (none_more w (running_world w) refl))
     where
       ticked_below : (n : ℕ) (y : Node) (o : Option Node) → slice_get w.nodes n ≡ o → option_map (ticked (w.clock + seconds)) o ≡ Some y
           → All (IsBelow n (frontier y)) w.flights
@@ -532,7 +532,7 @@ module _ (ciphers : Ciphers) (fits : KeepsRanges ciphers) (w : World) (ok : Worl
 
   show_good : (number : ℕ) → StepGood w (show w number)
   unfolding show
-  show_good number = once _ (at_node number _ (λ x there. Taken _ ran_ok (omega arith) (none_more w (ran w) refl)))
+  show_good number = once _ (at_node number _ (λ x there. Taken _ ran_ok (omega arith) (none_more w (running_world w) refl)))
 
   -- another node is there still
   other_there : {A : Type 0} (a b : ℕ) (d : NodeStep A) (y : Node) → b ≢ a → node_at w b ≡ Some y → node_at (world_after ciphers (set_up w) a d) b ≡ Some y
@@ -559,8 +559,8 @@ module _ (ciphers : Ciphers) (fits : KeepsRanges ciphers) (w : World) (ok : Worl
 
   pub received_good : (number : ℕ) (x : Node) (forged : Bool) (d : NodeStep Reception) → node_at w number ≡ Some x → DidOk x d
       → StepGood w (Ok (received ciphers w number forged d))
-  received_good number x forged d there did = Taken _ (counts_ok (world_after ciphers (ran w) number d) _
-      (ok_after ciphers fits (ran w) number x d ran_ok there did (λ e. absurd (true_false e))) refl refl (λ e. e)) did.few (after_more ciphers (ran w) number d)
+  received_good number x forged d there did = Taken _ (counts_ok (world_after ciphers (running_world w) number d) _
+      (ok_after ciphers fits (running_world w) number x d ran_ok there did (λ e. absurd (true_false e))) refl refl (λ e. e)) did.few (after_more ciphers (running_world w) number d)
 
   arrives_good : (number : ℕ) (x : Node) (octets : List ℕ) (cost : ℕ) → node_at w number ≡ Some x → AreOctets octets
       → StepGood w (Ok (arrives ciphers w number x octets cost))
@@ -584,8 +584,8 @@ module _ (ciphers : Ciphers) (fits : KeepsRanges ciphers) (w : World) (ok : Worl
           → StepGood w (Ok (accepted_by ciphers w number octets cost (acts x (Err frames.Halted) plan)))
       by_answer (Err reason) e =
           let k : NodeStep (Result Accepted FrameRefusal) = record (acts x (Err frames.Halted) plan) { answer = Err reason } in
-          rw e (Taken (world_after ciphers (ran w) number k, trace_of (happened w (frame_word reason)))
-          (ok_after ciphers fits (ran w) number x k ran_ok there (record {
+          rw e (Taken (world_after ciphers (running_world w) number k, trace_of (happenings w (frame_word reason)))
+          (ok_after ciphers fits (running_world w) number x k ran_ok there (record {
             node = did.node;
             role = did.role;
             eui = did.eui;
@@ -594,7 +594,7 @@ module _ (ciphers : Ciphers) (fits : KeepsRanges ciphers) (w : World) (ok : Worl
             from = did.from;
             marked = did.marked;
           }) (λ e. absurd (true_false e))) (omega arith)
-          (after_none ciphers (ran w) number k
+          (after_none ciphers (running_world w) number k
           (acts_quiet x (Err frames.Halted) plan (λ m. accept_quiet m.station _ _ (accept_is m.station x.eui (arrived ciphers octets))))))
       by_answer (Ok got) e =
           let y = (acts x (Err frames.Halted) plan).node in
@@ -644,27 +644,27 @@ module _ (ciphers : Ciphers) (fits : KeepsRanges ciphers) (w : World) (ok : Worl
   rekey_good : (index : ℕ) (key : Key) → length key.0 ≡ 16 → AreOctets key.0 → StepGood w (rekey ciphers w index key)
   unfolding rekey
   rekey_good index key long are =
-      once _ (at_node 0 _ (λ c there. order_good c said.Drawn _ there (λ m sized. rekey_ok ciphers fits (own_of c) m sized index key (held key long are))))
+      once _ (at_node 0 _ (λ c there. order_good c answers.Drawn _ there (λ m sized. rekey_ok ciphers fits (own_of c) m sized index key (held key long are))))
 
   challenge_good : (number : ℕ) → StepGood w (challenge ciphers w number)
   unfolding challenge
   challenge_good number = once _ (at_meter number _ (λ x is. at_node 0 _
-      (λ c there. order_good c said.Challenged _ there (λ m sized. challenge_ok ciphers fits (own_of c) m sized x.eui w.clock (node_fits number x is).eui))))
+      (λ c there. order_good c answers.Challenged _ there (λ m sized. challenge_ok ciphers fits (own_of c) m sized x.eui w.clock (node_fits number x is).eui))))
 
   activate_good : (number index : ℕ) → index ≤ 1 → StepGood w (activate ciphers w number index)
   unfolding activate
   activate_good number index low = once _ (at_node number _ (λ x is. at_node 0 _ (λ c there. by_number (number == 0) x c there)))
     where
       by_number : (b : Bool) (x c : Node) → node_at w 0 ≡ Some c
-          → StepGood w (Ok (if b then by_coordinator ciphers w c said.Activated (λ m. coordinator_rules.activate_self m index)
-          else by_coordinator ciphers w c said.Ordered (λ m. coordinator_rules.activate m x.eui index w.clock)))
-      by_number true x c there = order_good c said.Activated _ there (λ m sized. activate_self_ok ciphers fits (own_of c) m sized index low)
-      by_number false x c there = order_good c said.Ordered _ there (λ m sized. activate_ok ciphers fits (own_of c) m sized x.eui index w.clock)
+          → StepGood w (Ok (if b then by_coordinator ciphers w c answers.Activated (λ m. coordinator_rules.activate_self m index)
+          else by_coordinator ciphers w c answers.Ordered (λ m. coordinator_rules.activate m x.eui index w.clock)))
+      by_number true x c there = order_good c answers.Activated _ there (λ m sized. activate_self_ok ciphers fits (own_of c) m sized index low)
+      by_number false x c there = order_good c answers.Ordered _ there (λ m sized. activate_ok ciphers fits (own_of c) m sized x.eui index w.clock)
 
   kick_good : (number : ℕ) → StepGood w (kick ciphers w number)
   unfolding kick
   kick_good number = once _ (at_meter number _ (λ x is. at_node 0 _
-      (λ c there. order_good c said.Kicked _ there (λ m sized. kick_ok ciphers fits (own_of c) m sized x.eui (node_fits number x is).eui))))
+      (λ c there. order_good c answers.Kicked _ there (λ m sized. kick_ok ciphers fits (own_of c) m sized x.eui (node_fits number x is).eui))))
 
   -- the pair key of a meter
   psk_is : (x : Node) (psk : Key) → psk_of x ≡ Some psk → x.role ≡ Meter psk
@@ -678,9 +678,9 @@ module _ (ciphers : Ciphers) (fits : KeepsRanges ciphers) (w : World) (ok : Worl
   unfolding allow
   allow_good number = once _ (at_meter number _ (λ x is. at_node 0 _ (λ c there.
       by_option (λ psk. Ok (allowed ciphers w number (acts c (Err orders.Halted) (λ m. coordinator_rules.allow m x.eui psk)))) (psk_of x) (Err faults.Node)
-      (λ psk pair. Taken _ (ok_after ciphers fits (ran w) 0 c _ ran_ok there (coordinator_acts c (Err orders.Halted) _ (ok.first c there) (node_ok 0 c there)
+      (λ psk pair. Taken _ (ok_after ciphers fits (running_world w) 0 c _ ran_ok there (coordinator_acts c (Err orders.Halted) _ (ok.first c there) (node_ok 0 c there)
       (λ m sized. allow_ok ciphers fits (own_of c) m sized x.eui psk (node_fits number x is).eui ((node_fits number x is).psk psk (psk_is x psk pair))))
-      (λ e. absurd (true_false e))) (omega arith) (after_none ciphers (ran w) 0 _ (acts_quiet c (Err orders.Halted) _ (λ m. allow_quiet m x.eui psk))))
+      (λ e. absurd (true_false e))) (omega arith) (after_none ciphers (running_world w) 0 _ (acts_quiet c (Err orders.Halted) _ (λ m. allow_quiet m x.eui psk))))
       (Fails faults.Node))))
 
   -- # Setup

@@ -54,7 +54,7 @@ use Rattle.line_rules.specs.Further.{acknowledged_if, acknowledging, adds_frames
 use Rattle.line_rules.specs.Further.{reaches, sends_nothing, step_by, with_beside, with_check}
 use Rattle.line_rules.specs.Logs.{LogsKept}
 use Rattle.line_rules.specs.Runs.{Entry, IsRun, events_of}
-use Rattle.line_rules.specs.Steps.{Step, heard, ran, world_after}
+use Rattle.line_rules.specs.Steps.{Step, heard, running_world, world_after}
 use Rattle.line_rules.specs.Worlds.{Further, Stepping, Trace, World, node_at, nothing_further, start}
 use Rattle.line_laws.specs.FurtherLines.{HoldsAfter}
 use Rattle.line_laws.specs.ReachTraces.{FrameCame}
@@ -337,7 +337,7 @@ module _ (w : World) (n : ℕ) where
 
       by_answer : Keeps x d.node → (o : Result (Unit {0}) AskRefusal) → IfSome (asked x target o) (IsStepTaken w (entry n (events.Path from to) r))
       by_answer k (Err reason) = tt
-      by_answer k (Ok u) = step_taken (events.Path from to) r.0 r.1 from x d.node target (after_here network (ran w) from x d there) k
+      by_answer k (Ok u) = step_taken (events.Path from to) r.0 r.1 from x d.node target (after_here network (running_world w) from x d there) k
           (inl (record { other = to; line = refl; node = z; there = other; address = address })) (node_address x) (node_route x target) refl refl
 
   module _ (event : Event) (number : ℕ) (x : Node) (octets : List ℕ) (cost : ℕ) (got : Accepted) (a : IsAccepted network w event number x octets got) where
@@ -378,7 +378,7 @@ module _ (w : World) (n : ℕ) where
           by_answer f k (Err reason) = tt
           by_answer f k (Ok heard_of.Relayed) = subst (λ o. IfSome (goes_toward d.node o) (IsStepTaken w (entry n event q))) (sym f.read)
               (step_taken event q.0 q.1 number d.node did.node f.target
-              (after_here network r.0 number d.node did (after_here network (ran w) number x d a.there)) k
+              (after_here network r.0 number d.node did (after_here network (running_world w) number x d a.there)) k
               (inr (record { from = c.from; body = c.body; came = came f; walk = f.walk; read = f.read; last = f.last }))
               (node_address d.node) (node_route d.node f.target) refl refl)
 

@@ -18,7 +18,7 @@ use Rattle.store_tables.proofs.SlotTables.{slice_get-set, slice_get-set_other}
 use Rattle.store_tables.proofs.StoreLemmas.{get-insert_other}
 use Rattle.group_keys.specs.declared.fault.RingFault.TheVariants as ring_faults
 use Rattle.line_events.specs.declared.event.Answer.{Answer}
-use Rattle.line_events.specs.declared.event.Answer.TheVariants as said
+use Rattle.line_events.specs.declared.event.Answer.TheVariants as answers
 use Rattle.line_events.specs.declared.event.Event.{Event}
 use Rattle.node_rules.specs.declared.heard.Accepted.{Accepted}
 use Rattle.node_rules.specs.declared.heard.SentHow.{SentHow}
@@ -47,7 +47,7 @@ use Rattle.node_rules.specs.StoreReading.{blank_station, first_grant, rememberin
 use Rattle.line_rules.specs.Answers.{Reception, sent_word, meter_reception, coordinator_reception}
 use Rattle.line_rules.specs.Forgery.{accepting}
 use Rattle.line_rules.specs.Runs.{one_of}
-use Rattle.line_rules.specs.Steps.{Step, set_up, ran, world_after, made_node, blank_node, ticked, acted, sending, sent_if, is_taken, tag_of, hears, heard}
+use Rattle.line_rules.specs.Steps.{Step, set_up, running_world, world_after, made_node, blank_node, ticked, node_outcome, sending, sent_if, is_taken, tag_of, hears, heard}
 use Rattle.line_rules.specs.Steps.{offered_near, identity, note_by, restarts}
 use Rattle.line_rules.specs.Worlds.{World, Sending, node_at, start}
 use Rattle.line_laws.specs.Owed.{KeepsRanges}
@@ -299,7 +299,7 @@ module _ (ciphers : Ciphers) (fits : KeepsRanges ciphers) (w : World) (ok : Worl
   call_puts number x A halts plan (Joins psk a ne pair to) m = away_tags m.station.next_tag _ (join_away m (identity ciphers x psk) a w.clock)
   call_puts number x A halts plan (Leaves ne) m = away_tags m.station.next_tag _ (leave_away m (identity ciphers x no_key))
   call_puts number x A halts plan (Sends a datagram to are) m = send_tags m a datagram (w.sends + 1) w.clock
-  call_puts number x A halts plan (Breaks a to) m = away_tags m.station.next_tag _ (broke_away m a said.Broken)
+  call_puts number x A halts plan (Breaks a to) m = away_tags m.station.next_tag _ (broke_away m a answers.Broken)
   call_puts number x A halts plan (Nears a cost open_is to low) m = away_tags m.station.next_tag _ (near_away m a cost w.clock)
   call_puts number x A halts plan (Counts value open_is low) m =
       away_tags m.station.next_tag (of_station m (calls.preset_counter m.station value)).puts (counter_put_away m value)
@@ -386,16 +386,16 @@ module _ (ciphers : Ciphers) (fits : KeepsRanges ciphers) (w : World) (ok : Worl
       d : NodeStep (Result SentHow SendRefusal)
       d = acts x (Err sends.Halted) (λ m. of_station m (calls.send m.station a datagram (w.sends + 1) w.clock))
 
-      after_so : StepTags w (world_after ciphers (ran w) from (answering sent_word d)) None
-      after_so = after_tags (ran w) from x (answering sent_word d) (same_moved ciphers w) refl there moves
+      after_so : StepTags w (world_after ciphers (running_world w) from (answering sent_word d)) None
+      after_so = after_tags (running_world w) from x (answering sent_word d) (same_moved ciphers w) refl there moves
 
       By : Answer → Type 0
-      By answer = Tagged w (Ok (sent_if w from to datagram (tag_of x) (is_taken answer) (acted ciphers w from (answering sent_word d))))
+      By answer = Tagged w (Ok (sent_if w from to datagram (tag_of x) (is_taken answer) (node_outcome ciphers w from (answering sent_word d))))
 
       v : World
-      v = record (world_after ciphers (ran w) from (answering sent_word d)) { sends = (world_after ciphers (ran w) from (answering sent_word d)).sends + 1 }
+      v = record (world_after ciphers (running_world w) from (answering sent_word d)) { sends = (world_after ciphers (running_world w) from (answering sent_word d)).sends + 1 }
 
-      sent_so : (h : SentHow) → d.answer ≡ Ok h → Tagged w (Ok (sent_if w from to datagram (tag_of x) true (acted ciphers w from (answering sent_word d))))
+      sent_so : (h : SentHow) → d.answer ≡ Ok h → Tagged w (Ok (sent_if w from to datagram (tag_of x) true (node_outcome ciphers w from (answering sent_word d))))
       sent_so h e = record {
         nodes = after_so.nodes;
         more = after_so.more;
@@ -407,15 +407,15 @@ module _ (ciphers : Ciphers) (fits : KeepsRanges ciphers) (w : World) (ok : Worl
         });
       }
         where
-          node_is : (y : Node) → node_at (world_after ciphers (ran w) from (answering sent_word d)) from ≡ Some y → d.node ≡ y
-          node_is y here = same_Some _ _ (sym (after_here ciphers (ran w) from x (answering sent_word d) there) ∙ here)
+          node_is : (y : Node) → node_at (world_after ciphers (running_world w) from (answering sent_word d)) from ≡ Some y → d.node ≡ y
+          node_is y here = same_Some _ _ (sym (after_here ciphers (running_world w) from x (answering sent_word d) there) ∙ here)
 
       by_answer : (r : Result SentHow SendRefusal) → d.answer ≡ r → By (sent_word d.answer)
       by_answer (Err reason) e = subst (λ (r : Result SentHow SendRefusal). By (sent_word r)) (sym e)
-          (subst (λ (b : Bool). Tagged w (Ok (sent_if w from to datagram (tag_of x) b (acted ciphers w from (answering sent_word d)))))
+          (subst (λ (b : Bool). Tagged w (Ok (sent_if w from to datagram (tag_of x) b (node_outcome ciphers w from (answering sent_word d)))))
           (sym (word_refused reason)) after_so)
       by_answer (Ok h) e = subst (λ (r : Result SentHow SendRefusal). By (sent_word r)) (sym e)
-          (subst (λ (b : Bool). Tagged w (Ok (sent_if w from to datagram (tag_of x) b (acted ciphers w from (answering sent_word d))))) (sym (word_taken h))
+          (subst (λ (b : Bool). Tagged w (Ok (sent_if w from to datagram (tag_of x) b (node_outcome ciphers w from (answering sent_word d))))) (sym (word_taken h))
           (sent_so h e))
 
   -- # Every event
@@ -423,16 +423,16 @@ module _ (ciphers : Ciphers) (fits : KeepsRanges ciphers) (w : World) (ok : Worl
   pub event_tags : (event : Event) (s : Step) → IsStep ciphers w event s → Tagged w s
   event_tags event s (Fails e fault) = tt
   event_tags event s (Makes e x is) = made_tags e x is
-  event_tags event s (Rests e quiet) = record { nodes = same_moved ciphers w; more = omega arith; took = none_took w (ran w) }
-  event_tags event s (Shows number x) = record { nodes = same_moved ciphers w; more = omega arith; took = none_took w (ran w) }
+  event_tags event s (Rests e quiet) = record { nodes = same_moved ciphers w; more = omega arith; took = none_took w (running_world w) }
+  event_tags event s (Shows number x) = record { nodes = same_moved ciphers w; more = omega arith; took = none_took w (running_world w) }
   event_tags event s (Acts e number x A halted plan reads there call word asked) =
-      after_tags (ran w) number x (answering reads (acts x halted plan)) (same_moved ciphers w) refl there (call_moves number x A halted plan there call)
+      after_tags (running_world w) number x (answering reads (acts x halted plan)) (same_moved ciphers w) refl there (call_moves number x A halted plan there call)
   event_tags event s (BreaksLink number next x a there call) =
-      let plan : Memory → Plan Memory Answer = λ m. changing said.Broken (with_station (calls.broke a m.station) m) in
-      after_tags (ran w) number x (acts x said.Halted plan) (same_moved ciphers w) refl there (call_moves number x Answer said.Halted plan there call)
+      let plan : Memory → Plan Memory Answer = λ m. changing answers.Broken (with_station (calls.broke a m.station) m) in
+      after_tags (running_world w) number x (acts x answers.Halted plan) (same_moved ciphers w) refl there (call_moves number x Answer answers.Halted plan there call)
   event_tags event s (SendsFrom from to datagram x a there call target) = sending_tags from to datagram x a there
       (call_moves from x _ (Err sends.Halted) (λ m. of_station m (calls.send m.station a datagram (w.sends + 1) w.clock)) there call)
-  event_tags event s (AllowsMeter number y c psk there call meter) = after_tags (ran w) 0 c
+  event_tags event s (AllowsMeter number y c psk there call meter) = after_tags (running_world w) 0 c
       (acts c (Err orders.Halted) (λ m. coordinator_rules.allow m y.eui psk)) (same_moved ciphers w) refl there
       (call_moves 0 c _ (Err orders.Halted) (λ m. coordinator_rules.allow m y.eui psk) there call)
   event_tags event s (Sets e quiet number x plan there open_is is) = after_tags (set_up w) number x (acts x (Ok tt) (λ m. of_station m (plan m.station)))
@@ -452,24 +452,24 @@ module _ (ciphers : Ciphers) (fits : KeepsRanges ciphers) (w : World) (ok : Worl
       after_tags (world_after ciphers (set_up w) 0 d) number x (acts x (Ok tt) (λ m. meters.provision m g)) one.nodes (after_more ciphers w (set_up w) 0 d) hx
       (λ t e. Stays (acts_stays x (Ok tt) (λ m. meters.provision m g) (λ m. provision_away m g) t e))
   event_tags event s (TurnsDown e number x octets reason d there says comes same is) =
-      after_tags (ran w) number x d (same_moved ciphers w) refl there
+      after_tags (running_world w) number x d (same_moved ciphers w) refl there
       (subst (λ (z : NodeStep (Result Accepted FrameRefusal)). TagMoves x z.node) (sym same) (λ t e. Stays (accepts_stays x octets t e)))
   event_tags event s (Hears e number x octets cost got there says comes low is) =
       let y : Node = (accepting ciphers x octets).node in
       let d : NodeStep Reception = hears ciphers y got cost (note_by w octets got.path) w.clock in
-      let one = after_tags (ran w) number x d (same_moved ciphers w) refl there
+      let one = after_tags (running_world w) number x d (same_moved ciphers w) refl there
       (λ t now. Stays (hears_stays y got cost (note_by w octets got.path) w.clock t (accepts_stays x octets t now))) in
       record { nodes = one.nodes; more = one.more; took = none_took w (heard ciphers w number y octets got cost).0 }
   event_tags event s (Loses number f there) = record {
     nodes = same_moved ciphers w;
     more = omega arith;
-    took = none_took w (record (ran w) { flights = slice_set w.flights (number - 1) (record f { lost = true }) });
+    took = none_took w (record (running_world w) { flights = slice_set w.flights (number - 1) (record f { lost = true }) });
   }
   event_tags event s (Ticks seconds) = record {
     nodes = ticked_moved;
     more =
         let same : length (map (ticked (w.clock + seconds)) w.nodes) ≡ length w.nodes = length-map w.nodes _ in omega arith;
-    took = none_took w (record (ran w) { clock = w.clock + seconds; nodes = map (ticked (w.clock + seconds)) w.nodes });
+    took = none_took w (record (running_world w) { clock = w.clock + seconds; nodes = map (ticked (w.clock + seconds)) w.nodes });
   }
     where
       ticked_at : (xs : List Node) (k : ℕ) (y : Node) → slice_get (map (ticked (w.clock + seconds)) xs) k ≡ Some y
@@ -478,11 +478,11 @@ module _ (ciphers : Ciphers) (fits : KeepsRanges ciphers) (w : World) (ok : Worl
       ticked_at (x ∷ xs) zero y e = (x, refl, same_Some _ _ e)
       ticked_at (x ∷ xs) (suc k) y e = ticked_at xs k y e
 
-      ticked_moved : AllMoved w (record (ran w) { clock = w.clock + seconds; nodes = map (ticked (w.clock + seconds)) w.nodes })
+      ticked_moved : AllMoved w (record (running_world w) { clock = w.clock + seconds; nodes = map (ticked (w.clock + seconds)) w.nodes })
       ticked_moved k y there = let p = ticked_at w.nodes k y there in Was p.0 p.1 (subst (TagMoves p.0) p.2 (λ t e. Stays e))
-  event_tags event s (Restarts number x there) = after_tags (ran w) number x (restarts x) (same_moved ciphers w) refl there (λ t e. Stays e)
-  event_tags event s (Cuts number nth keeps_new x there) = after_tags (ran w) number x
-      (stays (record x { store = record x.store { cut = Some (record { nth = nth; keeps_new = keeps_new }) } }) said.Set) (same_moved ciphers w) refl there
+  event_tags event s (Restarts number x there) = after_tags (running_world w) number x (restarts x) (same_moved ciphers w) refl there (λ t e. Stays e)
+  event_tags event s (Cuts number nth keeps_new x there) = after_tags (running_world w) number x
+      (stays (record x { store = record x.store { cut = Some (record { nth = nth; keeps_new = keeps_new }) } }) answers.Set) (same_moved ciphers w) refl there
       (λ t e. Stays e)
 
 -- # Runs

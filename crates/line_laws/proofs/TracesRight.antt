@@ -11,7 +11,7 @@ use Rattle.plc_base.specs.declared.keeper.BadStore.{BadStore}
 use Rattle.plc_base.specs.declared.tags.PairTag.{PairTag}
 use Rattle.eap_psk.specs.declared.server.Agreed.{Agreed}
 use Rattle.line_events.specs.declared.event.Answer.{Answer}
-use Rattle.line_events.specs.declared.event.Answer.TheVariants as said
+use Rattle.line_events.specs.declared.event.Answer.TheVariants as answers
 use Rattle.line_events.specs.declared.event.Event.{Event}
 use Rattle.line_events.specs.declared.event.Event.TheVariants as events
 use Rattle.line_events.specs.declared.happenings.Happenings.{Happenings}
@@ -54,7 +54,7 @@ use Rattle.node_rules.specs.StoreReading.{memory_of}
 use Rattle.line_rules.specs.Answers.{Reception, Up, SentGrant, drop_word, send_word, order_word, frame_word, random_word, join_word, leave_word, sent_word}
 use Rattle.line_rules.specs.Answers.{ordered_word, station_reception, meter_reception, coordinator_reception}
 use Rattle.line_rules.specs.Worlds.{World, Flight, Trace, Pairing, node_at, flight_at, is_forged_tag, nothing_further}
-use Rattle.line_rules.specs.Steps.{Step, is_taken, set_up, ran, world_after, flights_of, acted, trace_of, happened, sending, sent_if, tag_of, offered_near}
+use Rattle.line_rules.specs.Steps.{Step, is_taken, set_up, running_world, world_after, flights_of, node_outcome, trace_of, happenings, sending, sent_if, tag_of, offered_near}
 use Rattle.line_rules.specs.Steps.{hears}
 use Rattle.line_rules.specs.Steps.{received, forged_by, note_by, number_if, handed_by, issued_of, identity, restart_word, restarts, made_node}
 use Rattle.line_rules.specs.Runs.{Entry, one_of}
@@ -137,11 +137,11 @@ word_plain A reads event (OfLeave number) a = by_case a
     by_case (Err leaves.Halted) = (refl, refl, refl, refl, refl)
     by_case (Err leaves.NotJoined) = (refl, refl, refl, refl, refl)
     by_case (Err leaves.Store) = (refl, refl, refl, refl, refl)
-word_plain A reads event (OfDraw B index key) a = ordered_plain said.Drawn (refl, refl, refl, refl, refl) a
-word_plain A reads event (OfChallenge B number) a = ordered_plain said.Challenged (refl, refl, refl, refl, refl) a
-word_plain A reads event (OfTurn B number index) a = ordered_plain said.Activated (refl, refl, refl, refl, refl) a
-word_plain A reads event (OfOrder B number index) a = ordered_plain said.Ordered (refl, refl, refl, refl, refl) a
-word_plain A reads event (OfKick B number) a = ordered_plain said.Kicked (refl, refl, refl, refl, refl) a
+word_plain A reads event (OfDraw B index key) a = ordered_plain answers.Drawn (refl, refl, refl, refl, refl) a
+word_plain A reads event (OfChallenge B number) a = ordered_plain answers.Challenged (refl, refl, refl, refl, refl) a
+word_plain A reads event (OfTurn B number index) a = ordered_plain answers.Activated (refl, refl, refl, refl, refl) a
+word_plain A reads event (OfOrder B number index) a = ordered_plain answers.Ordered (refl, refl, refl, refl, refl) a
+word_plain A reads event (OfKick B number) a = ordered_plain answers.Kicked (refl, refl, refl, refl, refl) a
 
 word_quiet : (A : Type 0) (reads : A → Answer) (event : Event) → IsWord A reads event → IsBrought event → ⊥
 word_quiet A reads event (OfRandom number value) b = b
@@ -239,7 +239,7 @@ call_opened ciphers w number x A halted plan (Gives value are) m = (random_untag
 call_opened ciphers w number x A halted plan (Joins psk a ne pair other) m = joins_opened (identity ciphers x psk) m a w.clock
 call_opened ciphers w number x A halted plan (Leaves ne) m = leaves_opened m
 call_opened ciphers w number x A halted plan (Sends a datagram other are) m = (send_untagged m a datagram (w.sends + 1) w.clock).1
-call_opened ciphers w number x A halted plan (Breaks a other) m = (rested_untagged (with_station (calls.broke a m.station) m) said.Broken said.Broken).1
+call_opened ciphers w number x A halted plan (Breaks a other) m = (rested_untagged (with_station (calls.broke a m.station) m) answers.Broken answers.Broken).1
 call_opened ciphers w number x A halted plan (Nears a cost open_is other low) m = (near_untagged m a cost w.clock).1
 call_opened ciphers w number x A halted plan (Counts value open_is fits) m = (counter_untagged m value).1
 call_opened ciphers w number x A halted plan (Numbers value open_is low fits) m = (number_untagged m value).1
@@ -283,22 +283,22 @@ is_same w _ m n xs ys h k = absurd (h)
 
 -- What the history has of an event that is no broadcast is there exactly where the answer says so.
 pub record IsTracedSo (w : World) (x : Entry) : Type 0 where
-  pub sent : is_some x.trace.sent ≡ is_taken x.trace.happened.answer
+  pub sent : is_some x.trace.sent ≡ is_taken x.trace.happenings.answer
   pub send : IfSome x.trace.sent (IsSendOf w x.event)
-  pub up : is_some x.trace.happened.up ≡ is_up x.trace.happened.answer
-  pub up_at : IfSome x.trace.happened.up (λ (u : Handed). ComesTo x.event u.node)
-  pub taken : is_some x.trace.taken ≡ is_took x.trace.happened.answer
+  pub up : is_some x.trace.happenings.up ≡ is_up x.trace.happenings.answer
+  pub up_at : IfSome x.trace.happenings.up (λ (u : Handed). ComesTo x.event u.node)
+  pub taken : is_some x.trace.taken ≡ is_took x.trace.happenings.answer
   pub taken_at : IfSome x.trace.taken (λ (p : Pairing). ComesTo x.event p.node)
-  pub took : x.trace.happened.took ≡ option_map (λ (p : Pairing). p.node) x.trace.taken
-  pub done : is_some x.trace.done ≡ is_done x.trace.happened.answer
-  pub done_node : x.trace.happened.done ≡ option_map (λ (p : Pairing). p.node) x.trace.done
-  pub issues : is_issue x.trace.happened.answer ≡ true → IsIssue w x.event x.trace.issued
-  pub none_issued : is_issue x.trace.happened.answer ≡ false → x.trace.issued ≡ []
+  pub took : x.trace.happenings.took ≡ option_map (λ (p : Pairing). p.node) x.trace.taken
+  pub done : is_some x.trace.done ≡ is_done x.trace.happenings.answer
+  pub done_node : x.trace.happenings.done ≡ option_map (λ (p : Pairing). p.node) x.trace.done
+  pub issues : is_issue x.trace.happenings.answer ≡ true → IsIssue w x.event x.trace.issued
+  pub none_issued : is_issue x.trace.happenings.answer ≡ false → x.trace.issued ≡ []
 
 pub record Right (ciphers : Ciphers) (w : World) (x : Entry) : Type 0 where
   pub adds : Adds w x
   pub traced : IsTracedSo w x
-  pub forged : (x.trace.happened.forged ≡ true) ↔ IsForged ciphers w x.event x.trace.opened
+  pub forged : (x.trace.happenings.forged ≡ true) ↔ IsForged ciphers w x.event x.trace.opened
 
 abbrev pub entry : ℕ → Event → World × Trace → Entry
 entry number event r = record { number = number; event = event; trace = r.1; after = r.0 }
@@ -311,7 +311,7 @@ pub record Counted (w v : World) : Type 0 where
   pub forged : v.forged ≡ w.forged
   pub done : v.done ≡ w.done
 
-pub ran_counted : (w : World) → Counted w (ran w)
+pub ran_counted : (w : World) → Counted w (running_world w)
 ran_counted w = record { events = refl; sends = refl; ups = refl; forged = refl; done = refl }
 
 set_up_counted : (w : World) → Counted w (set_up w)
@@ -343,7 +343,7 @@ module _ (ciphers : Ciphers) (w : World) where
   -- what is said where nothing was heard
   abbrev quiet_trace : Happenings → List PairTag → List PairTag → Trace
   quiet_trace h made opened =
-      record { happened = h; sent = None; issued = []; taken = None; done = None; made = made; opened = opened; further = nothing_further }
+      record { happenings = h; sent = None; issued = []; taken = None; done = None; made = made; opened = opened; further = nothing_further }
 
   abbrev pub NoneCame : Event → Type 0
   NoneCame event = (octets : List ℕ) (key : Key) → AcceptsSealed ciphers w event octets key → ⊥
@@ -402,16 +402,16 @@ module _ (ciphers : Ciphers) (w : World) where
   -- a word, and nothing sent or made
   pub still_right : (number : ℕ) (event : Event) (v : World) (answer : Answer) → Plain answer → NoneCame event → Counted w v
       → length v.flights ≡ length w.flights + 0 → v.made ≡ w.made ++ []
-      → Right ciphers w (entry number event (v, trace_of (happened w answer)))
+      → Right ciphers w (entry number event (v, trace_of (happenings w answer)))
   still_right number event v answer p came c flights made_is =
-      quiet_right number event v (happened w answer) [] [] p refl refl refl refl refl came c refl flights made_is
+      quiet_right number event v (happenings w answer) [] [] p refl refl refl refl refl came c refl flights made_is
 
   pub acted_right : (n : ℕ) (event : Event) (number : ℕ) (d : NodeStep Answer) → Plain d.answer → d.opened ≡ [] → NoneCame event
-      → Right ciphers w (entry n event (acted ciphers w number d))
+      → Right ciphers w (entry n event (node_outcome ciphers w number d))
   acted_right n event number d p none came =
-      quiet_right n event (world_after ciphers (ran w) number d) (record (happened w d.answer) { flights = length d.frames })
+      quiet_right n event (world_after ciphers (running_world w) number d) (record (happenings w d.answer) { flights = length d.frames })
       d.made d.opened p refl refl refl refl none came
-      (after_counted ciphers w (ran w) number d (ran_counted w)) refl (after_flights ciphers (ran w) number d) (made_after ciphers (ran w) number d)
+      (after_counted ciphers w (running_world w) number d (ran_counted w)) refl (after_flights ciphers (running_world w) number d) (made_after ciphers (running_world w) number d)
 
   none_after : {A : Type 0} (u : World) (number : ℕ) (d : NodeStep A) → d.frames ≡ [] → d.made ≡ []
       → (length (world_after ciphers u number d).flights ≡ length u.flights + 0) × ((world_after ciphers u number d).made ≡ u.made ++ [])
@@ -436,10 +436,10 @@ module _ (ciphers : Ciphers) (w : World) where
   sent_right n from to datagram x d there p none = by_taken (is_taken d.answer) refl
     where
       by_taken : (b : Bool) → is_taken d.answer ≡ b
-          → Right ciphers w (entry n (events.Send from to datagram) (sent_if w from to datagram (tag_of x) b (acted ciphers w from d)))
+          → Right ciphers w (entry n (events.Send from to datagram) (sent_if w from to datagram (tag_of x) b (node_outcome ciphers w from d)))
       by_taken false e = acted_right n (events.Send from to datagram) from d (e, p.0, p.1, p.2, p.3) none (unbrought (events.Send from to datagram) (λ b. b))
       by_taken true e =
-          let c = after_counted ciphers w (ran w) from d (ran_counted w) in
+          let c = after_counted ciphers w (running_world w) from d (ran_counted w) in
           record {
             adds = record {
               events = c.events;
@@ -448,8 +448,8 @@ module _ (ciphers : Ciphers) (w : World) where
               forged = let k = c.forged in omega arith;
               done = let k = c.done in omega arith;
               first = refl;
-              flights = after_flights ciphers (ran w) from d;
-              made = made_after ciphers (ran w) from d;
+              flights = after_flights ciphers (running_world w) from d;
+              made = made_after ciphers (running_world w) from d;
             };
             traced = record {
               sent = sym e;
@@ -507,7 +507,7 @@ module _ (ciphers : Ciphers) (w : World) where
       → Fits d.answer → (forged ≡ true) ↔ IsForged ciphers w event d.opened
       → Right ciphers w (entry n event (received ciphers w number forged d))
   received_right n event number octets forged d comes fits is =
-      let c = after_counted ciphers w (ran w) number d (ran_counted w) in
+      let c = after_counted ciphers w (running_world w) number d (ran_counted w) in
       let to = comes_to w event number octets comes in
       record {
         adds = record {
@@ -517,8 +517,8 @@ module _ (ciphers : Ciphers) (w : World) where
           forged = forged_count forged w.forged;
           done = number_mapped _ d.answer.done w.done;
           first = refl;
-          flights = after_flights ciphers (ran w) number d;
-          made = made_after ciphers (ran w) number d;
+          flights = after_flights ciphers (running_world w) number d;
+          made = made_after ciphers (running_world w) number d;
         };
         traced = record {
           sent = sym fits.taken;
@@ -600,12 +600,12 @@ module _ (ciphers : Ciphers) (w : World) where
   made_quiet event x (OfCoordinator eui key none known long) b = b
   made_quiet event x (OfMeter eui psk some few new known long) b = b
 
-  breaks_plain : (x : Node) (a : ℕ) → Plain (acts x said.Halted (λ m. changing said.Broken (with_station (calls.broke a m.station) m))).answer
+  breaks_plain : (x : Node) (a : ℕ) → Plain (acts x answers.Halted (λ m. changing answers.Broken (with_station (calls.broke a m.station) m))).answer
   unfolding acts carry_out resting
   breaks_plain x a = by_memory x.memory
     where
       by_memory : (o : Option Memory) → Plain (option_map_or (λ m. left_by x
-          (carry_out x.store.records x.store.cut (changing said.Broken (with_station (calls.broke a m.station) m)))) o (stays x said.Halted)).answer
+          (carry_out x.store.records x.store.cut (changing answers.Broken (with_station (calls.broke a m.station) m)))) o (stays x answers.Halted)).answer
       by_memory None = (refl, refl, refl, refl, refl)
       by_memory (Some m) = (refl, refl, refl, refl, refl)
 
@@ -613,8 +613,8 @@ module _ (ciphers : Ciphers) (w : World) where
   restart_plain (Ok m) = (refl, refl, refl, refl, refl)
   restart_plain (Err bad) = (refl, refl, refl, refl, refl)
 
-  allowed_plain : (r : Result ℕ CoordinatorRefusal) → Plain (ordered_word said.Allowed r)
-  allowed_plain r = ordered_plain said.Allowed (refl, refl, refl, refl, refl) r
+  allowed_plain : (r : Result ℕ CoordinatorRefusal) → Plain (ordered_word answers.Allowed r)
+  allowed_plain r = ordered_plain answers.Allowed (refl, refl, refl, refl, refl) r
 
   preset_none : (x : Node) (plan : _) → IsPreset plan → let d : NodeStep _ = acts x (Ok tt) (λ m. of_station m (plan m.station)) in
       (d.frames ≡ []) × (d.made ≡ [])
@@ -637,17 +637,17 @@ module _ (ciphers : Ciphers) (w : World) where
 
   pub right : (event : Event) (s : Step) → IsStep ciphers w event s → (n : ℕ) → Good n event s
   right event s (Fails e fault) n = tt
-  right event s (Makes e x is) n = still_right n event (made_node w x).0 said.Made (refl, refl, refl, refl, refl) (unbrought event (made_quiet event x is))
+  right event s (Makes e x is) n = still_right n event (made_node w x).0 answers.Made (refl, refl, refl, refl, refl) (unbrought event (made_quiet event x is))
       (record { events = refl; sends = refl; ups = refl; forged = refl; done = refl }) (omega arith) (sym (append-nil w.made))
   right event s (Rests e quiet) n =
-      still_right n event (ran w) said.NoAddress (refl, refl, refl, refl, refl) (unbrought event quiet) (ran_counted w) (omega arith) (sym (append-nil w.made))
-  right event s (Shows number x) n = quiet_right n (events.Show number) (ran w) _ [] [] (refl, refl, refl, refl, refl) refl refl refl refl refl
+      still_right n event (running_world w) answers.NoAddress (refl, refl, refl, refl, refl) (unbrought event quiet) (ran_counted w) (omega arith) (sym (append-nil w.made))
+  right event s (Shows number x) n = quiet_right n (events.Show number) (running_world w) _ [] [] (refl, refl, refl, refl, refl) refl refl refl refl refl
       (unbrought (events.Show number) (λ b. b)) (ran_counted w) refl (omega arith) (sym (append-nil w.made))
   right event s (Acts e number x A halted plan reads there call word asked) n =
       acted_right n event number (answering reads (acts x halted plan)) (word_plain A reads event word (acts x halted plan).answer)
       (acts_opened x halted plan (call_opened ciphers w number x A halted plan call)) (unbrought event (word_quiet A reads event word))
   right event s (BreaksLink number next x a there call) n =
-      acted_right n (events.Break number next) number _ (breaks_plain x a) (acts_opened x said.Halted _ (call_opened ciphers w number x _ said.Halted _ call))
+      acted_right n (events.Break number next) number _ (breaks_plain x a) (acts_opened x answers.Halted _ (call_opened ciphers w number x _ answers.Halted _ call))
       (unbrought (events.Break number next) (λ b. b))
   right event s (SendsFrom from to datagram x a there call target) n =
       sent_right n from to datagram x (answering sent_word (acts x (Err sends.Halted)
@@ -657,15 +657,15 @@ module _ (ciphers : Ciphers) (w : World) where
       (call_opened ciphers w from x _ (Err sends.Halted) _ call))
   right event s (AllowsMeter number y c psk there call meter) n =
       let d = acts c (Err orders.Halted) (λ m. coordinator_rules.allow m y.eui psk) in
-      let none = none_after (ran w) 0 d (acts_quiet c (Err orders.Halted) _ (λ m. allow_quiet m y.eui psk))
+      let none = none_after (running_world w) 0 d (acts_quiet c (Err orders.Halted) _ (λ m. allow_quiet m y.eui psk))
       (acts_untagged c (Err orders.Halted) _ (λ m. allow_untagged m y.eui psk)).0 in
-      quiet_right n (events.Allow number) (world_after ciphers (ran w) 0 d) _ [] [] (allowed_plain d.answer) refl refl refl refl refl
-      (unbrought (events.Allow number) (λ b. b)) (after_counted ciphers w (ran w) 0 d (ran_counted w)) refl none.0 none.1
+      quiet_right n (events.Allow number) (world_after ciphers (running_world w) 0 d) _ [] [] (allowed_plain d.answer) refl refl refl refl refl
+      (unbrought (events.Allow number) (λ b. b)) (after_counted ciphers w (running_world w) 0 d (ran_counted w)) refl none.0 none.1
   right event s (Sets e quiet number x plan there open_is is) n =
       let d = acts x (Ok tt) (λ m. of_station m (plan m.station)) in
       let p = preset_none x plan is in
       let none = none_after (set_up w) number d p.0 p.1 in
-      still_right n event (world_after ciphers (set_up w) number d) said.Set (refl, refl, refl, refl, refl) (unbrought event quiet)
+      still_right n event (world_after ciphers (set_up w) number d) answers.Set (refl, refl, refl, refl, refl) (unbrought event quiet)
       (after_counted ciphers w (set_up w) number d (set_up_counted w)) none.0 none.1
   right event s (SetsTwo e quiet a b cost x y p q hx hy apart open_is first second fresh near) n =
       let d = offered_near x q cost w.clock in
@@ -673,7 +673,7 @@ module _ (ciphers : Ciphers) (w : World) where
       let u = near_none x q cost in
       let v = near_none y p cost in
       let none = none_twice (set_up w) a b d k u.0 u.1 v.0 v.1 in
-      still_right n event _ said.Set (refl, refl, refl, refl, refl) (unbrought event quiet)
+      still_right n event _ answers.Set (refl, refl, refl, refl, refl) (unbrought event quiet)
       (after_counted ciphers w _ b k (after_counted ciphers w (set_up w) a d (set_up_counted w))) none.0 none.1
   right event s (Provides number x c psk g d ne open_is hx hc pair same is) n =
       let k = acts x (Ok tt) (λ m. meters.provision m g) in
@@ -717,9 +717,9 @@ module _ (ciphers : Ciphers) (w : World) where
       ∙ acts_quiet x (Err frames.Halted) _ (λ m. accept_quiet m.station _ _ (accept_is m.station x.eui (arrived ciphers octets))) in
       let bare : d.made ≡ [] = ap (λ (z : NodeStep _). z.made) same
       ∙ (acts_untagged x (Err frames.Halted) _ (λ m. accept_untagged m x.eui (arrived ciphers octets))).0 in
-      let none = none_after (ran w) number d quiet bare in
-      still_right n event (world_after ciphers (ran w) number d) (frame_word reason) (frame_plain reason) turned
-      (after_counted ciphers w (ran w) number d (ran_counted w)) none.0 none.1
+      let none = none_after (running_world w) number d quiet bare in
+      still_right n event (world_after ciphers (running_world w) number d) (frame_word reason) (frame_plain reason) turned
+      (after_counted ciphers w (running_world w) number d (ran_counted w)) none.0 none.1
     where
       not_ok : (r : FrameRefusal) (got : Accepted) → Err r ≡ Ok got → ⊥
       not_ok r got e = cc
@@ -736,11 +736,11 @@ module _ (ciphers : Ciphers) (w : World) where
       received_right n event number octets (forged_by w octets got.path || list_any (is_forged_tag w.made) d.opened) d comes
       (hears_fits ciphers y got cost (note_by w octets got.path) w.clock) (forged_right event number x octets got there comes is d.opened)
   right event s (Loses number f there) n =
-      still_right n (events.Lose number) _ said.Lost (refl, refl, refl, refl, refl) (unbrought (events.Lose number) (λ b. b))
+      still_right n (events.Lose number) _ answers.Lost (refl, refl, refl, refl, refl) (unbrought (events.Lose number) (λ b. b))
       (record { events = refl; sends = refl; ups = refl; forged = refl; done = refl })
       (length-set w.flights (number - 1) (record f { lost = true }) ∙ omega arith) (sym (append-nil w.made))
   right event s (Ticks seconds) n =
-      still_right n (events.Tick seconds) _ said.Ticked (refl, refl, refl, refl, refl) (unbrought (events.Tick seconds) (λ b. b))
+      still_right n (events.Tick seconds) _ answers.Ticked (refl, refl, refl, refl, refl) (unbrought (events.Tick seconds) (λ b. b))
       (record { events = refl; sends = refl; ups = refl; forged = refl; done = refl }) (omega arith) (sym (append-nil w.made))
   right event s (Restarts number x there) n = acted_right n (events.Restart number) number (restarts x) (restart_plain (memory_of x.role x.store.records)) refl
       (unbrought (events.Restart number) (λ b. b))

@@ -67,7 +67,7 @@ use Rattle.reach_rules.specs.PathAsking.{ask_ends, ask_path, asks_by as asks_ove
 use Rattle.reach_rules.specs.ReachingNodes.{Beside, Reaching, drop_it, in_reach, reach_ends, adds_local}
 use Rattle.reach_rules.specs.Receiving.{NeighbourCommand, command_of, hear_command, hear_command_at}
 use Rattle.line_events.specs.declared.event.Answer.{Answer}
-use Rattle.line_events.specs.declared.event.Answer.TheVariants as said
+use Rattle.line_events.specs.declared.event.Answer.TheVariants as answers
 use Rattle.line_events.specs.declared.event.Event.{Event}
 use Rattle.line_events.specs.declared.happenings.PathLine.{PathLine}
 use Rattle.line_rules.specs.Answers.{discovery_word, only, scan_word, sent_word}
@@ -77,7 +77,7 @@ use Rattle.line_rules.specs.Further.{goes_toward, has_discovered, line_step, pat
 use Rattle.line_rules.specs.FurtherRuns.{AreWalked, AreWalkedAfter, Nothing, Passes, StandIn, Takes, WasWalked, last_of, steps_taken, steps_toward}
 use Rattle.line_rules.specs.Logs.{LogsKept}
 use Rattle.line_rules.specs.Runs.{Entry, IsRun, events_of, one_of}
-use Rattle.line_rules.specs.Steps.{Step, acted, forged_by, heard, identity, is_taken, ran, restarts, sent_if, tag_of, world_after}
+use Rattle.line_rules.specs.Steps.{Step, node_outcome, forged_by, heard, identity, is_taken, running_world, restarts, sent_if, tag_of, world_after}
 use Rattle.line_rules.specs.Worlds.{Flight, Noticed, Stepping, Trace, World, node_at, start}
 use Rattle.line_laws.specs.FurtherLines.{HoldsAfter}
 use Rattle.line_laws.specs.Lines.{NodeOk, WorldOk}
@@ -466,16 +466,16 @@ module _ (walked : List Stepping) (number : ℕ) (x : Node) (b : Beside) (m : Me
 
 -- What an event reports was walked before, and what flies after it has walked, with the step of the event.
 pub record WalksOn (walked : List Stepping) (v : World) (t : Trace) : Type 0 where
-  pub line : IfSome t.happened.path (λ (world_after : PathLine). WasWalked world_after.walk walked)
+  pub line : IfSome t.happenings.path (λ (world_after : PathLine). WasWalked world_after.walk walked)
   pub flights : All (FlightSays (UnitWalks (walked ++ one_of t.further.stepping))) v.flights
 
 abbrev WalksIn : List Stepping → Step → Type 0
-WalksIn walked (Ok r) = r.1.happened.forged ≡ false → WalksOn walked r.0 r.1
+WalksIn walked (Ok r) = r.1.happenings.forged ≡ false → WalksOn walked r.0 r.1
 WalksIn walked (Err fault) = Unit {0}
 
 -- What no rule of further reach tells.
 record IsSilent (t : Trace) : Type 0 where
-  path : t.happened.path ≡ None
+  path : t.happenings.path ≡ None
   stepping : t.further.stepping ≡ None
 
 abbrev SilentIn : Step → Type 0
@@ -496,7 +496,7 @@ old_silent w event s (old.Acts e number x A halted plan reads there call word as
 old_silent w event s (old.BreaksLink number next x a there call) = record { path = refl; stepping = refl }
 old_silent w event s (old.SendsFrom from to datagram x a there call target) =
     let d : NodeStep Answer = answering sent_word (acts x (Err sends_of.Halted) (λ m. of_station m (calls.send m.station a datagram (w.sends + 1) w.clock))) in
-    sent_silent w from to datagram (tag_of x) (is_taken d.answer) (acted network w from d) (record { path = refl; stepping = refl })
+    sent_silent w from to datagram (tag_of x) (is_taken d.answer) (node_outcome network w from d) (record { path = refl; stepping = refl })
 old_silent w event s (old.AllowsMeter number y c psk there call meter) = record { path = refl; stepping = refl }
 old_silent w event s (old.Sets e quiet number x plan there open_is is) = record { path = refl; stepping = refl }
 old_silent w event s (old.SetsTwo e quiet a b cost x y p q hx hy apart open_is first second fresh near) = record { path = refl; stepping = refl }
@@ -621,7 +621,7 @@ module _ (w : World) (ok : WorldOk w) (s : WorldSpeaks w) (r : IsInRange w) (wal
     is_heard : forged_by w octets got.path ≡ false → IsHeard w event number x octets got
     is_heard honest = record { says = a.says; there = a.there; comes = a.comes; is = a.is; honest = honest }
 
-    commanded_walks : (c : NeighbourCommand) → command_of got ≡ Some c → h.1.happened.forged ≡ false
+    commanded_walks : (c : NeighbourCommand) → command_of got ≡ Some c → h.1.happenings.forged ≡ false
         → let q : World × Trace = commanded network number left c h in WalksOn walked q.0 q.1
     unfolding world_after
     commanded_walks c e honest = record { line = by.0; flights = flown }
@@ -663,7 +663,7 @@ module _ (w : World) (ok : WorldOk w) (s : WorldSpeaks w) (r : IsInRange w) (wal
             (r.sends.commands event number x octets got cost c (is_heard unforged) e) by.1
             (wider walked (one_of (step_by left c d.answer)) h.0.flights (heard_flights unforged))
 
-    checked_walks : h.1.happened.forged ≡ false → let q : World × Trace = checked network w number got (heard_node network w x octets got cost) h in WalksOn
+    checked_walks : h.1.happenings.forged ≡ false → let q : World × Trace = checked network w number got (heard_node network w x octets got cost) h in WalksOn
         walked q.0 q.1
     unfolding world_after
     checked_walks honest = by_due (due got.path (message_of got) (heard_node network w x octets got cost).answer.answer) refl
@@ -698,7 +698,7 @@ module _ (w : World) (ok : WorldOk w) (s : WorldSpeaks w) (r : IsInRange w) (wal
   walks_on event st (Rests e answer idle other none) = λ honest. silent _ _ (record { path = refl; stepping = refl }) before
   walks_on event st Opens = λ honest. silent _ _ (record { path = refl; stepping = refl }) before
   walks_on event st (Bcasts number x datagram there are) = λ honest. silent _ _ (record { path = refl; stepping = refl })
-      (after_says P (ran w) number (reaches x (beside_at w number) (Err broadcast_faults.Halted) (λ y. broadcast in_memory y datagram))
+      (after_says P (running_world w) number (reaches x (beside_at w number) (Err broadcast_faults.Halted) (λ y. broadcast in_memory y datagram))
       (r.sends.broadcasts number x datagram there are) (bcast_walks x (beside_at w number) datagram) before)
   walks_on event st (Asks from to x y target there other address) = λ honest.
       let d = reaches x (beside_at w from) (Err ask_faults.Halted) (λ z. ask_path in_memory z target) in
@@ -709,25 +709,25 @@ module _ (w : World) (ok : WorldOk w) (s : WorldSpeaks w) (r : IsInRange w) (wal
       (λ m here. ask_walks walked x (beside_at w from) m here target target_low (low_at from x m there here)) in
       record {
         line = tt;
-        flights = after_says (UnitWalks (walked ++ one_of (asked x target d.answer))) (ran w) from d (r.sends.asks from x target there) by.1
+        flights = after_says (UnitWalks (walked ++ one_of (asked x target d.answer))) (running_world w) from d (r.sends.asks from x target there) by.1
             (wider walked (one_of (asked x target d.answer)) w.flights before);
       }
   walks_on event st (Scans number x m there here) = λ honest. discovered_walks number scan_word (scanning number) (begin_scan m (beside_at w number).scan)
   walks_on event st (Chooses number k x psk there pair) = λ honest.
       let d = reaches x (beside_at w number) (Err choices.Halted) (λ y. choose_agent (identity network x psk) y k w.clock) in
-      silent _ _ (record { path = refl; stepping = refl }) (after_as_before P any (ran w) number d (r.sends.choices number k x psk there pair)
+      silent _ _ (record { path = refl; stepping = refl }) (after_as_before P any (running_world w) number d (r.sends.choices number k x psk there pair)
       (choice_old x (beside_at w number) (identity network x psk) k w.clock) before)
   walks_on event st (Discovers e number x m octets link other there here comes over is) = λ honest.
       discovered_walks number discovery_word (beacon_taken number (discovery_in octets) link)
       (hear_discovery x.role m.station (beside_at w number).scan octets link)
   walks_on event st (Unbelieves e number x octets got a is) = λ honest. silent _ _ (record { path = refl; stepping = refl })
-      (after_silently P (ran w) number (stays (after_accepting network x octets) (only said.Blacklisted)) refl before)
+      (after_silently P (running_world w) number (stays (after_accepting network x octets) (only answers.Blacklisted)) refl before)
   walks_on event st (Commands e number x octets cost got c a low passes is) = λ honest. commanded_walks event number x octets cost got a c is honest
   walks_on event st (Checked e number x octets cost got a low passes none on) = λ honest. checked_walks event number x octets cost got a (checked_honest honest)
     where
       checked_honest : (checked network w number got (heard_node network w x octets got cost)
-          (heard network w number (after_accepting network x octets) octets got cost)).1.happened.forged ≡ false
-          → (heard network w number (after_accepting network x octets) octets got cost).1.happened.forged ≡ false
+          (heard network w number (after_accepting network x octets) octets got cost)).1.happenings.forged ≡ false
+          → (heard network w number (after_accepting network x octets) octets got cost).1.happenings.forged ≡ false
       checked_honest = by_due (due got.path (message_of got) (heard_node network w x octets got cost).answer.answer)
         where
           noted : World × Trace
@@ -737,20 +737,20 @@ module _ (w : World) (ok : WorldOk w) (s : WorldSpeaks w) (r : IsInRange w) (wal
           by_memory : (reply : Reply) (t : Bool) → (if t then adds_frames
               (world_after network noted.0 number (acknowledging (heard_node network w x octets got cost).node reply)) noted.1
               (acknowledging (heard_node network w x octets got cost).node reply) else sends_nothing w
-              (world_after network noted.0 number (acknowledging (heard_node network w x octets got cost).node reply), noted.1)).1.happened.forged ≡ false
-              → noted.1.happened.forged ≡ false
+              (world_after network noted.0 number (acknowledging (heard_node network w x octets got cost).node reply), noted.1)).1.happenings.forged ≡ false
+              → noted.1.happenings.forged ≡ false
           by_memory reply true e = e
           by_memory reply false e = e
 
-          by_due : (o : Option Reply) → (acknowledged_if network w number (heard_node network w x octets got cost).node o noted).1.happened.forged ≡ false
-              → noted.1.happened.forged ≡ false
+          by_due : (o : Option Reply) → (acknowledged_if network w number (heard_node network w x octets got cost).node o noted).1.happenings.forged ≡ false
+              → noted.1.happenings.forged ≡ false
           by_due None e = e
           by_due (Some reply) e = by_memory reply (is_some (acknowledging (heard_node network w x octets got cost).node reply).node.memory) e
   walks_on event st (Hears e number x octets cost got a low passes none off) = λ honest. silent _ _ (record { path = refl; stepping = refl })
       (heard_flights event number x octets cost got a (or_parts _ _ honest).0)
   walks_on event st (Ticks seconds) = λ honest. silent _ _ (record { path = refl; stepping = refl }) before
   walks_on event st (Restarts number x b there read) = λ honest. silent _ _ (record { path = refl; stepping = refl })
-      (after_silently P (ran w) number (restarts x) refl before)
+      (after_silently P (running_world w) number (restarts x) refl before)
 
 -- # Runs
 

@@ -5,7 +5,7 @@ use Rattle.plc_base.specs.declared.address.Eui.{Eui}
 use Rattle.plc_base.specs.declared.key.Key.{Key}
 use Rattle.group_keys.specs.KeyBook as books
 use Rattle.line_events.specs.declared.event.Answer.{Answer}
-use Rattle.line_events.specs.declared.event.Answer.TheVariants as said
+use Rattle.line_events.specs.declared.event.Answer.TheVariants as answers
 use Rattle.line_events.specs.declared.event.Event.TheVariants as events
 use Rattle.line_events.specs.declared.happenings.Admission.{Admission}
 use Rattle.node_rules.specs.Ciphers.{Ciphers}
@@ -21,7 +21,7 @@ address_in w eui =
 
 -- whether a meter was allowed
 abbrev pub is_admitted : Answer → Bool
-is_admitted said.Allowed = true
+is_admitted answers.Allowed = true
 is_admitted _ = false
 
 -- The node of an admission is the meter that the event allows, and after it the coordinator's book allows this meter and has it at this address.
@@ -36,8 +36,8 @@ pub record IsAdmission (w : World) (x : Entry) (a : Admission) : Type 0 where
 
 -- An event has an admission exactly where its answer is Allowed.
 pub record IsAdmittedRight (w : World) (x : Entry) : Type 0 where
-  pub answered : is_some x.trace.happened.grant ≡ is_admitted x.trace.happened.answer
-  pub right : IfSome x.trace.happened.grant (IsAdmission w x)
+  pub answered : is_some x.trace.happenings.grant ≡ is_admitted x.trace.happenings.answer
+  pub right : IfSome x.trace.happenings.grant (IsAdmission w x)
 
 -- so it is of each event of a run
 abbrev pub AreAdmittedRight : World → List Entry → Type 0

@@ -15,7 +15,7 @@ use Rattle.node_rules.specs.declared.heard.Path.TheVariants as paths
 use Rattle.node_rules.specs.Ciphers.{network}
 use Rattle.node_rules.specs.Memory.{Node}
 use Rattle.reach_rules.specs.CheckedReplies.{message_of}
-use Rattle.line_events.specs.declared.event.Answer.TheVariants as said
+use Rattle.line_events.specs.declared.event.Answer.TheVariants as answers
 use Rattle.line_events.specs.declared.event.Event.{Event}
 use Rattle.line_rules.specs.Forgery.{Comes, accepting}
 use Rattle.line_rules.specs.FurtherRuns.{check_history}
@@ -90,9 +90,9 @@ pub record IsNotAwaited (w : World) (before : List Entry) (event : Event) : Type
 
 -- What an event answers of checks is what the history before it says.
 pub record IsCheckedRight (w : World) (before : List Entry) (x : Entry) : Type 0 where
-  pub blacklisted : (x.trace.happened.answer ≡ said.Blacklisted) ↔ IsBlacklisted w before x.event
-  pub acked : x.trace.happened.answer ≡ said.Acked → IsAwaited w before x.event
-  pub not_awaited : x.trace.happened.answer ≡ said.NotAwaited → IsNotAwaited w before x.event
+  pub blacklisted : (x.trace.happenings.answer ≡ answers.Blacklisted) ↔ IsBlacklisted w before x.event
+  pub acked : x.trace.happenings.answer ≡ answers.Acked → IsAwaited w before x.event
+  pub not_awaited : x.trace.happenings.answer ≡ answers.NotAwaited → IsNotAwaited w before x.event
 
 -- so it is of each event of a run
 abbrev pub AreCheckedRightAfter : World → List Entry → List Entry → Type 0

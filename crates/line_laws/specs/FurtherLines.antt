@@ -37,7 +37,7 @@ use Rattle.line_laws.specs.Owed.{AreOctets, KeepsRanges}
 
 -- the line holds, and no more than 24 frames were sent
 abbrev pub LineHolds : World × Trace → Type 0
-LineHolds r = WorldOk r.0 × (r.1.happened.flights ≤ 24)
+LineHolds r = WorldOk r.0 × (r.1.happenings.flights ≤ 24)
 
 -- so it is after a broadcast and an ask, for any ciphers that keep their ranges, and whatever power is lost
 abbrev pub CallsKeepTheLine : Type 0
@@ -59,7 +59,7 @@ LogFits b = (own : ℕ) (c : Broadcast) → broadcast_fault own b.log c ≡ None
 -- and after a command that was heard, where without further reach its frame led to nothing
 abbrev pub CommandsKeepTheLine : Type 0
 CommandsKeepTheLine =
-    (ciphers : Ciphers) → KeepsRanges ciphers → (r : World × Trace) → WorldOk r.0 → r.0.running ≡ true → r.1.happened.flights ≡ 0
+    (ciphers : Ciphers) → KeepsRanges ciphers → (r : World × Trace) → WorldOk r.0 → r.0.running ≡ true → r.1.happenings.flights ≡ 0
     → (number : ℕ) (x : Node) → node_at r.0 number ≡ Some x → ((m : Memory) → x.memory ≡ Some m → LogFits (beside_at r.0 number)) → (c : NeighbourCommand)
     → LineHolds (commanded ciphers number x c r)
 
@@ -71,7 +71,7 @@ LogsFit = (b : Beside) (records : Records) → IsLogIn b.log records → LogFits
 
 -- what is taken holds, and the flights that an event says are those that it adds
 abbrev pub StepHolds : World → Step → Type 0
-StepHolds w (Ok r) = LineHolds r × (length r.0.flights ≡ length w.flights + r.1.happened.flights)
+StepHolds w (Ok r) = LineHolds r × (length r.0.flights ≡ length w.flights + r.1.happenings.flights)
 StepHolds w (Err fault) = Unit {0}
 
 -- The line holds after every event of a line with further reach, for any ciphers that keep their ranges, and whatever power is lost: where it
@@ -105,7 +105,7 @@ pub record HoldsAfter (x : Entry) : Type 0 where
   pub line : WorldOk x.after
   pub octets : All FlightFits x.after.flights
   pub logs : LogsKept x.after
-  pub few : x.trace.happened.flights ≤ 24
+  pub few : x.trace.happenings.flights ≤ 24
 
 -- In every run of the network, forged or not, the line holds, what flies is octets, the log of each node is what its store
 -- gives, and no event sends more than 24 frames.

@@ -10,7 +10,7 @@ use Rattle.line_laws.specs.Ranges.{WorldRanged}
 -- what every node holds is in its ranges after each event, and what flies is letters in theirs, plain frames and frames of discovery
 abbrev pub StayRanged : List Entry → Type 0
 StayRanged [] = Unit {0}
-StayRanged (x ∷ xs) = x.trace.happened.forged ≡ false → WorldRanged x.after × StayRanged xs
+StayRanged (x ∷ xs) = x.trace.happenings.forged ≡ false → WorldRanged x.after × StayRanged xs
 
 abbrev pub EveryRunIsRanged : Type 0
 EveryRunIsRanged = (entries : List Entry) → IsLineRun network entries → StayRanged entries
@@ -20,7 +20,7 @@ abbrev pub IssuedStood : World → List Entry → Type 0
 IssuedStood w [] = Unit {0}
 IssuedStood w (x ∷ xs) =
     Each (λ (i : Issued). NodeHasKey w 0 i.key) x.trace.issued
-    × (x.trace.happened.forged ≡ false → IssuedStood x.after xs)
+    × (x.trace.happenings.forged ≡ false → IssuedStood x.after xs)
 
 abbrev pub EveryIssuedKeyStood : Type 0
 EveryIssuedKeyStood = (entries : List Entry) → IsLineRun network entries → IssuedStood start entries

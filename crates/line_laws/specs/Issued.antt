@@ -11,7 +11,7 @@ use Rattle.line_laws.specs.Laws.{FlightsAreOctets}
 abbrev pub IsIssuedAfter : List Entry → List Entry → Type 0
 IsIssuedAfter before [] = Unit {0}
 IsIssuedAfter before (x ∷ xs) =
-    x.trace.happened.forged ≡ false
+    x.trace.happenings.forged ≡ false
     → HasOnlyIssuedKeys (issued (before ++ x ∷ [])) x.after × IsIssuedAfter (before ++ x ∷ []) xs
 
 -- so it is from the beginning of a run on

@@ -41,7 +41,7 @@ pub record IsIssuedRight (w : World) (event : Event) (i : Issued) : Type 0 where
 abbrev pub AreIssuedRight : World → List Entry → Type 0
 AreIssuedRight w [] = Unit {0}
 AreIssuedRight w (x ∷ xs) =
-    Each (IsIssuedRight w x.event) x.trace.issued × (x.trace.happened.forged ≡ false → AreIssuedRight x.after xs)
+    Each (IsIssuedRight w x.event) x.trace.issued × (x.trace.happenings.forged ≡ false → AreIssuedRight x.after xs)
 
 abbrev pub EveryKeyIsIssuedRight : Type 0
 EveryKeyIsIssuedRight = (entries : List Entry) → IsLineRun network entries → AreIssuedRight start entries

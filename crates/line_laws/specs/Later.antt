@@ -23,7 +23,7 @@ use Rattle.node_rules.specs.Composing.{behind}
 use Rattle.node_rules.specs.Plans.{Plan}
 use Rattle.reach_rules.specs.ReachingNodes.{Beside}
 use Rattle.line_rules.specs.Nonces.{HasSender, IsSpelled}
-use Rattle.line_rules.specs.Steps.{ran, world_after}
+use Rattle.line_rules.specs.Steps.{running_world, world_after}
 use Rattle.line_rules.specs.Worlds.{World, Flight, Issued, Pairing, Sending, node_at, start}
 use Rattle.line_rules.specs.Further.{discovery_flight}
 use Rattle.line_events.specs.declared.happenings.Handed.{Handed}
@@ -106,7 +106,7 @@ Keeps w v =
 
 -- that an event of no setup kind was taken keeps it
 abbrev pub RunningKeeps : Type 0
-RunningKeeps = (w : World) → Keeps w (ran w)
+RunningKeeps = (w : World) → Keeps w (running_world w)
 
 -- where setup is over, so does a node that seals such a unit
 abbrev pub SealingKeeps : Type 0 → Type 0

@@ -9,7 +9,7 @@ use Rattle.mac_frames.specs.declared.head.MacHead.TheVariants as heads
 use Rattle.group_keys.specs.KeyBook as books
 use Rattle.node_rules.specs.Ciphers.{Ciphers}
 use Rattle.node_rules.specs.Memory.{Node, node_route}
-use Rattle.line_events.specs.declared.event.Answer.TheVariants as said
+use Rattle.line_events.specs.declared.event.Answer.TheVariants as answers
 use Rattle.line_events.specs.declared.event.Event.{Event}
 use Rattle.line_events.specs.declared.event.Event.TheVariants as events
 use Rattle.line_rules.specs.Agreement.{is_allow_of}
@@ -76,7 +76,7 @@ LineStepsShut =
 abbrev pub LineKicksShut : Type 0
 LineKicksShut =
     (ciphers : Ciphers) (w : World) → WorldOk w → (number : ℕ) (v : World) (t : Trace) → line_step ciphers w (events.Kick number) ≡ Ok (v, t)
-    → t.happened.answer ≡ said.Kicked → WorldOk v
+    → t.happenings.answer ≡ answers.Kicked → WorldOk v
     → (number ≢ 0) × ((z : Node) × (node_at w number ≡ Some z) × ShutAt z.eui v × (v.running ≡ true))
 
 -- # Tags
@@ -129,7 +129,7 @@ LineNodesAcceptOnce =
 pub record IsLineRight (ciphers : Ciphers) (w : World) (x : Entry) : Type 0 where
   pub adds : Adds w x
   pub traced : IsTracedRight w x
-  pub forged : (x.trace.happened.forged ≡ true) ↔ IsForged ciphers w x.event x.trace.opened
+  pub forged : (x.trace.happenings.forged ≡ true) ↔ IsForged ciphers w x.event x.trace.opened
 
 -- whatever the ciphers are, and in any world
 abbrev pub LineTracesRight : Type 0
@@ -140,7 +140,7 @@ LineTracesRight =
 
 -- a restart is answered, and its node has no valid route after it
 abbrev pub RestartIn : ℕ → Step → Type 0
-RestartIn number (Ok r) = (r.1.happened.answer ≡ said.Restarted) × ((y : Node) → node_at r.0 number ≡ Some y → (dest : ℕ) → node_route y dest ≡ None)
+RestartIn number (Ok r) = (r.1.happenings.answer ≡ answers.Restarted) × ((y : Node) → node_at r.0 number ≡ Some y → (dest : ℕ) → node_route y dest ≡ None)
 RestartIn number (Err fault) = Unit {0}
 
 abbrev pub LineRestartsAreRight : Type 0

@@ -104,7 +104,7 @@ pub record FlightsFall (ciphers : Ciphers) (w : World) (x : Entry) : Type 0 wher
 abbrev pub FlightsAlwaysFall : Ciphers → World → List Entry → Type 0
 FlightsAlwaysFall ciphers w [] = Unit {0}
 FlightsAlwaysFall ciphers w (x ∷ xs) =
-    FlightsFall ciphers w x × (x.trace.happened.forged ≡ false → FlightsAlwaysFall ciphers x.after xs)
+    FlightsFall ciphers w x × (x.trace.happenings.forged ≡ false → FlightsAlwaysFall ciphers x.after xs)
 
 abbrev pub EveryFlightFalls : Type 0
 EveryFlightFalls =

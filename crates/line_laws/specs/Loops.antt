@@ -41,7 +41,7 @@ RanksRise w v = (i : ℕ) (x : Node) → node_at w i ≡ Some x → Later v i x
 abbrev pub AreLoopFree : World → List Entry → Type 0
 AreLoopFree w [] = Unit {0}
 AreLoopFree w (x ∷ xs) =
-    x.trace.happened.forged ≡ false → HasNoLoop x.after × RanksRise w x.after × AreLoopFree x.after xs
+    x.trace.happenings.forged ≡ false → HasNoLoop x.after × RanksRise w x.after × AreLoopFree x.after xs
 
 -- no run of the network has a loop before it is forged
 abbrev pub EveryRunIsLoopFree : Type 0

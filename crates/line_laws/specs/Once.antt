@@ -37,13 +37,13 @@ abbrev pub NobodyAccepts : Ciphers → List ℕ → World → List Entry → Typ
 NobodyAccepts ciphers octets w [] = Unit {0}
 NobodyAccepts ciphers octets w (x ∷ xs) =
     ((key : Key) (a : AcceptsSealed ciphers w x.event octets key) → a.to_all ≡ false → ⊥)
-    × (x.trace.happened.forged ≡ false → NobodyAccepts ciphers octets x.after xs)
+    × (x.trace.happenings.forged ≡ false → NobodyAccepts ciphers octets x.after xs)
 
 -- once a node accepted octets as a sealed frame to it alone, no node does so again
 abbrev pub AcceptedOnce : Ciphers → World → List Entry → Type 0
 AcceptedOnce ciphers w [] = Unit {0}
 AcceptedOnce ciphers w (x ∷ xs) =
-    x.trace.happened.forged ≡ false
+    x.trace.happenings.forged ≡ false
     → ((octets : List ℕ) (key : Key) (a : AcceptsSealed ciphers w x.event octets key) → a.to_all ≡ false
     → NobodyAccepts ciphers octets x.after xs) × AcceptedOnce ciphers x.after xs
 

@@ -53,7 +53,7 @@ EveryBroadcastIsOnce = (entries : List Entry) → IsLineRun network entries → 
 -- so it is of each world of a run, before the first forged event
 abbrev pub HoldsAlong : (World → Type 0) → World → List Entry → Type 0
 HoldsAlong P w [] = Unit {0}
-HoldsAlong P w (x ∷ xs) = P w × (x.trace.happened.forged ≡ false → HoldsAlong P x.after xs)
+HoldsAlong P w (x ∷ xs) = P w × (x.trace.happenings.forged ≡ false → HoldsAlong P x.after xs)
 
 -- A node has accepted octets that came to it, and that are not forged.
 pub record IsHeard (w : World) (event : Event) (number : ℕ) (x : Node) (octets : List ℕ) (got : Accepted) : Type 0 where

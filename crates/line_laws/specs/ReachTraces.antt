@@ -22,7 +22,7 @@ use Rattle.node_rules.specs.Frames.{Letter, Sealed, spelled}
 use Rattle.node_rules.specs.Memory.{Node}
 use Rattle.node_rules.specs.Replies.{route_message}
 use Rattle.line_events.specs.declared.event.Answer.{Answer}
-use Rattle.line_events.specs.declared.event.Answer.TheVariants as said
+use Rattle.line_events.specs.declared.event.Answer.TheVariants as answers
 use Rattle.line_events.specs.declared.event.Event.{Event}
 use Rattle.line_events.specs.declared.event.Event.TheVariants as events
 use Rattle.line_events.specs.declared.happenings.BroadcastUp.{BroadcastUp}
@@ -64,7 +64,7 @@ abbrev pub to_all_of : Broadcasting → ToAll
 to_all_of b = record { node = b.node; datagram = b.datagram }
 
 abbrev pub is_sent : Answer → Bool
-is_sent said.Sent = true
+is_sent answers.Sent = true
 is_sent _ = false
 
 abbrev pub as_bcast : Event → Option ToAll
@@ -77,7 +77,7 @@ sent_to_all event answer = if is_sent answer then as_bcast event else None
 
 abbrev pub all_sent_to_all : List Entry → List ToAll
 all_sent_to_all [] = []
-all_sent_to_all (x ∷ xs) = one_of (sent_to_all x.event x.trace.happened.answer) ++ all_sent_to_all xs
+all_sent_to_all (x ∷ xs) = one_of (sent_to_all x.event x.trace.happenings.answer) ++ all_sent_to_all xs
 
 -- The broadcasts of a history are those that `bcast` lines sent, each once and in their order.
 abbrev pub ListsBroadcasts : List Entry → Type 0
@@ -95,7 +95,7 @@ pub record BroadcastCame (w : World) (event : Event) (u : BroadcastUp) : Type 0 
   pub octets : broadcast.octets ≡ u.octets
 
 abbrev pub is_bup : Answer → Bool
-is_bup said.Bup = true
+is_bup answers.Bup = true
 is_bup _ = false
 
 -- # Paths
@@ -108,7 +108,7 @@ pub record WalkCame (w : World) (event : Event) (line : PathLine) : Type 0 where
   pub read : path_in body ≡ Some (Tell line.walk)
 
 abbrev pub is_path : Answer → Bool
-is_path said.Path = true
+is_path answers.Path = true
 is_path _ = false
 
 -- # What nodes notice
@@ -168,29 +168,29 @@ is_beacon (Some (Scans node)) = false
 is_beacon (Some (Heard node from cost link)) = true
 
 abbrev pub is_acked : Answer → Bool
-is_acked said.Acked = true
+is_acked answers.Acked = true
 is_acked _ = false
 
 abbrev pub is_scanning : Answer → Bool
-is_scanning said.Scanning = true
+is_scanning answers.Scanning = true
 is_scanning _ = false
 
 abbrev pub is_beaconed : Answer → Bool
-is_beaconed said.Beaconed = true
+is_beaconed answers.Beaconed = true
 is_beaconed _ = false
 
 -- # Events
 
 -- What the history and the report have of further reach is there exactly where the answer says so, and has its frame.
 pub record IsReachReported (w : World) (x : Entry) : Type 0 where
-  pub broadcast : option_map to_all_of x.trace.further.broadcast ≡ sent_to_all x.event x.trace.happened.answer
-  pub bup : is_some x.trace.happened.bup ≡ is_bup x.trace.happened.answer
-  pub bup_came : IfSome x.trace.happened.bup (BroadcastCame w x.event)
-  pub path : is_some x.trace.happened.path ≡ is_path x.trace.happened.answer
-  pub path_came : IfSome x.trace.happened.path (WalkCame w x.event)
-  pub acked : is_acknowledged x.trace.further.noticed ≡ is_acked x.trace.happened.answer
-  pub scans : is_scan x.trace.further.noticed ≡ is_scanning x.trace.happened.answer
-  pub beacons : is_beacon x.trace.further.noticed ≡ is_beaconed x.trace.happened.answer
+  pub broadcast : option_map to_all_of x.trace.further.broadcast ≡ sent_to_all x.event x.trace.happenings.answer
+  pub bup : is_some x.trace.happenings.bup ≡ is_bup x.trace.happenings.answer
+  pub bup_came : IfSome x.trace.happenings.bup (BroadcastCame w x.event)
+  pub path : is_some x.trace.happenings.path ≡ is_path x.trace.happenings.answer
+  pub path_came : IfSome x.trace.happenings.path (WalkCame w x.event)
+  pub acked : is_acknowledged x.trace.further.noticed ≡ is_acked x.trace.happenings.answer
+  pub scans : is_scan x.trace.further.noticed ≡ is_scanning x.trace.happenings.answer
+  pub beacons : is_beacon x.trace.further.noticed ≡ is_beaconed x.trace.happenings.answer
   pub noticed : IfSome x.trace.further.noticed (HasFrame w x)
 
 -- so it is of each event of a run

@@ -9,8 +9,8 @@ use Rattle.node_rules.specs.Ciphers.{network}
 abbrev pub UpsAreSentAfter : List Entry → List Entry → Type 0
 UpsAreSentAfter before [] = Unit {0}
 UpsAreSentAfter before (x ∷ xs) =
-    x.trace.happened.forged ≡ false
-    → IfSome x.trace.happened.up (λ (up : Handed). WasSent up (sends before) × IsNew up (ups before))
+    x.trace.happenings.forged ≡ false
+    → IfSome x.trace.happenings.up (λ (up : Handed). WasSent up (sends before) × IsNew up (ups before))
     × UpsAreSentAfter (before ++ x ∷ []) xs
 
 -- so it is of every run of the network, from its beginning on

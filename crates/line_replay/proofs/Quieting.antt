@@ -38,11 +38,11 @@ flies_out w first (suc count) = left_out_then (flies_text w first count) (flies_
 entry_quieted : (x : Entry) (rest : List ℕ) → without_flights (entry_text false x ++ rest) ≡ entry_text true x ++ without_flights rest
 unfolding sent_text
 entry_quieted x rest =
-    let lines = happened_text x.number x.event x.trace.happened in
-    let first = x.trace.happened.first_flight in
+    let lines = happened_text x.number x.event x.trace.happenings in
+    let first = x.trace.happenings.first_flight in
     let flies = flies_text x.after first (length x.after.flights + 1 - first) in
     ap without_flights (append_assoc lines flies rest)
-    ∙ (happened_kept x.number x.event x.trace.happened).kept (flies ++ rest)
+    ∙ (happened_kept x.number x.event x.trace.happenings).kept (flies ++ rest)
     ∙ ap (λ l. lines ++ l) ((flies_out x.after first (length x.after.flights + 1 - first)).left_out rest)
     ∙ ap (λ l. l ++ without_flights rest) (sym (append-nil lines))
 

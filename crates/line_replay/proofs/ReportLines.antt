@@ -143,11 +143,11 @@ path_kept (Some path) =
     kept_line _ (λ rest. refl) (after_word (codes "path ") refl (after_number path.node
     (after_inside (walk_text path.walk) (walk_inside path.walk) line_feed)))
 
-further_kept : (happened : Happenings) → IsKept (further_text happened)
+further_kept : (happenings : Happenings) → IsKept (further_text happenings)
 unfolding further_text
-further_kept happened =
-    kept_then (bup_text happened.bup) (bup_kept happened.bup)
-    (kept_then (agent_text happened.agent) (agent_kept happened.agent) (path_kept happened.path))
+further_kept happenings =
+    kept_then (bup_text happenings.bup) (bup_kept happenings.bup)
+    (kept_then (agent_text happenings.agent) (agent_kept happenings.agent) (path_kept happenings.path))
 
 grant_kept : (grant : Option Admission) → IsKept (grant_text grant)
 unfolding grant_text
@@ -278,18 +278,18 @@ shown_kept (events.Path _ _) shown = none_kept
 
 -- ---- all lines of an event
 
-details_kept : (event : Event) (happened : Happenings) → IsKept (details_text event happened)
+details_kept : (event : Event) (happenings : Happenings) → IsKept (details_text event happenings)
 unfolding details_text
-details_kept event happened =
-    kept_then (grant_text happened.grant) (grant_kept happened.grant) (kept_then (took_text happened.took) (took_kept happened.took)
-    (kept_then (done_text happened.done) (done_kept happened.done) (shown_kept event happened.shown)))
+details_kept event happenings =
+    kept_then (grant_text happenings.grant) (grant_kept happenings.grant) (kept_then (took_text happenings.took) (took_kept happenings.took)
+    (kept_then (done_text happenings.done) (done_kept happenings.done) (shown_kept event happenings.shown)))
 
-pub happened_kept : (number : ℕ) (event : Event) (happened : Happenings) → IsKept (happened_text number event happened)
+pub happened_kept : (number : ℕ) (event : Event) (happenings : Happenings) → IsKept (happened_text number event happenings)
 unfolding happened_text
-happened_kept number event happened =
-    kept_then (answer_text number happened.answer) (answer_kept number happened.answer)
-    (kept_then (forged_text number happened.forged) (forged_kept number happened.forged)
-    (kept_then (up_text happened.up) (up_kept happened.up) (kept_then (further_text happened) (further_kept happened) (details_kept event happened))))
+happened_kept number event happenings =
+    kept_then (answer_text number happenings.answer) (answer_kept number happenings.answer)
+    (kept_then (forged_text number happenings.forged) (forged_kept number happenings.forged)
+    (kept_then (up_text happenings.up) (up_kept happenings.up) (kept_then (further_text happenings) (further_kept happenings) (details_kept event happenings))))
 
 -- ---- the last line
 

@@ -55,8 +55,8 @@ taking w (Text octets) = reading_taking w (reading octets)
 -- the lines that report an event, in a quiet report without those of its flights
 abbrev pub entry_text : Bool → Entry → List ℕ
 entry_text quiet entry =
-    happened_text entry.number entry.event entry.trace.happened
-    ++ sent_text quiet entry.after entry.trace.happened.first_flight
+    happened_text entry.number entry.event entry.trace.happenings
+    ++ sent_text quiet entry.after entry.trace.happenings.first_flight
 
 -- A world, and whether its report is quiet.
 pub record Playing : Type 0 where
@@ -149,4 +149,4 @@ last_text octets ended = last_from start (lines octets ended) ended
 -- how many events of a history are forged
 abbrev pub forged_in : List Entry → ℕ
 forged_in [] = 0
-forged_in (x ∷ xs) = (if x.trace.happened.forged then 1 else 0) + forged_in xs
+forged_in (x ∷ xs) = (if x.trace.happenings.forged then 1 else 0) + forged_in xs

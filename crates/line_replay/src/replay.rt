@@ -47,14 +47,14 @@ fn push_entry(
     world: &World,
     number: u32,
     event: &Event<'_>,
-    happened: &Happenings<'_>,
+    happenings: &Happenings<'_>,
 ) -> Result<(), AllocError>
     ensures { OnOk result (string_bytes text.new
         ≡ string_bytes text.old
-        ++ (happened_text number event.now happened.now ++ sent_text quiet world.now happened.now.first_flight)) }
+        ++ (happened_text number event.now happenings.now ++ sent_text quiet world.now happenings.now.first_flight)) }
 {
-    push_happened(text, alloc, number, event, happened)?;
-    push_sent(text, quiet, world, happened.first_flight)
+    push_happened(text, alloc, number, event, happenings)?;
+    push_sent(text, quiet, world, happenings.first_flight)
 }
 
 impl Player {
@@ -74,8 +74,8 @@ impl Player {
         if taken >= MAX_EVENTS {
             return refuse(self.alloc, number, Reason::Events, sink);
         }
-        let happened = match self.world.step(event, &mut self.buffers) {
-            Ok(happened) => happened,
+        let happenings = match self.world.step(event, &mut self.buffers) {
+            Ok(happenings) => happenings,
             Err(StepFault::Memory) => return Err(StopReason::Memory),
             Err(StepFault::Setup) => return refuse(self.alloc, number, Reason::Setup, sink),
             Err(StepFault::Node) => return refuse(self.alloc, number, Reason::Node, sink),
@@ -89,7 +89,7 @@ impl Player {
             &self.world,
             taken + 1,
             event,
-            &happened,
+            &happenings,
         );
         write_made(sink, made, self.text.as_str())
     }

@@ -15,7 +15,7 @@ use Rattle.plc_base.specs.Grant.{Granted}
 use Rattle.line_events.specs.declared.event.Event.{Event}
 use Rattle.line_events.specs.declared.event.Event.TheVariants as events
 use Rattle.line_events.specs.declared.event.Answer.{Answer}
-use Rattle.line_events.specs.declared.event.Answer.TheVariants as said
+use Rattle.line_events.specs.declared.event.Answer.TheVariants as answers
 use Rattle.line_events.specs.declared.event.StepFault.{StepFault}
 use Rattle.line_events.specs.declared.event.StepFault.TheVariants as faults
 use Rattle.node_rules.specs.declared.heard.Accepted.{Accepted}
@@ -56,12 +56,12 @@ use Rattle.node_rules.specs.MemoryDrafts.{in_memory}
 use Rattle.line_rules.specs.Answers.{Reception, only, coordinator_reception, meter_reception}
 use Rattle.line_rules.specs.Forgery.{Comes, OfFlight, OfScript, accepting}
 use Rattle.line_rules.specs.Worlds.{World, Flight, Trace, node_at, flight_at, is_forged_tag}
-use Rattle.line_rules.specs.Steps.{Step, set_up, ran, world_after, acted, has_begun, takes_setup, once_begun, in_setup, on_node, on_meter, made_node}
+use Rattle.line_rules.specs.Steps.{Step, set_up, running_world, world_after, node_outcome, has_begun, takes_setup, once_begun, in_setup, on_node, on_meter, made_node}
 use Rattle.line_rules.specs.Steps.{blank_node}
 use Rattle.line_rules.specs.Steps.{coordinator_node, is_known, coordinator, meter, depot, depot_by, provisioned, psk_of, near, near_by, keeps_rank, ranks_full}
 use Rattle.line_rules.specs.Steps.{offered_near, preset, allow, allowed, rand, join, joins_by, leave, send, sends_by, sent_if, breaks, breaks_by, received}
 use Rattle.line_rules.specs.Steps.{on_flight, lose, tick, ticked, restart, cut, show, rekey, challenge, activate, activate_at, kick, step, hears, heard}
-use Rattle.line_rules.specs.Steps.{identity, note_by, forged_by, restarts, trace_of, happened}
+use Rattle.line_rules.specs.Steps.{identity, note_by, forged_by, restarts, trace_of, happenings}
 use Rattle.line_rules.specs.Further.{line_step, checks, bcast, broadcasts_by, path, asks_by, scan, scans_by, choose, chooses_by, discovers_by, commanded}
 use Rattle.line_rules.specs.Further.{checked, acknowledged_if, acknowledged, acknowledging, heard_by, heard_further, is_dropped, accepted_further, comes}
 use Rattle.line_rules.specs.Further.{delivers, injects, ticks, after_ok, due, with_check, restarts_by, restarts_further, beside_at, set_beside, reaches}
@@ -116,8 +116,8 @@ module _ (ciphers : Ciphers) (w : World) (short : HaveShortTables w) (h : LogsKe
   quiet_after v same k number x there d q = after_in v number d k
       (quiet_in _ x d.node q (subst (λ (bs : List Beside). NodeIn (unwrap_or (slice_get bs number) nothing_beside).log x) (sym same) (here number x there)))
 
-  acted_in : (number : ℕ) (x : Node) → node_at w number ≡ Some x → (d : NodeStep Answer) → Quiet x d.node → LogsKept (acted ciphers w number d).0
-  acted_in number x there d q = quiet_after (ran w) refl h number x there d q
+  acted_in : (number : ℕ) (x : Node) → node_at w number ≡ Some x → (d : NodeStep Answer) → Quiet x d.node → LogsKept (node_outcome ciphers w number d).0
+  acted_in number x there d q = quiet_after (running_world w) refl h number x there d q
 
   shorts : (number : ℕ) (x : Node) → node_at w number ≡ Some x → (m : Memory) → x.memory ≡ Some m → HasShortTables m.station
   shorts number x there m e = short number x m there e
@@ -173,7 +173,7 @@ module _ (ciphers : Ciphers) (w : World) (short : HaveShortTables w) (h : LogsKe
   near_by_in a b cost x y hx hy (Some p) (Some q) = branch ((a == b) || (keeps_rank x q || (ranks_full x || ranks_full y))) (Err faults.Setup)
       (Ok (
         world_after ciphers (world_after ciphers (set_up w) a (offered_near x q cost w.clock)) b (offered_near y p cost w.clock),
-        trace_of (happened w said.Set),
+        trace_of (happenings w answers.Set),
       )) (tt {0})
       (quiet_after (world_after ciphers (set_up w) a (offered_near x q cost w.clock)) refl
       (quiet_after (set_up w) refl h a x hx (offered_near x q cost w.clock) (near_quiet a x hx q cost w.clock)) b y hy (offered_near y p cost w.clock)
@@ -201,7 +201,7 @@ module _ (ciphers : Ciphers) (w : World) (short : HaveShortTables w) (h : LogsKe
   unfolding allow
   allow_in number = once _ (at_meter number _ (λ x hx. at_node 0 _ (λ c hc.
       by_option (λ psk. Ok (allowed ciphers w number (acts c (Err orders.Halted) (λ m. coordinator_rules.allow m x.eui psk)))) (psk_of x) _
-      (λ psk pair. quiet_after (ran w) refl h 0 c hc (acts c (Err orders.Halted) (λ m. coordinator_rules.allow m x.eui psk))
+      (λ psk pair. quiet_after (running_world w) refl h 0 c hc (acts c (Err orders.Halted) (λ m. coordinator_rules.allow m x.eui psk))
       (ordered_in c hc (λ m. coordinator_rules.allow m x.eui psk) (λ m s. (coordinators_leave_log (own c) m s).allows x.eui psk))) tt)))
 
   rand_in : (number : ℕ) (value : Rand) → Kept (rand ciphers w number value)
@@ -277,7 +277,7 @@ module _ (ciphers : Ciphers) (w : World) (short : HaveShortTables w) (h : LogsKe
   ticks_in seconds = by_start (has_begun w)
     where
       by_start : (b : Bool) → Kept (after_ok (λ r. (record r.0 { beside = map (tick_beside (w.clock + seconds)) w.beside }, r.1))
-          (if b then Ok (record (ran w) { clock = w.clock + seconds; nodes = map (ticked (w.clock + seconds)) w.nodes }, trace_of (happened w said.Ticked))
+          (if b then Ok (record (running_world w) { clock = w.clock + seconds; nodes = map (ticked (w.clock + seconds)) w.nodes }, trace_of (happenings w answers.Ticked))
           else Err faults.Setup))
       by_start true = all_changed (tick_beside (w.clock + seconds)) (ticked (w.clock + seconds)) (ticked_in (w.clock + seconds)) w.beside w.nodes h
       by_start false = tt
@@ -329,13 +329,13 @@ module _ (ciphers : Ciphers) (w : World) (short : HaveShortTables w) (h : LogsKe
   bcast_in : (number : ℕ) (datagram : List ℕ) → Kept (bcast ciphers w number datagram)
   unfolding bcast
   bcast_in number datagram = once _
-      (at_node number _ (λ x hx. after_both (ran w) number (reaches x (beside_at w number) (Err broadcasts.Halted) (λ y. broadcast in_memory y datagram)) _ h
+      (at_node number _ (λ x hx. after_both (running_world w) number (reaches x (beside_at w number) (Err broadcasts.Halted) (λ y. broadcast in_memory y datagram)) _ h
       (further_in x (beside_at w number) (Err broadcasts.Halted) (λ y. broadcast in_memory y datagram)
       (λ m e. (broadcast_leads m (beside_at w number) datagram).leads) (here number x hx))))
 
   asks_in : (number : ℕ) (x : Node) → node_at w number ≡ Some x → (target : Option ℕ) → LogsKept (asks_by ciphers w number x target).0
   asks_in number x hx None = h
-  asks_in number x hx (Some target) = after_both (ran w) number (reaches x (beside_at w number) (Err asks.Halted) (λ y. ask_path in_memory y target)) _ h
+  asks_in number x hx (Some target) = after_both (running_world w) number (reaches x (beside_at w number) (Err asks.Halted) (λ y. ask_path in_memory y target)) _ h
       (further_in x (beside_at w number) (Err asks.Halted) (λ y. ask_path in_memory y target) (λ m e. (asks_lead m (beside_at w number) target).leads)
       (here number x hx))
 
@@ -354,7 +354,7 @@ module _ (ciphers : Ciphers) (w : World) (short : HaveShortTables w) (h : LogsKe
   chooses_in : (number : ℕ) (x : Node) → node_at w number ≡ Some x → (k : ℕ) (psk : Option Key) → LogsKept (chooses_by ciphers w number x k psk).0
   chooses_in number x hx k None = h
   chooses_in number x hx k (Some psk) =
-      after_both (ran w) number (reaches x (beside_at w number) (Err choices.Halted) (λ y. choose_agent (identity ciphers x psk) y k w.clock)) _ h
+      after_both (running_world w) number (reaches x (beside_at w number) (Err choices.Halted) (λ y. choose_agent (identity ciphers x psk) y k w.clock)) _ h
       (further_in x (beside_at w number) (Err choices.Halted) (λ y. choose_agent (identity ciphers x psk) y k w.clock)
       (λ m e. (chooses_lead m (beside_at w number) (identity ciphers x psk) (shorts number x hx m e) k w.clock).leads) (here number x hx))
 
@@ -385,7 +385,7 @@ module _ (ciphers : Ciphers) (w : World) (short : HaveShortTables w) (h : LogsKe
   module _ (number : ℕ) (x y : Node) (there : node_at w number ≡ Some x) (first : Quiet x y) (has : (m : Memory) → y.memory ≡ Some m → HasShortTables m.station)
       (octets : List ℕ) where
     received_in : (forged : Bool) (d : NodeStep Reception) → Quiet y d.node → LogsKept (received ciphers w number forged d).0
-    received_in forged d q = quiet_after (ran w) refl h number x there d (quiet_on x y d.node first q)
+    received_in forged d q = quiet_after (running_world w) refl h number x there d (quiet_on x y d.node first q)
 
     heard_in : (got : Accepted) (cost : ℕ) → LogsKept (heard ciphers w number y octets got cost).0
     heard_in got cost = received_in (forged_by w octets got.path
@@ -445,7 +445,7 @@ module _ (ciphers : Ciphers) (w : World) (short : HaveShortTables w) (h : LogsKe
     further_heard : (got : Accepted) (cost : ℕ) → ((c : NeighbourCommand) → command_of got ≡ Some c → AreOctets c.body)
         → LogsKept (heard_further ciphers w number y octets got cost).0
     further_heard got cost are = either_in (is_dropped w number got) _ _
-        (received_in (forged_by w octets got.path) (stays y (only said.Blacklisted)) (quiet_same y)) (heard_by_in got cost (command_of got) are)
+        (received_in (forged_by w octets got.path) (stays y (only answers.Blacklisted)) (quiet_same y)) (heard_by_in got cost (command_of got) are)
 
   comes_in : (number : ℕ) (x : Node) (octets : List ℕ) (cost : ℕ) → node_at w number ≡ Some x
       → ((got : Accepted) (c : NeighbourCommand) → (accepting ciphers x octets).answer ≡ Ok got → command_of got ≡ Some c → AreOctets c.body)
@@ -469,7 +469,7 @@ module _ (ciphers : Ciphers) (w : World) (short : HaveShortTables w) (h : LogsKe
         where
           by_answer : (r : Result Accepted FrameRefusal) → d.answer ≡ r → LogsKept (accepted_further ciphers w number octets cost d).0
           by_answer (Ok got) e = rw e (further_heard number x d.node there q s octets got cost (λ c is. o got c e is))
-          by_answer (Err reason) e = rw e (quiet_after (ran w) refl h number x there d q)
+          by_answer (Err reason) e = rw e (quiet_after (running_world w) refl h number x there d q)
 
   delivers_in : (flight number cost : ℕ) → CommandsAreOctets ciphers w (events.Deliver flight number cost) → Kept (delivers ciphers w flight number cost)
   unfolding delivers
@@ -485,9 +485,9 @@ module _ (ciphers : Ciphers) (w : World) (short : HaveShortTables w) (h : LogsKe
   restarts_in : (number : ℕ) (x : Node) → node_at w number ≡ Some x → (o : Result Beside BadStore) → restarted x.store.records ≡ o
       → LogsKept (restarts_by ciphers w number x o).0
   restarts_in number x there (Ok b) e =
-      after_both (ran w) number (restarts x) b h (restart_in (beside_at w number).log x b (restarts x).node.memory (here number x there) e)
+      after_both (running_world w) number (restarts x) b h (restart_in (beside_at w number).log x b (restarts x).node.memory (here number x there) e)
   restarts_in number x there (Err bad) e =
-      after_both (ran w) number (stays (record x { memory = None }) said.BadStore) nothing_beside h (halted_in (beside_at w number).log x (here number x there))
+      after_both (running_world w) number (stays (record x { memory = None }) answers.BadStore) nothing_beside h (halted_in (beside_at w number).log x (here number x there))
 
   restart_kept : (number : ℕ) → Kept (restarts_further ciphers w number)
   unfolding restarts_further

@@ -31,10 +31,10 @@ use Rattle.reach_rules.specs.Beacons.{is_discovery}
 use Rattle.reach_rules.specs.Receiving.{NeighbourCommand, command_of}
 use Rattle.line_rules.specs.Answers.{Reception}
 use Rattle.line_rules.specs.Worlds.{World, Flight, Trace, node_at, flight_at}
-use Rattle.line_rules.specs.Steps.{provisioned, ticked, Step, set_up, ran, world_after, acted, has_begun, takes_setup, once_begun, in_setup, on_node, on_meter}
+use Rattle.line_rules.specs.Steps.{provisioned, ticked, Step, set_up, running_world, world_after, node_outcome, has_begun, takes_setup, once_begun, in_setup, on_node, on_meter}
 use Rattle.line_rules.specs.Steps.{made_node, is_known, coordinator, meter, depot, depot_by, psk_of, near, near_by, preset, allow, allowed, rand, join}
 use Rattle.line_rules.specs.Steps.{joins_by, leave, send, sends_by, sent_if, breaks, breaks_by, deliver, inject, arrives, accepted_by, received, on_flight}
-use Rattle.line_rules.specs.Steps.{lose, tick, restart, cut, show, rekey, challenge, activate, activate_at, kick, step, spoken, hears, heard, forged_by}
+use Rattle.line_rules.specs.Steps.{lose, tick, restart, cut, show, rekey, challenge, activate, activate_at, kick, step, node_trace, hears, heard, forged_by}
 use Rattle.line_rules.specs.Steps.{note_by, restarts}
 use Rattle.line_rules.specs.Further.{line_step, checks, bcast, broadcasts_by, path, asks_by, scan, scans_by, has_discovered, choose, chooses_by, discovers_by}
 use Rattle.line_rules.specs.Further.{commanded, checked, acknowledged_if, acknowledged, acknowledging, heard_by, heard_further, is_dropped, accepted_further}
@@ -74,7 +74,7 @@ set_up_goes w = record {
   made = ([], sym (append-nil w.made));
 }
 
-ran_goes : (w : World) → GoesOn w (ran w)
+ran_goes : (w : World) → GoesOn w (running_world w)
 ran_goes w = record {
   events = refl;
   clock = omega arith;
@@ -133,8 +133,8 @@ module _ (ciphers : Ciphers) (w : World) where
   at_meter : (number : ℕ) (f : Node → Step) → ((x : Node) → StepShape w (f x)) → StepShape w (on_meter w number f)
   at_meter number f h = branch (number == 0) (Err faults.Node) (on_node w number f) (Fails faults.Node) (at_node number f h)
 
-  acted_goes : (number : ℕ) (d : NodeStep Answer) → GoesOn w (acted ciphers w number d).0
-  acted_goes number d = goes_after ciphers w (ran w) number d (ran_goes w)
+  acted_goes : (number : ℕ) (d : NodeStep Answer) → GoesOn w (node_outcome ciphers w number d).0
+  acted_goes number d = goes_after ciphers w (running_world w) number d (ran_goes w)
 
   made_goes : (x : Node) → GoesOn w (made_node w x).0
   made_goes x =
@@ -225,7 +225,7 @@ module _ (ciphers : Ciphers) (w : World) where
   breaks_shape number next = once _ (at_node number _ (λ x. at_node next _ (λ y. Taken _ (breaks_go number x (node_address y)))))
 
   received_go : (number : ℕ) (forged : Bool) (d : NodeStep Reception) → GoesOn w (received ciphers w number forged d).0
-  received_go number forged d = counts_go w _ _ _ _ _ (goes_after ciphers w (ran w) number d (ran_goes w))
+  received_go number forged d = counts_go w _ _ _ _ _ (goes_after ciphers w (running_world w) number d (ran_goes w))
 
   arrives_go : (number : ℕ) (x : Node) (octets : List ℕ) (cost : ℕ) → GoesOn w (arrives ciphers w number x octets cost).0
   unfolding arrives
@@ -236,7 +236,7 @@ module _ (ciphers : Ciphers) (w : World) where
         where
           by_answer : (r : Result Accepted FrameRefusal) → d.answer ≡ r → GoesOn w (accepted_by ciphers w number octets cost d).0
           by_answer (Ok got) e = rw e (received_go number _ _)
-          by_answer (Err reason) e = rw e (goes_after ciphers w (ran w) number _ (ran_goes w))
+          by_answer (Err reason) e = rw e (goes_after ciphers w (running_world w) number _ (ran_goes w))
 
   at_flight : (number : ℕ) (f : Flight → Step) → ((x : Flight) → flight_at w number ≡ Some x → StepShape w (f x)) → StepShape w (on_flight w number f)
   at_flight number f h = by_flight (flight_at w number) refl
@@ -262,7 +262,7 @@ module _ (ciphers : Ciphers) (w : World) where
       by_number false e = e
 
   loses_go : (number : ℕ) (f h : Flight) → flight_at w number ≡ Some f → SameFlight f h
-      → GoesOn w (record (ran w) { flights = slice_set w.flights (number - 1) h })
+      → GoesOn w (record (running_world w) { flights = slice_set w.flights (number - 1) h })
   loses_go number f h e same =
       let g = ran_goes w in
       record {
@@ -366,17 +366,17 @@ module _ (ciphers : Ciphers) (w : World) where
 
   bcast_shape : (number : ℕ) (datagram : List ℕ) → StepShape w (bcast ciphers w number datagram)
   unfolding bcast
-  bcast_shape number datagram = once _ (at_node number _ (λ x. Taken _ (beside_goes w _ _ (goes_after ciphers w (ran w) number _ (ran_goes w)))))
+  bcast_shape number datagram = once _ (at_node number _ (λ x. Taken _ (beside_goes w _ _ (goes_after ciphers w (running_world w) number _ (ran_goes w)))))
 
   asks_go : (number : ℕ) (x : Node) (target : Option ℕ) → GoesOn w (asks_by ciphers w number x target).0
   asks_go number x None = ran_goes w
-  asks_go number x (Some target) = beside_goes w _ _ (goes_after ciphers w (ran w) number _ (ran_goes w))
+  asks_go number x (Some target) = beside_goes w _ _ (goes_after ciphers w (running_world w) number _ (ran_goes w))
 
   path_shape : (from to : ℕ) → StepShape w (path ciphers w from to)
   unfolding path
   path_shape from to = once _ (at_node from _ (λ x. at_node to _ (λ y. Taken _ (asks_go from x (node_address y)))))
 
-  discovered_go : (number : ℕ) (bs : List Beside) (new : List Flight) → GoesOn w (record (ran w) { flights = w.flights ++ new; beside = bs })
+  discovered_go : (number : ℕ) (bs : List Beside) (new : List Flight) → GoesOn w (record (running_world w) { flights = w.flights ++ new; beside = bs })
   discovered_go number bs new =
       let g = ran_goes w in
       record {
@@ -398,7 +398,7 @@ module _ (ciphers : Ciphers) (w : World) where
 
   chooses_go : (number : ℕ) (x : Node) (k : ℕ) (psk : Option Key) → GoesOn w (chooses_by ciphers w number x k psk).0
   chooses_go number x k None = ran_goes w
-  chooses_go number x k (Some psk) = beside_goes w _ _ (goes_after ciphers w (ran w) number _ (ran_goes w))
+  chooses_go number x k (Some psk) = beside_goes w _ _ (goes_after ciphers w (running_world w) number _ (ran_goes w))
 
   choose_shape : (number k : ℕ) → StepShape w (choose ciphers w number k)
   unfolding choose
@@ -454,7 +454,7 @@ module _ (ciphers : Ciphers) (w : World) where
         where
           by_answer : (r : Result Accepted FrameRefusal) → d.answer ≡ r → GoesOn w (accepted_further ciphers w number octets cost d).0
           by_answer (Ok got) e = rw e (further_go number d.node octets got cost)
-          by_answer (Err reason) e = rw e (goes_after ciphers w (ran w) number _ (ran_goes w))
+          by_answer (Err reason) e = rw e (goes_after ciphers w (running_world w) number _ (ran_goes w))
 
   delivers_shape : (flight number cost : ℕ) → StepShape w (delivers ciphers w flight number cost)
   unfolding delivers

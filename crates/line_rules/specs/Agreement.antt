@@ -2,7 +2,7 @@
 use Rattle.std.specs.Prelude.{◌≡◌, ◌⊎◌, ℕ, ◌==◌, Bool, true, false, List, [], ◌∷◌, ◌++◌, All, Option, Some, None, IfSome, slice_get}
 use Rattle.plc_base.specs.declared.key.Key.{Key}
 use Rattle.plc_base.specs.Grant.{Granted}
-use Rattle.line_events.specs.declared.event.Answer.TheVariants as said
+use Rattle.line_events.specs.declared.event.Answer.TheVariants as answers
 use Rattle.line_events.specs.declared.event.Event.{Event}
 use Rattle.line_events.specs.declared.event.Event.TheVariants as events
 use Rattle.node_rules.specs.Memory.{Memory, Node}
@@ -20,7 +20,7 @@ pub record WasTaken (done : Pairing) (before : List Pairing) : Type 0 where
 abbrev pub KeysAgreeAfter : List Entry → List Entry → Type 0
 KeysAgreeAfter before [] = Unit {0}
 KeysAgreeAfter before (x ∷ xs) =
-    x.trace.happened.forged ≡ false
+    x.trace.happenings.forged ≡ false
     → IfSome x.trace.done (λ done. WasTaken done (takings before)) × KeysAgreeAfter (before ++ x ∷ []) xs
 
 -- the same from the beginning of a run
@@ -63,7 +63,7 @@ is_allow_of number _ = false
 -- The entry in which a meter is kicked.
 pub record IsKicked (number : ℕ) (x : Entry) : Type 0 where
   pub event : is_kick_of number x.event ≡ true
-  pub answer : x.trace.happened.answer ≡ said.Kicked
+  pub answer : x.trace.happenings.answer ≡ answers.Kicked
 
 -- no entry allows a meter
 abbrev pub NeverAllowed : ℕ → List Entry → Type 0

@@ -77,4 +77,4 @@ pub data IsForged (ciphers : Ciphers) (w : World) (event : Event) (opened : List
 abbrev pub IsForgedRight : Ciphers → World → List Entry → Type 0
 IsForgedRight ciphers w [] = Unit {0}
 IsForgedRight ciphers w (x ∷ xs) =
-    ((x.trace.happened.forged ≡ true) ↔ IsForged ciphers w x.event x.trace.opened) × IsForgedRight ciphers x.after xs
+    ((x.trace.happenings.forged ≡ true) ↔ IsForged ciphers w x.event x.trace.opened) × IsForgedRight ciphers x.after xs

@@ -55,14 +55,14 @@ use Rattle.reach_rules.specs.Receiving.{NeighbourCommand, command_of, hear_comma
 use Rattle.line_events.specs.declared.event.Event.{Event}
 use Rattle.line_events.specs.declared.event.Event.TheVariants as events
 use Rattle.line_events.specs.declared.event.Answer.{Answer}
-use Rattle.line_events.specs.declared.event.Answer.TheVariants as said
+use Rattle.line_events.specs.declared.event.Answer.TheVariants as answers
 use Rattle.line_events.specs.declared.event.StepFault.{StepFault}
 use Rattle.line_events.specs.declared.event.StepFault.TheVariants as faults
 use Rattle.line_events.specs.declared.happenings.AgentLine.{AgentLine}
 use Rattle.line_events.specs.declared.happenings.BroadcastUp.{BroadcastUp}
 use Rattle.line_events.specs.declared.happenings.PathLine.{PathLine}
 use Rattle.line_rules.specs.Answers.{Reception, only, frame_word, command_word, discovery_word, broadcast_word, ask_word, scan_word}
-use Rattle.line_rules.specs.Steps.{Step, set_up, ran, world_after, spoken, happened, trace_of, once_begun, in_setup, on_node, on_meter, on_flight, acted}
+use Rattle.line_rules.specs.Steps.{Step, set_up, running_world, world_after, node_trace, happenings, trace_of, once_begun, in_setup, on_node, on_meter, on_flight, node_outcome}
 use Rattle.line_rules.specs.Steps.{psk_of}
 use Rattle.line_rules.specs.Steps.{identity, hears, heard, received, forged_by, note_by, restarts, restart, tick, step}
 use Rattle.line_rules.specs.Worlds.{World, Flight, Trace, Broadcasting, Stepping, Noticed, Replied, Acknowledged, Scans, Heard, Further, nothing_further}
@@ -111,7 +111,7 @@ has_reached ciphers w number x halted plan d =
 unfoldable pub checks : World → Step
 checks w =
     in_setup w (if w.checks_on then Err faults.Setup
-    else Ok (record (set_up w) { checks_on = true }, trace_of (happened w said.Set)))
+    else Ok (record (set_up w) { checks_on = true }, trace_of (happenings w answers.Set)))
 
 -- # bcast
 
@@ -126,8 +126,8 @@ abbrev pub broadcasts_by : Ciphers → World → ℕ → Node → List ℕ → W
 broadcasts_by ciphers w number x datagram =
     let plan : Reaching Memory → Plan (Reaching Memory) (Result (Unit {0}) BroadcastRefusal) = λ y. broadcast in_memory y datagram in
     let d = reaches x (beside_at w number) (Err broadcasts.Halted) plan in (
-      has_reached ciphers (ran w) number x (Err broadcasts.Halted) plan d,
-      record (spoken w (answering broadcast_word d)) {
+      has_reached ciphers (running_world w) number x (Err broadcasts.Halted) plan d,
+      record (node_trace w (answering broadcast_word d)) {
         further = record nothing_further { broadcast = broadcast_sent number x (beside_at w number) datagram d.answer };
       },
     )
@@ -147,12 +147,12 @@ asked x target (Ok u) =
 asked x target (Err reason) = None
 
 abbrev pub asks_by : Ciphers → World → ℕ → Node → Option ℕ → World × Trace
-asks_by ciphers w number x None = (ran w, trace_of (happened w said.NoAddress))
+asks_by ciphers w number x None = (running_world w, trace_of (happenings w answers.NoAddress))
 asks_by ciphers w number x (Some target) =
     let plan : Reaching Memory → Plan (Reaching Memory) (Result (Unit {0}) AskRefusal) = λ y. ask_path in_memory y target in
     let d = reaches x (beside_at w number) (Err asks.Halted) plan in (
-      has_reached ciphers (ran w) number x (Err asks.Halted) plan d,
-      record (spoken w (answering ask_word d)) {
+      has_reached ciphers (running_world w) number x (Err asks.Halted) plan d,
+      record (node_trace w (answering ask_word d)) {
         further = record nothing_further { stepping = asked x target d.answer };
       },
     )
@@ -177,8 +177,8 @@ discovery_flights from (Some frame) = discovery_flight from frame ∷ []
 abbrev pub has_discovered : {A : Type 0} → World → ℕ → (A → Answer) → (A → Option Noticed) → Discovering A → World × Trace
 has_discovered w number word noticed d = (
   set_beside number (record (beside_at w number) { scan = d.scan })
-      (record (ran w) { flights = w.flights ++ discovery_flights number d.sent }),
-  record (trace_of (record (happened w (word d.answer)) { flights = length (discovery_flights number d.sent) })) {
+      (record (running_world w) { flights = w.flights ++ discovery_flights number d.sent }),
+  record (trace_of (record (happenings w (word d.answer)) { flights = length (discovery_flights number d.sent) })) {
     further = record nothing_further { noticed = noticed d.answer };
   },
 )
@@ -189,7 +189,7 @@ scanning number (Ok u) = Some (Scans number)
 scanning number (Err reason) = None
 
 abbrev pub scans_by : World → ℕ → Option Memory → World × Trace
-scans_by w number None = (ran w, trace_of (happened w said.Halted))
+scans_by w number None = (running_world w, trace_of (happenings w answers.Halted))
 scans_by w number (Some m) =
     has_discovered w number scan_word (scanning number) (begin_scan m (beside_at w number).scan)
 
@@ -199,23 +199,23 @@ scan w number = once_begun w (on_meter w number (λ x. Ok (scans_by w number x.m
 
 -- the word of a meter that chose, and the agent
 abbrev pub choice_word : Result ChosenAgent ChooseRefusal → Answer
-choice_word (Ok agent) = said.Asked
-choice_word (Err choices.Halted) = said.Halted
-choice_word (Err choices.AlreadyJoined) = said.AlreadyJoined
-choice_word (Err choices.NoBeacon) = said.NoBeacon
+choice_word (Ok agent) = answers.Asked
+choice_word (Err choices.Halted) = answers.Halted
+choice_word (Err choices.AlreadyJoined) = answers.AlreadyJoined
+choice_word (Err choices.NoBeacon) = answers.NoBeacon
 
 abbrev pub agent_line : ℕ → Result ChosenAgent ChooseRefusal → Option AgentLine
 agent_line number (Ok agent) = Some (record { node = number; address = agent.address; total = agent.total })
 agent_line number (Err reason) = None
 
 abbrev pub chooses_by : Ciphers → World → ℕ → Node → ℕ → Option Key → World × Trace
-chooses_by ciphers w number x k None = (ran w, trace_of (happened w said.NoBeacon))
+chooses_by ciphers w number x k None = (running_world w, trace_of (happenings w answers.NoBeacon))
 chooses_by ciphers w number x k (Some psk) =
     let plan : Reaching Memory → Plan (Reaching Memory) (Result ChosenAgent ChooseRefusal) = λ y. choose_agent (identity ciphers x psk) y k w.clock in
     let d = reaches x (beside_at w number) (Err choices.Halted) plan in
-    let trace = spoken w (answering choice_word d) in (
-      has_reached ciphers (ran w) number x (Err choices.Halted) plan d,
-      record trace { happened = record trace.happened { agent = agent_line number d.answer } },
+    let trace = node_trace w (answering choice_word d) in (
+      has_reached ciphers (running_world w) number x (Err choices.Halted) plan d,
+      record trace { happenings = record trace.happenings { agent = agent_line number d.answer } },
     )
 
 -- a meter begins to join by the k-th agent that it heard
@@ -230,7 +230,7 @@ beacon_taken number (Some (discoveries.Beacon seq pan from cost)) link (Ok disco
 beacon_taken number frame link answer = None
 
 abbrev pub discovers_by : World → ℕ → Node → List ℕ → (link : ℕ) → Option Memory → World × Trace
-discovers_by w number x octets link None = (ran w, trace_of (happened w said.Halted))
+discovers_by w number x octets link None = (running_world w, trace_of (happenings w answers.Halted))
 discovers_by w number x octets link (Some m) =
     has_discovered w number discovery_word (beacon_taken number (discovery_in octets) link)
     (hear_discovery x.role m.station (beside_at w number).scan octets link)
@@ -283,11 +283,11 @@ acknowledged_by number c (Err reason) = None
 -- what the further rule for a command adds to what a node without further reach made of its frame, which is nothing
 abbrev pub command_trace : ℕ → Node → NeighbourCommand → Trace → NodeStep (Result CommandHeard ReachDropped) → Trace
 command_trace number x c t d = record t {
-  happened = record t.happened {
+  happenings = record t.happenings {
     answer = command_word d.answer;
     bup = broadcast_up number d.answer;
     path = path_line number d.answer;
-    flights = t.happened.flights + length d.frames;
+    flights = t.happenings.flights + length d.frames;
   };
   further = record nothing_further { stepping = step_by x c d.answer; noticed = acknowledged_by number c d.answer };
 }
@@ -303,8 +303,8 @@ commanded ciphers number x c r =
 
 -- whether a reply was taken
 abbrev pub is_reply_taken : Answer → Bool
-is_reply_taken said.Learned = true
-is_reply_taken said.Relayed = true
+is_reply_taken answers.Learned = true
+is_reply_taken answers.Relayed = true
 is_reply_taken _ = false
 
 -- an acknowledgement that is due: of a reply that came to one node and was taken
@@ -335,12 +335,12 @@ with_check w number sent r = (
 abbrev pub sends_nothing : World → World × Trace → World × Trace
 sends_nothing w r = (
   record r.0 { flights = w.flights; made = w.made; beside = w.beside },
-  record r.1 { happened = record r.1.happened { answer = said.Store; flights = 0 }; made = []; further = nothing_further },
+  record r.1 { happenings = record r.1.happenings { answer = answers.Store; flights = 0 }; made = []; further = nothing_further },
 )
 
 -- an acknowledgement goes out after what was sent before it
 abbrev pub adds_frames : World → Trace → NodeStep (Result (Unit {0}) LocalRefusal) → World × Trace
-adds_frames v t a = (v, record t { happened = record t.happened { flights = t.happened.flights + length a.frames } })
+adds_frames v t a = (v, record t { happenings = record t.happenings { flights = t.happenings.flights + length a.frames } })
 
 -- the node of this number, as its rule has left it, acknowledges a reply
 abbrev pub acknowledging : Node → Reply → NodeStep (Result (Unit {0}) LocalRefusal)
@@ -366,7 +366,7 @@ checked ciphers w number got h r =
 -- a request of a listed neighbour is dropped
 abbrev pub unbelieved : Ciphers → World → ℕ → Node → List ℕ → Accepted → World × Trace
 unbelieved ciphers w number x octets got =
-    received ciphers w number (forged_by w octets got.path) (stays x (only said.Blacklisted))
+    received ciphers w number (forged_by w octets got.path) (stays x (only answers.Blacklisted))
 
 -- whether it is one
 abbrev pub is_dropped : World → ℕ → Accepted → Bool
@@ -393,7 +393,7 @@ accepted_further ciphers w number octets cost d = by_answer d.answer
   where
     by_answer : Result Accepted FrameRefusal → World × Trace
     by_answer (Ok got) = heard_further ciphers w number d.node octets got cost
-    by_answer (Err reason) = (world_after ciphers (ran w) number d, trace_of (happened w (frame_word reason)))
+    by_answer (Err reason) = (world_after ciphers (running_world w) number d, trace_of (happenings w (frame_word reason)))
 
 -- octets come to a node
 unfoldable pub comes : Ciphers → World → ℕ → Node → List ℕ → (cost : ℕ) → World × Trace
@@ -426,10 +426,10 @@ ticks w seconds =
 -- a restart finds the log of broadcasts in the store
 abbrev pub restarts_by : Ciphers → World → ℕ → Node → Result Beside BadStore → World × Trace
 restarts_by ciphers w number x (Ok b) =
-    (set_beside number b (acted ciphers w number (restarts x)).0, (acted ciphers w number (restarts x)).1)
+    (set_beside number b (node_outcome ciphers w number (restarts x)).0, (node_outcome ciphers w number (restarts x)).1)
 restarts_by ciphers w number x (Err bad) = (
-  set_beside number nothing_beside (acted ciphers w number (stays (record x { memory = None }) said.BadStore)).0,
-  (acted ciphers w number (stays (record x { memory = None }) said.BadStore)).1,
+  set_beside number nothing_beside (node_outcome ciphers w number (stays (record x { memory = None }) answers.BadStore)).0,
+  (node_outcome ciphers w number (stays (record x { memory = None }) answers.BadStore)).1,
 )
 
 unfoldable pub restarts_further : Ciphers → World → ℕ → Step

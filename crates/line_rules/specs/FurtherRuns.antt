@@ -22,7 +22,7 @@ abbrev pub broadcasts : List Entry → List Broadcasting
 broadcasts entries = all_of (λ d. one_of d.further.broadcast) entries
 
 abbrev pub broadcast_ups : List Entry → List BroadcastUp
-broadcast_ups entries = all_of (λ d. one_of d.happened.bup) entries
+broadcast_ups entries = all_of (λ d. one_of d.happenings.bup) entries
 
 -- A broadcast that was handed up was sent by another node, at the address that it names, with the same number and octets.
 pub record WasBroadcast (up : BroadcastUp) (sent : List Broadcasting) : Type 0 where
@@ -43,8 +43,8 @@ IsFirst up handed =
 abbrev pub AreBroadcastOnceAfter : List Entry → List Entry → Type 0
 AreBroadcastOnceAfter before [] = Unit {0}
 AreBroadcastOnceAfter before (x ∷ xs) =
-    x.trace.happened.forged ≡ false
-    → IfSome x.trace.happened.bup (λ up. WasBroadcast up (broadcasts before) × IsFirst up (broadcast_ups before))
+    x.trace.happenings.forged ≡ false
+    → IfSome x.trace.happenings.bup (λ up. WasBroadcast up (broadcasts before) × IsFirst up (broadcast_ups before))
     × AreBroadcastOnceAfter (before ++ x ∷ []) xs
 
 -- Every broadcast that a run hands up was sent by another node with the same octets, and no node hands up two of one origin and number.
@@ -83,8 +83,8 @@ WasWalked (a ∷ rest) taken = StandIn (steps_toward (last_of a rest) (a ∷ res
 abbrev pub AreWalkedAfter : List Entry → List Entry → Type 0
 AreWalkedAfter before [] = Unit {0}
 AreWalkedAfter before (x ∷ xs) =
-    x.trace.happened.forged ≡ false
-    → IfSome x.trace.happened.path (λ (line : PathLine). WasWalked line.walk (steps_taken before))
+    x.trace.happenings.forged ≡ false
+    → IfSome x.trace.happenings.path (λ (line : PathLine). WasWalked line.walk (steps_taken before))
     × AreWalkedAfter (before ++ x ∷ []) xs
 
 -- Every path that a run reports was walked step by step before it was reported.

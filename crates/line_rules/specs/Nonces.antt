@@ -48,7 +48,7 @@ CountersRise entries = All (λ (x : Entry). AllPairs CounterRises x.after.flight
 -- In every run, before its first forged event, no two flights that were sealed under one key have one nonce.
 abbrev pub NoncesDiffer : List Entry → Type 0
 NoncesDiffer [] = Unit {0}
-NoncesDiffer (x ∷ xs) = x.trace.happened.forged ≡ false → AllPairs HasAnotherNonce x.after.flights × NoncesDiffer xs
+NoncesDiffer (x ∷ xs) = x.trace.happenings.forged ≡ false → AllPairs HasAnotherNonce x.after.flights × NoncesDiffer xs
 
 -- # What flights are
 
@@ -104,4 +104,4 @@ AddressesDiffer w = (i j address : ℕ) → HasAddress w i address → HasAddres
 -- so it is after each event before the first forged one
 abbrev pub AreApart : List Entry → Type 0
 AreApart [] = Unit {0}
-AreApart (x ∷ xs) = x.trace.happened.forged ≡ false → AddressesDiffer x.after × AreApart xs
+AreApart (x ∷ xs) = x.trace.happenings.forged ≡ false → AddressesDiffer x.after × AreApart xs

@@ -92,7 +92,7 @@ sends entries = all_of (λ d. one_of d.sent) entries
 
 -- what was handed up, in order
 abbrev pub ups : List Entry → List Handed
-ups entries = all_of (λ d. one_of d.happened.up) entries
+ups entries = all_of (λ d. one_of d.happenings.up) entries
 
 -- the keys that were issued, in order
 abbrev pub issued : List Entry → List Issued
@@ -108,4 +108,4 @@ send_at sent number = if number == 0 then None else slice_get sent (number - 1)
 
 -- no event of a run is forged
 abbrev pub NoneForged : List Entry → Type 0
-NoneForged entries = All (λ (x : Entry). x.trace.happened.forged ≡ false) entries
+NoneForged entries = All (λ (x : Entry). x.trace.happenings.forged ≡ false) entries

@@ -3,7 +3,7 @@ use Rattle.std.specs.Prelude.{◌≡◌, ◌≢◌, ℕ, ◌≤◌, Bool, true, 
 use Rattle.plc_base.specs.declared.address.Eui.{Eui}
 use Rattle.plc_base.specs.declared.key.Key.{Key}
 use Rattle.plc_base.specs.Grant.{Granted}
-use Rattle.line_events.specs.declared.event.Answer.TheVariants as said
+use Rattle.line_events.specs.declared.event.Answer.TheVariants as answers
 use Rattle.line_events.specs.declared.event.Event.{Event}
 use Rattle.line_events.specs.declared.event.Event.TheVariants as events
 use Rattle.node_rules.specs.Laws.{IsLoad, IsWithin}
@@ -97,16 +97,16 @@ IsNew up handed = All (λ (v : Handed). v.note ≢ up.note) handed
 
 -- An event is safe after what was sent, handed up and issued before it.
 pub record IsSafeAt (before : List Entry) (x : Entry) : Type 0 where
-  pub up : IfSome x.trace.happened.up (λ up. WasSent up (sends before) × IsNew up (ups before))
+  pub up : IfSome x.trace.happenings.up (λ up. WasSent up (sends before) × IsNew up (ups before))
   pub loops : HasNoLoop x.after
   pub keys : HasOnlyIssuedKeys (issued (before ++ x ∷ [])) x.after
   pub sizes : IsSized x.after
-  pub flights : x.trace.happened.flights ≤ 24
+  pub flights : x.trace.happenings.flights ≤ 24
 
 -- each event of a history before the first forged one is safe
 abbrev pub IsSafeAfter : List Entry → List Entry → Type 0
 IsSafeAfter before [] = Unit {0}
-IsSafeAfter before (x ∷ xs) = x.trace.happened.forged ≡ false → IsSafeAt before x × IsSafeAfter (before ++ x ∷ []) xs
+IsSafeAfter before (x ∷ xs) = x.trace.happenings.forged ≡ false → IsSafeAt before x × IsSafeAfter (before ++ x ∷ []) xs
 
 -- Every datagram that a run hands up was sent to that node with the same octets, and none is handed up twice; after each event valid
 -- next hops form no loop, a joined meter holds only keys that were issued to it, and no table passes its size. It holds of each prefix of
@@ -118,7 +118,7 @@ IsSafe entries = IsSafeAfter [] entries
 
 -- no table passes its size, each load that waits is one of these, and no step sends more than 24 frames
 abbrev pub IsAlwaysSizedBy : (Load → Type 0) → List Entry → Type 0
-IsAlwaysSizedBy Is entries = All (λ (x : Entry). IsSizedBy Is x.after × (x.trace.happened.flights ≤ 24)) entries
+IsAlwaysSizedBy Is entries = All (λ (x : Entry). IsSizedBy Is x.after × (x.trace.happenings.flights ≤ 24)) entries
 
 -- so it is with the loads that nodes send
 abbrev pub IsAlwaysSized : List Entry → Type 0
@@ -132,4 +132,4 @@ is_restart _ = false
 -- every restart is answered Restarted
 abbrev pub RestartsAreAnswered : List Entry → Type 0
 RestartsAreAnswered entries =
-    All (λ (x : Entry). is_restart x.event ≡ true → x.trace.happened.answer ≡ said.Restarted) entries
+    All (λ (x : Entry). is_restart x.event ≡ true → x.trace.happenings.answer ≡ answers.Restarted) entries

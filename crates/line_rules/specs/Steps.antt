@@ -14,7 +14,7 @@ use Rattle.routing_set.specs.RoutingSet as routing
 use Rattle.line_events.specs.declared.event.Event.{Event}
 use Rattle.line_events.specs.declared.event.Event.TheVariants as events
 use Rattle.line_events.specs.declared.event.Answer.{Answer}
-use Rattle.line_events.specs.declared.event.Answer.TheVariants as said
+use Rattle.line_events.specs.declared.event.Answer.TheVariants as answers
 use Rattle.line_events.specs.declared.event.StepFault.{StepFault}
 use Rattle.line_events.specs.declared.event.StepFault.TheVariants as faults
 use Rattle.node_rules.specs.declared.heard.Accepted.{Accepted}
@@ -61,8 +61,8 @@ abbrev pub set_up : World → World
 set_up w = record w { events = w.events + 1 }
 
 -- an event of another kind than setup was taken: setup is over
-abbrev pub ran : World → World
-ran w = record w { events = w.events + 1; running = true }
+abbrev pub running_world : World → World
+running_world w = record w { events = w.events + 1; running = true }
 
 -- the frames of a node as flights, in order
 abbrev pub flights_of : {A : Type 0} → Ciphers → ℕ → NodeStep A → List Flight
@@ -79,8 +79,8 @@ world_after ciphers w number d = record w {
 -- # What is said of an event
 
 -- an answer, and nothing beside it; the next flight would be the first
-abbrev pub happened : World → Answer → Happenings
-happened w answer = record {
+abbrev pub happenings : World → Answer → Happenings
+happenings w answer = record {
   answer = answer;
   forged = false;
   up = None;
@@ -98,7 +98,7 @@ happened w answer = record {
 -- what the report says, and nothing beside it for the history
 abbrev pub trace_of : Happenings → Trace
 trace_of h = record {
-  happened = h;
+  happenings = h;
   sent = None;
   issued = [];
   taken = None;
@@ -109,13 +109,13 @@ trace_of h = record {
 }
 
 -- what a node did, in the words of its answer
-abbrev pub spoken : World → NodeStep Answer → Trace
-spoken w d =
-    record (trace_of (record (happened w d.answer) { flights = length d.frames })) { made = d.made; opened = d.opened }
+abbrev pub node_trace : World → NodeStep Answer → Trace
+node_trace w d =
+    record (trace_of (record (happenings w d.answer) { flights = length d.frames })) { made = d.made; opened = d.opened }
 
 -- what a node did goes into the world and into the report
-abbrev pub acted : Ciphers → World → ℕ → NodeStep Answer → World × Trace
-acted ciphers w number d = (world_after ciphers (ran w) number d, spoken w d)
+abbrev pub node_outcome : Ciphers → World → ℕ → NodeStep Answer → World × Trace
+node_outcome ciphers w number d = (world_after ciphers (running_world w) number d, node_trace w d)
 
 -- # Which events are taken
 
@@ -168,7 +168,7 @@ coordinator_node eui key =
 abbrev pub made_node : World → Node → World × Trace
 made_node w x = (
   record (set_up w) { nodes = w.nodes ++ x ∷ []; beside = w.beside ++ nothing_beside ∷ [] },
-  trace_of (happened w said.Made),
+  trace_of (happenings w answers.Made),
 )
 
 -- whether a node has this EUI
@@ -208,7 +208,7 @@ psk_of x = psk_by x.role
 abbrev pub provisioned : Ciphers → World → ℕ → Node → Granted → World × Trace
 provisioned ciphers w number x g = (
   world_after ciphers w number (acts x (Ok tt) (λ m. meters.provision m g)),
-  record (trace_of (happened w said.Joined)) { issued = issued_by x.eui g },
+  record (trace_of (happenings w answers.Joined)) { issued = issued_by x.eui g },
 )
 
 -- the meter installs what the coordinator granted
@@ -254,7 +254,7 @@ near_by ciphers w a b cost x y (Some p) (Some q) =
     else Ok (
       world_after ciphers (world_after ciphers (set_up w) a (offered_near x q cost w.clock)) b
           (offered_near y p cost w.clock),
-      trace_of (happened w said.Set),
+      trace_of (happenings w answers.Set),
     )
 
 -- two nodes are neighbours over a link of this cost
@@ -271,14 +271,14 @@ preset ciphers w number plan =
     (λ x. Ok (
       world_after ciphers (set_up w) number (acts x (Ok tt) (λ m. of_station m (plan m.station))),
       trace_of
-          (happened w said.Set),
+          (happenings w answers.Set),
     )))
 
 -- # allow, rand, join, leave
 
 -- the word of a meter that is allowed
 abbrev pub allowed_word : Result ℕ CoordinatorRefusal → Answer
-allowed_word answer = ordered_word said.Allowed answer
+allowed_word answer = ordered_word answers.Allowed answer
 
 -- the address that a meter was given
 abbrev pub admission_by : ℕ → Result ℕ CoordinatorRefusal → Option Admission
@@ -288,8 +288,8 @@ admission_by number (Err reason) = None
 -- the coordinator has allowed a meter
 abbrev pub allowed : Ciphers → World → ℕ → NodeStep (Result ℕ CoordinatorRefusal) → World × Trace
 allowed ciphers w number d = (
-  world_after ciphers (ran w) 0 d,
-  trace_of (record (happened w (allowed_word d.answer)) { grant = admission_by number d.answer }),
+  world_after ciphers (running_world w) 0 d,
+  trace_of (record (happenings w (allowed_word d.answer)) { grant = admission_by number d.answer }),
 )
 
 -- the coordinator allows a meter
@@ -304,7 +304,7 @@ allow ciphers w number =
 unfoldable pub rand : Ciphers → World → ℕ → Rand → Step
 rand ciphers w number value =
     once_begun w (on_node w number
-    (λ x. Ok (acted ciphers w number
+    (λ x. Ok (node_outcome ciphers w number
     (answering random_word (acts x (Err randoms.Halted) (λ m. give_random m value))))))
 
 -- the identity that a meter's calls are given
@@ -313,10 +313,10 @@ identity ciphers x psk = record { eui = x.eui; psk = psk; ciphers = ciphers }
 
 -- of a meter, at an agent that has an address
 abbrev pub joins_by : Ciphers → World → ℕ → Node → Option ℕ → Option Key → World × Trace
-joins_by ciphers w number x None psk = (ran w, trace_of (happened w said.NoAddress))
-joins_by ciphers w number x (Some agent) None = (ran w, trace_of (happened w said.NoAddress))
+joins_by ciphers w number x None psk = (running_world w, trace_of (happenings w answers.NoAddress))
+joins_by ciphers w number x (Some agent) None = (running_world w, trace_of (happenings w answers.NoAddress))
 joins_by ciphers w number x (Some agent) (Some psk) =
-    acted ciphers w number
+    node_outcome ciphers w number
     (answering join_word (acts x (Err joins.Halted) (λ m. meters.join (identity ciphers x psk) m agent w.clock)))
 
 -- a meter begins to join at an agent
@@ -329,14 +329,14 @@ join ciphers w number agent =
 unfoldable pub leave : Ciphers → World → ℕ → Step
 leave ciphers w number =
     once_begun w (on_meter w number
-    (λ x. Ok (acted ciphers w number (answering leave_word (acts x (Err leaves.Halted) meters.leave)))))
+    (λ x. Ok (node_outcome ciphers w number (answering leave_word (acts x (Err leaves.Halted) meters.leave)))))
 
 -- # send, break
 
 -- whether an answer takes the send
 abbrev pub is_taken : Answer → Bool
-is_taken said.Sent = true
-is_taken said.Waiting = true
+is_taken answers.Sent = true
+is_taken answers.Waiting = true
 is_taken _ = false
 
 -- the tag that the next datagram of a node takes
@@ -353,11 +353,11 @@ sent_if w from to datagram tag true r = (
 
 -- what a node did about a datagram
 abbrev pub sending : Ciphers → World → (from to : ℕ) → List ℕ → ℕ → NodeStep Answer → World × Trace
-sending ciphers w from to datagram tag d = sent_if w from to datagram tag (is_taken d.answer) (acted ciphers w from d)
+sending ciphers w from to datagram tag d = sent_if w from to datagram tag (is_taken d.answer) (node_outcome ciphers w from d)
 
 -- to a target that has an address
 abbrev pub sends_by : Ciphers → World → (from to : ℕ) → List ℕ → Node → Option ℕ → World × Trace
-sends_by ciphers w from to datagram x None = (ran w, trace_of (happened w said.NoAddress))
+sends_by ciphers w from to datagram x None = (running_world w, trace_of (happenings w answers.NoAddress))
 sends_by ciphers w from to datagram x (Some address) =
     sending ciphers w from to datagram (tag_of x)
     (answering sent_word
@@ -370,10 +370,10 @@ send ciphers w from to datagram =
 
 -- the link to a node that has an address breaks
 abbrev pub breaks_by : Ciphers → World → ℕ → Node → Option ℕ → World × Trace
-breaks_by ciphers w number x None = (ran w, trace_of (happened w said.NoAddress))
+breaks_by ciphers w number x None = (running_world w, trace_of (happenings w answers.NoAddress))
 breaks_by ciphers w number x (Some next) =
-    acted ciphers w number
-    (acts x said.Halted (λ m. changing said.Broken (with_station (calls.broke next m.station) m)))
+    node_outcome ciphers w number
+    (acts x answers.Halted (λ m. changing answers.Broken (with_station (calls.broke next m.station) m)))
 
 -- a node learns that its link to another one broke
 unfoldable pub breaks : Ciphers → World → ℕ → ℕ → Step
@@ -430,7 +430,7 @@ issued_of keyed = option_map_or (λ (k : SentGrant). issued_by k.eui k.granted) 
 -- what a frame led to, for the report and for the history
 abbrev pub reception_trace : World → ℕ → Bool → NodeStep Reception → Trace
 reception_trace w number forged d = record {
-  happened = record (happened w d.answer.answer) {
+  happenings = record (happenings w d.answer.answer) {
     forged = forged;
     up = handed_by number d.answer.up;
     took = option_map (λ _. number) d.answer.took;
@@ -449,7 +449,7 @@ reception_trace w number forged d = record {
 -- what a frame led to, in the world
 abbrev pub received : Ciphers → World → ℕ → Bool → NodeStep Reception → World × Trace
 received ciphers w number forged d =
-    let after_world = world_after ciphers (ran w) number d in (
+    let after_world = world_after ciphers (running_world w) number d in (
       record after_world {
         ups = number_if (is_some d.answer.up) w.ups;
         forged = number_if forged w.forged;
@@ -471,7 +471,7 @@ accepted_by ciphers w number octets cost d = by_answer d.answer
   where
     by_answer : Result Accepted FrameRefusal → World × Trace
     by_answer (Ok got) = heard ciphers w number d.node octets got cost
-    by_answer (Err reason) = (world_after ciphers (ran w) number d, trace_of (happened w (frame_word reason)))
+    by_answer (Err reason) = (world_after ciphers (running_world w) number d, trace_of (happenings w (frame_word reason)))
 
 -- octets come to a node over a link of a cost
 unfoldable pub arrives : Ciphers → World → ℕ → Node → List ℕ → ℕ → World × Trace
@@ -498,9 +498,9 @@ unfoldable pub lose : World → ℕ → Step
 lose w number =
     once_begun w (on_flight w number
     (λ f. Ok (
-      record (ran w) { flights = slice_set w.flights (number - 1) (record f { lost = true }) },
+      record (running_world w) { flights = slice_set w.flights (number - 1) (record f { lost = true }) },
       trace_of
-          (happened w said.Lost),
+          (happenings w answers.Lost),
     )))
 
 -- # tick, restart, cut, show
@@ -517,8 +517,8 @@ ticked now x = record x { memory = option_map (tick_by x.role) x.memory }
 unfoldable pub tick : World → ℕ → Step
 tick w seconds =
     once_begun w (Ok (
-      record (ran w) { clock = w.clock + seconds; nodes = map (ticked (w.clock + seconds)) w.nodes },
-      trace_of (happened w said.Ticked),
+      record (running_world w) { clock = w.clock + seconds; nodes = map (ticked (w.clock + seconds)) w.nodes },
+      trace_of (happenings w answers.Ticked),
     ))
 
 -- the memory that a store gives, and none where it has no reading
@@ -528,8 +528,8 @@ memory_by (Err bad) = None
 
 -- the word of a restart
 abbrev pub restart_word : Result Memory BadStore → Answer
-restart_word (Ok m) = said.Restarted
-restart_word (Err bad) = said.BadStore
+restart_word (Ok m) = answers.Restarted
+restart_word (Err bad) = answers.BadStore
 
 -- a node has what its store gives, and a loss of power that is still to come stays so
 abbrev pub restarts : Node → NodeStep Answer
@@ -539,23 +539,23 @@ restarts x =
 
 -- a node restarts
 unfoldable pub restart : Ciphers → World → ℕ → Step
-restart ciphers w number = once_begun w (on_node w number (λ x. Ok (acted ciphers w number (restarts x))))
+restart ciphers w number = once_begun w (on_node w number (λ x. Ok (node_outcome ciphers w number (restarts x))))
 
 -- a node will lose power at its nth write from now on
 unfoldable pub cut : Ciphers → World → ℕ → ℕ → Bool → Step
 cut ciphers w number nth keeps_new =
     once_begun w (on_node w number (λ x.
-    Ok (acted ciphers w number
+    Ok (node_outcome ciphers w number
     (stays (record x {
       store = record x.store
           { cut = Some (record { nth = nth; keeps_new = keeps_new }) };
-    }) said.Set))))
+    }) answers.Set))))
 
 -- a node shows what it holds
 unfoldable pub show : World → ℕ → Step
 show w number =
     once_begun w (on_node w number
-    (λ x. Ok (ran w, trace_of (record (happened w said.Shown) { shown = Some (shown_of x) }))))
+    (λ x. Ok (running_world w, trace_of (record (happenings w answers.Shown) { shown = Some (shown_of x) }))))
 
 -- # rekey, challenge, activate, kick
 
@@ -563,27 +563,27 @@ show w number =
 abbrev pub by_coordinator : {A : Type 0} → Ciphers → World → Node → Answer
     → (Memory → Plan Memory (Result A CoordinatorRefusal)) → World × Trace
 by_coordinator ciphers w c answer order =
-    acted ciphers w 0 (answering (ordered_word answer) (acts c (Err orders.Halted) order))
+    node_outcome ciphers w 0 (answering (ordered_word answer) (acts c (Err orders.Halted) order))
 
 -- the coordinator draws a key for an index
 unfoldable pub rekey : Ciphers → World → ℕ → Key → Step
 rekey ciphers w index key =
     once_begun w (at_coordinator w
-    (λ c. Ok (by_coordinator ciphers w c said.Drawn (λ m. coordinator_rules.rekey m index key))))
+    (λ c. Ok (by_coordinator ciphers w c answers.Drawn (λ m. coordinator_rules.rekey m index key))))
 
 -- the coordinator opens a session with a meter
 unfoldable pub challenge : Ciphers → World → ℕ → Step
 challenge ciphers w number =
     once_begun w (on_meter w number
     (λ x. at_coordinator w
-    (λ c. Ok (by_coordinator ciphers w c said.Challenged
+    (λ c. Ok (by_coordinator ciphers w c answers.Challenged
     (λ m. coordinator_rules.challenge c.eui m x.eui w.clock)))))
 
 -- the coordinator seals with another key itself, or orders a meter to
 abbrev pub activate_at : Ciphers → World → ℕ → ℕ → Node → Node → World × Trace
 activate_at ciphers w number index x c =
-    if number == 0 then by_coordinator ciphers w c said.Activated (λ m. coordinator_rules.activate_self m index)
-    else by_coordinator ciphers w c said.Ordered (λ m. coordinator_rules.activate m x.eui index w.clock)
+    if number == 0 then by_coordinator ciphers w c answers.Activated (λ m. coordinator_rules.activate_self m index)
+    else by_coordinator ciphers w c answers.Ordered (λ m. coordinator_rules.activate m x.eui index w.clock)
 
 -- another key is to seal, at a node
 unfoldable pub activate : Ciphers → World → ℕ → ℕ → Step
@@ -595,7 +595,7 @@ unfoldable pub kick : Ciphers → World → ℕ → Step
 kick ciphers w number =
     once_begun w (on_meter w number
     (λ x. at_coordinator w
-    (λ c. Ok (by_coordinator ciphers w c said.Kicked (λ m. coordinator_rules.kick m x.eui)))))
+    (λ c. Ok (by_coordinator ciphers w c answers.Kicked (λ m. coordinator_rules.kick m x.eui)))))
 
 -- # All kinds
 

@@ -4,7 +4,7 @@ use Rattle.std.specs.Option.{option_map}
 use Rattle.plc_base.specs.Grant.{Granted}
 use Rattle.plc_base.specs.declared.address.Eui.{Eui}
 use Rattle.line_events.specs.declared.event.Answer.{Answer}
-use Rattle.line_events.specs.declared.event.Answer.TheVariants as said
+use Rattle.line_events.specs.declared.event.Answer.TheVariants as answers
 use Rattle.line_events.specs.declared.event.Event.{Event}
 use Rattle.line_events.specs.declared.event.Event.TheVariants as events
 use Rattle.line_events.specs.declared.happenings.Handed.{Handed}
@@ -19,12 +19,12 @@ use Rattle.line_rules.specs.Runs.{Entry, one_of}
 pub record Adds (w : World) (x : Entry) : Type 0 where
   pub events : x.after.events ≡ w.events + 1
   pub sends : x.after.sends ≡ w.sends + length (one_of x.trace.sent)
-  pub ups : x.after.ups ≡ w.ups + length (one_of x.trace.happened.up)
-  pub forged : x.after.forged ≡ w.forged + (if x.trace.happened.forged then 1 else 0)
+  pub ups : x.after.ups ≡ w.ups + length (one_of x.trace.happenings.up)
+  pub forged : x.after.forged ≡ w.forged + (if x.trace.happenings.forged then 1 else 0)
   pub done : x.after.done ≡ w.done + length (one_of x.trace.done)
   -- its flights are numbered after those before it
-  pub first : x.trace.happened.first_flight ≡ length w.flights + 1
-  pub flights : length x.after.flights ≡ length w.flights + x.trace.happened.flights
+  pub first : x.trace.happenings.first_flight ≡ length w.flights + 1
+  pub flights : length x.after.flights ≡ length w.flights + x.trace.happenings.flights
   pub made : x.after.made ≡ w.made ++ x.trace.made
 
 -- so the counts of a world are those of its history
@@ -36,23 +36,23 @@ CountsRight w (x ∷ xs) = Adds w x × CountsRight x.after xs
 
 -- whether a datagram was handed up
 abbrev pub is_up : Answer → Bool
-is_up said.Up = true
+is_up answers.Up = true
 is_up _ = false
 
 -- whether a meter took its grant
 abbrev pub is_took : Answer → Bool
-is_took said.Took = true
+is_took answers.Took = true
 is_took _ = false
 
 -- whether a joining is done
 abbrev pub is_done : Answer → Bool
-is_done said.Done = true
+is_done answers.Done = true
 is_done _ = false
 
 -- whether keys were issued
 abbrev pub is_issue : Answer → Bool
-is_issue said.Keyed = true
-is_issue said.Joined = true
+is_issue answers.Keyed = true
+is_issue answers.Joined = true
 is_issue _ = false
 
 -- octets come to the node of a number
@@ -82,17 +82,17 @@ is_broadcast _ = false
 
 -- What the history has of an event is there exactly where the answer says so; a broadcast is no send.
 pub record IsTracedRight (w : World) (x : Entry) : Type 0 where
-  pub sent : is_some x.trace.sent ≡ (is_taken x.trace.happened.answer && not (is_broadcast x.event))
+  pub sent : is_some x.trace.sent ≡ (is_taken x.trace.happenings.answer && not (is_broadcast x.event))
   pub send : IfSome x.trace.sent (IsSendOf w x.event)
-  pub up : is_some x.trace.happened.up ≡ is_up x.trace.happened.answer
-  pub up_at : IfSome x.trace.happened.up (λ (u : Handed). ComesTo x.event u.node)
-  pub taken : is_some x.trace.taken ≡ is_took x.trace.happened.answer
+  pub up : is_some x.trace.happenings.up ≡ is_up x.trace.happenings.answer
+  pub up_at : IfSome x.trace.happenings.up (λ (u : Handed). ComesTo x.event u.node)
+  pub taken : is_some x.trace.taken ≡ is_took x.trace.happenings.answer
   pub taken_at : IfSome x.trace.taken (λ (p : Pairing). ComesTo x.event p.node)
-  pub took : x.trace.happened.took ≡ option_map (λ (p : Pairing). p.node) x.trace.taken
-  pub done : is_some x.trace.done ≡ is_done x.trace.happened.answer
-  pub done_node : x.trace.happened.done ≡ option_map (λ (p : Pairing). p.node) x.trace.done
-  pub issues : is_issue x.trace.happened.answer ≡ true → IsIssue w x.event x.trace.issued
-  pub none_issued : is_issue x.trace.happened.answer ≡ false → x.trace.issued ≡ []
+  pub took : x.trace.happenings.took ≡ option_map (λ (p : Pairing). p.node) x.trace.taken
+  pub done : is_some x.trace.done ≡ is_done x.trace.happenings.answer
+  pub done_node : x.trace.happenings.done ≡ option_map (λ (p : Pairing). p.node) x.trace.done
+  pub issues : is_issue x.trace.happenings.answer ≡ true → IsIssue w x.event x.trace.issued
+  pub none_issued : is_issue x.trace.happenings.answer ≡ false → x.trace.issued ≡ []
 
 -- so it is of each event of a run
 abbrev pub AreTracedRight : World → List Entry → Type 0

@@ -118,7 +118,7 @@ nothing_further = record { broadcast = None; stepping = None; noticed = None }
 
 -- What an event was, for who reads the history of a run: what the report says of it, and what it does not.
 pub record Trace : Type 0 where
-  pub happened : Happenings
+  pub happenings : Happenings
   pub sent : Option Sending
   pub issued : List Issued
   pub taken : Option Pairing

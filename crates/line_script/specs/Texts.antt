@@ -63,7 +63,7 @@ path_text (Some path) = codes "path " ++ (decimal path.node ++ (walk_text path.w
 
 -- the broadcast that was handed up, the agent that was chosen, the answer to a path request
 unfoldable pub further_text : Happenings → List ℕ
-further_text happened = bup_text happened.bup ++ (agent_text happened.agent ++ path_text happened.path)
+further_text happenings = bup_text happenings.bup ++ (agent_text happenings.agent ++ path_text happenings.path)
 
 -- grant <n> <address>
 unfoldable pub grant_text : Option Admission → List ℕ
@@ -88,16 +88,16 @@ shown_text _ _ = []
 
 -- who was allowed, took a grant, is done, and is shown
 unfoldable pub details_text : Event → Happenings → List ℕ
-details_text event happened =
-    grant_text happened.grant
-    ++ (took_text happened.took ++ (done_text happened.done ++ shown_text event happened.shown))
+details_text event happenings =
+    grant_text happenings.grant
+    ++ (took_text happenings.took ++ (done_text happenings.done ++ shown_text event happenings.shown))
 
 -- the lines of an event, by its number, without those of its flights
 unfoldable pub happened_text : ℕ → Event → Happenings → List ℕ
-happened_text number event happened =
-    answer_text number happened.answer
-    ++ (forged_text number happened.forged
-    ++ (up_text happened.up ++ (further_text happened ++ details_text event happened)))
+happened_text number event happenings =
+    answer_text number happenings.answer
+    ++ (forged_text number happenings.forged
+    ++ (up_text happenings.up ++ (further_text happenings ++ details_text event happenings)))
 
 -- fly <flight> <node> <hex>
 unfoldable pub fly_text : ℕ → ℕ → List ℕ → List ℕ

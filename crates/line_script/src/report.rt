@@ -211,12 +211,12 @@ fn push_path(text: &mut String, path: &Option<PathLine>) -> Result<(), AllocErro
 
 /// The lines of further reach: the broadcast that was handed up, the agent that was chosen, the answer to a path request.
 #[tactic(auto, unfolding(crate::specs::Texts::further_text))]
-fn push_further(text: &mut String, happened: &Happenings<'_>) -> Result<(), AllocError>
-    ensures { OnOk result (string_bytes text.new ≡ string_bytes text.old ++ further_text happened.now) }
+fn push_further(text: &mut String, happenings: &Happenings<'_>) -> Result<(), AllocError>
+    ensures { OnOk result (string_bytes text.new ≡ string_bytes text.old ++ further_text happenings.now) }
 {
-    push_bup(text, &happened.bup)?;
-    push_agent(text, happened.agent)?;
-    push_path(text, &happened.path)
+    push_bup(text, &happenings.bup)?;
+    push_agent(text, happenings.agent)?;
+    push_path(text, &happenings.path)
 }
 
 #[tactic(auto, unfolding(crate::specs::Texts::grant_text))]
@@ -286,14 +286,14 @@ fn push_details(
     text: &mut String,
     alloc: Global,
     event: &Event<'_>,
-    happened: &Happenings<'_>,
+    happenings: &Happenings<'_>,
 ) -> Result<(), AllocError>
-    ensures { OnOk result (string_bytes text.new ≡ string_bytes text.old ++ details_text event.now happened.now) }
+    ensures { OnOk result (string_bytes text.new ≡ string_bytes text.old ++ details_text event.now happenings.now) }
 {
-    push_grant(text, happened.grant)?;
-    push_took(text, happened.took)?;
-    push_done(text, happened.done)?;
-    push_shown(text, alloc, event, &happened.shown)
+    push_grant(text, happenings.grant)?;
+    push_took(text, happenings.took)?;
+    push_done(text, happenings.done)?;
+    push_shown(text, alloc, event, &happenings.shown)
 }
 
 /// Appends the lines of an event of this number, without those of its flights. First comes its answer, and then whatever there
@@ -306,16 +306,16 @@ pub fn push_happened(
     alloc: Global,
     number: u32,
     event: &Event<'_>,
-    happened: &Happenings<'_>,
+    happenings: &Happenings<'_>,
 ) -> Result<(), AllocError>
     ensures { OnOk result (string_bytes text.new
-        ≡ string_bytes text.old ++ happened_text number event.now happened.now) }
+        ≡ string_bytes text.old ++ happened_text number event.now happenings.now) }
 {
-    push_answer(text, number, happened.answer)?;
-    push_forged(text, number, happened.forged)?;
-    push_up(text, &happened.up)?;
-    push_further(text, happened)?;
-    push_details(text, alloc, event, happened)
+    push_answer(text, number, happenings.answer)?;
+    push_forged(text, number, happenings.forged)?;
+    push_up(text, &happenings.up)?;
+    push_further(text, happenings)?;
+    push_details(text, alloc, event, happenings)
 }
 
 /// Appends the line of a flight: its number, the node that sent it, and its octets.

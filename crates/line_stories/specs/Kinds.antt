@@ -1,7 +1,7 @@
 -- What events and answers are to a story.
 use Rattle.std.specs.Prelude.{ℕ, Bool, true, false, Option, None, Some}
 use Rattle.line_events.specs.declared.event.Answer.{Answer}
-use Rattle.line_events.specs.declared.event.Answer.TheVariants as said
+use Rattle.line_events.specs.declared.event.Answer.TheVariants as answers
 use Rattle.line_tale.specs.declared.act.Act.{Act}
 use Rattle.line_tale.specs.declared.act.Act.TheVariants as acts
 use Rattle.line_stories.specs.declared.kind.StoryKind.{StoryKind}
@@ -77,8 +77,8 @@ makes_node (acts.Meter eui) = true
 makes_node _ = false
 
 abbrev pub is_sent : Answer → Bool
-is_sent said.Sent = true
-is_sent said.Waiting = true
+is_sent answers.Sent = true
+is_sent answers.Waiting = true
 is_sent _ = false
 
 -- whether an event is a send: sends are numbered
@@ -88,45 +88,45 @@ sends _ _ = false
 
 -- whether a node that a frame is for goes on with it: any ok but Reported
 abbrev pub takes_on : Answer → Bool
-takes_on said.Left = true
-takes_on said.Broken = true
-takes_on said.Challenged = true
-takes_on said.Activated = true
-takes_on said.Up = true
-takes_on said.Held = true
-takes_on said.Relayed = true
-takes_on said.Answered = true
-takes_on said.Learned = true
-takes_on said.Carried = true
-takes_on said.Replied = true
-takes_on said.Took = true
-takes_on said.Noted = true
-takes_on said.Declined = true
-takes_on said.Keyed = true
-takes_on said.Done = true
-takes_on said.Acked = true
-takes_on said.Bup = true
-takes_on said.Beacon = true
-takes_on said.Beaconed = true
-takes_on said.Path = true
+takes_on answers.Left = true
+takes_on answers.Broken = true
+takes_on answers.Challenged = true
+takes_on answers.Activated = true
+takes_on answers.Up = true
+takes_on answers.Held = true
+takes_on answers.Relayed = true
+takes_on answers.Answered = true
+takes_on answers.Learned = true
+takes_on answers.Carried = true
+takes_on answers.Replied = true
+takes_on answers.Took = true
+takes_on answers.Noted = true
+takes_on answers.Declined = true
+takes_on answers.Keyed = true
+takes_on answers.Done = true
+takes_on answers.Acked = true
+takes_on answers.Bup = true
+takes_on answers.Beacon = true
+takes_on answers.Beaconed = true
+takes_on answers.Path = true
 takes_on _ = false
 
 abbrev pub is_reported : Answer → Bool
-is_reported said.Reported = true
+is_reported answers.Reported = true
 is_reported _ = false
 
 abbrev pub is_declined : Answer → Bool
-is_declined said.Declined = true
+is_declined answers.Declined = true
 is_declined _ = false
 
 -- whether a meter did what it was told
 abbrev pub is_heeded : Answer → Bool
-is_heeded said.Activated = true
-is_heeded said.Left = true
+is_heeded answers.Activated = true
+is_heeded answers.Left = true
 is_heeded _ = false
 
 abbrev pub is_path : Answer → Bool
-is_path said.Path = true
+is_path answers.Path = true
 is_path _ = false
 
 -- the stories with which joining messages stay

@@ -6,7 +6,7 @@ use Rattle.frame_words.specs.declared.gist.FrameTarget.TheVariants as targets
 use Rattle.frame_words.specs.declared.gist.Gist.{Gist}
 use Rattle.frame_words.specs.declared.gist.Gist.TheVariants as gists
 use Rattle.line_events.specs.declared.event.Answer.{Answer}
-use Rattle.line_events.specs.declared.event.Answer.TheVariants as said
+use Rattle.line_events.specs.declared.event.Answer.TheVariants as answers
 use Rattle.line_tale.specs.declared.act.Act.{Act}
 use Rattle.line_tale.specs.declared.act.Act.TheVariants as acts
 use Rattle.line_tale.specs.declared.told.TaleEvent.{TaleEvent}
@@ -161,11 +161,11 @@ addressed count node None = None
 addressed count node (Some address) = if address == count then Some node else None
 
 abbrev pub depot_newcomer : ℕ → Answer → Option ℕ
-depot_newcomer node said.Joined = Some node
+depot_newcomer node answers.Joined = Some node
 depot_newcomer node _ = None
 
 abbrev pub allow_newcomer : ℕ → ℕ → Answer → Option ℕ → Option ℕ
-allow_newcomer count node said.Allowed address = addressed count node address
+allow_newcomer count node answers.Allowed address = addressed count node address
 allow_newcomer count node _ address = None
 
 -- the node that gets the next address: the coordinator has address 0, and the book gives one to each meter that is first joined in the

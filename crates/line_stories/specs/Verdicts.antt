@@ -1,7 +1,7 @@
 -- What became of a story.
 use Rattle.std.specs.Prelude.{ℕ, ◌+◌, ◌-◌, ◌==◌, ◌&&◌, ◌||◌, Bool, true, false, not, List, [], ◌∷◌, length, replicate, Option, None, Some, if◌then◌else◌}
 use Rattle.line_events.specs.declared.event.Answer.{Answer}
-use Rattle.line_events.specs.declared.event.Answer.TheVariants as said
+use Rattle.line_events.specs.declared.event.Answer.TheVariants as answers
 use Rattle.line_tale.specs.declared.told.TaleEvent.{TaleEvent}
 use Rattle.line_stories.specs.declared.kind.StoryKind.{StoryKind}
 use Rattle.line_stories.specs.declared.kind.StoryKind.TheVariants as kinds
@@ -52,14 +52,14 @@ ends_of count lots = ends_from 1 lots (replicate count no_ends)
 
 -- whether the event of a story was not refused
 abbrev pub is_begun : Answer → Bool
-is_begun said.Sent = true
-is_begun said.Waiting = true
-is_begun said.Asked = true
-is_begun said.Challenged = true
-is_begun said.Activated = true
-is_begun said.Ordered = true
-is_begun said.Kicked = true
-is_begun said.Traced = true
+is_begun answers.Sent = true
+is_begun answers.Waiting = true
+is_begun answers.Asked = true
+is_begun answers.Challenged = true
+is_begun answers.Activated = true
+is_begun answers.Ordered = true
+is_begun answers.Kicked = true
+is_begun answers.Traced = true
 is_begun _ = false
 
 -- a datagram: the first of the flights with it that did not go on, or what came last

@@ -28,19 +28,19 @@ address_of (Some admission) = Some admission.address
 
 -- an event, by the number of its line, what happened, and the clock after it
 abbrev pub event_told : ℕ → Event → Happenings → ℕ → TaleEvent
-event_told line event happened clock =
+event_told line event happenings clock =
     record {
       line = line;
       act = act_of event;
-      answer = happened.answer;
-      forged = happened.forged;
+      answer = happenings.answer;
+      forged = happenings.forged;
       clock = clock;
-      up = note_of happened.up;
-      address = address_of happened.grant;
-      took = happened.took;
-      done = happened.done;
-      first_flight = happened.first_flight;
-      flights = happened.flights;
+      up = note_of happenings.up;
+      address = address_of happenings.grant;
+      took = happenings.took;
+      done = happenings.done;
+      first_flight = happenings.first_flight;
+      flights = happenings.flights;
     }
 
 -- # Flights

@@ -36,15 +36,15 @@ impl Tale {
         &mut self,
         line: u32,
         event: &Event<'_>,
-        happened: &Happenings<'_>,
+        happenings: &Happenings<'_>,
         clock: u64,
     ) -> Result<(), AllocError>
         ensures ok { OnOk result
-            (self.new.events.items ≡ self.old.events.items ++ tales.event_told line event.now happened.now clock ∷ []) }
+            (self.new.events.items ≡ self.old.events.items ++ tales.event_told line event.now happenings.now clock ∷ []) }
         ensures err { OnErr result (self.new.events.items ≡ self.old.events.items) }
         ensures flights { self.new.flights.items ≡ self.old.flights.items }
     {
-        self.events.push(event_told(line, event, happened, clock))?;
+        self.events.push(event_told(line, event, happenings, clock))?;
         Ok(())
     }
 

@@ -71,21 +71,21 @@ fn address_of(grant: &Option<Admission>) -> Option<u16>
 }
 
 /// An event that was taken, by the number of its line, what happened, and the clock after it.
-pub fn event_told(line: u32, event: &Event<'_>, happened: &Happenings<'_>, clock: u64) -> TaleEvent
-    ensures { result ≡ event_told line event.now happened.now clock }
+pub fn event_told(line: u32, event: &Event<'_>, happenings: &Happenings<'_>, clock: u64) -> TaleEvent
+    ensures { result ≡ event_told line event.now happenings.now clock }
 {
     TaleEvent {
         line,
         act: act_of(event),
-        answer: happened.answer,
-        forged: happened.forged,
+        answer: happenings.answer,
+        forged: happenings.forged,
         clock,
-        up: note_of(&happened.up),
-        address: address_of(&happened.grant),
-        took: happened.took,
-        done: happened.done,
-        first_flight: happened.first_flight,
-        flights: happened.flights,
+        up: note_of(&happenings.up),
+        address: address_of(&happenings.grant),
+        took: happenings.took,
+        done: happenings.done,
+        first_flight: happenings.first_flight,
+        flights: happenings.flights,
     }
 }
 

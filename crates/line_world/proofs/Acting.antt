@@ -15,7 +15,7 @@ use Rattle.node_rules.specs.Tables.{HasShortTables, HasGaplessTables, HoldsTable
 use Rattle.node_rules.proofs.Outcomes.{carried}
 use Rattle.node_rules.proofs.Tables.{writes_keep_tables}
 use Rattle.line_events.specs.declared.event.Answer.{Answer}
-use Rattle.line_events.specs.declared.event.Answer.TheVariants as said
+use Rattle.line_events.specs.declared.event.Answer.TheVariants as answers
 use Rattle.line_world.specs.Nodes.{cut_ahead, node_in}
 use Rattle.line_world.specs.NodeOutcomes.{Took}
 use Rattle.line_world.specs.Soundness.{NodeAgreesWith, IsSound}
@@ -157,4 +157,4 @@ gives_nothing None P Q h = (h.0, refl, h.1)
 
 -- the word of an answer of a restart
 abbrev pub IsRestartWord : Result (Unit {0}) BadStore → Answer → Type 0
-IsRestartWord read word = MatchResult read (λ _. word ≡ said.Restarted) (λ _. word ≡ said.BadStore)
+IsRestartWord read word = MatchResult read (λ _. word ≡ answers.Restarted) (λ _. word ≡ answers.BadStore)

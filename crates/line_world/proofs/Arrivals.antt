@@ -51,7 +51,7 @@ use Rattle.line_world.specs.Receiving.{Received, ReportsReception, handed_up}
 use Rattle.line_events.specs.declared.event.StepFault.TheVariants as faults
 use Rattle.line_events.specs.declared.event.TheConstants.{MAX_EVENTS}
 use Rattle.line_events.specs.declared.happenings.Happenings.{Happenings}
-use Rattle.line_events.specs.declared.event.Answer.TheVariants as said
+use Rattle.line_events.specs.declared.event.Answer.TheVariants as answers
 use Rattle.line_rules.specs.Answers.{CompletedJoining, Reception, Up, coordinator_reception, frame_word, meter_reception, only}
 use Rattle.line_rules.specs.Forgery.{accepting}
 use Rattle.line_rules.specs.Further.{accepted_further, acknowledged_if, checked, comes, commanded, discovers_by, due, heard_by, heard_further, injects}
@@ -60,10 +60,10 @@ use Rattle.line_rules.specs.Further.{delivers as delivers_by}
 use Rattle.line_rules.specs.Logs.{AreLogged, LogsKept}
 use Rattle.line_rules.proofs.LogSteps.{Quiet, acts_quiet, log_at, logged_at, quiet_in, set_node}
 use Rattle.line_rules.specs.Worlds.{Flight, Pairing, Trace, World, flight_at, is_forged_tag, node_at}
-use Rattle.line_rules.specs.Steps.{Step, done_by, forged_by, handed_by, happened, heard, has_begun, hears, identity, note_by, number_if, number_of, on_flight}
-use Rattle.line_rules.specs.Steps.{ran, received, reception_trace, world_after, trace_of}
+use Rattle.line_rules.specs.Steps.{Step, done_by, forged_by, handed_by, happenings, heard, has_begun, hears, identity, note_by, number_if, number_of, on_flight}
+use Rattle.line_rules.specs.Steps.{running_world, received, reception_trace, world_after, trace_of}
 use Rattle.line_world.specs.Arrivals.{checked_so, comes_so, done_in, forged_in, handed_in, heard_further_so, hears_so, in_run, left_of, note_in, received_so}
-use Rattle.line_world.specs.Arrivals.{said_of, taker_in, unbelieved_so}
+use Rattle.line_world.specs.Arrivals.{reception_happenings, taker_in, unbelieved_so}
 use Rattle.line_world.specs.Arrivals.{heard_so as heard_by_command}
 use Rattle.line_world.specs.Bounds.{IsBounded}
 use Rattle.line_world.specs.Discovering.{discovered_by, discovered_in}
@@ -247,8 +247,8 @@ module _ (w : World) (number : ℕ) (x : Node) (d : NodeStep Reception) (r : rec
         ups = number_if (is_some d.answer.up) w.ups;
         forged = number_if right w.forged;
         done = number_if (is_some d.answer.done) w.done;
-      }) (after_is (ran w) number d nodes out rec.did.out_is rec.did.nodes_are)
-      ∙ (λ i. record (after (ran w) number nodes out) {
+      }) (after_is (running_world w) number d nodes out rec.did.out_is rec.did.nodes_are)
+      ∙ (λ i. record (after (running_world w) number nodes out) {
         ups = number_if (sym ups_as i) w.ups;
         forged = number_if (sym forgery i) w.forged;
         done = number_if (sym ends_as i) w.done;
@@ -257,13 +257,13 @@ module _ (w : World) (number : ℕ) (x : Node) (d : NodeStep Reception) (r : rec
   numbers_as : (eui : Eui) → number_of (record w { nodes = nodes }) eui ≡ number_of w eui
   numbers_as eui = ap (λ (ns : List Node). number_of (record w { nodes = ns }) eui) rec.did.nodes_are ∙ same_number w number x d.node eui at same
 
-  pub received_said : said_of (record w { nodes = nodes }) number out forged r ≡ (reception_trace w number right d).happened
+  pub received_said : reception_happenings (record w { nodes = nodes }) number out forged r ≡ (reception_trace w number right d).happenings
   received_said =
       let up = ap (λ o. handed_in number o) rec.reports.up ∙ handed_as number d.answer.up in
       let took = ap (λ t. taker_in number t) rec.reports.took ∙ took_as number d.answer.took in
       let done = ap (λ o. done_in (record w { nodes = nodes }) o) rec.reports.done ∙ done_as (record w { nodes = nodes }) w d.answer.done numbers_as in
       let many : length out.frames ≡ length d.frames = ap (λ (o : Out). length o.frames) rec.did.out_is ∙ many_given (spelled network) d.frames in
-      λ i. record (happened w (rec.reports.answer i)) { forged = forgery i; up = up i; took = took i; done = done i; flights = many i }
+      λ i. record (happenings w (rec.reports.answer i)) { forged = forgery i; up = up i; took = took i; done = done i; flights = many i }
 
   pub received_many : length nodes ≡ length w.nodes
   received_many = ap (λ (ns : List Node). length ns) rec.did.nodes_are ∙ length-set w.nodes number d.node
@@ -274,7 +274,7 @@ pub left_bounded : (w : World) (number : ℕ) (nodes : List Node) (beside : List
     → length nodes ≡ length w.nodes → length out.frames ≤ 24 → length out.tags.made ≤ 2
     → IsBounded (left_of (record w { nodes = nodes; beside = beside }) number out forged r)
 left_bounded w number nodes beside out forged r b room same frames tags =
-    let counted : IsBounded (after (ran w) number nodes out) = bounded_after (in_run w) number nodes out b room same frames tags in
+    let counted : IsBounded (after (running_world w) number nodes out) = bounded_after (in_run w) number nodes out b room same frames tags in
     record {
       events = counted.events;
       clock = counted.clock;
@@ -293,7 +293,7 @@ pub was_received : (w new : World) (number : ℕ) (x : Node) (origin : Origin) (
     (forged : Bool) (h : Happenings) → IsBounded (in_run w) → w.events < MAX_EVENTS → length out.frames ≤ 24 → length out.tags.made ≤ 2
     → slice_get w.nodes number ≡ Some x
     → d.node.eui ≡ x.eui → Received d w.nodes number r out nodes → forged ≡ (origin.is_forged || list_any (is_forged_tag w.made) out.tags.opened)
-    → h ≡ said_of (record w { nodes = nodes }) number out forged r → new ≡ left_of (record w { nodes = nodes }) number out forged r
+    → h ≡ reception_happenings (record w { nodes = nodes }) number out forged r → new ≡ left_of (record w { nodes = nodes }) number out forged r
     → Steps true w (Ok h) new (Ok (received_so network w number origin d))
 was_received w new number x origin d r out nodes forged h b room frames tags at same rec is_forged said is =
     let right : Bool = origin.is_forged || list_any (is_forged_tag w.made) d.opened in
@@ -311,7 +311,7 @@ pub heard_so : (w new : World) (number : ℕ) (x : Node) (got : Accepted) (origi
     → slice_get w.nodes number ≡ Some x
     → Received (hears network x got cost origin.note w.clock) w.nodes number r out nodes
     → forged ≡ (origin.is_forged || list_any (is_forged_tag w.made) out.tags.opened)
-    → h ≡ said_of (record w { nodes = nodes }) number out forged r → new ≡ left_of (record w { nodes = nodes }) number out forged r
+    → h ≡ reception_happenings (record w { nodes = nodes }) number out forged r → new ≡ left_of (record w { nodes = nodes }) number out forged r
     → Steps true w (Ok h) new (Ok (hears_so network w number x got origin cost))
 heard_so w new number x got origin cost r out nodes forged h b room frames tags at rec is_forged said is =
     was_received w new number x origin (hears network x got cost origin.note w.clock) r out nodes forged h b room frames tags at
@@ -335,13 +335,13 @@ received_as : (w : World) (number : ℕ) (x y : Node) (forged : Bool) (d : NodeS
 received_as w number x y forged d at same =
     let done = pairing_as (record w { nodes = slice_set w.nodes number y }) w d.answer.done (λ eui. same_number w number x y eui at same) in
     λ i. (
-      record (after_twice (ran w) number y d i) {
+      record (after_twice (running_world w) number y d i) {
         ups = number_if (is_some d.answer.up) w.ups;
         forged = number_if forged w.forged;
         done = number_if (is_some d.answer.done) w.done;
       },
       record (reception_trace w number forged d) {
-        happened = record (reception_trace w number forged d).happened { done = option_map (λ (p : Pairing). p.node) (done i) };
+        happenings = record (reception_trace w number forged d).happenings { done = option_map (λ (p : Pairing). p.node) (done i) };
         done = done i;
       },
     )
@@ -378,8 +378,8 @@ module _ (w : World) (number : ℕ) (x y : Node) (octets : List ℕ) (got : Acce
 
   unbelieved_as : unbelieved_so network seen_world number y origin ≡ unbelieved network w number y octets got
   unbelieved_as =
-      ap (λ (b : Bool). received network seen_world number b (stays y (only said.Blacklisted))) (no_tags w.made origin.is_forged ∙ f)
-      ∙ received_as w number x y (forged_by w octets got.path) (stays y (only said.Blacklisted)) at same
+      ap (λ (b : Bool). received network seen_world number b (stays y (only answers.Blacklisted))) (no_tags w.made origin.is_forged ∙ f)
+      ∙ received_as w number x y (forged_by w octets got.path) (stays y (only answers.Blacklisted)) at same
 
   acknowledged_as : (z : Node) (o : Option Reply) (r : World × Trace) → acknowledged_if network seen_world number z o r ≡ acknowledged_if network w number z o r
   acknowledged_as z None r = refl
@@ -411,7 +411,7 @@ comes_as w number x octets cost accepted origin nodes plain at did forged note =
   where
     by_answer : Result Accepted FrameRefusal → World × Trace
     by_answer (Ok got) = heard_further network w number (looks x octets).node octets got cost
-    by_answer (Err reason) = (world_after network (ran w) number (looks x octets), trace_of (happened w (frame_word reason)))
+    by_answer (Err reason) = (world_after network (running_world w) number (looks x octets), trace_of (happenings w (frame_word reason)))
 
     by : (a : Result Accepted FrameRefusal) → IfOk a (λ got. origin.is_forged ≡ forged_in w.flights octets got.path)
         → IfOk a (λ got. origin.note ≡ note_in w.flights octets got.path)
@@ -422,10 +422,10 @@ comes_as w number x octets cost accepted origin nodes plain at did forged note =
         ∙ heard_further_as w number x y octets got origin cost at (acts_eui x (Err frame_refusals.Halted) _) (forged ∙ forged_as w octets got.path)
         (note ∙ note_as w octets got.path)
     by (Err reason) forged note =
-        let left : world_after network (ran w) number (looks x octets) ≡ record (ran w) { nodes = nodes } =
-        after_is (ran w) number (looks x octets) nodes nothing did.out_is did.nodes_are
-        ∙ (λ i. record (ran w) { nodes = nodes; flights = append-nil w.flights i; made = append-nil w.made i }) in
-        λ i. (sym left i, trace_of (happened w (frame_word reason)))
+        let left : world_after network (running_world w) number (looks x octets) ≡ record (running_world w) { nodes = nodes } =
+        after_is (running_world w) number (looks x octets) nodes nothing did.out_is did.nodes_are
+        ∙ (λ i. record (running_world w) { nodes = nodes; flights = append-nil w.flights i; made = append-nil w.made i }) in
+        λ i. (sym left i, trace_of (happenings w (frame_word reason)))
 
 -- what is said and what is left of octets that came to a node
 pub came : (w new : World) (number : ℕ) (x : Node) (octets : List ℕ) (cost : ℕ) (accepted : Result Accepted FrameRefusal) (origin : Origin) (nodes : List Node)

@@ -18,7 +18,7 @@ use Rattle.line_events.specs.declared.event.StepFault.{StepFault}
 use Rattle.line_events.specs.declared.event.TheConstants.{MAX_EVENTS}
 use Rattle.line_rules.specs.Further.{after_ok, beside_after, beside_at, has_reached, reaches, restarts_by, set_beside}
 use Rattle.line_rules.specs.Logs.{AreLogged, LogsKept}
-use Rattle.line_rules.specs.Steps.{acted, happened, ran, restarts, spoken, world_after}
+use Rattle.line_rules.specs.Steps.{node_outcome, happenings, running_world, restarts, node_trace, world_after}
 use Rattle.line_rules.specs.Worlds.{Further, World, Trace}
 use Rattle.line_rules.proofs.LogSteps.{halted_in, log_at, logged_at}
 use Rattle.line_world.specs.Bounds.{IsBounded}
@@ -67,8 +67,8 @@ module _ {w : World} {number found : ℕ} (there : IsThere w number found) (kept
   pub restart_is : (log : Log) → r ≡ Ok log
       → restarts_by network w number there.node (restarted there.node.store.records)
       ≡ (
-        record (acted network w number (restarts there.node)).0 { beside = slice_set w.beside number (record { checks = nobody; log = log; scan = ended }) },
-        (acted network w number (restarts there.node)).1,
+        record (node_outcome network w number (restarts there.node)).0 { beside = slice_set w.beside number (record { checks = nobody; log = log; scan = ended }) },
+        (node_outcome network w number (restarts there.node)).1,
       )
   unfolding world_after
   restart_is log e = ap (restarts_by network w number there.node) (restarted_so log e)
@@ -98,11 +98,11 @@ module _ {A : Type 0} {w : World} {number found : ℕ} (there : IsThere w number
   pub node_reached : (new : World) (answer : A) (out : Out) (nodes : List Node) (c : Beside) (h : Happenings) → IsBounded w → w.events < MAX_EVENTS
       → length out.frames ≤ 24 → length out.tags.made ≤ 2
       → IfSome (slice_get w.nodes found) (λ y. ReachedFirst y (beside_at w found) halted plan w.nodes found answer out nodes c)
-      → h ≡ record (happened w (word answer)) { flights = length out.frames }
-      → new ≡ record (after (ran w) found nodes out) { beside = slice_set w.beside found c }
+      → h ≡ record (happenings w (word answer)) { flights = length out.frames }
+      → new ≡ record (after (running_world w) found nodes out) { beside = slice_set w.beside found c }
       → Steps true w (Ok h) new (Ok (
-        has_reached network (ran w) number there.node halted plan (reaches there.node (beside_at w number) halted plan),
-        record (spoken w (answering word (reaches there.node (beside_at w number) halted plan))) { further = more },
+        has_reached network (running_world w) number there.node halted plan (reaches there.node (beside_at w number) halted plan),
+        record (node_trace w (answering word (reaches there.node (beside_at w number) halted plan))) { further = more },
       ))
   unfolding world_after
   node_reached new answer out nodes c h b room frames tags did said is =
@@ -112,17 +112,17 @@ module _ {A : Type 0} {w : World} {number found : ℕ} (there : IsThere w number
       subst (λ o. IfSome o (λ y. ReachedFirst y (beside_at w found) halted plan w.nodes found answer out nodes c)) at did in
       let own : IfSome (slice_get w.nodes found) (λ y. Did (reached_by y) w.nodes found answer out nodes) =
       subst (λ o. IfSome o (λ y. Did (reached_by y) w.nodes found answer out nodes)) (sym at) r.did in
-      let s = steps_further true w (after (ran w) found nodes out) h (acted network w number (answering word (reached_by x))) (slice_set w.beside found c) more
-      (node_acted true w (after (ran w) found nodes out) there reached_by word answer out nodes h b room frames tags own said refl) in
+      let s = steps_further true w (after (running_world w) found nodes out) h (node_outcome network w number (answering word (reached_by x))) (slice_set w.beside found c) more
+      (node_acted true w (after (running_world w) found nodes out) there reached_by word answer out nodes h b room frames tags own said refl) in
       subst (λ v. Steps true w (Ok h) v (Ok (
-        has_reached network (ran w) number x halted plan (reaches x (beside_at w number) halted plan),
-        record (spoken w (answering word (reaches x (beside_at w number) halted plan))) { further = more },
+        has_reached network (running_world w) number x halted plan (reaches x (beside_at w number) halted plan),
+        record (node_trace w (answering word (reaches x (beside_at w number) halted plan))) { further = more },
       ))) (sym is)
       (steps_as _ _ ((λ i. Ok (
         set_beside (sym there.same i) (beside_after x (beside_at w (sym there.same i)) plan (reaches x (beside_at w (sym there.same i)) halted plan).node)
-            (world_after network (ran w) number (reaches x (beside_at w (sym there.same i)) halted plan)),
-        record (spoken w (answering word (reaches x (beside_at w (sym there.same i)) halted plan))) { further = more },
+            (world_after network (running_world w) number (reaches x (beside_at w (sym there.same i)) halted plan)),
+        record (node_trace w (answering word (reaches x (beside_at w (sym there.same i)) halted plan))) { further = more },
       )) ∙ ap (λ (d : Beside). Ok (
-        set_beside found d (world_after network (ran w) number (reached_by x)),
-        record (spoken w (answering word (reached_by x))) { further = more },
+        set_beside found d (world_after network (running_world w) number (reached_by x)),
+        record (node_trace w (answering word (reached_by x))) { further = more },
       )) (sym r.beside)) s)

@@ -43,7 +43,7 @@ use Rattle.reach_rules.specs.declared.refusal.ReachDropped.TheVariants.{Known, O
 use Rattle.reach_rules.specs.Broadcasts.{admits_broadcast, broadcast, broadcast_ends, broadcast_fault, broadcast_from, datagram_fault, goes_further}
 use Rattle.reach_rules.specs.Broadcasts.{hear_broadcast, hear_broadcast_in, hop_less, mark_fault, own_broadcast, with_broadcast_mark, with_broadcast_number}
 use Rattle.reach_rules.specs.ReachingNodes.{Beside, Reaching, in_reach, reach_ends, adds_local}
-use Rattle.line_events.specs.declared.event.Answer.TheVariants as said
+use Rattle.line_events.specs.declared.event.Answer.TheVariants as answers
 use Rattle.line_rules.specs.Further.{without_log}
 use Rattle.line_world.specs.Reaching.{Reaches, ReachesCommand, ReachesFirst, beside_left, handed_up, of_held, ended_by}
 use Rattle.line_world.proofs.FurtherPlans.{first_rests, rests_after, local_answer}
@@ -336,7 +336,7 @@ module _ (l : StationMemory) (b : Beside) where
 pub dropped_command : (s : State StationMemory) (b : Beside) (plan : Reaching StationMemory → Plan (Reaching StationMemory) (Result CommandHeard ReachDropped))
     (number : ℕ) (l : StationMemory) (before : Out)
     → s.memory ≡ Some l → plan (beside l b) ≡ refused reach_ends (beside l b) (Known BadUnit)
-    → ReachesCommand s b plan (record { answer = said.BadUnit; bup = None; path = None }) number before before s b
+    → ReachesCommand s b plan (record { answer = answers.BadUnit; bup = None; path = None }) number before before s b
 dropped_command s b plan number l before running is = record {
   answer = Err (Known BadUnit);
   reports = record { answer = refl; bup = refl; path = refl };

@@ -25,7 +25,7 @@ use Rattle.line_rules.specs.Steps.{hears}
 use Rattle.line_rules.specs.Worlds.{World, is_forged_tag}
 use Rattle.line_world.specs.declared.line.Line.{Line}
 use Rattle.line_world.specs.declared.nodes.reception.Reception as receiving
-use Rattle.line_world.specs.Arrivals.{Acknowledges, acknowledging_if, checked_so, in_run, left_of, said_of, with_check_of}
+use Rattle.line_world.specs.Arrivals.{Acknowledges, acknowledging_if, checked_so, in_run, left_of, reception_happenings, with_check_of}
 use Rattle.line_world.specs.Bounds.{IsBounded}
 use Rattle.line_world.specs.Lines.{HasRoom}
 use Rattle.line_world.specs.Receiving.{MayHear, Received}
@@ -136,7 +136,7 @@ module _ (w : World) (nodes : List Node) (number : ℕ) (got : Accepted) (origin
         → IfSome (slice_get nodes number) (λ y. Acknowledges (record w { nodes = nodes }) number y reply before done out v2)
         → sent ≡ (if is_some message then r.replied else None)
         → (IsSome (message_of got) → IfSome (slice_get w.nodes number) (λ y. r.replied ≡ reply_among (hears network y got cost origin.note w.clock).frames))
-        → v3 ≡ with_check_of v2 number sent → h ≡ said_of v3 number out forged r → new ≡ left_of v3 number out forged r
+        → v3 ≡ with_check_of v2 number sent → h ≡ reception_happenings v3 number out forged r → new ≡ left_of v3 number out forged r
         → IfSome (slice_get w.nodes number) (λ y. Steps true w (Ok h) new (Ok (checked_so network w number y got origin cost)))
     checked_then v3 sent done up acknowledges sent_is replied checks said is =
         at_number (λ y. Steps true w (Ok h) new (Ok (checked_so network w number y got origin cost)))
@@ -146,7 +146,7 @@ module _ (w : World) (nodes : List Node) (number : ℕ) (got : Accepted) (origin
 
     pub unacknowledged_then : (done : Bool) → done ≡ false
         → IfSome (slice_get nodes number) (λ y. Acknowledges (record w { nodes = nodes }) number y reply before done out v2)
-        → h ≡ said_of v2 number out forged unacknowledged → new ≡ left_of v2 number out forged unacknowledged
+        → h ≡ reception_happenings v2 number out forged unacknowledged → new ≡ left_of v2 number out forged unacknowledged
         → IfSome (slice_get w.nodes number) (λ y. Steps true w (Ok h) new (Ok (checked_so network w number y got origin cost)))
     unacknowledged_then done down acknowledges said is =
         at_number (λ y. Steps true w (Ok h) new (Ok (checked_so network w number y got origin cost)))

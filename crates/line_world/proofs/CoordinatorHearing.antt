@@ -79,17 +79,17 @@ module _ (x y : CoordinatorState) (got : Accepted) (cost note now : ℕ) (r : Re
   abbrev plan : Memory → Plan Memory (Result CoordinatorHeard Dropped)
   plan m = coordinator_rules.hear_coordinator (identity_of x) m got cost note now
 
-  acted : IfSome (node_of x).memory (λ m. Carries (node_of x) (plan m) r out (node_of y))
+  node_outcome : IfSome (node_of x).memory (λ m. Carries (node_of x) (plan m) r out (node_of y))
       → Took (acts (of_coordinator x) (Err drops.Store) plan) r out (of_coordinator y)
-  acted carries = own_took x y (Err drops.Store) plan r out sound (not_none (node_of x).memory _ may.running) carries
+  node_outcome carries = own_took x y (Err drops.Store) plan r out sound (not_none (node_of x).memory _ may.running) carries
 
   pub heard : IfSome (node_of x).memory (λ m. Carries (node_of x) (plan m) r out (node_of y))
       → Took (hears network (of_coordinator x) got cost note now) (hears network (of_coordinator x) got cost note now).answer out (of_coordinator y)
-  heard carries = let t = acted carries in record { answer_is = refl; out_is = t.out_is; node_is = t.node_is }
+  heard carries = let t = node_outcome carries in record { answer_is = refl; out_is = t.out_is; node_is = t.node_is }
 
   pub reported : IfSome (node_of x).memory (λ m. Carries (node_of x) (plan m) r out (node_of y)) → (word : Reception)
       → ReportsReception word (rules.coordinator_reception r) → ReportsReception word (hears network (of_coordinator x) got cost note now).answer
-  reported carries word t = subst (λ (k : Result CoordinatorHeard Dropped). ReportsReception word (rules.coordinator_reception k)) (acted carries).answer_is t
+  reported carries word t = subst (λ (k : Result CoordinatorHeard Dropped). ReportsReception word (rules.coordinator_reception k)) (node_outcome carries).answer_is t
 
   pub heard_sound : IfSome (node_of x).memory (λ m. Carries (node_of x) (plan m) r out (node_of y)) → CoordinatorAgrees (node_of y) → IsSoundCoordinator y
   heard_sound carries h =
@@ -104,7 +104,7 @@ module _ (x y : CoordinatorState) (got : Accepted) (cost note now : ℕ) (r : Re
       → reported ≡ reply_among (hears network (of_coordinator x) got cost note now).frames
   replied_is carries last reported same replied is =
       let m = there_is (node_of x).memory may.running in
-      reply_is (of_coordinator x) (Err drops.Store) plan m.0 (node_of y).memory last reported m.1 (ap (λ (n : Node). n.memory) (acted carries).node_is)
+      reply_is (of_coordinator x) (Err drops.Store) plan m.0 (node_of y).memory last reported m.1 (ap (λ (n : Node). n.memory) (node_outcome carries).node_is)
       (at (node_of x).memory (λ m. unread (hear m.station got cost note now).answer ≡ None → last ≡ reply_sent (plan m) (node_of y).memory) m.0 m.1 replied
       (messages_unread m.0.station cost note now got is)) same
 

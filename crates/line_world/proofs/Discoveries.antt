@@ -43,7 +43,7 @@ use Rattle.reach_rules.specs.Beacons.{takes_beacon, takes_beacons}
 use Rattle.reach_rules.specs.Beacons as beacons
 use Rattle.reach_rules.specs.ReachingNodes.{Beside, Reaching, nothing_beside}
 use Rattle.line_events.specs.declared.event.Answer.{Answer}
-use Rattle.line_events.specs.declared.event.Answer.TheVariants as said
+use Rattle.line_events.specs.declared.event.Answer.TheVariants as answers
 use Rattle.line_events.specs.declared.event.StepFault.{StepFault}
 use Rattle.line_events.specs.declared.event.TheConstants.{MAX_EVENTS}
 use Rattle.line_events.specs.declared.happenings.AgentLine.{AgentLine}
@@ -51,7 +51,7 @@ use Rattle.line_events.specs.declared.happenings.Happenings.{Happenings}
 use Rattle.line_rules.specs.Answers.{discovery_word, join_word}
 use Rattle.line_rules.specs.Further.{agent_line, beacon_taken, beside_after, beside_at, choice_word, choose, chooses_by, discovery_flight, discovery_flights}
 use Rattle.line_rules.specs.Further.{has_discovered, has_reached, reaches, scan, scanning, scans_by, set_beside, with_beside, without_log}
-use Rattle.line_rules.specs.Steps.{flight_by, happened, identity, psk_of, ran, spoken, world_after}
+use Rattle.line_rules.specs.Steps.{flight_by, happenings, identity, psk_of, running_world, node_trace, world_after}
 use Rattle.line_rules.specs.Worlds.{Noticed, Trace, World}
 use Rattle.line_world.specs.Bounds.{IsBounded}
 use Rattle.line_world.specs.Discovering.{HearsBeacon, TakesBeacon, flies_in, joins_in, taken_by}
@@ -91,10 +91,10 @@ abbrev pub frame_out : Discovery → OutFrame
 frame_out frame = record { octets = discovery_spelling frame; note = 0; key = None }
 
 pub flies_so : (w : World) (number : ℕ) (frame : Discovery) (out : Out) → out ≡ record nothing { frames = frame_out frame ∷ [] }
-    → record (ran w) { flights = w.flights ++ map (flight_by number) out.frames; made = w.made ++ out.tags.made } ≡ flies_in w number (Some frame)
+    → record (running_world w) { flights = w.flights ++ map (flight_by number) out.frames; made = w.made ++ out.tags.made } ≡ flies_in w number (Some frame)
 flies_so w number frame out is =
-    (λ i. record (ran w) { flights = w.flights ++ map (flight_by number) (is i).frames; made = w.made ++ (is i).tags.made })
-    ∙ ap (λ ts. record (ran w) { flights = w.flights ++ discovery_flight number frame ∷ []; made = ts }) (append-nil w.made)
+    (λ i. record (running_world w) { flights = w.flights ++ map (flight_by number) (is i).frames; made = w.made ++ (is i).tags.made })
+    ∙ ap (λ ts. record (running_world w) { flights = w.flights ++ discovery_flight number frame ∷ []; made = ts }) (append-nil w.made)
 
 -- the bounds after a frame that flew, if one did
 flies_bounded : (w : World) (number : ℕ) (frame : Option Discovery) → IsBounded w → w.events < MAX_EVENTS → IsBounded (flies_in w number frame)
@@ -119,7 +119,7 @@ flies_bounded w number frame b room = record {
 
 module _ {A : Type 0} (w new : World) (number : ℕ) (word : A → Answer) (noticed : A → Option Noticed) (d : Discovering A) (h : Happenings)
     (bounds : IsBounded w) (room : w.events < MAX_EVENTS) where
-  discovered_so : h ≡ record (happened w (word d.answer)) { flights = length (discovery_flights number d.sent) }
+  discovered_so : h ≡ record (happenings w (word d.answer)) { flights = length (discovery_flights number d.sent) }
       → new ≡ set_beside number (record (beside_at w number) { scan = d.scan }) (flies_in w number d.sent)
       → Steps true w (Ok h) new (Ok (has_discovered w number word noticed d))
   discovered_so said is =
@@ -129,29 +129,29 @@ module _ {A : Type 0} (w new : World) (number : ℕ) (word : A → Answer) (noti
 
   -- a frame goes out
   pub discovery_sends : (answer : A) (scan : Scanned) (frame : Discovery) → d ≡ record { answer = answer; scan = scan; sent = Some frame }
-      → h ≡ record (happened w (word answer)) { flights = 1 }
+      → h ≡ record (happenings w (word answer)) { flights = 1 }
       → new ≡ set_beside number (record (beside_at w number) { scan = scan }) (flies_in w number (Some frame))
       → Steps true w (Ok h) new (Ok (has_discovered w number word noticed d))
   discovery_sends answer scan frame same said is =
-      discovered_so (said ∙ (λ i. record (happened w (word (sym same i).answer)) { flights = length (discovery_flights number (sym same i).sent) }))
+      discovered_so (said ∙ (λ i. record (happenings w (word (sym same i).answer)) { flights = length (discovery_flights number (sym same i).sent) }))
       (is ∙ (λ i. set_beside number (record (beside_at w number) { scan = (sym same i).scan }) (flies_in w number (sym same i).sent)))
 
-  nothing_flies : flies_in w number None ≡ ran w
-  nothing_flies = ap (λ fs. record (ran w) { flights = fs }) (append-nil w.flights)
+  nothing_flies : flies_in w number None ≡ running_world w
+  nothing_flies = ap (λ fs. record (running_world w) { flights = fs }) (append-nil w.flights)
 
   -- the scan changes alone
-  pub discovery_keeps : (answer : A) (scan : Scanned) → d ≡ record { answer = answer; scan = scan; sent = None } → h ≡ happened w (word answer)
-      → new ≡ set_beside number (record (beside_at w number) { scan = scan }) (ran w) → Steps true w (Ok h) new (Ok (has_discovered w number word noticed d))
+  pub discovery_keeps : (answer : A) (scan : Scanned) → d ≡ record { answer = answer; scan = scan; sent = None } → h ≡ happenings w (word answer)
+      → new ≡ set_beside number (record (beside_at w number) { scan = scan }) (running_world w) → Steps true w (Ok h) new (Ok (has_discovered w number word noticed d))
   discovery_keeps answer scan same said is =
-      discovered_so (said ∙ (λ i. record (happened w (word (sym same i).answer)) { flights = length (discovery_flights number (sym same i).sent) }))
+      discovered_so (said ∙ (λ i. record (happenings w (word (sym same i).answer)) { flights = length (discovery_flights number (sym same i).sent) }))
       (is ∙ ap (λ (v : World). set_beside number (record (beside_at w number) { scan = scan }) v) (sym nothing_flies)
       ∙ (λ i. set_beside number (record (beside_at w number) { scan = (sym same i).scan }) (flies_in w number (sym same i).sent)))
 
   -- nothing changes
-  pub discovery_stays : (answer : A) → d ≡ beacons.stays (beside_at w number).scan answer → h ≡ happened w (word answer) → new ≡ ran w
+  pub discovery_stays : (answer : A) → d ≡ beacons.stays (beside_at w number).scan answer → h ≡ happenings w (word answer) → new ≡ running_world w
       → Steps true w (Ok h) new (Ok (has_discovered w number word noticed d))
   discovery_stays answer same said is =
-      discovery_keeps answer (beside_at w number).scan same said (is ∙ ap (λ bs. record (ran w) { beside = bs }) (sym (beside_same w.beside number)))
+      discovery_keeps answer (beside_at w number).scan same said (is ∙ ap (λ bs. record (running_world w) { beside = bs }) (sym (beside_same w.beside number)))
 
 -- the same world where the scan stays and a frame goes out
 pub scan_stays : (w : World) (number : ℕ) (frame : Option Discovery)
@@ -253,13 +253,13 @@ beacon_by l scan pan from cost link other own scans a b c =
     else (if c i then takes_beacon scan from cost link else beacons.stays scan (Err drops.NotScanning))
 
 pub beacon_elsewhere : (w : World) (number : ℕ) (l : StationMemory) (pan from cost link : ℕ) → (pan == PAN) ≡ false
-    → HearsBeacon w number l pan from cost link said.NotForMe w
+    → HearsBeacon w number l pan from cost link answers.NotForMe w
 beacon_elsewhere w number l pan from cost link other =
     beacon_stays w number l pan from cost link (Err drops.NotForMe) (beacon_by l (beside_at w number).scan pan from cost link false _ _ other refl refl)
 
 pub beacon_own : (w : World) (number : ℕ) (l : StationMemory) (pan from cost link own : ℕ) → (pan == PAN) ≡ true → Some own ≡ address_of l
     → (own == from) ≡ true
-    → HearsBeacon w number l pan from cost link said.NotForMe w
+    → HearsBeacon w number l pan from cost link answers.NotForMe w
 beacon_own w number l pan from cost link own here at same =
     beacon_stays w number l pan from cost link (Err drops.NotForMe)
     (beacon_by l (beside_at w number).scan pan from cost link true true _ here (ap (λ (o : Option ℕ). option_map_or (λ a. a == from) o false) (sym at) ∙ same)
@@ -267,7 +267,7 @@ beacon_own w number l pan from cost link own here at same =
 
 pub beacon_joined : (w : World) (number : ℕ) (l : StationMemory) (pan from cost link own : ℕ) → (pan == PAN) ≡ true → Some own ≡ address_of l
     → (own == from) ≡ false
-    → HearsBeacon w number l pan from cost link said.NotScanning w
+    → HearsBeacon w number l pan from cost link answers.NotScanning w
 beacon_joined w number l pan from cost link own here at other =
     beacon_stays w number l pan from cost link (Err drops.NotScanning)
     (beacon_by l (beside_at w number).scan pan from cost link true false false here
@@ -303,7 +303,7 @@ beacon_unsent l scan pan from cost link = by (beacons.is_foreign l pan from) (ta
 -- what a beacon leaves once its event counts
 pub beacon_counts : (w v new : World) (number : ℕ) (l : StationMemory) (seq pan from cost link : ℕ) (word : Answer) (h : Happenings) → IsBounded w
     → w.events < MAX_EVENTS
-    → HearsBeacon w number l pan from cost link word v → h ≡ happened v word → new ≡ ran v
+    → HearsBeacon w number l pan from cost link word v → h ≡ happenings v word → new ≡ running_world v
     → Steps true w (Ok h) new (Ok (has_discovered w number discovery_word (beacon_taken number (Some (discoveries.Beacon seq pan from cost)) link)
     (hear_beacon l (beside_at w number).scan pan from cost link)))
 beacon_counts w v new number l seq pan from cost link word h bounds room hears said is =
@@ -311,7 +311,7 @@ beacon_counts w v new number l seq pan from cost link word h bounds room hears s
     let unsent = beacon_unsent l (beside_at w number).scan pan from cost link in
     discovery_keeps w new number discovery_word (beacon_taken number (Some (discoveries.Beacon seq pan from cost)) link) d h bounds room d.answer d.scan
     (λ i. record { answer = d.answer; scan = d.scan; sent = unsent i })
-    (said ∙ (λ i. happened (hears.world_is i) (hears.answer_is i))) (is ∙ ap ran hears.world_is)
+    (said ∙ (λ i. happenings (hears.world_is i) (hears.answer_is i))) (is ∙ ap running_world hears.world_is)
 
 -- # Scans
 
@@ -440,24 +440,24 @@ module _ (w : World) (number : ℕ) (x : Node) (k : ℕ) (psk : Key) (m : Memory
   -- a meter that can't choose is as it was
   pub choice_refused : (new : World) (h : Happenings) (reason : ChooseRefusal) → IsBounded w → w.events < MAX_EVENTS
       → plan held ≡ refused choosing_ends held reason
-      → h ≡ happened w (choice_word (Err reason)) → new ≡ ran w → Steps true w (Ok h) new (Ok chosen_so)
+      → h ≡ happenings w (choice_word (Err reason)) → new ≡ running_world w → Steps true w (Ok h) new (Ok chosen_so)
   unfolding world_after resting
   choice_refused new h reason bounds room is said left =
       let same : does ≡ stays x (Err reason) =
       node_stays x (Err choices.Halted) (with_beside b plan) m (Err reason) (Err choices.Halted) there
       (ap (λ (p : Plan (Reaching Memory) (Result ChosenAgent ChooseRefusal)). within (λ y. y.memory) (λ a. a) p) is) in
       let keeps : (plan held).memory.beside ≡ b = ap (λ (p : Plan (Reaching Memory) (Result ChosenAgent ChooseRefusal)). p.memory.beside) is in
-      let world : chosen_so.0 ≡ ran w =
-      ap (λ (d : NodeStep (Result ChosenAgent ChooseRefusal)). has_reached network (ran w) number x (Err choices.Halted) plan d) same
-      ∙ ap (λ (c : Beside). set_beside number c (world_after network (ran w) number (stays x (refusal reason)))) (chooses_beside x keeps (ap is_some there))
-      ∙ (λ i. record (ran w) {
+      let world : chosen_so.0 ≡ running_world w =
+      ap (λ (d : NodeStep (Result ChosenAgent ChooseRefusal)). has_reached network (running_world w) number x (Err choices.Halted) plan d) same
+      ∙ ap (λ (c : Beside). set_beside number c (world_after network (running_world w) number (stays x (refusal reason)))) (chooses_beside x keeps (ap is_some there))
+      ∙ (λ i. record (running_world w) {
         nodes = set_same w.nodes number x at i;
         flights = append-nil w.flights i;
         made = append-nil w.made i;
         beside = beside_same w.beside number i;
       }) in
       is_taken_so true w new (Ok chosen_so) chosen_so.1 h (λ i. Ok ((world ∙ sym left) i, chosen_so.1))
-      (said ∙ (λ i. record (happened w (choice_word (sym same i).answer))
+      (said ∙ (λ i. record (happenings w (choice_word (sym same i).answer))
       { flights = length (sym same i).frames; agent = agent_line number (sym same i).answer }))
       (subst IsBounded (sym left) (bounded_by w w.clock w.nodes w.flights bounds room (omega arith) refl refl))
 
@@ -495,25 +495,25 @@ module _ (w : World) (number : ℕ) (x : Node) (k : ℕ) (psk : Key) (m : Memory
       ap (λ (d : NodeStep (Result ChosenAgent ChooseRefusal)). is_some d.node.memory) same
       ∙ node_goes_on x (Err joins.Halted) join m there (joining_stores_nothing own m address w.clock apart below) in
       let d : NodeStep (Result (Unit {0}) JoinRefusal) = acts x (Err joins.Halted) join in
-      let world : world_after network (ran w) number d ≡ chosen_so.0 =
-      (λ i. record (world_after network (ran w) number d) { beside = sym (beside_same w.beside number) i })
-      ∙ ap (λ (c : Beside). set_beside number c (world_after network (ran w) number d)) (sym (chooses_beside does.node keeps up))
-      ∙ ap (λ (e : NodeStep (Result ChosenAgent ChooseRefusal)). set_beside number (beside_after x b plan does.node) (world_after network (ran w) number e))
+      let world : world_after network (running_world w) number d ≡ chosen_so.0 =
+      (λ i. record (world_after network (running_world w) number d) { beside = sym (beside_same w.beside number) i })
+      ∙ ap (λ (c : Beside). set_beside number c (world_after network (running_world w) number d)) (sym (chooses_beside does.node keeps up))
+      ∙ ap (λ (e : NodeStep (Result ChosenAgent ChooseRefusal)). set_beside number (beside_after x b plan does.node) (world_after network (running_world w) number e))
       (sym same) in
       (λ i. (
         world i,
-        record (spoken w (record (answering join_word d) { answer = sym (join_says agent d.answer) i })) {
-          happened = record (spoken w (record (answering join_word d) { answer = sym (join_says agent d.answer) i })).happened
+        record (node_trace w (record (answering join_word d) { answer = sym (join_says agent d.answer) i })) {
+          happenings = record (node_trace w (record (answering join_word d) { answer = sym (join_says agent d.answer) i })).happenings
               { agent = agent_line number (chosen agent d.answer) };
         },
       )) ∙ ap (λ (e : NodeStep (Result ChosenAgent ChooseRefusal)).
-      let trace = spoken w (answering choice_word e) in (chosen_so.0, record trace { happened = record trace.happened { agent = agent_line number e.answer } }))
+      let trace = node_trace w (answering choice_word e) in (chosen_so.0, record trace { happenings = record trace.happenings { agent = agent_line number e.answer } }))
       (sym same)
 
 -- a meter that is halted is as it was
 pub choice_halted : (w new : World) (number : ℕ) (x : Node) (k : ℕ) (psk : Key) (h : Happenings) → slice_get w.nodes number ≡ Some x → x.memory ≡ None
     → IsBounded w → w.events < MAX_EVENTS
-    → h ≡ happened w said.Halted → new ≡ ran w → Steps true w (Ok h) new (Ok (chooses_by network w number x k (Some psk)))
+    → h ≡ happenings w answers.Halted → new ≡ running_world w → Steps true w (Ok h) new (Ok (chooses_by network w number x k (Some psk)))
 unfolding acts world_after beside_after
 choice_halted w new number x k psk h at none bounds room is left =
     let b : Beside = beside_at w number in
@@ -524,10 +524,10 @@ choice_halted w new number x k psk h at none bounds room is left =
     let keeps : beside_after x b plan x ≡ b =
     ap (λ (o : Option Memory). option_map_or
     (λ (n : Memory). if is_some x.memory then (plan (record { memory = n; beside = b })).memory.beside else without_log b) o b) none in
-    let world : (chooses_by network w number x k (Some psk)).0 ≡ ran w =
-    ap (λ (d : NodeStep (Result ChosenAgent ChooseRefusal)). has_reached network (ran w) number x (Err choices.Halted) plan d) same
-    ∙ ap (λ (c : Beside). set_beside number c (world_after network (ran w) number (stays x (refusal choices.Halted)))) keeps
-    ∙ (λ i. record (ran w) {
+    let world : (chooses_by network w number x k (Some psk)).0 ≡ running_world w =
+    ap (λ (d : NodeStep (Result ChosenAgent ChooseRefusal)). has_reached network (running_world w) number x (Err choices.Halted) plan d) same
+    ∙ ap (λ (c : Beside). set_beside number c (world_after network (running_world w) number (stays x (refusal choices.Halted)))) keeps
+    ∙ (λ i. record (running_world w) {
       nodes = set_same w.nodes number x at i;
       flights = append-nil w.flights i;
       made = append-nil w.made i;
@@ -535,7 +535,7 @@ choice_halted w new number x k psk h at none bounds room is left =
     }) in
     let trace = (chooses_by network w number x k (Some psk)).1 in
     is_taken_so true w new (Ok (chooses_by network w number x k (Some psk))) trace h (λ i. Ok ((world ∙ sym left) i, trace))
-    (is ∙ (λ i. record (happened w (choice_word (sym same i).answer)) { flights = length (sym same i).frames; agent = agent_line number (sym same i).answer }))
+    (is ∙ (λ i. record (happenings w (choice_word (sym same i).answer)) { flights = length (sym same i).frames; agent = agent_line number (sym same i).answer }))
     (subst IsBounded (sym left) (bounded_by w w.clock w.nodes w.flights bounds room (omega arith) refl refl))
 
 -- # The report of a meter that joins by an agent
@@ -563,7 +563,7 @@ world_in w (Ok q) = q.0
 world_in w (Err fault) = w
 
 abbrev said_in : Happenings → Result (World × Trace) StepFault → Happenings
-said_in h (Ok q) = q.1.happened
+said_in h (Ok q) = q.1.happenings
 said_in h (Err fault) = h
 
 pub joins_reported : (w new : World) (number : ℕ) (x : Node) (psk : Key) (address total : ℕ) (asked : Result (Unit {0}) JoinRefusal) (out : Out) (nodes : List Node)
@@ -573,7 +573,7 @@ pub joins_reported : (w new : World) (number : ℕ) (x : Node) (psk : Key) (addr
     (λ key. Did (acts y (Err joins.Halted) (λ k. meters.join (identity network y key) k address w.clock)) w.nodes number asked out nodes))
     → IsBounded w → w.events < MAX_EVENTS → length out.frames ≤ 24 → length out.tags.made ≤ 2
     → agent ≡ agent_line number (chosen (record { address = address; total = total }) asked)
-    → h ≡ record (happened w (join_word asked)) { flights = length out.frames } → new ≡ after (ran w) number nodes out
+    → h ≡ record (happenings w (join_word asked)) { flights = length out.frames } → new ≡ after (running_world w) number nodes out
     → Steps true w (Ok (with_agent h agent)) new (Ok (joins_in w number x psk address total))
 unfolding world_after
 joins_reported w new number x psk address total asked out nodes agent h at key did bounds room frames tags agent_is is left =
@@ -588,8 +588,8 @@ joins_reported w new number x psk address total asked out nodes agent h at key d
     (λ key. Did (acts x (Err joins.Halted) (λ k. meters.join (identity network x key) k address w.clock)) w.nodes number asked out nodes)) key by_all in
     let s = node_acted true w new there step join_word asked out nodes h bounds room frames tags
     (subst (λ (o : Option Node). IfSome o (λ y. Did (step y) w.nodes number asked out nodes)) (sym at) own) is left in
-    let world : world_after network (ran w) number (step x) ≡ new = ap (world_in w) s.gives.taken in
-    let said_so : h ≡ (spoken w (answering join_word (step x))).happened = s.gives.reported ∙ sym (ap (said_in h) s.gives.taken) in
+    let world : world_after network (running_world w) number (step x) ≡ new = ap (world_in w) s.gives.taken in
+    let said_so : h ≡ (node_trace w (answering join_word (step x))).happenings = s.gives.reported ∙ sym (ap (said_in h) s.gives.taken) in
     let agent_so : agent ≡ agent_line number (chosen (record { address = address; total = total }) (step x).answer) =
     agent_is ∙ ap (λ (r : Result (Unit {0}) JoinRefusal). agent_line number (chosen (record { address = address; total = total }) r)) own.answer_is in
     let trace = (joins_in w number x psk address total).1 in

@@ -52,17 +52,17 @@ module _ (x y : MeterState) (got : Accepted) (cost note now : ℕ) (r : Result M
   abbrev plan : Memory → meters.Hearing
   plan m = meters.hear_meter (identity_of x) m got cost note now
 
-  acted : y.psk ≡ x.psk → IfSome (node_of x).memory (λ m. Carries (node_of x) (plan m) r out (node_of y))
+  node_outcome : y.psk ≡ x.psk → IfSome (node_of x).memory (λ m. Carries (node_of x) (plan m) r out (node_of y))
       → Took (acts (of_meter x) (Err drops.Store) plan) r out (of_meter y)
-  acted psk carries = meter_took x y (Err drops.Store) plan r out sound psk (not_none (node_of x).memory _ may.running) carries
+  node_outcome psk carries = meter_took x y (Err drops.Store) plan r out sound psk (not_none (node_of x).memory _ may.running) carries
 
   pub heard : y.psk ≡ x.psk → IfSome (node_of x).memory (λ m. Carries (node_of x) (plan m) r out (node_of y))
       → Took (hears network (of_meter x) got cost note now) (hears network (of_meter x) got cost note now).answer out (of_meter y)
-  heard psk carries = let t = acted psk carries in record { answer_is = refl; out_is = t.out_is; node_is = t.node_is }
+  heard psk carries = let t = node_outcome psk carries in record { answer_is = refl; out_is = t.out_is; node_is = t.node_is }
 
   pub reported : y.psk ≡ x.psk → IfSome (node_of x).memory (λ m. Carries (node_of x) (plan m) r out (node_of y)) → (word : Reception)
       → ReportsReception word (rules.meter_reception r) → ReportsReception word (hears network (of_meter x) got cost note now).answer
-  reported psk carries word t = subst (λ (k : Result MeterHeard Dropped). ReportsReception word (rules.meter_reception k)) (acted psk carries).answer_is t
+  reported psk carries word t = subst (λ (k : Result MeterHeard Dropped). ReportsReception word (rules.meter_reception k)) (node_outcome psk carries).answer_is t
 
   pub heard_sound : IfSome (node_of x).memory (λ m. Carries (node_of x) (plan m) r out (node_of y)) → Agrees y.station → IsSoundMeter y
   heard_sound carries agrees =
@@ -77,6 +77,6 @@ module _ (x y : MeterState) (got : Accepted) (cost note now : ℕ) (r : Result M
       → reported ≡ reply_among (hears network (of_meter x) got cost note now).frames
   replied_is psk carries last reported same replied is =
       let m = there_is (node_of x).memory may.running in
-      reply_is (of_meter x) (Err drops.Store) plan m.0 (node_of y).memory last reported m.1 (ap (λ (n : Node). n.memory) (acted psk carries).node_is)
+      reply_is (of_meter x) (Err drops.Store) plan m.0 (node_of y).memory last reported m.1 (ap (λ (n : Node). n.memory) (node_outcome psk carries).node_is)
       (at (node_of x).memory (λ m. unread (hear m.station got cost note now).answer ≡ None → last ≡ reply_sent (plan m) (node_of y).memory) m.0 m.1 replied
       (messages_unread m.0.station cost note now got is)) same

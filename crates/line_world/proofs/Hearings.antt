@@ -70,12 +70,12 @@ use Rattle.line_rules.specs.Answers.{CompletedJoining, Reception, command_word, 
 use Rattle.line_rules.specs.Further.{acknowledged, acknowledged_if, acknowledging, adds_frames, beside_after, beside_at, broadcast_up, command_trace, due}
 use Rattle.line_rules.specs.Further.{due_of, has_reached, is_dropped, is_reply_taken, path_line, reaches, sends_nothing, set_beside, with_check}
 use Rattle.line_rules.specs.Logs.{LogIn}
-use Rattle.line_rules.specs.Steps.{done_by, flight_by, handed_by, happened, hears, identity, number_if, number_of, received, world_after}
+use Rattle.line_rules.specs.Steps.{done_by, flight_by, handed_by, happenings, hears, identity, number_if, number_of, received, world_after}
 use Rattle.line_rules.specs.Worlds.{Pairing, Trace, World, is_forged_tag}
 use Rattle.line_rules.proofs.LogSteps.{NodeIn, Quiet, acts_quiet}
 use Rattle.line_world.specs.declared.nodes.command.Commanded.{Commanded}
 use Rattle.line_world.specs.declared.nodes.reception.Reception as receiving
-use Rattle.line_world.specs.Arrivals.{Acknowledges, acknowledging_if, checked_so, done_in, in_run, left_of, said_of, unbelieved_so, with_check_of}
+use Rattle.line_world.specs.Arrivals.{Acknowledges, acknowledging_if, checked_so, done_in, in_run, left_of, reception_happenings, unbelieved_so, with_check_of}
 use Rattle.line_world.specs.Arrivals.{heard_so as heard_by_command}
 use Rattle.line_world.specs.Bounds.{IsBounded}
 use Rattle.line_world.specs.NodeOutcomes.{given_by}
@@ -109,7 +109,7 @@ pub was_unbelieved : (w new : World) (number : ℕ) (x : Node) (origin : Origin)
     → w.events < MAX_EVENTS
     → length out.frames ≤ 24 → length out.tags.made ≤ 2 → slice_get w.nodes number ≡ Some x → out ≡ nothing
     → forged ≡ (origin.is_forged || list_any (is_forged_tag w.made) out.tags.opened)
-    → h ≡ said_of w number out forged blacklisted → new ≡ left_of w number out forged blacklisted
+    → h ≡ reception_happenings w number out forged blacklisted → new ≡ left_of w number out forged blacklisted
     → Steps true w (Ok h) new (Ok (unbelieved_so network w number x origin))
 was_unbelieved w new number x origin out forged h b room frames tags at none is_forged said is =
     was_received w new number x origin (stays x (only answers.Blacklisted)) blacklisted out w.nodes forged h b room frames tags at refl
@@ -283,7 +283,7 @@ pub was_commanded : (w new : World) (number : ℕ) (x : Node) (got : Accepted) (
     → Received (hears network x got cost origin.note w.clock) w.nodes number r before nodes → b ≡ beside_at w number
     → IfSome (slice_get nodes number) (λ y. ReachedCommand y b c nodes number commanded before out left after_b)
     → forged ≡ (origin.is_forged || list_any (is_forged_tag w.made) before.tags.opened)
-    → h ≡ record (said_of (record w { nodes = left; beside = slice_set w.beside number after_b }) number out forged r)
+    → h ≡ record (reception_happenings (record w { nodes = left; beside = slice_set w.beside number after_b }) number out forged r)
     { answer = commanded.answer; bup = commanded.bup; path = commanded.path }
     → new ≡ left_of (record w { nodes = left; beside = slice_set w.beside number after_b }) number out forged r
     → Steps true w (Ok h) new (Ok (heard_by_command network w number x got origin cost (Some c)))
@@ -336,8 +336,8 @@ was_commanded w new number x got c origin cost r before out nodes left forged co
     let many : length out.frames ≡ length before.frames + length a.frames =
     (let o : length out.frames ≡ length a.frames = ap (λ fs. length fs) out_frames ∙ many_given (spelled network) a.frames in
     let n : length before.frames ≡ 0 = ap (λ fs. length fs) none in omega (arith, o, n)) in
-    let s : Happenings = said_of (record w { nodes = nodes }) number before forged r in
-    let report_is : h ≡ trace.happened =
+    let s : Happenings = reception_happenings (record w { nodes = nodes }) number before forged r in
+    let report_is : h ≡ trace.happenings =
     said
     ∙ (λ i. record s {
       answer = rc.reports.answer i;
@@ -679,9 +679,9 @@ module _ (w v2 new : World) (number : ℕ) (x : Node) (got : Accepted) (origin :
   first = received_left w number x d r before nodes right forged at (hears_eui x got cost origin.note w.clock) rec forgery
 
   abbrev s : Happenings
-  s = said_of (record w { nodes = nodes }) number before forged r
+  s = reception_happenings (record w { nodes = nodes }) number before forged r
 
-  said_first : s ≡ heard.1.happened
+  said_first : s ≡ heard.1.happenings
   said_first = received_said w number x d r before nodes right forged at (hears_eui x got cost origin.note w.clock) rec forgery
 
   many : length nodes ≡ length w.nodes
@@ -702,7 +702,7 @@ module _ (w v2 new : World) (number : ℕ) (x : Node) (got : Accepted) (origin :
   given_more a up is = is ∙ ap (λ (b : Bool). if b then followed before (given_by a) else nothing) up
 
   acknowledged_so : (o : Option Reply) → Acknowledges (record w { nodes = nodes }) number z o before true out v2
-      → h ≡ said_of (record w { nodes = left o; beside = bs }) number out forged r
+      → h ≡ reception_happenings (record w { nodes = left o; beside = bs }) number out forged r
       → new ≡ left_of (record w { nodes = left o; beside = bs }) number out forged r
       → Steps true w (Ok h) new (Ok (acknowledged_if network w number z o noted))
   unfolding world_after
@@ -712,7 +712,7 @@ module _ (w v2 new : World) (number : ℕ) (x : Node) (got : Accepted) (origin :
       ap (λ (u : World). set_beside number bb u) first
       ∙ (λ i. left_of (record w { nodes = sym nodes_same i; beside = bs }) number (sym ack.kept i) forged r) ∙ sym is in
       is_taken_so true w new (Ok noted) noted.1 h (λ i. Ok (world i, noted.1))
-      (said ∙ (λ i. said_of (record w { nodes = nodes_same i; beside = bs }) number (ack.kept i) forged r) ∙ said_first)
+      (said ∙ (λ i. reception_happenings (record w { nodes = nodes_same i; beside = bs }) number (ack.kept i) forged r) ∙ said_first)
       (subst IsBounded (sym is) (left_bounded w number (left None) bs out forged r bounded room (left_many None) frames tags))
   acknowledged_so (Some reply) ack said is =
       let a = acknowledging z reply in
@@ -737,7 +737,7 @@ module _ (w v2 new : World) (number : ℕ) (x : Node) (got : Accepted) (origin :
       let count : length out.frames ≡ length before.frames + length a.frames =
       ap (λ (o : Out). length o.frames) all ∙ length-append before.frames (given_by a).frames
       ∙ ap (λ n. length before.frames + n) (many_given (spelled network) a.frames) in
-      let report_is : h ≡ step.1.happened =
+      let report_is : h ≡ step.1.happenings =
       said
       ∙ (λ i. record s {
         done = done_pointwise (record w { nodes = ns; beside = bs }) (record w { nodes = nodes }) (numbers reply) r.done i;
@@ -751,7 +751,7 @@ module _ (w v2 new : World) (number : ℕ) (x : Node) (got : Accepted) (origin :
   -- what is said and what is left of a frame, the acknowledgement that was due sent
   pub was_checked : (v3 : World) (sent : Option Reply)
       → IfSome (slice_get nodes number) (λ y. Acknowledges (record w { nodes = nodes }) number y due_now before true out v2)
-      → sent ≡ reply_among d.frames → v3 ≡ with_check_of v2 number sent → h ≡ said_of v3 number out forged r → new ≡ left_of v3 number out forged r
+      → sent ≡ reply_among d.frames → v3 ≡ with_check_of v2 number sent → h ≡ reception_happenings v3 number out forged r → new ≡ left_of v3 number out forged r
       → Steps true w (Ok h) new (Ok (checked_so network w number x got origin cost))
   was_checked v3 sent acknowledges sent_is checks said is =
       let ack : Acknowledges (record w { nodes = nodes }) number z due_now before true out v2 =
@@ -760,7 +760,7 @@ module _ (w v2 new : World) (number : ℕ) (x : Node) (got : Accepted) (origin :
       checks ∙ ap (λ (u : World). with_check_of u number sent) ack.world_is
       ∙ ap (λ (o : Option Reply). with_check_of (record w { nodes = left due_now }) number o) sent_is in
       steps_as _ _ (ap (λ (o : Option Reply). Ok (acknowledged_if network w number z o noted)) due_is)
-      (acknowledged_so due_now ack (said ∙ ap (λ (u : World). said_of u number out forged r) v3_is)
+      (acknowledged_so due_now ack (said ∙ ap (λ (u : World). reception_happenings u number out forged r) v3_is)
       (is ∙ ap (λ (u : World). left_of u number out forged r) v3_is))
 
   plain_up : IsOnly d.answer → r.up ≡ None
@@ -770,7 +770,7 @@ module _ (w v2 new : World) (number : ℕ) (x : Node) (got : Accepted) (origin :
   plain_done only_it = rec.reports.done ∙ ap (λ (o : Option CompletedJoining). option_map (λ (c : CompletedJoining). c.eui) o) only_it.2
 
   failed_so : (o : Option Reply) → due got.path (message_of got) d.answer.answer ≡ o → Acknowledges (record w { nodes = nodes }) number z o before false out v2
-      → h ≡ said_of v2 number out forged unacknowledged → new ≡ left_of v2 number out forged unacknowledged
+      → h ≡ reception_happenings v2 number out forged unacknowledged → new ≡ left_of v2 number out forged unacknowledged
       → Steps true w (Ok h) new (Ok (acknowledged_if network w number z o noted))
   unfolding world_after
   failed_so None e ack said is = let bad : false ≡ true = ack.done_is in absurd (cc (bad))
@@ -800,10 +800,10 @@ module _ (w v2 new : World) (number : ℕ) (x : Node) (got : Accepted) (origin :
       })
       ∙ ap (λ (o : Out). left_of (record w { nodes = ns }) number o forged unacknowledged) (sym none)
       ∙ ap (λ (u : World). left_of u number out forged unacknowledged) (sym ack.world_is) ∙ sym is in
-      let report_is : h ≡ step.1.happened =
-      said ∙ ap (λ (u : World). said_of u number out forged unacknowledged) ack.world_is
-      ∙ ap (λ (o : Out). said_of (record w { nodes = ns }) number o forged unacknowledged) none
-      ∙ (λ i. record (happened w answers.Store) {
+      let report_is : h ≡ step.1.happenings =
+      said ∙ ap (λ (u : World). reception_happenings u number out forged unacknowledged) ack.world_is
+      ∙ ap (λ (o : Out). reception_happenings (record w { nodes = ns }) number o forged unacknowledged) none
+      ∙ (λ i. record (happenings w answers.Store) {
         forged = forgery i;
         up = handed_by number (sym only_it.0 i);
         took = option_map (λ _. number) (sym only_it.1 i);
@@ -816,7 +816,7 @@ module _ (w v2 new : World) (number : ℕ) (x : Node) (got : Accepted) (origin :
 
   -- the same, where its put failed
   pub was_unacknowledged : IfSome (slice_get nodes number) (λ y. Acknowledges (record w { nodes = nodes }) number y due_now before false out v2)
-      → h ≡ said_of v2 number out forged unacknowledged → new ≡ left_of v2 number out forged unacknowledged
+      → h ≡ reception_happenings v2 number out forged unacknowledged → new ≡ left_of v2 number out forged unacknowledged
       → Steps true w (Ok h) new (Ok (checked_so network w number x got origin cost))
   was_unacknowledged acknowledges said is =
       let ack : Acknowledges (record w { nodes = nodes }) number z due_now before false out v2 =

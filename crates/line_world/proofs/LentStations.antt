@@ -33,7 +33,7 @@ use Rattle.node_rules.proofs.StationPuts.{stations_write_their_own, writes_keep_
 use Rattle.node_rules.proofs.TablePlans.{stations}
 use Rattle.coordinator.specs.CoordinatorAgreement.{HasHome}
 use Rattle.line_events.specs.declared.event.Answer.{Answer}
-use Rattle.line_events.specs.declared.event.Answer.TheVariants as said
+use Rattle.line_events.specs.declared.event.Answer.TheVariants as answers
 use Rattle.line_world.specs.Nodes.{node_in, stored_in}
 use Rattle.line_world.specs.NodeOutcomes.{Took}
 use Rattle.line_world.specs.Soundness.{NodeAgreesWith, IsSound}
@@ -118,7 +118,7 @@ near_own e to cost now =
 
 -- what breaks in the memory of a station
 abbrev pub breaking : ℕ → Eui → StationMemory → Plan StationMemory Answer
-breaking next e l = resting (calls.broke next l) said.Broken said.Broken
+breaking next e l = resting (calls.broke next l) answers.Broken answers.Broken
 
 pub breaks_own : (e : Eui) (next : ℕ) → IsOwnPlan (breaking next) e
 unfolding resting
@@ -205,7 +205,7 @@ module _ (role : Role) (m : Memory) (u s : State StationMemory) (k new : Store) 
   cut_is : over new s ≡ over (cut_in u.store cut) u
   cut_is = ap (λ (n : Store). over n s) (is ∙ ap (λ (n : Store). cut_in n cut) kept) ∙ ap (λ (z : State StationMemory). over (cut_in z.store cut) z) same
 
-  pub cut_took : Took (stays (record (node_in role (holder m u)) { store = record (stored_in u.store) { cut = Some cut } }) said.Set) said.Set nothing
+  pub cut_took : Took (stays (record (node_in role (holder m u)) { store = record (stored_in u.store) { cut = Some cut } }) answers.Set) answers.Set nothing
       (node_in role (holder m (over new s)))
   cut_took = record { answer_is = refl; out_is = refl; node_is = ap (λ (z : State StationMemory). node_in role (holder m z)) cut_is }
 

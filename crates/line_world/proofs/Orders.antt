@@ -21,8 +21,8 @@ use Rattle.line_events.specs.declared.event.TheConstants.{MAX_EVENTS}
 use Rattle.line_events.specs.declared.happenings.Happenings.{Happenings}
 use Rattle.line_rules.specs.Answers.{ordered_word}
 use Rattle.line_rules.specs.Worlds.{World, Trace}
-use Rattle.line_rules.specs.Steps.{Step, admission_by, allowed, allowed_word, at_coordinator, by_coordinator, happened, has_begun, on_meter, on_node}
-use Rattle.line_rules.specs.Steps.{once_begun, ran, world_after, trace_of}
+use Rattle.line_rules.specs.Steps.{Step, admission_by, allowed, allowed_word, at_coordinator, by_coordinator, happenings, has_begun, on_meter, on_node}
+use Rattle.line_rules.specs.Steps.{once_begun, running_world, world_after, trace_of}
 use Rattle.line_world.specs.Bounds.{IsBounded}
 use Rattle.line_world.specs.Finding.{found, found_meter}
 use Rattle.line_world.specs.Steps.{HasMemory, Steps, is_memory}
@@ -174,9 +174,9 @@ about_taken w number at bounds room is k =
     ap is_ok (about_meter (record { begun = meter_begun w number at is; bounds = bounds; room = room }) (is_meter w number at is) (λ x c. Ok (k x c)))
 
 -- what is said of an event at which frames went out, its word being another's
-pub said_with : (w : World) (word answer_word : Answer) (count : ℕ) (h : Happenings) → h ≡ record (happened w answer_word) { flights = count } → answer_word ≡ word
-    → h ≡ record (happened w word) { flights = count }
-said_with w word answer_word count h said is = said ∙ (λ i. record (happened w (is i)) { flights = count })
+pub said_with : (w : World) (word answer_word : Answer) (count : ℕ) (h : Happenings) → h ≡ record (happenings w answer_word) { flights = count } → answer_word ≡ word
+    → h ≡ record (happenings w word) { flights = count }
+said_with w word answer_word count h said is = said ∙ (λ i. record (happenings w (is i)) { flights = count })
 
 -- what is left of an order about a meter that may give something out, after memory was reserved for it
 module _ (w kept new : World) (number at : ℕ) (same : kept ≡ w) (bounds : IsBounded w) (room : w.events < MAX_EVENTS) (is : Ok at ≡ found_meter w number) where
@@ -193,8 +193,8 @@ module _ (w kept new : World) (number at : ℕ) (same : kept ≡ w) (bounds : Is
       → IfSome (slice_get kept.nodes at) (λ x. eui ≡ x.eui)
       → IfSome (slice_get kept.nodes 0) (λ c. Did (acts c (Err orders.Halted) (order c eui)) kept.nodes 0 done out nodes)
       → length out.frames ≤ 24 → length out.tags.made ≤ 2 → answer_word ≡ ordered_word word done
-      → h ≡ record (happened kept answer_word) { flights = length out.frames }
-      → new ≡ after (ran kept) 0 nodes out → Steps true w (Ok h) new (rule w)
+      → h ≡ record (happenings kept answer_word) { flights = length out.frames }
+      → new ≡ after (running_world kept) 0 nodes out → Steps true w (Ok h) new (rule w)
   has_ordered rule word order eui done out nodes answer_word h named eui_is did frames tags word_is said is_new =
       let first = first_there kept runs.begun in
       let own = of_found about.there (λ (x : Node). eui ≡ x.eui) eui_is in
@@ -208,20 +208,20 @@ module _ (w kept new : World) (number at : ℕ) (same : kept ≡ w) (bounds : Is
 pub has_allowed : (w new : World) (number : ℕ) (there : IsThere w 0 0) (k : Node → NodeStep (Result ℕ CoordinatorRefusal))
     (answer : Result ℕ CoordinatorRefusal) (nodes : List Node)
     (h : Happenings) → IsBounded w → w.events < MAX_EVENTS → IfSome (slice_get w.nodes 0) (λ y. Did (k y) w.nodes 0 answer nothing nodes)
-    → h ≡ record (happened w (allowed_word answer)) { grant = admission_by number answer } → new ≡ record (ran w) { nodes = nodes }
+    → h ≡ record (happenings w (allowed_word answer)) { grant = admission_by number answer } → new ≡ record (running_world w) { nodes = nodes }
     → Steps false w (Ok h) new (Ok (allowed network w number (k there.node)))
 has_allowed w new number there k answer nodes h b room did said is =
     let d : Did (k there.node) w.nodes 0 answer nothing nodes = of_found there (λ y. Did (k y) w.nodes 0 answer nothing nodes) did in
-    let all : new ≡ after (ran w) 0 nodes nothing = is
-    ∙ (λ i. record (ran w) { nodes = nodes; flights = sym (append-nil w.flights) i; made = sym (append-nil w.made) i }) in
-    let left : world_after network (ran w) 0 (k there.node) ≡ new = after_is (ran w) 0 (k there.node) nodes nothing d.out_is d.nodes_are ∙ sym all in
+    let all : new ≡ after (running_world w) 0 nodes nothing = is
+    ∙ (λ i. record (running_world w) { nodes = nodes; flights = sym (append-nil w.flights) i; made = sym (append-nil w.made) i }) in
+    let left : world_after network (running_world w) 0 (k there.node) ≡ new = after_is (running_world w) 0 (k there.node) nodes nothing d.out_is d.nodes_are ∙ sym all in
     let same : length nodes ≡ length w.nodes = ap (λ (l : List Node). length l) d.nodes_are ∙ length-set w.nodes 0 (k there.node).node in
-    let trace : Result ℕ CoordinatorRefusal → Trace = λ a. trace_of (record (happened w (allowed_word a)) { grant = admission_by number a }) in
+    let trace : Result ℕ CoordinatorRefusal → Trace = λ a. trace_of (record (happenings w (allowed_word a)) { grant = admission_by number a }) in
     record {
       gives = record {
         trace = trace (k there.node).answer;
         taken = λ i. Ok (left i, trace (k there.node).answer);
-        reported = said ∙ (λ i. (trace (d.answer_is i)).happened);
+        reported = said ∙ (λ i. (trace (d.answer_is i)).happenings);
       };
       memory = tt;
       bounds = subst IsBounded (sym all) (bounded_after w 0 nodes nothing b room same (omega arith) (omega arith));
@@ -229,16 +229,16 @@ has_allowed w new number there k answer nodes h b room did said is =
 
 -- # An event of which there is nothing but a word
 
-pub only_said : (takes : Bool) (w new : World) (answer : Answer) (h : Happenings) → IsBounded w → w.events < MAX_EVENTS → h ≡ happened w answer → new ≡ ran w
-    → Steps takes w (Ok h) new (Ok (ran w, trace_of (happened w answer)))
+pub only_said : (takes : Bool) (w new : World) (answer : Answer) (h : Happenings) → IsBounded w → w.events < MAX_EVENTS → h ≡ happenings w answer → new ≡ running_world w
+    → Steps takes w (Ok h) new (Ok (running_world w, trace_of (happenings w answer)))
 only_said takes w new answer h b room said is = record {
-  gives = record { trace = trace_of (happened w answer); taken = λ i. Ok (sym is i, trace_of (happened w answer)); reported = said };
+  gives = record { trace = trace_of (happenings w answer); taken = λ i. Ok (sym is i, trace_of (happenings w answer)); reported = said };
   memory = by takes;
   bounds = subst IsBounded (sym (is ∙ all)) (bounded_after w 0 w.nodes nothing b room refl (omega arith) (omega arith));
 }
   where
-    all : ran w ≡ after (ran w) 0 w.nodes nothing
-    all = λ i. record (ran w) { flights = sym (append-nil w.flights) i; made = sym (append-nil w.made) i }
+    all : running_world w ≡ after (running_world w) 0 w.nodes nothing
+    all = λ i. record (running_world w) { flights = sym (append-nil w.flights) i; made = sym (append-nil w.made) i }
 
     by : (t : Bool) → HasMemory t (Ok h)
     by true = tt

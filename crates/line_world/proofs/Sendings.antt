@@ -15,7 +15,7 @@ use Rattle.line_events.specs.declared.event.TheConstants.{MAX_EVENTS}
 use Rattle.line_events.specs.declared.happenings.Happenings.{Happenings}
 use Rattle.line_rules.specs.Answers.{sent_word}
 use Rattle.line_rules.specs.Worlds.{World, Trace}
-use Rattle.line_rules.specs.Steps.{happened, is_taken, ran, sending, sent_if}
+use Rattle.line_rules.specs.Steps.{happenings, is_taken, running_world, sending, sent_if}
 use Rattle.line_world.specs.Bounds.{IsBounded}
 use Rattle.line_world.specs.Steps.{Steps, Takes}
 use Rattle.line_world.proofs.Taking.{IsThere, after, node_acted, holds_there}
@@ -82,12 +82,12 @@ pub node_sent : (w new : World) {number found : ℕ} (there : IsThere w number f
     (sent : Result SentHow SendRefusal) (out : Out) (nodes : List Node) (counted : ℕ) (h : Happenings) → IsBounded w → w.events < MAX_EVENTS
     → length out.frames ≤ 24
     → length out.tags.made ≤ 2 → IfSome (slice_get w.nodes found) (λ y. Did (k y) w.nodes found sent out nodes) → counted ≡ bool_byte (is_ok sent)
-    → h ≡ record (happened w (sent_word sent)) { flights = length out.frames } → new ≡ record (after (ran w) found nodes out) { sends = w.sends + counted }
+    → h ≡ record (happenings w (sent_word sent)) { flights = length out.frames } → new ≡ record (after (running_world w) found nodes out) { sends = w.sends + counted }
     → Steps true w (Ok h) new (Ok (sending network w number to datagram tag (answering sent_word (k there.node))))
 node_sent w new {number} {found} there to datagram tag k sent out nodes counted h b room frames tags did count said is =
     let d : Did (k there.node) w.nodes found sent out nodes = holds_there there (λ y. Did (k y) w.nodes found sent out nodes) did in
     let taken : is_ok sent ≡ is_taken (sent_word (k there.node).answer) = sym (taken_as sent) ∙ ap (λ a. is_taken (sent_word a)) d.answer_is in
     let less : w.sends < w.events + 1 = let e = b.sends in omega (arith, e) in
     subst (λ (n : World). Steps true w (Ok h) n (Ok (sending network w number to datagram tag (answering sent_word (k there.node))))) (sym is)
-    (counted_if w (after (ran w) found nodes out) number to datagram tag _ h counted _ less (count ∙ ap bool_byte taken)
-    (node_acted true w (after (ran w) found nodes out) there k sent_word sent out nodes h b room frames tags did said refl))
+    (counted_if w (after (running_world w) found nodes out) number to datagram tag _ h counted _ less (count ∙ ap bool_byte taken)
+    (node_acted true w (after (running_world w) found nodes out) there k sent_word sent out nodes h b room frames tags did said refl))

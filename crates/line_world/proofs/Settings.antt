@@ -33,13 +33,13 @@ use Rattle.node_rules.specs.Plans.{Plan, carry_out, finished, halted}
 use Rattle.node_rules.proofs.Refusals.{orders_refused}
 use Rattle.line_world.specs.NodeOutcomes.{Did}
 use Rattle.reach_rules.specs.ReachingNodes.{Beside, nothing_beside}
-use Rattle.line_events.specs.declared.event.Answer.TheVariants as said
+use Rattle.line_events.specs.declared.event.Answer.TheVariants as answers
 use Rattle.line_events.specs.declared.event.StepFault.{StepFault}
 use Rattle.line_events.specs.declared.event.StepFault.TheVariants as faults
 use Rattle.line_events.specs.declared.event.TheConstants.{MAX_EVENTS}
 use Rattle.line_events.specs.declared.happenings.Happenings.{Happenings}
 use Rattle.line_rules.specs.Worlds.{World, Trace, node_at}
-use Rattle.line_rules.specs.Steps.{Step, at_coordinator, blank_node, coordinator, coordinator_node, depot, depot_at, depot_by, happened, has_begun, in_setup}
+use Rattle.line_rules.specs.Steps.{Step, at_coordinator, blank_node, coordinator, coordinator_node, depot, depot_at, depot_by, happenings, has_begun, in_setup}
 use Rattle.line_rules.specs.Steps.{is_known, issued_by, keeps_rank, made_node, meter, near, near_by, offered_near, on_node, provisioned, psk_of, ranks_full}
 use Rattle.line_rules.specs.Steps.{set_up, takes_setup, world_after, trace_of}
 use Rattle.line_world.specs.Bounds.{IsBounded, IsUncut}
@@ -147,7 +147,7 @@ bounded_setup w nodes b room few uncut = record {
 -- an event of setup that left these nodes
 pub was_set : (takes : Bool) (w new : World) (step : Step) (trace : Trace) (h : Happenings) (nodes : List Node) → IsBounded w → w.events < MAX_EVENTS
     → length nodes ≤ 1000
-    → (w.running ≡ false → All IsUncut nodes) → step ≡ Ok (record (set_up w) { nodes = nodes }, trace) → h ≡ trace.happened
+    → (w.running ≡ false → All IsUncut nodes) → step ≡ Ok (record (set_up w) { nodes = nodes }, trace) → h ≡ trace.happenings
     → new ≡ record (set_up w) { nodes = nodes } → Steps takes w (Ok h) new step
 was_set takes w new step trace h nodes b room few uncut taken world_after is = record {
   gives = record { trace = trace; taken = taken ∙ (λ i. Ok (sym is i, trace)); reported = world_after };
@@ -216,9 +216,9 @@ pub value_set : {A : Type 0} (w new : World) {number found : ℕ} (there : IsThe
     (h : Happenings) → IsBounded w
     → w.events < MAX_EVENTS → true ≡ takes_setup w → ((x : Node) → IsUncut x → IsUncut (d x).node)
     → IfSome (slice_get w.nodes found) (λ x. Did (d x) w.nodes found answer nothing nodes)
-    → h ≡ happened w said.Set → new ≡ record (set_up w) { nodes = nodes }
-    → Steps false w (Ok h) new (in_setup w (on_node w number (λ x. Ok (world_after network (set_up w) number (d x), trace_of (happened w said.Set)))))
-value_set w new {number} {found} there d answer nodes h b room takes keeps did spoken is =
+    → h ≡ happenings w answers.Set → new ≡ record (set_up w) { nodes = nodes }
+    → Steps false w (Ok h) new (in_setup w (on_node w number (λ x. Ok (world_after network (set_up w) number (d x), trace_of (happenings w answers.Set)))))
+value_set w new {number} {found} there d answer nodes h b room takes keeps did node_trace is =
     let x = there.node in
     let own : Did (d x) w.nodes number answer nothing nodes =
     subst (λ n. Did (d x) w.nodes n answer nothing nodes) there.same
@@ -227,9 +227,9 @@ value_set w new {number} {found} there d answer nodes h b room takes keeps did s
     let left : All IsUncut nodes = subst (All IsUncut) (sym own.nodes_are)
     (All-set IsUncut w.nodes number (d x).node (keeps x (uncut_at w.nodes number x uncut there.at)) uncut) in
     let same : length nodes ≡ length w.nodes = ap (λ (ns : List Node). length ns) own.nodes_are ∙ length-set w.nodes number (d x).node in
-    was_set false w new _ (trace_of (happened w said.Set)) h nodes b room (let few = b.nodes in omega (arith, few, same)) (λ running. left)
+    was_set false w new _ (trace_of (happenings w answers.Set)) h nodes b room (let few = b.nodes in omega (arith, few, same)) (λ running. left)
     (in_setup_is w _ takes ∙ at_node w number x _ there.at
-    ∙ ap (λ (v : World). Ok (v, trace_of (happened w said.Set))) (after_quiet (set_up w) number (d x) answer nodes own)) spoken is
+    ∙ ap (λ (v : World). Ok (v, trace_of (happenings w answers.Set))) (after_quiet (set_up w) number (d x) answer nodes own)) node_trace is
 
 -- # depot
 
@@ -290,9 +290,9 @@ module _ (w : World) (number : ℕ) (x c : Node) (psk : Key) (may : MayDepot w n
       → w.events < MAX_EVENTS
       → Did granting w.nodes 0 (Ok g) nothing between
       → IfSome (slice_get between number) (λ y. Did (acts y (Ok tt) (λ m. meters.provision m g)) between number answer nothing nodes)
-      → h ≡ happened w said.Joined → new ≡ record (set_up w) { nodes = nodes } → Steps false w (Ok h) new (depot network w number)
+      → h ≡ happenings w answers.Joined → new ≡ record (set_up w) { nodes = nodes } → Steps false w (Ok h) new (depot network w number)
   unfolding acts world_after
-  was_joined new g answer between nodes h b room first second spoken is =
+  was_joined new g answer between nodes h b room first second node_trace is =
       let other : number ≢ 0 = λ e. absurd (omega (arith, may.above, e)) in
       let at : slice_get between number
       ≡ Some x = ap (λ ns. slice_get ns number) first.nodes_are ∙ slice_get-set_other w.nodes 0 number granting.node other ∙ may.meter in
@@ -307,11 +307,11 @@ module _ (w : World) (number : ℕ) (x c : Node) (psk : Key) (may : MayDepot w n
       let same : length nodes ≡ length w.nodes =
       ap (λ (ns : List Node). length ns) did.nodes_are ∙ length-set between number d.node ∙ ap (λ (ns : List Node). length ns) first.nodes_are
       ∙ length-set w.nodes 0 granting.node in
-      let trace = record (trace_of (happened w said.Joined)) { issued = issued_by x.eui g } in
+      let trace = record (trace_of (happenings w answers.Joined)) { issued = issued_by x.eui g } in
       was_set false w new _ trace h nodes b room (let few = b.nodes in omega (arith, few, same)) (λ running. two)
       (depots ∙ (λ i. depot_by network w number x (record granting { answer = sym first.answer_is i }))
       ∙ ap (λ (v : World). Ok (provisioned network v number x g)) (after_quiet (set_up w) 0 granting (Ok g) between first)
-      ∙ ap (λ (v : World). Ok (v, trace)) (after_quiet (record (set_up w) { nodes = between }) number d answer nodes did)) spoken is
+      ∙ ap (λ (v : World). Ok (v, trace)) (after_quiet (record (set_up w) { nodes = between }) number d answer nodes did)) node_trace is
 
 -- # near
 
@@ -346,9 +346,9 @@ module _ (w : World) (a b cost : ℕ) (x y : Node) (p q : ℕ) (may : MayMeet w 
   pub were_met : (new : World) (one two : Result (Unit {0}) PresetFault) (between nodes : List Node) (h : Happenings) → IsBounded w → w.events < MAX_EVENTS
       → IfSome (slice_get w.nodes a) (λ n. Did (acts n (Ok tt) (λ m. of_station m (calls.preset_near m.station q cost w.clock))) w.nodes a one nothing between)
       → IfSome (slice_get between b) (λ n. Did (acts n (Ok tt) (λ m. of_station m (calls.preset_near m.station p cost w.clock))) between b two nothing nodes)
-      → h ≡ happened w said.Set → new ≡ record (set_up w) { nodes = nodes } → Steps false w (Ok h) new (near network w a b cost)
+      → h ≡ happenings w answers.Set → new ≡ record (set_up w) { nodes = nodes } → Steps false w (Ok h) new (near network w a b cost)
   unfolding offers
-  were_met new one two between nodes h b_holds room at_a at_b spoken is =
+  were_met new one two between nodes h b_holds room at_a at_b node_trace is =
       let d1 = offers x q in
       let d2 = offers y p in
       let did1 : Did d1 w.nodes a one nothing between = subst (λ o. IfSome o (λ n. Did (offers n q) w.nodes a one nothing between)) may.first at_a in
@@ -362,7 +362,7 @@ module _ (w : World) (a b cost : ℕ) (x y : Node) (p q : ℕ) (may : MayMeet w 
       let same : length nodes ≡ length w.nodes =
       ap (λ (ns : List Node). length ns) did2.nodes_are ∙ length-set between b d2.node ∙ ap (λ (ns : List Node). length ns) did1.nodes_are
       ∙ length-set w.nodes a d1.node in
-      let trace = trace_of (happened w said.Set) in
+      let trace = trace_of (happenings w answers.Set) in
       was_set false w new _ trace h nodes b_holds room (let few = b_holds.nodes in omega (arith, few, same)) (λ running. left2)
       (met w a b cost x y may.takes may.first may.second ∙ (λ i. near_by network w a b cost x y (may.first_address i) (may.second_address i))
       ∙ (λ i. if apart i || may.room i then Err faults.Setup
@@ -370,7 +370,7 @@ module _ (w : World) (a b cost : ℕ) (x y : Node) (p q : ℕ) (may : MayMeet w 
       ∙ ap (λ (v : World). Ok (world_after network v b (offered_near y p cost w.clock), trace))
       (after_quiet (set_up w) a (offered_near x q cost w.clock) tt between (quietly (λ _. tt) d1 w.nodes a one nothing between did1))
       ∙ ap (λ (v : World). Ok (v, trace)) (after_quiet (record (set_up w) { nodes = between }) b (offered_near y p cost w.clock) tt nodes
-      (quietly (λ _. tt) d2 between b two nothing nodes did2))) spoken is
+      (quietly (λ _. tt) d2 between b two nothing nodes did2))) node_trace is
 
 -- # coordinator, meter
 
@@ -396,14 +396,14 @@ one_node_more w nodes = record (set_up w) { nodes = nodes; beside = w.beside ++ 
 -- a node was made
 pub was_made : (w new : World) (step : Step) (x : Node) (nodes : List Node) (h : Happenings) → IsBounded w → w.events < MAX_EVENTS → length w.nodes ≤ 999
     → IsUncut x
-    → nodes ≡ w.nodes ++ x ∷ [] → step ≡ Ok (made_node w x) → h ≡ happened w said.Made → new ≡ one_node_more w nodes → Steps true w (Ok h) new step
-was_made w new step x nodes h b room few uncut are made spoken is =
+    → nodes ≡ w.nodes ++ x ∷ [] → step ≡ Ok (made_node w x) → h ≡ happenings w answers.Made → new ≡ one_node_more w nodes → Steps true w (Ok h) new step
+was_made w new step x nodes h b room few uncut are made node_trace is =
     let long : length nodes ≡ length w.nodes + 1 = ap (λ (ns : List Node). length ns) are ∙ length-append w.nodes (x ∷ []) in
     record {
       gives = record {
-        trace = trace_of (happened w said.Made);
-        taken = made ∙ (λ i. Ok (one_node_more w (sym are i), trace_of (happened w said.Made))) ∙ (λ i. Ok (sym is i, trace_of (happened w said.Made)));
-        reported = spoken;
+        trace = trace_of (happenings w answers.Made);
+        taken = made ∙ (λ i. Ok (one_node_more w (sym are i), trace_of (happenings w answers.Made))) ∙ (λ i. Ok (sym is i, trace_of (happenings w answers.Made)));
+        reported = node_trace;
       };
       memory = tt;
       bounds = subst IsBounded (sym is)
@@ -428,12 +428,12 @@ no_nodes w is = none_in w.nodes is
 
 -- the coordinator was made
 pub first_made : (w new : World) (eui : Eui) (key : Key) (nodes : List Node) (h : Happenings) → IsBounded w → w.events < MAX_EVENTS → false ≡ has_begun w
-    → nodes ≡ coordinator_node eui key ∷ [] → h ≡ happened w said.Made → new ≡ one_node_more w nodes → Steps true w (Ok h) new (coordinator w eui key)
-first_made w new eui key nodes h b room none are spoken is =
+    → nodes ≡ coordinator_node eui key ∷ [] → h ≡ happenings w answers.Made → new ≡ one_node_more w nodes → Steps true w (Ok h) new (coordinator w eui key)
+first_made w new eui key nodes h b room none are node_trace is =
     let x = coordinator_node eui key in
     let empty : w.nodes ≡ [] = no_nodes w none in
     was_made w new _ x nodes h b room (omega (arith, ap (λ (ns : List Node). length ns) empty)) (coordinator_uncut eui key)
-    (are ∙ ap (λ (ns : List Node). ns ++ x ∷ []) (sym empty)) (makes_first w eui key none) spoken is
+    (are ∙ ap (λ (ns : List Node). ns ++ x ∷ []) (sym empty)) (makes_first w eui key none) node_trace is
 
 meter_by : (w : World) (eui : Eui) (psk : Key) (takes full known : Bool) → takes_setup w ≡ takes → nat_lt 999 (length w.nodes) ≡ full → is_known w eui ≡ known
     → meter w eui psk ≡ (if not takes || (full || known) then Err faults.Setup else Ok (made_node w (blank_node (Meter psk) eui)))
@@ -463,11 +463,11 @@ makes_meter w eui psk takes room unknown = meter_by w eui psk true false false (
 -- a meter was made
 pub meter_made : (w new : World) (eui : Eui) (psk : Key) (nodes : List Node) (h : Happenings) → IsBounded w → w.events < MAX_EVENTS → true ≡ takes_setup w
     → length w.nodes < 1000
-    → false ≡ is_known w eui → nodes ≡ w.nodes ++ blank_node (Meter psk) eui ∷ [] → h ≡ happened w said.Made → new ≡ one_node_more w nodes
+    → false ≡ is_known w eui → nodes ≡ w.nodes ++ blank_node (Meter psk) eui ∷ [] → h ≡ happenings w answers.Made → new ≡ one_node_more w nodes
     → Steps true w (Ok h) new (meter w eui psk)
-meter_made w new eui psk nodes h b room takes few unknown are spoken is =
+meter_made w new eui psk nodes h b room takes few unknown are node_trace is =
     was_made w new _ (blank_node (Meter psk) eui) nodes h b room (omega (arith, few)) (blank_uncut (Meter psk) eui) are
-    (makes_meter w eui psk takes few unknown) spoken is
+    (makes_meter w eui psk takes few unknown) node_trace is
 
 -- # What the code found
 
@@ -573,13 +573,13 @@ pub depot_granted : {w : World} (new : World) {number found : ℕ} (there : IsTh
     → IfSome (slice_get w.nodes found) (λ x. address ≡ node_address x) → false ≡ is_some address
     → IfSome (slice_get w.nodes found) (λ x. eui ≡ x.eui) → IfSome (slice_get w.nodes found) (λ x. psk_of x ≡ Some psk) → AtFirst w eui psk r between → r ≡ Ok g
     → IfSome (slice_get between found) (λ y. Did (acts y (Ok tt) (λ m. meters.provision m g)) between found answer nothing nodes)
-    → h ≡ happened w said.Joined → new ≡ record (set_up w) { nodes = nodes } → Steps false w (Ok h) new (depot network w number)
-depot_granted {w} new {number} there address eui psk r g answer between nodes h b room takes above at none own pair did ok second spoken is =
+    → h ≡ happenings w answers.Joined → new ≡ record (set_up w) { nodes = nodes } → Steps false w (Ok h) new (depot network w number)
+depot_granted {w} new {number} there address eui psk r g answer between nodes h b room takes above at none own pair did ok second node_trace is =
     was_joined w number there.node (first_there w takes).0 psk (may_depot there address psk takes above at none pair) new g answer between nodes h b room
     (subst (λ (s : Result Granted CoordinatorRefusal). Did
     (acts (first_there w takes).0 (Err orders.Halted) (λ m. coordinator_rules.depot m there.node.eui psk)) w.nodes 0 s nothing between) ok
     (by_first there eui psk r between takes own did))
-    (subst (λ n. IfSome (slice_get between n) (λ y. Did (acts y (Ok tt) (λ m. meters.provision m g)) between n answer nothing nodes)) there.same second) spoken
+    (subst (λ n. IfSome (slice_get between n) (λ y. Did (acts y (Ok tt) (λ m. meters.provision m g)) between n answer nothing nodes)) there.same second) node_trace
     is
 
 -- the list of nodes is as long as before
@@ -633,14 +633,14 @@ near_when : {w : World} {a b x y : ℕ} (there : IsThere w a x) (here : IsThere 
     → near network w a b cost ≡ (if same || full then Err faults.Setup
     else Ok (
       world_after network (world_after network (set_up w) a (offered_near there.node q cost w.clock)) b (offered_near here.node p cost w.clock),
-      trace_of (happened w said.Set),
+      trace_of (happenings w answers.Set),
     ))
 near_when {w} {a} {b} there here cost p q same full takes have s f =
     near_met there here cost takes ∙ (λ i. near_by network w a b cost there.node here.node (have.first i) (have.second i))
     ∙ (λ i. if s i || f i then Err faults.Setup
     else Ok (
       world_after network (world_after network (set_up w) a (offered_near there.node q cost w.clock)) b (offered_near here.node p cost w.clock),
-      trace_of (happened w said.Set),
+      trace_of (happenings w answers.Set),
     ))
 
 is_same : (a b : ℕ) → a ≡ b → (a == b) ≡ true
@@ -680,7 +680,7 @@ near_full {w} {a} {b} there here cost p q r takes have can is =
     ∙ ap (λ (t : Bool). if t then Err faults.Setup
     else Ok (
       world_after network (world_after network (set_up w) a (offered_near there.node q cost w.clock)) b (offered_near here.node p cost w.clock),
-      trace_of (happened w said.Set),
+      trace_of (happenings w answers.Set),
     ))
     (or_full (a == b))
 
@@ -689,8 +689,8 @@ pub near_done : {w : World} (new : World) {a b x y : ℕ} (there : IsThere w a x
     (h : Happenings) → IsBounded w → w.events < MAX_EVENTS → true ≡ takes_setup w → HaveAddresses there here p q → a ≢ b → CanMeet w x y q r → r ≡ true
     → IfSome (slice_get w.nodes x) (λ n. Did (acts n (Ok tt) (λ m. of_station m (calls.preset_near m.station q cost w.clock))) w.nodes x one nothing between)
     → IfSome (slice_get between y) (λ n. Did (acts n (Ok tt) (λ m. of_station m (calls.preset_near m.station p cost w.clock))) between y two nothing nodes)
-    → h ≡ happened w said.Set → new ≡ record (set_up w) { nodes = nodes } → Steps false w (Ok h) new (near network w a b cost)
-near_done {w} new {a} {b} {x} {y} there here cost p q r one two between nodes h bounds room takes have apart can is_true first second spoken is =
+    → h ≡ happenings w answers.Set → new ≡ record (set_up w) { nodes = nodes } → Steps false w (Ok h) new (near network w a b cost)
+near_done {w} new {a} {b} {x} {y} there here cost p q r one two between nodes h bounds room takes have apart can is_true first second node_trace is =
     were_met w a b cost there.node here.node p q
     (record {
       takes = takes;
@@ -706,7 +706,7 @@ near_done {w} new {a} {b} {x} {y} there here cost p q r one two between nodes h 
     (λ k. Did (acts k (Ok tt) (λ m. of_station m (calls.preset_near m.station q cost w.clock))) w.nodes n one nothing between)) there.same first)
     (subst (λ n. IfSome (slice_get between n)
     (λ k. Did (acts k (Ok tt) (λ m. of_station m (calls.preset_near m.station p cost w.clock))) between n two nothing nodes)) here.same second)
-    spoken is
+    node_trace is
 
 pub near_long : {w : World} {a x : ℕ} (there : IsThere w a x) (cost to : ℕ) (one : Result (Unit {0}) PresetFault) (between : List Node)
     → IfSome (slice_get w.nodes x) (λ n. Did (acts n (Ok tt) (λ m. of_station m (calls.preset_near m.station to cost w.clock))) w.nodes x one nothing between)

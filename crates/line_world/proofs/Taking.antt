@@ -18,7 +18,7 @@ use Rattle.line_events.specs.declared.event.StepFault.TheVariants as faults
 use Rattle.line_events.specs.declared.event.TheConstants.{MAX_EVENTS}
 use Rattle.line_events.specs.declared.happenings.Happenings.{Happenings}
 use Rattle.line_rules.specs.Worlds.{World, Flight, Trace, node_at}
-use Rattle.line_rules.specs.Steps.{Step, acted, flight_by, flights_of, happened, has_begun, on_node, once_begun, ran, spoken, world_after}
+use Rattle.line_rules.specs.Steps.{Step, node_outcome, flight_by, flights_of, happenings, has_begun, on_node, once_begun, running_world, node_trace, world_after}
 use Rattle.line_world.specs.Bounds.{IsBounded}
 use Rattle.line_world.specs.Finding.{found}
 use Rattle.line_world.specs.Steps.{Gives, HasMemory, Steps, has_address, is_memory}
@@ -166,7 +166,7 @@ many_given f (x ∷ xs) = ap (λ n. suc n) (many_given f xs)
 
 -- the bounds after an event of no setup kind at which a node gave this out
 pub bounded_after : (w : World) (number : ℕ) (nodes : List Node) (out : Out) → IsBounded w → w.events < MAX_EVENTS → length nodes ≡ length w.nodes
-    → length out.frames ≤ 24 → length out.tags.made ≤ 2 → IsBounded (after (ran w) number nodes out)
+    → length out.frames ≤ 24 → length out.tags.made ≤ 2 → IsBounded (after (running_world w) number nodes out)
 bounded_after w number nodes out b room same frames tags = record {
   events = let e = room in omega (arith, e);
   clock = let e = b.clock in omega (arith, e);
@@ -187,23 +187,23 @@ bounded_after w number nodes out b room same frames tags = record {
 pub node_acted : {A : Type 0} (takes : Bool) (w new : World) {number found : ℕ} (there : IsThere w number found) (k : Node → NodeStep A) (word : A → Answer)
     (answer : A) (out : Out)
     (nodes : List Node) (h : Happenings) → IsBounded w → w.events < MAX_EVENTS → length out.frames ≤ 24 → length out.tags.made ≤ 2
-    → IfSome (slice_get w.nodes found) (λ y. Did (k y) w.nodes found answer out nodes) → h ≡ record (happened w (word answer)) { flights = length out.frames }
-    → new ≡ after (ran w) found nodes out → Steps takes w (Ok h) new (Ok (acted network w number (answering word (k there.node))))
+    → IfSome (slice_get w.nodes found) (λ y. Did (k y) w.nodes found answer out nodes) → h ≡ record (happenings w (word answer)) { flights = length out.frames }
+    → new ≡ after (running_world w) found nodes out → Steps takes w (Ok h) new (Ok (node_outcome network w number (answering word (k there.node))))
 node_acted takes w new {number} {found} there k word answer out nodes h b room frames tags did said is =
     let x = there.node in
     let at : slice_get w.nodes found ≡ Some x = ap (λ n. slice_get w.nodes n) there.same ∙ there.at in
     let d : Did (k x) w.nodes found answer out nodes = subst (λ o. IfSome o (λ y. Did (k y) w.nodes found answer out nodes)) at did in
-    let left : world_after network (ran w) number (answering word (k x)) ≡ new =
-    ap (λ n. world_after network (ran w) n (answering word (k x))) (sym there.same)
-    ∙ after_is (ran w) found (answering word (k x)) nodes out d.out_is d.nodes_are
+    let left : world_after network (running_world w) number (answering word (k x)) ≡ new =
+    ap (λ n. world_after network (running_world w) n (answering word (k x))) (sym there.same)
+    ∙ after_is (running_world w) found (answering word (k x)) nodes out d.out_is d.nodes_are
     ∙ sym is in
     let count : length out.frames ≡ length (k x).frames = ap (λ (o : Out). length o.frames) d.out_is ∙ many_given (spelled network) (k x).frames in
     let same : length nodes ≡ length w.nodes = ap (λ (ns : List Node). length ns) d.nodes_are ∙ length-set w.nodes found (k x).node in
     record {
       gives = record {
-        trace = spoken w (answering word (k x));
-        taken = λ i. Ok (left i, spoken w (answering word (k x)));
-        reported = said ∙ (λ i. record (happened w (word (d.answer_is i))) { flights = count i });
+        trace = node_trace w (answering word (k x));
+        taken = λ i. Ok (left i, node_trace w (answering word (k x)));
+        reported = said ∙ (λ i. record (happenings w (word (d.answer_is i))) { flights = count i });
       };
       memory = by takes;
       bounds = subst IsBounded (sym is) (bounded_after w found nodes out b room same frames tags);
@@ -218,17 +218,17 @@ pub node_answered : {A : Type 0} (takes : Bool) (w new : World) {number found : 
     (answer : A)
     (nodes : List Node) (h : Happenings) → IsBounded w → w.events < MAX_EVENTS
     → IfSome (slice_get w.nodes found) (λ y. Did (k y) w.nodes found answer nothing nodes)
-    → h ≡ happened w (word answer) → new ≡ record (ran w) { nodes = nodes }
-    → Steps takes w (Ok h) new (Ok (acted network w number (answering word (k there.node))))
+    → h ≡ happenings w (word answer) → new ≡ record (running_world w) { nodes = nodes }
+    → Steps takes w (Ok h) new (Ok (node_outcome network w number (answering word (k there.node))))
 node_answered takes w new there k word answer nodes h b room did said is =
     node_acted takes w new there k word answer nothing nodes h b room (omega arith) (omega arith) did said
-    (is ∙ (λ i. record (ran w) { nodes = nodes; flights = sym (append-nil w.flights) i; made = sym (append-nil w.made) i }))
+    (is ∙ (λ i. record (running_world w) { nodes = nodes; flights = sym (append-nil w.flights) i; made = sym (append-nil w.made) i }))
 
 -- the same where the node answers a word of the report itself
 pub node_said : (takes : Bool) (w new : World) {number found : ℕ} (there : IsThere w number found) (k : Node → NodeStep Answer) (answer : Answer)
     (nodes : List Node) (h : Happenings)
-    → IsBounded w → w.events < MAX_EVENTS → IfSome (slice_get w.nodes found) (λ y. Did (k y) w.nodes found answer nothing nodes) → h ≡ happened w answer
-    → new ≡ record (ran w) { nodes = nodes } → Steps takes w (Ok h) new (Ok (acted network w number (k there.node)))
+    → IsBounded w → w.events < MAX_EVENTS → IfSome (slice_get w.nodes found) (λ y. Did (k y) w.nodes found answer nothing nodes) → h ≡ happenings w answer
+    → new ≡ record (running_world w) { nodes = nodes } → Steps takes w (Ok h) new (Ok (node_outcome network w number (k there.node)))
 node_said takes w new there k answer nodes h b room did said is =
     node_answered takes w new there k (λ (a : Answer). a) answer nodes h b room did said is
 
@@ -237,7 +237,7 @@ node_said takes w new there k answer nodes h b room did said is =
 -- the bounds after an event of no setup kind, by what it changed of the world beside counting itself
 pub bounded_by : (w : World) (clock : ℕ) (nodes : List Node) (flights : List Flight) → IsBounded w → w.events < MAX_EVENTS → clock < w.clock + 4294967296
     → length nodes ≡ length w.nodes
-    → length flights ≡ length w.flights → IsBounded (record (ran w) { clock = clock; nodes = nodes; flights = flights })
+    → length flights ≡ length w.flights → IsBounded (record (running_world w) { clock = clock; nodes = nodes; flights = flights })
 bounded_by w clock nodes flights b room time same flown = record {
   events = let e = room in omega (arith, e);
   clock = let e = b.clock in omega (arith, e, time);
@@ -252,7 +252,7 @@ bounded_by w clock nodes flights b room time same flown = record {
 }
 
 -- an event that was taken, by the world that it left and what is said of it
-pub is_taken_so : (takes : Bool) (w new : World) (step : Step) (trace : Trace) (h : Happenings) → step ≡ Ok (new, trace) → h ≡ trace.happened → IsBounded new
+pub is_taken_so : (takes : Bool) (w new : World) (step : Step) (trace : Trace) (h : Happenings) → step ≡ Ok (new, trace) → h ≡ trace.happenings → IsBounded new
     → Steps takes w (Ok h) new step
 is_taken_so takes w new step trace h taken said bounds =
     record { gives = record { trace = trace; taken = taken; reported = said }; memory = by takes; bounds = bounds }
@@ -262,8 +262,8 @@ is_taken_so takes w new step trace h taken said bounds =
     by false = tt
 
 -- an event that changes nothing but what it counts
-pub only_ran : (takes : Bool) (w new : World) (trace : Trace) (h : Happenings) → IsBounded w → w.events < MAX_EVENTS → h ≡ trace.happened → new ≡ ran w
-    → Steps takes w (Ok h) new (Ok (ran w, trace))
+pub only_ran : (takes : Bool) (w new : World) (trace : Trace) (h : Happenings) → IsBounded w → w.events < MAX_EVENTS → h ≡ trace.happenings → new ≡ running_world w
+    → Steps takes w (Ok h) new (Ok (running_world w, trace))
 only_ran takes w new trace h b room said is =
-    is_taken_so takes w new (Ok (ran w, trace)) trace h (λ i. Ok (sym is i, trace)) said
+    is_taken_so takes w new (Ok (running_world w, trace)) trace h (λ i. Ok (sym is i, trace)) said
     (subst IsBounded (sym is) (bounded_by w w.clock w.nodes w.flights b room (omega arith) refl refl))

@@ -58,7 +58,7 @@ use Rattle.reach_rules.specs.Receiving.{NeighbourCommand, command_of, hear_comma
 use Rattle.pan_discovery.specs.Agents.{kth_of}
 use Rattle.line_events.specs.declared.event.Event.{Event}
 use Rattle.line_events.specs.declared.event.Event.TheVariants as events
-use Rattle.line_events.specs.declared.event.Answer.TheVariants as said
+use Rattle.line_events.specs.declared.event.Answer.TheVariants as answers
 use Rattle.line_events.specs.declared.event.StepFault.{StepFault}
 use Rattle.line_events.specs.declared.event.StepFault.TheVariants as faults
 use Rattle.line_events.specs.declared.happenings.Happenings.{Happenings}
@@ -68,9 +68,9 @@ use Rattle.line_rules.specs.Further.{checked, checks, chooses_by, choose as choo
 use Rattle.line_rules.specs.Further.{heard_by, heard_further, injects, is_dropped, line_step, path, restarts_by, restarts_further, scan, scans_by}
 use Rattle.line_rules.specs.Further.{sends_nothing, set_beside, ticks, with_check}
 use Rattle.line_rules.specs.Forgery.{accepting}
-use Rattle.line_rules.specs.Steps.{Step, activate, activate_at, allow, allowed, breaks, breaks_by, challenge, coordinator, cut, depot, depot_by, happened}
+use Rattle.line_rules.specs.Steps.{Step, activate, activate_at, allow, allowed, breaks, breaks_by, challenge, coordinator, cut, depot, depot_by, happenings}
 use Rattle.line_rules.specs.Steps.{has_begun, hears, heard, identity, in_setup, is_known, join, joins_by, keeps_rank, kick, leave, lose, meter, near, near_by}
-use Rattle.line_rules.specs.Steps.{note_by, on_flight, on_meter, on_node, once_begun, preset, psk_of, rand, ran, ranks_full, rekey, send, sends_by, sent_if}
+use Rattle.line_rules.specs.Steps.{note_by, on_flight, on_meter, on_node, once_begun, preset, psk_of, rand, running_world, ranks_full, rekey, send, sends_by, sent_if}
 use Rattle.line_rules.specs.Steps.{set_up, show, takes_setup, tick, ticked, world_after, trace_of}
 use Rattle.line_rules.specs.Worlds.{Flight, Trace, World, flight_at, node_at}
 use Rattle.line_world.specs.Bounds.{HasNoChecks, NoneChecked}
@@ -310,8 +310,8 @@ module _ (ciphers : Ciphers) (w : World) (h : NoneChecked w) where
       (λ x. branch x.lost (Err faults.Flight) (f x) tt (k x)) tt
 
   -- one node acts
-  acts_in : {A : Type 0} (number : ℕ) (d : NodeStep A) → NoneChecked (world_after ciphers (ran w) number d)
-  acts_in number d = after_unchecked ciphers (ran w) number d h
+  acts_in : {A : Type 0} (number : ℕ) (d : NodeStep A) → NoneChecked (world_after ciphers (running_world w) number d)
+  acts_in number d = after_unchecked ciphers (running_world w) number d h
 
   -- # Setup
 
@@ -440,12 +440,12 @@ module _ (ciphers : Ciphers) (w : World) (h : NoneChecked w) where
   bcast_in : (number : ℕ) (datagram : List ℕ) → Kept (bcast ciphers w number datagram)
   unfolding bcast
   bcast_in number datagram = once _ (at_node number _ (λ x.
-      reached_in ciphers (ran w) number x (Err broadcasts.Halted) (λ y. broadcast in_memory y datagram) _ h
+      reached_in ciphers (running_world w) number x (Err broadcasts.Halted) (λ y. broadcast in_memory y datagram) _ h
       (λ m b none. broadcasts_left (record { memory = m; beside = b }) none datagram)))
 
   asks_in : (number : ℕ) (x : Node) (target : Option ℕ) → NoneChecked (asks_by ciphers w number x target).0
   asks_in number x None = h
-  asks_in number x (Some target) = reached_in ciphers (ran w) number x (Err asks.Halted) (λ y. ask_path in_memory y target) _ h
+  asks_in number x (Some target) = reached_in ciphers (running_world w) number x (Err asks.Halted) (λ y. ask_path in_memory y target) _ h
       (λ m b none. asks_left (record { memory = m; beside = b }) none target)
 
   path_in_world : (from to : ℕ) → Kept (path ciphers w from to)
@@ -462,7 +462,7 @@ module _ (ciphers : Ciphers) (w : World) (h : NoneChecked w) where
 
   chooses_in : (number : ℕ) (x : Node) (k : ℕ) (psk : Option Key) → NoneChecked (chooses_by ciphers w number x k psk).0
   chooses_in number x k None = h
-  chooses_in number x k (Some psk) = reached_in ciphers (ran w) number x (Err choices.Halted) (λ y. choose_agent (identity ciphers x psk) y k w.clock) _ h
+  chooses_in number x k (Some psk) = reached_in ciphers (running_world w) number x (Err choices.Halted) (λ y. choose_agent (identity ciphers x psk) y k w.clock) _ h
       (λ m b none. chooses_left (record { memory = m; beside = b }) none (identity ciphers x psk) k w.clock)
 
   choose_in : (number k : ℕ) → Kept (choose_event ciphers w number k)
@@ -543,7 +543,7 @@ module _ (ciphers : Ciphers) (w : World) (h : NoneChecked w) where
   ticks_in seconds = by_start (has_begun w)
     where
       by_start : (b : Bool) → Kept (after_ok (λ r. (record r.0 { beside = map (tick_beside (w.clock + seconds)) w.beside }, r.1))
-          (if b then Ok (record (ran w) { clock = w.clock + seconds; nodes = map (ticked (w.clock + seconds)) w.nodes }, trace_of (happened w said.Ticked))
+          (if b then Ok (record (running_world w) { clock = w.clock + seconds; nodes = map (ticked (w.clock + seconds)) w.nodes }, trace_of (happenings w answers.Ticked))
           else Err faults.Setup))
       by_start true = λ off. ticked_none (w.clock + seconds) w.beside (h off)
       by_start false = tt
@@ -553,8 +553,8 @@ module _ (ciphers : Ciphers) (w : World) (h : NoneChecked w) where
   restarted_none (Err bad) b e = absurd (cc (e))
 
   restarts_in : (number : ℕ) (x : Node) (o : Result Beside BadStore) → restarted x.store.records ≡ o → NoneChecked (restarts_by ciphers w number x o).0
-  restarts_in number x (Ok b) e = both_unchecked ciphers (ran w) number _ b h (λ off. restarted_none (logs.opened x.store.records) b e)
-  restarts_in number x (Err bad) e = both_unchecked ciphers (ran w) number _ nothing_beside h (λ off. refl)
+  restarts_in number x (Ok b) e = both_unchecked ciphers (running_world w) number _ b h (λ off. restarted_none (logs.opened x.store.records) b e)
+  restarts_in number x (Err bad) e = both_unchecked ciphers (running_world w) number _ nothing_beside h (λ off. refl)
 
   restart_in : (number : ℕ) → Kept (restarts_further ciphers w number)
   unfolding restarts_further
@@ -592,7 +592,7 @@ module _ (ciphers : Ciphers) (w : World) (h : NoneChecked w) where
 
 -- so it is after an event, taken or not
 pub still_none : (w v : World) (event : Event) (r : Result Happenings StepFault) → NoneChecked w → Gives w r v (line_step network w event) → NoneChecked v
-still_none w v event (Ok happened) h g = subst Kept g.taken (line_in network w h event)
+still_none w v event (Ok happenings) h g = subst Kept g.taken (line_in network w h event)
 still_none w v event (Err faults.Memory) h g = subst NoneChecked (sym g.1) h
 still_none w v event (Err faults.Setup) h g = subst NoneChecked (sym g.1) h
 still_none w v event (Err faults.Node) h g = subst NoneChecked (sym g.1) h

@@ -25,12 +25,12 @@ use Rattle.reach_rules.specs.CheckedReplies.{checks_after}
 use Rattle.reach_rules.specs.Receiving.{NeighbourCommand, command_of}
 use Rattle.line_events.specs.declared.event.Event.{Event}
 use Rattle.line_events.specs.declared.event.Event.TheVariants as events
-use Rattle.line_events.specs.declared.event.Answer.TheVariants as said
+use Rattle.line_events.specs.declared.event.Answer.TheVariants as answers
 use Rattle.line_rules.specs.Logs.{CommandsAreOctets}
 use Rattle.line_rules.specs.Further.{acknowledging, beside_at, checked, commanded, is_dropped, set_beside}
 use Rattle.line_rules.specs.Answers.{frame_word, only, Reception}
 use Rattle.line_rules.specs.Worlds.{Flight, World, Trace, start, is_forged_tag}
-use Rattle.line_rules.specs.Steps.{flight_by, forged_by, happened, hears, note_by, number_if, number_of, ran, received, trace_of}
+use Rattle.line_rules.specs.Steps.{flight_by, forged_by, happenings, hears, note_by, number_if, number_of, running_world, received, trace_of}
 
 -- a world after its setup: a node that looked at octets may have lost power
 abbrev pub in_run : World → World
@@ -92,7 +92,7 @@ heard_so ciphers w number x got origin cost None =
 
 -- the request of a listed neighbour was dropped
 abbrev pub unbelieved_so : Ciphers → World → ℕ → Node → Origin → World × Trace
-unbelieved_so ciphers w number x origin = received_so ciphers w number origin (stays x (only said.Blacklisted))
+unbelieved_so ciphers w number x origin = received_so ciphers w number origin (stays x (only answers.Blacklisted))
 
 -- a node with further reach hears a frame that it accepted, of this origin
 abbrev pub heard_further_so : Ciphers → World → ℕ → Node → Accepted → Origin → ℕ → World × Trace
@@ -103,7 +103,7 @@ heard_further_so ciphers w number x got origin cost =
 -- a node has looked at octets of this origin
 abbrev pub comes_so : Ciphers → World → ℕ → Node → Result Accepted FrameRefusal → Origin → ℕ → World × Trace
 comes_so ciphers w number x (Ok got) origin cost = heard_further_so ciphers w number x got origin cost
-comes_so ciphers w number x (Err reason) origin cost = (ran w, trace_of (happened w (frame_word reason)))
+comes_so ciphers w number x (Err reason) origin cost = (running_world w, trace_of (happenings w (frame_word reason)))
 
 -- a datagram that was handed up
 abbrev pub handed_in : ℕ → Option HandedUp → Option Handed
@@ -119,7 +119,7 @@ done_in w done = option_map (λ (eui : Eui). number_of w eui) done
 
 -- what is left of a frame that a node heard, by what the node answered and gave out
 abbrev pub left_of : World → ℕ → Out → Bool → receiving.Reception → World
-left_of w number out forged reported = record (ran w) {
+left_of w number out forged reported = record (running_world w) {
   flights = w.flights ++ map (flight_by number) out.frames;
   made = w.made ++ out.tags.made;
   ups = number_if (is_some reported.up) w.ups;
@@ -128,8 +128,8 @@ left_of w number out forged reported = record (ran w) {
 }
 
 -- what is said of it
-abbrev pub said_of : World → ℕ → Out → Bool → receiving.Reception → Happenings
-said_of w number out forged reported = record (happened w reported.answer) {
+abbrev pub reception_happenings : World → ℕ → Out → Bool → receiving.Reception → Happenings
+reception_happenings w number out forged reported = record (happenings w reported.answer) {
   forged = forged;
   up = handed_in number reported.up;
   took = taker_in number reported.took;

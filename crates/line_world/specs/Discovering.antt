@@ -12,15 +12,15 @@ use Rattle.reach_rules.specs.Beacons.{chosen, hear_beacon, hear_discovery_in, ta
 use Rattle.reach_rules.specs.Beacons as beacons
 use Rattle.reach_rules.specs.ReachingNodes.{Beside}
 use Rattle.line_events.specs.declared.event.Answer.{Answer}
-use Rattle.line_events.specs.declared.event.Answer.TheVariants as said
+use Rattle.line_events.specs.declared.event.Answer.TheVariants as answers
 use Rattle.line_rules.specs.Answers.{discovery_word, join_word}
 use Rattle.line_rules.specs.Further.{agent_line, beacon_taken, beside_at, discovery_flights, has_discovered, set_beside}
-use Rattle.line_rules.specs.Steps.{happened, identity, ran, spoken, world_after, trace_of}
+use Rattle.line_rules.specs.Steps.{happenings, identity, running_world, node_trace, world_after, trace_of}
 use Rattle.line_rules.specs.Worlds.{World, Trace}
 
 -- a frame of discovery flies, and the event counts
 abbrev pub flies_in : World → ℕ → Option Discovery → World
-flies_in w number frame = record (ran w) { flights = w.flights ++ discovery_flights number frame }
+flies_in w number frame = record (running_world w) { flights = w.flights ++ discovery_flights number frame }
 
 -- what a node that is not halted makes of a frame
 abbrev pub discovers_in : World → ℕ → Role → StationMemory → Option Discovery → (link : ℕ) → World × Trace
@@ -30,7 +30,7 @@ discovers_in w number role l frame link =
 
 -- what a node makes of it
 abbrev pub discovered_by : World → ℕ → Node → Option Memory → Option Discovery → (link : ℕ) → World × Trace
-discovered_by w number x None frame link = (ran w, trace_of (happened w said.Halted))
+discovered_by w number x None frame link = (running_world w, trace_of (happenings w answers.Halted))
 discovered_by w number x (Some m) frame link = discovers_in w number x.role m.station frame link
 
 abbrev pub discovered_in : World → ℕ → Node → Option Discovery → (link : ℕ) → World × Trace
@@ -55,9 +55,9 @@ pub record TakesBeacon (w : World) (number : ℕ) (b : Beside) (from cost link :
 abbrev pub joins_in : World → ℕ → Node → Key → (address total : ℕ) → World × Trace
 joins_in w number x psk address total =
     let d = acts x (Err joins.Halted) (λ m. meters.join (identity network x psk) m address w.clock) in
-    let trace = spoken w (answering join_word d) in (
-      world_after network (ran w) number d,
+    let trace = node_trace w (answering join_word d) in (
+      world_after network (running_world w) number d,
       record trace {
-        happened = record trace.happened { agent = agent_line number (chosen (record { address = address; total = total }) d.answer) };
+        happenings = record trace.happenings { agent = agent_line number (chosen (record { address = address; total = total }) d.answer) };
       },
     )

@@ -12,10 +12,10 @@ use Rattle.line_rules.specs.Steps.{Step}
 use Rattle.line_world.specs.Bounds.{IsBounded}
 
 -- The event was taken: the world is the one after it, and what happened is what the report says of it.
-pub record Takes (happened : Happenings) (new : World) (step : Step) : Type 0 where
+pub record Takes (happenings : Happenings) (new : World) (step : Step) : Type 0 where
   pub trace : Trace
   pub taken : step ≡ Ok (new, trace)
-  pub reported : happened ≡ trace.happened
+  pub reported : happenings ≡ trace.happenings
 
 -- What a call answered is what the step says, or memory ran out for an event that the rules take. After a fault nothing has changed.
 abbrev pub Gives : World → Result Happenings StepFault → World → Step → Type 0

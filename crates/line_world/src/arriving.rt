@@ -11,7 +11,7 @@ ghost use Rattle.line_rules.specs.Further as further;
 ghost use Rattle.line_rules.specs.Logs.{LogsKept};
 ghost use Rattle.line_rules.specs.Worlds.{is_forged_tag};
 ghost use Rattle.line_world.specs.Receiving.{MayHear};
-ghost use Rattle.line_world.specs.Arrivals.{comes_so, done_in, forged_in, handed_in, hears_so, in_run, left_of, note_in, said_of, taker_in};
+ghost use Rattle.line_world.specs.Arrivals.{comes_so, done_in, forged_in, handed_in, hears_so, in_run, left_of, note_in, reception_happenings, taker_in};
 ghost use Rattle.line_world.specs.Arrivals.{BringsOctets};
 ghost use Rattle.line_world.specs.Bounds.{IsBounded};
 ghost use Rattle.line_world.specs.Lines.{HasRoom, world_of};
@@ -165,12 +165,12 @@ impl Line {
         requires bounds { IsBounded (in_run (world_of self.old)) }
         requires events { self.old.events < MAX_EVENTS }
         ensures world { world_of self.new ≡ left_of (world_of self.old) node self.old.out forged reported.now }
-        ensures reported { result ≡ said_of (world_of self.old) node self.old.out forged reported.now }
+        ensures reported { result ≡ reception_happenings (world_of self.old) node self.old.out forged reported.now }
         ensures frames { length self.old.out.frames ≤ MOST_FRAMES }
         ensures tags { length self.old.out.tags.made ≤ 2 }
     {
         let done = self.number_done(reported.done);
-        let happened = self.acted(node, reported.answer);
+        let happenings = self.node_outcome(node, reported.answer);
         self.count(reported, forged);
         Happenings {
             answer: reported.answer,
@@ -183,8 +183,8 @@ impl Line {
             took: taker(node, reported.took),
             done,
             shown: None,
-            first_flight: happened.first_flight,
-            flights: happened.flights,
+            first_flight: happenings.first_flight,
+            flights: happenings.flights,
         }
     }
 

@@ -87,10 +87,10 @@ impl Line {
         requires events { self.old.events < MAX_EVENTS }
         requires there { node < length self.old.nodes }
         ensures world { world_of self.new ≡ flies_in (world_of self.old) node (Some frame.now) }
-        ensures reported { result ≡ record (rules.happened (world_of self.old) answer) { flights = 1 } }
+        ensures reported { result ≡ record (rules.happenings (world_of self.old) answer) { flights = 1 } }
     {
         give_out(frame, &mut self.out);
-        self.acted(node, answer)
+        self.node_outcome(node, answer)
     }
 
     // A request is answered by a node that has an address.
@@ -241,9 +241,9 @@ impl Line {
     {
         let asked = self.nodes.join(node, address, self.clock, &mut self.out);
         let agent = agent_of(node, address, total, &asked);
-        let happened = self.acted(node, choice_word(asked));
+        let happenings = self.node_outcome(node, choice_word(asked));
         Happenings {
-            answer: happened.answer,
+            answer: happenings.answer,
             forged: false,
             up: None,
             bup: None,
@@ -253,8 +253,8 @@ impl Line {
             took: None,
             done: None,
             shown: None,
-            first_flight: happened.first_flight,
-            flights: happened.flights,
+            first_flight: happenings.first_flight,
+            flights: happenings.flights,
         }
     }
 

@@ -222,7 +222,7 @@ impl Line {
         }
         self.set_up();
         self.checks_on = true;
-        Ok(self.happened(Answer::Set))
+        Ok(self.happenings(Answer::Set))
     }
 
     /// A node sends a datagram to all.
@@ -247,7 +247,7 @@ impl Line {
             &mut self.body,
             &mut self.out,
         );
-        Ok(self.acted(number, broadcast_word(sent)))
+        Ok(self.node_outcome(number, broadcast_word(sent)))
     }
 
     /// A node asks for the way to a node.
@@ -272,7 +272,7 @@ impl Line {
             &mut self.body,
             &mut self.out,
         );
-        Ok(self.acted(from, ask_word(asked)))
+        Ok(self.node_outcome(from, ask_word(asked)))
     }
 
     // The request of a listed neighbour is dropped.
@@ -334,20 +334,20 @@ impl Line {
             &mut self.body,
             &mut self.out,
         );
-        let happened = self.received(node, forged, &reported);
+        let happenings = self.received(node, forged, &reported);
         Happenings {
             answer: commanded.answer,
             forged,
-            up: happened.up,
+            up: happenings.up,
             bup: commanded.bup,
             agent: None,
             path: commanded.path,
             grant: None,
-            took: happened.took,
-            done: happened.done,
+            took: happenings.took,
+            done: happenings.done,
             shown: None,
-            first_flight: happened.first_flight,
-            flights: happened.flights,
+            first_flight: happenings.first_flight,
+            flights: happenings.flights,
         }
     }
 

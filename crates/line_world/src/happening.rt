@@ -20,9 +20,9 @@ const MAX_TAGS: usize = 2;
 
 impl Line {
     /// Nothing but an answer.
-    pub(crate) fn happened(&self, answer: Answer) -> Happenings<'static>
+    pub(crate) fn happenings(&self, answer: Answer) -> Happenings<'static>
         requires flights { length self.now.flights.flights < u32.MAX }
-        ensures { result ≡ rules.happened (world_of self.now) answer }
+        ensures { result ≡ rules.happenings (world_of self.now) answer }
     {
         Happenings {
             answer,
@@ -49,7 +49,7 @@ impl Line {
     }
 
     /// Counts an event of another kind than setup that was taken.
-    pub(crate) fn ran(&mut self)
+    pub(crate) fn count_event(&mut self)
         requires events { self.old.events < MAX_EVENTS }
         ensures { self.new ≡ record self.old { events = self.old.events + 1; running = true } }
     {
@@ -62,10 +62,10 @@ impl Line {
         requires events { self.old.events < MAX_EVENTS }
         requires flights { length self.old.flights.flights < u32.MAX }
         ensures line { self.new ≡ record self.old { events = self.old.events + 1; running = true } }
-        ensures reported { result ≡ rules.happened (world_of self.old) answer }
+        ensures reported { result ≡ rules.happenings (world_of self.old) answer }
     {
-        self.ran();
-        self.happened(answer)
+        self.count_event();
+        self.happenings(answer)
     }
 
     /// Reserves the memory for what an event may add to flights and tags. Nothing changes of the world.
@@ -105,25 +105,25 @@ impl Line {
     }
 
     /// Records what a node did: in the world, and in the happenings for the report.
-    pub(crate) fn acted(&mut self, node: usize, answer: Answer) -> Happenings<'static>
+    pub(crate) fn node_outcome(&mut self, node: usize, answer: Answer) -> Happenings<'static>
         requires room { HasRoom self.old }
         requires node { node < 1000 }
         requires events { self.old.events < MAX_EVENTS }
         requires flights { length self.old.flights.flights + MOST_FRAMES ≤ u32.MAX }
         requires made { length self.old.made.tags + 2 ≤ u32.MAX }
-        ensures world { world_of self.new ≡ record (rules.ran (world_of self.old)) {
+        ensures world { world_of self.new ≡ record (rules.running_world (world_of self.old)) {
           flights = self.old.flights.flights ++ map (rules.flight_by node) self.old.out.frames;
           made = self.old.made.tags ++ self.old.out.tags.made;
         } }
-        ensures reported { result ≡ record (rules.happened (world_of self.old) answer) {
+        ensures reported { result ≡ record (rules.happenings (world_of self.old) answer) {
           flights = length self.old.out.frames;
         } }
         ensures frames { length self.old.out.frames ≤ MOST_FRAMES }
         ensures tags { length self.old.out.tags.made ≤ 2 }
     {
-        let mut happened = self.answered(answer);
-        happened.flights = self.fly(node);
-        happened
+        let mut happenings = self.answered(answer);
+        happenings.flights = self.fly(node);
+        happenings
     }
 
     /// Whether there is a coordinator.

@@ -77,12 +77,12 @@ impl Line {
         let (eui, psk) = (self.nodes.eui(number), self.nodes.psk(number));
         match self.nodes.allow(eui, &psk) {
             Ok(address) => {
-                let mut happened = self.answered(Answer::Allowed);
-                happened.grant = Some(Admission {
+                let mut happenings = self.answered(Answer::Allowed);
+                happenings.grant = Some(Admission {
                     node: number as u16,
                     address,
                 });
-                Ok(happened)
+                Ok(happenings)
             }
             Err(reason) => Ok(self.answered(order_word(reason))),
         }
@@ -114,7 +114,7 @@ impl Line {
         };
         self.reserve()?;
         let asked = self.nodes.join(number, address, self.clock, &mut self.out);
-        Ok(self.acted(number, join_word(asked)))
+        Ok(self.node_outcome(number, join_word(asked)))
     }
 
     /// A meter leaves.

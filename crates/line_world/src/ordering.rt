@@ -55,7 +55,7 @@ impl Line {
         self.reserve()?;
         let eui = self.nodes.eui(number);
         let done = self.nodes.challenge(eui, self.clock, &mut self.out);
-        Ok(self.acted(0, ordered_word(Answer::Challenged, done)))
+        Ok(self.node_outcome(0, ordered_word(Answer::Challenged, done)))
     }
 
     /// Another key is to seal, at the coordinator or, by an order, at a meter.
@@ -77,7 +77,7 @@ impl Line {
         self.reserve()?;
         let eui = self.nodes.eui(number);
         let done = self.nodes.activate(eui, index, self.clock, &mut self.out);
-        Ok(self.acted(0, ordered_word(Answer::Ordered, done)))
+        Ok(self.node_outcome(0, ordered_word(Answer::Ordered, done)))
     }
 
     /// The coordinator shuts a meter out.
@@ -91,6 +91,6 @@ impl Line {
         self.reserve()?;
         let eui = self.nodes.eui(number);
         let done = self.nodes.kick(eui, &mut self.out);
-        Ok(self.acted(0, ordered_word(Answer::Kicked, done)))
+        Ok(self.node_outcome(0, ordered_word(Answer::Kicked, done)))
     }
 }

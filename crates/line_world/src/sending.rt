@@ -58,7 +58,7 @@ impl Line {
             &mut self.out,
         );
         self.sends += u32::from(sent.is_ok());
-        Ok(self.acted(from, sent_word(sent)))
+        Ok(self.node_outcome(from, sent_word(sent)))
     }
 
     /// The link of a node to another one breaks.

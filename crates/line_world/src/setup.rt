@@ -41,7 +41,7 @@ impl Line {
         }
         self.hold_beside();
         self.set_up();
-        Ok(self.happened(Answer::Made))
+        Ok(self.happenings(Answer::Made))
     }
 
     /// One node more holds what a new one holds beside its memory. Memory for it was reserved.
@@ -77,7 +77,7 @@ impl Line {
         }
         self.hold_beside();
         self.set_up();
-        Ok(self.happened(Answer::Made))
+        Ok(self.happenings(Answer::Made))
     }
 
     /// Joins a meter in the workshop.
@@ -103,7 +103,7 @@ impl Line {
         };
         let _ = self.nodes.provision(number, &grant);
         self.set_up();
-        Ok(self.happened(Answer::Joined))
+        Ok(self.happenings(Answer::Joined))
     }
 
     /// Whether two nodes can be made neighbours: the first keeps no rank of the second one's address, and both have room
@@ -156,7 +156,7 @@ impl Line {
         let _ = self.nodes.preset_near(x, q, cost, self.clock);
         let _ = self.nodes.preset_near(y, p, cost, self.clock);
         self.set_up();
-        Ok(self.happened(Answer::Set))
+        Ok(self.happenings(Answer::Set))
     }
 
     /// Sets the next frame counter of a node.
@@ -176,7 +176,7 @@ impl Line {
         let number = self.node(node)?;
         let _ = self.nodes.preset_counter(number, value);
         self.set_up();
-        Ok(self.happened(Answer::Set))
+        Ok(self.happenings(Answer::Set))
     }
 
     /// Sets the last own number of a node.
@@ -193,6 +193,6 @@ impl Line {
         let number = self.node(node)?;
         let _ = self.nodes.preset_number(number, value);
         self.set_up();
-        Ok(self.happened(Answer::Set))
+        Ok(self.happenings(Answer::Set))
     }
 }

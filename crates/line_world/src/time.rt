@@ -112,7 +112,7 @@ impl Line {
     {
         let number = self.node(node)?;
         self.nodes.show(number, &mut buffers.shown);
-        let happened = self.answered(Answer::Shown);
+        let happenings = self.answered(Answer::Shown);
         Ok(Happenings {
             answer: Answer::Shown,
             forged: false,
@@ -124,7 +124,7 @@ impl Line {
             took: None,
             done: None,
             shown: Some(ShownRef::new(&buffers.shown)),
-            first_flight: happened.first_flight,
+            first_flight: happenings.first_flight,
             flights: 0,
         })
     }

@@ -6,7 +6,7 @@ use Rattle.node_rules.specs.Memory.{Memory}
 use Rattle.node_rules.specs.Coordinators as coordinator_rules
 use Rattle.node_rules.specs.declared.refusal.CoordinatorRefusal.{CoordinatorRefusal}
 use Rattle.node_rules.specs.declared.refusal.CoordinatorRefusal.TheVariants as refusals
-use Rattle.line_events.specs.declared.event.Answer.TheVariants as said
+use Rattle.line_events.specs.declared.event.Answer.TheVariants as answers
 use Rattle.line_events.specs.declared.event.Event.{Event}
 use Rattle.line_events.specs.declared.event.Event.TheVariants.{Coordinator, Meter, Depot, Near, Counter, Allow, Rand, Join, Leave, Send, Deliver, Inject, Lose}
 use Rattle.line_events.specs.declared.event.Event.TheVariants.{Break, Tick, Cut, Rekey, Activate, Challenge, Kick, Show}
@@ -35,13 +35,13 @@ calls_at_halted =
 -- A halted node answers so before all else, and has no address for others.
 unfoldable pub HaltedNodesDoNothing : Type 0
 HaltedNodesDoNothing =
-    (answers_after 8 both_halted ≡ said.Store ∷ said.Store ∷ [])
+    (answers_after 8 both_halted ≡ answers.Store ∷ answers.Store ∷ [])
     × (answers_to both_halted calls_at_halted
-    ≡ said.Halted ∷ said.NoAddress ∷ said.NoAddress ∷ said.Halted ∷ said.NoAddress ∷ said.Halted ∷ said.NoAddress
-    ∷ said.NoAddress ∷ said.Halted ∷ said.Halted ∷ said.Halted
-    ∷ said.Halted ∷ said.Halted ∷ said.Halted ∷ said.Halted ∷ said.Halted ∷ said.Halted ∷ said.Halted ∷ said.Halted
-    ∷ said.Halted
-    ∷ said.Ticked ∷ said.Set ∷ said.Shown ∷ [])
+    ≡ answers.Halted ∷ answers.NoAddress ∷ answers.NoAddress ∷ answers.Halted ∷ answers.NoAddress ∷ answers.Halted ∷ answers.NoAddress
+    ∷ answers.NoAddress ∷ answers.Halted ∷ answers.Halted ∷ answers.Halted
+    ∷ answers.Halted ∷ answers.Halted ∷ answers.Halted ∷ answers.Halted ∷ answers.Halted ∷ answers.Halted ∷ answers.Halted ∷ answers.Halted
+    ∷ answers.Halted
+    ∷ answers.Ticked ∷ answers.Set ∷ answers.Shown ∷ [])
     × (shown_at_last (run plain start (both_halted ++ calls_at_halted)) ≡ Some (record {
       halted = true;
       address = None;
@@ -74,19 +74,19 @@ calls_about_addresses =
 unfoldable pub CallsNeedAddresses : Type 0
 CallsNeedAddresses =
     answers_to one_not_joined calls_about_addresses
-    ≡ said.NotJoined ∷ said.NotJoined ∷ said.NoAddress ∷ said.NoAddress ∷ said.ToSelf ∷ said.BadSize ∷ said.BadSize
-    ∷ said.NoAddress ∷ said.Broken ∷ said.NoAddress ∷ said.AlreadyJoined ∷ said.NoAddress ∷ said.Asked ∷ said.NotJoined
-    ∷ said.Left ∷ said.NotJoined ∷ said.NotAllowed ∷ said.NotAllowed ∷ said.NotAllowed ∷ []
+    ≡ answers.NotJoined ∷ answers.NotJoined ∷ answers.NoAddress ∷ answers.NoAddress ∷ answers.ToSelf ∷ answers.BadSize ∷ answers.BadSize
+    ∷ answers.NoAddress ∷ answers.Broken ∷ answers.NoAddress ∷ answers.AlreadyJoined ∷ answers.NoAddress ∷ answers.Asked ∷ answers.NotJoined
+    ∷ answers.Left ∷ answers.NotJoined ∷ answers.NotAllowed ∷ answers.NotAllowed ∷ answers.NotAllowed ∷ []
 
 -- # Random values
 
 -- A node holds eight random values, takes the oldest first, and keeps them when it leaves.
 unfoldable pub EightRandomValuesAreHeld : Type 0
 EightRandomValuesAreHeld =
-    (answers_to one_meter (replicate 9 (Rand 1 rand_k)) ≡ replicate 8 said.Given ++ (said.RandomsFull ∷ []))
-    × (answers_to one_meter (replicate 9 (Rand 0 rand_k)) ≡ replicate 8 said.Given ++ (said.RandomsFull ∷ []))
+    (answers_to one_meter (replicate 9 (Rand 1 rand_k)) ≡ replicate 8 answers.Given ++ (answers.RandomsFull ∷ []))
+    × (answers_to one_meter (replicate 9 (Rand 0 rand_k)) ≡ replicate 8 answers.Given ++ (answers.RandomsFull ∷ []))
     × (answers_to one_meter (replicate 8 (Rand 1 rand_k) ++ (Leave 1 ∷ Rand 1 rand_k ∷ []))
-    ≡ replicate 8 said.Given ++ (said.Left ∷ said.RandomsFull ∷ []))
+    ≡ replicate 8 answers.Given ++ (answers.Left ∷ answers.RandomsFull ∷ []))
 
 -- # A full book
 

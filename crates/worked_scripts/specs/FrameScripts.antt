@@ -3,7 +3,7 @@ use Rattle.std.specs.Prelude.{◌≡◌, ℕ, true, false, List, [], ◌∷◌, 
 use Rattle.byteorder.specs.Endian.{big_bytes}
 use Rattle.mesh_header.specs.declared.unit.Unit.TheVariants.{Local}
 use Rattle.loadng_messages.specs.declared.message.Message.TheVariants.{Rreq, Rerr}
-use Rattle.line_events.specs.declared.event.Answer.TheVariants as said
+use Rattle.line_events.specs.declared.event.Answer.TheVariants as answers
 use Rattle.line_events.specs.declared.event.Event.{Event}
 use Rattle.line_events.specs.declared.event.Event.TheVariants.{Coordinator, Meter, Depot, Near, Allow, Rand, Join, Send, Deliver, Inject, Lose}
 use Rattle.line_rules.specs.Worlds.{start}
@@ -22,7 +22,7 @@ forging = two_meters ++ (Near 1 2 3 ∷ Inject 2 1 (sealed 2 1 9 (whole 14 1 2 (
 -- A frame with the right key that nobody sent is handed up under the note 0, and named as forged.
 unfoldable pub AForgedFrameIsNamed : Type 0
 AForgedFrameIsNamed =
-    (answers_after 6 forging ≡ said.Up ∷ [])
+    (answers_after 6 forging ≡ answers.Up ∷ [])
     × (handed_at_last (run plain start forging) ≡ Some (record { node = 2; note = 0; octets = 0 ∷ [] }))
     × (forged_at_last (run plain start forging) ≡ true)
     × (counts_of forging ≡ record { events = 7; flights = 0; sends = 0; ups = 1; forged = 1 })
@@ -36,7 +36,7 @@ lost_and_injected =
 -- Octets that a node sent are not forged, also where their flight was lost; their note is the flight's.
 unfoldable pub ALostFrameIsNotForged : Type 0
 ALostFrameIsNotForged =
-    (answers_after 8 lost_and_injected ≡ said.Up ∷ [])
+    (answers_after 8 lost_and_injected ≡ answers.Up ∷ [])
     × (handed_at_last (run plain start lost_and_injected) ≡ Some (record { node = 2; note = 1; octets = 0xaa ∷ [] }))
     × (forged_at_last (run plain start lost_and_injected) ≡ false)
 
@@ -82,9 +82,9 @@ malicious =
 unfoldable pub MaliciousFramesAreRefused : Type 0
 MaliciousFramesAreRefused =
     (answers_after 5 malicious
-    ≡ said.Malformed ∷ said.NoKey ∷ said.NotForMe ∷ said.NotForMe ∷ said.BadUnit ∷ said.BadUnit ∷ said.Carried
-    ∷ said.BadUnit ∷ said.NoSession ∷ said.Form ∷ said.Declined ∷ said.NoSession
-    ∷ said.Declined ∷ said.NotAllowed ∷ said.NoSession ∷ said.NoRandom ∷ said.BadUnit ∷ [])
+    ≡ answers.Malformed ∷ answers.NoKey ∷ answers.NotForMe ∷ answers.NotForMe ∷ answers.BadUnit ∷ answers.BadUnit ∷ answers.Carried
+    ∷ answers.BadUnit ∷ answers.NoSession ∷ answers.Form ∷ answers.Declined ∷ answers.NoSession
+    ∷ answers.Declined ∷ answers.NotAllowed ∷ answers.NoSession ∷ answers.NoRandom ∷ answers.BadUnit ∷ [])
     × (counts_of malicious ≡ record { events = 22; flights = 3; sends = 0; ups = 0; forged = 1 })
 
 -- # Whom a frame is for
@@ -117,7 +117,7 @@ for_others =
 unfoldable pub FramesHaveTheirNodes : Type 0
 FramesHaveTheirNodes =
     answers_to two_of_three for_others
-    ≡ replicate 8 said.NotForMe ++ (said.NoKey ∷ said.Noted ∷ said.BadTag ∷ said.NotForMe ∷ [])
+    ≡ replicate 8 answers.NotForMe ++ (answers.NoKey ∷ answers.Noted ∷ answers.BadTag ∷ answers.NotForMe ∷ [])
 
 -- # Units that go to all
 
@@ -139,7 +139,7 @@ units_out_of_place =
 -- A sealed frame to all carries no unit over the mesh, a sealed one to a neighbour no joining command, and a plain one nothing else.
 unfoldable pub UnitsHaveTheirPaths : Type 0
 UnitsHaveTheirPaths =
-    (answers_to two_meters units_out_of_place ≡ replicate 10 said.BadUnit)
+    (answers_to two_meters units_out_of_place ≡ replicate 10 answers.BadUnit)
     × (counts_of (two_meters ++ units_out_of_place)
     ≡ record { events = 15; flights = 0; sends = 0; ups = 0; forged = 9 })
 

@@ -3,7 +3,7 @@ use Rattle.std.specs.Prelude.{◌≡◌, ℕ, false, List, [], ◌∷◌, ◌++�
 use Rattle.byteorder.specs.Endian.{big_bytes}
 use Rattle.mesh_header.specs.declared.unit.Unit.TheVariants.{Part, Carried}
 use Rattle.loadng_messages.specs.declared.message.Message.TheVariants.{Rerr}
-use Rattle.line_events.specs.declared.event.Answer.TheVariants as said
+use Rattle.line_events.specs.declared.event.Answer.TheVariants as answers
 use Rattle.line_events.specs.declared.event.Event.{Event}
 use Rattle.line_events.specs.declared.event.Event.TheVariants.{Near, Counter, Send, Deliver, Inject, Lose, Break, Show}
 use Rattle.line_events.specs.declared.event.StepFault.TheVariants as faults
@@ -22,7 +22,7 @@ one_hop =
 -- A datagram over one hop is handed up, and its repeat is refused.
 unfoldable pub ARepeatIsRefused : Type 0
 ARepeatIsRefused =
-    (answers_after 5 one_hop ≡ said.Set ∷ said.Sent ∷ said.Up ∷ said.Replayed ∷ [])
+    (answers_after 5 one_hop ≡ answers.Set ∷ answers.Sent ∷ answers.Up ∷ answers.Replayed ∷ [])
     × (counts_of one_hop ≡ record { events = 9; flights = 1; sends = 1; ups = 1; forged = 0 })
 
 -- # Datagrams of every size
@@ -38,7 +38,7 @@ sizes =
 -- A datagram of 375 octets goes whole, a longer one goes in pieces, and a piece that was overtaken on one hop is refused.
 unfoldable pub DatagramsOfEverySize : Type 0
 DatagramsOfEverySize =
-    (answers_after 6 sizes ≡ said.Sent ∷ said.Sent ∷ said.Sent ∷ said.BadSize ∷ said.Held ∷ said.Replayed ∷ [])
+    (answers_after 6 sizes ≡ answers.Sent ∷ answers.Sent ∷ answers.Sent ∷ answers.BadSize ∷ answers.Held ∷ answers.Replayed ∷ [])
     × (counts_of sizes ≡ record { events = 12; flights = 7; sends = 3; ups = 0; forged = 0 })
 
 -- # Discovery over two relays
@@ -59,11 +59,11 @@ sought_anew = discovery ++ (Break 1 2 ∷ Send 1 4 (0xbb ∷ []) ∷ [])
 unfoldable pub DiscoveryOverTwoRelays : Type 0
 DiscoveryOverTwoRelays =
     (answers_after 9 discovery
-    ≡ said.Waiting ∷ said.Relayed ∷ said.Relayed ∷ said.Answered ∷ said.NotBetter ∷ said.Relayed ∷ said.Learned
-    ∷ said.Relayed ∷ said.Up ∷ [])
+    ≡ answers.Waiting ∷ answers.Relayed ∷ answers.Relayed ∷ answers.Answered ∷ answers.NotBetter ∷ answers.Relayed ∷ answers.Learned
+    ∷ answers.Relayed ∷ answers.Up ∷ [])
     × (handed_at_last (run plain start discovery) ≡ Some (record { node = 4; note = 1; octets = 0xaa ∷ [] }))
     × (counts_of discovery ≡ record { events = 18; flights = 7; sends = 1; ups = 1; forged = 0 })
-    × (answers_after 18 sought_anew ≡ said.Broken ∷ said.Waiting ∷ [])
+    × (answers_after 18 sought_anew ≡ answers.Broken ∷ answers.Waiting ∷ [])
     × (counts_of sought_anew ≡ record { events = 20; flights = 8; sends = 2; ups = 1; forged = 0 })
 
 -- # A broken route stays broken
@@ -79,8 +79,8 @@ broken =
 unfoldable pub ABrokenRouteStaysBroken : Type 0
 ABrokenRouteStaysBroken =
     (answers_after 7 broken
-    ≡ said.Waiting ∷ said.Relayed ∷ said.Answered ∷ said.Relayed ∷ said.Broken ∷ said.Sent ∷ said.Reported
-    ∷ said.Broken ∷ said.NotBetter ∷ said.Shown ∷ [])
+    ≡ answers.Waiting ∷ answers.Relayed ∷ answers.Answered ∷ answers.Relayed ∷ answers.Broken ∷ answers.Sent ∷ answers.Reported
+    ∷ answers.Broken ∷ answers.NotBetter ∷ answers.Shown ∷ [])
     × (shown_at_last (run plain start broken) ≡ Some (record {
       halted = false;
       address = Some 1;
@@ -105,7 +105,7 @@ lost =
 -- A flight that was lost is not there any more.
 unfoldable pub ALostFlightComesNoMore : Type 0
 ALostFlightComesNoMore =
-    (answers_after 15 lost ≡ said.Lost ∷ []) × (fault_after lost (Deliver 1 1 9) ≡ Some faults.Flight)
+    (answers_after 15 lost ≡ answers.Lost ∷ []) × (fault_after lost (Deliver 1 1 9) ≡ Some faults.Flight)
 
 -- # Hops that are left
 
@@ -116,9 +116,9 @@ with_hops hops = three_meters ++ (Near 1 2 1 ∷ Inject 1 1 (sealed 1 3 9 (whole
 -- A unit goes on with one hop less while it has two, and its hops are spelled in their shortest form.
 unfoldable pub AUnitGoesOnWhileHopsAreLeft : Type 0
 AUnitGoesOnWhileHopsAreLeft =
-    (answers_after 8 (with_hops 0) ≡ said.HopsSpent ∷ [])
-    × (answers_after 8 (with_hops 1) ≡ said.HopsSpent ∷ [])
-    × (answers_after 8 (with_hops 2) ≡ said.Relayed ∷ [])
+    (answers_after 8 (with_hops 0) ≡ answers.HopsSpent ∷ [])
+    × (answers_after 8 (with_hops 1) ≡ answers.HopsSpent ∷ [])
+    × (answers_after 8 (with_hops 2) ≡ answers.Relayed ∷ [])
     × (octets_of (with_hops 2) 1 ≡ Some (sealed 2 1 0 (whole 1 3 2 (0xaa ∷ []))))
     × (octets_of (with_hops 15) 1
     ≡ Some (big_bytes 15 0x6998001d7802000100_0d0000000000
@@ -139,7 +139,7 @@ other_units =
 -- Pieces and joining commands for another node go on as datagrams do, unread.
 unfoldable pub EveryUnitGoesOn : Type 0
 EveryUnitGoesOn =
-    (answers_after 8 other_units ≡ said.Relayed ∷ said.Relayed ∷ [])
+    (answers_after 8 other_units ≡ answers.Relayed ∷ answers.Relayed ∷ [])
     × (octets_of other_units 1
     ≡ Some (sealed 2 1 0
     (Part (record { hops = 13; origin = 3; to = 2 })
@@ -156,11 +156,11 @@ without_route hops origin =
 -- A unit that can't go on is reported to its origin, where a route leads there and it is another node; no hop need be left to it.
 unfoldable pub AUnitWithoutARouteIsReported : Type 0
 AUnitWithoutARouteIsReported =
-    (answers_after 8 (without_route 14 3) ≡ said.Reported ∷ [])
+    (answers_after 8 (without_route 14 3) ≡ answers.Reported ∷ [])
     × (octets_of (without_route 14 3) 1 ≡ Some (sealed 3 1 0 (routing_unit (Rerr 2 3))))
-    × (answers_after 8 (without_route 0 3) ≡ said.Reported ∷ [])
-    × (answers_after 8 (without_route 14 0) ≡ said.NoRoute ∷ [])
-    × (answers_after 8 (without_route 14 1) ≡ said.NoRoute ∷ [])
+    × (answers_after 8 (without_route 0 3) ≡ answers.Reported ∷ [])
+    × (answers_after 8 (without_route 14 0) ≡ answers.NoRoute ∷ [])
+    × (answers_after 8 (without_route 14 1) ≡ answers.NoRoute ∷ [])
     × (counts_of (without_route 14 1) ≡ record { events = 9; flights = 0; sends = 0; ups = 0; forged = 1 })
 
 -- two routes, and so many counters gone
@@ -173,11 +173,11 @@ GoingOnTakesACounter =
     (answers_to (counters_gone 4294967295)
     (Inject 1 1 (sealed 1 3 9 (whole 2 3 2 (0xaa ∷ []))) ∷ Inject 1 1 (sealed 1 3 10 (whole 1 3 2 (0xaa ∷ [])))
     ∷ Inject 1 1 (sealed 1 3 11 (whole 2 3 0 (0xaa ∷ []))) ∷ [])
-    ≡ said.CounterSpent ∷ said.HopsSpent ∷ said.CounterSpent ∷ [])
+    ≡ answers.CounterSpent ∷ answers.HopsSpent ∷ answers.CounterSpent ∷ [])
     × (answers_to (counters_gone 4294967294)
     (Inject 1 1 (sealed 1 3 9 (whole 2 3 2 (0xaa ∷ []))) ∷ Inject 1 1 (sealed 1 3 10 (whole 2 3 2 (0xaa ∷ [])))
     ∷ [])
-    ≡ said.Relayed ∷ said.CounterSpent ∷ [])
+    ≡ answers.Relayed ∷ answers.CounterSpent ∷ [])
 
 -- # Route errors
 
@@ -189,19 +189,19 @@ error_by by lost to =
 -- A route error ends the route to the lost address where it goes by the neighbour, keeps its rank, and goes on to another target.
 unfoldable pub AnErrorGoesOnToItsTarget : Type 0
 AnErrorGoesOnToItsTarget =
-    (answers_after 9 (error_by 2 2 3) ≡ said.Broken ∷ [])
+    (answers_after 9 (error_by 2 2 3) ≡ answers.Broken ∷ [])
     × (octets_of (error_by 2 2 3) 1 ≡ Some (sealed 3 1 0 (routing_unit (Rerr 2 3))))
     × (route_at (error_by 2 2 3) 1 2 ≡ None)
     × (rank_at (error_by 2 2 3) 1 2 ≡ Some (record { number = 1; cost = 1 }))
     × (route_at (error_by 2 2 3) 1 3 ≡ Some 3)
     × (route_at (error_by 2 0 3) 1 2 ≡ Some 2)
-    × (answers_after 9 (error_by 3 2 3) ≡ said.Broken ∷ [])
+    × (answers_after 9 (error_by 3 2 3) ≡ answers.Broken ∷ [])
     × (octets_of (error_by 3 2 3) 1 ≡ Some (sealed 3 1 0 (routing_unit (Rerr 2 3))))
     × (route_at (error_by 3 2 3) 1 2 ≡ Some 2)
-    × (answers_after 9 (error_by 2 2 1) ≡ said.Broken ∷ [])
+    × (answers_after 9 (error_by 2 2 1) ≡ answers.Broken ∷ [])
     × (route_at (error_by 2 2 1) 1 2 ≡ None)
     × (counts_of (error_by 2 2 1) ≡ record { events = 10; flights = 0; sends = 0; ups = 0; forged = 1 })
-    × (answers_after 9 (error_by 2 2 0) ≡ said.Broken ∷ [])
+    × (answers_after 9 (error_by 2 2 0) ≡ answers.Broken ∷ [])
     × (counts_of (error_by 2 2 0) ≡ record { events = 10; flights = 0; sends = 0; ups = 0; forged = 1 })
 
 -- an error for another node, and one for the node itself, where no counter is left
@@ -211,9 +211,9 @@ error_without_counters = counters_gone 4294967295 ++ (Inject 1 1 (sealed 1 2 9 (
 -- An error that can't go on is refused and ends no route; one that need not go on takes no counter.
 unfoldable pub AnErrorThatGoesOnTakesACounter : Type 0
 AnErrorThatGoesOnTakesACounter =
-    (answers_after 10 error_without_counters ≡ said.CounterSpent ∷ [])
+    (answers_after 10 error_without_counters ≡ answers.CounterSpent ∷ [])
     × (route_at error_without_counters 1 2 ≡ Some 2)
-    × (answers_to error_without_counters (Inject 1 1 (sealed 1 2 10 (routing_unit (Rerr 2 1))) ∷ []) ≡ said.Broken ∷ [])
+    × (answers_to error_without_counters (Inject 1 1 (sealed 1 2 10 (routing_unit (Rerr 2 1))) ∷ []) ≡ answers.Broken ∷ [])
 
 -- a route error of the coordinator's to meter 1, sealed by nobody, whose lost address is its target
 abbrev pub error_for : ℕ → List ℕ
@@ -231,12 +231,12 @@ error_by_its_hop = two_meters ++ (Near 0 1 1 ∷ Inject 1 1 (error_for 0) ∷ []
 -- the sender, none is left, and no frame goes out.
 unfoldable pub AnErrorForItsTargetGoesOn : Type 0
 AnErrorForItsTargetGoesOn =
-    (answers_after 6 error_by_another ≡ said.Broken ∷ [])
+    (answers_after 6 error_by_another ≡ answers.Broken ∷ [])
     × (octets_of error_by_another 1 ≡ Some (sealed 2 1 0 (routing_unit (Rerr 2 2))))
     × (counts_of error_by_another ≡ record { events = 7; flights = 1; sends = 0; ups = 0; forged = 1 })
     × (answers_after 6 (two_meters ++ (Near 1 2 1 ∷ Counter 1 4294967295 ∷ Inject 1 1 (error_for 2) ∷ []))
-    ≡ said.Set ∷ said.CounterSpent ∷ [])
-    × (answers_after 6 error_by_its_hop ≡ said.Broken ∷ [])
+    ≡ answers.Set ∷ answers.CounterSpent ∷ [])
+    × (answers_after 6 error_by_its_hop ≡ answers.Broken ∷ [])
     × (counts_of error_by_its_hop ≡ record { events = 7; flights = 0; sends = 0; ups = 0; forged = 1 })
 
 -- # What is shown

@@ -7,7 +7,7 @@ use Rattle.plc_base.specs.Grant.{Granted}
 use Rattle.eap_psk.specs.Messages as packets
 use Rattle.eap_psk.specs.declared.server.Server.{Server}
 use Rattle.eap_psk.specs.declared.peer.Peer.{Peer}
-use Rattle.line_events.specs.declared.event.Answer.TheVariants as said
+use Rattle.line_events.specs.declared.event.Answer.TheVariants as answers
 use Rattle.line_events.specs.declared.event.Event.{Event}
 use Rattle.line_events.specs.declared.event.Event.TheVariants.{Coordinator, Meter, Depot, Near, Counter, Number, Allow, Rand, Join, Deliver, Inject, Tick, Cut}
 use Rattle.line_events.specs.declared.event.Event.TheVariants.{Activate, Challenge, Kick}
@@ -36,13 +36,13 @@ joined = joining ++ (Deliver 5 0 1 ∷ Activate 1 0 ∷ [])
 unfoldable pub AMeterJoinsOverTheAir : Type 0
 AMeterJoinsOverTheAir =
     (answers_after 2 joining
-    ≡ said.Allowed ∷ said.Given ∷ said.Given ∷ said.Asked ∷ said.Challenged ∷ said.Replied ∷ said.Keyed ∷ said.Took
-    ∷ said.Done ∷ said.Noted ∷ [])
+    ≡ answers.Allowed ∷ answers.Given ∷ answers.Given ∷ answers.Asked ∷ answers.Challenged ∷ answers.Replied ∷ answers.Keyed ∷ answers.Took
+    ∷ answers.Done ∷ answers.Noted ∷ [])
     × (admissions (run plain start joining) ≡ record { node = 1; address = 1 } ∷ [])
     × (takers (run plain start joining) ≡ 1 ∷ [])
     × (doers (run plain start joining) ≡ 1 ∷ [])
     × (counts_of joining ≡ record { events = 12; flights = 6; sends = 0; ups = 0; forged = 0 })
-    × (answers_after 12 joined ≡ said.NoSession ∷ said.Ordered ∷ [])
+    × (answers_after 12 joined ≡ answers.NoSession ∷ answers.Ordered ∷ [])
 
 -- a third packet of an earlier session
 abbrev pub joining_again : List Event
@@ -52,7 +52,7 @@ joining_again =
 
 -- A meter that has asked again hears only what answers that: the third packet of its earlier session is refused.
 unfoldable pub AnOldThirdPacketIsRefused : Type 0
-AnOldThirdPacketIsRefused = answers_after 13 joining_again ≡ said.Replied ∷ said.OtherSession ∷ []
+AnOldThirdPacketIsRefused = answers_after 13 joining_again ≡ answers.Replied ∷ answers.OtherSession ∷ []
 
 -- the joining of a meter and a coordinator that have no counter and no own number left
 abbrev pub joining_without_counters : List Event
@@ -66,7 +66,7 @@ joining_without_counters =
 unfoldable pub PlainFramesTakeNoCounter : Type 0
 PlainFramesTakeNoCounter =
     answers_after 10 joining_without_counters
-    ≡ said.Challenged ∷ said.Replied ∷ said.Keyed ∷ said.Took ∷ said.Done ∷ said.Noted ∷ []
+    ≡ answers.Challenged ∷ answers.Replied ∷ answers.Keyed ∷ answers.Took ∷ answers.Done ∷ answers.Noted ∷ []
 
 -- # Through an agent
 
@@ -83,9 +83,9 @@ by_agent =
 unfoldable pub AMeterJoinsThroughAnAgent : Type 0
 AMeterJoinsThroughAnAgent =
     (answers_after 9 by_agent
-    ≡ said.Carried ∷ said.Challenged ∷ said.Carried ∷ said.Replied ∷ said.Carried ∷ said.Keyed ∷ said.Carried
-    ∷ said.Took ∷ said.Carried ∷ said.Done ∷ said.Carried
-    ∷ said.Noted ∷ [])
+    ≡ answers.Carried ∷ answers.Challenged ∷ answers.Carried ∷ answers.Replied ∷ answers.Carried ∷ answers.Keyed ∷ answers.Carried
+    ∷ answers.Took ∷ answers.Carried ∷ answers.Done ∷ answers.Carried
+    ∷ answers.Noted ∷ [])
     × (admissions (run plain start by_agent) ≡ record { node = 2; address = 2 } ∷ [])
     × (takers (run plain start by_agent) ≡ 2 ∷ [])
     × (doers (run plain start by_agent) ≡ 2 ∷ [])
@@ -102,16 +102,16 @@ challenged = asking ++ (Deliver 1 0 1 ∷ [])
 unfoldable pub ASessionEndsAfterTwoMinutes : Type 0
 ASessionEndsAfterTwoMinutes =
     (answers_to challenged (Tick 119 ∷ Deliver 2 1 1 ∷ Deliver 3 0 1 ∷ Tick 119 ∷ Deliver 4 1 1 ∷ [])
-    ≡ said.Ticked ∷ said.Replied ∷ said.Keyed ∷ said.Ticked ∷ said.Took ∷ [])
-    × (answers_to challenged (Tick 120 ∷ Deliver 2 1 1 ∷ []) ≡ said.Ticked ∷ said.NoSession ∷ [])
+    ≡ answers.Ticked ∷ answers.Replied ∷ answers.Keyed ∷ answers.Ticked ∷ answers.Took ∷ [])
+    × (answers_to challenged (Tick 120 ∷ Deliver 2 1 1 ∷ []) ≡ answers.Ticked ∷ answers.NoSession ∷ [])
     × (answers_to challenged (Tick 119 ∷ Deliver 2 1 1 ∷ Deliver 3 0 1 ∷ Tick 120 ∷ Deliver 4 1 1 ∷ [])
-    ≡ said.Ticked ∷ said.Replied ∷ said.Keyed ∷ said.Ticked ∷ said.NoSession ∷ [])
+    ≡ answers.Ticked ∷ answers.Replied ∷ answers.Keyed ∷ answers.Ticked ∷ answers.NoSession ∷ [])
     × (answers_to challenged (Deliver 2 1 1 ∷ Tick 119 ∷ Deliver 3 0 1 ∷ Deliver 4 1 1 ∷ Deliver 5 0 1 ∷ [])
-    ≡ said.Replied ∷ said.Ticked ∷ said.Keyed ∷ said.Took ∷ said.Done ∷ [])
+    ≡ answers.Replied ∷ answers.Ticked ∷ answers.Keyed ∷ answers.Took ∷ answers.Done ∷ [])
     × (answers_to challenged (Deliver 2 1 1 ∷ Tick 119 ∷ Deliver 3 0 1 ∷ Deliver 4 1 1 ∷ Tick 1 ∷ Deliver 5 0 1 ∷ [])
-    ≡ said.Replied ∷ said.Ticked ∷ said.Keyed ∷ said.Took ∷ said.Ticked ∷ said.NoSession ∷ [])
+    ≡ answers.Replied ∷ answers.Ticked ∷ answers.Keyed ∷ answers.Took ∷ answers.Ticked ∷ answers.NoSession ∷ [])
     × (answers_to challenged (Deliver 2 1 1 ∷ Tick 120 ∷ Deliver 3 0 1 ∷ [])
-    ≡ said.Replied ∷ said.Ticked ∷ said.NoSession ∷ [])
+    ≡ answers.Replied ∷ answers.Ticked ∷ answers.NoSession ∷ [])
 
 -- # Challenges that are refused
 
@@ -137,8 +137,8 @@ ChallengesAreJudgedInOrder =
     ∷ challenge_by 0 first_packet ∷ challenge_by 0 first_packet ∷ challenge_by 0 (big_bytes 6 0x40)
     ∷ Inject 1 1 (down_frame 2 1 (said_of 4 2 [])) ∷ Inject 1 1 (down_frame 2 0 (said_of 4 2 []))
     ∷ challenge_by 0 (big_bytes 6 0x40) ∷ [])
-    ≡ said.NoSession ∷ said.NoRandom ∷ said.Given ∷ said.Form ∷ said.Form ∷ said.Form
-    ∷ said.Replied ∷ said.NoRandom ∷ said.Form ∷ said.NoSession ∷ said.Declined ∷ said.NoSession ∷ []
+    ≡ answers.NoSession ∷ answers.NoRandom ∷ answers.Given ∷ answers.Form ∷ answers.Form ∷ answers.Form
+    ∷ answers.Replied ∷ answers.NoRandom ∷ answers.Form ∷ answers.NoSession ∷ answers.Declined ∷ answers.NoSession ∷ []
 
 -- # Packets that no node made
 
@@ -161,12 +161,12 @@ replied = challenged ++ (Deliver 2 1 1 ∷ [])
 -- A pair tag that no node made is named as forged where the node found it right, also where its store fails then; a wrong one is refused.
 unfoldable pub AForgedGrantIsNamed : Type 0
 AForgedGrantIsNamed =
-    (answers_to replied (forged_third pair_key ∷ []) ≡ said.Took ∷ [])
+    (answers_to replied (forged_third pair_key ∷ []) ≡ answers.Took ∷ [])
     × (forged_at_last (run plain start (replied ++ (forged_third pair_key ∷ []))) ≡ true)
-    × (answers_to replied (Cut 1 1 false ∷ forged_third pair_key ∷ []) ≡ said.Set ∷ said.Store ∷ [])
+    × (answers_to replied (Cut 1 1 false ∷ forged_third pair_key ∷ []) ≡ answers.Set ∷ answers.Store ∷ [])
     × (forged_at_last (run plain start (replied ++ (Cut 1 1 false ∷ forged_third pair_key ∷ []))) ≡ true)
     × (takers (run plain start (replied ++ (Cut 1 1 false ∷ forged_third pair_key ∷ []))) ≡ [])
-    × (answers_to replied (forged_third second_key ∷ []) ≡ said.BadMac ∷ [])
+    × (answers_to replied (forged_third second_key ∷ []) ≡ answers.BadMac ∷ [])
     × (forged_at_last (run plain start (replied ++ (forged_third second_key ∷ []))) ≡ false)
 
 -- the meter's end of the joining
@@ -181,11 +181,11 @@ answer_by packet = Inject 0 1 (up_frame 0 2 (said_of 1 2 packet))
 -- is refused and not named.
 unfoldable pub AForgedAnswerIsNamed : Type 0
 AForgedAnswerIsNamed =
-    (answers_to challenged (answer_by (plain_second pair_key 1 peer) ∷ []) ≡ said.Keyed ∷ [])
+    (answers_to challenged (answer_by (plain_second pair_key 1 peer) ∷ []) ≡ answers.Keyed ∷ [])
     × (forged_at_last (run plain start (challenged ++ (answer_by (plain_second pair_key 1 peer) ∷ []))) ≡ true)
     × (counts_of (challenged ++ (answer_by (plain_second pair_key 1 peer) ∷ []))
     ≡ record { events = 8; flights = 3; sends = 0; ups = 0; forged = 1 })
-    × (answers_to challenged (answer_by (plain_second second_key 1 peer) ∷ []) ≡ said.BadMac ∷ [])
+    × (answers_to challenged (answer_by (plain_second second_key 1 peer) ∷ []) ≡ answers.BadMac ∷ [])
     × (forged_at_last (run plain start (challenged ++ (answer_by (plain_second second_key 1 peer) ∷ []))) ≡ false)
 
 -- second packets without their form, with another identifier, of another session and another meter, and under another pair key; a right one, and
@@ -215,10 +215,10 @@ third_packets =
 unfoldable pub PacketsAreChecked : Type 0
 PacketsAreChecked =
     (answers_to challenged answers_of_a_meter
-    ≡ said.Form ∷ said.Form ∷ said.OtherSession ∷ said.OtherSession ∷ said.BadMac ∷ said.Keyed ∷ said.Form ∷ said.Form
-    ∷ said.OtherSession ∷ said.BadChannel ∷ said.Done ∷ said.NoSession ∷ [])
+    ≡ answers.Form ∷ answers.Form ∷ answers.OtherSession ∷ answers.OtherSession ∷ answers.BadMac ∷ answers.Keyed ∷ answers.Form ∷ answers.Form
+    ∷ answers.OtherSession ∷ answers.BadChannel ∷ answers.Done ∷ answers.NoSession ∷ [])
     × (answers_to replied third_packets
-    ≡ said.Form ∷ said.OtherSession ∷ said.BadMac ∷ said.BadChannel ∷ said.NoSuccess ∷ said.Took ∷ said.BadUnit
+    ≡ answers.Form ∷ answers.OtherSession ∷ answers.BadMac ∷ answers.BadChannel ∷ answers.NoSuccess ∷ answers.Took ∷ answers.BadUnit
     ∷ [])
 
 -- # As many sessions as there is room for
@@ -236,12 +236,12 @@ eight_sessions =
 -- The coordinator has eight sessions at most; room is judged before random values, and a meter with a session needs none. A kick makes room.
 unfoldable pub EightSessionsAreOpen : Type 0
 EightSessionsAreOpen =
-    (answers_after 27 eight_sessions ≡ replicate 8 said.Challenged)
+    (answers_after 27 eight_sessions ≡ replicate 8 answers.Challenged)
     × (answers_to eight_sessions
     (asks 10 ∷ Challenge 9 ∷ asks 2 ∷ Challenge 1 ∷ Rand 0 rand_k ∷ asks 10 ∷ asks 2 ∷ Kick 1 ∷ asks 10
     ∷ Rand 0 rand_k ∷ asks 10 ∷ [])
-    ≡ said.SessionsFull ∷ said.SessionsFull ∷ said.NoRandom ∷ said.NoRandom ∷ said.Given ∷ said.SessionsFull
-    ∷ said.Challenged ∷ said.Kicked ∷ said.NoRandom ∷ said.Given ∷ said.Challenged ∷ [])
+    ≡ answers.SessionsFull ∷ answers.SessionsFull ∷ answers.NoRandom ∷ answers.NoRandom ∷ answers.Given ∷ answers.SessionsFull
+    ∷ answers.Challenged ∷ answers.Kicked ∷ answers.NoRandom ∷ answers.Given ∷ answers.Challenged ∷ [])
 
 -- # Kicked without a command
 
@@ -252,5 +252,5 @@ kicked_unaware = joining ++ (Kick 1 ∷ Join 1 0 ∷ [])
 -- A meter that was kicked without a route knows nothing of it.
 unfoldable pub AKickedMeterMayNotKnow : Type 0
 AKickedMeterMayNotKnow =
-    (answers_after 12 kicked_unaware ≡ said.Kicked ∷ said.AlreadyJoined ∷ [])
+    (answers_after 12 kicked_unaware ≡ answers.Kicked ∷ answers.AlreadyJoined ∷ [])
     × (counts_of kicked_unaware ≡ record { events = 14; flights = 6; sends = 0; ups = 0; forged = 0 })

@@ -7,7 +7,7 @@ use Rattle.eap_psk.specs.Messages as packets
 use Rattle.eap_psk.specs.declared.peer.Peer.{Peer}
 use Rattle.node_rules.specs.Memory.{Memory}
 use Rattle.node_rules.specs.declared.shown.Shown.{Shown}
-use Rattle.line_events.specs.declared.event.Answer.TheVariants as said
+use Rattle.line_events.specs.declared.event.Answer.TheVariants as answers
 use Rattle.line_events.specs.declared.event.Event.{Event}
 use Rattle.line_events.specs.declared.event.Event.TheVariants.{Near, Counter, Number, Allow, Rand, Leave, Send, Deliver, Inject, Rekey, Activate, Challenge}
 use Rattle.line_events.specs.declared.event.Event.TheVariants.{Kick, Show}
@@ -32,10 +32,10 @@ rotation =
 unfoldable pub RotationAndKick : Type 0
 RotationAndKick =
     (answers_after 10 rotation
-    ≡ said.Kicked ∷ said.Drawn ∷ said.Given ∷ said.Given ∷ said.Challenged ∷ said.Replied ∷ said.Keyed ∷ said.Took
-    ∷ said.Done
-    ∷ said.NotAllowed ∷ said.Activated ∷ said.Sent ∷ said.NoKey ∷ said.Left ∷ said.IndexActive ∷ said.Sent ∷ said.Drawn
-    ∷ said.BadTag ∷ [])
+    ≡ answers.Kicked ∷ answers.Drawn ∷ answers.Given ∷ answers.Given ∷ answers.Challenged ∷ answers.Replied ∷ answers.Keyed ∷ answers.Took
+    ∷ answers.Done
+    ∷ answers.NotAllowed ∷ answers.Activated ∷ answers.Sent ∷ answers.NoKey ∷ answers.Left ∷ answers.IndexActive ∷ answers.Sent ∷ answers.Drawn
+    ∷ answers.BadTag ∷ [])
     × (takers (run plain start rotation) ≡ 1 ∷ [])
     × (doers (run plain start rotation) ≡ 1 ∷ [])
     × (counts_of rotation ≡ record { events = 28; flights = 8; sends = 2; ups = 0; forged = 0 })
@@ -58,14 +58,14 @@ second_peer = record { eui = eui 2; id_s = eui 1; rand_s = rand_k; rand_p = rand
 unfoldable pub AMeterAnswersUnderItsNewRing : Type 0
 AMeterAnswersUnderItsNewRing =
     (answers_after 6 taken_anew
-    ≡ said.Drawn ∷ said.Given ∷ said.Given ∷ said.Challenged ∷ said.Replied ∷ said.Keyed ∷ said.Took ∷ said.Done
-    ∷ said.Activated ∷ said.Given ∷ said.Given ∷ said.Challenged ∷ said.Replied ∷ said.Keyed ∷ said.Took ∷ [])
+    ≡ answers.Drawn ∷ answers.Given ∷ answers.Given ∷ answers.Challenged ∷ answers.Replied ∷ answers.Keyed ∷ answers.Took ∷ answers.Done
+    ∷ answers.Activated ∷ answers.Given ∷ answers.Given ∷ answers.Challenged ∷ answers.Replied ∷ answers.Keyed ∷ answers.Took ∷ [])
     × (octets_of taken_anew 7
     ≡ Some (sealed 0 1 2 (command 1 0 (joining_octets 1 2 (plain_second pair_key 1 second_peer)))))
     × (octets_of taken_anew 9
     ≡ Some (sealed_under second_key 1 0 1 3
     (command 1 0 (joining_octets 1 2 (plain_fourth pair_key 2 second_peer)))))
-    × (answers_to taken_anew (Deliver 9 0 1 ∷ Deliver 10 1 1 ∷ []) ≡ said.Done ∷ said.Noted ∷ [])
+    × (answers_to taken_anew (Deliver 9 0 1 ∷ Deliver 10 1 1 ∷ []) ≡ answers.Done ∷ answers.Noted ∷ [])
     × (octets_of (taken_anew ++ (Deliver 9 0 1 ∷ [])) 10
     ≡ Some (sealed_under second_key 1 1 0 5 (command 0 1 (joining_octets 2 2 (big_bytes 4 0x03020004)))))
 
@@ -83,9 +83,9 @@ orders =
 unfoldable pub OrdersAreRefused : Type 0
 OrdersAreRefused =
     (answers_to two_meters orders
-    ≡ said.NotHeld ∷ said.NotIssued ∷ said.IndexActive ∷ said.Drawn ∷ said.NotIssued ∷ said.Activated ∷ said.Ordered
-    ∷ said.Kicked ∷ said.NotAllowed ∷ said.NotAllowed ∷ said.NotAllowed
-    ∷ said.Allowed ∷ said.NotIssued ∷ said.NoRandom ∷ [])
+    ≡ answers.NotHeld ∷ answers.NotIssued ∷ answers.IndexActive ∷ answers.Drawn ∷ answers.NotIssued ∷ answers.Activated ∷ answers.Ordered
+    ∷ answers.Kicked ∷ answers.NotAllowed ∷ answers.NotAllowed ∷ answers.NotAllowed
+    ∷ answers.Allowed ∷ answers.NotIssued ∷ answers.NoRandom ∷ [])
     × (admissions (run plain start (two_meters ++ orders)) ≡ record { node = 1; address = 1 } ∷ [])
 
 -- the key at index 1 was issued to the meter, and another one is drawn for the index
@@ -95,8 +95,8 @@ drawn_again = taken_anew ++ (Activate 0 0 ∷ Rekey 1 pair_key ∷ [])
 -- A key that was drawn since is another one than that which was issued at its index.
 unfoldable pub AnotherKeyIsNotIssued : Type 0
 AnotherKeyIsNotIssued =
-    (answers_to taken_anew (Activate 1 1 ∷ []) ≡ said.Ordered ∷ [])
-    × (answers_to drawn_again (Activate 1 1 ∷ Activate 1 0 ∷ []) ≡ said.NotIssued ∷ said.Ordered ∷ [])
+    (answers_to taken_anew (Activate 1 1 ∷ []) ≡ answers.Ordered ∷ [])
+    × (answers_to drawn_again (Activate 1 1 ∷ Activate 1 0 ∷ []) ≡ answers.NotIssued ∷ answers.Ordered ∷ [])
 
 -- eight bodies wait at the coordinator, for meter 2
 abbrev pub eight_sends : List Event
@@ -106,23 +106,23 @@ eight_sends = replicate 8 (Send 0 2 (0xaa ∷ []))
 unfoldable pub AnOrderMayLackRoom : Type 0
 AnOrderMayLackRoom =
     (answers_to (two_meters ++ eight_sends) (Activate 1 0 ∷ Challenge 1 ∷ Rand 0 rand_k ∷ Challenge 1 ∷ Kick 1 ∷ [])
-    ≡ said.WaitingFull ∷ said.NoRandom ∷ said.Given ∷ said.WaitingFull ∷ said.Kicked ∷ [])
+    ≡ answers.WaitingFull ∷ answers.NoRandom ∷ answers.Given ∷ answers.WaitingFull ∷ answers.Kicked ∷ [])
     × (answers_to (two_meters ++ (Number 0 65535 ∷ [])) (Activate 1 0 ∷ Rand 0 rand_k ∷ Challenge 1 ∷ [])
-    ≡ said.SeqSpent ∷ said.Given ∷ said.SeqSpent ∷ [])
+    ≡ answers.SeqSpent ∷ answers.Given ∷ answers.SeqSpent ∷ [])
     × (answers_to (two_meters ++ (Counter 0 4294967295 ∷ [])) (Activate 1 0 ∷ Rand 0 rand_k ∷ Challenge 1 ∷ [])
-    ≡ said.CounterSpent ∷ said.Given ∷ said.CounterSpent ∷ [])
+    ≡ answers.CounterSpent ∷ answers.Given ∷ answers.CounterSpent ∷ [])
     × (answers_to (two_meters ++ (Rand 0 rand_k ∷ [])) (Activate 1 0 ∷ Challenge 1 ∷ [])
-    ≡ said.Ordered ∷ said.Challenged ∷ [])
+    ≡ answers.Ordered ∷ answers.Challenged ∷ [])
 
 -- # Where KICK goes
 
 -- A kick needs neither a route nor a counter; the word goes out where both are there.
 unfoldable pub KickGoesWhereItCan : Type 0
 KickGoesWhereItCan =
-    (answers_to (two_meters ++ (Near 0 1 1 ∷ [])) (Kick 1 ∷ []) ≡ said.Kicked ∷ [])
+    (answers_to (two_meters ++ (Near 0 1 1 ∷ [])) (Kick 1 ∷ []) ≡ answers.Kicked ∷ [])
     × (octets_of (two_meters ++ (Near 0 1 1 ∷ Kick 1 ∷ [])) 1
     ≡ Some (sealed 1 0 0 (command 0 1 (joining_octets 5 2 []))))
-    × (answers_to (two_meters ++ (Near 0 1 1 ∷ Counter 0 4294967295 ∷ [])) (Kick 1 ∷ []) ≡ said.Kicked ∷ [])
+    × (answers_to (two_meters ++ (Near 0 1 1 ∷ Counter 0 4294967295 ∷ [])) (Kick 1 ∷ []) ≡ answers.Kicked ∷ [])
     × (octets_of (two_meters ++ (Near 0 1 1 ∷ Counter 0 4294967295 ∷ Kick 1 ∷ [])) 1 ≡ None)
     × (octets_of (two_meters ++ (Near 0 1 1 ∷ Counter 0 4294967294 ∷ Kick 1 ∷ [])) 1
     ≡ Some (sealed 1 0 4294967294 (command 0 1 (joining_octets 5 2 []))))
@@ -183,15 +183,15 @@ shown_when_left = record {
 unfoldable pub LeavingKeepsRanksAndMarks : Type 0
 LeavingKeepsRanksAndMarks =
     (answers_after 8 left_by_itself
-    ≡ said.Given ∷ said.Given ∷ said.Replied ∷ said.Held ∷ said.Waiting ∷ said.Left ∷ [])
+    ≡ answers.Given ∷ answers.Given ∷ answers.Replied ∷ answers.Held ∷ answers.Waiting ∷ answers.Left ∷ [])
     × (held_at holding_much
     ≡ Some (record { reassemblies = 1; waiting = 2; has_session = true; randoms = rand_k ∷ [] }))
     × (held_at left_by_itself
     ≡ Some (record { reassemblies = 0; waiting = 0; has_session = false; randoms = rand_k ∷ [] }))
     × (shown_at_last (run plain start (left_by_itself ++ (Show 1 ∷ []))) ≡ Some shown_when_left)
-    × (answers_after 13 left_by_order ≡ said.Left ∷ [])
+    × (answers_after 13 left_by_order ≡ answers.Left ∷ [])
     × (held_at left_by_order
     ≡ Some (record { reassemblies = 0; waiting = 0; has_session = false; randoms = rand_k ∷ [] }))
     × (route_at left_by_order 1 2 ≡ None)
     × (rank_at left_by_order 1 2 ≡ Some (record { number = 1; cost = 1 }))
-    × (answers_to left_by_itself (Leave 1 ∷ Send 1 2 (0xaa ∷ []) ∷ []) ≡ said.NotJoined ∷ said.NotJoined ∷ [])
+    × (answers_to left_by_itself (Leave 1 ∷ Send 1 2 (0xaa ∷ []) ∷ []) ≡ answers.NotJoined ∷ answers.NotJoined ∷ [])

@@ -1,7 +1,7 @@
 -- What becomes of the pieces of datagrams at the node that gathers them.
 use Rattle.std.specs.Prelude.{◌≡◌, ℕ, ◌+◌, List, [], ◌∷◌, ◌++◌, map, replicate, Some}
 use Rattle.std.specs.List.{range_with_len}
-use Rattle.line_events.specs.declared.event.Answer.TheVariants as said
+use Rattle.line_events.specs.declared.event.Answer.TheVariants as answers
 use Rattle.line_events.specs.declared.event.Event.{Event}
 use Rattle.line_events.specs.declared.event.Event.TheVariants.{Near, Send, Deliver, Inject, Tick}
 use Rattle.line_rules.specs.Worlds.{start}
@@ -18,7 +18,7 @@ two_pieces =
 -- The last piece makes a datagram whole: it is handed up, once, with the number of its send.
 unfoldable pub ThePiecesMakeTheDatagram : Type 0
 ThePiecesMakeTheDatagram =
-    (answers_after 6 two_pieces ≡ said.Sent ∷ said.Sent ∷ said.Held ∷ said.Up ∷ [])
+    (answers_after 6 two_pieces ≡ answers.Sent ∷ answers.Sent ∷ answers.Held ∷ answers.Up ∷ [])
     × (handed_at_last (run plain start two_pieces) ≡ Some (record { node = 2; note = 2; octets = replicate 376 7 }))
     × (counts_of two_pieces ≡ record { events = 10; flights = 3; sends = 2; ups = 1; forged = 0 })
     × (octets_of two_pieces 2 ≡ Some (sealed 2 1 1 (part_of 1 2 376 0 0 (replicate 368 7))))
@@ -41,9 +41,9 @@ backward = three_meters ++ (piece 1 24 5 2 3 ∷ piece 2 24 5 1 2 ∷ piece 3 24
 -- A piece that covers its datagram is handed up at once, and pieces come in any order.
 unfoldable pub PiecesComeInAnyOrder : Type 0
 PiecesComeInAnyOrder =
-    (answers_after 7 one_piece ≡ said.Up ∷ [])
+    (answers_after 7 one_piece ≡ answers.Up ∷ [])
     × (handed_at_last (run plain start one_piece) ≡ Some (record { node = 1; note = 0; octets = replicate 8 7 }))
-    × (answers_after 7 backward ≡ said.Held ∷ said.Held ∷ said.Up ∷ [])
+    × (answers_after 7 backward ≡ answers.Held ∷ answers.Held ∷ answers.Up ∷ [])
     × (handed_at_last (run plain start backward)
     ≡ Some (record { node = 1; note = 0; octets = replicate 8 1 ++ (replicate 8 2 ++ replicate 8 3) }))
 
@@ -54,7 +54,7 @@ repeated = three_meters ++ (piece 1 16 5 0 1 ∷ piece 2 16 5 0 9 ∷ piece 3 16
 -- A piece with the place and length of a held one is ignored, whatever its octets are.
 unfoldable pub ARepeatedPieceIsIgnored : Type 0
 ARepeatedPieceIsIgnored =
-    (answers_after 7 repeated ≡ said.Held ∷ said.Held ∷ said.Up ∷ [])
+    (answers_after 7 repeated ≡ answers.Held ∷ answers.Held ∷ answers.Up ∷ [])
     × (handed_at_last (run plain start repeated)
     ≡ Some (record { node = 1; note = 0; octets = replicate 8 1 ++ replicate 8 2 }))
 
@@ -67,7 +67,7 @@ overlapping =
 -- A piece that overlaps a held one otherwise discards all that was gathered, and the datagram begins anew with it.
 unfoldable pub AnOverlapBeginsAnew : Type 0
 AnOverlapBeginsAnew =
-    (answers_after 7 overlapping ≡ said.Held ∷ said.Held ∷ said.Held ∷ said.Up ∷ [])
+    (answers_after 7 overlapping ≡ answers.Held ∷ answers.Held ∷ answers.Held ∷ answers.Up ∷ [])
     × (handed_at_last (run plain start overlapping)
     ≡ Some (record { node = 1; note = 0; octets = replicate 16 3 ++ replicate 8 4 }))
 
@@ -83,7 +83,7 @@ named_otherwise =
 -- Pieces belong together where origin, size and tag are the same.
 unfoldable pub PiecesAreNamed : Type 0
 PiecesAreNamed =
-    (answers_after 7 named_otherwise ≡ said.Held ∷ said.Held ∷ said.Held ∷ said.Held ∷ said.Up ∷ [])
+    (answers_after 7 named_otherwise ≡ answers.Held ∷ answers.Held ∷ answers.Held ∷ answers.Held ∷ answers.Up ∷ [])
     × (handed_at_last (run plain start named_otherwise)
     ≡ Some (record { node = 1; note = 0; octets = replicate 8 1 ++ replicate 8 5 }))
 
@@ -96,10 +96,10 @@ eight_begun = three_meters ++ map (λ tag. piece (tag + 1) 16 tag 0 1) (range_wi
 -- Eight datagrams are gathered at most: a piece of a ninth is refused, also where it alone would be the whole, and one of a held one is taken.
 unfoldable pub EightAreGathered : Type 0
 EightAreGathered =
-    (answers_after 14 eight_begun ≡ said.Held ∷ [])
+    (answers_after 14 eight_begun ≡ answers.Held ∷ [])
     × (answers_to eight_begun
     (piece 9 16 8 0 1 ∷ piece 10 8 8 0 1 ∷ piece 11 16 3 1 2 ∷ piece 12 16 8 0 1 ∷ piece 13 16 9 0 1 ∷ [])
-    ≡ said.BufferFull ∷ said.BufferFull ∷ said.Up ∷ said.Held ∷ said.BufferFull ∷ [])
+    ≡ answers.BufferFull ∷ answers.BufferFull ∷ answers.Up ∷ answers.Held ∷ answers.BufferFull ∷ [])
 
 -- three datagrams of 1,280 octets have begun, and one of so many
 abbrev pub blocks_begun : ℕ → List Event
@@ -110,8 +110,8 @@ blocks_begun size =
 unfoldable pub EightyBlocksAreGathered : Type 0
 EightyBlocksAreGathered =
     (answers_to (blocks_begun 1216) (piece 5 65 5 0 1 ∷ piece 6 64 5 0 1 ∷ piece 7 64 6 0 1 ∷ [])
-    ≡ said.BufferFull ∷ said.Held ∷ said.BufferFull ∷ [])
-    × (answers_to (blocks_begun 1280) (piece 5 8 5 0 1 ∷ piece 6 1280 4 1 1 ∷ []) ≡ said.BufferFull ∷ said.Held ∷ [])
+    ≡ answers.BufferFull ∷ answers.Held ∷ answers.BufferFull ∷ [])
+    × (answers_to (blocks_begun 1280) (piece 5 8 5 0 1 ∷ piece 6 1280 4 1 1 ∷ []) ≡ answers.BufferFull ∷ answers.Held ∷ [])
 
 -- # Time
 
@@ -128,7 +128,7 @@ begun_anew_before seconds =
 -- A datagram is gathered for less than 60 seconds from its first piece, or from the piece that began it anew.
 unfoldable pub GatheringEndsAfterAMinute : Type 0
 GatheringEndsAfterAMinute =
-    (answers_to (begun_before 29) (piece 3 24 5 2 3 ∷ []) ≡ said.Up ∷ [])
-    × (answers_to (begun_before 30) (piece 3 24 5 2 3 ∷ []) ≡ said.Held ∷ [])
-    × (answers_to (begun_anew_before 59) (piece 3 24 5 2 3 ∷ []) ≡ said.Up ∷ [])
-    × (answers_to (begun_anew_before 60) (piece 3 24 5 2 3 ∷ []) ≡ said.Held ∷ [])
+    (answers_to (begun_before 29) (piece 3 24 5 2 3 ∷ []) ≡ answers.Up ∷ [])
+    × (answers_to (begun_before 30) (piece 3 24 5 2 3 ∷ []) ≡ answers.Held ∷ [])
+    × (answers_to (begun_anew_before 59) (piece 3 24 5 2 3 ∷ []) ≡ answers.Up ∷ [])
+    × (answers_to (begun_anew_before 60) (piece 3 24 5 2 3 ∷ []) ≡ answers.Held ∷ [])

@@ -3,7 +3,7 @@ use Rattle.std.specs.Prelude.{◌≡◌, ℕ, ◌-◌, List, [], ◌∷◌, ◌+
 use Rattle.std.specs.List.{range_with_len}
 use Rattle.byteorder.specs.Endian.{big_bytes}
 use Rattle.loadng_messages.specs.declared.message.Message.TheVariants.{Rreq, Rrep, Rerr}
-use Rattle.line_events.specs.declared.event.Answer.TheVariants as said
+use Rattle.line_events.specs.declared.event.Answer.TheVariants as answers
 use Rattle.line_events.specs.declared.event.Event.{Event}
 use Rattle.line_events.specs.declared.event.Event.TheVariants.{Near, Counter, Number, Send, Inject, Tick}
 use Rattle.worked_scripts.specs.Scripts.{two_meters, three_meters, four_meters, sealed, everyone, routing_unit, answers_after, answers_to, counts_of, octets_of}
@@ -18,8 +18,8 @@ dear link = two_meters ++ (Inject 1 link (sealed everyone 2 9 (routing_unit (Rre
 -- A request goes on as long as its cost has a number of 16 bits.
 unfoldable pub CostsAreSpent : Type 0
 CostsAreSpent =
-    (answers_after 5 (dear 36) ≡ said.CostSpent ∷ [])
-    × (answers_after 5 (dear 35) ≡ said.Relayed ∷ [])
+    (answers_after 5 (dear 36) ≡ answers.CostSpent ∷ [])
+    × (answers_after 5 (dear 35) ≡ answers.Relayed ∷ [])
     × (octets_of (dear 35) 1 ≡ Some (sealed everyone 1 0 (routing_unit (Rreq 5 65535 2 7))))
 
 -- # Requests
@@ -44,8 +44,8 @@ requests =
 unfoldable pub RequestsOfferRanks : Type 0
 RequestsOfferRanks =
     (answers_to three_meters requests
-    ≡ said.NotBetter ∷ said.Relayed ∷ said.NotBetter ∷ said.NotBetter ∷ said.CostSpent ∷ said.NotBetter ∷ said.Relayed
-    ∷ said.Answered ∷ said.NotBetter ∷ said.BadUnit ∷ [])
+    ≡ answers.NotBetter ∷ answers.Relayed ∷ answers.NotBetter ∷ answers.NotBetter ∷ answers.CostSpent ∷ answers.NotBetter ∷ answers.Relayed
+    ∷ answers.Answered ∷ answers.NotBetter ∷ answers.BadUnit ∷ [])
     × (octets_of (three_meters ++ requests) 1 ≡ Some (sealed everyone 1 0 (routing_unit (Rreq 5 2 2 3))))
     × (octets_of (three_meters ++ requests) 2 ≡ Some (sealed everyone 1 1 (routing_unit (Rreq 5 1 2 3))))
     × (octets_of (three_meters ++ requests) 3 ≡ Some (sealed 3 1 2 (routing_unit (Rrep 2 0 1 2))))
@@ -78,8 +78,8 @@ beside_two = three_meters ++ (Near 1 2 1 ∷ [])
 unfoldable pub RepliesOfferRanks : Type 0
 RepliesOfferRanks =
     (answers_to beside_two replies
-    ≡ said.NoRoute ∷ said.NoRoute ∷ said.NotBetter ∷ said.NotBetter ∷ said.NotBetter ∷ said.NotBetter ∷ said.CostSpent
-    ∷ said.Learned ∷ said.Learned ∷ said.BadUnit ∷ [])
+    ≡ answers.NoRoute ∷ answers.NoRoute ∷ answers.NotBetter ∷ answers.NotBetter ∷ answers.NotBetter ∷ answers.NotBetter ∷ answers.CostSpent
+    ∷ answers.Learned ∷ answers.Learned ∷ answers.BadUnit ∷ [])
     × (rank_at (beside_two ++ replies) 1 2 ≡ Some (record { number = 2; cost = 65534 }))
     × (route_at (beside_two ++ replies) 1 2 ≡ Some 3)
     × (counts_of (beside_two ++ replies) ≡ record { events = 18; flights = 0; sends = 0; ups = 0; forged = 10 })
@@ -91,7 +91,7 @@ reply_to_its_origin = four_meters ++ (Near 1 4 1 ∷ Inject 1 1 (sealed 1 3 9 (r
 -- A reply goes on by the hop that led to its target before its own offer, also where its origin is its target.
 unfoldable pub AReplyGoesByTheHopFromBefore : Type 0
 AReplyGoesByTheHopFromBefore =
-    (answers_after 10 reply_to_its_origin ≡ said.Relayed ∷ [])
+    (answers_after 10 reply_to_its_origin ≡ answers.Relayed ∷ [])
     × (octets_of reply_to_its_origin 1 ≡ Some (sealed 4 1 0 (routing_unit (Rrep 5 1 4 4))))
     × (route_at reply_to_its_origin 1 4 ≡ Some 3)
 
@@ -108,12 +108,12 @@ AnAnswerTakesANumber =
     (Inject 1 1 (sealed everyone 2 1 (routing_unit (Rreq 5 0 2 1)))
     ∷ Inject 1 1 (sealed everyone 2 2 (routing_unit (Rreq 5 0 2 0)))
     ∷ Inject 1 1 (sealed everyone 2 3 (routing_unit (Rreq 5 0 2 1))) ∷ [])
-    ≡ said.SeqSpent ∷ said.Relayed ∷ said.NotBetter ∷ [])
+    ≡ answers.SeqSpent ∷ answers.Relayed ∷ answers.NotBetter ∷ [])
     × (answers_to (numbers_gone ++ (Counter 1 4294967295 ∷ []))
     (Inject 1 1 (sealed everyone 2 1 (routing_unit (Rreq 5 0 2 1)))
     ∷ Inject 1 1 (sealed everyone 2 2 (routing_unit (Rreq 5 0 2 0)))
     ∷ Inject 1 1 (sealed 1 2 3 (routing_unit (Rrep 5 0 2 1))) ∷ [])
-    ≡ said.SeqSpent ∷ said.CounterSpent ∷ said.Learned ∷ [])
+    ≡ answers.SeqSpent ∷ answers.CounterSpent ∷ answers.Learned ∷ [])
 
 -- # The last second of a route
 
@@ -124,8 +124,8 @@ route_of_age seconds = two_meters ++ (Near 1 2 1 ∷ Tick seconds ∷ [])
 -- A route is valid for less than 21,600 seconds, and its rank stays.
 unfoldable pub ARouteEndsAfterSixHours : Type 0
 ARouteEndsAfterSixHours =
-    (answers_to (route_of_age 21599) (Send 1 2 (0xaa ∷ []) ∷ []) ≡ said.Sent ∷ [])
-    × (answers_to (route_of_age 21600) (Send 1 2 (0xaa ∷ []) ∷ []) ≡ said.Waiting ∷ [])
+    (answers_to (route_of_age 21599) (Send 1 2 (0xaa ∷ []) ∷ []) ≡ answers.Sent ∷ [])
+    × (answers_to (route_of_age 21600) (Send 1 2 (0xaa ∷ []) ∷ []) ≡ answers.Waiting ∷ [])
     × (rank_at (route_of_age 21600) 1 2 ≡ Some (record { number = 1; cost = 1 }))
     × (route_at (route_of_age 21599 ++ (Tick 1 ∷ [])) 1 2 ≡ None)
 
@@ -155,7 +155,7 @@ AFullTableRefuses =
     (numbered_reply 200 9 200 ∷ Inject 1 1 (sealed 1 2 201 (routing_unit (Rrep 9 65535 200 1)))
     ∷ Inject 1 1 (sealed everyone 2 202 (routing_unit (Rreq 9 0 200 3)))
     ∷ numbered_reply 150 151 203 ∷ Tick 59 ∷ numbered_reply 200 9 204 ∷ [])
-    ≡ said.RoutesFull ∷ said.CostSpent ∷ said.RoutesFull ∷ said.Learned ∷ said.Ticked ∷ said.RoutesFull ∷ []
+    ≡ answers.RoutesFull ∷ answers.CostSpent ∷ answers.RoutesFull ∷ answers.Learned ∷ answers.Ticked ∷ answers.RoutesFull ∷ []
 
 -- the first address was offered again after 10 seconds, and another address after 60
 abbrev pub offered_again : List Event
@@ -168,7 +168,7 @@ AFullTableForgetsTheEarliest =
     (answers_to (full_after 60)
     (numbered_reply 200 9 200 ∷ numbered_reply 100 200 201 ∷ numbered_reply 164 200 202 ∷ numbered_reply 164 201 203
     ∷ numbered_reply 165 199 204 ∷ numbered_reply 165 200 205 ∷ [])
-    ≡ said.Learned ∷ said.NotBetter ∷ said.NotBetter ∷ said.Learned ∷ said.NotBetter ∷ said.Learned ∷ [])
+    ≡ answers.Learned ∷ answers.NotBetter ∷ answers.NotBetter ∷ answers.Learned ∷ answers.NotBetter ∷ answers.Learned ∷ [])
     × (rank_at (full_after 60 ++ (numbered_reply 200 9 200 ∷ [])) 1 100 ≡ None)
     × (rank_at (full_after 60 ++ (numbered_reply 200 9 200 ∷ [])) 1 101 ≡ Some (record { number = 199; cost = 1 }))
     × (rank_at offered_again 1 101 ≡ None)
@@ -183,11 +183,11 @@ two_broken =
 -- A rank without a valid route is forgotten before any other one and at once, of several the lowest number.
 unfoldable pub AFullTableForgetsTheBroken : Type 0
 AFullTableForgetsTheBroken =
-    (answers_after 69 two_broken ≡ said.Broken ∷ said.Broken ∷ said.Learned ∷ [])
+    (answers_after 69 two_broken ≡ answers.Broken ∷ answers.Broken ∷ answers.Learned ∷ [])
     × (rank_at two_broken 1 150 ≡ None)
     × (rank_at two_broken 1 120 ≡ Some (record { number = 180; cost = 1 }))
     × (answers_to two_broken (numbered_reply 150 150 203 ∷ numbered_reply 150 151 204 ∷ numbered_reply 201 9 205 ∷ [])
-    ≡ said.NotBetter ∷ said.Learned ∷ said.RoutesFull ∷ [])
+    ≡ answers.NotBetter ∷ answers.Learned ∷ answers.RoutesFull ∷ [])
     × (rank_at (two_broken ++ (numbered_reply 150 151 204 ∷ [])) 1 120 ≡ None)
 
 -- Forgetting stores the floors before the rank, which takes the slot of the forgotten one; nothing of a floor is stored where none rises.
@@ -220,5 +220,5 @@ unfoldable pub ANodeHearsSixtyFourSenders : Type 0
 ANodeHearsSixtyFourSenders =
     (answers_to (senders 64)
     (error_of 200 9 ∷ error_of 100 5 ∷ error_of 100 6 ∷ error_of 163 4 ∷ error_of 163 6 ∷ error_of 2 9 ∷ [])
-    ≡ said.PeersFull ∷ said.Replayed ∷ said.Broken ∷ said.Replayed ∷ said.Broken ∷ said.PeersFull ∷ [])
-    × (answers_to (senders 63) (error_of 200 9 ∷ []) ≡ said.Broken ∷ [])
+    ≡ answers.PeersFull ∷ answers.Replayed ∷ answers.Broken ∷ answers.Replayed ∷ answers.Broken ∷ answers.PeersFull ∷ [])
+    × (answers_to (senders 63) (error_of 200 9 ∷ []) ≡ answers.Broken ∷ [])

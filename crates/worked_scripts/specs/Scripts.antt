@@ -227,44 +227,44 @@ world_behind w (x ∷ rest) = world_behind x.after rest
 
 -- the answers after so many events
 abbrev pub answers_after : ℕ → List Event → List Answer
-answers_after count events = map (λ (x : Entry). x.trace.happened.answer) (drop count (run plain start events))
+answers_after count events = map (λ (x : Entry). x.trace.happenings.answer) (drop count (run plain start events))
 
 -- the answers to events after a script
 abbrev pub answers_to : List Event → List Event → List Answer
 answers_to before events =
-    map (λ (x : Entry). x.trace.happened.answer) (run plain (world_behind start (run plain start before)) events)
+    map (λ (x : Entry). x.trace.happenings.answer) (run plain (world_behind start (run plain start before)) events)
 
 -- the last entry's datagram that was handed up
 abbrev pub handed_at_last : List Entry → Option Handed
 handed_at_last [] = None
-handed_at_last (x ∷ []) = x.trace.happened.up
+handed_at_last (x ∷ []) = x.trace.happenings.up
 handed_at_last (x ∷ (y ∷ rest)) = handed_at_last (y ∷ rest)
 
 -- what the last entry shows
 abbrev pub shown_at_last : List Entry → Option Shown
 shown_at_last [] = None
-shown_at_last (x ∷ []) = x.trace.happened.shown
+shown_at_last (x ∷ []) = x.trace.happenings.shown
 shown_at_last (x ∷ (y ∷ rest)) = shown_at_last (y ∷ rest)
 
 -- the meters that took their grant, those whose joining is done, and the addresses that were given out, in order
 abbrev pub takers : List Entry → List ℕ
 takers [] = []
-takers (x ∷ rest) = one_of x.trace.happened.took ++ takers rest
+takers (x ∷ rest) = one_of x.trace.happenings.took ++ takers rest
 
 -- the meters whose joining is done, in order
 abbrev pub doers : List Entry → List ℕ
 doers [] = []
-doers (x ∷ rest) = one_of x.trace.happened.done ++ doers rest
+doers (x ∷ rest) = one_of x.trace.happenings.done ++ doers rest
 
 -- the addresses that were given out, in order
 abbrev pub admissions : List Entry → List Admission
 admissions [] = []
-admissions (x ∷ rest) = one_of x.trace.happened.grant ++ admissions rest
+admissions (x ∷ rest) = one_of x.trace.happenings.grant ++ admissions rest
 
 -- whether the last entry is a forged event
 abbrev pub forged_at_last : List Entry → Bool
 forged_at_last [] = false
-forged_at_last (x ∷ []) = x.trace.happened.forged
+forged_at_last (x ∷ []) = x.trace.happenings.forged
 forged_at_last (x ∷ (y ∷ rest)) = forged_at_last (y ∷ rest)
 
 -- what the last line of a report counts

@@ -10,7 +10,7 @@ use Rattle.loadng_messages.specs.declared.message.Message.TheVariants.{Rreq, Rer
 use Rattle.node_rules.specs.Memory.{Memory}
 use Rattle.node_rules.specs.Calls as calls
 use Rattle.node_rules.specs.Drafts.{tag_after}
-use Rattle.line_events.specs.declared.event.Answer.TheVariants as said
+use Rattle.line_events.specs.declared.event.Answer.TheVariants as answers
 use Rattle.line_events.specs.declared.event.Event.{Event}
 use Rattle.line_events.specs.declared.event.Event.TheVariants.{Coordinator, Meter, Near, Counter, Number, Allow, Rand, Join, Leave, Send, Deliver, Inject, Tick}
 use Rattle.line_events.specs.declared.event.Event.TheVariants.{Cut, Rekey, Activate, Challenge, Kick}
@@ -26,10 +26,10 @@ cut_off = two_meters ++ (Near 1 2 3 ∷ Cut 1 1 false ∷ Send 1 2 (0xaa ∷ [])
 -- A node whose store write failed halts and sends nothing.
 unfoldable pub AFailedWriteHalts : Type 0
 AFailedWriteHalts =
-    (answers_after 6 cut_off ≡ said.Set ∷ said.Store ∷ said.Halted ∷ [])
+    (answers_after 6 cut_off ≡ answers.Set ∷ answers.Store ∷ answers.Halted ∷ [])
     × (counts_of cut_off ≡ record { events = 9; flights = 0; sends = 0; ups = 0; forged = 0 })
     × (answers_after 3 (Coordinator (eui 1) group_key ∷ Meter (eui 2) pair_key ∷ Meter (eui 3) second_key ∷ Cut 0 1 true
-    ∷ Allow 1 ∷ Allow 2 ∷ []) ≡ said.Set ∷ said.Store ∷ said.Halted ∷ [])
+    ∷ Allow 1 ∷ Allow 2 ∷ []) ≡ answers.Set ∷ answers.Store ∷ answers.Halted ∷ [])
 
 -- # The writes of a step that makes four
 
@@ -54,13 +54,13 @@ asked_stored count = with_writes (take count asked_writes) (records_at two_meter
 -- that it had accepted counts as forged, but not the one whose mark it could not store.
 unfoldable pub EachWriteMayFail : Type 0
 EachWriteMayFail =
-    (answers_after 6 (asked_under (Cut 1 5 false)) ≡ said.Answered ∷ [])
+    (answers_after 6 (asked_under (Cut 1 5 false)) ≡ answers.Answered ∷ [])
     × (records_at (asked_under (Cut 1 5 false)) 1 ≡ asked_stored 4)
-    × (answers_after 6 (asked_under (Cut 1 1 false)) ≡ said.Store ∷ [])
+    × (answers_after 6 (asked_under (Cut 1 1 false)) ≡ answers.Store ∷ [])
     × (records_at (asked_under (Cut 1 1 false)) 1 ≡ asked_stored 0)
     × (records_at (asked_under (Cut 1 1 true)) 1 ≡ asked_stored 1)
     × (counts_of (asked_under (Cut 1 1 true)) ≡ record { events = 7; flights = 0; sends = 0; ups = 0; forged = 0 })
-    × (answers_after 6 (asked_under (Cut 1 2 false)) ≡ said.Store ∷ [])
+    × (answers_after 6 (asked_under (Cut 1 2 false)) ≡ answers.Store ∷ [])
     × (records_at (asked_under (Cut 1 2 false)) 1 ≡ asked_stored 1)
     × (records_at (asked_under (Cut 1 2 true)) 1 ≡ asked_stored 2)
     × (counts_of (asked_under (Cut 1 2 true)) ≡ record { events = 7; flights = 0; sends = 0; ups = 0; forged = 1 })
@@ -68,7 +68,7 @@ EachWriteMayFail =
     × (records_at (asked_under (Cut 1 3 true)) 1 ≡ asked_stored 3)
     × (records_at (asked_under (Cut 1 4 false)) 1 ≡ asked_stored 3)
     × (records_at (asked_under (Cut 1 4 true)) 1 ≡ asked_stored 4)
-    × (answers_after 6 (asked_under (Cut 1 4 true)) ≡ said.Store ∷ [])
+    × (answers_after 6 (asked_under (Cut 1 4 true)) ≡ answers.Store ∷ [])
     × (counts_of (asked_under (Cut 1 4 true)) ≡ record { events = 7; flights = 0; sends = 0; ups = 0; forged = 1 })
 
 -- # The writes of a send
@@ -88,13 +88,13 @@ seeking_stored count =
 -- A send takes its tag first, also where it waits, then an own number, then its counters; a datagram of 375 octets takes no tag.
 unfoldable pub ASendStoresItsTagFirst : Type 0
 ASendStoresItsTagFirst =
-    (answers_after 6 (seeking_under (Cut 1 4 false)) ≡ said.Waiting ∷ [])
+    (answers_after 6 (seeking_under (Cut 1 4 false)) ≡ answers.Waiting ∷ [])
     × (records_at (seeking_under (Cut 1 4 false)) 1 ≡ seeking_stored 3)
     × (records_at (seeking_under (Cut 1 1 true)) 1 ≡ seeking_stored 1)
     × (records_at (seeking_under (Cut 1 2 false)) 1 ≡ seeking_stored 1)
     × (records_at (seeking_under (Cut 1 2 true)) 1 ≡ seeking_stored 2)
     × (records_at (seeking_under (Cut 1 3 false)) 1 ≡ seeking_stored 2)
-    × (answers_after 6 (seeking_under (Cut 1 3 true)) ≡ said.Store ∷ [])
+    × (answers_after 6 (seeking_under (Cut 1 3 true)) ≡ answers.Store ∷ [])
     × (records_at (seeking_under (Cut 1 3 true)) 1 ≡ seeking_stored 3)
     × (counts_of (seeking_under (Cut 1 3 true)) ≡ record { events = 7; flights = 0; sends = 0; ups = 0; forged = 0 })
     × (records_at (two_meters ++ (Send 1 2 (replicate 375 7) ∷ [])) 1
@@ -164,8 +164,8 @@ activate_the_active = sealed 1 2 1 (command 0 1 (joining_octets 6 2 (0 ∷ [])))
 -- Nothing is stored of an entry of the book that does not change; a ring is stored also where it does not.
 unfoldable pub WhatDoesNotChangeIsNotStored : Type 0
 WhatDoesNotChangeIsNotStored =
-    (answers_to one_meter (Cut 0 1 false ∷ Allow 1 ∷ Activate 0 0 ∷ []) ≡ said.Set ∷ said.Allowed ∷ said.Store ∷ [])
-    × (answers_to two_meters (Cut 1 2 false ∷ Inject 1 1 activate_the_active ∷ []) ≡ said.Set ∷ said.Store ∷ [])
+    (answers_to one_meter (Cut 0 1 false ∷ Allow 1 ∷ Activate 0 0 ∷ []) ≡ answers.Set ∷ answers.Allowed ∷ answers.Store ∷ [])
+    × (answers_to two_meters (Cut 1 2 false ∷ Inject 1 1 activate_the_active ∷ []) ≡ answers.Set ∷ answers.Store ∷ [])
 
 -- the first write of each call fails
 abbrev pub calls_under_cuts : List (List Event)
@@ -179,9 +179,9 @@ calls_under_cuts =
 unfoldable pub EachCallMayFail : Type 0
 EachCallMayFail =
     map (λ events. answers_to one_meter events) calls_under_cuts
-    ≡ (said.Set ∷ said.Store ∷ []) ∷ (said.Set ∷ said.Store ∷ []) ∷ (said.Set ∷ said.Store ∷ [])
-    ∷ (said.Set ∷ said.Given ∷ said.Store ∷ [])
-    ∷ (said.Set ∷ said.Store ∷ []) ∷ (said.Set ∷ said.Store ∷ []) ∷ (said.Set ∷ said.Set ∷ said.Store ∷ []) ∷ []
+    ≡ (answers.Set ∷ answers.Store ∷ []) ∷ (answers.Set ∷ answers.Store ∷ []) ∷ (answers.Set ∷ answers.Store ∷ [])
+    ∷ (answers.Set ∷ answers.Given ∷ answers.Store ∷ [])
+    ∷ (answers.Set ∷ answers.Store ∷ []) ∷ (answers.Set ∷ answers.Store ∷ []) ∷ (answers.Set ∷ answers.Set ∷ answers.Store ∷ []) ∷ []
 
 -- a joining over the air, to its third packet
 abbrev pub keyed : List Event
@@ -209,7 +209,7 @@ kicked_under keeps_new = one_meter ++ (Near 0 1 1 ∷ Cut 0 2 keeps_new ∷ Kick
 -- The book is stored before the word goes out: where the second write fails, the kicked entry stays and no word goes out.
 unfoldable pub AKickIsStoredFirst : Type 0
 AKickIsStoredFirst =
-    (answers_after 5 (kicked_under false) ≡ said.Store ∷ [])
+    (answers_after 5 (kicked_under false) ≡ answers.Store ∷ [])
     × (octets_of (kicked_under true) 1 ≡ None)
     × (records_at (kicked_under false) 0
     ≡ with_writes (book_record 0 2 0 (no_key ++ no_key) ∷ []) (records_at (one_meter ++ (Near 0 1 1 ∷ [])) 0))

@@ -2,7 +2,7 @@
 use Rattle.std.specs.Prelude.{◌≡◌, ℕ, ◌+◌, List, [], ◌∷◌, ◌++◌, map, replicate, Some}
 use Rattle.byteorder.specs.Endian.{big_bytes}
 use Rattle.eap_psk.specs.Messages as packets
-use Rattle.line_events.specs.declared.event.Answer.TheVariants as said
+use Rattle.line_events.specs.declared.event.Answer.TheVariants as answers
 use Rattle.line_events.specs.declared.event.Event.{Event}
 use Rattle.line_events.specs.declared.event.Event.TheVariants.{Coordinator, Meter, Near, Counter, Number, Rand, Join, Send, Inject}
 use Rattle.worked_scripts.specs.Scripts.{eui, group_key, pair_key, rand_k, rand_r, two_meters, sealed, command, joining_octets, up_frame, down_frame, said_of}
@@ -28,12 +28,12 @@ come_up n = map (λ octets. Inject 1 1 (up_frame 1 9 (0x40 ∷ 2 ∷ octets))) (
 -- A joined meter carries up a JOIN of the node that sent it, and nothing else.
 unfoldable pub OnlyAJoinGoesUp : Type 0
 OnlyAJoinGoesUp =
-    (answers_to two_meters (come_up 9) ≡ said.Carried ∷ replicate 5 said.BadUnit)
-    × (answers_to two_meters (come_up 8) ≡ replicate 6 said.BadUnit)
+    (answers_to two_meters (come_up 9) ≡ answers.Carried ∷ replicate 5 answers.BadUnit)
+    × (answers_to two_meters (come_up 8) ≡ replicate 6 answers.BadUnit)
     × (answers_to two_meters
     (Inject 1 1 (up_frame 1 9 (said_of 1 9 (7 ∷ []))) ∷ Inject 1 1 (up_frame 1 9 (said_of 7 9 []))
     ∷ Inject 1 1 (up_frame 1 9 (0x40 ∷ 2 ∷ [])) ∷ [])
-    ≡ said.Carried ∷ said.BadUnit ∷ said.BadUnit ∷ [])
+    ≡ answers.Carried ∷ answers.BadUnit ∷ answers.BadUnit ∷ [])
     × (octets_of (two_meters ++ (Near 0 1 1 ∷ come_up 9)) 1 ≡ Some (sealed 0 1 0 (command 1 0 (joining_octets 1 9 []))))
 
 -- they come down to the meter of EUI 2 in plain frames, from an agent
@@ -47,13 +47,13 @@ one_asks = Coordinator (eui 1) group_key ∷ Meter (eui 2) pair_key ∷ Join 1 0
 -- A plain frame down is taken for its own EUI alone: an ACCEPT by each meter, a CHALLENGE and a DECLINE by one that asked that agent.
 unfoldable pub PlainFramesComeDown : Type 0
 PlainFramesComeDown =
-    (answers_to two_meters (come_down 0 2) ≡ said.BadUnit ∷ said.Noted ∷ replicate 4 said.BadUnit)
-    × (answers_to two_meters (come_down 0 9) ≡ replicate 6 said.BadUnit)
+    (answers_to two_meters (come_down 0 2) ≡ answers.BadUnit ∷ answers.Noted ∷ replicate 4 answers.BadUnit)
+    × (answers_to two_meters (come_down 0 9) ≡ replicate 6 answers.BadUnit)
     × (answers_to one_asks (come_down 3 2)
-    ≡ said.BadUnit ∷ said.Noted ∷ said.NoSession ∷ said.NoSession ∷ said.BadUnit ∷ said.BadUnit ∷ [])
+    ≡ answers.BadUnit ∷ answers.Noted ∷ answers.NoSession ∷ answers.NoSession ∷ answers.BadUnit ∷ answers.BadUnit ∷ [])
     × (answers_to one_asks (come_down 0 2)
-    ≡ said.BadUnit ∷ said.Noted ∷ said.Form ∷ said.Declined ∷ said.BadUnit ∷ said.BadUnit ∷ [])
-    × (answers_to one_asks (come_down 0 9) ≡ replicate 6 said.BadUnit)
+    ≡ answers.BadUnit ∷ answers.Noted ∷ answers.Form ∷ answers.Declined ∷ answers.BadUnit ∷ answers.BadUnit ∷ [])
+    × (answers_to one_asks (come_down 0 9) ≡ replicate 6 answers.BadUnit)
 
 -- they come to meter 1 in commands of an origin, under counters from this one on
 abbrev pub come_over_mesh : (origin : ℕ) → ℕ → List (List ℕ) → List Event
@@ -69,14 +69,14 @@ more_orders = joining_octets 3 2 (big_bytes 6 0) ∷ joining_octets 6 2 (0 ∷ [
 unfoldable pub CommandsComeFromTheCoordinator : Type 0
 CommandsComeFromTheCoordinator =
     (answers_to two_meters (come_over_mesh 0 1 (all_kinds 2))
-    ≡ said.BadUnit ∷ said.Noted ∷ said.NoSession ∷ said.BadUnit ∷ said.Left ∷ said.NotForMe ∷ [])
-    × (answers_to two_meters (come_over_mesh 0 1 more_orders) ≡ said.NoRandom ∷ said.Activated ∷ said.NotHeld ∷ [])
+    ≡ answers.BadUnit ∷ answers.Noted ∷ answers.NoSession ∷ answers.BadUnit ∷ answers.Left ∷ answers.NotForMe ∷ [])
+    × (answers_to two_meters (come_over_mesh 0 1 more_orders) ≡ answers.NoRandom ∷ answers.Activated ∷ answers.NotHeld ∷ [])
     × (answers_to two_meters (come_over_mesh 0 1 (all_kinds 9))
-    ≡ said.BadUnit ∷ said.Carried ∷ said.Carried ∷ said.Carried ∷ said.BadUnit ∷ said.BadUnit ∷ [])
+    ≡ answers.BadUnit ∷ answers.Carried ∷ answers.Carried ∷ answers.Carried ∷ answers.BadUnit ∷ answers.BadUnit ∷ [])
     × (octets_of (two_meters ++ come_over_mesh 0 1 (all_kinds 9)) 1 ≡ Some (down_frame 9 1 (said_of 2 9 success)))
     × (octets_of (two_meters ++ come_over_mesh 0 1 (all_kinds 9)) 3 ≡ Some (down_frame 9 1 (said_of 4 9 [])))
-    × (answers_to two_meters (come_over_mesh 2 1 (all_kinds 2)) ≡ replicate 6 said.BadUnit)
-    × (answers_to two_meters (come_over_mesh 2 1 (all_kinds 9)) ≡ replicate 6 said.BadUnit)
+    × (answers_to two_meters (come_over_mesh 2 1 (all_kinds 2)) ≡ replicate 6 answers.BadUnit)
+    × (answers_to two_meters (come_over_mesh 2 1 (all_kinds 9)) ≡ replicate 6 answers.BadUnit)
 
 -- # At the coordinator
 
@@ -99,14 +99,14 @@ joins = joining_octets 1 9 (7 ∷ []) ∷ joining_octets 1 2 (7 ∷ []) ∷ join
 -- The coordinator takes a JOIN alone: in a plain frame of its own node, or in a command of any origin about any meter.
 unfoldable pub OnlyAJoinReachesTheCoordinator : Type 0
 OnlyAJoinReachesTheCoordinator =
-    (answers_to two_meters (reach_up 9) ≡ said.Declined ∷ replicate 5 said.BadUnit)
-    × (answers_to two_meters (reach_up 8) ≡ replicate 6 said.BadUnit)
-    × (answers_to two_meters reach_down ≡ replicate 6 said.BadUnit)
-    × (answers_to two_meters (reach_over_mesh 1 (all_kinds 9)) ≡ said.Declined ∷ replicate 5 said.BadUnit)
+    (answers_to two_meters (reach_up 9) ≡ answers.Declined ∷ replicate 5 answers.BadUnit)
+    × (answers_to two_meters (reach_up 8) ≡ replicate 6 answers.BadUnit)
+    × (answers_to two_meters reach_down ≡ replicate 6 answers.BadUnit)
+    × (answers_to two_meters (reach_over_mesh 1 (all_kinds 9)) ≡ answers.Declined ∷ replicate 5 answers.BadUnit)
     × (octets_of (two_meters ++ reach_up 9) 1 ≡ Some (down_frame 9 0 (said_of 4 9 [])))
     × (octets_of (two_meters ++ (Near 0 1 1 ∷ reach_over_mesh 1 (all_kinds 9))) 1
     ≡ Some (sealed 1 0 0 (command 0 1 (joining_octets 4 9 []))))
-    × (answers_to two_meters (reach_over_mesh 1 joins) ≡ said.NotAllowed ∷ said.NoSession ∷ said.NoRandom ∷ [])
+    × (answers_to two_meters (reach_over_mesh 1 joins) ≡ answers.NotAllowed ∷ answers.NoSession ∷ answers.NoRandom ∷ [])
 
 -- # What an answer by command lacks
 
@@ -130,13 +130,13 @@ a_join_by_command = Inject 0 1 (sealed 0 2 1 (command 1 0 (joining_octets 1 9 []
 -- An answer that goes by command, as a message that is carried up, lacks room, a number or a counter as any other command does.
 unfoldable pub AnAnswerByCommandMayLackRoom : Type 0
 AnAnswerByCommandMayLackRoom =
-    (answers_to (two_meters ++ eight_waiting 1) a_join ≡ said.BufferFull ∷ [])
-    × (answers_to (two_meters ++ (Number 1 65535 ∷ [])) a_join ≡ said.SeqSpent ∷ [])
-    × (answers_to (two_meters ++ (Counter 1 4294967295 ∷ [])) a_join ≡ said.CounterSpent ∷ [])
-    × (answers_to (two_meters ++ (Rand 1 rand_r ∷ eight_waiting 1)) a_challenge ≡ said.BufferFull ∷ [])
-    × (answers_to (two_meters ++ (Number 1 65535 ∷ Rand 1 rand_r ∷ [])) a_challenge ≡ said.SeqSpent ∷ [])
-    × (answers_to (two_meters ++ (Counter 1 4294967295 ∷ Rand 1 rand_r ∷ [])) a_challenge ≡ said.CounterSpent ∷ [])
-    × (answers_to (two_meters ++ (Rand 1 rand_r ∷ [])) a_challenge ≡ said.Replied ∷ [])
-    × (answers_to (two_meters ++ eight_waiting 0) a_join_by_command ≡ said.BufferFull ∷ [])
-    × (answers_to (two_meters ++ (Number 0 65535 ∷ [])) a_join_by_command ≡ said.SeqSpent ∷ [])
-    × (answers_to (two_meters ++ (Counter 0 4294967295 ∷ [])) a_join_by_command ≡ said.CounterSpent ∷ [])
+    (answers_to (two_meters ++ eight_waiting 1) a_join ≡ answers.BufferFull ∷ [])
+    × (answers_to (two_meters ++ (Number 1 65535 ∷ [])) a_join ≡ answers.SeqSpent ∷ [])
+    × (answers_to (two_meters ++ (Counter 1 4294967295 ∷ [])) a_join ≡ answers.CounterSpent ∷ [])
+    × (answers_to (two_meters ++ (Rand 1 rand_r ∷ eight_waiting 1)) a_challenge ≡ answers.BufferFull ∷ [])
+    × (answers_to (two_meters ++ (Number 1 65535 ∷ Rand 1 rand_r ∷ [])) a_challenge ≡ answers.SeqSpent ∷ [])
+    × (answers_to (two_meters ++ (Counter 1 4294967295 ∷ Rand 1 rand_r ∷ [])) a_challenge ≡ answers.CounterSpent ∷ [])
+    × (answers_to (two_meters ++ (Rand 1 rand_r ∷ [])) a_challenge ≡ answers.Replied ∷ [])
+    × (answers_to (two_meters ++ eight_waiting 0) a_join_by_command ≡ answers.BufferFull ∷ [])
+    × (answers_to (two_meters ++ (Number 0 65535 ∷ [])) a_join_by_command ≡ answers.SeqSpent ∷ [])
+    × (answers_to (two_meters ++ (Counter 0 4294967295 ∷ [])) a_join_by_command ≡ answers.CounterSpent ∷ [])

@@ -3,7 +3,7 @@ ghost use Rattle.std.specs.Prelude.{◌≡◌, ◌≤◌, Ok, Err, IfOk, IsSome,
 ghost use Rattle.line_world.specs.NodeOutcomes.{Took};
 ghost use Rattle.line_world.specs.Receiving.{MayHear, ReportsReception};
 ghost use Rattle.line_rules.specs.Steps.{coordinator_node, hears, keeps_rank, ranks_full, restarts, ticked};
-ghost use Rattle.line_events.specs.declared.event.Answer.TheVariants as said;
+ghost use Rattle.line_events.specs.declared.event.Answer.TheVariants as answers;
 ghost use Rattle.node_rules.specs.Accepting as accepting;
 ghost use Rattle.node_rules.specs.Calls as calls;
 ghost use Rattle.node_rules.specs.Carrying.{nothing};
@@ -149,8 +149,8 @@ impl LineCoordinator {
 
     /// Its link to a neighbour broke, so the routes over it are none any more. Answers Broken, or Halted.
     pub fn broke(&mut self, next: Short) -> Answer
-        ensures { Took (acts self.old (said.Halted)
-            (λ m. changing said.Broken (drafts.with_station (calls.broke next m.station) m)))
+        ensures { Took (acts self.old (answers.Halted)
+            (λ m. changing answers.Broken (drafts.with_station (calls.broke next m.station) m)))
             result nothing self.new }
     {
         break_at(self.coordinator.station(), next)
@@ -275,7 +275,7 @@ impl LineCoordinator {
         ensures { Took (stays (record self.old {
           store = record self.old.store
               { cut = Some (record { nth = nth; keeps_new = keeps_new }) };
-        }) said.Set) said.Set nothing self.new }
+        }) answers.Set) answers.Set nothing self.new }
     {
         self.coordinator.station().keeper_mut().cut(nth, keeps_new);
     }

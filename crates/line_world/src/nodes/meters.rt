@@ -15,7 +15,7 @@ ghost use Rattle.node_rules.specs.Replies.{reply_among};
 ghost use Rattle.node_rules.specs.Showing.{shown_of};
 ghost use Rattle.reach_rules.specs.CheckedReplies.{message_of};
 ghost use Rattle.node_rules.specs.Accepting.{same_eui};
-ghost use Rattle.line_events.specs.declared.event.Answer.TheVariants as said;
+ghost use Rattle.line_events.specs.declared.event.Answer.TheVariants as answers;
 ghost use Rattle.line_world.specs.NodeOutcomes.{Did};
 ghost use Rattle.line_world.specs.Nodes.{has_eui};
 ghost use Rattle.line_world.specs.Receiving.{MayHear, Received};
@@ -225,7 +225,7 @@ impl Meters {
     pub fn broke(&mut self, place: usize, next: Short) -> Answer
         requires there { place < length self.old }
         ensures { IfSome (slice_get self.old place) (λ x. Did
-            (acts x said.Halted (λ m. changing said.Broken (drafts.with_station (calls.broke next m.station) m)))
+            (acts x answers.Halted (λ m. changing answers.Broken (drafts.with_station (calls.broke next m.station) m)))
             self.old place result nothing self.new) }
     {
         break_at(self.meters[place].station(), next)
@@ -248,7 +248,7 @@ impl Meters {
         requires nth { 1 ≤ nth }
         ensures { IfSome (slice_get self.old place) (λ x. Did (stays (record x {
           store = record x.store { cut = Some (record { nth = nth; keeps_new = keeps_new }) };
-        }) said.Set) self.old place said.Set nothing self.new) }
+        }) answers.Set) self.old place answers.Set nothing self.new) }
     {
         self.meters[place]
             .station()

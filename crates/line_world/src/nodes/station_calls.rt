@@ -8,7 +8,7 @@ ghost use Rattle.node_rules.specs.Frames.{arrived};
 ghost use Rattle.node_rules.specs.MemoryDrafts.{with_station};
 ghost use Rattle.node_rules.specs.NodeSteps.{acts, of_station, changing};
 ghost use Rattle.node_rules.specs.Showing.{shown_of};
-ghost use Rattle.line_events.specs.declared.event.Answer.TheVariants as said;
+ghost use Rattle.line_events.specs.declared.event.Answer.TheVariants as answers;
 ghost use Rattle.line_world.specs.NodeOutcomes.{Did};
 ghost use Rattle.line_world.specs.Receiving.{MayHear};
 
@@ -68,7 +68,7 @@ impl Nodes {
     pub fn broke(&mut self, number: usize, next: Short) -> Answer
         requires there { number < length self.old }
         ensures { IfSome (slice_get self.old number) (λ x. Did
-            (acts x said.Halted (λ m. changing said.Broken (with_station (calls.broke next m.station) m)))
+            (acts x answers.Halted (λ m. changing answers.Broken (with_station (calls.broke next m.station) m)))
             self.old number result nothing self.new) }
     {
         if number > 0 {

@@ -2,7 +2,7 @@
 ghost use Rattle.std.specs.Prelude.{◌≡◌, ◌≤◌, is_some, length, nat_lt, false, Ok, IfNone, IfSome, MatchResult};
 ghost use Rattle.std.specs.Option.{option_map_or};
 ghost use Rattle.routing_set.specs.RoutingSet as routing;
-ghost use Rattle.line_events.specs.declared.event.Answer.TheVariants as said;
+ghost use Rattle.line_events.specs.declared.event.Answer.TheVariants as answers;
 ghost use Rattle.node_rules.specs.Agreement.{Agrees};
 ghost use Rattle.node_rules.specs.Calls as calls;
 ghost use Rattle.node_rules.specs.Carrying.{Carries, nothing};
@@ -60,7 +60,7 @@ pub(crate) fn offer_near(
 
 // The word for a link that broke.
 fn broken_word(broke: Result<(), Halted>) -> Answer
-    ensures { MatchResult broke (λ _. result ≡ said.Broken) (λ _. result ≡ said.Halted) }
+    ensures { MatchResult broke (λ _. result ≡ answers.Broken) (λ _. result ≡ answers.Halted) }
 {
     match broke {
         Ok(()) => Answer::Broken,
@@ -71,9 +71,9 @@ fn broken_word(broke: Result<(), Halted>) -> Answer
 // A link of the station broke.
 pub(crate) fn break_at(station: &mut Station<MemKeeper>, next: Short) -> Answer
     requires agrees { Agrees station.old }
-    ensures halted { IfNone station.old.memory ((result ≡ said.Halted) × (station.new ≡ station.old)) }
+    ensures halted { IfNone station.old.memory ((result ≡ answers.Halted) × (station.new ≡ station.old)) }
     ensures carries { IfSome station.old.memory (λ l. Carries station.old
-        (resting (calls.broke next l) said.Broken said.Broken) result nothing station.new) }
+        (resting (calls.broke next l) answers.Broken answers.Broken) result nothing station.new) }
     ensures agrees { Agrees station.new }
 {
     let broke = station.broke(next);
@@ -102,7 +102,7 @@ pub(crate) fn is_full(station: &Station<MemKeeper>) -> bool
 
 // The word of a restart.
 pub(crate) fn restart_word(read: Result<(), BadStore>) -> Answer
-    ensures { MatchResult read (λ _. result ≡ said.Restarted) (λ _. result ≡ said.BadStore) }
+    ensures { MatchResult read (λ _. result ≡ answers.Restarted) (λ _. result ≡ answers.BadStore) }
 {
     match read {
         Ok(()) => Answer::Restarted,

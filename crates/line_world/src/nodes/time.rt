@@ -3,7 +3,7 @@ ghost use Rattle.std.specs.Prelude.{◌≡◌, ◌≤◌, ◌<◌, length, map, 
 ghost use Rattle.node_rules.specs.Carrying.{nothing};
 ghost use Rattle.node_rules.specs.NodeSteps.{stays};
 ghost use Rattle.line_rules.specs.Steps.{ticked, restarts};
-ghost use Rattle.line_events.specs.declared.event.Answer.TheVariants as said;
+ghost use Rattle.line_events.specs.declared.event.Answer.TheVariants as answers;
 ghost use Rattle.line_world.specs.NodeOutcomes.{Did};
 
 use crate::nodes::Nodes;
@@ -41,7 +41,7 @@ impl Nodes {
         requires nth { 1 ≤ nth }
         ensures { IfSome (slice_get self.old number) (λ x. Did (stays (record x {
           store = record x.store { cut = Some (record { nth = nth; keeps_new = keeps_new }) };
-        }) said.Set) self.old number said.Set nothing self.new) }
+        }) answers.Set) self.old number answers.Set nothing self.new) }
     {
         if number > 0 {
             self.meters.cut(number - 1, nth, keeps_new);

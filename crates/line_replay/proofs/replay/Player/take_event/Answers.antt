@@ -13,11 +13,11 @@ returns g c =
     c.self.inside.world
     c.step.new.self
     c.args.event.now
-    c.in-Ok.happened
+    c.in-Ok.happenings
     c.write_made.result
     c.counts-taken.ensures.events
     (omega arith)
     c.in-Ok.ensures.step
-    (c.write_made.ensures.is_written (happened_text (c.counts-taken.result.events + 1) c.args.event.now c.in-Ok.happened
-    ++ sent_text c.self.inside.quiet c.step.new.self c.in-Ok.happened.first_flight)
+    (c.write_made.ensures.is_written (happened_text (c.counts-taken.result.events + 1) c.args.event.now c.in-Ok.happenings
+    ++ sent_text c.self.inside.quiet c.step.new.self c.in-Ok.happenings.first_flight)
     (made_so c.push_entry-made.result _ c.as_str.ensures.value c.clear.ensures.bytes c.push_entry-made.ensures)))

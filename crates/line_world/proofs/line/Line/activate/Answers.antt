@@ -8,9 +8,9 @@ use Rattle.node_rules.specs.Ciphers.{network}
 use Rattle.node_rules.specs.Coordinators as coordinators
 use Rattle.node_rules.specs.Memory.{Node}
 use Rattle.node_rules.specs.NodeSteps.{acts}
-use Rattle.line_events.specs.declared.event.Answer.TheVariants as said
+use Rattle.line_events.specs.declared.event.Answer.TheVariants as answers
 use Rattle.line_rules.specs.Answers.{ordered_word}
-use Rattle.line_rules.specs.Steps.{activate, by_coordinator, happened}
+use Rattle.line_rules.specs.Steps.{activate, by_coordinator, happenings}
 use Rattle.line_rules.specs.Worlds.{World}
 use Rattle.line_world.specs.Lines.{world_of}
 use Rattle.line_world.proofs.Taking.{IsThere, steps_as, begun, is_there, node_acted, node_answered, not_found, has_coordinator, unreserved, taking}
@@ -26,23 +26,23 @@ returns-in_err-number c =
 
 -- at the coordinator itself
 activates_self : {w : World} {number found : ℕ} (r : Runs w) (there : IsThere w number found) (index : ℕ) → found ≡ 0
-    → activate network w number index ≡ Ok (by_coordinator network w (first_there w r.begun).node said.Activated (λ k. coordinators.activate_self k index))
+    → activate network w number index ≡ Ok (by_coordinator network w (first_there w r.begun).node answers.Activated (λ k. coordinators.activate_self k index))
 unfolding activate
 activates_self {w} {number} r there index zero =
     let c = (first_there w r.begun).node in
     let is : (number == 0) ≡ true = ap (λ (n : ℕ). n == 0) (sym there.same ∙ zero) in
-    about_node r there _ ∙ ap (λ (b : Bool). Ok (if b then by_coordinator network w c said.Activated (λ k. coordinators.activate_self k index)
-    else by_coordinator network w c said.Ordered (λ k. coordinators.activate k there.node.eui index w.clock))) is
+    about_node r there _ ∙ ap (λ (b : Bool). Ok (if b then by_coordinator network w c answers.Activated (λ k. coordinators.activate_self k index)
+    else by_coordinator network w c answers.Ordered (λ k. coordinators.activate k there.node.eui index w.clock))) is
 
 -- at a meter, by an order
 activates_meter : {w : World} {number found : ℕ} (r : Runs w) (there : IsThere w number found) (index : ℕ) → 1 ≤ found
     → activate network w number index
-    ≡ Ok (by_coordinator network w (first_there w r.begun).node said.Ordered (λ k. coordinators.activate k there.node.eui index w.clock))
+    ≡ Ok (by_coordinator network w (first_there w r.begun).node answers.Ordered (λ k. coordinators.activate k there.node.eui index w.clock))
 unfolding activate
 activates_meter {w} {number} r there index some =
     let c = (first_there w r.begun).node in
-    about_node r there _ ∙ ap (λ (b : Bool). Ok (if b then by_coordinator network w c said.Activated (λ k. coordinators.activate_self k index)
-    else by_coordinator network w c said.Ordered (λ k. coordinators.activate k there.node.eui index w.clock))) (is_some_meter there some)
+    about_node r there _ ∙ ap (λ (b : Bool). Ok (if b then by_coordinator network w c answers.Activated (λ k. coordinators.activate_self k index)
+    else by_coordinator network w c answers.Ordered (λ k. coordinators.activate k there.node.eui index w.clock))) (is_some_meter there some)
 
 pub returns-then-number-eq0 : goal.returns-then-number-eq0
 returns-then-number-eq0 c =
@@ -55,8 +55,8 @@ returns-then-number-eq0 c =
     let there = is_there w c.args.node c.in_ok-number.number c.in_ok-number.ensures in
     steps_as _ _ (activates_self r there c.args.index c.if-number-eq0.true)
     (node_answered (not (c.args.node == 0)) w _ (first_there w r.begun) (λ x. acts x (Err orders.Halted) (λ k. coordinators.activate_self k c.args.index))
-    (ordered_word said.Activated) _ _ _
-    r.bounds r.room c.activate_self-done.ensures (c.answered.ensures.reported ∙ ap (λ a. happened w a) c.ordered_word.ensures)
+    (ordered_word answers.Activated) _ _ _
+    r.bounds r.room c.activate_self-done.ensures (c.answered.ensures.reported ∙ ap (λ a. happenings w a) c.ordered_word.ensures)
     (ap world_of c.answered.ensures.line))
 
 pub returns-in_err-reserve : goal.returns-in_err-reserve
@@ -96,8 +96,8 @@ returns c =
     let first = first_there kept r.begun in
     taking (ap (λ (b : Bool). not b) (is_some_meter there some)) (reserved kept w (λ it. activate network it c.args.node c.args.index) same
     (steps_as _ _ (activates_meter r there c.args.index some
-    ∙ ap (λ e. Ok (by_coordinator network kept first.node said.Ordered (λ k. coordinators.activate k e c.args.index kept.clock))) (sym eui))
+    ∙ ap (λ e. Ok (by_coordinator network kept first.node answers.Ordered (λ k. coordinators.activate k e c.args.index kept.clock))) (sym eui))
     (node_acted true kept _ first (λ x. acts x (Err orders.Halted) (λ k. coordinators.activate k c.eui-eui.result c.args.index kept.clock))
-    (ordered_word said.Ordered) _ _ _ _
-    r.bounds r.room c.acted.ensures.frames c.acted.ensures.tags c.activate-done.ensures (said_with kept _ _ _ _ c.acted.ensures.reported c.ordered_word-2.ensures)
-    c.acted.ensures.world)))
+    (ordered_word answers.Ordered) _ _ _ _
+    r.bounds r.room c.node_outcome.ensures.frames c.node_outcome.ensures.tags c.activate-done.ensures (said_with kept _ _ _ _ c.node_outcome.ensures.reported c.ordered_word-2.ensures)
+    c.node_outcome.ensures.world)))

@@ -12,7 +12,7 @@ use Rattle.node_rules.specs.Coordinators as coordinators
 use Rattle.node_rules.specs.Memory.{Node}
 use Rattle.node_rules.specs.NodeSteps.{NodeStep, acts}
 use Rattle.line_events.specs.declared.event.StepFault.TheVariants as faults
-use Rattle.line_rules.specs.Steps.{allow, allowed, happened, psk_of}
+use Rattle.line_rules.specs.Steps.{allow, allowed, happenings, psk_of}
 use Rattle.line_rules.specs.Worlds.{World}
 use Rattle.line_world.specs.Lines.{world_of}
 use Rattle.line_world.proofs.Taking.{steps_as}
@@ -31,8 +31,8 @@ eui-eui-requires-clause-there c = (is_meter (world_of c.args.self.now) c.args.no
 pub psk-psk-requires-clause-there : goal.psk-psk-requires-clause-there
 psk-psk-requires-clause-there c = (is_meter (world_of c.args.self.now) c.args.node c.in_ok-number.number c.in_ok-number.ensures).there.within
 
-pub overflow_cast-happened : goal.overflow_cast-happened
-overflow_cast-happened c =
+pub overflow_cast-happenings : goal.overflow_cast-happenings
+overflow_cast-happenings c =
     let w = world_of c.args.self.now in
     let small = within_line c.requires.bounds (is_meter w c.args.node c.in_ok-number.number c.in_ok-number.ensures).there in
     omega (arith, small)
@@ -68,8 +68,8 @@ returns-in-Ok c =
     let same = m.there.same in
     steps_as _ _ (allow_is r m eui psk eui_is psk_is)
     (has_allowed w _ c.args.node (first_there w r.begun) (allows eui psk) (Ok c.in-Ok.address) _ _ r.bounds r.room c.in-Ok.ensures
-    (λ i. record (c.answered-happened.ensures.reported i) { grant = Some (record { node = same i; address = c.in-Ok.address }) })
-    (ap world_of c.answered-happened.ensures.line))
+    (λ i. record (c.answered-happenings.ensures.reported i) { grant = Some (record { node = same i; address = c.in-Ok.address }) })
+    (ap world_of c.answered-happenings.ensures.line))
 
 pub returns-in-Err : goal.returns-in-Err
 unfolding allows
@@ -87,4 +87,4 @@ returns-in-Err c =
     let psk_is = of_found m.there (λ (x : Node). psk_of x ≡ Some psk) c.psk-psk.ensures in
     steps_as _ _ (allow_is r m eui psk eui_is psk_is)
     (has_allowed w _ c.args.node (first_there w r.begun) (allows eui psk) (Err c.in-Err.reason) _ _ r.bounds r.room c.in-Err.ensures
-    (c.answered.ensures.reported ∙ ap (λ a. happened w a) c.order_word.ensures) (ap world_of c.answered.ensures.line))
+    (c.answered.ensures.reported ∙ ap (λ a. happenings w a) c.order_word.ensures) (ap world_of c.answered.ensures.line))

@@ -7,8 +7,8 @@ use Rattle.node_rules.specs.Ciphers.{network}
 use Rattle.node_rules.specs.Memory.{Node, node_address}
 use Rattle.node_rules.specs.MemoryDrafts.{with_station}
 use Rattle.node_rules.specs.NodeSteps.{acts, changing}
-use Rattle.line_events.specs.declared.event.Answer.TheVariants as said
-use Rattle.line_rules.specs.Steps.{breaks, breaks_by, happened, trace_of}
+use Rattle.line_events.specs.declared.event.Answer.TheVariants as answers
+use Rattle.line_rules.specs.Steps.{breaks, breaks_by, happenings, trace_of}
 use Rattle.line_world.specs.Lines.{world_of}
 use Rattle.line_world.proofs.Taking.{steps_as, begun, at_node, is_there, holds_there, node_said, only_ran, not_found, second_not_found, has_coordinator}
 use Rattle.line_world.proofs.line.Line.breaks.Goals as goal
@@ -38,7 +38,7 @@ returns-in_default c =
     steps_as _ _ (begun w _ (has_coordinator (world_of c.args.self.now) c.args.node c.in_ok-number.number c.in_ok-number.ensures)
     ∙ at_node w c.args.node there.node _ there.at ∙ at_node w c.args.next next.node _ next.at
     ∙ ap (λ a. Ok (breaks_by network w c.args.node there.node a)) (sym (holds_there next (λ y. None ≡ node_address y) c.in_default.ensures)))
-    (only_ran false w _ (trace_of (happened w said.NoAddress)) _ c.requires.bounds c.requires.events c.answered.ensures.reported
+    (only_ran false w _ (trace_of (happenings w answers.NoAddress)) _ c.requires.bounds c.requires.events c.answered.ensures.reported
     (ap world_of c.answered.ensures.line))
 
 pub broke-answer-requires : goal.broke-answer-requires
@@ -53,5 +53,5 @@ returns c =
     steps_as _ _ (begun w _ (has_coordinator (world_of c.args.self.now) c.args.node c.in_ok-number.number c.in_ok-number.ensures)
     ∙ at_node w c.args.node there.node _ there.at ∙ at_node w c.args.next next.node _ next.at
     ∙ ap (λ a. Ok (breaks_by network w c.args.node there.node a)) (sym (holds_there next (λ y. Some c.in-Some.address ≡ node_address y) c.in-Some.ensures)))
-    (node_said false w _ there (λ (x : Node). acts x said.Halted (λ m. changing said.Broken (with_station (calls.broke c.in-Some.address m.station) m))) _ _ _
+    (node_said false w _ there (λ (x : Node). acts x answers.Halted (λ m. changing answers.Broken (with_station (calls.broke c.in-Some.address m.station) m))) _ _ _
     c.requires.bounds c.requires.events c.broke-answer.ensures c.answered-2.ensures.reported (ap world_of c.answered-2.ensures.line))

@@ -3,7 +3,7 @@ use Rattle.std.proofs.Common.{◌≡◌, ◌<◌, ◌∙◌, ℕ, List, length, 
 use Rattle.std.specs.Prelude.{IfSome, slice_get}
 use Rattle.plc_base.specs.declared.out_frame.Out.{Out}
 use Rattle.reach_rules.specs.ReachingNodes.{Beside}
-use Rattle.line_world.specs.Arrivals.{Acknowledges, left_of, said_of}
+use Rattle.line_world.specs.Arrivals.{Acknowledges, left_of, reception_happenings}
 use Rattle.line_world.specs.declared.nodes.reception.Reception.{Reception}
 use Rattle.line_world.specs.Lines.{world_of}
 use Rattle.line_world.proofs.CheckedFrames.{beside_then, bounds_then, checked_bounds, checked_events, checked_then, events_then, joined_then, room_then}
@@ -72,7 +72,7 @@ returns-then-not-acknowledged c =
     c.requires.events
     c.received.ensures.frames c.received.ensures.tags c.is_forged-forged.ensures c.acknowledged.result c.if-not-acknowledged.true
     c.acknowledged.ensures.acknowledges
-    (c.received.ensures.reported ∙ ap (λ (r : Reception). said_of (world_of c.acknowledged.new.self) c.args.node c.acknowledged.new.self.out
+    (c.received.ensures.reported ∙ ap (λ (r : Reception). reception_happenings (world_of c.acknowledged.new.self) c.args.node c.acknowledged.new.self.out
     c.is_forged-forged.result r) c.failed.ensures)
     (c.received.ensures.world ∙ ap (λ (r : Reception). left_of (world_of c.acknowledged.new.self) c.args.node c.acknowledged.new.self.out
     c.is_forged-forged.result r) c.failed.ensures)

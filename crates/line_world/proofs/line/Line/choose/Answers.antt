@@ -10,7 +10,7 @@ use Rattle.reach_rules.specs.declared.refusal.ChooseRefusal.TheVariants as choic
 use Rattle.reach_rules.specs.ReachingNodes.{Beside}
 use Rattle.line_events.specs.declared.event.StepFault.{StepFault}
 use Rattle.line_rules.specs.Further.{beside_at, choose, chooses_by}
-use Rattle.line_rules.specs.Steps.{psk_of, ran}
+use Rattle.line_rules.specs.Steps.{psk_of, running_world}
 use Rattle.line_rules.specs.Worlds.{World}
 use Rattle.line_world.specs.Discovering.{joins_in}
 use Rattle.line_world.specs.Lines.{world_of}
@@ -85,7 +85,7 @@ returns-then-halted c =
     reserved kept w (λ it. choose network it node c.args.k) same
     (steps_as _ _ (chooses_so f c.args.k)
     (choice_halted kept _ node x c.args.k c.psk-psk.result _ f.at none f.runs.bounds f.runs.room c.answered.ensures.reported
-    (ap world_of c.answered.ensures.line ∙ (λ i. record (ran kept) { nodes = c.if-halted.ensures.same i }))))
+    (ap world_of c.answered.ensures.line ∙ (λ i. record (running_world kept) { nodes = c.if-halted.ensures.same i }))))
 
 pub address-requires : goal.address-requires
 address-requires c =
@@ -115,7 +115,7 @@ returns-then-is_some c =
     (steps_as _ _ (chooses_so f c.args.k)
     (choice_refused kept node x c.args.k c.psk-psk.result m.0 f.at m.1 _ _ choices.AlreadyJoined f.runs.bounds f.runs.room
     (choice_joined kept node x c.args.k c.psk-psk.result m.0 f.at m.1 joined) c.answered-then-is_some.ensures.reported
-    (ap world_of c.answered-then-is_some.ensures.line ∙ (λ i. record (ran kept) { nodes = c.if-halted.ensures.same i }))))
+    (ap world_of c.answered-then-is_some.ensures.line ∙ (λ i. record (running_world kept) { nodes = c.if-halted.ensures.same i }))))
 
 pub index-requires : goal.index-requires
 index-requires c =
@@ -154,7 +154,7 @@ returns-in_default c =
     (steps_as _ _ (chooses_so f c.args.k)
     (choice_refused kept node x c.args.k c.psk-psk.result m.0 f.at m.1 _ _ choices.NoBeacon f.runs.bounds f.runs.room
     (choice_nobody kept node x c.args.k c.psk-psk.result m.0 f.at m.1 apart none) answered.ensures.reported
-    (ap world_of answered.ensures.line ∙ (λ i. record (ran kept) { nodes = c.if-halted.ensures.same i }))))
+    (ap world_of answered.ensures.line ∙ (λ i. record (running_world kept) { nodes = c.if-halted.ensures.same i }))))
 
 pub join_by-requires-clause-there : goal.join_by-requires-clause-there
 join_by-requires-clause-there c =

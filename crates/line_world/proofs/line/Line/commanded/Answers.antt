@@ -45,8 +45,8 @@ hear_command-commanded-requires-clause-room c =
     c.hear-reported.new.self
     x.1 c.requires.command heard
 
-pub received-happened-requires-clause-bounds : goal.received-happened-requires-clause-bounds
-received-happened-requires-clause-bounds c =
+pub received-happenings-requires-clause-bounds : goal.received-happenings-requires-clause-bounds
+received-happenings-requires-clause-bounds c =
     let w = world_of c.args.self.now in
     let number = c.args.node in
     let x = at_some w.nodes number c.requires.there in
@@ -71,7 +71,7 @@ returns c =
     let within : number < length w.beside = subst (λ (n : ℕ). number < n) (sym c.requires.beside) c.requires.there in
     let held : c.index_mut.result.now ≡ beside_at w number = beside_found w.beside number c.index_mut.result.now within c.index_mut.ensures.value in
     let done = c.hear_command-commanded.result in
-    let heard_it = c.received-happened.result in
+    let heard_it = c.received-happenings.result in
     let h : Happenings =
     record {
       answer = done.answer;
@@ -87,14 +87,14 @@ returns c =
       first_flight = heard_it.first_flight;
       flights = heard_it.flights;
     } in
-    subst (λ (o : Option Node). IfSome o (λ y. Steps true w (Ok h) (world_of c.received-happened.new.self)
+    subst (λ (o : Option Node). IfSome o (λ y. Steps true w (Ok h) (world_of c.received-happenings.new.self)
     (Ok (heard_by_command network w number y c.args.got.now c.args.origin c.args.cost (Some (command_of c.args.command.now)))))) (sym x.1)
     (was_commanded w _ number x.0 c.args.got.now (command_of c.args.command.now) c.args.origin c.args.cost c.hear-reported.result c.hear-reported.new.out
     c.hear_command-commanded.new.out
     c.hear-reported.new.self c.hear_command-commanded.new.self c.is_forged-forged.result done c.index_mut.result.now c.hear_command-commanded.new.beside h
-    c.requires.bounds c.requires.events c.received-happened.ensures.frames c.received-happened.ensures.tags x.1 c.requires.command heard held
+    c.requires.bounds c.requires.events c.received-happenings.ensures.frames c.received-happenings.ensures.tags x.1 c.requires.command heard held
     c.hear_command-commanded.ensures c.is_forged-forged.ensures
-    (λ i. record (c.received-happened.ensures.reported i) {
+    (λ i. record (c.received-happenings.ensures.reported i) {
       answer = done.answer;
       forged = c.is_forged-forged.result;
       bup = done.bup;
@@ -102,4 +102,4 @@ returns c =
       path = done.path;
       grant = None;
       shown = None;
-    }) c.received-happened.ensures.world)
+    }) c.received-happenings.ensures.world)

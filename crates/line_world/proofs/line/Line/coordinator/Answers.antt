@@ -2,10 +2,10 @@
 use Rattle.std.specs.Prelude.{is_ok}
 use Rattle.std.proofs.Common.{ap, ◌∙◌, refl, [], ◌∷◌, ◌++◌}
 use Rattle.line_events.specs.declared.event.StepFault.TheVariants as faults
-use Rattle.line_events.specs.declared.event.Answer.TheVariants as said
+use Rattle.line_events.specs.declared.event.Answer.TheVariants as answers
 use Rattle.reach_rules.specs.ReachingNodes.{nothing_beside}
 use Rattle.line_rules.specs.Worlds.{World}
-use Rattle.line_rules.specs.Steps.{happened, set_up}
+use Rattle.line_rules.specs.Steps.{happenings, set_up}
 use Rattle.line_world.specs.declared.line.Line.{Line}
 use Rattle.line_world.specs.Lines.{world_of}
 use Rattle.line_world.proofs.Taking.{refused, out_of_memory}
@@ -33,6 +33,6 @@ returns c =
     let w = world_of c.args.self.now in
     first_made w _ c.args.eui c.args.key.now _ _ c.requires.bounds c.requires.events c.if-has_begun.ensures
     (went_well _ c.make_coordinator.ensures.ok c.if-is_err-2.ensures.value)
-    (c.happened.ensures ∙ ap (λ (l : Line). happened (world_of l) said.Made) c.set_up.ensures ∙ ap (λ (v : World). happened v said.Made) c.hold_beside.ensures)
+    (c.happenings.ensures ∙ ap (λ (l : Line). happenings (world_of l) answers.Made) c.set_up.ensures ∙ ap (λ (v : World). happenings v answers.Made) c.hold_beside.ensures)
     (ap world_of c.set_up.ensures ∙ ap (λ (v : World). set_up v) c.hold_beside.ensures
     ∙ (λ i. record (set_up w) { nodes = c.make_coordinator.new.self; beside = c.reserve.ensures.items i ++ nothing_beside ∷ [] }))

@@ -4,7 +4,7 @@ use Rattle.line_events.specs.declared.event.StepFault.{StepFault}
 use Rattle.std.proofs.lemmas.Result.{err_from_is_err_and}
 use Rattle.node_rules.specs.Memory.{Node}
 use Rattle.node_rules.specs.NodeSteps.{stays}
-use Rattle.line_events.specs.declared.event.Answer.TheVariants as said
+use Rattle.line_events.specs.declared.event.Answer.TheVariants as answers
 use Rattle.line_rules.specs.Steps.{cut}
 use Rattle.line_world.specs.Lines.{world_of}
 use Rattle.line_world.proofs.Taking.{steps_as, begun, at_node, is_there, node_said, not_found, has_coordinator}
@@ -27,5 +27,5 @@ returns c =
     steps_as _ _ (begun w _ (has_coordinator (world_of c.args.self.now) c.args.node c.in_ok-number.number c.in_ok-number.ensures)
     ∙ at_node w c.args.node there.node _ there.at)
     (node_said false w _ there (λ (x : Node). stays
-    (record x { store = record x.store { cut = Some (record { nth = c.args.nth; keeps_new = c.args.keeps_new }) } }) said.Set) said.Set _ _
+    (record x { store = record x.store { cut = Some (record { nth = c.args.nth; keeps_new = c.args.keeps_new }) } }) answers.Set) answers.Set _ _
     c.requires.bounds c.requires.events c.cut.ensures c.answered.ensures.reported (ap world_of c.answered.ensures.line))

@@ -3,8 +3,8 @@ use Rattle.std.proofs.Common.{◌≡◌, ◌<◌, ◌≤◌, length, ap, refl, s
 use Rattle.line_events.specs.declared.event.StepFault.{StepFault}
 use Rattle.line_events.specs.declared.event.StepFault.TheVariants as faults
 use Rattle.std.proofs.lemmas.Result.{err_from_is_err_and}
-use Rattle.line_events.specs.declared.event.Answer.TheVariants as said
-use Rattle.line_rules.specs.Steps.{depot, happened}
+use Rattle.line_events.specs.declared.event.Answer.TheVariants as answers
+use Rattle.line_rules.specs.Steps.{depot, happenings}
 use Rattle.line_world.specs.declared.line.Line.{Line}
 use Rattle.line_world.specs.Lines.{world_of}
 use Rattle.line_world.proofs.Taking.{is_there, refused}
@@ -71,4 +71,4 @@ returns c =
     c.provision.new.self _ c.requires.bounds
     c.requires.events c.if-not-takes_setup.ensures above c.address.ensures c.if-is_some.ensures c.eui-eui.ensures c.psk-psk.ensures c.depot.ensures c.in-Ok.is
     c.provision.ensures
-    (c.happened.ensures ∙ ap (λ (l : Line). happened (world_of l) said.Joined) c.set_up.ensures) (ap world_of c.set_up.ensures)
+    (c.happenings.ensures ∙ ap (λ (l : Line). happenings (world_of l) answers.Joined) c.set_up.ensures) (ap world_of c.set_up.ensures)

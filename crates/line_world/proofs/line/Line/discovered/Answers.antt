@@ -6,7 +6,7 @@ use Rattle.reach_rules.specs.declared.refusal.DiscoveryDropped.TheVariants as dr
 use Rattle.reach_rules.specs.Beacons.{hear_discovery_in}
 use Rattle.line_rules.specs.Answers.{discovery_word}
 use Rattle.line_rules.specs.Further.{beacon_taken, beside_at}
-use Rattle.line_rules.specs.Steps.{ran}
+use Rattle.line_rules.specs.Steps.{running_world}
 use Rattle.line_world.specs.Discovering.{discovered_by, discovered_in, discovers_in}
 use Rattle.line_world.specs.Lines.{world_of}
 use Rattle.line_world.specs.Steps.{Steps}
@@ -28,4 +28,4 @@ returns-in-None c =
     (discovery_stays w (world_of answered.new.self) node discovery_word (beacon_taken node None link)
     (hear_discovery_in x.role k.0.station (beside_at w node).scan None link) answered.result
     c.requires.bounds c.requires.events (Err drops.Malformed) refl
-    answered.ensures.reported (ap world_of answered.ensures.line ∙ (λ i. record (ran w) { nodes = c.if-halted.ensures.same i }))))
+    answered.ensures.reported (ap world_of answered.ensures.line ∙ (λ i. record (running_world w) { nodes = c.if-halted.ensures.same i }))))

@@ -6,7 +6,7 @@ use Rattle.plc_base.specs.declared.address.TheConstants.{PAN}
 use Rattle.node_rules.specs.Memory.{Node, node_address}
 use Rattle.reach_rules.specs.ReachingNodes.{Beside}
 use Rattle.line_rules.specs.Further.{beside_at}
-use Rattle.line_events.specs.declared.event.Answer.TheVariants as said
+use Rattle.line_events.specs.declared.event.Answer.TheVariants as answers
 use Rattle.line_world.specs.Discovering.{HearsBeacon, TakesBeacon}
 use Rattle.line_world.specs.Lines.{world_of}
 use Rattle.line_world.proofs.Discoveries.{address_in, at_number, beacon_elsewhere, beacon_joined, beacon_own, beacon_taken_in, beside_has, by_memory}
@@ -16,7 +16,7 @@ pub returns-then-pan-ne-PAN : goal.returns-then-pan-ne-PAN
 returns-then-pan-ne-PAN c =
     let w = world_of c.args.self.now in
     let a = c.args in
-    by_memory w.nodes a.node (λ x m. HearsBeacon w a.node m.station a.pan a.from a.cost a.link said.NotForMe w)
+    by_memory w.nodes a.node (λ x m. HearsBeacon w a.node m.station a.pan a.from a.cost a.link answers.NotForMe w)
     (λ x m at here. beacon_elsewhere w a.node m.station a.pan a.from a.cost a.link (ne_eqb a.pan PAN c.if-pan-ne-PAN.true))
 
 pub returns-then-number : goal.returns-then-number
@@ -24,7 +24,7 @@ returns-then-number c =
     let w = world_of c.args.self.now in
     let a = c.args in
     let own = c.in-Some.own in
-    by_memory w.nodes a.node (λ x m. HearsBeacon w a.node m.station a.pan a.from a.cost a.link said.NotForMe w)
+    by_memory w.nodes a.node (λ x m. HearsBeacon w a.node m.station a.pan a.from a.cost a.link answers.NotForMe w)
     (λ x m at here. beacon_own w a.node m.station a.pan a.from a.cost a.link own (eq-eqb a.pan PAN c.if-pan-ne-PAN.false)
     (address_in x m (Some own) here (at_number _ x (λ (y : Node). ◌≡◌ {A = Option ℕ} (Some own) (node_address y)) at c.in-Some.ensures))
     (eq-eqb own a.from (sym c.number.ensures.value ∙ c.if-number.true ∙ c.number-in-Some.ensures.value)))
@@ -34,7 +34,7 @@ returns-else-number c =
     let w = world_of c.args.self.now in
     let a = c.args in
     let own = c.in-Some.own in
-    by_memory w.nodes a.node (λ x m. HearsBeacon w a.node m.station a.pan a.from a.cost a.link said.NotScanning w)
+    by_memory w.nodes a.node (λ x m. HearsBeacon w a.node m.station a.pan a.from a.cost a.link answers.NotScanning w)
     (λ x m at here. beacon_joined w a.node m.station a.pan a.from a.cost a.link own (eq-eqb a.pan PAN c.if-pan-ne-PAN.false)
     (address_in x m (Some own) here (at_number _ x (λ (y : Node). ◌≡◌ {A = Option ℕ} (Some own) (node_address y)) at c.in-Some.ensures))
     (ne_eqb own a.from (λ e. c.if-number.false (c.number.ensures.value ∙ e ∙ sym c.number-in-Some.ensures.value))))

@@ -11,7 +11,7 @@ use Rattle.reach_rules.specs.declared.refusal.DiscoveryDropped.TheVariants as dr
 use Rattle.reach_rules.specs.Beacons.{cost_home, hear_request}
 use Rattle.line_rules.specs.Answers.{discovery_word}
 use Rattle.line_rules.specs.Further.{beacon_taken, beside_at}
-use Rattle.line_rules.specs.Steps.{ran}
+use Rattle.line_rules.specs.Steps.{running_world}
 use Rattle.line_world.specs.Discovering.{discovers_in, flies_in}
 use Rattle.line_world.specs.Lines.{world_of}
 use Rattle.line_world.specs.Steps.{Steps}
@@ -53,7 +53,7 @@ returns-in_default-cost_home c =
     (cost_in x m None here
     (at_number _ x (λ (y : Node). ◌≡◌ {A = Option ℕ} None (option_and_then (λ (k : Memory). cost_home y.role k.station) y.memory)) at
     c.in_default-cost_home.ensures.value)))
-    answered.ensures.reported (ap world_of answered.ensures.line ∙ (λ i. record (ran w) { nodes = c.cost_home.ensures.same i })))
+    answered.ensures.reported (ap world_of answered.ensures.line ∙ (λ i. record (running_world w) { nodes = c.cost_home.ensures.same i })))
 
 pub returns : goal.returns
 returns c =

@@ -10,9 +10,9 @@ use Rattle.node_rules.specs.Memory.{Node, node_address}
 use Rattle.node_rules.specs.Meters as meters
 use Rattle.node_rules.specs.NodeSteps.{acts, answering}
 use Rattle.line_world.specs.NodeOutcomes.{Did}
-use Rattle.line_events.specs.declared.event.Answer.TheVariants as said
+use Rattle.line_events.specs.declared.event.Answer.TheVariants as answers
 use Rattle.line_rules.specs.Answers.{join_word}
-use Rattle.line_rules.specs.Steps.{acted, identity, join, joins_by, on_node, psk_of}
+use Rattle.line_rules.specs.Steps.{node_outcome, identity, join, joins_by, on_node, psk_of}
 use Rattle.line_rules.specs.Worlds.{World}
 use Rattle.line_world.specs.Lines.{world_of}
 use Rattle.line_world.specs.Steps.{has_address}
@@ -58,7 +58,7 @@ returns-in_default c =
     let there = is_there w c.args.agent c.in_ok-agent.agent c.in_ok-agent.ensures in
     let none = of_found there (λ (y : Node). ◌≡◌ {A = Option ℕ} None (node_address y)) c.in_default.ensures in
     steps_as _ _ (joins_at r m there ∙ ap (λ (o : Option ℕ). Ok (joins_by network w c.args.node m.there.node o (psk_of m.there.node))) (sym none))
-    (only_said (has_address w c.args.agent) w _ said.NoAddress _ r.bounds r.room c.answered.ensures.reported (ap world_of c.answered.ensures.line))
+    (only_said (has_address w c.args.agent) w _ answers.NoAddress _ r.bounds r.room c.answered.ensures.reported (ap world_of c.answered.ensures.line))
 
 pub returns-in_err-reserve : goal.returns-in_err-reserve
 returns-in_err-reserve c =
@@ -80,8 +80,8 @@ join-asked-requires-clause-there c =
     let there = (is_meter (world_of c.args.self.now) c.args.node c.in_ok-number.number c.in_ok-number.ensures).there in
     subst (λ (it : World). c.in_ok-number.number < length it.nodes) (sym c.reserve.ensures.world) there.within
 
-pub acted-requires-clause-node : goal.acted-requires-clause-node
-acted-requires-clause-node c =
+pub node_outcome-requires-clause-node : goal.node_outcome-requires-clause-node
+node_outcome-requires-clause-node c =
     within_line c.requires.bounds (is_meter (world_of c.args.self.now) c.args.node c.in_ok-number.number c.in_ok-number.ensures).there
 
 -- What the tests of a joining have found: the meter with its pair key, and the agent with its address.
@@ -93,7 +93,7 @@ record Found (w : World) (number found agent by address : ℕ) (psk : Key) : Typ
   at : node_address there.node ≡ Some address
 
 joins_is : {w : World} {number found agent by address : ℕ} {psk : Key} (f : Found w number found agent by address psk)
-    → join network w number agent ≡ Ok (acted network w number (answering join_word
+    → join network w number agent ≡ Ok (node_outcome network w number (answering join_word
     (acts f.meter.there.node (Err joins.Halted) (λ k. meters.join (identity network f.meter.there.node psk) k address w.clock))))
 joins_is {w} {number} f =
     let at = f.at in
@@ -144,7 +144,7 @@ returns c =
     (steps_as _ _ (joins_is f)
     (node_acted true kept _ f.meter.there (λ y. acts y (Err joins.Halted) (λ k. meters.join (identity network y psk) k address kept.clock)) join_word asked out
     nodes _
-    f.runs.bounds f.runs.room c.acted.ensures.frames c.acted.ensures.tags
+    f.runs.bounds f.runs.room c.node_outcome.ensures.frames c.node_outcome.ensures.tags
     (as_found f.meter.there (λ (y : Node). Did (acts y (Err joins.Halted) (λ k. meters.join (identity network y psk) k address kept.clock)) kept.nodes
     c.in_ok-number.number asked out nodes) by_key)
-    (said_with kept _ _ _ _ c.acted.ensures.reported c.join_word.ensures) c.acted.ensures.world)))
+    (said_with kept _ _ _ _ c.node_outcome.ensures.reported c.join_word.ensures) c.node_outcome.ensures.world)))

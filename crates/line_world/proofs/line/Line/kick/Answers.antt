@@ -4,7 +4,7 @@ use Rattle.std.proofs.Common.{Err, true, refl, ap, ◌∙◌}
 use Rattle.std.proofs.lemmas.Result.{err_from_is_err_and}
 use Rattle.node_rules.specs.Ciphers.{network}
 use Rattle.node_rules.specs.Coordinators as coordinators
-use Rattle.line_events.specs.declared.event.Answer.TheVariants as said
+use Rattle.line_events.specs.declared.event.Answer.TheVariants as answers
 use Rattle.line_events.specs.declared.event.StepFault.{StepFault}
 use Rattle.line_rules.specs.Steps.{kick, by_coordinator}
 use Rattle.line_world.specs.Lines.{world_of}
@@ -24,7 +24,7 @@ returns-in_err-reserve c =
     let p = err_from_is_err_and c.from_residual-in_err-reserve.result c.from_residual-in_err-reserve.ensures.1 in
     rw p.1 (unreserved w (world_of c.reserve.new.self) _ p.0 c.requires.bounds c.reserve.ensures.world
     (about_taken w c.args.node c.in_ok-number.number c.requires.bounds c.requires.events c.in_ok-number.ensures
-    (λ x e. by_coordinator network w e said.Kicked (λ m. coordinators.kick m x.eui)))
+    (λ x e. by_coordinator network w e answers.Kicked (λ m. coordinators.kick m x.eui)))
     (ap (λ (f : StepFault). Err f) p.2 ∙ c.in_err-reserve.ensures.err))
 
 pub eui-eui-requires-clause-there : goal.eui-eui-requires-clause-there
@@ -36,9 +36,9 @@ eui-eui-requires-clause-there c =
 pub returns : goal.returns
 unfolding kick
 returns c =
-    has_ordered (world_of c.args.self.now) (world_of c.reserve.new.self) (world_of c.acted.new.self) c.args.node c.in_ok-number.number c.reserve.ensures.world
+    has_ordered (world_of c.args.self.now) (world_of c.reserve.new.self) (world_of c.node_outcome.new.self) c.args.node c.in_ok-number.number c.reserve.ensures.world
     c.requires.bounds
-    c.requires.events c.in_ok-number.ensures (λ it. kick network it c.args.node) said.Kicked (λ x e k. coordinators.kick k e)
-    c.eui-eui.result c.kick-done.result c.kick-done.new.out c.kick-done.new.self c.ordered_word.result c.acted.result refl c.eui-eui.ensures c.kick-done.ensures
-    c.acted.ensures.frames
-    c.acted.ensures.tags c.ordered_word.ensures c.acted.ensures.reported c.acted.ensures.world
+    c.requires.events c.in_ok-number.ensures (λ it. kick network it c.args.node) answers.Kicked (λ x e k. coordinators.kick k e)
+    c.eui-eui.result c.kick-done.result c.kick-done.new.out c.kick-done.new.self c.ordered_word.result c.node_outcome.result refl c.eui-eui.ensures c.kick-done.ensures
+    c.node_outcome.ensures.frames
+    c.node_outcome.ensures.tags c.ordered_word.ensures c.node_outcome.ensures.reported c.node_outcome.ensures.world

@@ -6,7 +6,7 @@ use Rattle.node_rules.specs.declared.refusal.LeaveRefusal.TheVariants as leaves
 use Rattle.node_rules.specs.Meters as meters
 use Rattle.node_rules.specs.NodeSteps.{acts}
 use Rattle.line_rules.specs.Answers.{leave_word}
-use Rattle.line_rules.specs.Steps.{happened, leave}
+use Rattle.line_rules.specs.Steps.{happenings, leave}
 use Rattle.line_world.specs.Lines.{world_of}
 use Rattle.line_world.proofs.Taking.{steps_as, begun, node_answered}
 use Rattle.line_world.proofs.Orders.{at_meter, is_meter, meter_not_found, meter_begun}
@@ -28,4 +28,4 @@ returns c =
     let m = is_meter w c.args.node c.in_ok-number.number c.in_ok-number.ensures in
     steps_as _ _ (begun w _ (meter_begun (world_of c.args.self.now) c.args.node c.in_ok-number.number c.in_ok-number.ensures) ∙ at_meter m _)
     (node_answered false w _ m.there (λ x. acts x (Err leaves.Halted) meters.leave) leave_word _ _ _ c.requires.bounds c.requires.events
-    c.leave-left.ensures (c.answered.ensures.reported ∙ ap (λ a. happened w a) c.leave_word.ensures) (ap world_of c.answered.ensures.line))
+    c.leave-left.ensures (c.answered.ensures.reported ∙ ap (λ a. happenings w a) c.leave_word.ensures) (ap world_of c.answered.ensures.line))

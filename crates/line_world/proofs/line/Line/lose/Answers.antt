@@ -2,10 +2,10 @@
 use Rattle.std.proofs.Common.{◌≡◌, ℕ, ◌+◌, ◌-◌, Ok, Err, true, false, slice_set, length, refl, sym, ap, subst, ◌∙◌, arith}
 use Rattle.std.proofs.lemmas.List.{length-set}
 use Rattle.line_flights.specs.Flown.{Flown, flight_in, not_lost}
-use Rattle.line_events.specs.declared.event.Answer.TheVariants as said
+use Rattle.line_events.specs.declared.event.Answer.TheVariants as answers
 use Rattle.line_events.specs.declared.event.StepFault.TheVariants as faults
 use Rattle.line_rules.specs.Worlds.{World, Flight, Trace}
-use Rattle.line_rules.specs.Steps.{happened, lose, ran, trace_of}
+use Rattle.line_rules.specs.Steps.{happenings, lose, running_world, trace_of}
 use Rattle.line_world.specs.Bounds.{IsBounded}
 use Rattle.line_world.specs.Lines.{world_of}
 use Rattle.line_world.specs.Steps.{Steps}
@@ -35,13 +35,13 @@ returns c =
     let w = world_of c.args.self.now in
     let old : Flown = c.args.self.now.flights in
     let lost = lost_now (not_lost (flight_in old.flights c.args.flight)) old c.lose.new.self (without old c.args.flight) c.if-not-lose.ensures in
-    let trace : Trace = trace_of (happened w said.Lost) in
+    let trace : Trace = trace_of (happenings w answers.Lost) in
     let flights = (without old c.args.flight lost.flight).flights in
-    let left : World = record (ran w) { flights = flights } in
+    let left : World = record (running_world w) { flights = flights } in
     let many : length flights ≡ length w.flights = length-set w.flights (c.args.flight - 1) (record lost.flight { lost = true }) in
-    let new : world_of c.answered.new.self ≡ left = ap world_of c.answered.ensures.line ∙ (λ i. record (ran w) { flights = (lost.left i).flights }) in
+    let new : world_of c.answered.new.self ≡ left = ap world_of c.answered.ensures.line ∙ (λ i. record (running_world w) { flights = (lost.left i).flights }) in
     steps_as _ _ (begun w _ c.if-not-has_begun.ensures ∙ flying w c.args.flight _ lost.flight lost.flew)
     (is_taken_so false w _ (Ok (left, trace)) trace _ (λ i. Ok (sym new i, trace))
-    (c.answered.ensures.reported ∙ (λ i. record (happened w said.Lost) { first_flight = length (lost.left i).flights + 1 })
-    ∙ (λ i. record (happened w said.Lost) { first_flight = many i + 1 }))
+    (c.answered.ensures.reported ∙ (λ i. record (happenings w answers.Lost) { first_flight = length (lost.left i).flights + 1 })
+    ∙ (λ i. record (happenings w answers.Lost) { first_flight = many i + 1 }))
     (subst IsBounded (sym new) (bounded_by w w.clock w.nodes flights c.requires.bounds c.requires.events (omega arith) refl many)))

@@ -2,10 +2,10 @@
 use Rattle.std.specs.Prelude.{is_ok}
 use Rattle.std.proofs.Common.{◌<◌, ◌≤◌, length, ap, ◌∙◌, arith, refl, [], ◌∷◌, ◌++◌}
 use Rattle.line_events.specs.declared.event.StepFault.TheVariants as faults
-use Rattle.line_events.specs.declared.event.Answer.TheVariants as said
+use Rattle.line_events.specs.declared.event.Answer.TheVariants as answers
 use Rattle.reach_rules.specs.ReachingNodes.{nothing_beside}
 use Rattle.line_rules.specs.Worlds.{World}
-use Rattle.line_rules.specs.Steps.{happened, set_up}
+use Rattle.line_rules.specs.Steps.{happenings, set_up}
 use Rattle.line_world.specs.declared.line.Line.{Line}
 use Rattle.line_world.specs.Lines.{world_of}
 use Rattle.line_world.proofs.Taking.{refused, out_of_memory}
@@ -48,6 +48,6 @@ returns c =
     let room : length w.nodes < 1000 = omega (arith, c.if-len-ge-MAX_NODES.false, c.len.ensures) in
     meter_made w _ c.args.eui c.args.psk _ _ c.requires.bounds c.requires.events c.if-not-takes_setup.ensures room c.if-has.ensures
     (went_well _ c.make_meter.ensures.ok c.if-is_err-2.ensures.value)
-    (c.happened.ensures ∙ ap (λ (l : Line). happened (world_of l) said.Made) c.set_up.ensures ∙ ap (λ (v : World). happened v said.Made) c.hold_beside.ensures)
+    (c.happenings.ensures ∙ ap (λ (l : Line). happenings (world_of l) answers.Made) c.set_up.ensures ∙ ap (λ (v : World). happenings v answers.Made) c.hold_beside.ensures)
     (ap world_of c.set_up.ensures ∙ ap (λ (v : World). set_up v) c.hold_beside.ensures
     ∙ (λ i. record (set_up w) { nodes = c.make_meter.new.self; beside = c.reserve.ensures.items i ++ nothing_beside ∷ [] }))

@@ -11,8 +11,8 @@ use Rattle.node_rules.specs.Memory.{Node}
 use Rattle.node_rules.specs.NodeSteps.{NodeStep, acts, of_station}
 use Rattle.line_world.specs.NodeOutcomes.{Did}
 use Rattle.line_events.specs.declared.event.StepFault.TheVariants as faults
-use Rattle.line_events.specs.declared.event.Answer.TheVariants as said
-use Rattle.line_rules.specs.Steps.{near, happened, set_up}
+use Rattle.line_events.specs.declared.event.Answer.TheVariants as answers
+use Rattle.line_rules.specs.Steps.{near, happenings, set_up}
 use Rattle.line_world.specs.declared.line.Line.{Line}
 use Rattle.line_world.specs.Lines.{world_of}
 use Rattle.line_world.specs.Steps.{Steps}
@@ -144,6 +144,6 @@ returns c =
     (have_addresses there here c.in-Some.p c.in-Some-address.q c.address.result c.address-2.result c.address.ensures c.in-Some.is c.address-2.ensures
     c.in-Some-address.is)
     c.if-a-b.false c.can_meet.ensures.value c.if-not-can_meet.false first second
-    (c.happened.ensures ∙ ap (λ (l : Line). happened (world_of l) said.Set) c.set_up.ensures
-    ∙ ap (λ (l : Line). happened (world_of l) said.Set) c.can_meet.ensures.same)
+    (c.happenings.ensures ∙ ap (λ (l : Line). happenings (world_of l) answers.Set) c.set_up.ensures
+    ∙ ap (λ (l : Line). happenings (world_of l) answers.Set) c.can_meet.ensures.same)
     (ap world_of c.set_up.ensures ∙ ap (λ (l : Line). record (set_up (world_of l)) { nodes = c.preset_near-2.new.self }) c.can_meet.ensures.same)

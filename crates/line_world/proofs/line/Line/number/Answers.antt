@@ -5,8 +5,8 @@ use Rattle.line_events.specs.declared.event.StepFault.TheVariants as faults
 use Rattle.std.proofs.lemmas.Result.{err_from_is_err_and}
 use Rattle.node_rules.specs.Calls as calls
 use Rattle.node_rules.specs.NodeSteps.{acts, of_station}
-use Rattle.line_events.specs.declared.event.Answer.TheVariants as said
-use Rattle.line_rules.specs.Steps.{happened}
+use Rattle.line_events.specs.declared.event.Answer.TheVariants as answers
+use Rattle.line_rules.specs.Steps.{happenings}
 use Rattle.line_world.specs.declared.line.Line.{Line}
 use Rattle.line_world.specs.Lines.{world_of}
 use Rattle.line_world.proofs.Taking.{is_there, refused}
@@ -28,4 +28,4 @@ returns c =
     let there = is_there w c.args.node c.in_ok-number.number c.in_ok-number.ensures in
     value_set w _ there (λ x. acts x (Ok tt) (λ m. of_station m (calls.preset_number m.station c.args.value))) _ _ _ c.requires.bounds c.requires.events
     c.if-not-takes_setup.ensures (λ x u. stays_uncut x _ _ u) c.preset_number.ensures
-    (c.happened.ensures ∙ ap (λ (l : Line). happened (world_of l) said.Set) c.set_up.ensures) (ap world_of c.set_up.ensures)
+    (c.happenings.ensures ∙ ap (λ (l : Line). happenings (world_of l) answers.Set) c.set_up.ensures) (ap world_of c.set_up.ensures)

@@ -13,8 +13,8 @@ use Rattle.line_rules.specs.Answers.{ask_word}
 use Rattle.line_rules.specs.Further.{asked, asks_by, beside_at, path, reaches}
 use Rattle.line_rules.specs.Worlds.{World, nothing_further}
 use Rattle.line_world.specs.Lines.{world_of}
-use Rattle.line_events.specs.declared.event.Answer.TheVariants as said
-use Rattle.line_rules.specs.Steps.{happened, trace_of}
+use Rattle.line_events.specs.declared.event.Answer.TheVariants as answers
+use Rattle.line_rules.specs.Steps.{happenings, trace_of}
 use Rattle.line_world.specs.Steps.{has_address}
 use Rattle.line_world.specs.Reaching.{ReachedFirst}
 use Rattle.line_world.proofs.Besides.{node_reached}
@@ -53,7 +53,7 @@ returns-in_default c =
     let to = is_there w c.args.to c.in_ok-to.to c.in_ok-to.ensures in
     steps_as _ _ (path_at r there to
     ∙ ap (λ (a : Option ℕ). Ok (asks_by network w c.args.from there.node a)) (sym (holds_there to (λ y. None ≡ node_address y) c.in_default.ensures)))
-    (only_ran (has_address w c.args.to) w _ (trace_of (happened w said.NoAddress)) _ c.requires.bounds c.requires.events c.answered.ensures.reported
+    (only_ran (has_address w c.args.to) w _ (trace_of (happenings w answers.NoAddress)) _ c.requires.bounds c.requires.events c.answered.ensures.reported
     (ap world_of c.answered.ensures.line))
 
 pub returns-in_err-reserve : goal.returns-in_err-reserve
@@ -78,8 +78,8 @@ ask-asked-requires c =
           (is_there (world_of c.args.self.now) c.args.from c.in_ok-from.from c.in_ok-from.ensures).within;
     }
 
-pub acted-requires-clause-node : goal.acted-requires-clause-node
-acted-requires-clause-node c = within_line c.requires.bounds (is_there (world_of c.args.self.now) c.args.from c.in_ok-from.from c.in_ok-from.ensures)
+pub node_outcome-requires-clause-node : goal.node_outcome-requires-clause-node
+node_outcome-requires-clause-node c = within_line c.requires.bounds (is_there (world_of c.args.self.now) c.args.from c.in_ok-from.from c.in_ok-from.ensures)
 
 pub returns : goal.returns
 returns c =
@@ -110,5 +110,5 @@ returns c =
     (steps_as _ _ (path_at r there to ∙ ap (λ (a : Option ℕ). Ok (asks_by network kept c.args.from there.node a)) (sym at))
     (node_reached there (Err asks.Halted) plan ask_word
     (record nothing_further { stepping = asked there.node target (reaches there.node (beside_at kept c.args.from) (Err asks.Halted) plan).answer })
-    (world_of c.acted.new.self) c.ask-asked.result c.ask-asked.new.out c.ask-asked.new.self c.ask-asked.new.beside c.acted.result
-    r.bounds r.room c.acted.ensures.frames c.acted.ensures.tags did (said_with kept _ _ _ _ c.acted.ensures.reported c.ask_word.ensures) c.acted.ensures.world)))
+    (world_of c.node_outcome.new.self) c.ask-asked.result c.ask-asked.new.out c.ask-asked.new.self c.ask-asked.new.beside c.node_outcome.result
+    r.bounds r.room c.node_outcome.ensures.frames c.node_outcome.ensures.tags did (said_with kept _ _ _ _ c.node_outcome.ensures.reported c.ask_word.ensures) c.node_outcome.ensures.world)))

@@ -6,7 +6,7 @@ use Rattle.node_rules.specs.declared.refusal.RandomFault.TheVariants as randoms
 use Rattle.node_rules.specs.MemoryDrafts.{give_random}
 use Rattle.node_rules.specs.NodeSteps.{acts}
 use Rattle.line_rules.specs.Answers.{random_word}
-use Rattle.line_rules.specs.Steps.{happened, rand}
+use Rattle.line_rules.specs.Steps.{happenings, rand}
 use Rattle.line_world.specs.Lines.{world_of}
 use Rattle.line_world.proofs.Taking.{steps_as, begun, at_node, is_there, node_answered, not_found, has_coordinator}
 use Rattle.line_world.proofs.line.Line.rand.Goals as goal
@@ -28,4 +28,4 @@ returns c =
     steps_as _ _ (begun w _ (has_coordinator (world_of c.args.self.now) c.args.node c.in_ok-number.number c.in_ok-number.ensures)
     ∙ at_node w c.args.node there.node _ there.at)
     (node_answered false w _ there (λ x. acts x (Err randoms.Halted) (λ m. give_random m c.args.value)) random_word _ _ _ c.requires.bounds c.requires.events
-    c.give_random-given.ensures (c.answered.ensures.reported ∙ ap (λ a. happened w a) c.random_word.ensures) (ap world_of c.answered.ensures.line))
+    c.give_random-given.ensures (c.answered.ensures.reported ∙ ap (λ a. happenings w a) c.random_word.ensures) (ap world_of c.answered.ensures.line))

@@ -4,9 +4,9 @@ use Rattle.line_events.specs.declared.event.StepFault.TheVariants as faults
 use Rattle.node_rules.specs.declared.refusal.CoordinatorRefusal.TheVariants as orders
 use Rattle.node_rules.specs.Coordinators as coordinators
 use Rattle.node_rules.specs.NodeSteps.{acts}
-use Rattle.line_events.specs.declared.event.Answer.TheVariants as said
+use Rattle.line_events.specs.declared.event.Answer.TheVariants as answers
 use Rattle.line_rules.specs.Answers.{ordered_word}
-use Rattle.line_rules.specs.Steps.{happened, rekey}
+use Rattle.line_rules.specs.Steps.{happenings, rekey}
 use Rattle.line_world.specs.Lines.{world_of}
 use Rattle.line_world.proofs.Taking.{steps_as, unbegun, node_answered, refused}
 use Rattle.line_world.proofs.Orders.{Runs, by_first, first_there}
@@ -23,5 +23,5 @@ returns c =
     let r : Runs w = record { begun = c.if-not-has_begun.ensures; bounds = c.requires.bounds; room = c.requires.events } in
     steps_as _ _ (by_first r _)
     (node_answered false w _ (first_there w r.begun) (λ x. acts x (Err orders.Halted) (λ m. coordinators.rekey m c.args.index c.args.key.now))
-    (ordered_word said.Drawn) _ _ _
-    r.bounds r.room c.rekey-done.ensures (c.answered.ensures.reported ∙ ap (λ a. happened w a) c.ordered_word.ensures) (ap world_of c.answered.ensures.line))
+    (ordered_word answers.Drawn) _ _ _
+    r.bounds r.room c.rekey-done.ensures (c.answered.ensures.reported ∙ ap (λ a. happenings w a) c.ordered_word.ensures) (ap world_of c.answered.ensures.line))

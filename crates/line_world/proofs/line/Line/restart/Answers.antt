@@ -10,7 +10,7 @@ use Rattle.node_rules.specs.Memory.{Node}
 use Rattle.reach_rules.specs.ReachingNodes.{Beside}
 use Rattle.line_events.specs.declared.event.StepFault.{StepFault}
 use Rattle.line_rules.specs.Further.{restarts_further}
-use Rattle.line_rules.specs.Steps.{acted, happened, ran, restarts}
+use Rattle.line_rules.specs.Steps.{node_outcome, happenings, running_world, restarts}
 use Rattle.line_rules.specs.Worlds.{World, Trace}
 use Rattle.line_world.specs.NodeOutcomes.{Did}
 use Rattle.line_world.specs.Lines.{world_of}
@@ -61,13 +61,13 @@ returns c =
     ∙ ap (λ (ns : List Node). record w { nodes = ns; beside = slice_set w.beside c.in_ok-number.number b }) c.open_log.ensures.same in
     let did = subst (λ (v : World). IfSome (slice_get v.nodes c.in_ok-number.number)
     (λ (x : Node). Did (restarts x) v.nodes c.in_ok-number.number c.restart-answer.result nothing nodes)) held c.restart-answer.ensures in
-    let reported = c.answered.ensures.reported ∙ ap (λ (v : World). happened (record v { nodes = nodes }) c.restart-answer.result) held in
-    let left : World = record (record (ran w) { nodes = nodes }) { beside = bs } in
+    let reported = c.answered.ensures.reported ∙ ap (λ (v : World). happenings (record v { nodes = nodes }) c.restart-answer.result) held in
+    let left : World = record (record (running_world w) { nodes = nodes }) { beside = bs } in
     let new : world_of c.answered.new.self ≡ left =
-    ap world_of c.answered.ensures.line ∙ ap (λ (v : World). ran (record v { nodes = nodes })) held
-    ∙ (λ i. record (record (ran w) { nodes = nodes }) { beside = slice_set w.beside (there.same i) b }) in
+    ap world_of c.answered.ensures.line ∙ ap (λ (v : World). running_world (record v { nodes = nodes })) held
+    ∙ (λ i. record (record (running_world w) { nodes = nodes }) { beside = slice_set w.beside (there.same i) b }) in
     subst (λ (v : World). Steps false w (Ok c.answered.result) v (restarts_further network w c.args.node)) (sym new)
     (steps_as _ _ (begun w _ (has_coordinator w c.args.node c.in_ok-number.number c.in_ok-number.ensures) ∙ at_node w c.args.node there.node _ there.at
     ∙ ap (λ (r : World × Trace). Ok r) (restart_is there c.requires.logs c.open_log.result c.open_log.ensures.value c.in-Ok.log c.in-Ok.is))
-    (steps_beside false w (record (ran w) { nodes = nodes }) _ (acted network w c.args.node (restarts there.node)) bs
-    (node_said false w (record (ran w) { nodes = nodes }) there restarts c.restart-answer.result nodes _ c.requires.bounds c.requires.events did reported refl)))
+    (steps_beside false w (record (running_world w) { nodes = nodes }) _ (node_outcome network w c.args.node (restarts there.node)) bs
+    (node_said false w (record (running_world w) { nodes = nodes }) there restarts c.restart-answer.result nodes _ c.requires.bounds c.requires.events did reported refl)))

@@ -8,11 +8,11 @@ use Rattle.node_rules.specs.Memory.{Memory, Node, node_address}
 use Rattle.reach_rules.specs.declared.refusal.ScanRefusal.TheVariants as scan_faults
 use Rattle.reach_rules.specs.Beacons.{begin_scan}
 use Rattle.reach_rules.specs.ReachingNodes.{Beside}
-use Rattle.line_events.specs.declared.event.Answer.TheVariants as said
+use Rattle.line_events.specs.declared.event.Answer.TheVariants as answers
 use Rattle.line_events.specs.declared.event.StepFault.{StepFault}
 use Rattle.line_rules.specs.Answers.{scan_word}
 use Rattle.line_rules.specs.Further.{beside_at, scan, scanning, scans_by, set_beside}
-use Rattle.line_rules.specs.Steps.{ran}
+use Rattle.line_rules.specs.Steps.{running_world}
 use Rattle.line_rules.specs.Worlds.{World}
 use Rattle.line_world.specs.Discovering.{flies_in}
 use Rattle.line_world.specs.Lines.{world_of}
@@ -58,8 +58,8 @@ returns-then-halted c =
     let none = none_in m.there.node.memory (of_found m.there (λ (x : Node). true ≡ not (is_some x.memory)) c.if-halted.ensures.value) in
     reserved kept w (λ it. scan it c.args.node) same
     (steps_as _ _ (scan_at r m ∙ ap (λ (o : Option Memory). Ok (scans_by kept c.args.node o)) none)
-    (only_said true kept _ said.Halted _ r.bounds r.room c.answered.ensures.reported
-    (ap world_of c.answered.ensures.line ∙ (λ i. record (ran kept) { nodes = c.if-halted.ensures.same i }))))
+    (only_said true kept _ answers.Halted _ r.bounds r.room c.answered.ensures.reported
+    (ap world_of c.answered.ensures.line ∙ (λ i. record (running_world kept) { nodes = c.if-halted.ensures.same i }))))
 
 pub address-requires : goal.address-requires
 address-requires c =
@@ -89,7 +89,7 @@ returns-then-is_some c =
     (discovery_stays kept _ c.args.node scan_word (scanning c.args.node) (begin_scan k.0 (beside_at kept c.args.node).scan) _ r.bounds r.room
     (Err scan_faults.AlreadyJoined)
     (scan_joined k.0 (beside_at kept c.args.node).scan joined) c.answered-then-is_some.ensures.reported
-    (ap world_of c.answered-then-is_some.ensures.line ∙ (λ i. record (ran kept) { nodes = c.if-halted.ensures.same i }))))
+    (ap world_of c.answered-then-is_some.ensures.line ∙ (λ i. record (running_world kept) { nodes = c.if-halted.ensures.same i }))))
 
 pub discovery_flies-requires-clause-there : goal.discovery_flies-requires-clause-there
 discovery_flies-requires-clause-there c =

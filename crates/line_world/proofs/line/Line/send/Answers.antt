@@ -9,10 +9,10 @@ use Rattle.node_rules.specs.Calls as calls
 use Rattle.node_rules.specs.Ciphers.{network}
 use Rattle.node_rules.specs.Memory.{Node, node_address}
 use Rattle.node_rules.specs.NodeSteps.{acts, of_station}
-use Rattle.line_events.specs.declared.event.Answer.TheVariants as said
+use Rattle.line_events.specs.declared.event.Answer.TheVariants as answers
 use Rattle.line_events.specs.declared.event.TheConstants.{MAX_EVENTS}
 use Rattle.line_rules.specs.Worlds.{World}
-use Rattle.line_rules.specs.Steps.{happened, has_begun, send, sends_by, tag_of, trace_of}
+use Rattle.line_rules.specs.Steps.{happenings, has_begun, send, sends_by, tag_of, trace_of}
 use Rattle.line_world.specs.Bounds.{IsBounded}
 use Rattle.line_world.specs.Lines.{world_of}
 use Rattle.line_world.specs.Steps.{Steps, has_address}
@@ -48,7 +48,7 @@ returns-in_default c =
     ∙ at_node w c.args.from there.node _ there.at ∙ at_node w c.args.to to.node _ to.at
     ∙ ap (λ a. Ok (sends_by network w c.args.from c.args.to c.args.datagram.now there.node a))
     (sym (holds_there to (λ y. None ≡ node_address y) c.in_default.ensures)))
-    (only_ran (has_address w c.args.to) w _ (trace_of (happened w said.NoAddress)) _ c.requires.bounds c.requires.events c.answered.ensures.reported
+    (only_ran (has_address w c.args.to) w _ (trace_of (happenings w answers.NoAddress)) _ c.requires.bounds c.requires.events c.answered.ensures.reported
     (ap world_of c.answered.ensures.line))
 
 pub returns-in_err-reserve : goal.returns-in_err-reserve
@@ -74,8 +74,8 @@ send-sent-requires c =
           (is_there w c.args.from c.in_ok-from.from c.in_ok-from.ensures).within;
     }
 
-pub acted-requires-clause-node : goal.acted-requires-clause-node
-acted-requires-clause-node c =
+pub node_outcome-requires-clause-node : goal.node_outcome-requires-clause-node
+node_outcome-requires-clause-node c =
     let within = (is_there (world_of c.args.self.now) c.args.from c.in_ok-from.from c.in_ok-from.ensures).within in
     omega (arith, within, c.requires.bounds.nodes)
 
@@ -98,11 +98,11 @@ returns c =
     let has : true ≡ has_begun v = subst (λ (it : World). true ≡ has_begun it) (sym same)
     (has_coordinator (world_of c.args.self.now) c.args.from c.in_ok-from.from c.in_ok-from.ensures) in
     taking (addressed (is_there w c.args.to c.in_ok-to.to c.in_ok-to.ensures) address c.in-Some.ensures)
-    (subst (λ (it : World). Steps true it (Ok c.acted.result) (world_of c.acted.new.self) (send network it c.args.from c.args.to c.args.datagram.now)) same
+    (subst (λ (it : World). Steps true it (Ok c.node_outcome.result) (world_of c.node_outcome.new.self) (send network it c.args.from c.args.to c.args.datagram.now)) same
     (steps_as _ _ (begun v _ has ∙ at_node v c.args.from there.node _ there.at ∙ at_node v c.args.to to.node _ to.at
     ∙ ap (λ a. Ok (sends_by network v c.args.from c.args.to c.args.datagram.now there.node a)) (sym at))
     (node_sent v _ there c.args.to c.args.datagram.now (tag_of there.node)
     (λ (x : Node). acts x (Err sends.Halted) (λ m. of_station m (calls.send m.station address c.args.datagram.now (v.sends + 1) v.clock)))
-    c.send-sent.result c.send-sent.new.out c.send-sent.new.self c.from.result _ bounds room c.acted.ensures.frames c.acted.ensures.tags c.send-sent.ensures
+    c.send-sent.result c.send-sent.new.out c.send-sent.new.self c.from.result _ bounds room c.node_outcome.ensures.frames c.node_outcome.ensures.tags c.send-sent.ensures
     (c.from.ensures ∙ ap bool_byte c.is_ok.ensures.value)
-    (c.acted.ensures.reported ∙ (λ i. record (happened v (c.sent_word.ensures i)) { flights = length c.send-sent.new.out.frames })) c.acted.ensures.world)))
+    (c.node_outcome.ensures.reported ∙ (λ i. record (happenings v (c.sent_word.ensures i)) { flights = length c.send-sent.new.out.frames })) c.node_outcome.ensures.world)))

@@ -3,9 +3,9 @@ use Rattle.std.proofs.Common.{◌≡◌, Some, false, ap, ◌∙◌, Err}
 use Rattle.line_events.specs.declared.event.StepFault.{StepFault}
 use Rattle.std.proofs.lemmas.Result.{err_from_is_err_and}
 use Rattle.node_rules.specs.Showing.{shown_of}
-use Rattle.line_events.specs.declared.event.Answer.TheVariants as said
+use Rattle.line_events.specs.declared.event.Answer.TheVariants as answers
 use Rattle.line_events.specs.declared.happenings.Happenings.{Happenings}
-use Rattle.line_rules.specs.Steps.{happened, ran, show, trace_of}
+use Rattle.line_rules.specs.Steps.{happenings, running_world, show, trace_of}
 use Rattle.line_world.specs.Lines.{world_of}
 use Rattle.line_world.proofs.Taking.{steps_as, begun, at_node, is_there, holds_there, only_ran, not_found, has_coordinator}
 use Rattle.line_world.proofs.line.Line.show.Goals as goal
@@ -25,9 +25,9 @@ returns c =
     let w = world_of c.args.self.now in
     let there = is_there w c.args.node c.in_ok-number.number c.in_ok-number.ensures in
     let shown = c.new.ensures ∙ holds_there there (λ x. c.show.new.out ≡ shown_of x) c.show.ensures.shown in
-    let first = ap (λ (h : Happenings). h.first_flight) c.answered-happened.ensures.reported in
+    let first = ap (λ (h : Happenings). h.first_flight) c.answered-happenings.ensures.reported in
     steps_as _ _ (begun w _ (has_coordinator (world_of c.args.self.now) c.args.node c.in_ok-number.number c.in_ok-number.ensures)
     ∙ at_node w c.args.node there.node _ there.at)
-    (only_ran false w _ (trace_of (record (happened w said.Shown) { shown = Some (shown_of there.node) })) _ c.requires.bounds c.requires.events
-    (λ i. record (happened w said.Shown) { shown = Some (shown i); first_flight = first i })
-    (ap world_of c.answered-happened.ensures.line ∙ (λ i. record (ran w) { nodes = c.show.ensures.same i })))
+    (only_ran false w _ (trace_of (record (happenings w answers.Shown) { shown = Some (shown_of there.node) })) _ c.requires.bounds c.requires.events
+    (λ i. record (happenings w answers.Shown) { shown = Some (shown i); first_flight = first i })
+    (ap world_of c.answered-happenings.ensures.line ∙ (λ i. record (running_world w) { nodes = c.show.ensures.same i })))

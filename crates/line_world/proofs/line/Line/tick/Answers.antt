@@ -2,10 +2,10 @@
 use Rattle.std.proofs.Common.{◌≡◌, ℕ, ◌+◌, Ok, false, map, refl, sym, ap, subst, ◌∙◌, arith}
 use Rattle.reach_rules.specs.ReachingNodes.{tick_beside}
 use Rattle.line_events.specs.declared.event.StepFault.TheVariants as faults
-use Rattle.line_events.specs.declared.event.Answer.TheVariants as said
+use Rattle.line_events.specs.declared.event.Answer.TheVariants as answers
 use Rattle.line_rules.specs.Worlds.{World, Trace}
 use Rattle.line_rules.specs.Further.{after_ok, ticks}
-use Rattle.line_rules.specs.Steps.{happened, ran, tick, ticked, trace_of}
+use Rattle.line_rules.specs.Steps.{happenings, running_world, tick, ticked, trace_of}
 use Rattle.line_world.specs.Bounds.{IsBounded}
 use Rattle.line_world.specs.Lines.{world_of}
 use Rattle.line_world.proofs.Settings.{bounded_beside}
@@ -26,15 +26,15 @@ pub returns : goal.returns
 unfolding ticks tick
 returns c =
     let w = world_of c.args.self.now in
-    let trace : Trace = trace_of (happened w said.Ticked) in
+    let trace : Trace = trace_of (happenings w answers.Ticked) in
     let clock : ℕ = w.clock + c.args.seconds in
     let nodes : c.tick.new.self ≡ map (ticked clock) w.nodes = c.tick.ensures ∙ ap (λ s. map (ticked (w.clock + s)) w.nodes) c.from.ensures in
-    let set : World = record (ran w) { clock = clock; nodes = map (ticked clock) w.nodes } in
+    let set : World = record (running_world w) { clock = clock; nodes = map (ticked clock) w.nodes } in
     let left : World = record set { beside = map (tick_beside clock) w.beside } in
     let new : world_of c.answered.new.self ≡ left =
-    ap world_of c.answered.ensures.line ∙ ap (λ (v : World). ran v) c.tick_beside.ensures
-    ∙ (λ i. record (ran w) { clock = w.clock + c.from.ensures i; nodes = nodes i; beside = map (tick_beside (w.clock + c.from.ensures i)) w.beside }) in
-    let reported = c.answered.ensures.reported ∙ ap (λ (v : World). happened v said.Ticked) c.tick_beside.ensures in
+    ap world_of c.answered.ensures.line ∙ ap (λ (v : World). running_world v) c.tick_beside.ensures
+    ∙ (λ i. record (running_world w) { clock = w.clock + c.from.ensures i; nodes = nodes i; beside = map (tick_beside (w.clock + c.from.ensures i)) w.beside }) in
+    let reported = c.answered.ensures.reported ∙ ap (λ (v : World). happenings v answers.Ticked) c.tick_beside.ensures in
     steps_as _ _ (ap (after_ok (λ r. (record r.0 { beside = map (tick_beside clock) w.beside }, r.1))) (begun w _ c.if-not-has_begun.ensures))
     (is_taken_so false w _ (Ok (left, trace)) trace _ (λ i. Ok (sym new i, trace)) reported
     (subst IsBounded (sym new)

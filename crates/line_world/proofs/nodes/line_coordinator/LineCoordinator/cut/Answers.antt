@@ -1,6 +1,6 @@
 -- A loss of power of the coordinator is set.
 use Rattle.std.proofs.Common.{Some}
-use Rattle.line_events.specs.declared.event.Answer.TheVariants as said
+use Rattle.line_events.specs.declared.event.Answer.TheVariants as answers
 use Rattle.node_rules.specs.Memory.{Coordinator}
 use Rattle.node_rules.specs.NodeSteps.{stays}
 use Rattle.line_world.proofs.CoordinatorActing.{beside}
@@ -10,7 +10,7 @@ use Rattle.line_world.proofs.nodes.line_coordinator.LineCoordinator.cut.Goals as
 
 pub returns : goal.returns
 returns c =
-    seen (λ n. stays (record n { store = record n.store { cut = Some (record { nth = c.args.nth; keeps_new = c.args.keeps_new }) } }) said.Set) _ _ _ _ _
+    seen (λ n. stays (record n { store = record n.store { cut = Some (record { nth = c.args.nth; keeps_new = c.args.keeps_new }) } }) answers.Set) _ _ _ _ _
     c.self.view_is
     (cut_took Coordinator (beside c.self.inside.coordinator) c.self.inside.coordinator.station c.station.result.now c.keeper_mut.result.now c.cut.new.self
     (record { nth = c.args.nth; keeps_new = c.args.keeps_new })

@@ -1,7 +1,7 @@
 -- A loss of power of a meter is set.
 use Rattle.std.proofs.Common.{Some}
 use Rattle.std.proofs.lemmas.List.Elements.{All-set}
-use Rattle.line_events.specs.declared.event.Answer.TheVariants as said
+use Rattle.line_events.specs.declared.event.Answer.TheVariants as answers
 use Rattle.node_rules.specs.Carrying.{nothing}
 use Rattle.node_rules.specs.Memory.{Meter}
 use Rattle.node_rules.specs.NodeSteps.{stays}
@@ -14,9 +14,9 @@ use Rattle.line_world.proofs.nodes.meters.Meters.cut.Goals as goal
 pub returns : goal.returns
 returns c =
     let x = c.index_mut.result.now in
-    did_at (λ n. stays (record n { store = record n.store { cut = Some (record { nth = c.args.nth; keeps_new = c.args.keeps_new }) } }) said.Set)
+    did_at (λ n. stays (record n { store = record n.store { cut = Some (record { nth = c.args.nth; keeps_new = c.args.keeps_new }) } }) answers.Set)
     c.self.inside.meters.items _ c.args.place c.index_mut.result.now
-    (with_its (over c.cut.new.self c.station.result.now) x) said.Set nothing c.self.view_is c.requires.there c.index_mut.ensures.value
+    (with_its (over c.cut.new.self c.station.result.now) x) answers.Set nothing c.self.view_is c.requires.there c.index_mut.ensures.value
     (cut_took (Meter x.psk) (beside x) x.station c.station.result.now c.keeper_mut.result.now c.cut.new.self
     (record { nth = c.args.nth; keeps_new = c.args.keeps_new })
     c.station.ensures.value c.keeper_mut.ensures.value c.cut.ensures)
