@@ -63,7 +63,7 @@ use Rattle.line_rules.specs.Worlds.{World, Trace, node_at, start}
 use Rattle.line_laws.specs.AdmittedRight.{AreAdmittedRight, EveryAdmissionIsRight, IsAdmission, IsAdmittedRight, address_in, is_admitted}
 use Rattle.line_laws.specs.IssuedRight.{is_allowed_in}
 use Rattle.line_laws.proofs.FurtherEvents.{Finds, IsAnswered, IsChecked, IsCommand, IsFurtherStep, IsHeard, IsPlain, IsUnbelieved, Looks, Old, Picks, Puts}
-use Rattle.line_laws.proofs.FurtherEvents.{Seeks, Spreads, Takes, TurnsOn, Unread, checks_so, further_step_is, heard_so, hearing, taker}
+use Rattle.line_laws.proofs.FurtherEvents.{Seeks, Spreads, Takes, TurnsOn, Unread, checks_so, further_step_is, outcome_of_command, hearing, taker}
 use Rattle.line_laws.proofs.IssueNodes.{Whole, acts_whole}
 use Rattle.line_laws.proofs.ReachWords.{Quiet, ask_quiet, breaks_quiet, broadcast_quiet, choice_quiet, drop_quiet, frame_quiet, hears_quiet, lost_quiet}
 use Rattle.line_laws.proofs.ReachWords.{not_admitted, order_quiet, restart_quiet, sent_quiet, word_quiet}
@@ -343,7 +343,7 @@ module _ (ciphers : Ciphers) (w : World) where
       by_kind q IsUnbelieved = record { grant = refl; answer = refl }
       by_kind q IsPlain = none_said _ refl quiet
       by_kind q (IsCommand c e) =
-          let b : Beside = beside_at (heard_so ciphers w number x octets got cost).0 number in
+          let b : Beside = beside_at (outcome_of_command ciphers w number x octets got cost).0 number in
           let halted : Result CommandHeard ReachDropped = Err (reach_drops.Known drops.Store) in
           record { grant = refl; answer = command_none (reaches d.node b halted (λ y. hear_command in_memory y c)).answer }
       by_kind q IsChecked = none_said _ refl quiet

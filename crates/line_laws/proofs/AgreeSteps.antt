@@ -41,7 +41,7 @@ use Rattle.line_events.specs.Events.{IsEvent}
 use Rattle.line_rules.specs.Worlds.{World, Trace, node_at, flight_at, is_forged_tag}
 use Rattle.line_rules.specs.Steps.{Step, set_up, running_world, world_after, node_outcome, once_begun, in_setup, has_begun, takes_setup, on_node, on_meter, made_node}
 use Rattle.line_rules.specs.Steps.{blank_node}
-use Rattle.line_rules.specs.Steps.{identity, hears, restarts, ticked, rand, join, joins_by, leave, send, sends_by, sent_if, breaks, breaks_by, lose, tick}
+use Rattle.line_rules.specs.Steps.{identity, hearing_step, restarts, ticked, rand, join, joins_by, leave, send, sends_by, sent_if, breaks, breaks_by, lose, tick}
 use Rattle.line_rules.specs.Steps.{restart, cut, show, psk_of, trace_of, happenings, coordinator, coordinator_node, meter, is_known, depot, depot_by, provisioned}
 use Rattle.line_rules.specs.Steps.{near, near_by, keeps_rank, ranks_full, offered_near, preset, allow, allowed, deliver, inject, arrives, accepted_by, received}
 use Rattle.line_rules.specs.Steps.{by_coordinator, forged_by, note_by, rekey, challenge, activate, kick, step}
@@ -591,7 +591,7 @@ module _ (ciphers : Ciphers) (fits : KeepsRanges ciphers) (w : World) (ok : Worl
 
   hears_agree : (number : ℕ) (x y : Node) (got : Accepted) (cost note now : ℕ) → node_at w number ≡ Some x → NodeOk y → y.eui ≡ x.eui → y.role ≡ x.role
       → (number ≢ 0 → IfSome y.memory (λ m. PeerIs y.eui m.session)) → RoutesFit got
-      → list_any (is_forged_tag w.made) (hears ciphers y got cost note now).opened ≡ false → Agreeing number (hears ciphers y got cost note now)
+      → list_any (is_forged_tag w.made) (hearing_step ciphers y got cost note now).opened ≡ false → Agreeing number (hearing_step ciphers y got cost note now)
   unfolding Agreeing world_after
   hears_agree number x y got cost note now there good eui role peer routes = by_role y.role refl
     where
@@ -679,7 +679,7 @@ module _ (ciphers : Ciphers) (fits : KeepsRanges ciphers) (w : World) (ok : Worl
           (acts_nothing x (Err frames.Halted) plan (λ m here. (accept_quietly ciphers fits octets are m x.eui).made))))
       by_answer (Ok got) e =
           let y = (acts x (Err frames.Halted) plan).node in
-          let d = hears ciphers y got cost (note_by w octets got.path) w.clock in
+          let d = hearing_step ciphers y got cost (note_by w octets got.path) w.clock in
           let forged = forged_by w octets got.path || list_any (is_forged_tag w.made) d.opened in
           rw e (Happened (received ciphers w number forged d) (λ honest.
           hears_agree number x y got cost (note_by w octets got.path) w.clock there did.node did.eui did.role

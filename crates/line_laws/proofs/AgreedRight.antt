@@ -55,7 +55,7 @@ use Rattle.line_rules.specs.Answers.{CompletedJoining, Reception, coordinator_re
 use Rattle.line_rules.specs.Forgery.{accepting}
 use Rattle.line_rules.specs.Further.{line_step}
 use Rattle.line_rules.specs.Runs.{Entry}
-use Rattle.line_rules.specs.Steps.{Step, node_outcome, done_by, hears, identity, is_taken, note_by, sent_if, tag_of}
+use Rattle.line_rules.specs.Steps.{Step, node_outcome, done_by, hearing_step, identity, is_taken, note_by, sent_if, tag_of}
 use Rattle.line_rules.specs.Worlds.{Pairing, Trace, World, start}
 use Rattle.line_laws.specs.AgreedRight.{EveryAgreementIsSaid, Fourth, HasTag, IsAgreedRight, IsDoneUnder, IsTakenUnder, SaysFourth, SaysThird, Third}
 use Rattle.line_laws.specs.Keyed.{Among, Here, Later}
@@ -278,7 +278,7 @@ module _ (ciphers : Ciphers) (y : Node) (got : Accepted) (cost note now : ℕ) w
       done_is None h = tt
       done_is (Some d) h = record { tag = success_tag d.eui 2 d.agreed.rand_s d.agreed.rand_p; among = h; is = Fourth d.eui 2 }
 
-  heard_says : AgreedUnder (hears ciphers y got cost note now).opened (hears ciphers y got cost note now).answer
+  heard_says : AgreedUnder (hearing_step ciphers y got cost note now).opened (hearing_step ciphers y got cost note now).answer
   heard_says = by_role y.role
     where
       hears_as : Role → NodeStep Reception
@@ -348,7 +348,7 @@ module _ (ciphers : Ciphers) (w : World) where
   step_says event s (TurnsDown e number x octets reason d there says comes same is) = record { taken = tt; done = tt }
   step_says event s (Hears e number x octets cost got there says comes low is) =
       let y = (accepting ciphers x octets).node in
-      let d = hears ciphers y got cost (note_by w octets got.path) w.clock in
+      let d = hearing_step ciphers y got cost (note_by w octets got.path) w.clock in
       let h = heard_says ciphers y got cost (note_by w octets got.path) w.clock in
       record { taken = taken_says number d.opened d.answer.took h.0; done = done_says w d.opened d.answer.done h.1 }
   step_says event s (Loses number f there) = record { taken = tt; done = tt }

@@ -36,7 +36,7 @@ use Rattle.line_rules.specs.Answers.{coordinator_reception, meter_reception, Rec
 use Rattle.line_events.specs.Events.{IsEvent}
 use Rattle.line_rules.specs.Forgery.{Comes, accepting}
 use Rattle.line_rules.specs.Worlds.{World, Issued, node_at}
-use Rattle.line_rules.specs.Steps.{Step, set_up, running_world, world_after, node_outcome, sending, sent_if, is_taken, tag_of, hears, offered_near, heard, note_by, identity}
+use Rattle.line_rules.specs.Steps.{Step, set_up, running_world, world_after, node_outcome, sending, sent_if, is_taken, tag_of, hearing_step, offered_near, hearing_outcome, note_by, identity}
 use Rattle.line_rules.specs.Steps.{issued_of}
 use Rattle.line_rules.specs.Steps.{psk_of, restarts, ticked}
 use Rattle.line_laws.specs.Stores.{IsReadable, IsBookKept}
@@ -150,7 +150,7 @@ module _ (ciphers : Ciphers) (fits : KeepsRanges ciphers) (w : World) (ok : Worl
 
   -- # What a node makes of a frame
 
-  hears_eui : (y : Node) (got : Accepted) (cost note now : ℕ) → (hears ciphers y got cost note now).node.eui ≡ y.eui
+  hears_eui : (y : Node) (got : Accepted) (cost note now : ℕ) → (hearing_step ciphers y got cost note now).node.eui ≡ y.eui
   hears_eui y got cost note now = by_role y.role
     where
       hears_as : Role → NodeStep Reception
@@ -164,7 +164,7 @@ module _ (ciphers : Ciphers) (fits : KeepsRanges ciphers) (w : World) (ok : Worl
       by_role (Meter psk) = acts_eui y (Err drops.Store) (λ m. meters.hear_meter (identity ciphers y psk) m got cost note now)
 
   hears_grows : (y : Node) (got : Accepted) (cost note now : ℕ) (b : books.Book) → NodeOk y → CoordinatorOk b y → Grows k.book b → RoutesFit got
-      → BookGrows (hears ciphers y got cost note now).node
+      → BookGrows (hearing_step ciphers y got cost note now).node
   hears_grows y got cost note now b good c before routes = by_role y.role c.role
     where
       hears_as : Role → NodeStep Reception
@@ -263,7 +263,7 @@ module _ (ciphers : Ciphers) (fits : KeepsRanges ciphers) (w : World) (ok : Worl
 
   heard_goes : (event : Event) (number : ℕ) (x : Node) (octets : List ℕ) (cost : ℕ) (got : Accepted) → node_at w number ≡ Some x → IsEvent event
       → Comes w event number octets → (accepting ciphers x octets).answer ≡ Ok got
-      → Goes (heard ciphers w number (accepting ciphers x octets).node octets got cost).0
+      → Goes (hearing_outcome ciphers w number (accepting ciphers x octets).node octets got cost).0
   heard_goes event number x octets cost got there says comes is =
       let are = came_octets ciphers fits w ok flown event number octets says comes in
       let plan : Memory → Plan Memory (Result Accepted FrameRefusal) = λ m. of_station m (accept m.station x.eui (arrived ciphers octets)) in
@@ -273,7 +273,7 @@ module _ (ciphers : Ciphers) (fits : KeepsRanges ciphers) (w : World) (ok : Worl
       let routes = accepted_routes ciphers fits octets are a.memory.station (ring_readable x a.memory (good_at number x there) a.there) _ got
       (accept_is a.memory.station x.eui (arrived ciphers octets)) a.is in
       let y = (accepting ciphers x octets).node in
-      let d = hears ciphers y got cost (note_by w octets got.path) w.clock in
+      let d = hearing_step ciphers y got cost (note_by w octets got.path) w.clock in
       goes_after (running_world w) _ number x d (same_goes w (running_world w) refl self_goes) (after_nodes (running_world w) number d) there
       (hears_eui y got cost (note_by w octets got.path) w.clock ∙ acts_eui x (Err frames.Halted) plan)
       (λ first.

@@ -73,7 +73,7 @@ use Rattle.line_rules.specs.Further.{discovery_flights, due, has_discovered, lin
 use Rattle.line_rules.specs.FurtherRuns.{AreBroadcastOnce, AreBroadcastOnceAfter, IsFirst, WasBroadcast, broadcast_ups, broadcasts}
 use Rattle.line_rules.specs.Logs.{LogIn, LogsKept}
 use Rattle.line_rules.specs.Runs.{Entry, IsRun, events_of, one_of}
-use Rattle.line_rules.specs.Steps.{Step, node_outcome, forged_by, heard, identity, is_taken, note_by, running_world, restarts, sent_if, tag_of, world_after}
+use Rattle.line_rules.specs.Steps.{Step, node_outcome, forged_by, hearing_outcome, identity, is_taken, note_by, running_world, restarts, sent_if, tag_of, world_after}
 use Rattle.line_rules.specs.Worlds.{Broadcasting, Flight, Noticed, Trace, World, node_at, start}
 use Rattle.line_laws.specs.FurtherLines.{HoldsAfter}
 use Rattle.line_laws.specs.Lines.{NodeOk, WorldOk}
@@ -517,7 +517,7 @@ module _ (w : World) (ok : WorldOk w) (s : WorldSpeaks w) (logs : LogsKept w) (r
 
   module _ (event : Event) (number : ℕ) (x : Node) (octets : List ℕ) (cost : ℕ) (got : Accepted) (a : IsAccepted network w event number x octets got) where
     abbrev h : World × Trace
-    h = heard network w number (after_accepting network x octets) octets got cost
+    h = hearing_outcome network w number (after_accepting network x octets) octets got cost
 
     abbrev left : Node
     left = (heard_node network w x octets got cost).node

@@ -53,7 +53,7 @@ use Rattle.line_rules.specs.Further.{sends_nothing, unbelieved, with_beside, wit
 use Rattle.line_rules.specs.FurtherRuns.{AreOfHistoryAfter, IsOfHistory, check_history}
 use Rattle.line_rules.specs.Logs.{LogsKept}
 use Rattle.line_rules.specs.Runs.{Entry, IsRun, events_of}
-use Rattle.line_rules.specs.Steps.{Step, heard, identity, note_by, world_after}
+use Rattle.line_rules.specs.Steps.{Step, hearing_outcome, identity, note_by, world_after}
 use Rattle.line_rules.specs.Worlds.{Trace, World, node_at, start}
 use Rattle.line_laws.specs.CheckHistories.{AreCheckedRightAfter, EveryCheckIsRight, IsAwaited, IsBlacklisted, IsCheckedRight, IsListed, IsNotAwaited, IsOpen}
 use Rattle.line_laws.specs.FurtherLines.{HoldsAfter}
@@ -191,7 +191,7 @@ module _ (w : World) (before : List Entry) (h : IsOfHistory before w) (n : ℕ) 
     d = heard_node network w x octets got cost
 
     abbrev r : World × Trace
-    r = heard network w number (after_accepting network x octets) octets got cost
+    r = hearing_outcome network w number (after_accepting network x octets) octets got cost
 
     module _ (c : NeighbourCommand) (carries : command_of got ≡ Some c) where
       abbrev b : Beside

@@ -37,7 +37,7 @@ use Rattle.reach_rules.specs.Receiving.{NeighbourCommand, command_of, command_on
 use Rattle.line_rules.specs.Answers.{Reception, coordinator_reception, meter_reception}
 use Rattle.line_events.specs.declared.event.Event.{Event}
 use Rattle.line_rules.specs.Forgery.{accepting}
-use Rattle.line_rules.specs.Steps.{forged_by, hears, identity}
+use Rattle.line_rules.specs.Steps.{forged_by, hearing_step, identity}
 use Rattle.line_rules.specs.Worlds.{World, Flight, node_at}
 use Rattle.line_laws.proofs.Answered.{acts_answered}
 use Rattle.line_laws.proofs.CoordinatorCalls.{accept_failed}
@@ -142,7 +142,7 @@ module _ (ciphers : Ciphers) (x : Node) (got : Accepted) (cost note now : ℕ) (
       (sym s.1) s.0 in
       record { memory = l.memory; there = l.there; same = ap (λ (m : Memory). address_of m.station) (sym l.left) ∙ ap address_of stays }
 
-  pub hears_leaves : (n : Memory) → (hears ciphers x got cost note now).node.memory ≡ Some n → HadAddress x (address_of n.station)
+  pub hears_leaves : (n : Memory) → (hearing_step ciphers x got cost note now).node.memory ≡ Some n → HadAddress x (address_of n.station)
   hears_leaves n here = by_role x.role n here
 
 -- the address of a node that has heard a command is the one at which it accepted it

@@ -25,7 +25,7 @@ use Rattle.line_rules.specs.Answers.{Reception, Up, station_reception, meter_rec
 use Rattle.node_rules.specs.Meters as meters
 use Rattle.node_rules.specs.Coordinators as coordinators
 use Rattle.node_rules.specs.NodeSteps.{NodeStep, acts, of_station, answering}
-use Rattle.line_rules.specs.Steps.{identity, hears, note_by, world_after, running_world, trace_of, happenings, flights_of, flight_by, handed_by, heard, arrives}
+use Rattle.line_rules.specs.Steps.{identity, hearing_step, note_by, world_after, running_world, trace_of, happenings, flights_of, flight_by, handed_by, hearing_outcome, arrives}
 use Rattle.line_rules.specs.Worlds.{Trace, World}
 use Rattle.line_events.specs.declared.happenings.Handed.{Handed}
 use Rattle.node_rules.specs.Ciphers.{OpensWhatItSeals}
@@ -87,7 +87,7 @@ module _ (ciphers : Ciphers) (S : ℕ → SentAs → Type 0) (one : OneSend S) (
     (comes : HearsTrue S (heard_given got cost note now)) where
   hears_true : (x : Node) → NodeTrue S own x
       → ((psk : Key) (m : Memory) → x.role ≡ Meter psk → x.memory ≡ Some m → TakesHome own got cost note now (identity ciphers x psk) m)
-      → ((m : Memory) → x.memory ≡ Some m → Agrees (heard_given got cost note now) m.station) → HeardTrue S own (hears ciphers x got cost note now)
+      → ((m : Memory) → x.memory ≡ Some m → Agrees (heard_given got cost note now) m.station) → HeardTrue S own (hearing_step ciphers x got cost note now)
   hears_true x ok stays_at agrees = by_role x.role refl
     where
       By : Role → Type 0
@@ -98,7 +98,7 @@ module _ (ciphers : Ciphers) (S : ℕ → SentAs → Type 0) (one : OneSend S) (
               (acts x (Err drops.Store) (λ m. coordinators.hear_coordinator (record { eui = x.eui; ciphers = ciphers }) m got cost note now))
           hears_as (Meter psk) = answering meter_reception (acts x (Err drops.Store) (λ m. meters.hear_meter (identity ciphers x psk) m got cost note now))
 
-      by_role : (role : Role) → x.role ≡ role → HeardTrue S own (hears ciphers x got cost note now)
+      by_role : (role : Role) → x.role ≡ role → HeardTrue S own (hearing_step ciphers x got cost note now)
       by_role Coordinator e =
           let d = acts_true S own (CoordinatorUpIsOf S own) x drops.Store
           (λ m. coordinators.hear_coordinator (record { eui = x.eui; ciphers = ciphers }) m got cost note now) ok
@@ -179,7 +179,7 @@ module _ (ciphers : Ciphers) (opens : OpensWhatItSeals ciphers) (S : ℕ → Sen
       → ((psk : Key) (m : Memory) → accepting.node.role ≡ Meter psk → accepting.node.memory ≡ Some m
       → TakesHome own got cost (note_by w octets got.path) w.clock (identity ciphers accepting.node psk) m)
       × ((m : Memory) → accepting.node.memory ≡ Some m → Agrees (heard_given got cost (note_by w octets got.path) w.clock) m.station)
-      × All IsSent (hears ciphers accepting.node got cost (note_by w octets got.path) w.clock).frames)
+      × All IsSent (hearing_step ciphers accepting.node got cost (note_by w octets got.path) w.clock).frames)
       → (arrives ciphers w number x octets cost).1.happenings.forged ≡ false
       → LeavesTrue (arrives ciphers w number x octets cost).0 (arrives ciphers w number x octets cost).1
   unfolding arrives world_after
@@ -190,7 +190,7 @@ module _ (ciphers : Ciphers) (opens : OpensWhatItSeals ciphers) (S : ℕ → Sen
           (λ m e h. accepts_true m h)
 
       after : Result Accepted FrameRefusal → World × Trace
-      after (Ok got) = heard ciphers w number accepting.node octets got cost
+      after (Ok got) = hearing_outcome ciphers w number accepting.node octets got cost
       after (Err reason) = (world_after ciphers (running_world w) number accepting, trace_of (happenings w (frame_word reason)))
 
       by_answer : (a : Result Accepted FrameRefusal) → accepting.answer ≡ a → (after a).1.happenings.forged ≡ false → LeavesTrue (after a).0 (after a).1
@@ -205,7 +205,7 @@ module _ (ciphers : Ciphers) (opens : OpensWhatItSeals ciphers) (S : ℕ → Sen
       by_answer (Ok got) e unforged =
           let o = opening ciphers opens w are number x octets cost 1 0 (omega arith) got e (or_parts _ _ unforged).0 in
           let p = well got e in
-          let d2 : NodeStep Reception = hears ciphers accepting.node got cost (note_by w octets got.path) w.clock in
+          let d2 : NodeStep Reception = hearing_step ciphers accepting.node got cost (note_by w octets got.path) w.clock in
           let t = hears_true ciphers S one own got cost (note_by w octets got.path) w.clock (came_true got o.what) accepting.node first.station p.0 p.1 in
           record {
             node = d2.node;

@@ -33,7 +33,7 @@ use Rattle.node_rules.specs.Laws.{IsWhole, IsCutOff}
 use Rattle.node_rules.specs.Meters as meters
 use Rattle.node_rules.specs.Coordinators as coordinators
 use Rattle.node_rules.specs.NodeSteps.{NodeStep, acts, stays, left_by, of_station, answering}
-use Rattle.line_rules.specs.Steps.{identity, hears, note_by, forged_by, world_after, running_world, trace_of, happenings, flights_of, handed_by, heard, arrives}
+use Rattle.line_rules.specs.Steps.{identity, hearing_step, note_by, forged_by, world_after, running_world, trace_of, happenings, flights_of, handed_by, hearing_outcome, arrives}
 use Rattle.line_rules.specs.Worlds.{Flight, Trace, World, has_octets, note_of, is_forged_frame}
 use Rattle.line_events.specs.declared.happenings.Handed.{Handed}
 use Rattle.node_rules.proofs.Writing.{clean}
@@ -120,7 +120,7 @@ coordinator_reported n i (Err reason) = zero-le
 
 module _ (ciphers : Ciphers) (got : Accepted) (cost note now n i brought : ℕ) (some : 0 < n) (comes : Comes (heard_given got cost note now) n i brought) where
   pub hears_kept : (x : Node) → ((m : Memory) → x.memory ≡ Some m → Agrees (heard_given got cost note now) m.station)
-      → DidKeep n i brought (reception_up n i) x (hears ciphers x got cost note now)
+      → DidKeep n i brought (reception_up n i) x (hearing_step ciphers x got cost note now)
   hears_kept x agrees = by_role x.role refl
     where
       reported : {A : Type 0} (reads : A → Reception) (ups : A → ℕ) → ((a : A) → reception_up n i (reads a) ≤ ups a) → (d : NodeStep A)
@@ -135,7 +135,7 @@ module _ (ciphers : Ciphers) (got : Accepted) (cost note now n i brought : ℕ) 
               (acts x (Err drops.Store) (λ m. coordinators.hear_coordinator (record { eui = x.eui; ciphers = ciphers }) m got cost note now))
           hears_as (Meter psk) = answering meter_reception (acts x (Err drops.Store) (λ m. meters.hear_meter (identity ciphers x psk) m got cost note now))
 
-      by_role : (role : Role) → x.role ≡ role → DidKeep n i brought (reception_up n i) x (hears ciphers x got cost note now)
+      by_role : (role : Role) → x.role ≡ role → DidKeep n i brought (reception_up n i) x (hearing_step ciphers x got cost note now)
       by_role Coordinator e = subst By (sym e) (reported coordinator_reception (up_by (coordinator_up n i)) (coordinator_reported n i) _
           (acts_kept n i brought (up_by (coordinator_up n i)) x (Err drops.Store)
           (λ m. coordinators.hear_coordinator (record { eui = x.eui; ciphers = ciphers }) m got cost note now) refl
@@ -287,7 +287,7 @@ module _ (ciphers : Ciphers) (opens : OpensWhatItSeals ciphers) (w : World) (are
   -- What is owed of the second plan: a piece has the note of what is gathered under its name, and the frames are letters in range.
   pub record HeardWell (got : Accepted) : Type 0 where
     pub agrees : (m : Memory) → accepting.node.memory ≡ Some m → Agrees (heard_given got cost (note_by w octets got.path) w.clock) m.station
-    pub frames : All IsSent (hears ciphers accepting.node got cost (note_by w octets got.path) w.clock).frames
+    pub frames : All IsSent (hearing_step ciphers accepting.node got cost (note_by w octets got.path) w.clock).frames
 
   -- What an arrival led to: one node is another one, some flights are new, and all that it keeps, sends and hands up was there or came.
   pub record Delivered (v : World) (d : Trace) : Type 0 where
@@ -311,7 +311,7 @@ module _ (ciphers : Ciphers) (opens : OpensWhatItSeals ciphers) (w : World) (are
   arrives_kept sent well unforged = by_answer accepting.answer refl unforged
     where
       after : Result Accepted FrameRefusal → World × Trace
-      after (Ok got) = heard ciphers w number accepting.node octets got cost
+      after (Ok got) = hearing_outcome ciphers w number accepting.node octets got cost
       after (Err reason) = (world_after ciphers (running_world w) number accepting, trace_of (happenings w (frame_word reason)))
 
       by_answer : (a : Result Accepted FrameRefusal) → accepting.answer ≡ a → (after a).1.happenings.forged ≡ false → Delivered (after a).0 (after a).1
@@ -322,7 +322,7 @@ module _ (ciphers : Ciphers) (opens : OpensWhatItSeals ciphers) (w : World) (are
       by_answer (Ok got) e unforged =
           let o = opening got e (or_parts _ _ unforged).0 in
           let h = well got e in
-          let d2 : NodeStep Reception = hears ciphers accepting.node got cost (note_by w octets got.path) w.clock in
+          let d2 : NodeStep Reception = hearing_step ciphers accepting.node got cost (note_by w octets got.path) w.clock in
           let k1 = accepted_kept.kept in
           let k2 = (hears_kept ciphers got cost (note_by w octets got.path) w.clock n i o.brought some o.comes accepting.node h.agrees).kept in
           let f = sent_flies ciphers opens n i number d2.frames h.frames in
@@ -342,7 +342,7 @@ pub arrival_in_custody : (ciphers : Ciphers) (live : World → Flight → Bool) 
     → (let first = acts x (Err frames.Halted) (λ m. of_station m (accept m.station x.eui (arrived ciphers octets))) in
     All IsSent first.frames → ((got : Accepted) → first.answer ≡ Ok got
     → ((m : Memory) → first.node.memory ≡ Some m → Agrees (heard_given got cost (note_by w octets got.path) w.clock) m.station)
-    × All IsSent (hears ciphers first.node got cost (note_by w octets got.path) w.clock).frames)
+    × All IsSent (hearing_step ciphers first.node got cost (note_by w octets got.path) w.clock).frames)
     → (arrives ciphers w number x octets cost).1.happenings.forged ≡ false
     → LiveFalls live w (arrives ciphers w number x octets cost).0 (opened_at w octets first.answer)
     → IsInCustody ciphers live (arrives ciphers w number x octets cost).0 (before ++ option_to_list (arrives ciphers w number x octets cost).1.happenings.up))

@@ -31,7 +31,7 @@ use Rattle.line_events.specs.Events.{IsEvent}
 use Rattle.line_rules.specs.Forgery.{Comes, OfFlight, OfScript, accepting}
 use Rattle.line_rules.specs.Runs.{Entry, one_of, send_at}
 use Rattle.line_rules.specs.SafeRuns.{WasSent, IsNew}
-use Rattle.line_rules.specs.Steps.{Step, arrives, deliver, inject, has_begun, hears, identity, is_taken, note_by, step}
+use Rattle.line_rules.specs.Steps.{Step, arrives, deliver, inject, has_begun, hearing_step, identity, is_taken, note_by, step}
 use Rattle.line_rules.specs.Traces.{ComesTo, is_up}
 use Rattle.line_rules.specs.Worlds.{World, Flight, Issued, Sending, node_at, flight_at, is_forged_tag}
 use Rattle.line_laws.specs.Owed.{AreOctets, KeepsRanges}
@@ -300,7 +300,7 @@ module _ (ciphers : Ciphers) (home : ℕ → ℕ) (first : home 0 ≡ 0) (w : Wo
   -- a grant that is taken has the home of its meter
   keeps_home : KeepsRanges ciphers → All FlightFits w.flights → (number : ℕ) (y : Node) (octets : List ℕ) (cost : ℕ) → node_at w number ≡ Some y
       → AreOctets octets → (got : Accepted) → (accepting ciphers y octets).answer ≡ Ok got
-      → list_any (is_forged_tag w.made) (hears ciphers (accepting ciphers y octets).node got cost (note_by w octets got.path) w.clock).opened ≡ false
+      → list_any (is_forged_tag w.made) (hearing_step ciphers (accepting ciphers y octets).node got cost (note_by w octets got.path) w.clock).opened ≡ false
       → (psk : Key) (m : Memory) → (accepting ciphers y octets).node.role ≡ Meter psk → (accepting ciphers y octets).node.memory ≡ Some m
       → TakesHome (home number) got cost (note_by w octets got.path) w.clock (identity ciphers (accepting ciphers y octets).node psk) m
   keeps_home fits flown number y octets cost there are got e untagged psk m role here = record {
@@ -367,7 +367,7 @@ module _ (ciphers : Ciphers) (opens : OpensWhatItSeals ciphers) (fits : KeepsRan
         → (accepting ciphers y octets).answer ≡ Ok got → Joins ciphers w y octets cost got)
         → ((number : ℕ) (y : Node) (octets : List ℕ) (cost : ℕ) → node_at w number ≡ Some y → AreOctets octets → (got : Accepted)
         → (accepting ciphers y octets).answer ≡ Ok got
-        → list_any (is_forged_tag w.made) (hears ciphers (accepting ciphers y octets).node got cost (note_by w octets got.path) w.clock).opened ≡ false
+        → list_any (is_forged_tag w.made) (hearing_step ciphers (accepting ciphers y octets).node got cost (note_by w octets got.path) w.clock).opened ≡ false
         → (psk : Key) (m : Memory) → (accepting ciphers y octets).node.role ≡ Meter psk → (accepting ciphers y octets).node.memory ≡ Some m
         → TakesHome (home number) got cost (note_by w octets got.path) w.clock (identity ciphers (accepting ciphers y octets).node psk) m)
         → Brings ciphers w event s → ByArrival event s

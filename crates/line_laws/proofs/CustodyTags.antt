@@ -22,7 +22,7 @@ use Rattle.node_rules.specs.Frames.{arrived}
 use Rattle.node_rules.specs.Memory.{StationMemory, Memory, Meter, Node}
 use Rattle.node_rules.specs.Accepting.{accept}
 use Rattle.node_rules.specs.NodeSteps.{NodeStep, acts, of_station}
-use Rattle.line_rules.specs.Steps.{identity, hears, note_by, forged_by, arrives, heard, world_after, running_world, trace_of, happenings}
+use Rattle.line_rules.specs.Steps.{identity, hearing_step, note_by, forged_by, arrives, hearing_outcome, world_after, running_world, trace_of, happenings}
 use Rattle.line_rules.specs.Worlds.{Flight, Trace, World, is_forged_tag}
 use Rattle.line_events.specs.declared.happenings.Handed.{Handed}
 use Rattle.node_rules.specs.Ciphers.{OpensWhatItSeals}
@@ -92,7 +92,7 @@ module _ (ciphers : Ciphers) (opens : OpensWhatItSeals ciphers) (live : World �
   unforged_by unforged got e = by_answer accepting.answer e unforged
     where
       after : Result Accepted FrameRefusal → World × Trace
-      after (Ok a) = heard ciphers w number accepting.node octets a cost
+      after (Ok a) = hearing_outcome ciphers w number accepting.node octets a cost
       after (Err reason) = (world_after ciphers (running_world w) number accepting, trace_of (happenings w (frame_word reason)))
 
       by_answer : (a : Result Accepted FrameRefusal) → a ≡ Ok got → (after a).1.happenings.forged ≡ false → forged_by w octets got.path ≡ false
@@ -101,18 +101,18 @@ module _ (ciphers : Ciphers) (opens : OpensWhatItSeals ciphers) (live : World �
 
   -- and no tag that it opened is
   pub untagged_by : (arrives ciphers w number x octets cost).1.happenings.forged ≡ false → (got : Accepted) → accepting.answer ≡ Ok got
-      → list_any (is_forged_tag w.made) (hears ciphers accepting.node got cost (note_by w octets got.path) w.clock).opened ≡ false
+      → list_any (is_forged_tag w.made) (hearing_step ciphers accepting.node got cost (note_by w octets got.path) w.clock).opened ≡ false
   unfolding arrives
   untagged_by unforged got e = by_answer accepting.answer e unforged
     where
       after : Result Accepted FrameRefusal → World × Trace
-      after (Ok a) = heard ciphers w number accepting.node octets a cost
+      after (Ok a) = hearing_outcome ciphers w number accepting.node octets a cost
       after (Err reason) = (world_after ciphers (running_world w) number accepting, trace_of (happenings w (frame_word reason)))
 
       by_answer : (a : Result Accepted FrameRefusal) → a ≡ Ok got → (after a).1.happenings.forged ≡ false
-          → list_any (is_forged_tag w.made) (hears ciphers accepting.node got cost (note_by w octets got.path) w.clock).opened ≡ false
+          → list_any (is_forged_tag w.made) (hearing_step ciphers accepting.node got cost (note_by w octets got.path) w.clock).opened ≡ false
       by_answer (Ok g) is h = let same : g ≡ got = cc in
-          subst (λ (k : Accepted). list_any (is_forged_tag w.made) (hears ciphers accepting.node k cost (note_by w octets k.path) w.clock).opened ≡ false) same
+          subst (λ (k : Accepted). list_any (is_forged_tag w.made) (hearing_step ciphers accepting.node k cost (note_by w octets k.path) w.clock).opened ≡ false) same
           (or_parts _ _ h).1
       by_answer (Err reason) is h = absurd (cc)
 
@@ -131,7 +131,7 @@ module _ (ciphers : Ciphers) (opens : OpensWhatItSeals ciphers) (live : World �
       let well : (got : Accepted) → accepting.answer ≡ Ok got → ((psk : Key) (m : Memory) → accepting.node.role ≡ Meter psk → accepting.node.memory ≡ Some m
       → TakesHome (home number) got cost (note_by w octets got.path) w.clock (identity ciphers accepting.node psk) m)
       × ((m : Memory) → accepting.node.memory ≡ Some m → Agrees (heard_given got cost (note_by w octets got.path) w.clock) m.station)
-      × All IsSent (hears ciphers accepting.node got cost (note_by w octets got.path) w.clock).frames
+      × All IsSent (hearing_step ciphers accepting.node got cost (note_by w octets got.path) w.clock).frames
       = λ got e. (
         (owed got e).0,
         arrival_agrees got e (unforged_by unforged got e),

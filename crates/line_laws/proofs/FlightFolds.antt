@@ -37,8 +37,8 @@ use Rattle.line_rules.specs.Forgery.{Comes, OfFlight, OfScript, accepting}
 use Rattle.line_rules.specs.Worlds.{World, Flight, node_at, flight_at}
 use Rattle.line_rules.specs.SafeRuns.{HasAddress}
 use Rattle.line_rules.specs.Nonces.{NonceParts, IsSpelled, HasSender}
-use Rattle.line_rules.specs.Steps.{Step, set_up, running_world, world_after, made_node, ticked, flights_of, flight_by, node_outcome, sending, sent_if, is_taken, tag_of, hears}
-use Rattle.line_rules.specs.Steps.{offered_near, heard, note_by, identity, restarts}
+use Rattle.line_rules.specs.Steps.{Step, set_up, running_world, world_after, made_node, ticked, flights_of, flight_by, node_outcome, sending, sent_if, is_taken, tag_of, hearing_step}
+use Rattle.line_rules.specs.Steps.{offered_near, hearing_outcome, note_by, identity, restarts}
 use Rattle.line_laws.specs.Stores.{IsReadable, IsKept}
 use Rattle.line_laws.specs.Owed.{AreOctets, KeepsRanges}
 use Rattle.line_laws.proofs.Keeping.{Left}
@@ -266,7 +266,7 @@ module _ (ciphers : Ciphers) (fits : KeepsRanges ciphers) (w : World) (ok : Worl
 
   heard_senders : (event : Event) (number : ℕ) (x : Node) (octets : List ℕ) (cost : ℕ) (got : Accepted) → node_at w number ≡ Some x → IsEvent event
       → Comes w event number octets → (accepting ciphers x octets).answer ≡ Ok got
-      → NewSenders w (heard ciphers w number (accepting ciphers x octets).node octets got cost).0
+      → NewSenders w (hearing_outcome ciphers w number (accepting ciphers x octets).node octets got cost).0
   heard_senders event number x octets cost got there says comes is =
       let are = came_octets event number octets says comes in
       let plan : Memory → Plan Memory (Result Accepted FrameRefusal) = λ m. of_station m (accept m.station x.eui (arrived ciphers octets)) in
@@ -276,8 +276,8 @@ module _ (ciphers : Ciphers) (fits : KeepsRanges ciphers) (w : World) (ok : Worl
       let routes = accepted_routes ciphers fits octets are a.memory.station (ring_readable x a.memory (good_at number x there) a.there) _ got
       (accept_is a.memory.station x.eui (arrived ciphers octets)) a.is in
       let y = (accepting ciphers x octets).node in
-      let d = hears ciphers y got cost (note_by w octets got.path) w.clock in
-      one_after (running_world w) (heard ciphers w number y octets got cost).0 number x d refl refl refl refl there
+      let d = hearing_step ciphers y got cost (note_by w octets got.path) w.clock in
+      one_after (running_world w) (hearing_outcome ciphers w number y octets got cost).0 number x d refl refl refl refl there
       (speaks y d (hears_ok ciphers fits w ok flown y got cost (note_by w octets got.path) w.clock did.node routes))
 
   after_one : {A : Type 0} (u : World) (number : ℕ) (x : Node) (d : NodeStep A) → u.flights ≡ w.flights → u.nodes ≡ w.nodes → node_at w number ≡ Some x

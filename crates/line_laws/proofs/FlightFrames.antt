@@ -34,7 +34,7 @@ use Rattle.line_rules.specs.Worlds.{World, Flight, Trace, start}
 use Rattle.line_laws.specs.Laws.{AreFrames, EveryFlightIsAFrame, IsDiscoveryOctets, IsFrame}
 use Rattle.line_laws.proofs.FlightFolds.{AllOf, every_flight, after_all}
 use Rattle.line_laws.proofs.FurtherEvents.{IsFurtherStep, Old, TurnsOn, Spreads, Seeks, Looks, Picks, Finds, Takes, Puts, Unread, further_step_is}
-use Rattle.line_laws.proofs.FurtherEvents.{IsHeard, IsUnbelieved, IsPlain, IsCommand, IsChecked, IsAnswered, checks_so, heard_so, hearing, taker}
+use Rattle.line_laws.proofs.FurtherEvents.{IsHeard, IsUnbelieved, IsPlain, IsCommand, IsChecked, IsAnswered, checks_so, outcome_of_command, hearing, taker}
 use Rattle.line_laws.proofs.HeadsSaid.{spelled_well}
 use Rattle.line_laws.proofs.LaterMoves.{discovery_nonce}
 
@@ -75,20 +75,20 @@ module _ (ciphers : Ciphers) (P : Flight → Type 0) (sent : (number : ℕ) (f :
     -- octets that were accepted
     module _ (number : ℕ) (x : Node) (octets : List ℕ) (got : Accepted) (cost : ℕ) where
       abbrev plainly : World × Trace
-      plainly = heard_so ciphers w number x octets got cost
+      plainly = outcome_of_command ciphers w number x octets got cost
 
-      abbrev hears_so : NodeStep Reception
-      hears_so = hearing ciphers w x octets got cost
+      abbrev outcome_of_hearing : NodeStep Reception
+      outcome_of_hearing = hearing ciphers w x octets got cost
 
       plain_all : Stay plainly.0
-      plain_all = act_all (running_world w) number hears_so all
+      plain_all = act_all (running_world w) number outcome_of_hearing all
 
       -- and a reply among them that is acknowledged
-      answers_all : (reply : Reply) → Stay (acknowledged ciphers w number (acknowledging hears_so.node reply) (checks_so ciphers w number x octets got cost)).0
+      answers_all : (reply : Reply) → Stay (acknowledged ciphers w number (acknowledging outcome_of_hearing.node reply) (checks_so ciphers w number x octets got cost)).0
       answers_all reply = by_memory (is_some a.node.memory)
         where
           a : NodeStep (Result (Unit {0}) LocalRefusal)
-          a = acknowledging hears_so.node reply
+          a = acknowledging outcome_of_hearing.node reply
 
           r : World × Trace
           r = checks_so ciphers w number x octets got cost
@@ -102,7 +102,7 @@ module _ (ciphers : Ciphers) (P : Flight → Type 0) (sent : (number : ℕ) (f :
       heard_all r IsUnbelieved = act_all (running_world w) number (stays (taker ciphers x octets) (only answers.Blacklisted)) all
       heard_all r IsPlain = plain_all
       heard_all r (IsCommand c e) = act_all plainly.0 number
-          (reaches hears_so.node (beside_at plainly.0 number) (Err (reach_drops.Known drops.Store)) (λ y. hear_command in_memory y c)) plain_all
+          (reaches outcome_of_hearing.node (beside_at plainly.0 number) (Err (reach_drops.Known drops.Store)) (λ y. hear_command in_memory y c)) plain_all
       heard_all r IsChecked = plain_all
       heard_all r (IsAnswered reply e) = answers_all reply
 

@@ -39,7 +39,7 @@ use Rattle.line_events.specs.declared.event.Event.{Event}
 use Rattle.line_events.specs.Events.{IsEvent}
 use Rattle.line_rules.specs.Forgery.{Comes, accepting}
 use Rattle.line_rules.specs.Further.{discovery_flight}
-use Rattle.line_rules.specs.Steps.{Step, node_outcome, flight_by, flights_of, forged_by, heard, hears, is_taken, note_by, offered_near, running_world, restarts, sent_if}
+use Rattle.line_rules.specs.Steps.{Step, node_outcome, flight_by, flights_of, forged_by, hearing_outcome, hearing_step, is_taken, note_by, offered_near, running_world, restarts, sent_if}
 use Rattle.line_rules.specs.Steps.{sending, set_up, tag_of, world_after}
 use Rattle.line_rules.specs.Worlds.{World, Flight, flight_at, node_at}
 use Rattle.line_laws.specs.Letters.{IsLetter}
@@ -137,9 +137,9 @@ module _ (P : ℕ → MeshUnit → Type 0) where
       -- what was heard of octets that were accepted
       pub heard_says : (number : ℕ) (x : Node) (octets : List ℕ) (cost : ℕ) (got : Accepted) (event : Event) → node_at w number ≡ Some x → IsEvent event
           → Comes w event number octets → (accepting network x octets).answer ≡ Ok got → forged_by w octets got.path ≡ false
-          → All FlightSays w.flights → All FlightSays (heard network w number (accepting network x octets).node octets got cost).0.flights
+          → All FlightSays w.flights → All FlightSays (hearing_outcome network w number (accepting network x octets).node octets got cost).0.flights
       heard_says number x octets cost got event there says comes is honest before =
-          let d = hears network (accepting network x octets).node got cost (note_by w octets got.path) w.clock in
+          let d = hearing_step network (accepting network x octets).node got cost (note_by w octets got.path) w.clock in
           after_as_before (running_world w) number d (heard_did w ok s r number x octets cost got there
           (came_octets network network_ranges w ok s.flights event number octets says comes) is honest).frames
           (hears_old network w got cost (note_by w octets got.path) w.clock (accepting network x octets).node) before

@@ -38,10 +38,10 @@ use Rattle.line_rules.specs.Answers.{Reception}
 use Rattle.line_events.specs.Events.{IsEvent}
 use Rattle.line_rules.specs.Forgery.{Comes, OfFlight, OfScript, accepting}
 use Rattle.line_rules.specs.Further.{line_step, checks, bcast, broadcasts_by, path, asks_by, scan, scans_by, choose, chooses_by, discovers_by, commanded}
-use Rattle.line_rules.specs.Further.{checked, acknowledged_if, acknowledged, acknowledging, unbelieved, heard_by, heard_further, is_dropped, accepted_further}
+use Rattle.line_rules.specs.Further.{checked, acknowledged_if, acknowledged, acknowledging, unbelieved, hearing_outcome_by, further_hearing_outcome, is_dropped, accepted_further}
 use Rattle.line_rules.specs.Further.{comes, delivers, injects, ticks, after_ok, due, with_check, restarts_by, restarts_further}
 use Rattle.line_rules.specs.Steps.{Step, set_up, running_world, happenings, trace_of, has_begun, takes_setup, once_begun, in_setup, on_node, on_meter, on_flight, psk_of}
-use Rattle.line_rules.specs.Steps.{node_outcome, ticked, hears, heard, note_by, restarts, tick}
+use Rattle.line_rules.specs.Steps.{node_outcome, ticked, hearing_step, hearing_outcome, note_by, restarts, tick}
 use Rattle.line_rules.specs.Worlds.{World, Flight, Trace, node_at, flight_at}
 use Rattle.line_laws.proofs.IssueNodes.{acts_whole}
 use Rattle.line_laws.proofs.TracesRight.{comes_is, is_same}
@@ -55,23 +55,23 @@ abbrev pub taker : Ciphers → Node → List ℕ → Node
 taker ciphers x octets = (accepting ciphers x octets).node
 
 abbrev pub hearing : Ciphers → World → Node → List ℕ → Accepted → ℕ → NodeStep Reception
-hearing ciphers w x octets got cost = hears ciphers (taker ciphers x octets) got cost (note_by w octets got.path) w.clock
+hearing ciphers w x octets got cost = hearing_step ciphers (taker ciphers x octets) got cost (note_by w octets got.path) w.clock
 
-abbrev pub heard_so : Ciphers → World → ℕ → Node → List ℕ → Accepted → ℕ → World × Trace
-heard_so ciphers w number x octets got cost = heard ciphers w number (taker ciphers x octets) octets got cost
+abbrev pub outcome_of_command : Ciphers → World → ℕ → Node → List ℕ → Accepted → ℕ → World × Trace
+outcome_of_command ciphers w number x octets got cost = hearing_outcome ciphers w number (taker ciphers x octets) octets got cost
 
 -- and where a reply that it sent begins a check
 abbrev pub checks_so : Ciphers → World → ℕ → Node → List ℕ → Accepted → ℕ → World × Trace
 checks_so ciphers w number x octets got cost = with_check w number (reply_among (hearing ciphers w x octets got cost).frames)
-    (heard_so ciphers w number x octets got cost)
+    (outcome_of_command ciphers w number x octets got cost)
 
 -- What is made of octets that were accepted.
 pub data IsHeard (ciphers : Ciphers) (w : World) (number : ℕ) (x : Node) (octets : List ℕ) (got : Accepted) (cost : ℕ) : World × Trace → Type 0 where
   IsUnbelieved : IsHeard ciphers w number x octets got cost (unbelieved ciphers w number (taker ciphers x octets) octets got)
-  IsPlain : IsHeard ciphers w number x octets got cost (heard_so ciphers w number x octets got cost)
+  IsPlain : IsHeard ciphers w number x octets got cost (outcome_of_command ciphers w number x octets got cost)
   IsCommand : (c : NeighbourCommand) → command_of got ≡ Some c
       → IsHeard ciphers w number x octets got cost
-      (commanded ciphers number (hearing ciphers w x octets got cost).node c (heard_so ciphers w number x octets got cost))
+      (commanded ciphers number (hearing ciphers w x octets got cost).node c (outcome_of_command ciphers w number x octets got cost))
   IsChecked : IsHeard ciphers w number x octets got cost (checks_so ciphers w number x octets got cost)
   IsAnswered : (reply : Reply) → due got.path (message_of got) (hearing ciphers w x octets got cost).answer.answer ≡ Some reply
       → IsHeard ciphers w number x octets got cost
@@ -88,9 +88,9 @@ module _ (ciphers : Ciphers) (w : World) (number : ℕ) (x : Node) (octets : Lis
   d = hearing ciphers w x octets got cost
 
   abbrev r : World × Trace
-  r = heard_so ciphers w number x octets got cost
+  r = outcome_of_command ciphers w number x octets got cost
 
-  pub further_is : IsHeard ciphers w number x octets got cost (heard_further ciphers w number (taker ciphers x octets) octets got cost)
+  pub further_is : IsHeard ciphers w number x octets got cost (further_hearing_outcome ciphers w number (taker ciphers x octets) octets got cost)
   further_is = by_dropped (is_dropped w number got)
     where
       by_due : (o : Option Reply) → due got.path (message_of got) d.answer.answer ≡ o
@@ -102,11 +102,11 @@ module _ (ciphers : Ciphers) (w : World) (number : ℕ) (x : Node) (octets : Lis
       by_checks true = by_due (due got.path (message_of got) d.answer.answer) refl
       by_checks false = IsPlain
 
-      by_command : (o : Option NeighbourCommand) → command_of got ≡ o → IsSo (heard_by ciphers w number y octets got cost o)
+      by_command : (o : Option NeighbourCommand) → command_of got ≡ o → IsSo (hearing_outcome_by ciphers w number y octets got cost o)
       by_command None e = by_checks w.checks_on
       by_command (Some c) e = IsCommand c e
 
-      by_dropped : (b : Bool) → IsSo (if b then unbelieved ciphers w number y octets got else heard_by ciphers w number y octets got cost (command_of got))
+      by_dropped : (b : Bool) → IsSo (if b then unbelieved ciphers w number y octets got else hearing_outcome_by ciphers w number y octets got cost (command_of got))
       by_dropped true = IsUnbelieved
       by_dropped false = by_command (command_of got) refl
 
@@ -222,19 +222,19 @@ module _ (ciphers : Ciphers) (w : World) where
   comes_step : (event : Event) (number : ℕ) (x : Node) (octets : List ℕ) (cost : ℕ) → node_at w number ≡ Some x → IsEvent event → Comes w event number octets
       → cost ≤ 255 → Is event (Ok (comes ciphers w number x octets cost))
   unfolding comes acts
-  comes_step event number x octets cost there says comes_so low = by_kind (is_discovery octets) refl
+  comes_step event number x octets cost there says outcome_of_arrival low = by_kind (is_discovery octets) refl
     where
       by_answer : (o : Result Accepted FrameRefusal) → (accepting ciphers x octets).answer ≡ o
           → Is event (Ok (accepted_further ciphers w number octets cost (accepting ciphers x octets)))
-      by_answer (Err reason) e = rw e (Old event _ (TurnsDown event number x octets reason (accepting ciphers x octets) there says comes_so refl e))
+      by_answer (Err reason) e = rw e (Old event _ (TurnsDown event number x octets reason (accepting ciphers x octets) there says outcome_of_arrival refl e))
       by_answer (Ok got) e = rw e
-          (Takes event number x octets cost got (heard_further ciphers w number (taker ciphers x octets) octets got cost) there says comes_so low e
+          (Takes event number x octets cost got (further_hearing_outcome ciphers w number (taker ciphers x octets) octets got cost) there says outcome_of_arrival low e
           (further_is ciphers w number x octets got cost))
 
       by_kind : (b : Bool) → is_discovery octets ≡ b
           → Is event (Ok (if b then discovers_by w number x octets cost x.memory else accepted_further ciphers w number octets cost
           (accepting ciphers x octets)))
-      by_kind true e = Finds event number x octets cost there says comes_so e
+      by_kind true e = Finds event number x octets cost there says outcome_of_arrival e
       by_kind false e = by_answer (accepting ciphers x octets).answer refl
 
   delivers_step : (flight number cost : ℕ) → IsEvent (events.Deliver flight number cost)
@@ -334,6 +334,6 @@ none_accepts ciphers x octets e got is =
 pub found_none : (ciphers : Ciphers) (w : World) (event : Event) (number : ℕ) (x : Node) (octets : List ℕ) → node_at w number ≡ Some x
     → Comes w event number octets → is_discovery octets ≡ true
     → (n : ℕ) (z : Node) (own : List ℕ) (got : Accepted) → node_at w n ≡ Some z → Comes w event n own → (accepting ciphers z own).answer ≡ Ok got → ⊥
-found_none ciphers w event number x octets there comes_so e n z own got here comes_own is =
-    let both = is_same w event n number own octets (comes_is w event n own comes_own) (comes_is w event number octets comes_so) in
+found_none ciphers w event number x octets there outcome_of_arrival e n z own got here comes_own is =
+    let both = is_same w event n number own octets (comes_is w event n own comes_own) (comes_is w event number octets outcome_of_arrival) in
     none_accepts ciphers z own (subst (λ o. is_discovery o ≡ true) (sym both.1) e) got is

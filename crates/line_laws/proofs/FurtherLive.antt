@@ -41,7 +41,7 @@ use Rattle.line_laws.specs.Owed.{KeepsRanges}
 use Rattle.line_laws.specs.Stores.{IsBookKept}
 use Rattle.line_laws.proofs.AddressBook.{Grows}
 use Rattle.line_laws.proofs.BookGrowth.{Goes}
-use Rattle.line_laws.proofs.FurtherEvents.{IsHeard, checks_so, further_is, hearing, heard_so, none_accepts, taker, IsUnbelieved, IsPlain, IsCommand, IsChecked}
+use Rattle.line_laws.proofs.FurtherEvents.{IsHeard, checks_so, further_is, hearing, outcome_of_command, none_accepts, taker, IsUnbelieved, IsPlain, IsCommand, IsChecked}
 use Rattle.line_laws.proofs.FurtherEvents.{IsAnswered}
 use Rattle.line_laws.proofs.FurtherForms.{AnyUnits}
 use Rattle.line_laws.proofs.FurtherGrowth.{GoesIn, any_line, line_goes}
@@ -69,7 +69,7 @@ did_become ciphers v u number x z d there did nodes = record {
 
 module _ (ciphers : Ciphers) (fits : KeepsRanges ciphers) (w : World) (ok : WorldOk w) (flown : All FlightFits w.flights) (logs : LogsKept w) (event : Event)
     (number : ℕ) (x : Node) (octets : List ℕ) (cost : ℕ) (got : Accepted)
-    (there : node_at w number ≡ Some x) (says : IsEvent event) (comes_so : Comes w event number octets)
+    (there : node_at w number ≡ Some x) (says : IsEvent event) (outcome_of_arrival : Comes w event number octets)
     (is : (accepting ciphers x octets).answer ≡ Ok got) where
   abbrev y : Node
   y = taker ciphers x octets
@@ -78,13 +78,13 @@ module _ (ciphers : Ciphers) (fits : KeepsRanges ciphers) (w : World) (ok : Worl
   d = hearing ciphers w x octets got cost
 
   abbrev r : World × Trace
-  r = heard_so ciphers w number x octets got cost
+  r = outcome_of_command ciphers w number x octets got cost
 
   abbrev with_it : World × Trace
   with_it = checks_so ciphers w number x octets got cost
 
   did : DidOk y d
-  did = heard_did ciphers fits w ok flown logs event number x octets cost got there says comes_so is
+  did = heard_did ciphers fits w ok flown logs event number x octets cost got there says outcome_of_arrival is
 
   now_there : node_at r.0 number ≡ Some d.node
   unfolding world_after
@@ -100,7 +100,7 @@ module _ (ciphers : Ciphers) (fits : KeepsRanges ciphers) (w : World) (ok : Worl
       let does = with_beside (beside_at r.0 number) (λ z. hear_command in_memory z c) in
       let a = acts d.node halted does in
       let one = further_did ciphers fits w ok flown logs d.node halted does did.node
-      (λ m here. (known ciphers fits w ok flown logs).commands event number x octets got cost c m says comes_so there is e here) in
+      (λ m here. (known ciphers fits w ok flown logs).commands event number x octets got cost c m says outcome_of_arrival there is e here) in
       did_become ciphers r.0 (commanded ciphers number d.node c r).0 number d.node y a now_there (did_on y d a did one) refl
 
   answers_become : (reply : Reply) → Became (acknowledged ciphers w number (acknowledging d.node reply) with_it).0 number y
@@ -196,10 +196,10 @@ module _ (ciphers : Ciphers) (fits : KeepsRanges ciphers) (w : World) (ok : Worl
   pub line_admission : (number : ℕ) (octets : List ℕ) (node : Node) → Comes w x.event number octets → node_at w number ≡ Some node → (got : Accepted)
       → (accepting ciphers node octets).answer ≡ Ok got → (by : ℕ) (all : Bool) (key : Key) → got.path ≡ paths.Sealed by all key
       → Admission x.after number octets node all
-  line_admission number octets node comes_so there got is by all key path =
-      let h = line_heard ciphers w x.event number octets node got x.after x.trace comes_so there is e in
-      admitted_once ciphers fits w ok flown x.event says number octets node comes_so there got is by all key path x.after
-      (heard_becomes ciphers fits w ok flown logs x.event number node octets h.cost got there says comes_so is (x.after, x.trace) h.how)
+  line_admission number octets node outcome_of_arrival there got is by all key path =
+      let h = line_heard ciphers w x.event number octets node got x.after x.trace outcome_of_arrival there is e in
+      admitted_once ciphers fits w ok flown x.event says number octets node outcome_of_arrival there got is by all key path x.after
+      (heard_becomes ciphers fits w ok flown logs x.event number node octets h.cost got there says outcome_of_arrival is (x.after, x.trace) h.how)
 
   pub line_follow : Follows w x.after
   line_follow = subst (FollowsIn ciphers fits w ok flown) e
@@ -221,13 +221,13 @@ module _ (ciphers : Ciphers) (fits : KeepsRanges ciphers) (w : World) (ok : Worl
     pub line_passes_one : (number : ℕ) (octets : List ℕ) (node : Node) → Comes w x.event number octets → node_at w number ≡ Some node → (got : Accepted)
         → (accepting ciphers node octets).answer ≡ Ok got → (by : ℕ) (key : Key) → got.path ≡ paths.Sealed by false key
         → (is_live w (head_in octets) ≡ true) × (is_live x.after (head_in octets) ≡ false)
-    line_passes_one number octets node comes_so there got is by key path =
+    line_passes_one number octets node outcome_of_arrival there got is by key path =
         passes_so ciphers w ok given k x line_okv line_follow later number octets node there
-        (line_admission number octets node comes_so there got is by false key path)
+        (line_admission number octets node outcome_of_arrival there got is by false key path)
 
     pub line_falls : FlightsFall ciphers w x
     line_falls = falls_where ciphers w ok given k x line_okv line_follow later
-        (λ number octets node comes_so there got is by key path. line_admission number octets node comes_so there got is by false key path)
+        (λ number octets node outcome_of_arrival there got is by key path. line_admission number octets node outcome_of_arrival there got is by false key path)
 
 pub line_flights_fall : LineFlightsFall
 line_flights_fall ciphers fits w ok flown logs given k x says e = record {

@@ -82,7 +82,7 @@ use Rattle.line_events.specs.Events.{IsEvent}
 use Rattle.line_rules.specs.Forgery.{Comes, accepting}
 use Rattle.line_rules.specs.Further.{beside_at, discovery_flight, due, due_of, is_reply_taken, line_step, of_memory, reaches, with_beside}
 use Rattle.line_rules.specs.Logs.{LogsKept}
-use Rattle.line_rules.specs.Steps.{Step, hears, identity, note_by, running_world}
+use Rattle.line_rules.specs.Steps.{Step, hearing_step, identity, note_by, running_world}
 use Rattle.line_rules.specs.Worlds.{World, node_at}
 use Rattle.line_laws.specs.FurtherLines.{LineStepsSpell, LinesSpellBeacons}
 use Rattle.line_laws.specs.Later.{MayBeSealed}
@@ -343,7 +343,7 @@ reply_from (paths.Sealed from false key) message answer reply e = by_taken (is_r
 -- # What a node is that heard a command: as it was
 
 command_ranged : (y : Node) (got : Accepted) (cost note now : ℕ) (c : NeighbourCommand) → command_of got ≡ Some c → NodeRanged y
-    → NodeRanged (hears network y got cost note now).node
+    → NodeRanged (hearing_step network y got cost note now).node
 command_ranged y got cost note now c e h = by_role y.role
   where
     hears_as : Role → NodeStep Reception
@@ -393,7 +393,7 @@ module _ (w : World) (ok : WorldOk w) (s : WorldSpeaks w) (r : WorldRanged w) (l
   -- what it is after a command that it heard
   heard_station : (number : ℕ) (x : Node) (octets : List ℕ) (got : Accepted) (cost note : ℕ) (c : NeighbourCommand) (m : Memory) → node_at w number ≡ Some x
       → command_of got ≡ Some c
-      → (hears network (accepting network x octets).node got cost note w.clock).node.memory ≡ Some m → IsStationRanged m.station
+      → (hearing_step network (accepting network x octets).node got cost note w.clock).node.memory ≡ Some m → IsStationRanged m.station
   heard_station number x octets got cost note c m there e here =
       let left = accepts_ranged network network_opens_again w r.flights number x octets cost (at_place NodeRanged w.nodes number x there r.nodes) in
       subst (λ o. IfSome o (λ (n : Memory). IsStationRanged n.station)) here (command_ranged (accepting network x octets).node got cost note w.clock c e

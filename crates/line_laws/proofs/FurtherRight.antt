@@ -79,7 +79,7 @@ use Rattle.line_rules.specs.Worlds.{World, Trace, Further, Noticed, nothing_furt
 use Rattle.line_rules.specs.Runs.{Entry}
 use Rattle.line_laws.specs.LineAccounts.{LineTracesRight}
 use Rattle.line_laws.proofs.CommandTags.{acts_made, command_made}
-use Rattle.line_laws.proofs.FurtherEvents.{IsFurtherStep, IsHeard, checks_so, found_none, further_step_is, heard_so, hearing, taker}
+use Rattle.line_laws.proofs.FurtherEvents.{IsFurtherStep, IsHeard, checks_so, found_none, further_step_is, outcome_of_command, hearing, taker}
 use Rattle.line_laws.proofs.FurtherEvents.{Old, TurnsOn, Spreads, Seeks, Looks, Picks, Finds, Takes, Puts, Unread, IsUnbelieved, IsPlain, IsCommand, IsChecked}
 use Rattle.line_laws.proofs.FurtherEvents.{IsAnswered}
 use Rattle.line_laws.proofs.FurtherForms.{AnyUnits, ask_is, broadcast_is}
@@ -228,12 +228,12 @@ meter_says (Ok (heard_words.Local from all code body)) h = (refl, refl, refl, re
 meter_says (Ok _) h = absurd h
 
 module _ (ciphers : Ciphers) (x : Node) (got : Accepted) (cost note now : ℕ) (c : NeighbourCommand) (e : command_of got ≡ Some c) where
-  abbrev hears_by : Role → NodeStep Reception
-  hears_by Coordinator = answering coordinator_reception
+  abbrev hearing_step_of : Role → NodeStep Reception
+  hearing_step_of Coordinator = answering coordinator_reception
       (acts x (Err drops.Store) (λ m. coordinator_rules.hear_coordinator (record { eui = x.eui; ciphers = ciphers }) m got cost note now))
-  hears_by (Meter psk) = answering meter_reception (acts x (Err drops.Store) (λ m. meters.hear_meter (identity ciphers x psk) m got cost note now))
+  hearing_step_of (Meter psk) = answering meter_reception (acts x (Err drops.Store) (λ m. meters.hear_meter (identity ciphers x psk) m got cost note now))
 
-  command_silent_word : (r : Role) → Plain (hears_by r).answer.answer
+  command_silent_word : (r : Role) → Plain (hearing_step_of r).answer.answer
   command_silent_word Coordinator = acts_says CoordinatorSays x (Err drops.Store)
       (λ m. coordinator_rules.hear_coordinator (record { eui = x.eui; ciphers = ciphers }) m got cost note now) (drop_fits drops.Store)
       (λ m.
@@ -413,7 +413,7 @@ spread_or_not _ = inr refl
 
 module _ (ciphers : Ciphers) (w : World) (n : ℕ)
     (event : Event) (number : ℕ) (x : Node) (octets : List ℕ) (cost : ℕ) (got : Accepted)
-    (there : node_at w number ≡ Some x) (says : IsEvent event) (comes_so : Comes w event number octets) (low : cost ≤ 255)
+    (there : node_at w number ≡ Some x) (says : IsEvent event) (outcome_of_arrival : Comes w event number octets) (low : cost ≤ 255)
     (is : (accepting ciphers x octets).answer ≡ Ok got) where
   abbrev y : Node
   y = taker ciphers x octets
@@ -422,18 +422,18 @@ module _ (ciphers : Ciphers) (w : World) (n : ℕ)
   d = hearing ciphers w x octets got cost
 
   abbrev r : World × Trace
-  r = heard_so ciphers w number x octets got cost
+  r = outcome_of_command ciphers w number x octets got cost
 
   abbrev with_it : World × Trace
   with_it = checks_so ciphers w number x octets got cost
 
   plainly : Right ciphers w (entry n event r)
-  plainly = right ciphers w event (Ok r) (Hears event number x octets cost got there says comes_so low is) n
+  plainly = right ciphers w event (Ok r) (Hears event number x octets cost got there says outcome_of_arrival low is) n
 
   unbelieved_right : Right ciphers w (entry n event (unbelieved ciphers w number y octets got))
   unbelieved_right =
-      let f = forged_right ciphers w event number x octets got there comes_so is [] in
-      received_right ciphers w n event number octets (forged_by w octets got.path) (stays y (only answers.Blacklisted)) comes_so
+      let f = forged_right ciphers w event number x octets got there outcome_of_arrival is [] in
+      received_right ciphers w n event number octets (forged_by w octets got.path) (stays y (only answers.Blacklisted)) outcome_of_arrival
       (record { taken = refl; up = refl; took = refl; done = refl; keyed = refl })
       (λ e. f.0 (either_left _ _ e), λ h. or_nothing _ (f.1 h))
 
@@ -555,11 +555,11 @@ module _ (ciphers : Ciphers) (w : World) where
   line_right n event s (Seeks number to x target there) = as_right _ (seeks_right ciphers w n number to x target)
   line_right n event s (Looks number x there) = as_right _ (looks_right ciphers w n number x.memory)
   line_right n event s (Picks number k x psk ne there e) = as_right _ (picks_right ciphers w n number k x psk)
-  line_right n event s (Finds e number x octets link there says comes_so is) =
+  line_right n event s (Finds e number x octets link there says outcome_of_arrival is) =
       as_right _ (finds_right ciphers w n e number x octets link
-      (λ own key a. found_none ciphers w e number x octets there comes_so is a.number a.node own a.got a.there a.comes a.is) x.memory)
-  line_right n event s (Takes e number x octets cost got t there says comes_so low is how) = as_right _
-      (heard_right ciphers w n e number x octets cost got there says comes_so low is t how)
+      (λ own key a. found_none ciphers w e number x octets there outcome_of_arrival is a.number a.node own a.got a.there a.comes a.is) x.memory)
+  line_right n event s (Takes e number x octets cost got t there says outcome_of_arrival low is how) = as_right _
+      (heard_right ciphers w n e number x octets cost got there says outcome_of_arrival low is t how)
   line_right n event s (Puts e r bs quiet is) = as_right _
       (more_after ciphers w n e r.0 r.1 r.0.checks_on bs r.1.further r.1.happenings.agent (right ciphers w e (Ok r) is n))
   line_right n event s (Unread number x bad there e) = as_right _ (unread_right n number x bad)

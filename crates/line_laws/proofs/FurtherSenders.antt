@@ -57,7 +57,7 @@ use Rattle.line_laws.proofs.Answered.{acts_answered}
 use Rattle.line_laws.proofs.CoordinatorCalls.{accept_failed, accept_ok, accepted_routes}
 use Rattle.line_laws.proofs.FlightFolds.{NewSenders, address_low, all_senders, came_octets, none_new, one_after, senders, speaks, after_silent}
 use Rattle.line_laws.proofs.FlightFolds.{SendersIn as SendersBefore}
-use Rattle.line_laws.proofs.FurtherEvents.{IsFurtherStep, IsHeard, checks_so, further_step_is, heard_so, hearing, taker}
+use Rattle.line_laws.proofs.FurtherEvents.{IsFurtherStep, IsHeard, checks_so, further_step_is, outcome_of_command, hearing, taker}
 use Rattle.line_laws.proofs.FurtherEvents.{Old, TurnsOn, Spreads, Seeks, Looks, Picks, Finds, Takes, Puts, Unread, IsUnbelieved, IsPlain, IsCommand, IsChecked}
 use Rattle.line_laws.proofs.FurtherEvents.{IsAnswered}
 use Rattle.line_laws.proofs.FurtherForms.{AnyUnits, IsFurther, Goes, Rests, further_ok, ask_is, broadcast_is}
@@ -172,7 +172,7 @@ module _ (ciphers : Ciphers) (fits : KeepsRanges ciphers) (w : World) (ok : Worl
   -- # Octets that were accepted
 
   module _ (event : Event) (number : ℕ) (x : Node) (octets : List ℕ) (cost : ℕ) (got : Accepted) (there : node_at w number ≡ Some x) (says : IsEvent event)
-      (comes_so : Comes w event number octets)
+      (outcome_of_arrival : Comes w event number octets)
       (is : (accepting ciphers x octets).answer ≡ Ok got) where
     abbrev y : Node
     y = taker ciphers x octets
@@ -181,11 +181,11 @@ module _ (ciphers : Ciphers) (fits : KeepsRanges ciphers) (w : World) (ok : Worl
     d = hearing ciphers w x octets got cost
 
     abbrev r : World × Trace
-    r = heard_so ciphers w number x octets got cost
+    r = outcome_of_command ciphers w number x octets got cost
 
     pub heard_did : DidOk y d
     heard_did =
-        let are : AreOctets octets = came_octets ciphers fits w ok flown event number octets says comes_so in
+        let are : AreOctets octets = came_octets ciphers fits w ok flown event number octets says outcome_of_arrival in
         let plan : Memory → Plan Memory (Result Accepted FrameRefusal) = λ m. of_station m (accept m.station x.eui (arrived ciphers octets)) in
         let did = acts_ok x (Err frames.Halted) plan (good_at number x there) (λ m here kept sized. accept_ok ciphers fits octets are x.role m x.eui sized) in
         let a = acts_answered x frames.Halted frames.Store plan
@@ -195,7 +195,7 @@ module _ (ciphers : Ciphers) (fits : KeepsRanges ciphers) (w : World) (ok : Worl
         hears_ok ciphers fits w ok flown y got cost (note_by w octets got.path) w.clock did.node routes
 
     plainly : cost ≤ 255 → NewSenders w r.0
-    plainly low = senders ciphers fits w ok flown event (Ok r) (Hears event number x octets cost got there says comes_so low is)
+    plainly low = senders ciphers fits w ok flown event (Ok r) (Hears event number x octets cost got there says outcome_of_arrival low is)
 
     now_there : node_at r.0 number ≡ Some d.node
     unfolding world_after
@@ -212,7 +212,7 @@ module _ (ciphers : Ciphers) (fits : KeepsRanges ciphers) (w : World) (ok : Worl
         let halted : Result CommandHeard ReachDropped = Err (reach_drops.Known drops.Store) in
         let does = with_beside (beside_at r.0 number) (λ z. hear_command in_memory z c) in
         let a = acts d.node halted does in
-        let did = further_did d.node halted does heard_did.node (λ m here. known.commands event number x octets got cost c m says comes_so there is e here) in
+        let did = further_did d.node halted does heard_did.node (λ m here. known.commands event number x octets got cost c m says outcome_of_arrival there is e here) in
         let same : r.0.flights ≡ w.flights = ap (λ fs. w.flights ++ map (λ frame. flight_by number (spelled ciphers frame)) fs) none ∙ append-nil w.flights in
         sent_now (commanded ciphers number d.node c r).0 number a.node a.frames (ap (λ fs. fs ++ flights_of ciphers number a) same)
         (slice_get-set r.0.nodes number a.node (place_within r.0.nodes number d.node now_there)) did.node did.from
@@ -267,9 +267,9 @@ module _ (ciphers : Ciphers) (fits : KeepsRanges ciphers) (w : World) (ok : Worl
   line_senders event s (Seeks number to x target there) = asks_senders number x there target
   line_senders event s (Looks number x there) = scans_senders number x.memory
   line_senders event s (Picks number k x psk ne there e) = picks_senders number k x there psk
-  line_senders event s (Finds e number x octets link there says comes_so is) = finds_senders number x octets link x.memory
+  line_senders event s (Finds e number x octets link there says outcome_of_arrival is) = finds_senders number x octets link x.memory
   line_senders event s
-      (Takes e number x octets cost got t there says comes_so low is how) = heard_senders e number x octets cost got there says comes_so is t low how
+      (Takes e number x octets cost got t there says outcome_of_arrival low is how) = heard_senders e number x octets cost got there says outcome_of_arrival is t low how
   line_senders event s (Puts e r bs quiet is) = senders ciphers fits w ok flown e (Ok r) is
   line_senders event s (Unread number x bad there e) = absurd (restarts_read ciphers w logs number x there bad e)
 

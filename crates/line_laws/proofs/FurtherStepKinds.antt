@@ -77,11 +77,11 @@ use Rattle.line_rules.specs.Answers.{Reception, coordinator_reception, frame_wor
 use Rattle.line_events.specs.Events.{IsEvent, IsLineOctets}
 use Rattle.line_rules.specs.Further.{line_step, checks, bcast, broadcasts_by, path, asks_by, scan, scans_by, choose, choice_word, chooses_by, discovers_by}
 use Rattle.line_rules.specs.Further.{discovery_flights, commanded, checked, acknowledged_if, acknowledged, acknowledging, adds_frames, sends_nothing}
-use Rattle.line_rules.specs.Further.{unbelieved, heard_by, heard_further, is_dropped, accepted_further, comes, delivers, injects, ticks, after_ok, due}
+use Rattle.line_rules.specs.Further.{unbelieved, hearing_outcome_by, further_hearing_outcome, is_dropped, accepted_further, comes, delivers, injects, ticks, after_ok, due}
 use Rattle.line_rules.specs.Further.{with_check, restarts_by, restarts_further, beside_at, reaches, with_beside, of_memory}
 use Rattle.line_rules.specs.Logs.{AreLogged, HaveShortTables, LogIn, LogsKept}
 use Rattle.line_rules.specs.Steps.{Step, set_up, running_world, world_after, node_outcome, ticked, flights_of, happenings, trace_of, has_begun, takes_setup, once_begun, in_setup}
-use Rattle.line_rules.specs.Steps.{on_node, on_meter, psk_of, identity, on_flight, hears, heard, received, forged_by, note_by, restarts, tick, step}
+use Rattle.line_rules.specs.Steps.{on_node, on_meter, psk_of, identity, on_flight, hearing_step, hearing_outcome, received, forged_by, note_by, restarts, tick, step}
 use Rattle.line_rules.specs.Worlds.{World, Flight, Trace, node_at, flight_at, is_forged_tag}
 use Rattle.line_rules.proofs.LogSteps.{logged_at}
 use Rattle.line_laws.specs.FurtherLines.{LineHolds, LineStepsHold, LogFits, LogsFit, StepHolds, TablesAreShort}
@@ -222,12 +222,12 @@ pub record Speaks (U : List Outgoing → Type 0) (D : Discovery → Type 0) (cip
   -- of a command that it accepted, and of the acknowledgement of a reply
   pub commands : (event : Event) (number : ℕ) (x : Node) (octets : List ℕ) (got : Accepted) (cost : ℕ) (c : NeighbourCommand) (m : Memory) → IsEvent event
       → Comes w event number octets → node_at w number ≡ Some x → (accepting ciphers x octets).answer ≡ Ok got → command_of got ≡ Some c
-      → (hears ciphers (accepting ciphers x octets).node got cost (note_by w octets got.path) w.clock).node.memory ≡ Some m
+      → (hearing_step ciphers (accepting ciphers x octets).node got cost (note_by w octets got.path) w.clock).node.memory ≡ Some m
       → IsFurther U m (with_beside (beside_at w number) (λ y. hear_neighbours in_memory y c) m)
   pub acknowledges : (event : Event) (number : ℕ) (x : Node) (octets : List ℕ) (got : Accepted) (cost : ℕ) (reply : Reply) (m : Memory) → IsEvent event
       → Comes w event number octets → node_at w number ≡ Some x → (accepting ciphers x octets).answer ≡ Ok got
-      → due got.path (message_of got) (hears ciphers (accepting ciphers x octets).node got cost (note_by w octets got.path) w.clock).answer.answer ≡ Some reply
-      → (hears ciphers (accepting ciphers x octets).node got cost (note_by w octets got.path) w.clock).node.memory ≡ Some m
+      → due got.path (message_of got) (hearing_step ciphers (accepting ciphers x octets).node got cost (note_by w octets got.path) w.clock).answer.answer ≡ Some reply
+      → (hearing_step ciphers (accepting ciphers x octets).node got cost (note_by w octets got.path) w.clock).node.memory ≡ Some m
       → IsFurther U m (acknowledges in_memory reply.to reply.number reply.origin m)
 
 -- what a node does by such plans makes and checks no pair tag
@@ -425,17 +425,17 @@ module _ (U : List Outgoing → Type 0) (D : Discovery → Type 0) (ciphers : Ci
   -- # Octets that come
 
   module _ (event : Event) (number : ℕ) (x : Node) (octets : List ℕ) (cost : ℕ) (got : Accepted) (there : node_at w number ≡ Some x) (says : IsEvent event)
-      (comes_so : Comes w event number octets) (low : cost ≤ 255) (is : (accepting ciphers x octets).answer ≡ Ok got)
-      (good : WorldOk (heard ciphers w number (accepting ciphers x octets).node octets got cost).0)
-      (before : Old event (Ok (heard ciphers w number (accepting ciphers x octets).node octets got cost))) where
+      (outcome_of_arrival : Comes w event number octets) (low : cost ≤ 255) (is : (accepting ciphers x octets).answer ≡ Ok got)
+      (good : WorldOk (hearing_outcome ciphers w number (accepting ciphers x octets).node octets got cost).0)
+      (before : Old event (Ok (hearing_outcome ciphers w number (accepting ciphers x octets).node octets got cost))) where
     abbrev y : Node
     y = (accepting ciphers x octets).node
 
     abbrev d : NodeStep Reception
-    d = hears ciphers y got cost (note_by w octets got.path) w.clock
+    d = hearing_step ciphers y got cost (note_by w octets got.path) w.clock
 
     abbrev r : World × Trace
-    r = heard ciphers w number y octets got cost
+    r = hearing_outcome ciphers w number y octets got cost
 
     now_there : node_at r.0 number ≡ Some d.node
     unfolding world_after
@@ -453,7 +453,7 @@ module _ (U : List Outgoing → Type 0) (D : Discovery → Type 0) (ciphers : Ci
         After event r (commanded ciphers number d.node c r).0 (commanded ciphers number d.node c r).1 before good goes_on
         (Turns r.0 v _ (Carries r.0 number d.node _ (Err (reach_drops.Known drops.Store))
         (with_beside (beside_at r.0 number) (λ z. hear_neighbours in_memory z c)) now_there
-        (λ m here. speaks.commands event number x octets got cost c m says comes_so there is e here))
+        (λ m here. speaks.commands event number x octets got cost c m says outcome_of_arrival there is e here))
         (Besides v v.checks_on (commanded ciphers number d.node c r).0.beside))
         (same_said_of r.1 (commanded ciphers number d.node c r).1 refl refl refl refl refl refl refl refl)
 
@@ -476,7 +476,7 @@ module _ (U : List Outgoing → Type 0) (D : Discovery → Type 0) (ciphers : Ci
         moves : Moves U D ciphers r.0 v
         moves = Turns r.0 with_it.0 v with_moves (Carries with_it.0 number d.node _ (Err locals.Store)
             (λ m. acknowledges in_memory reply.to reply.number reply.origin m) now_there (λ m here. speaks.acknowledges event number x octets got cost reply m
-            says comes_so there is owed here))
+            says outcome_of_arrival there is owed here))
 
         by_memory : (t : Bool) → Is event (Ok (if t then adds_frames v with_it.1 a else sends_nothing w (v, with_it.1)))
         by_memory true = After event r v (adds_frames v with_it.1 a).1 before good goes_on moves
@@ -490,7 +490,7 @@ module _ (U : List Outgoing → Type 0) (D : Discovery → Type 0) (ciphers : Ci
         by_due None e = After event r with_it.0 with_it.1 before good goes_on with_moves (same_said_of r.1 with_it.1 refl refl refl refl refl refl refl refl)
         by_due (Some reply) e = acknowledged_step reply e
 
-    heard_by_step : (o : Option NeighbourCommand) → command_of got ≡ o → Is event (Ok (heard_by ciphers w number y octets got cost o))
+    heard_by_step : (o : Option NeighbourCommand) → command_of got ≡ o → Is event (Ok (hearing_outcome_by ciphers w number y octets got cost o))
     heard_by_step None e = by_checks w.checks_on
       where
         by_checks : (b : Bool) → Is event (Ok (if b then checked ciphers w number got d r else r))
@@ -498,12 +498,12 @@ module _ (U : List Outgoing → Type 0) (D : Discovery → Type 0) (ciphers : Ci
         by_checks false = Known event (Ok r) before
     heard_by_step (Some c) e = commanded_step c e
 
-    further_step : Is event (Ok (heard_further ciphers w number y octets got cost))
+    further_step : Is event (Ok (further_hearing_outcome ciphers w number y octets got cost))
     further_step = by_dropped (is_dropped w number got)
       where
         by_dropped : (b : Bool) → Is event
-            (Ok (if b then unbelieved ciphers w number y octets got else heard_by ciphers w number y octets got cost (command_of got)))
-        by_dropped true = Unbelieves event number x octets got there says comes_so is
+            (Ok (if b then unbelieved ciphers w number y octets got else hearing_outcome_by ciphers w number y octets got cost (command_of got)))
+        by_dropped true = Unbelieves event number x octets got there says outcome_of_arrival is
         by_dropped false = heard_by_step (command_of got) refl
 
   discovers_step : (event : Event) (number : ℕ) (x : Node) → node_at w number ≡ Some x → (octets : List ℕ) (link : ℕ) (o : Option Memory) → x.memory ≡ o
@@ -516,12 +516,12 @@ module _ (U : List Outgoing → Type 0) (D : Discovery → Type 0) (ciphers : Ci
   comes_step : (event : Event) (number : ℕ) (x : Node) (octets : List ℕ) (cost : ℕ) → node_at w number ≡ Some x → IsEvent event → Comes w event number octets
       → cost ≤ 255 → Old event (Ok (arrives ciphers w number x octets cost)) → Is event (Ok (comes ciphers w number x octets cost))
   unfolding comes acts arrives
-  comes_step event number x octets cost there says comes_so low known = by_kind (is_discovery octets)
+  comes_step event number x octets cost there says outcome_of_arrival low known = by_kind (is_discovery octets)
     where
       heard_world : (got : Accepted) → (accepting ciphers x octets).answer ≡ Ok got
-          → WorldOk (heard ciphers w number (accepting ciphers x octets).node octets got cost).0
+          → WorldOk (hearing_outcome ciphers w number (accepting ciphers x octets).node octets got cost).0
       heard_world got e =
-          let are : AreOctets octets = came_octets ciphers fits w ok flown_are event number octets says comes_so in
+          let are : AreOctets octets = came_octets ciphers fits w ok flown_are event number octets says outcome_of_arrival in
           let plan : Memory → Plan Memory (Result Accepted FrameRefusal) = λ m. of_station m (accept m.station x.eui (arrived ciphers octets)) in
           let did = acts_ok x (Err frames.Halted) plan (at_place NodeOk w.nodes number x there ok.nodes)
           (λ m here kept sized. accept_ok ciphers fits octets are x.role m x.eui sized) in
@@ -540,7 +540,7 @@ module _ (U : List Outgoing → Type 0) (D : Discovery → Type 0) (ciphers : Ci
           → Old event (Ok (accepted_by ciphers w number octets cost (record d { answer = o })))
           → Is event (Ok (accepted_further ciphers w number octets cost (record d { answer = o })))
       by_answer (Err reason) e it = Known event _ it
-      by_answer (Ok got) e it = further_step event number x octets cost got there says comes_so low e (heard_world got e) it
+      by_answer (Ok got) e it = further_step event number x octets cost got there says outcome_of_arrival low e (heard_world got e) it
 
       by_kind : (b : Bool) → Is event
           (Ok (if b then discovers_by w number x octets cost x.memory else accepted_further ciphers w number octets cost (accepting ciphers x octets)))
@@ -625,7 +625,7 @@ line_step_is U D ciphers fits w ok flown_are logs speaks event says = line_step_
 
 -- the log of a node that has heard something fits its slots
 pub fits_at : (ciphers : Ciphers) (w : World) → LogsKept w → (number : ℕ) (x : Node) (octets : List ℕ) (got : Accepted) (cost : ℕ) (m : Memory)
-    → node_at w number ≡ Some x → (hears ciphers (accepting ciphers x octets).node got cost (note_by w octets got.path) w.clock).node.memory ≡ Some m
+    → node_at w number ≡ Some x → (hearing_step ciphers (accepting ciphers x octets).node got cost (note_by w octets got.path) w.clock).node.memory ≡ Some m
     → LogFits (beside_at w number)
 fits_at ciphers w logs number x octets got cost m there here = by_memory x.memory
     (from_y (accepting ciphers x octets).node.memory refl (hears_down ciphers (accepting ciphers x octets).node got cost (note_by w octets got.path) w.clock m
@@ -741,8 +741,8 @@ module _ (U : List Outgoing → Type 0) (D : Discovery → Type 0) (ciphers : Ci
     -- a node that accepted octets and did nothing more
     accepted_did : (event : Event) (number : ℕ) (x : Node) (octets : List ℕ) → node_at w number ≡ Some x → IsEvent event → Comes w event number octets
         → DidOk x (accepting ciphers x octets)
-    accepted_did event number x octets there says comes_so =
-        let are : AreOctets octets = came_octets ciphers fits w ok flown_are event number octets says comes_so in
+    accepted_did event number x octets there says outcome_of_arrival =
+        let are : AreOctets octets = came_octets ciphers fits w ok flown_are event number octets says outcome_of_arrival in
         acts_ok x (Err frames.Halted) (λ m. of_station m (accept m.station x.eui (arrived ciphers octets))) (at_place NodeOk w.nodes number x there ok.nodes)
         (λ m here kept sized. accept_ok ciphers fits octets are x.role m x.eui sized)
 

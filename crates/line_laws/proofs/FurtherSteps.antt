@@ -77,12 +77,12 @@ use Rattle.line_rules.specs.Answers.{Reception, coordinator_reception, frame_wor
 use Rattle.line_events.specs.Events.{IsEvent}
 use Rattle.line_rules.specs.Further.{line_step, checks, bcast, broadcasts_by, path, asks_by, scan, scans_by, choose, choice_word, chooses_by, discovers_by}
 use Rattle.line_rules.specs.Further.{discovery_flights, commanded, checked, acknowledged_if, acknowledged, acknowledging, adds_frames, sends_nothing}
-use Rattle.line_rules.specs.Further.{unbelieved, heard_by, heard_further, is_dropped, accepted_further, comes, delivers, injects, ticks, after_ok, due}
+use Rattle.line_rules.specs.Further.{unbelieved, hearing_outcome_by, further_hearing_outcome, is_dropped, accepted_further, comes, delivers, injects, ticks, after_ok, due}
 use Rattle.line_rules.specs.Further.{with_check, restarts_by, restarts_further, beside_at, reaches, with_beside, of_memory}
 use Rattle.line_rules.specs.Logs.{AreLogged, HaveShortTables, LogIn, LogsKept}
 use Rattle.line_rules.specs.Steps.{Step, set_up, running_world, world_after, flights_of, happenings, trace_of, has_begun, takes_setup, once_begun, in_setup, on_node}
 use Rattle.line_rules.specs.Steps.{on_meter}
-use Rattle.line_rules.specs.Steps.{psk_of, identity, on_flight, hears, heard, received, forged_by, note_by, restarts, tick, step}
+use Rattle.line_rules.specs.Steps.{psk_of, identity, on_flight, hearing_step, hearing_outcome, received, forged_by, note_by, restarts, tick, step}
 use Rattle.line_rules.specs.Worlds.{World, Flight, Trace, node_at, flight_at, is_forged_tag}
 use Rattle.line_rules.proofs.LogSteps.{logged_at}
 use Rattle.line_laws.specs.FurtherLines.{LineHolds, LineStepsHold, LogFits, LogsFit, StepHolds, TablesAreShort}
@@ -435,10 +435,10 @@ module _ (ciphers : Ciphers) (fits : KeepsRanges ciphers) (w : World) (ok : Worl
 
     module _ (got : Accepted) (cost : ℕ) (routes : RoutesFit got) where
       abbrev d : NodeStep Reception
-      d = hears ciphers y got cost (note_by w octets got.path) w.clock
+      d = hearing_step ciphers y got cost (note_by w octets got.path) w.clock
 
       abbrev r : World × Trace
-      r = heard ciphers w number y octets got cost
+      r = hearing_outcome ciphers w number y octets got cost
 
       heard_did : DidOk x d
       heard_did = and_then d (hears_ok ciphers fits w ok flown y got cost (note_by w octets got.path) w.clock good routes)
@@ -543,7 +543,7 @@ module _ (ciphers : Ciphers) (fits : KeepsRanges ciphers) (w : World) (ok : Worl
           by_due None e = Taken with_it with_ok heard_did.few (after_more ciphers (running_world w) number d)
           by_due (Some reply) e = acknowledged_good reply (due_few got.path (message_of got) d.answer.answer reply refl refl e)
 
-      heard_by_good : (o : Option NeighbourCommand) → command_of got ≡ o → StepGood w (Ok (heard_by ciphers w number y octets got cost o))
+      heard_by_good : (o : Option NeighbourCommand) → command_of got ≡ o → StepGood w (Ok (hearing_outcome_by ciphers w number y octets got cost o))
       heard_by_good None e = by_checks w.checks_on
         where
           by_checks : (b : Bool) → StepGood w (Ok (if b then checked ciphers w number got d r else r))
@@ -551,11 +551,11 @@ module _ (ciphers : Ciphers) (fits : KeepsRanges ciphers) (w : World) (ok : Worl
           by_checks false = heard_good
       heard_by_good (Some c) e = commanded_good c e
 
-      further_good : StepGood w (Ok (heard_further ciphers w number y octets got cost))
+      further_good : StepGood w (Ok (further_hearing_outcome ciphers w number y octets got cost))
       further_good = by_dropped (is_dropped w number got)
         where
           by_dropped : (b : Bool) → StepGood w
-              (Ok (if b then unbelieved ciphers w number y octets got else heard_by ciphers w number y octets got cost (command_of got)))
+              (Ok (if b then unbelieved ciphers w number y octets got else hearing_outcome_by ciphers w number y octets got cost (command_of got)))
           by_dropped true = steps.received_good ciphers fits w ok flown number x (forged_by w octets got.path) (stays y (only answers.Blacklisted)) there
               (and_then (stays y (only answers.Blacklisted)) (rests_ok y (only answers.Blacklisted) good))
           by_dropped false = heard_by_good (command_of got) refl

@@ -16,7 +16,7 @@ use Rattle.group_keys.specs.KeyBook as books
 use Rattle.line_rules.specs.Answers.{Reception, meter_reception, coordinator_reception}
 use Rattle.line_rules.specs.Worlds.{World, Issued, node_at, same_tag, is_forged_tag}
 use Rattle.line_rules.specs.Forgery.{accepting}
-use Rattle.line_rules.specs.Steps.{Step, set_up, world_after, takes_setup, identity, hears, note_by, psk_of, provisioned, depot, depot_by, depot_at}
+use Rattle.line_rules.specs.Steps.{Step, set_up, world_after, takes_setup, identity, hearing_step, note_by, psk_of, provisioned, depot, depot_by, depot_at}
 use Rattle.line_events.specs.declared.event.StepFault.TheVariants as faults
 use Rattle.node_rules.specs.declared.heard.Accepted.{Accepted}
 use Rattle.node_rules.specs.declared.refusal.CoordinatorRefusal.{CoordinatorRefusal}
@@ -78,7 +78,7 @@ module _ (ciphers : Ciphers) (y : Node) (psk : Key) (m : Memory) (is : y.role �
       (acts y (Err drops.Store) (λ n. coordinator_rules.hear_coordinator (record { eui = y.eui; ciphers = ciphers }) n got cost note now))
   hears_as (Meter key) = answering meter_reception (acts y (Err drops.Store) (λ n. meters.hear_meter (identity ciphers y key) n got cost note now))
 
-  hears_open : (hears ciphers y got cost note now).opened ≡ (meters.hear_meter (identity ciphers y psk) m got cost note now).opened
+  hears_open : (hearing_step ciphers y got cost note now).opened ≡ (meters.hear_meter (identity ciphers y psk) m got cost note now).opened
   unfolding hears_as
   hears_open =
       ap (λ role. (hears_as role).opened) is ∙ acts_open y (Err drops.Store) (λ n. meters.hear_meter (identity ciphers y psk) n got cost note now) m here
@@ -140,7 +140,7 @@ module _ (ciphers : Ciphers) (fits : KeepsRanges ciphers) (w : World) (ok : Worl
       readable = fits.granted psk t.peer t.packet granted (pair_octets y m psk (node_kept y m did.node here) role) packet_octets t.right t.is
 
       -- the coordinator made this grant for this meter
-      pub granted_home : list_any (is_forged_tag w.made) (hears ciphers y got cost (note_by w octets got.path) w.clock).opened ≡ false
+      pub granted_home : list_any (is_forged_tag w.made) (hearing_step ciphers y got cost (note_by w octets got.path) w.clock).opened ≡ false
           → IsTagged t (meters.hear_meter (identity ciphers y psk) m got cost (note_by w octets got.path) w.clock).opened
           → homes_of k.book w number ≡ Some granted.address
       granted_home honest tagged =

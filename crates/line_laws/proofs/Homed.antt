@@ -27,7 +27,7 @@ use Rattle.node_rules.specs.Meters as meters
 use Rattle.node_rules.specs.Meters.{Identity}
 use Rattle.node_rules.specs.NodeSteps.{NodeStep, acts}
 use Rattle.line_rules.specs.Forgery.{accepting}
-use Rattle.line_rules.specs.Steps.{identity, hears, psk_of, note_by}
+use Rattle.line_rules.specs.Steps.{identity, hearing_step, psk_of, note_by}
 use Rattle.line_rules.specs.Worlds.{World, node_at, is_forged_tag}
 use Rattle.line_laws.specs.Owed.{AreOctets}
 use Rattle.line_laws.proofs.IssueWords.{Among}
@@ -73,7 +73,7 @@ IsTagged {granted = granted} t opened =
 abbrev pub TakesItsOwn : Ciphers → Homes → World → ℕ → List ℕ → ℕ → NodeStep (Result Accepted FrameRefusal) → Type 0
 TakesItsOwn ciphers h w number octets cost d =
     (got : Accepted) → d.answer ≡ Ok got
-    → list_any (is_forged_tag w.made) (hears ciphers d.node got cost (note_by w octets got.path) w.clock).opened ≡ false
+    → list_any (is_forged_tag w.made) (hearing_step ciphers d.node got cost (note_by w octets got.path) w.clock).opened ≡ false
     → (psk : Key) → d.node.role ≡ Meter psk → (m : Memory) → d.node.memory ≡ Some m
     → (agreed : Agreed) →
     (meters.hear_meter (identity ciphers d.node psk) m got cost (note_by w octets got.path) w.clock).answer

@@ -48,7 +48,7 @@ use Rattle.node_rules.specs.MemoryDrafts.{with_station}
 use Rattle.line_events.specs.Events.{IsEvent}
 use Rattle.line_rules.specs.Worlds.{World, Flight, Trace, node_at, flight_at, is_forged_tag}
 use Rattle.line_rules.specs.Steps.{Step, set_up, running_world, world_after, node_outcome, once_begun, in_setup, has_begun, takes_setup, on_node, on_meter, blank_node, identity}
-use Rattle.line_rules.specs.Steps.{hears}
+use Rattle.line_rules.specs.Steps.{hearing_step}
 use Rattle.line_rules.specs.Steps.{restarts, memory_by, ticked, rand, join, joins_by, leave, send, sends_by, sent_if, breaks, breaks_by, lose, tick, restart}
 use Rattle.line_rules.specs.Steps.{cut, show, psk_of, trace_of, happenings, coordinator, coordinator_node, meter, is_known, depot, depot_by, near, near_by}
 use Rattle.line_rules.specs.Steps.{keeps_rank, ranks_full, offered_near, preset, allow, allowed, deliver, inject, arrives, accepted_by, received}
@@ -527,8 +527,8 @@ module _ (ciphers : Ciphers) (fits : KeepsRanges ciphers) (w : World) (ok : Worl
   hears_after : (number : ℕ) (x y : Node) (got : Accepted) (cost note now : ℕ) → node_at w number ≡ Some x → NodeOk y → y.role ≡ x.role → y.eui ≡ x.eui
       → RoutesFit got
       → (number ≡ 0 → CoordinatorDid ran_keyed.book given [] x (stays y (tt {0}))) → (number ≢ 0 → MeterOk ran_keyed.book given y)
-      → list_any (is_forged_tag w.made) (hears ciphers y got cost note now).opened ≡ false
-      → Keyed (world_after ciphers (running_world w) number (hears ciphers y got cost note now)) (given ++ issued_of (hears ciphers y got cost note now).answer.keyed)
+      → list_any (is_forged_tag w.made) (hearing_step ciphers y got cost note now).opened ≡ false
+      → Keyed (world_after ciphers (running_world w) number (hearing_step ciphers y got cost note now)) (given ++ issued_of (hearing_step ciphers y got cost note now).answer.keyed)
   hears_after number x y got cost note now there good role eui routes coordinator meter = by_role y.role refl
     where
       hears_as : Role → NodeStep Reception
@@ -606,7 +606,7 @@ module _ (ciphers : Ciphers) (fits : KeepsRanges ciphers) (w : World) (ok : Worl
           (quiet_after ciphers fits (running_world w) given ran_keyed number x there (node_ok number x there) (Err frames.Halted) plan quiet)))
       by_answer (Ok got) e =
           let y = (acts x (Err frames.Halted) plan).node in
-          let d = hears ciphers y got cost (note_by w octets got.path) w.clock in
+          let d = hearing_step ciphers y got cost (note_by w octets got.path) w.clock in
           rw e (received_keyed number (forged_by w octets got.path || list_any (is_forged_tag w.made) d.opened) d (λ honest.
           hears_after number x y got cost (note_by w octets got.path) w.clock there did.node did.role did.eui (routes got e)
           (λ first. let c = coordinator first in record { book = c.book; node = c.node; grows = c.grows; eui = did.eui; made = tt }) (λ ne. (meter ne).node)

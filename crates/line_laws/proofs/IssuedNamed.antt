@@ -29,7 +29,7 @@ use Rattle.line_events.specs.Events.{IsEvent}
 use Rattle.line_rules.specs.Forgery.{Comes, accepting}
 use Rattle.line_rules.specs.Runs.{Entry}
 use Rattle.line_rules.specs.Worlds.{World, Issued, Trace, node_at}
-use Rattle.line_rules.specs.Steps.{Step, identity, hears, note_by, issued_at, issued_by, issued_of, sent_if, is_taken, tag_of, node_outcome}
+use Rattle.line_rules.specs.Steps.{Step, identity, hearing_step, note_by, issued_at, issued_by, issued_of, sent_if, is_taken, tag_of, node_outcome}
 use Rattle.line_laws.specs.Stores.{HasEui, IsNamed}
 use Rattle.line_laws.specs.Owed.{KeepsRanges}
 use Rattle.line_laws.proofs.Planned.{planned_failed}
@@ -90,7 +90,7 @@ module _ (ciphers : Ciphers) (y : Node) (good : NodeOk y) (got : Accepted) (cost
           (keyed_granted (record { eui = y.eui; ciphers = ciphers }) a.memory (heard_given got cost note now) got eui granted refl a.is))
       by_word _ e = tt
 
-  heard_named : Each IssueNamed (issued_of (hears ciphers y got cost note now).answer.keyed)
+  heard_named : Each IssueNamed (issued_of (hearing_step ciphers y got cost note now).answer.keyed)
   heard_named = by_role y.role
     where
       hears_as : Role → NodeStep Reception

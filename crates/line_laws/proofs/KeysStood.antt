@@ -13,7 +13,7 @@ use Rattle.line_rules.specs.Agreement.{NodeHasKey}
 use Rattle.line_rules.specs.Answers.{Reception, coordinator_reception, meter_reception, sent_word}
 use Rattle.line_events.specs.Events.{IsEvent}
 use Rattle.line_rules.specs.Forgery.{Comes, accepting}
-use Rattle.line_rules.specs.Steps.{Step, issued_at, issued_by, issued_of, node_outcome, sent_if, is_taken, tag_of, hears, note_by, identity, takes_setup, psk_of}
+use Rattle.line_rules.specs.Steps.{Step, issued_at, issued_by, issued_of, node_outcome, sent_if, is_taken, tag_of, hearing_step, note_by, identity, takes_setup, psk_of}
 use Rattle.line_rules.specs.Worlds.{World, Issued, Trace, node_at}
 use Rattle.line_events.specs.declared.event.Event.{Event}
 use Rattle.line_events.specs.declared.event.Event.TheVariants as events
@@ -207,7 +207,7 @@ module _ (ciphers : Ciphers) (y : Node) (got : Accepted) (cost note now : ℕ) (
           (keyed_granted (record { eui = y.eui; ciphers = ciphers }) a.memory (heard_given got cost note now) got eui granted refl a.is)
       by_word _ e = tt
 
-  heard_issues : Each P (issued_of (hears ciphers y got cost note now).answer.keyed)
+  heard_issues : Each P (issued_of (hearing_step ciphers y got cost note now).answer.keyed)
   heard_issues = by_role y.role refl
     where
       hears_as : Role → NodeStep Reception

@@ -36,7 +36,7 @@ use Rattle.line_events.specs.Events.{IsEvent}
 use Rattle.line_rules.specs.Forgery.{Comes, OfFlight, OfScript, accepting}
 use Rattle.line_rules.specs.Runs.{Entry}
 use Rattle.line_rules.specs.Worlds.{World, Flight, Trace, Issued, node_at, has_octets}
-use Rattle.line_rules.specs.Steps.{Step, memory_by, once_begun, has_begun, on_flight, running_world, world_after, trace_of, happenings, heard, hears, note_by, arrives}
+use Rattle.line_rules.specs.Steps.{Step, memory_by, once_begun, has_begun, on_flight, running_world, world_after, trace_of, happenings, hearing_outcome, hearing_step, note_by, arrives}
 use Rattle.line_rules.specs.Steps.{deliver}
 use Rattle.line_rules.specs.Steps.{inject, step}
 use Rattle.line_laws.specs.Live.{holding, marks_of, admits, book_in, book_of, home_by, home, is_past, is_live, live, FlightsFall}
@@ -331,7 +331,7 @@ opened_one w octets (paths.Down from) place e = absurd (none-some place e)
 module _ (ciphers : Ciphers) (w : World) where
   -- what is left of the node that hears
   abbrev hearer : Node → List ℕ → Accepted → ℕ → Node
-  hearer x octets got cost = (hears ciphers (accepting ciphers x octets).node got cost (note_by w octets got.path) w.clock).node
+  hearer x octets got cost = (hearing_step ciphers (accepting ciphers x octets).node got cost (note_by w octets got.path) w.clock).node
 
   arrived_nodes : (number : ℕ) (x : Node) (octets : List ℕ) (cost : ℕ) (got : Accepted) → (accepting ciphers x octets).answer ≡ Ok got
       → (arrives ciphers w number x octets cost).0.nodes ≡ slice_set w.nodes number (hearer x octets got cost)
@@ -339,7 +339,7 @@ module _ (ciphers : Ciphers) (w : World) where
   arrived_nodes number x octets cost got e = subst (λ a. (after a).0.nodes ≡ slice_set w.nodes number (hearer x octets got cost)) (sym e) refl
     where
       after : Result Accepted FrameRefusal → World × Trace
-      after (Ok g) = heard ciphers w number (accepting ciphers x octets).node octets g cost
+      after (Ok g) = hearing_outcome ciphers w number (accepting ciphers x octets).node octets g cost
       after (Err reason) = (world_after ciphers (running_world w) number (accepting ciphers x octets), trace_of (happenings w (frame_word reason)))
 
   pub taken_begun : (s : Step) (r : World × Trace) → once_begun w s ≡ Ok r → s ≡ Ok r

@@ -35,7 +35,7 @@ use Rattle.line_events.specs.Events.{IsEvent}
 use Rattle.line_rules.specs.Forgery.{Comes, accepting}
 use Rattle.line_rules.specs.Runs.{Entry}
 use Rattle.line_rules.specs.Worlds.{World, node_at}
-use Rattle.line_rules.specs.Steps.{Step, set_up, running_world, world_after, node_outcome, sending, sent_if, is_taken, tag_of, hears, offered_near, note_by, identity, psk_of}
+use Rattle.line_rules.specs.Steps.{Step, set_up, running_world, world_after, node_outcome, sending, sent_if, is_taken, tag_of, hearing_step, offered_near, note_by, identity, psk_of}
 use Rattle.line_rules.specs.Steps.{restarts}
 use Rattle.line_rules.specs.Steps.{ticked, step}
 use Rattle.line_laws.specs.Live.{marks_of, MarksRise}
@@ -211,7 +211,7 @@ module _ (ciphers : Ciphers) (fits : KeepsRanges ciphers) (w : World) (ok : Worl
   pub heard_marks : (event : Event) (number : ℕ) (x : Node) (octets : List ℕ) (cost : ℕ) (got : Accepted) → node_at w number ≡ Some x → IsEvent event
       → Comes w event number octets → (accepting ciphers x octets).answer ≡ Ok got
       → DidMark x (accepting ciphers x octets)
-      × DidMark (accepting ciphers x octets).node (hears ciphers (accepting ciphers x octets).node got cost (note_by w octets got.path) w.clock)
+      × DidMark (accepting ciphers x octets).node (hearing_step ciphers (accepting ciphers x octets).node got cost (note_by w octets got.path) w.clock)
   heard_marks event number x octets cost got there says comes is =
       let are = came_octets ciphers fits w ok flown event number octets says comes in
       let plan : Memory → Plan Memory (Result Accepted FrameRefusal) = λ m. of_station m (accept m.station x.eui (arrived ciphers octets)) in
@@ -314,7 +314,7 @@ module _ (ciphers : Ciphers) (fits : KeepsRanges ciphers) (w : World) (ok : Worl
       one_follows (running_world w) _ number x d refl (after_nodes ciphers (running_world w) number d) there did
   follows event s (Hears e number x octets cost got there says comes low is) =
       let a = accepting ciphers x octets in
-      let d = hears ciphers a.node got cost (note_by w octets got.path) w.clock in
+      let d = hearing_step ciphers a.node got cost (note_by w octets got.path) w.clock in
       let h = heard_marks e number x octets cost got there says comes is in
       one_follows (running_world w) _ number x d refl (after_nodes ciphers (running_world w) number d) there (both_marks x a d h.0 h.1)
   follows event s (Loses number f there) = same_follows w _ refl

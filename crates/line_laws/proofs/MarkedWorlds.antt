@@ -58,7 +58,7 @@ use Rattle.line_rules.specs.Further.{acknowledged_if, acknowledging, adds_frames
 use Rattle.line_rules.specs.Further.{chooses_by, commanded, discovers_by, due, reaches, restarts_by, scans_by, sends_nothing, unbelieved, with_check}
 use Rattle.line_rules.specs.Logs.{AreLogged, HaveShortTables, LogsKept}
 use Rattle.line_rules.specs.Runs.{one_of}
-use Rattle.line_rules.specs.Steps.{Step, node_outcome, blank_node, coordinator_node, happenings, heard, hears, identity, is_taken, note_by, offered_near, running_world, restarts}
+use Rattle.line_rules.specs.Steps.{Step, node_outcome, blank_node, coordinator_node, happenings, hearing_outcome, hearing_step, identity, is_taken, note_by, offered_near, running_world, restarts}
 use Rattle.line_rules.specs.Steps.{sent_if, set_up, tag_of, ticked, world_after, trace_of}
 use Rattle.line_rules.specs.Worlds.{Trace, World, node_at}
 use Rattle.line_rules.proofs.LogPlans.{accept_short, acts_short, leave_leaves, random_leaves, acknowledging_leaves}
@@ -199,7 +199,7 @@ module _ (ciphers : Ciphers) (w : World) (short : HaveShortTables w) where
       (λ m e. (coordinators_leave_log (own_of x) m (short number x m there e)).kicks y.eui)
 
   hears_quiet : (y : Node) → ((m : Memory) → y.memory ≡ Some m → HasShortTables m.station) → (got : Accepted) (cost note now : ℕ)
-      → Quiet y (hears ciphers y got cost note now).node
+      → Quiet y (hearing_step ciphers y got cost note now).node
   hears_quiet y has got cost note now = by_role y.role
     where
       hears_as : Role → NodeStep Reception
@@ -218,9 +218,9 @@ module _ (ciphers : Ciphers) (w : World) (short : HaveShortTables w) where
       (λ m e. (stations_leave_log m.station (short number x m there e)).accepts x.eui (arrived ciphers octets))
 
   pub heard_quiet : (number : ℕ) (x : Node) (octets : List ℕ) (got : Accepted) (cost note : ℕ) → node_at w number ≡ Some x
-      → Quiet x (hears ciphers (accepting ciphers x octets).node got cost note w.clock).node
+      → Quiet x (hearing_step ciphers (accepting ciphers x octets).node got cost note w.clock).node
   heard_quiet number x octets got cost note there =
-      quiet_on x (accepting ciphers x octets).node (hears ciphers (accepting ciphers x octets).node got cost note w.clock).node
+      quiet_on x (accepting ciphers x octets).node (hearing_step ciphers (accepting ciphers x octets).node got cost note w.clock).node
       (accepts_quiet number x octets there) (hears_quiet (accepting ciphers x octets).node
       (acts_short x (Err frames.Halted) (λ m. of_station m (accept m.station x.eui (arrived ciphers octets)))
       (λ m e. accept_short m.station (short number x m there e) x.eui (arrived ciphers octets))) got cost note w.clock)
@@ -337,8 +337,8 @@ module _ (ciphers : Ciphers) (w : World) (short : HaveShortTables w) where
         one_quiet (running_world w) number x d refl refl there (subst (λ (z : NodeStep (Result Accepted FrameRefusal)). Quiet x z.node) (sym same)
         (accepts_quiet number x octets there))
     old_marks event s other (old.Hears e number x octets cost got there says comes low is) =
-        at_quiet ups w held (heard ciphers w number (accepting ciphers x octets).node octets got cost).0 number x
-        (hears ciphers (accepting ciphers x octets).node got cost (note_by w octets got.path) w.clock).node there refl (λ n. refl)
+        at_quiet ups w held (hearing_outcome ciphers w number (accepting ciphers x octets).node octets got cost).0 number x
+        (hearing_step ciphers (accepting ciphers x octets).node got cost (note_by w octets got.path) w.clock).node there refl (λ n. refl)
         (heard_quiet number x octets got cost (note_by w octets got.path) there)
     old_marks event s other (old.Loses number f there) = at_none ups w held
         (record (running_world w) { flights = slice_set w.flights (number - 1) (record f { lost = true }) }) refl (λ n. refl)
@@ -434,7 +434,7 @@ module _ (w : World) (ok : WorldOk w) (flown_are : All FlightFits w.flights) (lo
 
   module _ (event : Event) (number : ℕ) (x : Node) (octets : List ℕ) (cost : ℕ) (got : Accepted) (a : IsAccepted network w event number x octets got) where
     abbrev h : World × Trace
-    h = heard network w number (after_accepting network x octets) octets got cost
+    h = hearing_outcome network w number (after_accepting network x octets) octets got cost
 
     abbrev left : Node
     left = (heard_node network w x octets got cost).node
@@ -529,8 +529,8 @@ module _ (w : World) (ok : WorldOk w) (flown_are : All FlightFits w.flights) (lo
   marks_on event s (Commands e number x octets cost got c a low passes is) = commanded_marks event number x octets cost got a c is
   marks_on event s (Checked e number x octets cost got a low passes nothing on) = checked_marks event number x octets cost got a
   marks_on event s (Hears e number x octets cost got a low passes nothing off) =
-      none (heard network w number (after_accepting network x octets) octets got cost) refl
-      (at_quiet ups w held (heard network w number (after_accepting network x octets) octets got cost).0 number x (heard_node network w x octets got cost).node
+      none (hearing_outcome network w number (after_accepting network x octets) octets got cost) refl
+      (at_quiet ups w held (hearing_outcome network w number (after_accepting network x octets) octets got cost).0 number x (heard_node network w x octets got cost).node
       a.there refl (λ n. refl) (left_quiet event number x octets cost got a))
   marks_on event s (Ticks seconds) =
       let v : World = record (running_world w) {

@@ -32,8 +32,8 @@ use Rattle.node_rules.specs.StoreReading.{first_grant}
 use Rattle.line_events.specs.Events.{IsEvent}
 use Rattle.line_rules.specs.Forgery.{Comes, accepting}
 use Rattle.line_rules.specs.Worlds.{World, Flight, node_at, flight_at, start}
-use Rattle.line_rules.specs.Steps.{Step, set_up, running_world, world_after, blank_node, ticked, flights_of, flight_by, node_outcome, sending, sent_if, is_taken, tag_of, hears}
-use Rattle.line_rules.specs.Steps.{offered_near, heard, note_by, identity, restarts, psk_of}
+use Rattle.line_rules.specs.Steps.{Step, set_up, running_world, world_after, blank_node, ticked, flights_of, flight_by, node_outcome, sending, sent_if, is_taken, tag_of, hearing_step}
+use Rattle.line_rules.specs.Steps.{offered_near, hearing_outcome, note_by, identity, restarts, psk_of}
 use Rattle.line_laws.specs.Stores.{IsReadable, HasEui}
 use Rattle.line_laws.specs.Owed.{AreOctets}
 use Rattle.line_laws.proofs.Answered.{acts_answered}
@@ -148,7 +148,7 @@ module _ (w : World) (ok : WorldOk w) (s : WorldSpeaks w) where
   -- # What comes
 
   hears_speaks : (y : Node) (got : Accepted) (cost note now : ℕ) → NodeOk y → NodeSpeaks y → HasEui y.eui → AreOctets got.payload
-      → DidSpeak (hears network y got cost note now)
+      → DidSpeak (hearing_step network y got cost note now)
   hears_speaks y got cost note now good h own are = by_role y.role refl
     where
       hears_as : Role → NodeStep Reception
@@ -166,7 +166,7 @@ module _ (w : World) (ok : WorldOk w) (s : WorldSpeaks w) where
   -- what became of octets that a node accepted
   heard_did : (event : Event) (number : ℕ) (x : Node) (octets : List ℕ) (cost : ℕ) (got : Accepted) → node_at w number ≡ Some x → IsEvent event
       → Comes w event number octets → (accepting network x octets).answer ≡ Ok got
-      → DidSpeak (hears network (accepting network x octets).node got cost (note_by w octets got.path) w.clock)
+      → DidSpeak (hearing_step network (accepting network x octets).node got cost (note_by w octets got.path) w.clock)
   heard_did event number x octets cost got there says comes is =
       let are : AreOctets octets = came_octets network network_ranges w ok s.flights event number octets says comes in
       let plan : Memory → Plan Memory (Result Accepted FrameRefusal) = λ m. of_station m (accept m.station x.eui (arrived network octets)) in
@@ -199,10 +199,10 @@ module _ (w : World) (ok : WorldOk w) (s : WorldSpeaks w) where
       by_taken true k = record { nodes = k.nodes; flights = k.flights }
       by_taken false k = k
 
-  heard_is : (number : ℕ) (y : Node) (octets : List ℕ) (got : Accepted) (cost : ℕ) → DidSpeak (hears network y got cost (note_by w octets got.path) w.clock)
-      → WorldSpeaks (heard network w number y octets got cost).0
+  heard_is : (number : ℕ) (y : Node) (octets : List ℕ) (got : Accepted) (cost : ℕ) → DidSpeak (hearing_step network y got cost (note_by w octets got.path) w.clock)
+      → WorldSpeaks (hearing_outcome network w number y octets got cost).0
   heard_is number y octets got cost did =
-      let k = after_speaks (running_world w) number (hears network y got cost (note_by w octets got.path) w.clock) ran_speaks did in
+      let k = after_speaks (running_world w) number (hearing_step network y got cost (note_by w octets got.path) w.clock) ran_speaks did in
       record { nodes = k.nodes; flights = k.flights }
 
   flight_place : (number : ℕ) (f : Flight) → flight_at w number ≡ Some f → slice_get w.flights (number - 1) ≡ Some f

@@ -37,7 +37,7 @@ use Rattle.node_rules.specs.Laws.{IsWhole, IsCutOff}
 use Rattle.node_rules.proofs.MemoryDraftShapes.{whole}
 use Rattle.node_rules.proofs.Writing.{clean}
 use Rattle.line_rules.specs.Answers.{Reception, coordinator_reception, meter_reception}
-use Rattle.line_rules.specs.Steps.{hears, identity}
+use Rattle.line_rules.specs.Steps.{hearing_step, identity}
 use Rattle.line_rules.specs.Worlds.{World}
 use Rattle.line_laws.proofs.CallForms.{Few, Nothing, random_is, send_is}
 use Rattle.line_laws.proofs.CoordinatorForms.{IsGranted, IsReached, IsSaidDown, activate_is, activate_self_is, challenge_is, coordinator_is, kick_is, rekey_is}
@@ -306,7 +306,7 @@ module _ (ciphers : Ciphers) (w : World) where
     coordinator_old own m = plan_old AnyWord (λ granted. IsGranted m granted) AnyPair AnyEui (heard_given got cost note now) m dropped _ _ (λ d answer x. x.0) _
         (coordinator_is AnyWord AnyPair AnyEui (heard_given got cost note now) own m (λ to there join said. tt) got refl (λ u join e read. tt))
 
-    pub hears_old : (x : Node) → All IsOldFrame (hears ciphers x got cost note now).frames
+    pub hears_old : (x : Node) → All IsOldFrame (hearing_step ciphers x got cost note now).frames
     hears_old x = by_role x.role
       where
         hears_as : Role → NodeStep Reception

@@ -33,7 +33,7 @@ use Rattle.reach_rules.specs.declared.refusal.ReachDropped.{ReachDropped}
 use Rattle.reach_rules.specs.declared.refusal.ReachDropped.TheVariants as reach_drops
 use Rattle.line_rules.specs.Answers.{Reception, coordinator_reception, meter_reception}
 use Rattle.line_rules.specs.Further.{acknowledging, reaches, with_beside}
-use Rattle.line_rules.specs.Steps.{hears, identity}
+use Rattle.line_rules.specs.Steps.{hearing_step, identity}
 use Rattle.line_laws.specs.OnePlan.{AcknowledgesInTurn, ChecksInTurn, CommandsInTurn, IsInTurn, IsSameMove, OthersInTurn}
 use Rattle.line_laws.proofs.FurtherForms.{AnyUnits, Goes, IsFurther, Rests}
 use Rattle.line_laws.proofs.FurtherSteps.{ack_is}
@@ -170,7 +170,7 @@ station_idle l got cost note now c e = by_path got.path (unit_in got.payload) e
 
 -- a node that hears a command by its rule for other frames is left as it is
 hears_idle : (ciphers : Ciphers) (x : Node) (got : Accepted) (cost note now : ℕ) (c : NeighbourCommand) → command_of got ≡ Some c
-    → (hears ciphers x got cost note now).node ≡ x
+    → (hearing_step ciphers x got cost note now).node ≡ x
 hears_idle ciphers x got cost note now c e = by_role x.role
   where
     hears_as : Role → NodeStep Reception
@@ -242,12 +242,12 @@ pub checks_in_turn : {H : Type 0} → ChecksInTurn H
 unfolding choose_plan resting
 checks_in_turn {H} x b got now e p = (
   λ listed. (
-    subst (λ o. (hears_by o).node ≡ x) (sym e) (subst (λ t. (checked_by t).node ≡ x) (sym listed)
+    subst (λ o. (hearing_step_of o).node ≡ x) (sym e) (subst (λ t. (checked_by t).node ≡ x) (sym listed)
         (acts_idle x halted (with_beside b (λ y. drop_reach y reach_drops.Blacklisted)) (λ m. record { puts = refl; memory = refl }))),
-    subst (λ o. (hears_by o).frames ≡ []) (sym e) (subst (λ t. (checked_by t).frames ≡ []) (sym listed)
+    subst (λ o. (hearing_step_of o).frames ≡ []) (sym e) (subst (λ t. (checked_by t).frames ≡ []) (sym listed)
         (acts_quiet x halted (with_beside b (λ y. drop_reach y reach_drops.Blacklisted)) (λ m. refl))),
   ),
-  λ other. subst (λ o. IsSameMove known_answer (hears_by o) (acts x (Err drops.Store) (λ m. acknowledged in_memory got.path (message_of got) (p m)))) (sym e)
+  λ other. subst (λ o. IsSameMove known_answer (hearing_step_of o) (acts x (Err drops.Store) (λ m. acknowledged in_memory got.path (message_of got) (p m)))) (sym e)
       (subst (λ t. IsSameMove known_answer (checked_by t) (acts x (Err drops.Store) (λ m. acknowledged in_memory got.path (message_of got) (p m)))) (sym other)
       (same_move known_answer x (Err drops.Store) (λ m. acknowledged in_memory got.path (message_of got) (p m)))),
 )
@@ -255,8 +255,8 @@ checks_in_turn {H} x b got now e p = (
     halted : Result (ReachHeard H) ReachDropped
     halted = Err (reach_drops.Known drops.Store)
 
-    hears_by : Option NeighbourCommand → NodeStep (Result (ReachHeard H) ReachDropped)
-    hears_by o = reaches x b halted (λ y. hear_by in_memory true y got now (p y.memory) o)
+    hearing_step_of : Option NeighbourCommand → NodeStep (Result (ReachHeard H) ReachDropped)
+    hearing_step_of o = reaches x b halted (λ y. hear_by in_memory true y got now (p y.memory) o)
 
     -- what is done where checks are on, by whether the frame is such a request
     checked_by : Bool → NodeStep (Result (ReachHeard H) ReachDropped)

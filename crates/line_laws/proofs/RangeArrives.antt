@@ -16,7 +16,7 @@ use Rattle.line_rules.specs.Answers.{Reception, meter_reception, coordinator_rec
 use Rattle.node_rules.specs.Meters as meters
 use Rattle.node_rules.specs.Coordinators as coordinators
 use Rattle.node_rules.specs.NodeSteps.{NodeStep, acts, of_station, answering}
-use Rattle.line_rules.specs.Steps.{identity, hears, note_by, forged_by, world_after, running_world, trace_of, happenings, flights_of, heard, arrives}
+use Rattle.line_rules.specs.Steps.{identity, hearing_step, note_by, forged_by, world_after, running_world, trace_of, happenings, flights_of, hearing_outcome, arrives}
 use Rattle.line_rules.specs.Worlds.{Trace, World}
 use Rattle.node_rules.specs.Ciphers.{OpensWhatItSeals}
 use Rattle.line_laws.specs.Letters.{IsFlight, AreFlights}
@@ -69,7 +69,7 @@ module _ (ciphers : Ciphers) (opens : OpensWhatItSeals ciphers) (w : World) (are
       (coordinator_words own (heard_given got cost note w.clock) m)) h
 
   hears_ranged : (y : Node) (got : Accepted) (note : ℕ) → WhatCame ciphers opens w are number x octets cost 1 0 (omega arith) got → NodeRanged y
-      → JoinsWell ciphers y got cost note w.clock → DidRanged (hears ciphers y got cost note w.clock)
+      → JoinsWell ciphers y got cost note w.clock → DidRanged (hearing_step ciphers y got cost note w.clock)
   hears_ranged y got note what ok joins = by_role y.role refl
     where
       read_as : {A : Type 0} (reads : A → Reception) (d : NodeStep A) → DidRanged d → DidRanged (answering reads d)
@@ -83,7 +83,7 @@ module _ (ciphers : Ciphers) (opens : OpensWhatItSeals ciphers) (w : World) (are
               (acts y (Err drops.Store) (λ m. coordinators.hear_coordinator (record { eui = y.eui; ciphers = ciphers }) m got cost note w.clock))
           hears_as (Meter psk) = answering meter_reception (acts y (Err drops.Store) (λ m. meters.hear_meter (identity ciphers y psk) m got cost note w.clock))
 
-      by_role : (role : Role) → y.role ≡ role → DidRanged (hears ciphers y got cost note w.clock)
+      by_role : (role : Role) → y.role ≡ role → DidRanged (hearing_step ciphers y got cost note w.clock)
       by_role Coordinator e = subst By (sym e) (read_as coordinator_reception _
           (acts_ranged y (Err drops.Store) (λ m. coordinators.hear_coordinator (record { eui = y.eui; ciphers = ciphers }) m got cost note w.clock) ok
           (λ m there h. coordinator_plan_ranged y m got note what h (joins.coordinator m there))))
@@ -101,7 +101,7 @@ module _ (ciphers : Ciphers) (opens : OpensWhatItSeals ciphers) (w : World) (are
   -- the second plan's frames are letters in range
   pub heard_frames : (got : Accepted) → accepts.answer ≡ Ok got → forged_by w octets got.path ≡ false → NodeRanged x
       → JoinsWell ciphers accepts.node got cost (note_by w octets got.path) w.clock
-      → DidRanged (hears ciphers accepts.node got cost (note_by w octets got.path) w.clock)
+      → DidRanged (hearing_step ciphers accepts.node got cost (note_by w octets got.path) w.clock)
   heard_frames got e unforged ok joins = hears_ranged accepts.node got (note_by w octets got.path)
       (opening ciphers opens w are number x octets cost 1 0 (omega arith) got e unforged).what (accepts_ranged ok).station joins
 
@@ -118,7 +118,7 @@ module _ (ciphers : Ciphers) (opens : OpensWhatItSeals ciphers) (w : World) (are
   arrives_ranged nodes ok joins unforged = by_answer accepts.answer refl unforged
     where
       after : Result Accepted FrameRefusal → World × Trace
-      after (Ok got) = heard ciphers w number accepts.node octets got cost
+      after (Ok got) = hearing_outcome ciphers w number accepts.node octets got cost
       after (Err reason) = (world_after ciphers (running_world w) number accepts, trace_of (happenings w (frame_word reason)))
 
       by_answer : (a : Result Accepted FrameRefusal) → accepts.answer ≡ a → (after a).1.happenings.forged ≡ false → LeavesRanged (after a).0
@@ -130,7 +130,7 @@ module _ (ciphers : Ciphers) (opens : OpensWhatItSeals ciphers) (w : World) (are
           }
       by_answer (Ok got) e unforged =
           let r = heard_frames got e (or_parts _ _ unforged).0 ok (joins got e) in
-          let d2 : NodeStep Reception = hears ciphers accepts.node got cost (note_by w octets got.path) w.clock in
+          let d2 : NodeStep Reception = hearing_step ciphers accepts.node got cost (note_by w octets got.path) w.clock in
           record {
             flights = All-append (IsFlight ciphers) w.flights (flights_of ciphers number d2) are (did_flights ciphers number d2 r);
             nodes = All-set NodeRanged w.nodes number d2.node r.station nodes;

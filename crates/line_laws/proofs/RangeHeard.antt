@@ -60,8 +60,8 @@ module _ (l : Letter) (fits : IsLetter l) (from counter : ℕ) (got : Accepted) 
   heard_fits by all u c = let x = comes_of by all u c in (subst (λ a. a < 0xFFFE) (sym x.0) fits.from, subst IsFit (sym x.1) fits.unit)
 
   -- a route message is the one that the letter's unit spells
-  heard_after : (by : ℕ) (all : Bool) (message : Message) → MessageCame heard by all message → messages.IsMessage message
-  heard_after by all message t =
+  agents_after : (by : ℕ) (all : Bool) (message : Message) → MessageCame heard by all message → messages.IsMessage message
+  agents_after by all message t =
       let x = comes_of by all (units.Local t.code t.body) t.came in
       let r : IsRoute (units.Local t.code t.body) = subst IsRoute (sym x.1) fits.route in
       let m = r (eqb-true t.code 1 t.first) in
@@ -70,7 +70,7 @@ module _ (l : Letter) (fits : IsLetter l) (from counter : ℕ) (got : Accepted) 
 
   pub heard_ranged : (W : RingWord → Type 0) → ((to n : ℕ) (load : Load) → W (Carry to n load) → (to < 0xFFFE) × HasRoomInFrames load)
       → ((w : RingWord) → W w → WordFits w) → InRange W heard
-  heard_ranged W carries words = record { comes = heard_fits; came_so = heard_after; near = λ by e. absurd (cc); carries = carries; words = words }
+  heard_ranged W carries words = record { comes = heard_fits; came_so = agents_after; near = λ by e. absurd (cc); carries = carries; words = words }
 
 -- a plain frame brings no unit
 pub plain_ranged : (got : Accepted) (cost note now : ℕ) → ((from : ℕ) (all : Bool) (key : Key) → got.path ≡ paths.Sealed from all key → ⊥)

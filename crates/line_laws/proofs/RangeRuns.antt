@@ -14,7 +14,7 @@ use Rattle.line_events.specs.declared.event.Answer.TheVariants as answers
 use Rattle.line_events.specs.declared.event.Event.{Event}
 use Rattle.line_rules.specs.Forgery.{accepting}
 use Rattle.line_rules.specs.Worlds.{World, Flight, node_at, flight_at, start}
-use Rattle.line_rules.specs.Steps.{Step, set_up, running_world, world_after, node_outcome, sending, sent_if, is_taken, tag_of, hears, heard, note_by, forged_by, identity}
+use Rattle.line_rules.specs.Steps.{Step, set_up, running_world, world_after, node_outcome, sending, sent_if, is_taken, tag_of, hearing_step, hearing_outcome, note_by, forged_by, identity}
 use Rattle.line_rules.specs.Steps.{psk_of}
 use Rattle.line_rules.specs.Steps.{flights_of, offered_near, blank_node, restarts, memory_by, ticked}
 use Rattle.node_rules.specs.declared.heard.Accepted.{Accepted}
@@ -279,7 +279,7 @@ module _ (w : World) (ok : WorldOk w) (s : WorldSpeaks w) (r : WorldRanged w) wh
     joins note = joins_well y did.node left.node eight got cost note w.clock routes.payload
 
     module _ (honest : forged_by w octets got.path ≡ false) where
-      pub heard_did : DidRanged (hears network y got cost (note_by w octets got.path) w.clock)
+      pub heard_did : DidRanged (hearing_step network y got cost (note_by w octets got.path) w.clock)
       heard_did = heard_frames network network_opens_again w r.flights number x octets cost got is honest (ranged_at number x there)
           (joins (note_by w octets got.path))
 
@@ -341,10 +341,10 @@ module _ (w : World) (ok : WorldOk w) (s : WorldSpeaks w) (r : WorldRanged w) wh
       by_taken true k = record { nodes = k.nodes; flights = k.flights }
       by_taken false k = k
 
-  heard_is : (number : ℕ) (y : Node) (octets : List ℕ) (got : Accepted) (cost : ℕ) → DidRanged (hears network y got cost (note_by w octets got.path) w.clock)
-      → WorldRanged (heard network w number y octets got cost).0
+  heard_is : (number : ℕ) (y : Node) (octets : List ℕ) (got : Accepted) (cost : ℕ) → DidRanged (hearing_step network y got cost (note_by w octets got.path) w.clock)
+      → WorldRanged (hearing_outcome network w number y octets got cost).0
   heard_is number y octets got cost did =
-      let k = after_ranged (running_world w) number (hears network y got cost (note_by w octets got.path) w.clock) ran_ranged did in
+      let k = after_ranged (running_world w) number (hearing_step network y got cost (note_by w octets got.path) w.clock) ran_ranged did in
       record { nodes = k.nodes; flights = k.flights }
 
   flight_place : (number : ℕ) (f : Flight) → flight_at w number ≡ Some f → slice_get w.flights (number - 1) ≡ Some f

@@ -75,7 +75,7 @@ use Rattle.line_rules.specs.Further.{line_step, reaches, replied, restarts_by, s
 use Rattle.line_rules.specs.FurtherRuns.{AreOfHistoryAfter, IsOfHistory, check_history, check_step, checked_by, scan_history, scan_step, scanned_by}
 use Rattle.line_rules.specs.Logs.{AreLogged, LogsKept}
 use Rattle.line_rules.specs.Runs.{Entry, IsRun, events_of}
-use Rattle.line_rules.specs.Steps.{Step, node_outcome, heard, identity, is_taken, sent_if, tag_of, world_after}
+use Rattle.line_rules.specs.Steps.{Step, node_outcome, hearing_outcome, identity, is_taken, sent_if, tag_of, world_after}
 use Rattle.line_rules.specs.Worlds.{Acknowledged, Further, Noticed, Replied, Scans, Trace, World, node_at, nothing_further, start}
 use Rattle.line_rules.specs.Worlds.{Heard as HeardOf}
 use Rattle.line_laws.specs.FurtherLines.{HoldsAfter}
@@ -550,7 +550,7 @@ module _ (ciphers : Ciphers) (w : World) (logs : LogsKept w) where
     d = heard_node ciphers w x octets got cost
 
     abbrev r : World × Trace
-    r = heard ciphers w number (after_accepting ciphers x octets) octets got cost
+    r = hearing_outcome ciphers w number (after_accepting ciphers x octets) octets got cost
 
     abbrev with_it : World × Trace
     with_it = with_check w number (reply_among d.frames) r

@@ -66,7 +66,7 @@ use Rattle.line_rules.specs.Further.{broadcasts_by, checked, commanded, discover
 use Rattle.line_rules.specs.Further.{scans_by, sends_nothing, with_beside, with_check}
 use Rattle.line_rules.specs.Logs.{LogsKept}
 use Rattle.line_rules.specs.Runs.{Entry, IsRun, events_of, one_of}
-use Rattle.line_rules.specs.Steps.{Step, node_outcome, allowed_word, flight_by, flights_of, happenings, heard, identity, is_taken, note_by, running_world, sent_if, tag_of}
+use Rattle.line_rules.specs.Steps.{Step, node_outcome, allowed_word, flight_by, flights_of, happenings, hearing_outcome, identity, is_taken, note_by, running_world, sent_if, tag_of}
 use Rattle.line_rules.specs.Steps.{trace_of, world_after}
 use Rattle.line_rules.specs.Forgery.{Comes}
 use Rattle.line_rules.specs.FurtherRuns.{broadcasts}
@@ -432,7 +432,7 @@ module _ (w : World) (logs : LogsKept w) (n : ℕ) where
     d = heard_node network w x octets got cost
 
     abbrev r : World × Trace
-    r = heard network w number (after_accepting network x octets) octets got cost
+    r = hearing_outcome network w number (after_accepting network x octets) octets got cost
 
     quiet : Quiet d.answer.answer
     quiet = hears_quiet network (after_accepting network x octets) got cost (note_by w octets got.path) w.clock

@@ -27,10 +27,10 @@ use Rattle.line_events.specs.Events.{IsEvent, IsLineOctets}
 use Rattle.line_rules.specs.Forgery.{Comes, OfFlight, OfScript, accepting}
 use Rattle.line_rules.specs.FurtherRuns.{is_restart_of, is_tick}
 use Rattle.line_rules.specs.Further.{accepted_further, after_ok, asks_by, bcast, broadcasts_by, checked, checks, choose, chooses_by, comes, commanded, delivers}
-use Rattle.line_rules.specs.Further.{discovers_by, heard_by, heard_further, injects, is_dropped, line_step, path, restarts_by, restarts_further, scan, scans_by}
+use Rattle.line_rules.specs.Further.{discovers_by, hearing_outcome_by, further_hearing_outcome, injects, is_dropped, line_step, path, restarts_by, restarts_further, scan, scans_by}
 use Rattle.line_rules.specs.Further.{ticks, unbelieved}
 use Rattle.line_rules.specs.Logs.{LogsKept}
-use Rattle.line_rules.specs.Steps.{Step, happenings, has_begun, heard, hears, in_setup, note_by, on_flight, on_meter, on_node, once_begun, psk_of, running_world, set_up}
+use Rattle.line_rules.specs.Steps.{Step, happenings, has_begun, hearing_outcome, hearing_step, in_setup, note_by, on_flight, on_meter, on_node, once_begun, psk_of, running_world, set_up}
 use Rattle.line_rules.specs.Steps.{takes_setup, tick, ticked, world_after, trace_of}
 use Rattle.line_rules.specs.Worlds.{World, Trace, Flight, flight_at, node_at}
 use Rattle.line_laws.specs.ReachTraces.{link_of}
@@ -56,7 +56,7 @@ after_accepting ciphers x octets = (accepting ciphers x octets).node
 
 -- what it makes of them without further reach
 abbrev pub heard_node : Ciphers → World → Node → List ℕ → Accepted → ℕ → NodeStep Reception
-heard_node ciphers w x octets got cost = hears ciphers (after_accepting ciphers x octets) got cost (note_by w octets got.path) w.clock
+heard_node ciphers w x octets got cost = hearing_step ciphers (after_accepting ciphers x octets) got cost (note_by w octets got.path) w.clock
 
 -- the words of a node that does nothing
 abbrev pub is_idle : Answer → Bool
@@ -98,15 +98,15 @@ pub data IsReachStep (ciphers : Ciphers) (w : World) : Event → Step → Type 1
   Commands : (event : Event) (number : ℕ) (x : Node) (octets : List ℕ) (cost : ℕ) (got : Accepted) (c : NeighbourCommand)
       → IsAccepted ciphers w event number x octets got → cost ≤ 255 → is_dropped w number got ≡ false → command_of got ≡ Some c
       → IsReachStep ciphers w event (Ok (commanded ciphers number (heard_node ciphers w x octets got cost).node c
-      (heard ciphers w number (after_accepting ciphers x octets) octets got cost)))
+      (hearing_outcome ciphers w number (after_accepting ciphers x octets) octets got cost)))
   -- another frame, where neighbours are checked, and where they are not
   Checked : (event : Event) (number : ℕ) (x : Node) (octets : List ℕ) (cost : ℕ) (got : Accepted) → IsAccepted ciphers w event number x octets got → cost ≤ 255
       → is_dropped w number got ≡ false → command_of got ≡ None → w.checks_on ≡ true
       → IsReachStep ciphers w event (Ok (checked ciphers w number got (heard_node ciphers w x octets got cost)
-      (heard ciphers w number (after_accepting ciphers x octets) octets got cost)))
+      (hearing_outcome ciphers w number (after_accepting ciphers x octets) octets got cost)))
   Hears : (event : Event) (number : ℕ) (x : Node) (octets : List ℕ) (cost : ℕ) (got : Accepted) → IsAccepted ciphers w event number x octets got → cost ≤ 255
       → is_dropped w number got ≡ false → command_of got ≡ None → w.checks_on ≡ false
-      → IsReachStep ciphers w event (Ok (heard ciphers w number (after_accepting ciphers x octets) octets got cost))
+      → IsReachStep ciphers w event (Ok (hearing_outcome ciphers w number (after_accepting ciphers x octets) octets got cost))
   -- time and a restart
   Ticks : (seconds : ℕ) → IsReachStep ciphers w (events.Tick seconds)
       (Ok (
@@ -222,31 +222,31 @@ module _ (ciphers : Ciphers) (w : World) (logs : LogsKept w) where
   -- # Octets that come
 
   module _ (event : Event) (number : ℕ) (x : Node) (octets : List ℕ) (cost : ℕ) (other : IsOther event) (there : node_at w number ≡ Some x)
-      (says : IsEvent event) (comes_so : Comes w event number octets) (low : cost ≤ 255) (over : link_of event ≡ cost) where
+      (says : IsEvent event) (outcome_of_arrival : Comes w event number octets) (low : cost ≤ 255) (over : link_of event ≡ cost) where
     discovers_step : is_discovery octets ≡ true → (o : Option Memory) → x.memory ≡ o → Is event (Ok (discovers_by w number x octets cost o))
-    discovers_step is None e = Rests event answers.Halted refl other (λ n ys c s. cc (is, s, (same_comes w event number n octets ys comes_so c).1))
-    discovers_step is (Some m) e = Discovers event number x m octets cost other there e comes_so over is
+    discovers_step is None e = Rests event answers.Halted refl other (λ n ys c s. cc (is, s, (same_comes w event number n octets ys outcome_of_arrival c).1))
+    discovers_step is (Some m) e = Discovers event number x m octets cost other there e outcome_of_arrival over is
 
     accepted_step : is_discovery octets ≡ false → (got : Accepted) → (accepting ciphers x octets).answer ≡ Ok got
-        → Is event (Ok (heard_further ciphers w number (after_accepting ciphers x octets) octets got cost))
+        → Is event (Ok (further_hearing_outcome ciphers w number (after_accepting ciphers x octets) octets got cost))
     accepted_step sealed got is = by_dropped (is_dropped w number got) refl
       where
         accepted : IsAccepted ciphers w event number x octets got
-        accepted = record { other = other; says = says; there = there; comes = comes_so; sealed = sealed; is = is }
+        accepted = record { other = other; says = says; there = there; comes = outcome_of_arrival; sealed = sealed; is = is }
 
         by_command : is_dropped w number got ≡ false → (o : Option NeighbourCommand) → command_of got ≡ o
-            → Is event (Ok (heard_by ciphers w number (after_accepting ciphers x octets) octets got cost o))
+            → Is event (Ok (hearing_outcome_by ciphers w number (after_accepting ciphers x octets) octets got cost o))
         by_command passes (Some c) e = Commands event number x octets cost got c accepted low passes e
         by_command passes None e = by_checks w.checks_on refl
           where
             by_checks : (b : Bool) → w.checks_on ≡ b → Is event (Ok (if b then checked ciphers w number got (heard_node ciphers w x octets got cost)
-                (heard ciphers w number (after_accepting ciphers x octets) octets got cost) else heard ciphers w number (after_accepting ciphers x octets)
+                (hearing_outcome ciphers w number (after_accepting ciphers x octets) octets got cost) else hearing_outcome ciphers w number (after_accepting ciphers x octets)
                 octets got cost))
             by_checks true on = Checked event number x octets cost got accepted low passes e on
             by_checks false off = Hears event number x octets cost got accepted low passes e off
 
         by_dropped : (b : Bool) → is_dropped w number got ≡ b → Is event
-            (Ok (if b then unbelieved ciphers w number (after_accepting ciphers x octets) octets got else heard_by ciphers w number
+            (Ok (if b then unbelieved ciphers w number (after_accepting ciphers x octets) octets got else hearing_outcome_by ciphers w number
             (after_accepting ciphers x octets) octets got cost (command_of got)))
         by_dropped true e = Unbelieves event number x octets got accepted e
         by_dropped false e = by_command e (command_of got) refl
@@ -257,9 +257,9 @@ module _ (ciphers : Ciphers) (w : World) (logs : LogsKept w) where
       where
         by_answer : is_discovery octets ≡ false → (o : Result Accepted FrameRefusal) → (accepting ciphers x octets).answer ≡ o
             → Is event (Ok (accepted_further ciphers w number octets cost (accepting ciphers x octets)))
-        by_answer sealed (Err reason) e = rw e (Known event _ other (TurnsDown event number x octets reason (accepting ciphers x octets) there says comes_so
+        by_answer sealed (Err reason) e = rw e (Known event _ other (TurnsDown event number x octets reason (accepting ciphers x octets) there says outcome_of_arrival
             refl e)
-            (λ n y ys got c here is. not_both n y ys got (same_comes w event number n octets ys comes_so c) here is))
+            (λ n y ys got c here is. not_both n y ys got (same_comes w event number n octets ys outcome_of_arrival c) here is))
           where
             not_both : (n : ℕ) (y : Node) (ys : List ℕ) (got : Accepted) → (number ≡ n) × (octets ≡ ys) → node_at w n ≡ Some y
                 → (accepting ciphers y ys).answer ≡ Ok got → ⊥

@@ -15,7 +15,7 @@ use Rattle.reach_rules.specs.declared.refusal.ReachDropped.{ReachDropped}
 use Rattle.reach_rules.specs.declared.refusal.ReachDropped.TheVariants as reach_drops
 use Rattle.reach_rules.specs.declared.refusal.DiscoveryDropped.{DiscoveryDropped}
 use Rattle.reach_rules.specs.declared.refusal.DiscoveryDropped.TheVariants as discovery_drops
-use Rattle.line_rules.specs.Steps.{hears, identity, restart_word}
+use Rattle.line_rules.specs.Steps.{hearing_step, identity, restart_word}
 use Rattle.line_events.specs.declared.event.Answer.TheVariants as answers
 use Rattle.line_events.specs.declared.event.Answer.{Answer}
 use Rattle.line_events.specs.declared.event.Event.{Event}
@@ -272,7 +272,7 @@ coordinator_quiet (Ok (coordinator_heard.Done eui agreed)) = refl
 coordinator_quiet (Ok coordinator_heard.Declined) = refl
 coordinator_quiet (Err reason) = drop_quiet reason
 
-pub hears_quiet : (ciphers : Ciphers) (x : Node) (got : Accepted) (cost note now : ℕ) → Quiet (hears ciphers x got cost note now).answer.answer
+pub hears_quiet : (ciphers : Ciphers) (x : Node) (got : Accepted) (cost note now : ℕ) → Quiet (hearing_step ciphers x got cost note now).answer.answer
 hears_quiet ciphers x got cost note now = by_role x.role
   where
     hears_as : Role → NodeStep Reception

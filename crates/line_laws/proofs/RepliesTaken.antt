@@ -56,21 +56,21 @@ module _ (l : StationMemory) where
   either_so true p q s t = s
   either_so false p q s t = t
 
-  checked_so : (o : Option Dropped) (p : Hearing) → Replied p.answer → Replied (checked dropped l o p).answer
+  outcome_of_checked : (o : Option Dropped) (p : Hearing) → Replied p.answer → Replied (checked dropped l o p).answer
   unfolding checked
-  checked_so None p h = h
-  checked_so (Some reason) p h = refuses reason
+  outcome_of_checked None p h = h
+  outcome_of_checked (Some reason) p h = refuses reason
 
   for_so : (own by origin to : ℕ) (rank : Rank) (now : ℕ) (o : Option ℕ) → Replied (hear_reply_for l own by origin to rank now o).answer
   for_so own by origin to rank now None = refuses drops.NoRoute
   for_so own by origin to rank now (Some hop) =
-      checked_so (rank_fault l own origin rank now) (passes_on l own by origin to hop rank now) (ends_so _ heard_words.Relayed tt)
+      outcome_of_checked (rank_fault l own origin rank now) (passes_on l own by origin to hop rank now) (ends_so _ heard_words.Relayed tt)
 
   reply_so : (own by origin to : ℕ) (rank : Rank) (now : ℕ) → Replied (hear_reply l own by origin to rank now).answer
   reply_so own by origin to rank now =
       either_so (to == own) (checked dropped l (rank_fault l own origin rank now) (learns l own by origin rank now))
       (hear_reply_for l own by origin to rank now (next_hop l to))
-      (checked_so (rank_fault l own origin rank now) (learns l own by origin rank now) (ends_so _ heard_words.Learned tt))
+      (outcome_of_checked (rank_fault l own origin rank now) (learns l own by origin rank now) (ends_so _ heard_words.Learned tt))
       (for_so own by origin to rank now (next_hop l to))
 
   -- of what comes in a frame to one node

@@ -45,7 +45,7 @@ use Rattle.line_events.specs.Events.{IsEvent, IsLineOctets}
 use Rattle.line_rules.specs.Worlds.{World, Flight, Trace, node_at, flight_at, is_forged_tag}
 use Rattle.line_rules.specs.Steps.{Step, set_up, running_world, world_after, node_outcome, once_begun, in_setup, has_begun, takes_setup, on_node, on_meter, made_node}
 use Rattle.line_rules.specs.Steps.{blank_node}
-use Rattle.line_rules.specs.Steps.{identity, hears, restarts, ticked, rand, join, joins_by, leave, send, sends_by, sent_if, breaks, breaks_by, lose, tick}
+use Rattle.line_rules.specs.Steps.{identity, hearing_step, restarts, ticked, rand, join, joins_by, leave, send, sends_by, sent_if, breaks, breaks_by, lose, tick}
 use Rattle.line_rules.specs.Steps.{restart, cut, show, psk_of, trace_of, happenings, coordinator, coordinator_node, meter, is_known, depot, depot_by, provisioned}
 use Rattle.line_rules.specs.Steps.{near, near_by, keeps_rank, ranks_full, offered_near, preset, allow, allowed, deliver, inject, arrives, accepted_by, received}
 use Rattle.line_rules.specs.Steps.{by_coordinator, forged_by, note_by, rekey, challenge, activate, kick, step}
@@ -561,7 +561,7 @@ module _ (ciphers : Ciphers) (fits : KeepsRanges ciphers) (h : Homes) (w : World
       → ((psk : Key) → y.role ≡ Meter psk → (m : Memory) → y.memory ≡ Some m
       → Reads ciphers (meters.hear_meter (identity ciphers y psk) m got cost note w.clock))
       → ((m : Memory) → y.memory ≡ Some m → IsAt (At h number) (address_of m.station))
-      → CallHolds ciphers h (running_world w) number y (hears ciphers y got cost note w.clock)
+      → CallHolds ciphers h (running_world w) number y (hearing_step ciphers y got cost note w.clock)
   unfolding CallHolds
   hears_hold number y got cost note k routes right far took coordinator_reads meter_reads here = by_role y.role refl
     where
@@ -644,7 +644,7 @@ module _ (ciphers : Ciphers) (fits : KeepsRanges ciphers) (h : Homes) (w : World
       by_answer (Ok got) e =
           let y = (acts x (Err frames.Halted) plan).node in
           let a = answered got e in
-          let d = hears ciphers y got cost (note_by w octets got.path) w.clock in
+          let d = hearing_step ciphers y got cost (note_by w octets got.path) w.clock in
           rw e (Taken (received ciphers w number (forged_by w octets got.path || list_any (is_forged_tag w.made) d.opened) d) (λ honest.
           let second = hears_hold number y got cost (note_by w octets got.path) did.node (routes got a) (right got a (or_parts _ _ honest).0) far
           (homes.took number x octets cost there are got e (or_parts _ _ honest).1)

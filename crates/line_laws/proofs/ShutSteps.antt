@@ -13,8 +13,8 @@ use Rattle.line_rules.specs.Answers.{Reception, coordinator_reception, meter_rec
 use Rattle.line_events.specs.Events.{IsEvent}
 use Rattle.line_rules.specs.Forgery.{Comes, accepting}
 use Rattle.line_rules.specs.Steps.{Step, running_world, world_after, node_outcome, allow, kick, by_coordinator, takes_setup, has_begun, sending, sent_if, is_taken, tag_of}
-use Rattle.line_rules.specs.Steps.{hears}
-use Rattle.line_rules.specs.Steps.{heard, note_by, identity, psk_of, restarts, ticked, step}
+use Rattle.line_rules.specs.Steps.{hearing_step}
+use Rattle.line_rules.specs.Steps.{hearing_outcome, note_by, identity, psk_of, restarts, ticked, step}
 use Rattle.line_rules.specs.Worlds.{World, Trace, node_at}
 use Rattle.line_events.specs.declared.event.Answer.{Answer}
 use Rattle.line_events.specs.declared.event.Answer.TheVariants as answers
@@ -152,7 +152,7 @@ module _ (eui : Eui) where
         (λ m sized. accept_quietly ciphers fits octets (came_octets ciphers fits w ok flown event number octets says comes) m x.eui) first
 
     hears_at : (y : Node) (got : Accepted) (cost note now : ℕ) → NodeOk y → y.role ≡ Coordinator → BookShut eui y → RoutesFit got
-        → BookShut eui (hears ciphers y got cost note now).node
+        → BookShut eui (hearing_step ciphers y got cost note now).node
     hears_at y got cost note now good role before routes = by_role y.role role
       where
         hears_as : Role → NodeStep Reception
@@ -167,7 +167,7 @@ module _ (eui : Eui) where
 
     heard_shut : (event : Event) (number : ℕ) (x : Node) (octets : List ℕ) (cost : ℕ) (got : Accepted) → node_at w number ≡ Some x → IsEvent event
         → Comes w event number octets → (accepting ciphers x octets).answer ≡ Ok got
-        → ShutAt eui (heard ciphers w number (accepting ciphers x octets).node octets got cost).0
+        → ShutAt eui (hearing_outcome ciphers w number (accepting ciphers x octets).node octets got cost).0
     heard_shut event number x octets cost got there says comes is =
         let are = came_octets ciphers fits w ok flown event number octets says comes in
         let plan : Memory → Plan Memory (Result Accepted FrameRefusal) = λ m. of_station m (accept m.station x.eui (arrived ciphers octets)) in
@@ -177,8 +177,8 @@ module _ (eui : Eui) where
         let routes = accepted_routes ciphers fits octets are a.memory.station (ring_readable x a.memory (good_at number x there) a.there) _ got
         (accept_is a.memory.station x.eui (arrived ciphers octets)) a.is in
         let y = (accepting ciphers x octets).node in
-        let d = hears ciphers y got cost (note_by w octets got.path) w.clock in
-        after_shut (running_world w) (heard ciphers w number y octets got cost).0 number x d (same_shut w (running_world w) refl shut) (after_nodes (running_world w) number d) there
+        let d = hearing_step ciphers y got cost (note_by w octets got.path) w.clock in
+        after_shut (running_world w) (hearing_outcome ciphers w number y octets got cost).0 number x d (same_shut w (running_world w) refl shut) (after_nodes (running_world w) number d) there
         (λ first. hears_at y got cost (note_by w octets got.path) w.clock did.node (did.role ∙ first_role number x first there)
         (accepted_shut event number x octets there says comes first) routes)
 

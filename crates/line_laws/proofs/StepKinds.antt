@@ -43,7 +43,7 @@ use Rattle.line_rules.specs.Steps.{made_node}
 use Rattle.line_rules.specs.Steps.{blank_node, coordinator_node, identity, is_known, restarts, rand, join, joins_by, leave, send, sends_by, breaks, breaks_by}
 use Rattle.line_rules.specs.Steps.{lose, on_flight, tick, ticked, restart, cut, show, psk_of, trace_of, happenings, coordinator, meter, depot, depot_by}
 use Rattle.line_rules.specs.Steps.{provisioned, near, near_by, keeps_rank, ranks_full, offered_near, preset, allow, allowed, deliver, inject, arrives}
-use Rattle.line_rules.specs.Steps.{accepted_by, heard, by_coordinator, rekey, challenge, activate, kick, step}
+use Rattle.line_rules.specs.Steps.{accepted_by, hearing_outcome, by_coordinator, rekey, challenge, activate, kick, step}
 
 -- # Calls
 
@@ -209,7 +209,7 @@ pub data IsStep (ciphers : Ciphers) (w : World) : Event → Step → Type 1 wher
       → IsStep ciphers w event (Ok (world_after ciphers (running_world w) number d, trace_of (happenings w (frame_word reason))))
   Hears : (event : Event) (number : ℕ) (x : Node) (octets : List ℕ) (cost : ℕ) (got : Accepted) → node_at w number ≡ Some x → IsEvent event
       → Comes w event number octets → cost ≤ 255
-      → (accepting ciphers x octets).answer ≡ Ok got → IsStep ciphers w event (Ok (heard ciphers w number (accepting ciphers x octets).node octets got cost))
+      → (accepting ciphers x octets).answer ≡ Ok got → IsStep ciphers w event (Ok (hearing_outcome ciphers w number (accepting ciphers x octets).node octets got cost))
   -- flights alone
   Loses : (number : ℕ) (f : Flight) → flight_at w number ≡ Some f
       → IsStep ciphers w (events.Lose number)

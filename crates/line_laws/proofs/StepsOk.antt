@@ -60,7 +60,7 @@ use Rattle.line_events.specs.Events.{IsEvent}
 use Rattle.line_rules.specs.Worlds.{World, Flight, Trace, node_at, flight_at, is_forged_tag}
 use Rattle.line_rules.specs.Steps.{Step, set_up, running_world, world_after, flights_of, node_outcome, once_begun, in_setup, has_begun, takes_setup, on_node, on_meter}
 use Rattle.line_rules.specs.Steps.{made_node}
-use Rattle.line_rules.specs.Steps.{blank_node, identity, hears, restarts, memory_by, ticked, rand, join, joins_by, leave, send, sends_by, sent_if, breaks}
+use Rattle.line_rules.specs.Steps.{blank_node, identity, hearing_step, restarts, memory_by, ticked, rand, join, joins_by, leave, send, sends_by, sent_if, breaks}
 use Rattle.line_rules.specs.Steps.{breaks_by, lose, tick, restart, cut, show, psk_of, trace_of, happenings, coordinator, coordinator_node, meter, is_known, depot}
 use Rattle.line_rules.specs.Steps.{depot_by, provisioned, near, near_by, keeps_rank, ranks_full, offered_near, preset, allow, allowed, deliver, inject, arrives}
 use Rattle.line_rules.specs.Steps.{accepted_by, received, by_coordinator, forged_by, note_by, rekey, challenge, activate, kick, step}
@@ -541,7 +541,7 @@ module _ (ciphers : Ciphers) (fits : KeepsRanges ciphers) (w : World) (ok : Worl
 
   -- # deliver, inject
 
-  pub hears_ok : (x : Node) (got : Accepted) (cost note now : ℕ) → NodeOk x → RoutesFit got → DidOk x (hears ciphers x got cost note now)
+  pub hears_ok : (x : Node) (got : Accepted) (cost note now : ℕ) → NodeOk x → RoutesFit got → DidOk x (hearing_step ciphers x got cost note now)
   hears_ok x got cost note now h routes = by_role x.role refl
     where
       hears_as : Role → NodeStep Reception
@@ -598,7 +598,7 @@ module _ (ciphers : Ciphers) (fits : KeepsRanges ciphers) (w : World) (ok : Worl
           (acts_quiet x (Err frames.Halted) plan (λ m. accept_quiet m.station _ _ (accept_is m.station x.eui (arrived ciphers octets))))))
       by_answer (Ok got) e =
           let y = (acts x (Err frames.Halted) plan).node in
-          let d = hears ciphers y got cost (note_by w octets got.path) w.clock in
+          let d = hearing_step ciphers y got cost (note_by w octets got.path) w.clock in
           let heard = hears_ok y got cost (note_by w octets got.path) w.clock did.node (routes got e) in
           rw e (received_good number x (forged_by w octets got.path || list_any (is_forged_tag w.made) d.opened) d there
           (record {

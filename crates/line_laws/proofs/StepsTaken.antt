@@ -54,7 +54,7 @@ use Rattle.line_rules.specs.Further.{acknowledged_if, acknowledging, adds_frames
 use Rattle.line_rules.specs.Further.{reaches, sends_nothing, step_by, with_beside, with_check}
 use Rattle.line_rules.specs.Logs.{LogsKept}
 use Rattle.line_rules.specs.Runs.{Entry, IsRun, events_of}
-use Rattle.line_rules.specs.Steps.{Step, heard, running_world, world_after}
+use Rattle.line_rules.specs.Steps.{Step, hearing_outcome, running_world, world_after}
 use Rattle.line_rules.specs.Worlds.{Further, Stepping, Trace, World, node_at, nothing_further, start}
 use Rattle.line_laws.specs.FurtherLines.{HoldsAfter}
 use Rattle.line_laws.specs.ReachTraces.{FrameCame}
@@ -345,7 +345,7 @@ module _ (w : World) (n : ℕ) where
     d = heard_node network w x octets got cost
 
     abbrev r : World × Trace
-    r = heard network w number (after_accepting network x octets) octets got cost
+    r = hearing_outcome network w number (after_accepting network x octets) octets got cost
 
     module _ (c : NeighbourCommand) (carries : command_of got ≡ Some c) where
       abbrev halted : Result CommandHeard ReachDropped

@@ -47,7 +47,7 @@ use Rattle.node_rules.specs.StoreReading.{blank_station, first_grant, rememberin
 use Rattle.line_rules.specs.Answers.{Reception, sent_word, meter_reception, coordinator_reception}
 use Rattle.line_rules.specs.Forgery.{accepting}
 use Rattle.line_rules.specs.Runs.{one_of}
-use Rattle.line_rules.specs.Steps.{Step, set_up, running_world, world_after, made_node, blank_node, ticked, node_outcome, sending, sent_if, is_taken, tag_of, hears, heard}
+use Rattle.line_rules.specs.Steps.{Step, set_up, running_world, world_after, made_node, blank_node, ticked, node_outcome, sending, sent_if, is_taken, tag_of, hearing_step, hearing_outcome}
 use Rattle.line_rules.specs.Steps.{offered_near, identity, note_by, restarts}
 use Rattle.line_rules.specs.Worlds.{World, Sending, node_at, start}
 use Rattle.line_laws.specs.Owed.{KeepsRanges}
@@ -331,7 +331,7 @@ module _ (ciphers : Ciphers) (fits : KeepsRanges ciphers) (w : World) (ok : Worl
   accepts_stays x octets = acts_stays x (Err frames.Halted) (λ m. of_station m (accept m.station x.eui (arrived ciphers octets)))
       (λ m. accept_away m x.eui (arrived ciphers octets))
 
-  hears_stays : (x : Node) (got : Accepted) (cost note now : ℕ) → TagStays x (hears ciphers x got cost note now).node
+  hears_stays : (x : Node) (got : Accepted) (cost note now : ℕ) → TagStays x (hearing_step ciphers x got cost note now).node
   hears_stays x got cost note now = by_role x.role refl
     where
       By : Role → Type 0
@@ -342,7 +342,7 @@ module _ (ciphers : Ciphers) (fits : KeepsRanges ciphers) (w : World) (ok : Worl
               (acts x (Err drops.Store) (λ m. coordinator_rules.hear_coordinator (record { eui = x.eui; ciphers = ciphers }) m got cost note now))
           hears_as (Meter psk) = answering meter_reception (acts x (Err drops.Store) (λ m. meters.hear_meter (identity ciphers x psk) m got cost note now))
 
-      by_role : (role : Role) → x.role ≡ role → TagStays x (hears ciphers x got cost note now).node
+      by_role : (role : Role) → x.role ≡ role → TagStays x (hearing_step ciphers x got cost note now).node
       by_role Coordinator e = subst By (sym e) (acts_stays x (Err drops.Store)
           (λ m. coordinator_rules.hear_coordinator (record { eui = x.eui; ciphers = ciphers }) m got cost note now)
           (λ m. coordinator_away m (record { eui = x.eui; ciphers = ciphers }) got cost note now))
@@ -456,10 +456,10 @@ module _ (ciphers : Ciphers) (fits : KeepsRanges ciphers) (w : World) (ok : Worl
       (subst (λ (z : NodeStep (Result Accepted FrameRefusal)). TagMoves x z.node) (sym same) (λ t e. Stays (accepts_stays x octets t e)))
   event_tags event s (Hears e number x octets cost got there says comes low is) =
       let y : Node = (accepting ciphers x octets).node in
-      let d : NodeStep Reception = hears ciphers y got cost (note_by w octets got.path) w.clock in
+      let d : NodeStep Reception = hearing_step ciphers y got cost (note_by w octets got.path) w.clock in
       let one = after_tags (running_world w) number x d (same_moved ciphers w) refl there
       (λ t now. Stays (hears_stays y got cost (note_by w octets got.path) w.clock t (accepts_stays x octets t now))) in
-      record { nodes = one.nodes; more = one.more; took = none_took w (heard ciphers w number y octets got cost).0 }
+      record { nodes = one.nodes; more = one.more; took = none_took w (hearing_outcome ciphers w number y octets got cost).0 }
   event_tags event s (Loses number f there) = record {
     nodes = same_moved ciphers w;
     more = omega arith;

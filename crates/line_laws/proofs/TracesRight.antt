@@ -55,7 +55,7 @@ use Rattle.line_rules.specs.Answers.{Reception, Up, SentGrant, drop_word, send_w
 use Rattle.line_rules.specs.Answers.{ordered_word, station_reception, meter_reception, coordinator_reception}
 use Rattle.line_rules.specs.Worlds.{World, Flight, Trace, Pairing, node_at, flight_at, is_forged_tag, nothing_further}
 use Rattle.line_rules.specs.Steps.{Step, is_taken, set_up, running_world, world_after, flights_of, node_outcome, trace_of, happenings, sending, sent_if, tag_of, offered_near}
-use Rattle.line_rules.specs.Steps.{hears}
+use Rattle.line_rules.specs.Steps.{hearing_step}
 use Rattle.line_rules.specs.Steps.{received, forged_by, note_by, number_if, handed_by, issued_of, identity, restart_word, restarts, made_node}
 use Rattle.line_rules.specs.Runs.{Entry, one_of}
 use Rattle.line_rules.specs.Forgery.{Comes, OfFlight, OfScript, accepting, AcceptsSealed, NoneFlew, IsForged, ByFrame, ByTag}
@@ -218,7 +218,7 @@ coordinator_fits (Ok (coordinator_heard.Done eui agreed)) = record { taken = ref
 coordinator_fits (Ok coordinator_heard.Declined) = record { taken = refl; up = refl; took = refl; done = refl; keyed = refl }
 coordinator_fits (Err reason) = dropped_fits reason
 
-hears_fits : (ciphers : Ciphers) (x : Node) (got : Accepted) (cost note now : ℕ) → Fits (hears ciphers x got cost note now).answer
+hears_fits : (ciphers : Ciphers) (x : Node) (got : Accepted) (cost note now : ℕ) → Fits (hearing_step ciphers x got cost note now).answer
 hears_fits ciphers x got cost note now = by_role x.role
   where
     hears_as : Role → NodeStep Reception
@@ -732,7 +732,7 @@ module _ (ciphers : Ciphers) (w : World) where
           not_ok reason a.got (sym is ∙ ap (λ (z : NodeStep _). z.answer) same ∙ accepted)
   right event s (Hears e number x octets cost got there says comes low is) n =
       let y = (accepting ciphers x octets).node in
-      let d = hears ciphers y got cost (note_by w octets got.path) w.clock in
+      let d = hearing_step ciphers y got cost (note_by w octets got.path) w.clock in
       received_right n event number octets (forged_by w octets got.path || list_any (is_forged_tag w.made) d.opened) d comes
       (hears_fits ciphers y got cost (note_by w octets got.path) w.clock) (forged_right event number x octets got there comes is d.opened)
   right event s (Loses number f there) n =

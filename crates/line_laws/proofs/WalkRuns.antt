@@ -77,7 +77,7 @@ use Rattle.line_rules.specs.Further.{goes_toward, has_discovered, line_step, pat
 use Rattle.line_rules.specs.FurtherRuns.{AreWalked, AreWalkedAfter, Nothing, Passes, StandIn, Takes, WasWalked, last_of, steps_taken, steps_toward}
 use Rattle.line_rules.specs.Logs.{LogsKept}
 use Rattle.line_rules.specs.Runs.{Entry, IsRun, events_of, one_of}
-use Rattle.line_rules.specs.Steps.{Step, node_outcome, forged_by, heard, identity, is_taken, running_world, restarts, sent_if, tag_of, world_after}
+use Rattle.line_rules.specs.Steps.{Step, node_outcome, forged_by, hearing_outcome, identity, is_taken, running_world, restarts, sent_if, tag_of, world_after}
 use Rattle.line_rules.specs.Worlds.{Flight, Noticed, Stepping, Trace, World, node_at, start}
 use Rattle.line_laws.specs.FurtherLines.{HoldsAfter}
 use Rattle.line_laws.specs.Lines.{NodeOk, WorldOk}
@@ -610,7 +610,7 @@ module _ (w : World) (ok : WorldOk w) (s : WorldSpeaks w) (r : IsInRange w) (wal
 
   module _ (event : Event) (number : ℕ) (x : Node) (octets : List ℕ) (cost : ℕ) (got : Accepted) (a : IsAccepted network w event number x octets got) where
     abbrev h : World × Trace
-    h = heard network w number (after_accepting network x octets) octets got cost
+    h = hearing_outcome network w number (after_accepting network x octets) octets got cost
 
     abbrev left : Node
     left = (heard_node network w x octets got cost).node
@@ -726,13 +726,13 @@ module _ (w : World) (ok : WorldOk w) (s : WorldSpeaks w) (r : IsInRange w) (wal
   walks_on event st (Checked e number x octets cost got a low passes none on) = λ honest. checked_walks event number x octets cost got a (checked_honest honest)
     where
       checked_honest : (checked network w number got (heard_node network w x octets got cost)
-          (heard network w number (after_accepting network x octets) octets got cost)).1.happenings.forged ≡ false
-          → (heard network w number (after_accepting network x octets) octets got cost).1.happenings.forged ≡ false
+          (hearing_outcome network w number (after_accepting network x octets) octets got cost)).1.happenings.forged ≡ false
+          → (hearing_outcome network w number (after_accepting network x octets) octets got cost).1.happenings.forged ≡ false
       checked_honest = by_due (due got.path (message_of got) (heard_node network w x octets got cost).answer.answer)
         where
           noted : World × Trace
           noted = with_check w number (reply_among (heard_node network w x octets got cost).frames)
-              (heard network w number (after_accepting network x octets) octets got cost)
+              (hearing_outcome network w number (after_accepting network x octets) octets got cost)
 
           by_memory : (reply : Reply) (t : Bool) → (if t then adds_frames
               (world_after network noted.0 number (acknowledging (heard_node network w x octets got cost).node reply)) noted.1

@@ -21,7 +21,7 @@ use Rattle.reach_rules.specs.Receiving.{NeighbourCommand, command_of, hear_comma
 use Rattle.reach_rules.specs.declared.refusal.ReachDropped.TheVariants as reach_drops
 use Rattle.line_rules.specs.Answers.{coordinator_reception, meter_reception}
 use Rattle.line_rules.specs.Further.{acknowledging, is_reply_taken, reaches}
-use Rattle.line_rules.specs.Steps.{hears}
+use Rattle.line_rules.specs.Steps.{hearing_step}
 
 -- What a node did by one plan is what it did by two, of which the second finds no pair tag right. Where a write of either failed, nothing is sent and
 -- no tag is made: so the line takes back what the first one sent (`sends_nothing`).
@@ -56,7 +56,7 @@ CommandsInTurn H =
     (ciphers : Ciphers) (x : Node) (b : Beside) (on : Bool) (got : Accepted) (cost note now : ℕ) (c : NeighbourCommand) → command_of got ≡ Some c
     → (p : Memory → Plan Memory (Result H Dropped))
     → IsSameMove command_answer (reaches x b (Err (reach_drops.Known drops.Store)) (λ y. hear_reaching in_memory on y got now (p y.memory)))
-    (reaches (hears ciphers x got cost note now).node b (Err (reach_drops.Known drops.Store)) (λ y. hear_command in_memory y c))
+    (reaches (hearing_step ciphers x got cost note now).node b (Err (reach_drops.Known drops.Store)) (λ y. hear_command in_memory y c))
 
 -- So it is of every other frame where checks are off: the line has its first move alone.
 abbrev pub OthersInTurn : Type 0 → Type 0

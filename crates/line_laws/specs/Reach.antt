@@ -24,7 +24,7 @@ use Rattle.line_rules.specs.Forgery.{Comes, accepting}
 use Rattle.line_rules.specs.Further.{acknowledging, beside_at, due, reaches}
 use Rattle.line_rules.specs.FurtherRuns.{AreBroadcastOnce, AreOfHistory, AreWalked, LogsAlwaysKept}
 use Rattle.line_rules.specs.Runs.{Entry, IsLineRun}
-use Rattle.line_rules.specs.Steps.{forged_by, hears, identity, note_by, psk_of}
+use Rattle.line_rules.specs.Steps.{forged_by, hearing_step, identity, note_by, psk_of}
 use Rattle.line_rules.specs.Worlds.{World, node_at}
 use Rattle.line_laws.specs.Letters.{IsSent}
 use Rattle.line_laws.specs.Ranges.{WorldRanged}
@@ -65,7 +65,7 @@ pub record IsHeard (w : World) (event : Event) (number : ℕ) (x : Node) (octets
 
 -- what the node makes of them by its rule for other frames
 abbrev pub hearing : World → Node → List ℕ → Accepted → ℕ → NodeStep Reception
-hearing w x octets got cost = hears network (accepting network x octets).node got cost (note_by w octets got.path) w.clock
+hearing w x octets got cost = hearing_step network (accepting network x octets).node got cost (note_by w octets got.path) w.clock
 
 -- and as that leaves it
 abbrev pub left_hearing : World → Node → List ℕ → Accepted → ℕ → Node

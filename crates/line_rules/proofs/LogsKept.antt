@@ -60,10 +60,10 @@ use Rattle.line_rules.specs.Steps.{Step, set_up, running_world, world_after, nod
 use Rattle.line_rules.specs.Steps.{blank_node}
 use Rattle.line_rules.specs.Steps.{coordinator_node, is_known, coordinator, meter, depot, depot_by, provisioned, psk_of, near, near_by, keeps_rank, ranks_full}
 use Rattle.line_rules.specs.Steps.{offered_near, preset, allow, allowed, rand, join, joins_by, leave, send, sends_by, sent_if, breaks, breaks_by, received}
-use Rattle.line_rules.specs.Steps.{on_flight, lose, tick, ticked, restart, cut, show, rekey, challenge, activate, activate_at, kick, step, hears, heard}
+use Rattle.line_rules.specs.Steps.{on_flight, lose, tick, ticked, restart, cut, show, rekey, challenge, activate, activate_at, kick, step, hearing_step, hearing_outcome}
 use Rattle.line_rules.specs.Steps.{identity, note_by, forged_by, restarts, trace_of, happenings}
 use Rattle.line_rules.specs.Further.{line_step, checks, bcast, broadcasts_by, path, asks_by, scan, scans_by, choose, chooses_by, discovers_by, commanded}
-use Rattle.line_rules.specs.Further.{checked, acknowledged_if, acknowledged, acknowledging, heard_by, heard_further, is_dropped, accepted_further, comes}
+use Rattle.line_rules.specs.Further.{checked, acknowledged_if, acknowledged, acknowledging, hearing_outcome_by, further_hearing_outcome, is_dropped, accepted_further, comes}
 use Rattle.line_rules.specs.Further.{delivers, injects, ticks, after_ok, due, with_check, restarts_by, restarts_further, beside_at, set_beside, reaches}
 use Rattle.line_rules.specs.Logs.{LogIn, AreLogged, LogsKept, HaveShortTables, CommandsAreOctets, LineStepsKeepLogs, LogsKeptAtFirst}
 use Rattle.line_rules.proofs.LogSteps.{NodeIn, Quiet, all_changed, acts_quiet, further_in, halted_in, logged_at, one_more, quiet_in, quiet_on, quiet_same}
@@ -367,7 +367,7 @@ module _ (ciphers : Ciphers) (w : World) (short : HaveShortTables w) (h : LogsKe
   discovers_in number x octets link (Some m) = set_aside w.beside w.nodes number _ h refl
 
   hears_quiet : (y : Node) → ((m : Memory) → y.memory ≡ Some m → HasShortTables m.station) → (got : Accepted) (cost note now : ℕ)
-      → Quiet y (hears ciphers y got cost note now).node
+      → Quiet y (hearing_step ciphers y got cost note now).node
   hears_quiet y has got cost note now = by_role y.role
     where
       hears_as : Role → NodeStep Reception
@@ -387,39 +387,39 @@ module _ (ciphers : Ciphers) (w : World) (short : HaveShortTables w) (h : LogsKe
     received_in : (forged : Bool) (d : NodeStep Reception) → Quiet y d.node → LogsKept (received ciphers w number forged d).0
     received_in forged d q = quiet_after (running_world w) refl h number x there d (quiet_on x y d.node first q)
 
-    heard_in : (got : Accepted) (cost : ℕ) → LogsKept (heard ciphers w number y octets got cost).0
+    heard_in : (got : Accepted) (cost : ℕ) → LogsKept (hearing_outcome ciphers w number y octets got cost).0
     heard_in got cost = received_in (forged_by w octets got.path
-        || list_any (is_forged_tag w.made) (hears ciphers y got cost (note_by w octets got.path) w.clock).opened)
-        (hears ciphers y got cost (note_by w octets got.path) w.clock) (hears_quiet y has got cost (note_by w octets got.path) w.clock)
+        || list_any (is_forged_tag w.made) (hearing_step ciphers y got cost (note_by w octets got.path) w.clock).opened)
+        (hearing_step ciphers y got cost (note_by w octets got.path) w.clock) (hears_quiet y has got cost (note_by w octets got.path) w.clock)
 
     commanded_in : (got : Accepted) (cost : ℕ) (c : NeighbourCommand) → AreOctets c.body
-        → LogsKept (commanded ciphers number (hears ciphers y got cost (note_by w octets got.path) w.clock).node c (heard ciphers w number y octets got cost)).0
+        → LogsKept (commanded ciphers number (hearing_step ciphers y got cost (note_by w octets got.path) w.clock).node c (hearing_outcome ciphers w number y octets got cost)).0
     unfolding world_after
     commanded_in got cost c are =
-        let z : Node = (hears ciphers y got cost (note_by w octets got.path) w.clock).node in
+        let z : Node = (hearing_step ciphers y got cost (note_by w octets got.path) w.clock).node in
         let q : Quiet x z = quiet_on x y z first (hears_quiet y has got cost (note_by w octets got.path) w.clock) in
-        after_both (heard ciphers w number y octets got cost).0 number
+        after_both (hearing_outcome ciphers w number y octets got cost).0 number
         (reaches z (beside_at w number) (Err (reach_drops.Known drops.Store)) (λ r. hear_command in_memory r c)) _ (heard_in got cost)
         (further_in z (beside_at w number) (Err (reach_drops.Known drops.Store)) (λ r. hear_command in_memory r c)
         (λ m e. (command_leads m (beside_at w number) c are).leads) (quiet_in _ x z q (here number x there)))
 
     checked_in : (got : Accepted) (cost : ℕ)
-        → LogsKept (checked ciphers w number got (hears ciphers y got cost (note_by w octets got.path) w.clock) (heard ciphers w number y octets got cost)).0
+        → LogsKept (checked ciphers w number got (hearing_step ciphers y got cost (note_by w octets got.path) w.clock) (hearing_outcome ciphers w number y octets got cost)).0
     unfolding world_after
-    checked_in got cost = by_due (due got.path (message_of got) (hears ciphers y got cost (note_by w octets got.path) w.clock).answer.answer)
+    checked_in got cost = by_due (due got.path (message_of got) (hearing_step ciphers y got cost (note_by w octets got.path) w.clock).answer.answer)
       where
         z : Node
-        z = (hears ciphers y got cost (note_by w octets got.path) w.clock).node
+        z = (hearing_step ciphers y got cost (note_by w octets got.path) w.clock).node
 
         quiet : Quiet x z
         quiet = quiet_on x y z first (hears_quiet y has got cost (note_by w octets got.path) w.clock)
 
         b : Beside
         b = record (beside_at w number)
-            { checks = checks_after (beside_at w number).checks (reply_among (hears ciphers y got cost (note_by w octets got.path) w.clock).frames) w.clock }
+            { checks = checks_after (beside_at w number).checks (reply_among (hearing_step ciphers y got cost (note_by w octets got.path) w.clock).frames) w.clock }
 
         r : World × Trace
-        r = with_check w number (reply_among (hears ciphers y got cost (note_by w octets got.path) w.clock).frames) (heard ciphers w number y octets got cost)
+        r = with_check w number (reply_among (hearing_step ciphers y got cost (note_by w octets got.path) w.clock).frames) (hearing_outcome ciphers w number y octets got cost)
 
         heard_nodes : List Node
         heard_nodes = slice_set w.nodes number z
@@ -438,12 +438,12 @@ module _ (ciphers : Ciphers) (w : World) (short : HaveShortTables w) (h : LogsKe
             (set_node w.beside heard_nodes number a.node before l)
 
     heard_by_in : (got : Accepted) (cost : ℕ) (o : Option NeighbourCommand) → ((c : NeighbourCommand) → o ≡ Some c → AreOctets c.body)
-        → LogsKept (heard_by ciphers w number y octets got cost o).0
+        → LogsKept (hearing_outcome_by ciphers w number y octets got cost o).0
     heard_by_in got cost None are = either_in w.checks_on _ _ (checked_in got cost) (heard_in got cost)
     heard_by_in got cost (Some c) are = commanded_in got cost c (are c refl)
 
     further_heard : (got : Accepted) (cost : ℕ) → ((c : NeighbourCommand) → command_of got ≡ Some c → AreOctets c.body)
-        → LogsKept (heard_further ciphers w number y octets got cost).0
+        → LogsKept (further_hearing_outcome ciphers w number y octets got cost).0
     further_heard got cost are = either_in (is_dropped w number got) _ _
         (received_in (forged_by w octets got.path) (stays y (only answers.Blacklisted)) (quiet_same y)) (heard_by_in got cost (command_of got) are)
 

@@ -34,10 +34,10 @@ use Rattle.line_rules.specs.Worlds.{World, Flight, Trace, node_at, flight_at}
 use Rattle.line_rules.specs.Steps.{provisioned, ticked, Step, set_up, running_world, world_after, node_outcome, has_begun, takes_setup, once_begun, in_setup, on_node, on_meter}
 use Rattle.line_rules.specs.Steps.{made_node, is_known, coordinator, meter, depot, depot_by, psk_of, near, near_by, preset, allow, allowed, rand, join}
 use Rattle.line_rules.specs.Steps.{joins_by, leave, send, sends_by, sent_if, breaks, breaks_by, deliver, inject, arrives, accepted_by, received, on_flight}
-use Rattle.line_rules.specs.Steps.{lose, tick, restart, cut, show, rekey, challenge, activate, activate_at, kick, step, node_trace, hears, heard, forged_by}
+use Rattle.line_rules.specs.Steps.{lose, tick, restart, cut, show, rekey, challenge, activate, activate_at, kick, step, node_trace, hearing_step, hearing_outcome, forged_by}
 use Rattle.line_rules.specs.Steps.{note_by, restarts}
 use Rattle.line_rules.specs.Further.{line_step, checks, bcast, broadcasts_by, path, asks_by, scan, scans_by, has_discovered, choose, chooses_by, discovers_by}
-use Rattle.line_rules.specs.Further.{commanded, checked, acknowledged_if, acknowledged, acknowledging, heard_by, heard_further, is_dropped, accepted_further}
+use Rattle.line_rules.specs.Further.{commanded, checked, acknowledged_if, acknowledged, acknowledging, hearing_outcome_by, further_hearing_outcome, is_dropped, accepted_further}
 use Rattle.line_rules.specs.Further.{comes, delivers, injects, ticks, after_ok, restarts_by, restarts_further, beside_at, set_beside}
 use Rattle.node_rules.specs.NodeSteps.{NodeStep, acts}
 use Rattle.line_rules.specs.Laws.{SameFlight, KeepsFlights, GoesOn, StepsGoOn, LineStepsGoOn}
@@ -408,7 +408,7 @@ module _ (ciphers : Ciphers) (w : World) where
   discovers_go number x octets link None = ran_goes w
   discovers_go number x octets link (Some m) = discovered_go number _ _
 
-  heard_go : (number : ℕ) (x : Node) (octets : List ℕ) (got : Accepted) (cost : ℕ) → GoesOn w (heard ciphers w number x octets got cost).0
+  heard_go : (number : ℕ) (x : Node) (octets : List ℕ) (got : Accepted) (cost : ℕ) → GoesOn w (hearing_outcome ciphers w number x octets got cost).0
   heard_go number x octets got cost = received_go number _ _
 
   nothing_go : (number : ℕ) (b : List Beside) (v : World) → GoesOn w v → GoesOn w (record v { flights = w.flights; made = w.made; beside = b })
@@ -435,13 +435,13 @@ module _ (ciphers : Ciphers) (w : World) where
   checked_go number got h r g = acknowledged_if_go number h.node _ _ (beside_goes w _ _ g)
 
   heard_by_go : (number : ℕ) (x : Node) (octets : List ℕ) (got : Accepted) (cost : ℕ) (c : Option NeighbourCommand)
-      → GoesOn w (heard_by ciphers w number x octets got cost c).0
+      → GoesOn w (hearing_outcome_by ciphers w number x octets got cost c).0
   heard_by_go number x octets got cost None = either_goes w.checks_on _ _
-      (checked_go number got (hears ciphers x got cost (note_by w octets got.path) w.clock) (heard ciphers w number x octets got cost)
+      (checked_go number got (hearing_step ciphers x got cost (note_by w octets got.path) w.clock) (hearing_outcome ciphers w number x octets got cost)
       (heard_go number x octets got cost)) (heard_go number x octets got cost)
   heard_by_go number x octets got cost (Some c) = beside_goes w _ _ (goes_after ciphers w _ number _ (heard_go number x octets got cost))
 
-  further_go : (number : ℕ) (x : Node) (octets : List ℕ) (got : Accepted) (cost : ℕ) → GoesOn w (heard_further ciphers w number x octets got cost).0
+  further_go : (number : ℕ) (x : Node) (octets : List ℕ) (got : Accepted) (cost : ℕ) → GoesOn w (further_hearing_outcome ciphers w number x octets got cost).0
   further_go number x octets got cost =
       either_goes (is_dropped w number got) _ _ (received_go number _ _) (heard_by_go number x octets got cost (command_of got))
 

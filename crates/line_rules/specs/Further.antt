@@ -64,7 +64,7 @@ use Rattle.line_events.specs.declared.happenings.PathLine.{PathLine}
 use Rattle.line_rules.specs.Answers.{Reception, only, frame_word, command_word, discovery_word, broadcast_word, ask_word, scan_word}
 use Rattle.line_rules.specs.Steps.{Step, set_up, running_world, world_after, node_trace, happenings, trace_of, once_begun, in_setup, on_node, on_meter, on_flight, node_outcome}
 use Rattle.line_rules.specs.Steps.{psk_of}
-use Rattle.line_rules.specs.Steps.{identity, hears, heard, received, forged_by, note_by, restarts, restart, tick, step}
+use Rattle.line_rules.specs.Steps.{identity, hearing_step, hearing_outcome, received, forged_by, note_by, restarts, restart, tick, step}
 use Rattle.line_rules.specs.Worlds.{World, Flight, Trace, Broadcasting, Stepping, Noticed, Replied, Acknowledged, Scans, Heard, Further, nothing_further}
 use Rattle.line_rules.specs.Worlds.{node_at}
 
@@ -373,26 +373,26 @@ abbrev pub is_dropped : World → ℕ → Accepted → Bool
 is_dropped w number got = w.checks_on && is_unbelieved (beside_at w number).checks got.path (message_of got)
 
 -- by the command that it carries, if it carries one
-abbrev pub heard_by : Ciphers → World → ℕ → Node → List ℕ → Accepted → (cost : ℕ) → Option NeighbourCommand → World × Trace
-heard_by ciphers w number x octets got cost (Some c) =
-    commanded ciphers number (hears ciphers x got cost (note_by w octets got.path) w.clock).node c
-    (heard ciphers w number x octets got cost)
-heard_by ciphers w number x octets got cost None =
-    if w.checks_on then checked ciphers w number got (hears ciphers x got cost (note_by w octets got.path) w.clock)
-    (heard ciphers w number x octets got cost)
-    else heard ciphers w number x octets got cost
+abbrev pub hearing_outcome_by : Ciphers → World → ℕ → Node → List ℕ → Accepted → (cost : ℕ) → Option NeighbourCommand → World × Trace
+hearing_outcome_by ciphers w number x octets got cost (Some c) =
+    commanded ciphers number (hearing_step ciphers x got cost (note_by w octets got.path) w.clock).node c
+    (hearing_outcome ciphers w number x octets got cost)
+hearing_outcome_by ciphers w number x octets got cost None =
+    if w.checks_on then checked ciphers w number got (hearing_step ciphers x got cost (note_by w octets got.path) w.clock)
+    (hearing_outcome ciphers w number x octets got cost)
+    else hearing_outcome ciphers w number x octets got cost
 
 -- a frame that was accepted
-abbrev pub heard_further : Ciphers → World → ℕ → Node → List ℕ → Accepted → (cost : ℕ) → World × Trace
-heard_further ciphers w number x octets got cost =
+abbrev pub further_hearing_outcome : Ciphers → World → ℕ → Node → List ℕ → Accepted → (cost : ℕ) → World × Trace
+further_hearing_outcome ciphers w number x octets got cost =
     if is_dropped w number got then unbelieved ciphers w number x octets got
-    else heard_by ciphers w number x octets got cost (command_of got)
+    else hearing_outcome_by ciphers w number x octets got cost (command_of got)
 
 abbrev pub accepted_further : Ciphers → World → ℕ → List ℕ → (cost : ℕ) → NodeStep (Result Accepted FrameRefusal) → World × Trace
 accepted_further ciphers w number octets cost d = by_answer d.answer
   where
     by_answer : Result Accepted FrameRefusal → World × Trace
-    by_answer (Ok got) = heard_further ciphers w number d.node octets got cost
+    by_answer (Ok got) = further_hearing_outcome ciphers w number d.node octets got cost
     by_answer (Err reason) = (world_after ciphers (running_world w) number d, trace_of (happenings w (frame_word reason)))
 
 -- octets come to a node

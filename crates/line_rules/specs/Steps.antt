@@ -383,15 +383,15 @@ breaks ciphers w number next =
 -- # deliver, inject
 
 -- what a node makes of a frame that it accepted, under a note, by its role
-abbrev pub hears : Ciphers → Node → Accepted → (cost note now : ℕ) → NodeStep Reception
-hears ciphers x got cost note now = hears_by x.role
+abbrev pub hearing_step : Ciphers → Node → Accepted → (cost note now : ℕ) → NodeStep Reception
+hearing_step ciphers x got cost note now = hearing_step_of x.role
   where
-    hears_by : Role → NodeStep Reception
-    hears_by Coordinator =
+    hearing_step_of : Role → NodeStep Reception
+    hearing_step_of Coordinator =
         answering coordinator_reception
         (acts x (Err drops.Store)
         (λ m. coordinator_rules.hear_coordinator (record { eui = x.eui; ciphers = ciphers }) m got cost note now))
-    hears_by (Meter psk) =
+    hearing_step_of (Meter psk) =
         answering meter_reception
         (acts x (Err drops.Store) (λ m. meters.hear_meter (identity ciphers x psk) m got cost note now))
 
@@ -460,9 +460,9 @@ received ciphers w number forged d =
 
 -- a frame that was accepted is heard under its note; it is forged where it was sent by nobody, or a pair tag that was found right was
 -- made by nobody
-abbrev pub heard : Ciphers → World → ℕ → Node → List ℕ → Accepted → ℕ → World × Trace
-heard ciphers w number x octets got cost =
-    let d = hears ciphers x got cost (note_by w octets got.path) w.clock in
+abbrev pub hearing_outcome : Ciphers → World → ℕ → Node → List ℕ → Accepted → ℕ → World × Trace
+hearing_outcome ciphers w number x octets got cost =
+    let d = hearing_step ciphers x got cost (note_by w octets got.path) w.clock in
     received ciphers w number (forged_by w octets got.path || list_any (is_forged_tag w.made) d.opened) d
 
 -- a frame that was accepted is heard, another one is refused
@@ -470,7 +470,7 @@ abbrev pub accepted_by : Ciphers → World → ℕ → List ℕ → ℕ → Node
 accepted_by ciphers w number octets cost d = by_answer d.answer
   where
     by_answer : Result Accepted FrameRefusal → World × Trace
-    by_answer (Ok got) = heard ciphers w number d.node octets got cost
+    by_answer (Ok got) = hearing_outcome ciphers w number d.node octets got cost
     by_answer (Err reason) = (world_after ciphers (running_world w) number d, trace_of (happenings w (frame_word reason)))
 
 -- octets come to a node over a link of a cost

@@ -54,17 +54,17 @@ use Rattle.line_events.specs.declared.happenings.Happenings.{Happenings}
 use Rattle.line_events.specs.declared.event.Answer.TheVariants as answers
 use Rattle.line_rules.specs.Answers.{CompletedJoining, Reception, Up, coordinator_reception, frame_word, meter_reception, only}
 use Rattle.line_rules.specs.Forgery.{accepting}
-use Rattle.line_rules.specs.Further.{accepted_further, acknowledged_if, checked, comes, commanded, discovers_by, due, heard_by, heard_further, injects}
+use Rattle.line_rules.specs.Further.{accepted_further, acknowledged_if, checked, comes, commanded, discovers_by, due, hearing_outcome_by, further_hearing_outcome, injects}
 use Rattle.line_rules.specs.Further.{is_dropped, unbelieved, with_check}
 use Rattle.line_rules.specs.Further.{delivers as delivers_by}
 use Rattle.line_rules.specs.Logs.{AreLogged, LogsKept}
 use Rattle.line_rules.proofs.LogSteps.{Quiet, acts_quiet, log_at, logged_at, quiet_in, set_node}
 use Rattle.line_rules.specs.Worlds.{Flight, Pairing, Trace, World, flight_at, is_forged_tag, node_at}
-use Rattle.line_rules.specs.Steps.{Step, done_by, forged_by, handed_by, happenings, heard, has_begun, hears, identity, note_by, number_if, number_of, on_flight}
+use Rattle.line_rules.specs.Steps.{Step, done_by, forged_by, handed_by, happenings, hearing_outcome, has_begun, hearing_step, identity, note_by, number_if, number_of, on_flight}
 use Rattle.line_rules.specs.Steps.{running_world, received, reception_trace, world_after, trace_of}
-use Rattle.line_world.specs.Arrivals.{checked_so, comes_so, done_in, forged_in, handed_in, heard_further_so, hears_so, in_run, left_of, note_in, received_so}
-use Rattle.line_world.specs.Arrivals.{reception_happenings, taker_in, unbelieved_so}
-use Rattle.line_world.specs.Arrivals.{heard_so as heard_by_command}
+use Rattle.line_world.specs.Arrivals.{outcome_of_checked, outcome_of_arrival, done_in, forged_in, handed_in, outcome_of_further, outcome_of_hearing, in_run, left_of, note_in, outcome_of_reception}
+use Rattle.line_world.specs.Arrivals.{reception_happenings, taker_in, outcome_of_unbelieved}
+use Rattle.line_world.specs.Arrivals.{outcome_of_command as heard_by_command}
 use Rattle.line_world.specs.Bounds.{IsBounded}
 use Rattle.line_world.specs.Discovering.{discovered_by, discovered_in}
 use Rattle.line_world.specs.Finding.{found}
@@ -185,7 +185,7 @@ acts_eui {A} x halted plan = by x.memory
     by None = refl
     by (Some m) = refl
 
-pub hears_eui : (x : Node) (got : Accepted) (cost note now : ℕ) → (hears network x got cost note now).node.eui ≡ x.eui
+pub hears_eui : (x : Node) (got : Accepted) (cost note now : ℕ) → (hearing_step network x got cost note now).node.eui ≡ x.eui
 hears_eui x got cost note now = by x.role
   where
     hears_as : Role → NodeStep Reception
@@ -294,7 +294,7 @@ pub was_received : (w new : World) (number : ℕ) (x : Node) (origin : Origin) (
     → slice_get w.nodes number ≡ Some x
     → d.node.eui ≡ x.eui → Received d w.nodes number r out nodes → forged ≡ (origin.is_forged || list_any (is_forged_tag w.made) out.tags.opened)
     → h ≡ reception_happenings (record w { nodes = nodes }) number out forged r → new ≡ left_of (record w { nodes = nodes }) number out forged r
-    → Steps true w (Ok h) new (Ok (received_so network w number origin d))
+    → Steps true w (Ok h) new (Ok (outcome_of_reception network w number origin d))
 was_received w new number x origin d r out nodes forged h b room frames tags at same rec is_forged said is =
     let right : Bool = origin.is_forged || list_any (is_forged_tag w.made) d.opened in
     let forgery : forged ≡ right = is_forged ∙ ap (λ (o : Out). origin.is_forged || list_any (is_forged_tag w.made) o.tags.opened) rec.did.out_is in
@@ -306,15 +306,15 @@ was_received w new number x origin d r out nodes forged h b room frames tags at 
     (received_many w number x d r out nodes right forged at same rec forgery) frames tags))
 
 -- what is said and what is left of a frame that a node heard
-pub heard_so : (w new : World) (number : ℕ) (x : Node) (got : Accepted) (origin : Origin) (cost : ℕ) (r : receiving.Reception) (out : Out) (nodes : List Node)
+pub outcome_of_command : (w new : World) (number : ℕ) (x : Node) (got : Accepted) (origin : Origin) (cost : ℕ) (r : receiving.Reception) (out : Out) (nodes : List Node)
     (forged : Bool) (h : Happenings) → IsBounded (in_run w) → w.events < MAX_EVENTS → length out.frames ≤ 24 → length out.tags.made ≤ 2
     → slice_get w.nodes number ≡ Some x
-    → Received (hears network x got cost origin.note w.clock) w.nodes number r out nodes
+    → Received (hearing_step network x got cost origin.note w.clock) w.nodes number r out nodes
     → forged ≡ (origin.is_forged || list_any (is_forged_tag w.made) out.tags.opened)
     → h ≡ reception_happenings (record w { nodes = nodes }) number out forged r → new ≡ left_of (record w { nodes = nodes }) number out forged r
-    → Steps true w (Ok h) new (Ok (hears_so network w number x got origin cost))
-heard_so w new number x got origin cost r out nodes forged h b room frames tags at rec is_forged said is =
-    was_received w new number x origin (hears network x got cost origin.note w.clock) r out nodes forged h b room frames tags at
+    → Steps true w (Ok h) new (Ok (outcome_of_hearing network w number x got origin cost))
+outcome_of_command w new number x got origin cost r out nodes forged h b room frames tags at rec is_forged said is =
+    was_received w new number x origin (hearing_step network x got cost origin.note w.clock) r out nodes forged h b room frames tags at
     (hears_eui x got cost origin.note w.clock) rec is_forged said is
 
 -- # Octets that come
@@ -368,15 +368,15 @@ module _ (w : World) (number : ℕ) (x y : Node) (octets : List ℕ) (got : Acce
   seen_world = record w { nodes = slice_set w.nodes number y }
 
   abbrev heard_with : ℕ → NodeStep Reception
-  heard_with note = hears network y got cost note w.clock
+  heard_with note = hearing_step network y got cost note w.clock
 
-  hears_as : hears_so network seen_world number y got origin cost ≡ heard network w number y octets got cost
+  hears_as : outcome_of_hearing network seen_world number y got origin cost ≡ hearing_outcome network w number y octets got cost
   hears_as =
       (λ i. received network seen_world number (f i || list_any (is_forged_tag w.made) (heard_with (n i)).opened) (heard_with (n i)))
       ∙ received_as w number x y (forged_by w octets got.path || list_any (is_forged_tag w.made) (heard_with (note_by w octets got.path)).opened)
       (heard_with (note_by w octets got.path)) at same
 
-  unbelieved_as : unbelieved_so network seen_world number y origin ≡ unbelieved network w number y octets got
+  unbelieved_as : outcome_of_unbelieved network seen_world number y origin ≡ unbelieved network w number y octets got
   unbelieved_as =
       ap (λ (b : Bool). received network seen_world number b (stays y (only answers.Blacklisted))) (no_tags w.made origin.is_forged ∙ f)
       ∙ received_as w number x y (forged_by w octets got.path) (stays y (only answers.Blacklisted)) at same
@@ -385,40 +385,40 @@ module _ (w : World) (number : ℕ) (x y : Node) (octets : List ℕ) (got : Acce
   acknowledged_as z None r = refl
   acknowledged_as z (Some reply) r = refl
 
-  checked_as : checked_so network seen_world number y got origin cost
-      ≡ checked network w number got (heard_with (note_by w octets got.path)) (heard network w number y octets got cost)
+  checked_as : outcome_of_checked network seen_world number y got origin cost
+      ≡ checked network w number got (heard_with (note_by w octets got.path)) (hearing_outcome network w number y octets got cost)
   checked_as =
       (λ i. checked network seen_world number got (heard_with (n i)) (hears_as i))
       ∙ acknowledged_as (heard_with (note_by w octets got.path)).node (due got.path (message_of got) (heard_with (note_by w octets got.path)).answer.answer)
-      (with_check w number (reply_among (heard_with (note_by w octets got.path)).frames) (heard network w number y octets got cost))
+      (with_check w number (reply_among (heard_with (note_by w octets got.path)).frames) (hearing_outcome network w number y octets got cost))
 
-  by_command : (o : Option NeighbourCommand) → heard_by_command network seen_world number y got origin cost o ≡ heard_by network w number y octets got cost o
+  by_command : (o : Option NeighbourCommand) → heard_by_command network seen_world number y got origin cost o ≡ hearing_outcome_by network w number y octets got cost o
   by_command (Some c) = λ i. commanded network number (heard_with (n i)).node c (hears_as i)
   by_command None = λ i. if w.checks_on then checked_as i else hears_as i
 
-  pub heard_further_as : heard_further_so network seen_world number y got origin cost ≡ heard_further network w number y octets got cost
+  pub heard_further_as : outcome_of_further network seen_world number y got origin cost ≡ further_hearing_outcome network w number y octets got cost
   heard_further_as = λ i. if is_dropped w number got then unbelieved_as i else by_command (command_of got) i
 
 -- what comes of octets that a node looked at is what the rules say of octets that come to it
 comes_as : (w : World) (number : ℕ) (x : Node) (octets : List ℕ) (cost : ℕ) (accepted : Result Accepted FrameRefusal) (origin : Origin) (nodes : List Node)
     → is_discovery octets ≡ false → slice_get w.nodes number ≡ Some x → Did (looks x octets) w.nodes number accepted nothing nodes
     → IfOk accepted (λ got. origin.is_forged ≡ forged_in w.flights octets got.path) → IfOk accepted (λ got. origin.note ≡ note_in w.flights octets got.path)
-    → comes_so network (record w { nodes = nodes }) number (looks x octets).node accepted origin cost ≡ comes network w number x octets cost
+    → outcome_of_arrival network (record w { nodes = nodes }) number (looks x octets).node accepted origin cost ≡ comes network w number x octets cost
 unfolding comes
 comes_as w number x octets cost accepted origin nodes plain at did forged note =
     by accepted forged note ∙ ap by_answer did.answer_is
     ∙ sym (ap (λ (b : Bool). if b then discovers_by w number x octets cost x.memory else accepted_further network w number octets cost (looks x octets)) plain)
   where
     by_answer : Result Accepted FrameRefusal → World × Trace
-    by_answer (Ok got) = heard_further network w number (looks x octets).node octets got cost
+    by_answer (Ok got) = further_hearing_outcome network w number (looks x octets).node octets got cost
     by_answer (Err reason) = (world_after network (running_world w) number (looks x octets), trace_of (happenings w (frame_word reason)))
 
     by : (a : Result Accepted FrameRefusal) → IfOk a (λ got. origin.is_forged ≡ forged_in w.flights octets got.path)
         → IfOk a (λ got. origin.note ≡ note_in w.flights octets got.path)
-        → comes_so network (record w { nodes = nodes }) number (looks x octets).node a origin cost ≡ by_answer a
+        → outcome_of_arrival network (record w { nodes = nodes }) number (looks x octets).node a origin cost ≡ by_answer a
     by (Ok got) forged note =
         let y : Node = (looks x octets).node in
-        ap (λ (ns : List Node). heard_further_so network (record w { nodes = ns }) number y got origin cost) did.nodes_are
+        ap (λ (ns : List Node). outcome_of_further network (record w { nodes = ns }) number y got origin cost) did.nodes_are
         ∙ heard_further_as w number x y octets got origin cost at (acts_eui x (Err frame_refusals.Halted) _) (forged ∙ forged_as w octets got.path)
         (note ∙ note_as w octets got.path)
     by (Err reason) forged note =
@@ -434,7 +434,7 @@ pub came : (w new : World) (number : ℕ) (x : Node) (octets : List ℕ) (cost :
     → IfSome (slice_get w.nodes number) (λ y. Did (looks y octets) w.nodes number accepted nothing nodes)
     → IfOk accepted (λ got. origin.is_forged ≡ forged_in w.flights octets got.path) → IfOk accepted (λ got. origin.note ≡ note_in w.flights octets got.path)
     → IfSome (slice_get nodes number)
-    (λ y. Steps true (record w { nodes = nodes }) (Ok h) new (Ok (comes_so network (record w { nodes = nodes }) number y accepted origin cost)))
+    (λ y. Steps true (record w { nodes = nodes }) (Ok h) new (Ok (outcome_of_arrival network (record w { nodes = nodes }) number y accepted origin cost)))
     → Steps true w (Ok h) new (Ok (comes network w number x octets cost))
 came w new number x octets cost accepted origin nodes h plain at looked forged note s =
     let did : Did (looks x octets) w.nodes number accepted nothing nodes =
@@ -442,9 +442,9 @@ came w new number x octets cost accepted origin nodes h plain at looked forged n
     let left : slice_get nodes number ≡ Some (looks x octets).node =
     ap (λ (ns : List Node). slice_get ns number) did.nodes_are ∙ slice_get-set w.nodes number (looks x octets).node (slice_get_within w.nodes number x at) in
     let steps : Steps true (record w { nodes = nodes }) (Ok h) new
-    (Ok (comes_so network (record w { nodes = nodes }) number (looks x octets).node accepted origin cost)) =
+    (Ok (outcome_of_arrival network (record w { nodes = nodes }) number (looks x octets).node accepted origin cost)) =
     subst (λ (o : Option Node). IfSome o
-    (λ y. Steps true (record w { nodes = nodes }) (Ok h) new (Ok (comes_so network (record w { nodes = nodes }) number y accepted origin cost)))) left s in
+    (λ y. Steps true (record w { nodes = nodes }) (Ok h) new (Ok (outcome_of_arrival network (record w { nodes = nodes }) number y accepted origin cost)))) left s in
     subst (λ (r : World × Trace). Steps true w (Ok h) new (Ok r)) (comes_as w number x octets cost accepted origin nodes plain at did forged note)
     (record { gives = steps.gives; memory = tt; bounds = steps.bounds })
 
@@ -526,7 +526,7 @@ module _ (v w : World) (node number : ℕ) (octets : List ℕ) (accepted : Resul
   pub came_to : (new : World) (cost : ℕ) (origin : Origin) (h : Happenings) → is_discovery octets ≡ false
       → IfOk accepted (λ got. origin.is_forged ≡ forged_in v.flights octets got.path) → IfOk accepted (λ got. origin.note ≡ note_in v.flights octets got.path)
       → IfSome (slice_get nodes number)
-      (λ y. Steps true (record v { nodes = nodes }) (Ok h) new (Ok (comes_so network (record v { nodes = nodes }) number y accepted origin cost)))
+      (λ y. Steps true (record v { nodes = nodes }) (Ok h) new (Ok (outcome_of_arrival network (record v { nodes = nodes }) number y accepted origin cost)))
       → Steps true w (Ok h) new (injects network w node cost octets)
   unfolding injects
   came_to new cost origin h plain forged note s =

@@ -15,7 +15,7 @@ use Rattle.reach_rules.specs.Receiving.{NeighbourCommand, command_of}
 use Rattle.line_rules.specs.Answers.{Reception}
 use Rattle.line_rules.specs.Further.{asks_by, bcast, beside_at, broadcasts_by, path}
 use Rattle.line_rules.specs.Logs.{LogsKept}
-use Rattle.line_rules.specs.Steps.{hears, on_node}
+use Rattle.line_rules.specs.Steps.{hearing_step, on_node}
 use Rattle.line_rules.specs.Worlds.{World}
 use Rattle.line_rules.proofs.LogSteps.{log_at, logged_at, quiet_in}
 use Rattle.line_world.specs.declared.nodes.command.Commanded.{Commanded}
@@ -60,10 +60,10 @@ path_at {w} {from} {found} {to} r there toward =
 -- A node heard the frame of a command for the neighbours: it can hear the command then.
 module _ (w : World) (number : ℕ) (x : Node) (got : Accepted) (c : NeighbourCommand) (cost note : ℕ) (r : receiving.Reception) (out : Out) (nodes : List Node)
     (at : slice_get w.nodes number ≡ Some x) (command : command_of got ≡ Some c)
-    (rec : Received (hears network x got cost note w.clock) w.nodes number r out nodes) where
+    (rec : Received (hearing_step network x got cost note w.clock) w.nodes number r out nodes) where
   pub command_many : length nodes ≡ length w.nodes
   command_many =
-      let d : NodeStep Reception = hears network x got cost note w.clock in
+      let d : NodeStep Reception = hearing_step network x got cost note w.clock in
       as_many d w.nodes number d.answer out nodes rec.did
 
   pub command_room : length out.frames < 24
@@ -73,14 +73,14 @@ module _ (w : World) (number : ℕ) (x : Node) (got : Accepted) (c : NeighbourCo
       let few : length out.frames ≡ 0 = ap (λ fs. length fs) none in
       omega (arith, few)
 
-  at_heard : slice_get nodes number ≡ Some (hears network x got cost note w.clock).node
+  at_heard : slice_get nodes number ≡ Some (hearing_step network x got cost note w.clock).node
   at_heard =
       ap (λ (ns : List Node). slice_get ns number) rec.did.nodes_are
-      ∙ slice_get-set w.nodes number (hears network x got cost note w.clock).node (slice_get_within w.nodes number x at)
+      ∙ slice_get-set w.nodes number (hearing_step network x got cost note w.clock).node (slice_get_within w.nodes number x at)
 
   pub command_log : (b : Beside) → b ≡ beside_at w number → LogsKept w → IfSome (slice_get nodes number) (λ y. IsLogOf b y)
   command_log b is kept =
-      let z : Node = (hears network x got cost note w.clock).node in
+      let z : Node = (hearing_step network x got cost note w.clock).node in
       let own : IsLogOf (beside_at w number) z =
       log_of (beside_at w number) z
       (quiet_in (log_at w.beside number) x z (command_silent x got cost note w.clock c command).quiet (logged_at w.beside w.nodes number x kept at)) in
@@ -91,7 +91,7 @@ module _ (w : World) (number : ℕ) (x : Node) (got : Accepted) (c : NeighbourCo
       → IfSome (slice_get nodes number) (λ y. ReachedCommand y b c nodes number reported out after_out left after_b)
       → IsBounded (in_run w) → IsBounded (in_run (record w { nodes = left; beside = bs }))
   command_bounded b after_b reported after_out left bs reached bounded =
-      let z : Node = (hears network x got cost note w.clock).node in
+      let z : Node = (hearing_step network x got cost note w.clock).node in
       let rc : ReachedCommand z b c nodes number reported out after_out left after_b =
       at_node_after nodes number z (λ y. ReachedCommand y b c nodes number reported out after_out left after_b) at_heard reached in
       let many : length left ≡ length w.nodes =

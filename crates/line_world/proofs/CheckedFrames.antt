@@ -21,11 +21,11 @@ use Rattle.line_events.specs.declared.event.TheConstants.{MAX_EVENTS}
 use Rattle.line_events.specs.declared.happenings.Happenings.{Happenings}
 use Rattle.line_rules.specs.Answers.{Reception}
 use Rattle.line_rules.specs.Further.{due}
-use Rattle.line_rules.specs.Steps.{hears}
+use Rattle.line_rules.specs.Steps.{hearing_step}
 use Rattle.line_rules.specs.Worlds.{World, is_forged_tag}
 use Rattle.line_world.specs.declared.line.Line.{Line}
 use Rattle.line_world.specs.declared.nodes.reception.Reception as receiving
-use Rattle.line_world.specs.Arrivals.{Acknowledges, acknowledging_if, checked_so, in_run, left_of, reception_happenings, with_check_of}
+use Rattle.line_world.specs.Arrivals.{Acknowledges, acknowledging_if, outcome_of_checked, in_run, left_of, reception_happenings, with_check_of}
 use Rattle.line_world.specs.Bounds.{IsBounded}
 use Rattle.line_world.specs.Lines.{HasRoom}
 use Rattle.line_world.specs.Receiving.{MayHear, Received}
@@ -44,7 +44,7 @@ some_reply (Some r) is = (r, refl)
 module _ (w : World) (nodes : List Node) (number : ℕ) (got : Accepted) (origin : Origin) (cost : ℕ) (r : receiving.Reception) (before : Out)
     (message : Option Message) (reply : Option Reply)
     (there : number < length w.nodes) (accepted : IfSome (slice_get w.nodes number) (λ y. MayHear y got))
-    (heard : IfSome (slice_get w.nodes number) (λ y. Received (hears network y got cost origin.note w.clock) w.nodes number r before nodes))
+    (heard : IfSome (slice_get w.nodes number) (λ y. Received (hearing_step network y got cost origin.note w.clock) w.nodes number r before nodes))
     (message_is : message ≡ message_of got) (due_is : reply ≡ due got.path message r.answer) where
   abbrev x : Node
   x = (at_some w.nodes number there).0
@@ -53,10 +53,10 @@ module _ (w : World) (nodes : List Node) (number : ℕ) (got : Accepted) (origin
   at = (at_some w.nodes number there).1
 
   abbrev d : NodeStep Reception
-  d = hears network x got cost origin.note w.clock
+  d = hearing_step network x got cost origin.note w.clock
 
   rec : Received d w.nodes number r before nodes
-  rec = at_node_after w.nodes number x (λ y. Received (hears network y got cost origin.note w.clock) w.nodes number r before nodes) at heard
+  rec = at_node_after w.nodes number x (λ y. Received (hearing_step network y got cost origin.note w.clock) w.nodes number r before nodes) at heard
 
   may : MayHear x got
   may = at_node_after w.nodes number x (λ y. MayHear y got) at accepted
@@ -91,11 +91,11 @@ module _ (w : World) (nodes : List Node) (number : ℕ) (got : Accepted) (origin
 
   -- the reply that begins a check
   sent_then : (sent : Option Reply) → sent ≡ (if is_some message then r.replied else None)
-      → (IsSome (message_of got) → IfSome (slice_get w.nodes number) (λ y. r.replied ≡ reply_among (hears network y got cost origin.note w.clock).frames))
+      → (IsSome (message_of got) → IfSome (slice_get w.nodes number) (λ y. r.replied ≡ reply_among (hearing_step network y got cost origin.note w.clock).frames))
       → sent ≡ reply_among d.frames
   sent_then sent is replied =
       is ∙ ap (λ (m : Option Message). if is_some m then r.replied else None) message_is
-      ∙ by (message_of got) refl (λ some. at_node_after w.nodes number x (λ y. r.replied ≡ reply_among (hears network y got cost origin.note w.clock).frames) at
+      ∙ by (message_of got) refl (λ some. at_node_after w.nodes number x (λ y. r.replied ≡ reply_among (hearing_step network y got cost origin.note w.clock).frames) at
       (replied some))
     where
       by : (m : Option Message) → message_of got ≡ m → (IsSome m → r.replied ≡ reply_among d.frames)
@@ -135,11 +135,11 @@ module _ (w : World) (nodes : List Node) (number : ℕ) (got : Accepted) (origin
     pub checked_then : (v3 : World) (sent : Option Reply) (done : Bool) → done ≡ true
         → IfSome (slice_get nodes number) (λ y. Acknowledges (record w { nodes = nodes }) number y reply before done out v2)
         → sent ≡ (if is_some message then r.replied else None)
-        → (IsSome (message_of got) → IfSome (slice_get w.nodes number) (λ y. r.replied ≡ reply_among (hears network y got cost origin.note w.clock).frames))
+        → (IsSome (message_of got) → IfSome (slice_get w.nodes number) (λ y. r.replied ≡ reply_among (hearing_step network y got cost origin.note w.clock).frames))
         → v3 ≡ with_check_of v2 number sent → h ≡ reception_happenings v3 number out forged r → new ≡ left_of v3 number out forged r
-        → IfSome (slice_get w.nodes number) (λ y. Steps true w (Ok h) new (Ok (checked_so network w number y got origin cost)))
+        → IfSome (slice_get w.nodes number) (λ y. Steps true w (Ok h) new (Ok (outcome_of_checked network w number y got origin cost)))
     checked_then v3 sent done up acknowledges sent_is replied checks said is =
-        at_number (λ y. Steps true w (Ok h) new (Ok (checked_so network w number y got origin cost)))
+        at_number (λ y. Steps true w (Ok h) new (Ok (outcome_of_checked network w number y got origin cost)))
         (was_checked w v2 new number x got origin cost r before out nodes forged reply h bounded room frames tags at rec is_forged due_reply_is v3 sent
         (subst (λ (b : Bool). IfSome (slice_get nodes number) (λ y. Acknowledges (record w { nodes = nodes }) number y reply before b out v2)) up acknowledges)
         (sent_then sent sent_is replied) checks said is)
@@ -147,9 +147,9 @@ module _ (w : World) (nodes : List Node) (number : ℕ) (got : Accepted) (origin
     pub unacknowledged_then : (done : Bool) → done ≡ false
         → IfSome (slice_get nodes number) (λ y. Acknowledges (record w { nodes = nodes }) number y reply before done out v2)
         → h ≡ reception_happenings v2 number out forged unacknowledged → new ≡ left_of v2 number out forged unacknowledged
-        → IfSome (slice_get w.nodes number) (λ y. Steps true w (Ok h) new (Ok (checked_so network w number y got origin cost)))
+        → IfSome (slice_get w.nodes number) (λ y. Steps true w (Ok h) new (Ok (outcome_of_checked network w number y got origin cost)))
     unacknowledged_then done down acknowledges said is =
-        at_number (λ y. Steps true w (Ok h) new (Ok (checked_so network w number y got origin cost)))
+        at_number (λ y. Steps true w (Ok h) new (Ok (outcome_of_checked network w number y got origin cost)))
         (was_unacknowledged w v2 new number x got origin cost r before out nodes forged reply h bounded room frames tags at rec is_forged due_reply_is
         (subst (λ (b : Bool). IfSome (slice_get nodes number) (λ y. Acknowledges (record w { nodes = nodes }) number y reply before b out v2)) down
         acknowledges) said is)

@@ -27,7 +27,7 @@ use Rattle.node_rules.proofs.RingPuts.{coordinators_write_no_ring}
 use Rattle.node_rules.proofs.TablePlans.{coordinators_in_place}
 use Rattle.reach_rules.specs.CheckedReplies.{message_of}
 use Rattle.line_rules.specs.Answers as rules
-use Rattle.line_rules.specs.Steps.{hears}
+use Rattle.line_rules.specs.Steps.{hearing_step}
 use Rattle.plc_station.specs.Heard.{Fits}
 use Rattle.meter_node.specs.MeterStates.{MeterState, memory_with}
 use Rattle.coordinator.specs.CoordinatorAgreement.{CoordinatorAgrees}
@@ -84,11 +84,11 @@ module _ (x y : CoordinatorState) (got : Accepted) (cost note now : ℕ) (r : Re
   node_outcome carries = own_took x y (Err drops.Store) plan r out sound (not_none (node_of x).memory _ may.running) carries
 
   pub heard : IfSome (node_of x).memory (λ m. Carries (node_of x) (plan m) r out (node_of y))
-      → Took (hears network (of_coordinator x) got cost note now) (hears network (of_coordinator x) got cost note now).answer out (of_coordinator y)
+      → Took (hearing_step network (of_coordinator x) got cost note now) (hearing_step network (of_coordinator x) got cost note now).answer out (of_coordinator y)
   heard carries = let t = node_outcome carries in record { answer_is = refl; out_is = t.out_is; node_is = t.node_is }
 
   pub reported : IfSome (node_of x).memory (λ m. Carries (node_of x) (plan m) r out (node_of y)) → (word : Reception)
-      → ReportsReception word (rules.coordinator_reception r) → ReportsReception word (hears network (of_coordinator x) got cost note now).answer
+      → ReportsReception word (rules.coordinator_reception r) → ReportsReception word (hearing_step network (of_coordinator x) got cost note now).answer
   reported carries word t = subst (λ (k : Result CoordinatorHeard Dropped). ReportsReception word (rules.coordinator_reception k)) (node_outcome carries).answer_is t
 
   pub heard_sound : IfSome (node_of x).memory (λ m. Carries (node_of x) (plan m) r out (node_of y)) → CoordinatorAgrees (node_of y) → IsSoundCoordinator y
@@ -101,7 +101,7 @@ module _ (x y : CoordinatorState) (got : Accepted) (cost note now : ℕ) (r : Re
       → parts_of reported ≡ parts_of last
       → IfSome (node_of x).memory (λ m. unread (hear m.station got cost note now).answer ≡ None → last ≡ reply_sent (plan m) (node_of y).memory)
       → IsSome (message_of got)
-      → reported ≡ reply_among (hears network (of_coordinator x) got cost note now).frames
+      → reported ≡ reply_among (hearing_step network (of_coordinator x) got cost note now).frames
   replied_is carries last reported same replied is =
       let m = there_is (node_of x).memory may.running in
       reply_is (of_coordinator x) (Err drops.Store) plan m.0 (node_of y).memory last reported m.1 (ap (λ (n : Node). n.memory) (node_outcome carries).node_is)

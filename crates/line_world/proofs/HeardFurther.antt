@@ -10,20 +10,20 @@ use Rattle.line_flights.specs.declared.flights.Origin.{Origin}
 use Rattle.line_events.specs.declared.happenings.Happenings.{Happenings}
 use Rattle.line_rules.specs.Further.{beside_at, is_dropped}
 use Rattle.line_rules.specs.Worlds.{Trace, World}
-use Rattle.line_world.specs.Arrivals.{checked_so, heard_further_so, hears_so, unbelieved_so}
-use Rattle.line_world.specs.Arrivals.{heard_so as heard_by_command}
+use Rattle.line_world.specs.Arrivals.{outcome_of_checked, outcome_of_further, outcome_of_hearing, outcome_of_unbelieved}
+use Rattle.line_world.specs.Arrivals.{outcome_of_command as heard_by_command}
 use Rattle.line_world.specs.Steps.{Steps}
 use Rattle.line_world.proofs.Hearings.{command_heard}
 
 module _ (w : World) (number : ℕ) (x : Node) (got : Accepted) (origin : Origin) (cost : ℕ) where
-  by_dropped : (b : Bool) → is_dropped w number got ≡ b → heard_further_so network w number x got origin cost
-      ≡ (if b then unbelieved_so network w number x origin else heard_by_command network w number x got origin cost (command_of got))
+  by_dropped : (b : Bool) → is_dropped w number got ≡ b → outcome_of_further network w number x got origin cost
+      ≡ (if b then outcome_of_unbelieved network w number x origin else heard_by_command network w number x got origin cost (command_of got))
   by_dropped b e =
-      ap (λ (t : Bool). if t then unbelieved_so network w number x origin else heard_by_command network w number x got origin cost (command_of got)) e
+      ap (λ (t : Bool). if t then outcome_of_unbelieved network w number x origin else heard_by_command network w number x got origin cost (command_of got)) e
 
   -- a command for the neighbours
   pub further_command : (c : NeighbourCommand) → command_of got ≡ Some c
-      → heard_by_command network w number x got origin cost (Some c) ≡ heard_further_so network w number x got origin cost
+      → heard_by_command network w number x got origin cost (Some c) ≡ outcome_of_further network w number x got origin cost
   further_command c e =
       sym (by_dropped false (command_heard w number got c e) ∙ ap (λ (o : Option NeighbourCommand). heard_by_command network w number x got origin cost o) e)
 
@@ -33,23 +33,23 @@ module _ (w : World) (number : ℕ) (x : Node) (got : Accepted) (origin : Origin
 
   -- where nothing is checked
   pub further_plain : w.checks_on ≡ false → command_of got ≡ None
-      → hears_so network w number x got origin cost ≡ heard_further_so network w number x got origin cost
+      → outcome_of_hearing network w number x got origin cost ≡ outcome_of_further network w number x got origin cost
   further_plain off none =
       sym (by_dropped false (ap (λ (b : Bool). b && is_unbelieved (beside_at w number).checks got.path (message_of got)) off)
       ∙ ap (λ (o : Option NeighbourCommand). heard_by_command network w number x got origin cost o) none
-      ∙ ap (λ (b : Bool). if b then checked_so network w number x got origin cost else hears_so network w number x got origin cost) off)
+      ∙ ap (λ (b : Bool). if b then outcome_of_checked network w number x got origin cost else outcome_of_hearing network w number x got origin cost) off)
 
   -- where neighbours are checked
   pub further_unbelieved : w.checks_on ≡ true → is_unbelieved (beside_at w number).checks got.path (message_of got) ≡ true
-      → unbelieved_so network w number x origin ≡ heard_further_so network w number x got origin cost
+      → outcome_of_unbelieved network w number x origin ≡ outcome_of_further network w number x got origin cost
   further_unbelieved on is = sym (by_dropped true (dropped_by true true on is))
 
   pub further_checked : w.checks_on ≡ true → is_unbelieved (beside_at w number).checks got.path (message_of got) ≡ false → command_of got ≡ None
-      → checked_so network w number x got origin cost ≡ heard_further_so network w number x got origin cost
+      → outcome_of_checked network w number x got origin cost ≡ outcome_of_further network w number x got origin cost
   further_checked on is none =
       sym (by_dropped false (dropped_by true false on is)
       ∙ ap (λ (o : Option NeighbourCommand). heard_by_command network w number x got origin cost o) none
-      ∙ ap (λ (b : Bool). if b then checked_so network w number x got origin cost else hears_so network w number x got origin cost) on)
+      ∙ ap (λ (b : Bool). if b then outcome_of_checked network w number x got origin cost else outcome_of_hearing network w number x got origin cost) on)
 
 -- a step of the node of a number, by another name
 pub named_so : (w new : World) (number : ℕ) (h : Happenings) (p q : Node → World × Trace) → ((x : Node) → p x ≡ q x)

@@ -20,7 +20,7 @@ use Rattle.node_rules.specs.Replies.{reply_among, reply_sent}
 use Rattle.node_rules.proofs.TablePlans.{meters_in_place}
 use Rattle.reach_rules.specs.CheckedReplies.{message_of}
 use Rattle.line_rules.specs.Answers as rules
-use Rattle.line_rules.specs.Steps.{hears}
+use Rattle.line_rules.specs.Steps.{hearing_step}
 use Rattle.meter_node.specs.Hearing.{CameUp}
 use Rattle.meter_node.specs.MeterStates.{MeterState, memory_with, node_of, identity_of}
 use Rattle.line_world.specs.declared.nodes.reception.Reception.{Reception}
@@ -57,11 +57,11 @@ module _ (x y : MeterState) (got : Accepted) (cost note now : ℕ) (r : Result M
   node_outcome psk carries = meter_took x y (Err drops.Store) plan r out sound psk (not_none (node_of x).memory _ may.running) carries
 
   pub heard : y.psk ≡ x.psk → IfSome (node_of x).memory (λ m. Carries (node_of x) (plan m) r out (node_of y))
-      → Took (hears network (of_meter x) got cost note now) (hears network (of_meter x) got cost note now).answer out (of_meter y)
+      → Took (hearing_step network (of_meter x) got cost note now) (hearing_step network (of_meter x) got cost note now).answer out (of_meter y)
   heard psk carries = let t = node_outcome psk carries in record { answer_is = refl; out_is = t.out_is; node_is = t.node_is }
 
   pub reported : y.psk ≡ x.psk → IfSome (node_of x).memory (λ m. Carries (node_of x) (plan m) r out (node_of y)) → (word : Reception)
-      → ReportsReception word (rules.meter_reception r) → ReportsReception word (hears network (of_meter x) got cost note now).answer
+      → ReportsReception word (rules.meter_reception r) → ReportsReception word (hearing_step network (of_meter x) got cost note now).answer
   reported psk carries word t = subst (λ (k : Result MeterHeard Dropped). ReportsReception word (rules.meter_reception k)) (node_outcome psk carries).answer_is t
 
   pub heard_sound : IfSome (node_of x).memory (λ m. Carries (node_of x) (plan m) r out (node_of y)) → Agrees y.station → IsSoundMeter y
@@ -74,7 +74,7 @@ module _ (x y : MeterState) (got : Accepted) (cost note now : ℕ) (r : Result M
       → parts_of reported ≡ parts_of last
       → IfSome (node_of x).memory (λ m. unread (hear m.station got cost note now).answer ≡ None → last ≡ reply_sent (plan m) (node_of y).memory)
       → IsSome (message_of got)
-      → reported ≡ reply_among (hears network (of_meter x) got cost note now).frames
+      → reported ≡ reply_among (hearing_step network (of_meter x) got cost note now).frames
   replied_is psk carries last reported same replied is =
       let m = there_is (node_of x).memory may.running in
       reply_is (of_meter x) (Err drops.Store) plan m.0 (node_of y).memory last reported m.1 (ap (λ (n : Node). n.memory) (node_outcome psk carries).node_is)

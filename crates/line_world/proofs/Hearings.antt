@@ -70,13 +70,13 @@ use Rattle.line_rules.specs.Answers.{CompletedJoining, Reception, command_word, 
 use Rattle.line_rules.specs.Further.{acknowledged, acknowledged_if, acknowledging, adds_frames, beside_after, beside_at, broadcast_up, command_trace, due}
 use Rattle.line_rules.specs.Further.{due_of, has_reached, is_dropped, is_reply_taken, path_line, reaches, sends_nothing, set_beside, with_check}
 use Rattle.line_rules.specs.Logs.{LogIn}
-use Rattle.line_rules.specs.Steps.{done_by, flight_by, handed_by, happenings, hears, identity, number_if, number_of, received, world_after}
+use Rattle.line_rules.specs.Steps.{done_by, flight_by, handed_by, happenings, hearing_step, identity, number_if, number_of, received, world_after}
 use Rattle.line_rules.specs.Worlds.{Pairing, Trace, World, is_forged_tag}
 use Rattle.line_rules.proofs.LogSteps.{NodeIn, Quiet, acts_quiet}
 use Rattle.line_world.specs.declared.nodes.command.Commanded.{Commanded}
 use Rattle.line_world.specs.declared.nodes.reception.Reception as receiving
-use Rattle.line_world.specs.Arrivals.{Acknowledges, acknowledging_if, checked_so, done_in, in_run, left_of, reception_happenings, unbelieved_so, with_check_of}
-use Rattle.line_world.specs.Arrivals.{heard_so as heard_by_command}
+use Rattle.line_world.specs.Arrivals.{Acknowledges, acknowledging_if, outcome_of_checked, done_in, in_run, left_of, reception_happenings, outcome_of_unbelieved, with_check_of}
+use Rattle.line_world.specs.Arrivals.{outcome_of_command as heard_by_command}
 use Rattle.line_world.specs.Bounds.{IsBounded}
 use Rattle.line_world.specs.NodeOutcomes.{given_by}
 use Rattle.line_world.specs.Reaching.{DidAfter, IsLogOf, ReachedCommand, given_after}
@@ -110,7 +110,7 @@ pub was_unbelieved : (w new : World) (number : ℕ) (x : Node) (origin : Origin)
     → length out.frames ≤ 24 → length out.tags.made ≤ 2 → slice_get w.nodes number ≡ Some x → out ≡ nothing
     → forged ≡ (origin.is_forged || list_any (is_forged_tag w.made) out.tags.opened)
     → h ≡ reception_happenings w number out forged blacklisted → new ≡ left_of w number out forged blacklisted
-    → Steps true w (Ok h) new (Ok (unbelieved_so network w number x origin))
+    → Steps true w (Ok h) new (Ok (outcome_of_unbelieved network w number x origin))
 was_unbelieved w new number x origin out forged h b room frames tags at none is_forged said is =
     was_received w new number x origin (stays x (only answers.Blacklisted)) blacklisted out w.nodes forged h b room frames tags at refl
     (record {
@@ -220,7 +220,7 @@ module _ (x : Node) (got : Accepted) (cost note now : ℕ) (c : NeighbourCommand
             (λ m here. leaves (meters.hear_meter (identity network x psk) m got cost note now) (meter_silent psk m));
       }
 
-  pub command_silent : HearsNothing x (hears network x got cost note now)
+  pub command_silent : HearsNothing x (hearing_step network x got cost note now)
   command_silent = by_role x.role
 
 -- the log beside a node is what its store gives, unless it is halted
@@ -280,7 +280,7 @@ pub was_commanded : (w new : World) (number : ℕ) (x : Node) (got : Accepted) (
     (before out : Out)
     (nodes left : List Node) (forged : Bool) (commanded : Commanded) (b after_b : Beside) (h : Happenings) → IsBounded (in_run w) → w.events < MAX_EVENTS
     → length out.frames ≤ 24 → length out.tags.made ≤ 2 → slice_get w.nodes number ≡ Some x → command_of got ≡ Some c
-    → Received (hears network x got cost origin.note w.clock) w.nodes number r before nodes → b ≡ beside_at w number
+    → Received (hearing_step network x got cost origin.note w.clock) w.nodes number r before nodes → b ≡ beside_at w number
     → IfSome (slice_get nodes number) (λ y. ReachedCommand y b c nodes number commanded before out left after_b)
     → forged ≡ (origin.is_forged || list_any (is_forged_tag w.made) before.tags.opened)
     → h ≡ record (reception_happenings (record w { nodes = left; beside = slice_set w.beside number after_b }) number out forged r)
@@ -290,7 +290,7 @@ pub was_commanded : (w new : World) (number : ℕ) (x : Node) (got : Accepted) (
 unfolding world_after
 was_commanded w new number x got c origin cost r before out nodes left forged commanded b after_b h bounded room frames tags at command rec held reached
     is_forged said is =
-    let d : NodeStep Reception = hears network x got cost origin.note w.clock in
+    let d : NodeStep Reception = hearing_step network x got cost origin.note w.clock in
     let z : Node = d.node in
     let silent = command_silent x got cost origin.note w.clock c command in
     let at_z : slice_get nodes number ≡ Some z =
@@ -426,7 +426,7 @@ module _ (x : Node) (got : Accepted) (cost note now : ℕ) (from : ℕ) (all : B
   few_by (Meter psk) = acts_few x (Err drops.Store) (λ m. meters.hear_meter (identity network x psk) m got cost note now) 22
       (λ m e. meters_replies_few (identity network x psk) m got cost note now from all key number link origin to (waits_at m e) way message)
 
-  pub reply_few : length (hears network x got cost note now).frames ≤ 22
+  pub reply_few : length (hearing_step network x got cost note now).frames ≤ 22
   reply_few = few_by x.role
 
 -- # The ring of a node that took a reply
@@ -567,8 +567,8 @@ meter_only (Ok meter_words.Left) e = (refl, refl, refl)
 meter_only (Ok meter_words.Activated) e = (refl, refl, refl)
 meter_only (Err reason) e = (refl, refl, refl)
 
-pub hears_only : (x : Node) (got : Accepted) (cost note now : ℕ) → is_reply_taken (hears network x got cost note now).answer.answer ≡ true
-    → IsOnly (hears network x got cost note now).answer
+pub hears_only : (x : Node) (got : Accepted) (cost note now : ℕ) → is_reply_taken (hearing_step network x got cost note now).answer.answer ≡ true
+    → IsOnly (hearing_step network x got cost note now).answer
 hears_only x got cost note now = by x.role
   where
     by : (role : Role) → is_reply_taken (hears_as x got cost note now role).answer.answer ≡ true → IsOnly (hears_as x got cost note now role).answer
@@ -628,7 +628,7 @@ module _ (x : Node) (got : Accepted) (cost note now : ℕ) (n : Memory) where
       subst (λ (q : Memory). IsSome q.station.ring) k.left
       (meter_joined psk k.memory (subst (λ (r : Result MeterHeard Dropped). IsDue got.path (message_of got) (meter_reception r).answer) k.answered due))
 
-  pub joined : IsDue got.path (message_of got) (hears network x got cost note now).answer.answer → (hears network x got cost note now).node.memory ≡ Some n
+  pub joined : IsDue got.path (message_of got) (hearing_step network x got cost note now).answer.answer → (hearing_step network x got cost note now).node.memory ≡ Some n
       → IsSome n.station.ring
   joined due here = joined_by x.role due here
 
@@ -642,11 +642,11 @@ module _ (w v2 new : World) (number : ℕ) (x : Node) (got : Accepted) (origin :
     (forged : Bool)
     (due_now : Option Reply) (h : Happenings) (bounded : IsBounded (in_run w)) (room : w.events < MAX_EVENTS) (frames : length out.frames ≤ 24)
     (tags : length out.tags.made ≤ 2)
-    (at : slice_get w.nodes number ≡ Some x) (rec : Received (hears network x got cost origin.note w.clock) w.nodes number r before nodes)
+    (at : slice_get w.nodes number ≡ Some x) (rec : Received (hearing_step network x got cost origin.note w.clock) w.nodes number r before nodes)
     (is_forged : forged ≡ (origin.is_forged || list_any (is_forged_tag w.made) before.tags.opened))
-    (due_is : due got.path (message_of got) (hears network x got cost origin.note w.clock).answer.answer ≡ due_now) where
+    (due_is : due got.path (message_of got) (hearing_step network x got cost origin.note w.clock).answer.answer ≡ due_now) where
   abbrev d : NodeStep Reception
-  d = hears network x got cost origin.note w.clock
+  d = hearing_step network x got cost origin.note w.clock
 
   abbrev z : Node
   z = d.node
@@ -752,7 +752,7 @@ module _ (w v2 new : World) (number : ℕ) (x : Node) (got : Accepted) (origin :
   pub was_checked : (v3 : World) (sent : Option Reply)
       → IfSome (slice_get nodes number) (λ y. Acknowledges (record w { nodes = nodes }) number y due_now before true out v2)
       → sent ≡ reply_among d.frames → v3 ≡ with_check_of v2 number sent → h ≡ reception_happenings v3 number out forged r → new ≡ left_of v3 number out forged r
-      → Steps true w (Ok h) new (Ok (checked_so network w number x got origin cost))
+      → Steps true w (Ok h) new (Ok (outcome_of_checked network w number x got origin cost))
   was_checked v3 sent acknowledges sent_is checks said is =
       let ack : Acknowledges (record w { nodes = nodes }) number z due_now before true out v2 =
       at_node_after nodes number z (λ y. Acknowledges (record w { nodes = nodes }) number y due_now before true out v2) at_heard acknowledges in
@@ -817,7 +817,7 @@ module _ (w v2 new : World) (number : ℕ) (x : Node) (got : Accepted) (origin :
   -- the same, where its put failed
   pub was_unacknowledged : IfSome (slice_get nodes number) (λ y. Acknowledges (record w { nodes = nodes }) number y due_now before false out v2)
       → h ≡ reception_happenings v2 number out forged unacknowledged → new ≡ left_of v2 number out forged unacknowledged
-      → Steps true w (Ok h) new (Ok (checked_so network w number x got origin cost))
+      → Steps true w (Ok h) new (Ok (outcome_of_checked network w number x got origin cost))
   was_unacknowledged acknowledges said is =
       let ack : Acknowledges (record w { nodes = nodes }) number z due_now before false out v2 =
       at_node_after nodes number z (λ y. Acknowledges (record w { nodes = nodes }) number y due_now before false out v2) at_heard acknowledges in

@@ -59,7 +59,7 @@ use Rattle.node_rules.proofs.Shapes.{Ended, Keeps, Rests, Shape, checked_shape, 
 use Rattle.plc_station.proofs.Replying.{over_mesh_quiet}
 use Rattle.reach_rules.specs.CheckedReplies.{message_of}
 use Rattle.line_rules.specs.Answers.{Reception, coordinator_reception, meter_reception}
-use Rattle.line_rules.specs.Steps.{hears, identity}
+use Rattle.line_rules.specs.Steps.{hearing_step, identity}
 
 -- # Doings that send no reply
 
@@ -477,5 +477,5 @@ module _ (x : Node) (got : Accepted) (cost note now : ℕ) (none : message_of go
       (λ m. meter_heard (identity network x psk) m now (stations.hear m.station got cost note now) (unread (stations.hear m.station got cost note now).answer)
       (at_station m.station))
 
-  pub none_unasked : reply_among (hears network x got cost note now).frames ≡ None
+  pub none_unasked : reply_among (hearing_step network x got cost note now).frames ≡ None
   none_unasked = by_role x.role

@@ -65,11 +65,11 @@ use Rattle.line_events.specs.declared.happenings.Happenings.{Happenings}
 use Rattle.line_rules.specs.Answers.{Reception}
 use Rattle.line_rules.specs.Further.{accepted_further, acknowledged_if, acknowledging, adds_frames, after_ok, asks_by, bcast, beside_after, beside_at}
 use Rattle.line_rules.specs.Further.{checked, checks, chooses_by, choose as choose_event, comes, commanded, delivers, discovers_by, due, has_reached}
-use Rattle.line_rules.specs.Further.{heard_by, heard_further, injects, is_dropped, line_step, path, restarts_by, restarts_further, scan, scans_by}
+use Rattle.line_rules.specs.Further.{hearing_outcome_by, further_hearing_outcome, injects, is_dropped, line_step, path, restarts_by, restarts_further, scan, scans_by}
 use Rattle.line_rules.specs.Further.{sends_nothing, set_beside, ticks, with_check}
 use Rattle.line_rules.specs.Forgery.{accepting}
 use Rattle.line_rules.specs.Steps.{Step, activate, activate_at, allow, allowed, breaks, breaks_by, challenge, coordinator, cut, depot, depot_by, happenings}
-use Rattle.line_rules.specs.Steps.{has_begun, hears, heard, identity, in_setup, is_known, join, joins_by, keeps_rank, kick, leave, lose, meter, near, near_by}
+use Rattle.line_rules.specs.Steps.{has_begun, hearing_step, hearing_outcome, identity, in_setup, is_known, join, joins_by, keeps_rank, kick, leave, lose, meter, near, near_by}
 use Rattle.line_rules.specs.Steps.{note_by, on_flight, on_meter, on_node, once_begun, preset, psk_of, rand, running_world, ranks_full, rekey, send, sends_by, sent_if}
 use Rattle.line_rules.specs.Steps.{set_up, show, takes_setup, tick, ticked, world_after, trace_of}
 use Rattle.line_rules.specs.Worlds.{Flight, Trace, World, flight_at, node_at}
@@ -162,9 +162,9 @@ module _ (x : Reaching Memory) (none : HasNoChecks x.beside) where
   drops_it : (reason : ReachDropped) → Left {A = Result CommandHeard ReachDropped} (drop_it x reason)
   drops_it reason = rests CommandHeard reach_ends reason
 
-  keeps : (heard : CommandHeard) → Left (remembers x heard)
+  keeps : (hearing_outcome : CommandHeard) → Left (remembers x hearing_outcome)
   unfolding resting
-  keeps heard = none
+  keeps hearing_outcome = none
 
   ended : (from number origin : ℕ) → Left (remembers (with_checks (acked_after x.beside.checks from number origin) x) heard_of.Acked)
   unfolding resting
@@ -475,10 +475,10 @@ module _ (ciphers : Ciphers) (w : World) (h : NoneChecked w) where
 
   module _ (number : ℕ) (y : Node) (octets : List ℕ) (got : Accepted) (cost : ℕ) where
     abbrev hearing : NodeStep Reception
-    hearing = hears ciphers y got cost (note_by w octets got.path) w.clock
+    hearing = hearing_step ciphers y got cost (note_by w octets got.path) w.clock
 
     abbrev plainly : World × Trace
-    plainly = heard ciphers w number y octets got cost
+    plainly = hearing_outcome ciphers w number y octets got cost
 
     plain_in : NoneChecked plainly.0
     plain_in = acts_in number hearing
@@ -505,7 +505,7 @@ module _ (ciphers : Ciphers) (w : World) (h : NoneChecked w) where
             either_in (is_some a.node.memory) (adds_frames (world_after ciphers r.0 number a) r.1 a) (sends_nothing w (world_after ciphers r.0 number a, r.1))
             (unasked (world_after ciphers r.0 number a) refl on) (unasked (sends_nothing w (world_after ciphers r.0 number a, r.1)).0 refl on)
 
-    heard_by_in : (o : Option NeighbourCommand) → NoneChecked (heard_by ciphers w number y octets got cost o).0
+    heard_by_in : (o : Option NeighbourCommand) → NoneChecked (hearing_outcome_by ciphers w number y octets got cost o).0
     heard_by_in (Some c) = commanded_in c
     heard_by_in None = by_checks w.checks_on refl
       where
@@ -513,7 +513,7 @@ module _ (ciphers : Ciphers) (w : World) (h : NoneChecked w) where
         by_checks true e = checked_in e
         by_checks false e = plain_in
 
-    further_in : NoneChecked (heard_further ciphers w number y octets got cost).0
+    further_in : NoneChecked (further_hearing_outcome ciphers w number y octets got cost).0
     further_in = either_in (is_dropped w number got) _ _ (acts_in number _) (heard_by_in (command_of got))
 
   accepted_in : (number : ℕ) (octets : List ℕ) (cost : ℕ) (d : NodeStep (Result Accepted FrameRefusal))

@@ -30,7 +30,7 @@ use Rattle.line_rules.specs.Logs.{CommandsAreOctets}
 use Rattle.line_rules.specs.Further.{acknowledging, beside_at, checked, commanded, is_dropped, set_beside}
 use Rattle.line_rules.specs.Answers.{frame_word, only, Reception}
 use Rattle.line_rules.specs.Worlds.{Flight, World, Trace, start, is_forged_tag}
-use Rattle.line_rules.specs.Steps.{flight_by, forged_by, happenings, hears, note_by, number_if, number_of, running_world, received, trace_of}
+use Rattle.line_rules.specs.Steps.{flight_by, forged_by, happenings, hearing_step, note_by, number_if, number_of, running_world, received, trace_of}
 
 -- a world after its setup: a node that looked at octets may have lost power
 abbrev pub in_run : World → World
@@ -44,14 +44,14 @@ abbrev pub note_in : List Flight → List ℕ → Path → ℕ
 note_in flights octets path = note_by (record start { flights = flights }) octets path
 
 -- a node has heard octets of this origin
-abbrev pub received_so : Ciphers → World → ℕ → Origin → NodeStep Reception → World × Trace
-received_so ciphers w number origin d =
+abbrev pub outcome_of_reception : Ciphers → World → ℕ → Origin → NodeStep Reception → World × Trace
+outcome_of_reception ciphers w number origin d =
     received ciphers w number (origin.is_forged || list_any (is_forged_tag w.made) d.opened) d
 
 -- a node hears a frame that it accepted, of this origin
-abbrev pub hears_so : Ciphers → World → ℕ → Node → Accepted → Origin → ℕ → World × Trace
-hears_so ciphers w number x got origin cost =
-    received_so ciphers w number origin (hears ciphers x got cost origin.note w.clock)
+abbrev pub outcome_of_hearing : Ciphers → World → ℕ → Node → Accepted → Origin → ℕ → World × Trace
+outcome_of_hearing ciphers w number x got origin cost =
+    outcome_of_reception ciphers w number origin (hearing_step ciphers x got cost origin.note w.clock)
 
 -- the checks that are left where a node sent this reply
 abbrev pub with_check_of : World → ℕ → Option Reply → World
@@ -59,9 +59,9 @@ with_check_of w number sent =
     set_beside number (record (beside_at w number) { checks = checks_after (beside_at w number).checks sent w.clock }) w
 
 -- a node hears a frame where neighbours are checked
-abbrev pub checked_so : Ciphers → World → ℕ → Node → Accepted → Origin → ℕ → World × Trace
-checked_so ciphers w number x got origin cost =
-    checked ciphers w number got (hears ciphers x got cost origin.note w.clock) (hears_so ciphers w number x got origin cost)
+abbrev pub outcome_of_checked : Ciphers → World → ℕ → Node → Accepted → Origin → ℕ → World × Trace
+outcome_of_checked ciphers w number x got origin cost =
+    checked ciphers w number got (hearing_step ciphers x got cost origin.note w.clock) (outcome_of_hearing ciphers w number x got origin cost)
 
 -- what a node does about an acknowledgement that is due
 abbrev pub acknowledging_if : Node → Option Reply → NodeStep (Result (Unit {0}) LocalRefusal)
@@ -83,27 +83,27 @@ pub record Acknowledges (w : World) (number : ℕ) (x : Node) (due : Option Repl
   pub kept : IfNone due (out ≡ before)
 
 -- by the command that the frame carries, if it carries one
-abbrev pub heard_so : Ciphers → World → ℕ → Node → Accepted → Origin → ℕ → Option NeighbourCommand → World × Trace
-heard_so ciphers w number x got origin cost (Some c) =
-    commanded ciphers number (hears ciphers x got cost origin.note w.clock).node c (hears_so ciphers w number x got origin cost)
-heard_so ciphers w number x got origin cost None =
-    if w.checks_on then checked_so ciphers w number x got origin cost
-    else hears_so ciphers w number x got origin cost
+abbrev pub outcome_of_command : Ciphers → World → ℕ → Node → Accepted → Origin → ℕ → Option NeighbourCommand → World × Trace
+outcome_of_command ciphers w number x got origin cost (Some c) =
+    commanded ciphers number (hearing_step ciphers x got cost origin.note w.clock).node c (outcome_of_hearing ciphers w number x got origin cost)
+outcome_of_command ciphers w number x got origin cost None =
+    if w.checks_on then outcome_of_checked ciphers w number x got origin cost
+    else outcome_of_hearing ciphers w number x got origin cost
 
 -- the request of a listed neighbour was dropped
-abbrev pub unbelieved_so : Ciphers → World → ℕ → Node → Origin → World × Trace
-unbelieved_so ciphers w number x origin = received_so ciphers w number origin (stays x (only answers.Blacklisted))
+abbrev pub outcome_of_unbelieved : Ciphers → World → ℕ → Node → Origin → World × Trace
+outcome_of_unbelieved ciphers w number x origin = outcome_of_reception ciphers w number origin (stays x (only answers.Blacklisted))
 
 -- a node with further reach hears a frame that it accepted, of this origin
-abbrev pub heard_further_so : Ciphers → World → ℕ → Node → Accepted → Origin → ℕ → World × Trace
-heard_further_so ciphers w number x got origin cost =
-    if is_dropped w number got then unbelieved_so ciphers w number x origin
-    else heard_so ciphers w number x got origin cost (command_of got)
+abbrev pub outcome_of_further : Ciphers → World → ℕ → Node → Accepted → Origin → ℕ → World × Trace
+outcome_of_further ciphers w number x got origin cost =
+    if is_dropped w number got then outcome_of_unbelieved ciphers w number x origin
+    else outcome_of_command ciphers w number x got origin cost (command_of got)
 
 -- a node has looked at octets of this origin
-abbrev pub comes_so : Ciphers → World → ℕ → Node → Result Accepted FrameRefusal → Origin → ℕ → World × Trace
-comes_so ciphers w number x (Ok got) origin cost = heard_further_so ciphers w number x got origin cost
-comes_so ciphers w number x (Err reason) origin cost = (running_world w, trace_of (happenings w (frame_word reason)))
+abbrev pub outcome_of_arrival : Ciphers → World → ℕ → Node → Result Accepted FrameRefusal → Origin → ℕ → World × Trace
+outcome_of_arrival ciphers w number x (Ok got) origin cost = outcome_of_further ciphers w number x got origin cost
+outcome_of_arrival ciphers w number x (Err reason) origin cost = (running_world w, trace_of (happenings w (frame_word reason)))
 
 -- a datagram that was handed up
 abbrev pub handed_in : ℕ → Option HandedUp → Option Handed

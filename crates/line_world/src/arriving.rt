@@ -11,7 +11,7 @@ ghost use Rattle.line_rules.specs.Further as further;
 ghost use Rattle.line_rules.specs.Logs.{LogsKept};
 ghost use Rattle.line_rules.specs.Worlds.{is_forged_tag};
 ghost use Rattle.line_world.specs.Receiving.{MayHear};
-ghost use Rattle.line_world.specs.Arrivals.{comes_so, done_in, forged_in, handed_in, hears_so, in_run, left_of, note_in, reception_happenings, taker_in};
+ghost use Rattle.line_world.specs.Arrivals.{outcome_of_arrival, done_in, forged_in, handed_in, outcome_of_hearing, in_run, left_of, note_in, reception_happenings, taker_in};
 ghost use Rattle.line_world.specs.Arrivals.{BringsOctets};
 ghost use Rattle.line_world.specs.Bounds.{IsBounded};
 ghost use Rattle.line_world.specs.Lines.{HasRoom, world_of};
@@ -203,7 +203,7 @@ impl Line {
         requires bounds { IsBounded (in_run (world_of self.old)) }
         requires events { self.old.events < MAX_EVENTS }
         ensures { IfSome (slice_get self.old.nodes node) (λ x. Steps true (world_of self.old) (Ok result)
-            (world_of self.new) (Ok (hears_so network (world_of self.old) node x got.now origin cost))) }
+            (world_of self.new) (Ok (outcome_of_hearing network (world_of self.old) node x got.now origin cost))) }
     {
         let reported = self.nodes.hear(
             node,
@@ -235,7 +235,7 @@ impl Line {
         requires bounds { IsBounded (in_run (world_of self.old)) }
         requires events { self.old.events < MAX_EVENTS }
         ensures { IfSome (slice_get self.old.nodes node) (λ x. Steps true (world_of self.old) (Ok result)
-            (world_of self.new) (Ok (comes_so network (world_of self.old) node x accepted.now origin cost))) }
+            (world_of self.new) (Ok (outcome_of_arrival network (world_of self.old) node x accepted.now origin cost))) }
     {
         match accepted {
             Ok(got) => self.heard_further(node, got, origin, cost, datagram),

@@ -14,7 +14,7 @@ ghost use Rattle.line_rules.specs.Answers as words;
 ghost use Rattle.line_rules.specs.Further as further;
 ghost use Rattle.line_rules.specs.Logs.{LogsKept};
 ghost use Rattle.line_rules.specs.Steps as rules;
-ghost use Rattle.line_world.specs.Arrivals.{Acknowledges, checked_so, heard_further_so, heard_so, in_run, is_stored, unbelieved_so, with_check_of};
+ghost use Rattle.line_world.specs.Arrivals.{Acknowledges, outcome_of_checked, outcome_of_further, outcome_of_command, in_run, is_stored, outcome_of_unbelieved, with_check_of};
 ghost use Rattle.line_world.specs.Bounds.{IsBounded};
 ghost use Rattle.line_world.specs.Lines.{HasRoom, world_of};
 ghost use Rattle.line_world.specs.Reaching as reaching;
@@ -282,7 +282,7 @@ impl Line {
         requires bounds { IsBounded (in_run (world_of self.old)) }
         requires events { self.old.events < MAX_EVENTS }
         ensures { IfSome (slice_get self.old.nodes node) (λ x. Steps true (world_of self.old) (Ok result)
-            (world_of self.new) (Ok (unbelieved_so network (world_of self.old) node x origin))) }
+            (world_of self.new) (Ok (outcome_of_unbelieved network (world_of self.old) node x origin))) }
     {
         self.out.clear();
         let forged = self.is_forged(origin);
@@ -315,7 +315,7 @@ impl Line {
         requires logs { LogsKept (world_of self.old) }
         requires command { further_command got.now ≡ Some (reaching.command_of command.now) }
         ensures { IfSome (slice_get self.old.nodes node) (λ x. Steps true (world_of self.old) (Ok result) (world_of self.new)
-            (Ok (heard_so network (world_of self.old) node x got.now origin cost (Some (reaching.command_of command.now))))) }
+            (Ok (outcome_of_command network (world_of self.old) node x got.now origin cost (Some (reaching.command_of command.now))))) }
     {
         let reported = self.nodes.hear(
             node,
@@ -407,7 +407,7 @@ impl Line {
         requires message { message.now ≡ replies.message_of got.now }
         requires allowed { IfSome message.now (λ m. messages.IsAllowed m) }
         ensures { IfSome (slice_get self.old.nodes node) (λ x. Steps true (world_of self.old) (Ok result) (world_of self.new)
-            (Ok (checked_so network (world_of self.old) node x got.now origin cost))) }
+            (Ok (outcome_of_checked network (world_of self.old) node x got.now origin cost))) }
     {
         let reported = self.nodes.hear(
             node,
@@ -448,7 +448,7 @@ impl Line {
         requires checks { self.old.checks_on ≡ true }
         requires plain { further_command got.now ≡ None }
         ensures { IfSome (slice_get self.old.nodes node) (λ x. Steps true (world_of self.old) (Ok result) (world_of self.new)
-            (Ok (heard_further_so network (world_of self.old) node x got.now origin cost))) }
+            (Ok (outcome_of_further network (world_of self.old) node x got.now origin cost))) }
     {
         if is_unbelieved(&self.beside[node].checks, &got.path, message) {
             return self.unbelieved(node, origin);
@@ -473,7 +473,7 @@ impl Line {
         requires accepted { IfSome (slice_get self.old.nodes node) (λ x. MayHear x got.now) }
         requires logs { LogsKept (world_of self.old) }
         ensures { IfSome (slice_get self.old.nodes node) (λ x. Steps true (world_of self.old) (Ok result) (world_of self.new)
-            (Ok (heard_further_so network (world_of self.old) node x got.now origin cost))) }
+            (Ok (outcome_of_further network (world_of self.old) node x got.now origin cost))) }
     {
         let unit = unit_of(got);
         if let Some(command) = command_on(&got.path, &unit) {

@@ -5,7 +5,7 @@ use Rattle.pan_discovery.specs.declared.message.Discovery.TheVariants.{Request, 
 use Rattle.pan_discovery.specs.Messages.{discovery_spelling}
 use Rattle.pan_discovery.specs.Reading.{is_request, is_beacon, discovery_in}
 use Rattle.pan_discovery.specs.Agents.{shown, agents_of, kth_of}
-use Rattle.pan_discovery.specs.History.{History, Begin, Clear, Beacon as Heard, after_history, begun, ended, heard_since}
+use Rattle.pan_discovery.specs.History.{History, Begin, Clear, Beacon as Heard, after_history, begun, ended, agents_since}
 
 request : discovery_spelling (Request 0) ≡ 0x03 ∷ 0x08 ∷ 0x00 ∷ 0xFF ∷ 0xFF ∷ 0xFF ∷ 0xFF ∷ 0x07 ∷ []
 request = refl
@@ -29,15 +29,15 @@ coordinator = refl
 scan : History
 scan = Heard 7 9 5 ∷ Heard 7 15 5 ∷ Heard 3 14 1 ∷ Heard 9 0 9 ∷ Heard 7 10 5 ∷ Begin ∷ Heard 5 0 1 ∷ Begin ∷ []
 
-agents : agents_of (heard_since scan) ≡ shown 9 0 9 ∷ shown 7 9 5 ∷ shown 3 14 1 ∷ []
+agents : agents_of (agents_since scan) ≡ shown 9 0 9 ∷ shown 7 9 5 ∷ shown 3 14 1 ∷ []
 unfolding scan
 agents = refl
 
-third : kth_of (agents_of (heard_since scan)) 3 ≡ Some (3, 15)
+third : kth_of (agents_of (agents_since scan)) 3 ≡ Some (3, 15)
 unfolding scan
 third = refl
 
-no_fourth : kth_of (agents_of (heard_since scan)) 4 ≡ None
+no_fourth : kth_of (agents_of (agents_since scan)) 4 ≡ None
 unfolding scan
 no_fourth = refl
 

@@ -36,7 +36,7 @@ is_known_by heard other = heard.address == other.address && nat_le other.total h
 
 -- What one more beacon makes of at most 16 agents: nothing where its sender stands there and is no dearer; else the
 -- sender stands at its new place, and the 17th goes.
-abbrev pub heard_after : (heard : Agent) → List Agent → List Agent
-heard_after heard agents =
+abbrev pub agents_after : (heard : Agent) → List Agent → List Agent
+agents_after heard agents =
     if list_any (is_known_by heard) agents then agents
     else take 16 (placed_by rank heard (without heard.address agents))

@@ -1,7 +1,7 @@
 -- What a scan has heard after a history, as a property of the whole history.
 use Rattle.std.specs.Prelude.{◌≡◌, ℕ, Bool, true, false, List, [], ◌∷◌, take, if◌then◌else◌}
 use Rattle.pan_discovery.specs.declared.agents.Agent.{Agent}
-use Rattle.pan_discovery.specs.Agents.{shown, agents_of, heard_after}
+use Rattle.pan_discovery.specs.Agents.{shown, agents_of, agents_after}
 
 -- whether a meter scans, and the first 16 of the agents that it heard
 pub record Scanned : Type 0 where
@@ -27,16 +27,16 @@ scans (Clear ∷ past) = false
 scans (Beacon from cost link ∷ past) = scans past
 
 -- what was heard since the last beginning or end, the latest first
-abbrev pub heard_since : History → List Agent
-heard_since [] = []
-heard_since (Begin ∷ past) = []
-heard_since (Clear ∷ past) = []
-heard_since (Beacon from cost link ∷ past) =
-    if scans past then shown from cost link ∷ heard_since past else heard_since past
+abbrev pub agents_since : History → List Agent
+agents_since [] = []
+agents_since (Begin ∷ past) = []
+agents_since (Clear ∷ past) = []
+agents_since (Beacon from cost link ∷ past) =
+    if scans past then shown from cost link ∷ agents_since past else agents_since past
 
 -- after a history: the first 16 of all agents of what was heard
 unfoldable pub after_history : History → Scanned
-after_history history = record { scanning = scans history; agents = take 16 (agents_of (heard_since history)) }
+after_history history = record { scanning = scans history; agents = take 16 (agents_of (agents_since history)) }
 
 -- a state that one history leads to is led on to another by one more entry
 abbrev pub LeadsOn : (old : Scanned) (entry : Entry) (new : Scanned) → Type 0
@@ -52,4 +52,4 @@ ended = record { scanning = false; agents = [] }
 -- after one more beacon
 abbrev pub taken_after : Scanned → (from cost link : ℕ) → Scanned
 taken_after s from cost link =
-    if s.scanning then record s { agents = heard_after (shown from cost link) s.agents } else s
+    if s.scanning then record s { agents = agents_after (shown from cost link) s.agents } else s

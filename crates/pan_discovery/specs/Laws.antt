@@ -6,7 +6,7 @@ use Rattle.pan_discovery.specs.declared.message.Discovery.{Discovery}
 use Rattle.pan_discovery.specs.declared.agents.Agent.{Agent}
 use Rattle.pan_discovery.specs.Messages.{SpellsDiscovery}
 use Rattle.pan_discovery.specs.Reading.{discovery_in}
-use Rattle.pan_discovery.specs.Agents.{agents_of, heard_after}
+use Rattle.pan_discovery.specs.Agents.{agents_of, agents_after}
 use Rattle.pan_discovery.specs.History.{Scanned, Entry, History, Begin, Clear, Beacon, begun, ended, taken_after, after_history}
 
 -- the request or beacon that octets spell is read out of them
@@ -24,7 +24,7 @@ ReadDiscoveriesAreSpelled =
 abbrev pub FirstAgentsSuffice : Type 0
 FirstAgentsSuffice =
     (beacon : Agent) (heard : List Agent)
-    → take 16 (agents_of (beacon ∷ heard)) ≡ heard_after beacon (take 16 (agents_of heard))
+    → take 16 (agents_of (beacon ∷ heard)) ≡ agents_after beacon (take 16 (agents_of heard))
 
 -- An agent comes before another where it is cheaper, or as cheap and of a lower address.
 abbrev pub ComesBefore : Agent → Agent → Type 0

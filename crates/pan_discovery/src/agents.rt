@@ -122,7 +122,7 @@ impl Agents {
 
     /// A beacon of this agent was heard.
     pub(crate) fn hear(&mut self, heard: Agent)
-        ensures { self.new ≡ agents.heard_after heard self.old }
+        ensures { self.new ≡ agents.agents_after heard self.old }
     {
         if self.knows(&heard) {
             return;

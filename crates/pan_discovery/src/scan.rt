@@ -1,7 +1,7 @@
 //! Which agents a meter heard since it began to scan.
 ghost use Rattle.std.specs.Prelude.{◌≡◌, ◌≤◌, ◌+◌, [], true, false, OnErr, MatchResult};
 ghost use Rattle.pan_discovery.specs.Agents.{agents_of, kth_of};
-ghost use Rattle.pan_discovery.specs.History.{History, Scanned, LeadsOn, Begin, Clear, Beacon, begun, ended, taken_after, heard_since, after_history};
+ghost use Rattle.pan_discovery.specs.History.{History, Scanned, LeadsOn, Begin, Clear, Beacon, begun, ended, taken_after, agents_since, after_history};
 
 use crate::agents::{Agent, Agents};
 use plc_base::{LinkCost, Short};
@@ -102,7 +102,7 @@ impl Scan {
         ensures value { result ≡ kth_of self.now.agents k }
         // It is the k-th of all agents that were heard, however many they are.
         ensures history { (history : History) → self.now ≡ after_history history
-            → result ≡ kth_of (agents_of (heard_since history)) k }
+            → result ≡ kth_of (agents_of (agents_since history)) k }
     {
         let agent = self.agents.at(usize::from(k) - 1)?;
         Some((agent.address, agent.total))

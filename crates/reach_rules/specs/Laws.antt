@@ -35,7 +35,7 @@ use Rattle.reach_rules.specs.CheckedReplies.{message_of, acknowledges, hear_chec
 use Rattle.reach_rules.specs.Broadcasts.{broadcast, hear_broadcast_in}
 use Rattle.reach_rules.specs.PathAsking.{ask_path}
 use Rattle.reach_rules.specs.Beacons.{hear_discovery}
-use Rattle.reach_rules.specs.Receiving.{NeighbourCommand, command_of, hear_command, hear_reaching, meter_hears, coordinator_hears}
+use Rattle.reach_rules.specs.Receiving.{NeighbourCommand, command_of, hear_command, hear_reaching, meter_hearing, coordinator_hearing}
 
 -- # As without further reach
 
@@ -62,10 +62,10 @@ abbrev pub NodesHearAsWithout : Type 0
 NodesHearAsWithout =
     (x : Reaching Memory) (got : Accepted) (cost note now : ℕ) → command_of got ≡ None
     → ((own : meters.Identity)
-    → DoesAsWithout x (meters.hear_meter own x.memory got cost note now) (meter_hears own false x got cost note now))
+    → DoesAsWithout x (meters.hear_meter own x.memory got cost note now) (meter_hearing own false x got cost note now))
     × ((own : coordinator_rules.CoordinatorIdentity)
     → DoesAsWithout x (coordinator_rules.hear_coordinator own x.memory got cost note now)
-    (coordinator_hears own false x got cost note now))
+    (coordinator_hearing own false x got cost note now))
 
 -- a command for the neighbours is handed on unread by a station without further reach, and changes nothing of it
 abbrev pub CommandsAreHandedOn : Type 0

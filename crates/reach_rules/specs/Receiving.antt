@@ -92,18 +92,18 @@ hear_reaching h checks_on x got now p = hear_by h checks_on x got now p (command
 -- # Stations, meters and the coordinator
 
 -- what a station makes of it
-abbrev pub station_hears : (checks_on : Bool) → Reaching StationMemory → Accepted → (cost note now : ℕ)
+abbrev pub station_hearing : (checks_on : Bool) → Reaching StationMemory → Accepted → (cost note now : ℕ)
     → Plan (Reaching StationMemory) (Result (ReachHeard Heard) ReachDropped)
-station_hears checks_on x got cost note now = hear_reaching alone checks_on x got now (hear x.memory got cost note now)
+station_hearing checks_on x got cost note now = hear_reaching alone checks_on x got now (hear x.memory got cost note now)
 
 -- what a meter makes of it
-abbrev pub meter_hears : meters.Identity → (checks_on : Bool) → Reaching Memory → Accepted → (cost note now : ℕ)
+abbrev pub meter_hearing : meters.Identity → (checks_on : Bool) → Reaching Memory → Accepted → (cost note now : ℕ)
     → Plan (Reaching Memory) (Result (ReachHeard MeterHeard) ReachDropped)
-meter_hears own checks_on x got cost note now =
+meter_hearing own checks_on x got cost note now =
     hear_reaching in_memory checks_on x got now (meters.hear_meter own x.memory got cost note now)
 
 -- what the coordinator makes of it
-abbrev pub coordinator_hears : coordinator_rules.CoordinatorIdentity → (checks_on : Bool) → Reaching Memory → Accepted
+abbrev pub coordinator_hearing : coordinator_rules.CoordinatorIdentity → (checks_on : Bool) → Reaching Memory → Accepted
     → (cost note now : ℕ) → Plan (Reaching Memory) (Result (ReachHeard CoordinatorHeard) ReachDropped)
-coordinator_hears own checks_on x got cost note now =
+coordinator_hearing own checks_on x got cost note now =
     hear_reaching in_memory checks_on x got now (coordinator_rules.hear_coordinator own x.memory got cost note now)

@@ -3,7 +3,7 @@ ghost use Rattle.std.specs.Prelude.{◌≡◌, ◌<◌, length, IfSome, IsSome, 
 ghost use Rattle.node_rules.specs.Ciphers.{network};
 ghost use Rattle.node_rules.specs.Replies.{reply_among};
 ghost use Rattle.reach_rules.specs.CheckedReplies.{message_of};
-ghost use Rattle.line_rules.specs.Steps.{hears};
+ghost use Rattle.line_rules.specs.Steps.{hearing_step};
 ghost use Rattle.line_world.specs.Receiving.{MayHear, Received};
 
 use crate::nodes::Nodes;
@@ -27,10 +27,10 @@ impl Nodes {
     ) -> Reception<'a>
         requires there { number < length self.old }
         requires accepted { IfSome (slice_get self.old number) (λ x. MayHear x got.now) }
-        ensures received { IfSome (slice_get self.old number) (λ x. Received (hears network x got.now cost note now)
+        ensures received { IfSome (slice_get self.old number) (λ x. Received (hearing_step network x got.now cost note now)
             self.old number result out.new self.new) }
         ensures replied { IsSome (message_of got.now) → IfSome (slice_get self.old number)
-            (λ x. result.replied ≡ reply_among (hears network x got.now cost note now).frames) }
+            (λ x. result.replied ≡ reply_among (hearing_step network x got.now cost note now).frames) }
     {
         if number > 0 {
             return self

@@ -2,7 +2,7 @@
 ghost use Rattle.std.specs.Prelude.{◌≡◌, ◌≤◌, Ok, Err, IfOk, IsSome, Some};
 ghost use Rattle.line_world.specs.NodeOutcomes.{Took};
 ghost use Rattle.line_world.specs.Receiving.{MayHear, ReportsReception};
-ghost use Rattle.line_rules.specs.Steps.{coordinator_node, hears, keeps_rank, ranks_full, restarts, ticked};
+ghost use Rattle.line_rules.specs.Steps.{coordinator_node, hearing_step, keeps_rank, ranks_full, restarts, ticked};
 ghost use Rattle.line_events.specs.declared.event.Answer.TheVariants as answers;
 ghost use Rattle.node_rules.specs.Accepting as accepting;
 ghost use Rattle.node_rules.specs.Calls as calls;
@@ -294,12 +294,12 @@ impl LineCoordinator {
     ) -> Reception<'a>
         requires accepted { MayHear self.old got.now }
         ensures reports { ReportsReception result
-            (hears network self.old got.now cost note now).answer }
-        ensures took { Took (hears network self.old got.now cost note now)
-            (hears network self.old got.now cost note now).answer
+            (hearing_step network self.old got.now cost note now).answer }
+        ensures took { Took (hearing_step network self.old got.now cost note now)
+            (hearing_step network self.old got.now cost note now).answer
             out.new self.new }
         ensures replied { IsSome (message_of got.now)
-            → result.replied ≡ reply_among (hears network self.old got.now cost note now).frames }
+            → result.replied ≡ reply_among (hearing_step network self.old got.now cost note now).frames }
     {
         let heard = self.coordinator.hear(got, cost, note, now, datagram, out);
         let replied = reply_of(self.coordinator.last_reply());

@@ -9,7 +9,7 @@ ghost use Rattle.node_rules.specs.Frames.{arrived};
 ghost use Rattle.node_rules.specs.MemoryDrafts as drafts;
 ghost use Rattle.node_rules.specs.Meters as meters;
 ghost use Rattle.node_rules.specs.NodeSteps.{acts, changing, of_station, stays};
-ghost use Rattle.line_rules.specs.Steps.{blank_node, hears, identity, keeps_rank, psk_of, ranks_full, restarts, ticked};
+ghost use Rattle.line_rules.specs.Steps.{blank_node, hearing_step, identity, keeps_rank, psk_of, ranks_full, restarts, ticked};
 ghost use Rattle.node_rules.specs.Memory as memory;
 ghost use Rattle.node_rules.specs.Replies.{reply_among};
 ghost use Rattle.node_rules.specs.Showing.{shown_of};
@@ -359,10 +359,10 @@ impl Meters {
     ) -> Reception<'a>
         requires there { place < length self.old }
         requires accepted { IfSome (slice_get self.old place) (λ x. MayHear x got.now) }
-        ensures received { IfSome (slice_get self.old place) (λ x. Received (hears network x got.now cost note now)
+        ensures received { IfSome (slice_get self.old place) (λ x. Received (hearing_step network x got.now cost note now)
             self.old place result out.new self.new) }
         ensures replied { IsSome (message_of got.now) → IfSome (slice_get self.old place)
-            (λ x. result.replied ≡ reply_among (hears network x got.now cost note now).frames) }
+            (λ x. result.replied ≡ reply_among (hearing_step network x got.now cost note now).frames) }
     {
         let meter = &mut self.meters[place];
         let heard = meter.hear(got, cost, note, now, datagram, out);

@@ -7,8 +7,8 @@ use Rattle.node_rules.specs.NodeSteps.{NodeStep}
 use Rattle.line_events.specs.declared.happenings.Happenings.{Happenings}
 use Rattle.line_rules.specs.Answers.{Reception}
 use Rattle.line_rules.specs.Further.{beside_at}
-use Rattle.line_rules.specs.Steps.{hears}
-use Rattle.line_world.specs.Arrivals.{heard_so as heard_by_command}
+use Rattle.line_rules.specs.Steps.{hearing_step}
+use Rattle.line_world.specs.Arrivals.{outcome_of_command as heard_by_command}
 use Rattle.line_world.specs.Lines.{world_of}
 use Rattle.line_world.specs.Reaching.{command_of}
 use Rattle.line_world.specs.Receiving.{Received}
@@ -23,7 +23,7 @@ hear_command-commanded-requires-clause-log c =
     let w = world_of c.args.self.now in
     let number = c.args.node in
     let x = at_some w.nodes number c.requires.there in
-    let step : Node → NodeStep Reception = λ y. hears network y c.args.got.now c.args.cost c.args.origin.note w.clock in
+    let step : Node → NodeStep Reception = λ y. hearing_step network y c.args.got.now c.args.cost c.args.origin.note w.clock in
     let heard = at_node_after w.nodes number x.0 (λ y. Received (step y) w.nodes number c.hear-reported.result c.hear-reported.new.out c.hear-reported.new.self) x.1
     c.hear-reported.ensures.received in
     let within : number < length w.beside = subst (λ (n : ℕ). number < n) (sym c.requires.beside) c.requires.there in
@@ -38,7 +38,7 @@ hear_command-commanded-requires-clause-room c =
     let w = world_of c.args.self.now in
     let number = c.args.node in
     let x = at_some w.nodes number c.requires.there in
-    let step : Node → NodeStep Reception = λ y. hears network y c.args.got.now c.args.cost c.args.origin.note w.clock in
+    let step : Node → NodeStep Reception = λ y. hearing_step network y c.args.got.now c.args.cost c.args.origin.note w.clock in
     let heard = at_node_after w.nodes number x.0 (λ y. Received (step y) w.nodes number c.hear-reported.result c.hear-reported.new.out c.hear-reported.new.self) x.1
     c.hear-reported.ensures.received in
     command_room w number x.0 c.args.got.now (command_of c.args.command.now) c.args.cost c.args.origin.note c.hear-reported.result c.hear-reported.new.out
@@ -50,7 +50,7 @@ received-happenings-requires-clause-bounds c =
     let w = world_of c.args.self.now in
     let number = c.args.node in
     let x = at_some w.nodes number c.requires.there in
-    let step : Node → NodeStep Reception = λ y. hears network y c.args.got.now c.args.cost c.args.origin.note w.clock in
+    let step : Node → NodeStep Reception = λ y. hearing_step network y c.args.got.now c.args.cost c.args.origin.note w.clock in
     let heard = at_node_after w.nodes number x.0 (λ y. Received (step y) w.nodes number c.hear-reported.result c.hear-reported.new.out c.hear-reported.new.self) x.1
     c.hear-reported.ensures.received in
     command_bounded w number x.0 c.args.got.now (command_of c.args.command.now) c.args.cost c.args.origin.note c.hear-reported.result c.hear-reported.new.out
@@ -65,7 +65,7 @@ returns c =
     let w = world_of c.args.self.now in
     let number = c.args.node in
     let x = at_some w.nodes number c.requires.there in
-    let step : Node → NodeStep Reception = λ y. hears network y c.args.got.now c.args.cost c.args.origin.note w.clock in
+    let step : Node → NodeStep Reception = λ y. hearing_step network y c.args.got.now c.args.cost c.args.origin.note w.clock in
     let heard = at_node_after w.nodes number x.0 (λ y. Received (step y) w.nodes number c.hear-reported.result c.hear-reported.new.out c.hear-reported.new.self) x.1
     c.hear-reported.ensures.received in
     let within : number < length w.beside = subst (λ (n : ℕ). number < n) (sym c.requires.beside) c.requires.there in

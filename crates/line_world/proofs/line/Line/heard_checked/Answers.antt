@@ -5,7 +5,7 @@ use Rattle.node_rules.specs.Ciphers.{network}
 use Rattle.reach_rules.specs.CheckedReplies.{is_unbelieved, message_of}
 use Rattle.reach_rules.specs.ReachingNodes.{Beside}
 use Rattle.line_rules.specs.Further.{beside_at}
-use Rattle.line_world.specs.Arrivals.{checked_so, heard_further_so, unbelieved_so}
+use Rattle.line_world.specs.Arrivals.{outcome_of_checked, outcome_of_further, outcome_of_unbelieved}
 use Rattle.line_world.specs.Lines.{world_of}
 use Rattle.line_world.proofs.Calling.{beside_found}
 use Rattle.line_world.proofs.HeardFurther.{further_checked, further_unbelieved, named_so}
@@ -23,8 +23,8 @@ returns-then-is_unbelieved c =
     sym (c.if-is_unbelieved.ensures ∙ ap (λ (k : Beside). is_unbelieved k.checks got.path c.args.message.now) held
     ∙ ap (λ (m : Option Message). is_unbelieved (beside_at w c.args.node).checks got.path m) c.requires.message) in
     named_so w _ c.args.node c.unbelieved.result
-    (λ x. unbelieved_so network w c.args.node x c.args.origin)
-    (λ x. heard_further_so network w c.args.node x got c.args.origin c.args.cost)
+    (λ x. outcome_of_unbelieved network w c.args.node x c.args.origin)
+    (λ x. outcome_of_further network w c.args.node x got c.args.origin c.args.cost)
     (λ x. further_unbelieved w c.args.node x got c.args.origin c.args.cost c.requires.checks is) c.unbelieved.ensures
 
 pub returns : goal.returns
@@ -39,6 +39,6 @@ returns c =
     sym (c.if-is_unbelieved.ensures ∙ ap (λ (k : Beside). is_unbelieved k.checks got.path c.args.message.now) held
     ∙ ap (λ (m : Option Message). is_unbelieved (beside_at w c.args.node).checks got.path m) c.requires.message) in
     named_so w _ c.args.node c.checked.result
-    (λ x. checked_so network w c.args.node x got c.args.origin c.args.cost)
-    (λ x. heard_further_so network w c.args.node x got c.args.origin c.args.cost)
+    (λ x. outcome_of_checked network w c.args.node x got c.args.origin c.args.cost)
+    (λ x. outcome_of_further network w c.args.node x got c.args.origin c.args.cost)
     (λ x. further_checked w c.args.node x got c.args.origin c.args.cost c.requires.checks is c.requires.plain) c.checked.ensures

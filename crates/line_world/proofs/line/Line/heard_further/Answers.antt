@@ -4,8 +4,8 @@ use Rattle.std.specs.Option.{option_map}
 use Rattle.mesh_header.specs.declared.unit.Unit.{Unit}
 use Rattle.node_rules.specs.Ciphers.{network}
 use Rattle.reach_rules.specs.Receiving.{NeighbourCommand, command_on}
-use Rattle.line_world.specs.Arrivals.{heard_further_so, hears_so}
-use Rattle.line_world.specs.Arrivals.{heard_so as heard_by_command}
+use Rattle.line_world.specs.Arrivals.{outcome_of_further, outcome_of_hearing}
+use Rattle.line_world.specs.Arrivals.{outcome_of_command as heard_by_command}
 use Rattle.line_world.specs.Lines.{world_of}
 use Rattle.line_world.specs.Reaching.{command_of}
 use Rattle.line_world.specs.declared.nodes.command.CommandRef.{CommandRef}
@@ -22,7 +22,7 @@ returns-in-Some c =
     let is = sym (c.in-Some.ensures ∙ ap (λ (u : Option Unit). command_on c.args.got.now.path u) c.unit_of-unit.ensures) in
     named_so w _ c.args.node c.commanded.result
     (λ x. heard_by_command network w c.args.node x c.args.got.now c.args.origin c.args.cost (Some (command_of c.in-Some.command)))
-    (λ x. heard_further_so network w c.args.node x c.args.got.now c.args.origin c.args.cost)
+    (λ x. outcome_of_further network w c.args.node x c.args.got.now c.args.origin c.args.cost)
     (λ x. further_command w c.args.node x c.args.got.now c.args.origin c.args.cost (command_of c.in-Some.command) is) c.commanded.ensures
 
 pub returns : goal.returns
@@ -30,6 +30,6 @@ returns c =
     let w = world_of c.args.self.now in
     let none = ap (λ (u : Option Unit). command_on c.args.got.now.path u) (sym c.unit_of-unit.ensures) ∙ sym c.in_default.ensures in
     named_so w _ c.args.node c.heard.result
-    (λ x. hears_so network w c.args.node x c.args.got.now c.args.origin c.args.cost)
-    (λ x. heard_further_so network w c.args.node x c.args.got.now c.args.origin c.args.cost)
+    (λ x. outcome_of_hearing network w c.args.node x c.args.got.now c.args.origin c.args.cost)
+    (λ x. outcome_of_further network w c.args.node x c.args.got.now c.args.origin c.args.cost)
     (λ x. further_plain w c.args.node x c.args.got.now c.args.origin c.args.cost c.if-self.false none) c.heard.ensures

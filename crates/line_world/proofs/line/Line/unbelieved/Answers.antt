@@ -3,7 +3,7 @@ use Rattle.std.proofs.Common.{Option, Ok, true, sym, subst}
 use Rattle.std.specs.Prelude.{IfSome}
 use Rattle.node_rules.specs.Ciphers.{network}
 use Rattle.node_rules.specs.Memory.{Node}
-use Rattle.line_world.specs.Arrivals.{unbelieved_so}
+use Rattle.line_world.specs.Arrivals.{outcome_of_unbelieved}
 use Rattle.line_world.specs.Lines.{world_of}
 use Rattle.line_world.specs.Steps.{Steps}
 use Rattle.line_world.proofs.Arrivals.{at_some}
@@ -15,7 +15,7 @@ returns c =
     let w = world_of c.args.self.now in
     let x = at_some w.nodes c.args.node c.requires.there in
     subst (λ (o : Option Node). IfSome o
-    (λ y. Steps true w (Ok c.received.result) (world_of c.received.new.self) (Ok (unbelieved_so network w c.args.node y c.args.origin)))) (sym x.1)
+    (λ y. Steps true w (Ok c.received.result) (world_of c.received.new.self) (Ok (outcome_of_unbelieved network w c.args.node y c.args.origin)))) (sym x.1)
     (was_unbelieved w _ c.args.node x.0 c.args.origin c.clear.new.self c.is_forged-forged.result _ c.requires.bounds c.requires.events c.received.ensures.frames
     c.received.ensures.tags x.1
     c.clear.ensures c.is_forged-forged.ensures c.received.ensures.reported c.received.ensures.world)
