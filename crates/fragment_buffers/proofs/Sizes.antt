@@ -12,7 +12,7 @@ use Rattle.std.proofs.lemmas.List.Sums.{sum_by-cons}
 use Rattle.fragment_buffers.specs.Fragmentation.{pieces_cut, pieces_of, piece_of}
 use Rattle.mesh_header.specs.declared.unit.Unit.{Unit as MeshUnit}
 use Rattle.fragment_buffers.specs.Taking.{blocks}
-use Rattle.fragment_buffers.specs.Loads.{Load, Datagram, Command, load_octets, IsShort, Outgoing, units_of, units_in, all_go}
+use Rattle.fragment_buffers.specs.Loads.{Load, Datagram, Command, load_octets, IsShort, UnsealedUnit, units_of, units_in, all_go}
 use Rattle.fragment_buffers.specs.Waiting.{Body, waits_for, pending_in}
 
 pub length-units_of : (own to : ℕ) (load : Load) → length (units_of own to load) ≡ units_in load
@@ -33,7 +33,7 @@ length-all_go hop note us = length-map us _
 pub leaving_units : (own dest hop : ℕ) (bodies : List Body)
     → length (flat_map (λ b. all_go hop b.note (units_of own b.to b.load)) (filter (waits_for dest) bodies)) ≤ pending_in bodies
 leaving_units own dest hop bodies =
-    let f : Body → List Outgoing = λ b. all_go hop b.note (units_of own b.to b.load) in
+    let f : Body → List UnsealedUnit = λ b. all_go hop b.note (units_of own b.to b.load) in
     let long : (b : Body) → length (f b) ≡ units_in b.load = λ b. length-all_go hop b.note _ ∙ length-units_of own b.to b.load in
     let sum : length (flat_map f (filter (waits_for dest) bodies)) ≡ pending_in (filter (waits_for dest) bodies) =
     length-flat_map f (filter (waits_for dest) bodies) ∙ (λ i. sum_by (λ b. long b i) (filter (waits_for dest) bodies)) in

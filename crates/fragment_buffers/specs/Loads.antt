@@ -64,11 +64,11 @@ units_in (Command octets) = 1
 -- # What goes out
 
 -- A unit on its way out, which is not sealed yet.
-pub record Outgoing : Type 0 where
+pub record UnsealedUnit : Type 0 where
   pub to : ℕ
   pub unit : MeshUnit
   pub note : ℕ
 
 -- each of the units goes to the hop
-abbrev pub all_go : ℕ → ℕ → List MeshUnit → List Outgoing
+abbrev pub all_go : ℕ → ℕ → List MeshUnit → List UnsealedUnit
 all_go hop note units = map (λ unit. record { to = hop; unit = unit; note = note }) units

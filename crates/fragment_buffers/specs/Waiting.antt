@@ -4,7 +4,7 @@ use Rattle.std.specs.List.{filter, flat_map, list_any, sum_by}
 use Rattle.std.specs.Coded.{Coded, code_by, coded×, coded_ℕ}
 use Rattle.plc_base.specs.Times.{is_within}
 use Rattle.fragment_buffers.specs.Taking.{blocks}
-use Rattle.fragment_buffers.specs.Loads.{Load, load_octets, load_code, Outgoing, units_of, units_in, all_go}
+use Rattle.fragment_buffers.specs.Loads.{Load, load_octets, load_code, UnsealedUnit, units_of, units_in, all_go}
 
 -- A body that waits for a route to an address, from a time on.
 pub record Body : Type 0 where
@@ -47,11 +47,11 @@ still_waiting now bodies = filter (λ (b : Body). is_within 30 now b.since) bodi
 -- # Leaving
 
 -- the units of a body for a next hop
-abbrev pub units_by : ℕ → ℕ → Body → List Outgoing
+abbrev pub units_by : ℕ → ℕ → Body → List UnsealedUnit
 units_by own hop b = all_go hop b.note (units_of own b.to b.load)
 
 -- those of the bodies that wait for an address, in their order
-unfoldable pub leaving : ℕ → ℕ → ℕ → List Body → List Outgoing
+unfoldable pub leaving : ℕ → ℕ → ℕ → List Body → List UnsealedUnit
 leaving own dest hop bodies = flat_map (units_by own hop) (filter (waits_for dest) bodies)
 
 -- how many units the bodies are

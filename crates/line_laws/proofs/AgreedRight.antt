@@ -60,7 +60,7 @@ use Rattle.line_rules.specs.Worlds.{Pairing, Trace, World, start}
 use Rattle.line_laws.specs.AgreedRight.{EveryAgreementIsSaid, Fourth, HasTag, IsAgreedRight, IsDoneUnder, IsTakenUnder, SaysFourth, SaysThird, Third}
 use Rattle.line_laws.specs.Keyed.{Among, Here, Later}
 use Rattle.line_laws.specs.Owed.{KeepsRanges}
-use Rattle.node_rules.specs.Drafts.{Outgoing}
+use Rattle.node_rules.specs.Drafts.{UnsealedUnit}
 use Rattle.pan_discovery.specs.declared.message.Discovery.{Discovery}
 use Rattle.line_laws.proofs.FurtherForms.{AnyUnits}
 use Rattle.line_laws.proofs.FurtherSame.{AnyDiscovery, OldStep, line_step_any}
@@ -368,7 +368,7 @@ module _ (ciphers : Ciphers) (w : World) where
     done = rw (done, opened) h.done;
   }
 
-  line_says : (U : List Outgoing → Type 0) (D : Discovery → Type 0) (event : Event) (s : Step) → IsLineStepBy (OldStep ciphers w) U D ciphers w event s
+  line_says : (U : List UnsealedUnit → Type 0) (D : Discovery → Type 0) (event : Event) (s : Step) → IsLineStepBy (OldStep ciphers w) U D ciphers w event s
       → SaysIn s
   line_says U D event s (Known e z old) = step_says event s old.is
   line_says U D event s (Opens begun) = of_none _ refl refl

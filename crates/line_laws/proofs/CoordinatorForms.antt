@@ -356,7 +356,7 @@ module _ (W : RingWord → Type 0) (P : Eui → Key → Type 0) (E : Eui → Typ
       by_change true = refl
       by_change false = refl
 
-  no_units : (units : List drafts.Outgoing) (n : ℕ) → units ≡ [] → length units ≤ n
+  no_units : (units : List drafts.UnsealedUnit) (n : ℕ) → units ≡ [] → length units ≤ n
   no_units units n e = rw e (omega arith)
 
   abbrev entry_after : Eui → Key → BookEntry

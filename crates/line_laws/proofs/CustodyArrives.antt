@@ -29,7 +29,7 @@ use Rattle.line_rules.specs.Steps.{identity, hearing_step, note_by, world_after,
 use Rattle.line_rules.specs.Worlds.{Trace, World}
 use Rattle.line_events.specs.declared.happenings.Handed.{Handed}
 use Rattle.node_rules.specs.Ciphers.{OpensWhatItSeals}
-use Rattle.line_laws.specs.Letters.{AreFlights}
+use Rattle.line_laws.specs.SealedUnits.{AreFlights}
 use Rattle.line_laws.specs.Sends.{SentAs, UnitIsOf, UpIsOf}
 use Rattle.line_laws.proofs.StoreMarks.{Accepts, Turned, Plain, Marked, accept_is}
 use Rattle.line_laws.proofs.NodeCalls.{heard_given}
@@ -39,7 +39,7 @@ use Rattle.line_laws.proofs.CustodyWhole.{OneSend}
 use Rattle.line_laws.proofs.CustodyWorld.{unit_back}
 use Rattle.line_laws.proofs.CustodyTaking.{TakesHome, taking_true}
 use Rattle.line_laws.proofs.CustodyDeliver.{WhatCame, PlainCame, LetterCame, opening}
-use Rattle.line_laws.proofs.CustodyTrue.{SentIsOf, StationIsTrue, PlanIsTrue, AnswerIsOf, MeterUpIsOf, CoordinatorUpIsOf, HearsTrue, letter_true, plain_true}
+use Rattle.line_laws.proofs.CustodyTrue.{SentIsOf, StationIsTrue, PlanIsTrue, AnswerIsOf, MeterUpIsOf, CoordinatorUpIsOf, HearsTrue, sealed_unit_true, plain_true}
 use Rattle.line_laws.proofs.CustodyTrue.{coordinator_hears_true, DidTrue, acts_true}
 pub use Rattle.line_laws.specs.InCustody.{FlightIsOf, NodeTrue}
 
@@ -117,7 +117,7 @@ module _ (ciphers : Ciphers) (opens : OpensWhatItSeals ciphers) (S : ℕ → Sen
   flies_true (Sealed l) fits h = record {
     unit = λ u e.
         let back = unit_back ciphers opens (flight_by number (spelled ciphers (Sealed l))) l.key refl
-        (record { letter = l; fits = fits; key_is = refl; octets = refl; note = refl }) in
+        (record { sealed_unit = l; fits = fits; key_is = refl; octets = refl; note = refl }) in
         subst (UnitIsOf S l.note) (same_Some l.unit u (sym back ∙ e)) h;
   }
   flies_true (UpFrame agent from message) fits h = record { unit = λ u e. absurd (none-some u e) }
@@ -156,7 +156,7 @@ module _ (ciphers : Ciphers) (opens : OpensWhatItSeals ciphers) (S : ℕ → Sen
       (get_or_from_slice_get w.flights origin.place origin.flight origin.flight origin.there)
       (of origin.place origin.flight (slice_get_within w.flights origin.place origin.flight origin.there)) in
       subst (λ (k : ℕ). HearsTrue S (heard_given got cost k w.clock)) origin.heard
-      (letter_true S l fits (subst (λ (k : ℕ). UnitIsOf S k l.unit) origin.note (f.unit l.unit origin.unit)) from counter got is cost w.clock)
+      (sealed_unit_true S l fits (subst (λ (k : ℕ). UnitIsOf S k l.unit) origin.note (f.unit l.unit origin.unit)) from counter got is cost w.clock)
 
   -- What an arrival leaves is of the sends, and so is what it hands up.
   pub record LeavesTrue (v : World) (d : Trace) : Type 0 where

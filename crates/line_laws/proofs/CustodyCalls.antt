@@ -18,7 +18,7 @@ use Rattle.node_rules.specs.declared.heard.CoordinatorHeard.TheVariants as coord
 use Rattle.node_rules.specs.declared.heard.SentHow.{SentHow}
 use Rattle.node_rules.specs.declared.refusal.FrameRefusal.{FrameRefusal}
 use Rattle.node_rules.specs.declared.refusal.SendRefusal.{SendRefusal}
-use Rattle.node_rules.specs.Frames.{Letter, Arrived}
+use Rattle.node_rules.specs.Frames.{SealedUnit, Arrived}
 use Rattle.node_rules.specs.Memory.{StationMemory, Memory, Load, Datagram, Command, Body}
 use Rattle.node_rules.specs.Plans.{Plan, resting}
 use Rattle.node_rules.specs.Accepting.{Accepting, accept, marking}
@@ -31,8 +31,8 @@ use Rattle.node_rules.specs.Drafts.{alone, empty_draft}
 use Rattle.node_rules.specs.MemoryDrafts.{in_memory}
 use Rattle.node_rules.specs.NodeSteps.{of_station}
 use Rattle.node_rules.proofs.MemoryDraftShapes.{whole}
-use Rattle.line_laws.specs.Letters.{IsLetter}
-use Rattle.line_laws.specs.Custody.{weigh, below, content_is, load_is, body_is, letter_is, held_is, up_is, keeps}
+use Rattle.line_laws.specs.SealedUnits.{IsSealedUnit}
+use Rattle.line_laws.specs.Custody.{weigh, below, content_is, load_is, body_is, sealed_unit_is, held_is, up_is, keeps}
 use Rattle.line_laws.proofs.Planned.{Planned, Refuses, Keeps, Ended}
 use Rattle.line_laws.proofs.LetterAccepts.{IsOfLetter}
 use Rattle.line_laws.proofs.Made.{Given, IsCome, RingWord, Carry, Draw, Activate, Made}
@@ -97,12 +97,12 @@ pub record Comes (g : Given) (n i brought : ℕ) : Type 0 where
   pub comes : (by : ℕ) (u : MeshUnit) → IsCome g by false u → weigh n g.note (content_is i u) ≤ brought
 
 -- what comes of a letter is the letter's weight
-pub letter_comes : (l : Letter) (fits : IsLetter l) (from counter : ℕ) (got : Accepted) (is : IsOfLetter l from counter got) (cost now n i : ℕ)
-    → Comes (heard_given got cost l.note now) n i (letter_is n i l)
-letter_comes l fits from counter got is cost now n i = record {
+pub sealed_unit_comes : (l : SealedUnit) (fits : IsSealedUnit l) (from counter : ℕ) (got : Accepted) (is : IsOfLetter l from counter got) (cost now n i : ℕ)
+    → Comes (heard_given got cost l.note now) n i (sealed_unit_is n i l)
+sealed_unit_comes l fits from counter got is cost now n i = record {
   comes = λ by u c.
       let same : content_is i u ≡ content_is i l.unit = ap (content_is i) (comes_of l fits from counter got is cost l.note now by false u c).1 in
-      let more : weigh n l.note (content_is i u) ≡ letter_is n i l = ap (weigh n l.note) same in
+      let more : weigh n l.note (content_is i u) ≡ sealed_unit_is n i l = ap (weigh n l.note) same in
       omega arith;
 }
 

@@ -24,7 +24,7 @@ use Rattle.node_rules.specs.declared.refusal.Dropped.TheVariants as drops
 use Rattle.node_rules.specs.declared.refusal.FrameRefusal.{FrameRefusal}
 use Rattle.node_rules.specs.declared.refusal.FrameRefusal.TheVariants as frames
 use Rattle.node_rules.specs.Ciphers.{Ciphers}
-use Rattle.node_rules.specs.Frames.{Letter, arrived, to_all}
+use Rattle.node_rules.specs.Frames.{SealedUnit, arrived, to_all}
 use Rattle.node_rules.specs.Memory.{Memory, Node, Role, Coordinator, Meter}
 use Rattle.node_rules.specs.Plans.{Plan, carry_out, resting}
 use Rattle.node_rules.specs.Accepting.{Accepting, accept, marking}
@@ -38,14 +38,14 @@ use Rattle.line_rules.specs.Worlds.{Flight, Trace, World, has_octets, note_of, i
 use Rattle.line_events.specs.declared.happenings.Handed.{Handed}
 use Rattle.node_rules.proofs.Writing.{clean}
 use Rattle.node_rules.specs.Ciphers.{OpensWhatItSeals}
-use Rattle.line_laws.specs.Letters.{IsLetter, SpellsLetter, IsFlight, AreFlights}
-use Rattle.line_laws.specs.Custody.{weigh, below, letter_is, up_is}
+use Rattle.line_laws.specs.SealedUnits.{IsSealedUnit, SpellsSealedUnit, IsFlight, AreFlights}
+use Rattle.line_laws.specs.Custody.{weigh, below, sealed_unit_is, up_is}
 use Rattle.line_laws.specs.Places.{node_keeps, unit_of, flight_is, handed_is, issued, IsInCustody, LiveFalls, first_place, opened_by, opened_at}
-use Rattle.line_laws.proofs.LetterAccepts.{IsOfLetter, accepts_letter}
+use Rattle.line_laws.proofs.LetterAccepts.{IsOfLetter, accepts_sealed_unit}
 use Rattle.line_laws.proofs.StoreMarks.{IsAdmitted, IsPlain, Accepts, Turned, Plain, Marked, accept_is}
 use Rattle.line_laws.proofs.NodeCalls.{heard_given}
 use Rattle.line_laws.proofs.CustodyPlans.{Agrees, up_by, DidKeep, acts_kept}
-use Rattle.line_laws.proofs.CustodyCalls.{meter_up, coordinator_up, Comes, letter_comes, plain_comes, meter_hears_kept, coordinator_hears_kept, accept_kept}
+use Rattle.line_laws.proofs.CustodyCalls.{meter_up, coordinator_up, Comes, sealed_unit_comes, plain_comes, meter_hears_kept, coordinator_hears_kept, accept_kept}
 use Rattle.line_laws.proofs.CustodyWorld.{unit_back, flight_weighs, opened_is, sent_flies, custody_after}
 use Rattle.line_laws.proofs.RangeFrames.{IsSent}
 
@@ -156,7 +156,7 @@ module _ (ciphers : Ciphers) (opens : OpensWhatItSeals ciphers) (w : World) (are
   accepting = acts x (Err frames.Halted) (λ m. of_station m (accept m.station x.eui (arrived ciphers octets)))
 
   -- The flight of a letter: its unit and its note are the letter's, and the note is the one that the frame is heard under.
-  pub record FromFlight (got : Accepted) (l : Letter) : Type 0 where
+  pub record FromFlight (got : Accepted) (l : SealedUnit) : Type 0 where
     pub place : ℕ
     pub flight : Flight
     pub there : slice_get w.flights place ≡ Some flight
@@ -167,7 +167,7 @@ module _ (ciphers : Ciphers) (opens : OpensWhatItSeals ciphers) (w : World) (are
   -- what was accepted: a plain frame, or what a letter was spelled as
   pub data WhatCame (got : Accepted) : Type 0 where
     PlainCame : IsPlain got.path → WhatCame got
-    LetterCame : (l : Letter) → IsLetter l → (from counter : ℕ) → IsOfLetter l from counter got → FromFlight got l → WhatCame got
+    LetterCame : (l : SealedUnit) → IsSealedUnit l → (from counter : ℕ) → IsOfLetter l from counter got → FromFlight got l → WhatCame got
 
   -- What was opened, and what it brings.
   pub record Opening (got : Accepted) : Type 0 where
@@ -180,9 +180,9 @@ module _ (ciphers : Ciphers) (opens : OpensWhatItSeals ciphers) (w : World) (are
   of_plain got plain =
       record { what = PlainCame plain; brought = 0; weight = zero-le; comes = plain_comes got cost (note_by w octets got.path) w.clock n i plain }
 
-  of_letter : (m : Memory) (from counter : ℕ) (got : Accepted) → IsAdmitted m.station (arrived ciphers octets) from counter got
+  of_sealed_unit : (m : Memory) (from counter : ℕ) (got : Accepted) → IsAdmitted m.station (arrived ciphers octets) from counter got
       → forged_by w octets got.path ≡ false → Opening got
-  of_letter m from counter got a unforged = by_all (a.to == to_all) (ap (λ (g : Accepted). g.path) a.got_is)
+  of_sealed_unit m from counter got a unforged = by_all (a.to == to_all) (ap (λ (g : Accepted). g.path) a.got_is)
     where
       all_of : Path → Bool
       all_of (paths.Sealed from all key) = all
@@ -203,13 +203,13 @@ module _ (ciphers : Ciphers) (opens : OpensWhatItSeals ciphers) (w : World) (are
           let f = flown w.flights octets a.key (ap (forged_by w octets) (sym path) ∙ unforged) in
           let is : IsFlight ciphers f.flight = subst (IsFlight ciphers) (get_or_from_slice_get w.flights f.place f.flight f.flight f.there)
           (are f.place f.flight (slice_get_within w.flights f.place f.flight f.there)) in
-          let s : SpellsLetter ciphers f.flight a.key = is.sealed a.key f.key_is in
-          let of = accepts_letter ciphers opens s.letter s.fits m.station octets (sym f.octets_are ∙ s.octets) from counter got a (sym s.key_is) in
-          let note : s.letter.note ≡ note_by w octets got.path = sym s.note ∙ sym f.note ∙ ap (note_by w octets) (sym path) in
-          let same : flight_is ciphers n i f.flight ≡ letter_is n i s.letter = flight_weighs ciphers opens n i f.flight a.key f.key_is s in
+          let s : SpellsSealedUnit ciphers f.flight a.key = is.sealed a.key f.key_is in
+          let of = accepts_sealed_unit ciphers opens s.sealed_unit s.fits m.station octets (sym f.octets_are ∙ s.octets) from counter got a (sym s.key_is) in
+          let note : s.sealed_unit.note ≡ note_by w octets got.path = sym s.note ∙ sym f.note ∙ ap (note_by w octets) (sym path) in
+          let same : flight_is ciphers n i f.flight ≡ sealed_unit_is n i s.sealed_unit = flight_weighs ciphers opens n i f.flight a.key f.key_is s in
           let there : opened_is ciphers n i w.flights (Some f.place)
           ≡ flight_is ciphers n i f.flight = ap (λ (o : Option Flight). option_map_or (flight_is ciphers n i) o 0) f.there in
-          let what : WhatCame got = LetterCame s.letter s.fits from counter of
+          let what : WhatCame got = LetterCame s.sealed_unit s.fits from counter of
           (record {
             place = f.place;
             flight = f.flight;
@@ -218,12 +218,12 @@ module _ (ciphers : Ciphers) (opens : OpensWhatItSeals ciphers) (w : World) (are
             note = s.note;
             heard = note;
           }) in
-          let one : letter_is n i s.letter ≤ opened_is ciphers n i w.flights (first_place w.flights octets a.key) = subst
-          (λ (o : Option ℕ). letter_is n i s.letter ≤ opened_is ciphers n i w.flights o) (sym f.at) (omega arith) in
-          let comes : Comes (heard_given got cost (note_by w octets got.path) w.clock) n i (letter_is n i s.letter) = subst
-          (λ (k : ℕ). Comes (heard_given got cost k w.clock) n i (letter_is n i s.letter)) note
-          (letter_comes s.letter s.fits from counter got of cost w.clock n i) in
-          opens_to b path what (letter_is n i s.letter) one comes
+          let one : sealed_unit_is n i s.sealed_unit ≤ opened_is ciphers n i w.flights (first_place w.flights octets a.key) = subst
+          (λ (o : Option ℕ). sealed_unit_is n i s.sealed_unit ≤ opened_is ciphers n i w.flights o) (sym f.at) (omega arith) in
+          let comes : Comes (heard_given got cost (note_by w octets got.path) w.clock) n i (sealed_unit_is n i s.sealed_unit) = subst
+          (λ (k : ℕ). Comes (heard_given got cost k w.clock) n i (sealed_unit_is n i s.sealed_unit)) note
+          (sealed_unit_comes s.sealed_unit s.fits from counter got of cost w.clock n i) in
+          opens_to b path what (sealed_unit_is n i s.sealed_unit) one comes
         where
           opens_to : (b : Bool) → got.path ≡ paths.Sealed from b a.key → WhatCame got → (brought : ℕ)
               → brought ≤ opened_is ciphers n i w.flights (first_place w.flights octets a.key)
@@ -244,7 +244,7 @@ module _ (ciphers : Ciphers) (opens : OpensWhatItSeals ciphers) (w : World) (are
   opening_of m got p (Turned reason) e unforged = absurd (err_ok reason got e)
   opening_of m got p (Plain g plain) e unforged = let same : g ≡ got = cc in subst Opening same (of_plain g plain.path)
   opening_of m got p (Marked from counter g a) e unforged =
-      let same : g ≡ got = cc in of_letter m from counter got (subst (IsAdmitted m.station (arrived ciphers octets) from counter) same a) unforged
+      let same : g ≡ got = cc in of_sealed_unit m from counter got (subst (IsAdmitted m.station (arrived ciphers octets) from counter) same a) unforged
 
   failed_store : (m : Memory) → (of_station m (accept m.station x.eui (arrived ciphers octets))).failed ≡ Err frames.Store
   unfolding resting marking

@@ -18,7 +18,7 @@ use Rattle.node_rules.specs.declared.heard.Heard.TheVariants as heard
 use Rattle.node_rules.specs.Frames.{Sent, Sealed, Up, Down}
 use Rattle.node_rules.specs.Memory.{StationMemory, Memory, Node}
 use Rattle.node_rules.specs.Plans.{Plan, carry_out, resting}
-use Rattle.node_rules.specs.Drafts.{Draft, Ends, Outgoing, empty_draft, letters, sealed_by, sealing_key, with_rank, with_own_number, with_next_tag, with_ring}
+use Rattle.node_rules.specs.Drafts.{Draft, Ends, UnsealedUnit, empty_draft, sealed_units, sealed_by, sealing_key, with_rank, with_own_number, with_next_tag, with_ring}
 use Rattle.node_rules.specs.Drafts.{with_routing_by, goes, body_goes, waits, leave}
 use Rattle.node_rules.specs.MemoryDrafts.{in_memory, on_station, station_part, with_memory_by, with_pair_tags, goes_up, goes_down}
 use Rattle.node_rules.specs.Coordinators.{with_book_entry}
@@ -105,20 +105,20 @@ plain_of W g L P E n i m d (DownIn own message e made) =
 
 -- # Letters
 
-letters_sum : (n i : ℕ) (g : Granted) (key : Key) (first : ℕ) (us : List Outgoing) → sum_by (sent_is n i) (letters g key first us) ≡ sum_by (out_is n i) us
-letters_sum n i g key first [] = refl
-letters_sum n i g key first (o ∷ us) =
+sealed_units_sum : (n i : ℕ) (g : Granted) (key : Key) (first : ℕ) (us : List UnsealedUnit) → sum_by (sent_is n i) (sealed_units g key first us) ≡ sum_by (out_is n i) us
+sealed_units_sum n i g key first [] = refl
+sealed_units_sum n i g key first (o ∷ us) =
     let one : Sent = Sealed (record { to = o.to; from = g.address; counter = first; index = g.active; key = key; unit = o.unit; note = o.note }) in
-    sum_by-cons (sent_is n i) one (letters g key (first + 1) us) ∙ ap (λ k. out_is n i o + k) (letters_sum n i g key (first + 1) us)
+    sum_by-cons (sent_is n i) one (sealed_units g key (first + 1) us) ∙ ap (λ k. out_is n i o + k) (sealed_units_sum n i g key (first + 1) us)
     ∙ sym (sum_by-cons (out_is n i) o us)
 
-sealed_sum : (n i : ℕ) (r : ring.Ring) (first : ℕ) (us : List Outgoing) → sum_by (sent_is n i) (sealed_by r first us) ≤ sum_by (out_is n i) us
+sealed_sum : (n i : ℕ) (r : ring.Ring) (first : ℕ) (us : List UnsealedUnit) → sum_by (sent_is n i) (sealed_by r first us) ≤ sum_by (out_is n i) us
 sealed_sum n i None first us = zero-le
 sealed_sum n i (Some g) first us = by_key (sealing_key g)
   where
-    by_key : (key : Option Key) → sum_by (sent_is n i) (option_map_or (λ k. letters g k first us) key []) ≤ sum_by (out_is n i) us
+    by_key : (key : Option Key) → sum_by (sent_is n i) (option_map_or (λ k. sealed_units g k first us) key []) ≤ sum_by (out_is n i) us
     by_key None = zero-le
-    by_key (Some key) = let same = letters_sum n i g key first us in omega arith
+    by_key (Some key) = let same = sealed_units_sum n i g key first us in omega arith
 
 -- # Plans
 

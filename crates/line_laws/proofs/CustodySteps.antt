@@ -40,7 +40,7 @@ use Rattle.line_rules.specs.Forgery.{Comes, OfFlight, OfScript}
 use Rattle.line_rules.specs.Steps.{Step, set_up, running_world, world_after, flights_of, made_node, blank_node, psk_of, ticked, node_outcome, sending, sent_if, is_taken, tag_of}
 use Rattle.line_rules.specs.Steps.{offered_near, identity, restarts, memory_by}
 use Rattle.line_rules.specs.Worlds.{World, Flight, Sending, node_at, flight_at}
-use Rattle.line_laws.specs.Letters.{IsFlight, AreFlights}
+use Rattle.line_laws.specs.SealedUnits.{IsFlight, AreFlights}
 use Rattle.line_laws.specs.Owed.{KeepsRanges}
 use Rattle.line_laws.specs.Places.{node_keeps, flight_is, live_is, places, issued, IsInCustody, OneNode, LiveFalls}
 use Rattle.line_laws.specs.Ranges.{IsStationRanged, IsBody, HasHop}
@@ -462,7 +462,7 @@ module _ (ciphers : Ciphers) (opens : OpensWhatItSeals ciphers) (fits : KeepsRan
         flights = All-set (IsFlight ciphers) w.flights (number - 1) g
             (record {
               sealed = λ key e. let s = is.sealed key e in
-                  record { letter = s.letter; fits = s.fits; key_is = s.key_is; octets = s.octets; note = s.note };
+                  record { sealed_unit = s.sealed_unit; fits = s.fits; key_is = s.key_is; octets = s.octets; note = s.note };
               plain = is.plain;
             }) c.flights;
         ranged = c.ranged;

@@ -20,10 +20,10 @@ use Rattle.line_laws.proofs.StoreMarks.{IsPlain}
 use Rattle.line_laws.proofs.CoordinatorForms as coordinator
 use Rattle.line_laws.proofs.CustodyCalls.{CoordinatorWord, Says, AnyEui, AnyPair}
 use Rattle.node_rules.specs.declared.heard.Accepted.{Accepted}
-use Rattle.node_rules.specs.Frames.{Letter, Sent, Sealed, Up, Down}
+use Rattle.node_rules.specs.Frames.{SealedUnit, Sent, Sealed, Up, Down}
 use Rattle.node_rules.specs.Memory.{StationMemory, Memory, Node, Load, address_of}
 use Rattle.node_rules.specs.Plans.{Plan, carry_out, resting}
-use Rattle.node_rules.specs.Drafts.{Draft, Ends, Outgoing, empty_draft, letters, sealed_by, sealing_key, with_rank, with_own_number, with_next_tag, with_ring}
+use Rattle.node_rules.specs.Drafts.{Draft, Ends, UnsealedUnit, empty_draft, sealed_units, sealed_by, sealing_key, with_rank, with_own_number, with_next_tag, with_ring}
 use Rattle.node_rules.specs.Drafts.{with_routing_by, goes, body_goes, waits, leave}
 use Rattle.node_rules.specs.MemoryDrafts.{in_memory, on_station, station_part, with_memory_by, with_pair_tags, goes_up, goes_down}
 use Rattle.node_rules.specs.Coordinators.{with_book_entry}
@@ -32,7 +32,7 @@ use Rattle.node_rules.specs.Meters as meters
 use Rattle.node_rules.specs.Laws.{IsWhole, IsCutOff}
 use Rattle.node_rules.specs.NodeSteps.{NodeStep, acts, stays, left_by}
 use Rattle.node_rules.proofs.Writing.{clean}
-use Rattle.line_laws.specs.Letters.{IsLetter}
+use Rattle.line_laws.specs.SealedUnits.{IsSealedUnit}
 use Rattle.line_laws.specs.Sends.{SentAs, UnitIsOf, LoadIsOf, OutIsOf, HeldIsOf, UpIsOf}
 use Rattle.line_laws.proofs.Planned.{Planned, Refuses, Keeps, Ended}
 use Rattle.line_laws.proofs.LetterAccepts.{IsOfLetter}
@@ -122,20 +122,20 @@ module _ (S : ℕ → SentAs → Type 0) (own : ℕ) where
 
   -- # Letters
 
-  letters_of : (g : Granted) (key : Key) (first : ℕ) (us : List Outgoing) → All (OutIsOf S) us → All (SentIsOf S) (letters g key first us)
-  letters_of g key first [] all = All-nil (SentIsOf S)
-  letters_of g key first (o ∷ us) all =
+  sealed_units_of : (g : Granted) (key : Key) (first : ℕ) (us : List UnsealedUnit) → All (OutIsOf S) us → All (SentIsOf S) (sealed_units g key first us)
+  sealed_units_of g key first [] all = All-nil (SentIsOf S)
+  sealed_units_of g key first (o ∷ us) all =
       let one : Sent = Sealed (record { to = o.to; from = g.address; counter = first; index = g.active; key = key; unit = o.unit; note = o.note }) in
-      All-cons (SentIsOf S) one (letters g key (first + 1) us) (All-head (OutIsOf S) o us all).unit
-      (letters_of g key (first + 1) us (All-tail (OutIsOf S) o us all))
+      All-cons (SentIsOf S) one (sealed_units g key (first + 1) us) (All-head (OutIsOf S) o us all).unit
+      (sealed_units_of g key (first + 1) us (All-tail (OutIsOf S) o us all))
 
-  sealed_of : (r : ring.Ring) (first : ℕ) (us : List Outgoing) → All (OutIsOf S) us → All (SentIsOf S) (sealed_by r first us)
+  sealed_of : (r : ring.Ring) (first : ℕ) (us : List UnsealedUnit) → All (OutIsOf S) us → All (SentIsOf S) (sealed_by r first us)
   sealed_of None first us all = All-nil (SentIsOf S)
   sealed_of (Some g) first us all = by_key (sealing_key g)
     where
-      by_key : (key : Option Key) → All (SentIsOf S) (option_map_or (λ k. letters g k first us) key [])
+      by_key : (key : Option Key) → All (SentIsOf S) (option_map_or (λ k. sealed_units g k first us) key [])
       by_key None = All-nil (SentIsOf S)
-      by_key (Some key) = letters_of g key first us all
+      by_key (Some key) = sealed_units_of g key first us all
 
   plain_of : (fs : List Sent) → All IsPlainFrame fs → All (SentIsOf S) fs
   plain_of [] all = All-nil (SentIsOf S)
@@ -207,9 +207,9 @@ pub record KeepsAddress (own : ℕ) (g : Given) (x : meters.Identity) (m : Memor
 pub record HearsTrue (S : ℕ → SentAs → Type 0) (g : Given) : Type 0 where
   pub comes : (by : ℕ) (u : MeshUnit) → IsCome g by false u → UnitIsOf S g.note u
 
-pub letter_true : (S : ℕ → SentAs → Type 0) (l : Letter) (fits : IsLetter l) → (UnitIsOf S l.note l.unit)
+pub sealed_unit_true : (S : ℕ → SentAs → Type 0) (l : SealedUnit) (fits : IsSealedUnit l) → (UnitIsOf S l.note l.unit)
     → (from counter : ℕ) (got : Accepted) (is : IsOfLetter l from counter got) (cost now : ℕ) → HearsTrue S (heard_given got cost l.note now)
-letter_true S l fits is_of from counter got is cost now =
+sealed_unit_true S l fits is_of from counter got is cost now =
     record { comes = λ by u c. subst (UnitIsOf S l.note) (sym (comes_of l fits from counter got is cost l.note now by false u c).1) is_of }
 
 pub plain_true : (S : ℕ → SentAs → Type 0) (got : Accepted) (cost note now : ℕ) → IsPlain got.path → HearsTrue S (heard_given got cost note now)

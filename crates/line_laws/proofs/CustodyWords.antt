@@ -12,7 +12,7 @@ use Rattle.mesh_header.specs.declared.unit.Unit.{Unit as MeshUnit}
 use Rattle.mesh_header.specs.declared.unit.Unit.TheVariants as units
 use Rattle.fragment_buffers.specs.Fragmentation.{piece_of, pieces_cut}
 use Rattle.node_rules.specs.Memory.{StationMemory, Body, Load, Datagram, Command}
-use Rattle.node_rules.specs.Drafts.{Draft, Outgoing, own_mesh, units_of, all_go, waits_for, with_rank, with_own_number, with_next_tag, with_ring}
+use Rattle.node_rules.specs.Drafts.{Draft, UnsealedUnit, own_mesh, units_of, all_go, waits_for, with_rank, with_own_number, with_next_tag, with_ring}
 use Rattle.node_rules.specs.Drafts.{with_routing_by, goes, body_goes, waits, leave}
 use Rattle.line_laws.specs.Custody.{weigh, below, covers, content_is, load_is, out_is, body_is}
 use Rattle.line_laws.proofs.Made.{Given, IsCome, IsLess, Whole, Part, Carried, RingWord, Carry, AreUnnoted, IsAlone, Unnoted, Alone, IsSaid, Seeks, Answers}
@@ -105,7 +105,7 @@ bodies_out n i own hop (b ∷ bodies) =
 no_note : (n k : ℕ) → 0 < n → weigh n 0 k ≡ 0
 no_note n k h = grind (arith, nat_tests)
 
-unnoted_sum : (n i : ℕ) (us : List Outgoing) → 0 < n → AreUnnoted us → sum_by (out_is n i) us ≡ 0
+unnoted_sum : (n i : ℕ) (us : List UnsealedUnit) → 0 < n → AreUnnoted us → sum_by (out_is n i) us ≡ 0
 unnoted_sum n i [] some h = refl
 unnoted_sum n i (o ∷ us) some h = sum_by-cons (out_is n i) o us ∙ (λ j. weigh n (h.0 j) (content_is i o.unit) + unnoted_sum n i us some h.1 j)
     ∙ omega (arith, no_note n (content_is i o.unit) some)

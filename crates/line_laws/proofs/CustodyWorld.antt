@@ -19,10 +19,10 @@ use Rattle.line_rules.specs.Worlds.{Flight, World}
 use Rattle.line_events.specs.declared.happenings.Handed.{Handed}
 use Rattle.line_rules.specs.Steps.{flight_by}
 use Rattle.node_rules.specs.Ciphers.{OpensWhatItSeals}
-use Rattle.line_laws.specs.Letters.{SpellsLetter}
-use Rattle.line_laws.specs.Custody.{weigh, below, content_is, letter_is, sent_is, keeps}
+use Rattle.line_laws.specs.SealedUnits.{SpellsSealedUnit}
+use Rattle.line_laws.specs.Custody.{weigh, below, content_is, sealed_unit_is, sent_is, keeps}
 use Rattle.line_laws.specs.Places.{node_keeps, unit_of, flight_is, handed_is, live_is, places, issued, IsInCustody, OneNode, LiveFalls}
-use Rattle.line_laws.proofs.LetterSeals.{letter_arrives, letter_opens, letter_unit}
+use Rattle.line_laws.proofs.LetterSeals.{sealed_unit_arrives, sealed_unit_opens, sealed_unit_unit}
 use Rattle.line_laws.proofs.RangeFrames.{IsSent}
 use Rattle.line_laws.proofs.CustodyCalls.{zero_weight}
 
@@ -30,19 +30,19 @@ use Rattle.line_laws.proofs.CustodyCalls.{zero_weight}
 
 module _ (ciphers : Ciphers) (opens : OpensWhatItSeals ciphers) where
   -- the unit of a letter's flight is the letter's
-  pub unit_back : (f : Flight) (key : Key) → f.key ≡ Some key → (s : SpellsLetter ciphers f key) → unit_of ciphers f ≡ Some s.letter.unit
+  pub unit_back : (f : Flight) (key : Key) → f.key ≡ Some key → (s : SpellsSealedUnit ciphers f key) → unit_of ciphers f ≡ Some s.sealed_unit.unit
   unit_back f key e s =
-      let came : Arrived = arrived_with ciphers (head_of s.letter) (header (head_of s.letter))
-      (ciphers.seals s.letter.key (head_of s.letter) (spelling s.letter.unit)) in
+      let came : Arrived = arrived_with ciphers (head_of s.sealed_unit) (header (head_of s.sealed_unit))
+      (ciphers.seals s.sealed_unit.key (head_of s.sealed_unit) (spelling s.sealed_unit.unit)) in
       ap (option_and_then (λ (k : Key). option_and_then (λ (a : Arrived). option_and_then unit_in (a.opened k)) (arrived ciphers f.octets))) e
       ∙ ap (option_and_then (λ (a : Arrived). option_and_then unit_in (a.opened key)))
-      (ap (arrived ciphers) s.octets ∙ letter_arrives ciphers opens s.letter s.fits)
+      (ap (arrived ciphers) s.octets ∙ sealed_unit_arrives ciphers opens s.sealed_unit s.fits)
       ∙ ap (λ (k : Key). option_and_then unit_in (came.opened k)) (sym s.key_is)
-      ∙ ap (option_and_then unit_in) (letter_opens ciphers opens s.letter s.fits)
-      ∙ letter_unit ciphers opens s.letter s.fits
+      ∙ ap (option_and_then unit_in) (sealed_unit_opens ciphers opens s.sealed_unit s.fits)
+      ∙ sealed_unit_unit ciphers opens s.sealed_unit s.fits
 
-  pub flight_weighs : (n i : ℕ) (f : Flight) (key : Key) → f.key ≡ Some key → (s : SpellsLetter ciphers f key)
-      → flight_is ciphers n i f ≡ letter_is n i s.letter
+  pub flight_weighs : (n i : ℕ) (f : Flight) (key : Key) → f.key ≡ Some key → (s : SpellsSealedUnit ciphers f key)
+      → flight_is ciphers n i f ≡ sealed_unit_is n i s.sealed_unit
   flight_weighs n i f key e s = (λ j. weigh n (s.note j) (option_map_or (content_is i) (unit_back f key e s j) 0))
 
   -- what a node sends flies with the same weight
@@ -50,7 +50,7 @@ module _ (ciphers : Ciphers) (opens : OpensWhatItSeals ciphers) where
   unfolding spelled
   one_flies n i number (Sealed l) h =
       let same = flight_weighs n i (flight_by number (spelled ciphers (Sealed l))) l.key refl
-      (record { letter = l; fits = h; key_is = refl; octets = refl; note = refl }) in omega arith
+      (record { sealed_unit = l; fits = h; key_is = refl; octets = refl; note = refl }) in omega arith
   one_flies n i number (Up agent from message) h = zero_weight n 0
   one_flies n i number (Down from message) h = zero_weight n 0
 

@@ -25,7 +25,7 @@ use Rattle.node_rules.specs.Accepting.{accept}
 use Rattle.node_rules.specs.Calls as calls
 use Rattle.node_rules.specs.Ciphers.{network}
 use Rattle.node_rules.specs.Coordinators as coordinator_rules
-use Rattle.node_rules.specs.Frames.{Arrived, Letter, Sent, Sealed, Up, Down, arrived, arrived_with, head_of, spelled}
+use Rattle.node_rules.specs.Frames.{Arrived, SealedUnit, Sent, Sealed, Up, Down, arrived, arrived_with, head_of, spelled}
 use Rattle.node_rules.specs.Memory.{Memory, Node}
 use Rattle.node_rules.specs.MemoryDrafts.{with_station}
 use Rattle.node_rules.specs.Meters as meters
@@ -42,12 +42,12 @@ use Rattle.line_rules.specs.Further.{discovery_flight}
 use Rattle.line_rules.specs.Steps.{Step, node_outcome, flight_by, flights_of, forged_by, hearing_outcome, hearing_step, is_taken, note_by, offered_near, running_world, restarts, sent_if}
 use Rattle.line_rules.specs.Steps.{sending, set_up, tag_of, world_after}
 use Rattle.line_rules.specs.Worlds.{World, Flight, flight_at, node_at}
-use Rattle.line_laws.specs.Letters.{IsLetter}
+use Rattle.line_laws.specs.SealedUnits.{IsSealedUnit}
 use Rattle.line_laws.specs.Lines.{WorldOk}
 use Rattle.line_laws.specs.Ranges.{WorldRanged}
 use Rattle.line_laws.proofs.FlightFolds.{came_octets, after_silent}
 use Rattle.line_laws.proofs.LetterAccepts.{to_of}
-use Rattle.line_laws.proofs.LetterSeals.{letter_arrives, letter_opens, letter_unit}
+use Rattle.line_laws.proofs.LetterSeals.{sealed_unit_arrives, sealed_unit_opens, sealed_unit_unit}
 use Rattle.line_laws.proofs.OctetRuns.{WorldSpeaks}
 use Rattle.line_laws.proofs.OldUnits.{IsOldFrame, IsOldUnit, call_old, hears_old}
 use Rattle.line_laws.proofs.Quiet.{accept_quiet, acts_quiet, depot_quiet, install_quiet, near_quiet}
@@ -72,17 +72,17 @@ module _ (P : ℕ → MeshUnit → Type 0) where
   FrameSays (Up agent from message) = Unit {0}
   FrameSays (Down from message) = Unit {0}
 
-  letter_says : (number : ℕ) (l : Letter) → IsLetter l → P l.to l.unit → FlightSays (flight_by number (spelled network (Sealed l)))
+  sealed_unit_says : (number : ℕ) (l : SealedUnit) → IsSealedUnit l → P l.to l.unit → FlightSays (flight_by number (spelled network (Sealed l)))
   unfolding spelled
-  letter_says number l fits p = record {
+  sealed_unit_says number l fits p = record {
     says = λ key a payload u k is opened read.
         let body : List ℕ = network.seals l.key (head_of l) (spelling l.unit) in
         let came : Arrived = arrived_with network (head_of l) (header (head_of l)) body in
-        let same : came ≡ a = same_Some came a (sym (letter_arrives network network_opens_again l fits) ∙ is) in
+        let same : came ≡ a = same_Some came a (sym (sealed_unit_arrives network network_opens_again l fits) ∙ is) in
         let keys : l.key ≡ key = same_Some l.key key k in
         let payloads : spelling l.unit ≡ payload = same_Some (spelling l.unit) payload
-        (sym (letter_opens network network_opens_again l fits) ∙ ap came.opened keys ∙ ap (λ (x : Arrived). x.opened key) same ∙ opened) in
-        let units : l.unit ≡ u = same_Some l.unit u (sym (letter_unit network network_opens_again l fits) ∙ ap unit_in payloads ∙ read) in
+        (sym (sealed_unit_opens network network_opens_again l fits) ∙ ap came.opened keys ∙ ap (λ (x : Arrived). x.opened key) same ∙ opened) in
+        let units : l.unit ≡ u = same_Some l.unit u (sym (sealed_unit_unit network network_opens_again l fits) ∙ ap unit_in payloads ∙ read) in
         subst (λ (x : Arrived). P (to_of x.head) u) same (subst (P l.to) units p);
   }
 
@@ -91,7 +91,7 @@ module _ (P : ℕ → MeshUnit → Type 0) where
 
   pub frame_flies : (number : ℕ) (f : Sent) → IsSent f → FrameSays f → FlightSays (flight_by number (spelled network f))
   unfolding spelled
-  frame_flies number (Sealed l) fits p = letter_says number l fits p
+  frame_flies number (Sealed l) fits p = sealed_unit_says number l fits p
   frame_flies number (Up agent from message) fits p = keyless _ refl
   frame_flies number (Down from message) fits p = keyless _ refl
 

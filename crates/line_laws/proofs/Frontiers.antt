@@ -26,7 +26,7 @@ use Rattle.routing_set.specs.OwnNumber as own_number
 use Rattle.node_rules.specs.Frames.{Sent, Sealed, Up, Down}
 use Rattle.node_rules.specs.Memory.{StationMemory, Memory, Node}
 use Rattle.node_rules.specs.Plans.{Plan, carry_out, resting}
-use Rattle.node_rules.specs.Drafts.{Draft, Ends, Outgoing, letters, sealed_by, sealing_key, empty_draft, with_rank, with_own_number, with_next_tag, with_ring}
+use Rattle.node_rules.specs.Drafts.{Draft, Ends, UnsealedUnit, sealed_units, sealed_by, sealing_key, empty_draft, with_rank, with_own_number, with_next_tag, with_ring}
 use Rattle.node_rules.specs.Drafts.{with_routing_by, goes, body_goes, waits, leave}
 use Rattle.node_rules.specs.MemoryDrafts.{in_memory, on_station, station_part, with_memory_by, with_pair_tags, goes_up, goes_down}
 use Rattle.node_rules.specs.Coordinators.{with_book_entry}
@@ -190,18 +190,18 @@ plain_numbered (Sealed l ∷ ps) fs first last p n = absurd p
 plain_numbered (Up agent from message ∷ ps) fs first last p n = plain_numbered ps fs first last p n
 plain_numbered (Down from message ∷ ps) fs first last p n = plain_numbered ps fs first last p n
 
-letters_numbered : (g : Granted) (key : Key) (first last : ℕ) (units : List Outgoing) → first + length units ≤ last
-    → Numbered first last (letters g key first units)
-letters_numbered g key first last [] h = omega arith
-letters_numbered g key first last (o ∷ rest) h = (omega arith, letters_numbered g key (first + 1) last rest (omega arith))
+sealed_units_numbered : (g : Granted) (key : Key) (first last : ℕ) (units : List UnsealedUnit) → first + length units ≤ last
+    → Numbered first last (sealed_units g key first units)
+sealed_units_numbered g key first last [] h = omega arith
+sealed_units_numbered g key first last (o ∷ rest) h = (omega arith, sealed_units_numbered g key (first + 1) last rest (omega arith))
 
-pub sealed_numbered : (r : ring.Ring) (first last : ℕ) (units : List Outgoing) → first + length units ≤ last → Numbered first last (sealed_by r first units)
+pub sealed_numbered : (r : ring.Ring) (first last : ℕ) (units : List UnsealedUnit) → first + length units ≤ last → Numbered first last (sealed_by r first units)
 sealed_numbered None first last units h = omega arith
 sealed_numbered (Some g) first last units h = by_key (sealing_key g)
   where
-    by_key : (key : Option Key) → Numbered first last (option_map_or (λ k. letters g k first units) key [])
+    by_key : (key : Option Key) → Numbered first last (option_map_or (λ k. sealed_units g k first units) key [])
     by_key None = omega arith
-    by_key (Some key) = letters_numbered g key first last units h
+    by_key (Some key) = sealed_units_numbered g key first last units h
 
 -- # Plans and nodes
 

@@ -8,7 +8,7 @@ use Rattle.store_tables.proofs.SlotTables.{slice_get-set_other}
 use Rattle.group_keys.specs.KeyBook as books
 use Rattle.pan_discovery.specs.declared.message.Discovery.{Discovery}
 use Rattle.node_rules.specs.Ciphers.{Ciphers}
-use Rattle.node_rules.specs.Drafts.{Outgoing}
+use Rattle.node_rules.specs.Drafts.{UnsealedUnit}
 use Rattle.node_rules.specs.Memory.{Node}
 use Rattle.node_rules.specs.NodeSteps.{NodeStep, acts}
 use Rattle.line_rules.specs.Steps.{world_after}
@@ -44,7 +44,7 @@ after_other : {A : Type 0} (ciphers : Ciphers) (v : World) (number other : ℕ) 
 unfolding world_after
 after_other ciphers v number other d ne = slice_get-set_other v.nodes number other d.node ne
 
-module _ (U : List Outgoing → Type 0) (D : Discovery → Type 0) (ciphers : Ciphers) (fits : KeepsRanges ciphers) where
+module _ (U : List UnsealedUnit → Type 0) (D : Discovery → Type 0) (ciphers : Ciphers) (fits : KeepsRanges ciphers) where
   pub moved_length : (v u : World) → Moves U D ciphers v u → length u.nodes ≡ length v.nodes
   moved_length v u (Stays z) = refl
   moved_length v u (Carries z number x A halted does there is) = after_length ciphers v number (acts x halted does)

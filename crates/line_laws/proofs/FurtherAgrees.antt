@@ -6,7 +6,7 @@ use Rattle.pan_discovery.specs.declared.message.Discovery.{Discovery}
 use Rattle.node_rules.specs.declared.refusal.FrameRefusal.TheVariants as frames
 use Rattle.node_rules.specs.Accepting.{accept}
 use Rattle.node_rules.specs.Ciphers.{Ciphers}
-use Rattle.node_rules.specs.Drafts.{Outgoing}
+use Rattle.node_rules.specs.Drafts.{UnsealedUnit}
 use Rattle.node_rules.specs.Frames.{arrived}
 use Rattle.node_rules.specs.Memory.{Node, Coordinator}
 use Rattle.node_rules.specs.NodeSteps.{acts, of_station, stays}
@@ -42,7 +42,7 @@ use Rattle.line_laws.proofs.StepKinds.{IsStep}
 
 -- # Joinings that agree
 
-moved_confirmed : (U : List Outgoing → Type 0) (D : Discovery → Type 0) (ciphers : Ciphers) (v u : World) → Moves U D ciphers v u → (taken : List Pairing)
+moved_confirmed : (U : List UnsealedUnit → Type 0) (D : Discovery → Type 0) (ciphers : Ciphers) (v u : World) → Moves U D ciphers v u → (taken : List Pairing)
     → Confirmed v taken → Confirmed u taken
 moved_confirmed U D ciphers v u (Stays z) taken c = c
 moved_confirmed U D ciphers v u (Carries z number x A halted does there is) taken c =
@@ -74,7 +74,7 @@ module _ (ciphers : Ciphers) (fits : KeepsRanges ciphers) (w : World) (ok : Worl
       after_nothing ciphers (running_world w) number x (stays (accepting ciphers x octets).node answer) there
       (acts_eui x (Err frames.Halted) (λ m. of_station m (accept m.station x.eui (arrived ciphers octets)))) taken c refl
 
-  module _ (U : List Outgoing → Type 0) (D : Discovery → Type 0) where
+  module _ (U : List UnsealedUnit → Type 0) (D : Discovery → Type 0) where
     old_agrees : (event : Event) → IsEvent event → (s : Step) → OldStep ciphers w event s → StepAgrees w taken s
     old_agrees event says s old = of_old ciphers w event (StepAgrees w taken) (λ fault. Refused fault)
         (step_agrees ciphers fits w ok flown given k taken c event says) s old
@@ -114,7 +114,7 @@ abbrev pub IssuedIn : (Issued → Type 0) → Step → Type 0
 IssuedIn P (Ok r) = Each P r.1.issued
 IssuedIn P (Err fault) = Unit {0}
 
-pub line_issued : (U : List Outgoing → Type 0) (D : Discovery → Type 0) (ciphers : Ciphers) (w : World) (P : Issued → Type 0) (event : Event)
+pub line_issued : (U : List UnsealedUnit → Type 0) (D : Discovery → Type 0) (ciphers : Ciphers) (w : World) (P : Issued → Type 0) (event : Event)
     → ((s : Step) → IsStep ciphers w event s → IssuedIn P s)
     → (s : Step) → IsLineStepBy (OldStep ciphers w) U D ciphers w event s → IssuedIn P s
 line_issued U D ciphers w P event f s (Known e z old) = f s old.is

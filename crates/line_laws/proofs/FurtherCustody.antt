@@ -44,7 +44,7 @@ use Rattle.line_rules.specs.Worlds.{World, Flight, Trace, Sending, node_at}
 use Rattle.line_laws.specs.InCustody.{Custody, FlightIsOf, StationIsTrue, SentUnder, sent_as}
 use Rattle.line_laws.specs.Keyed.{Keyed}
 use Rattle.line_laws.specs.Later.{flown as flown_world}
-use Rattle.line_laws.specs.Letters.{IsFlight}
+use Rattle.line_laws.specs.SealedUnits.{IsFlight}
 use Rattle.line_laws.specs.Lines.{WorldOk}
 use Rattle.line_laws.specs.Live.{live}
 use Rattle.line_laws.specs.Places.{LiveFalls, flight_is, live_is}

@@ -18,7 +18,7 @@ use Rattle.broadcast_log.specs.NextNumber as numbers
 use Rattle.broadcast_log.specs.Log.{admitted_log, numbered_log}
 use Rattle.path_requests.specs.declared.message.PathMessage.TheVariants.{Ask}
 use Rattle.path_requests.specs.Messages.{path_spelling}
-use Rattle.node_rules.specs.Drafts.{Draft, Ends, Outgoing, counters_left, empty_draft, refused, sealed, sealed_by, sealing, checked, choose}
+use Rattle.node_rules.specs.Drafts.{Draft, Ends, UnsealedUnit, counters_left, empty_draft, refused, sealed, sealed_by, sealing, checked, choose}
 use Rattle.node_rules.specs.Frames.{to_all}
 use Rattle.node_rules.specs.Memory.{StationMemory, Memory, Role, address_of, station_route}
 use Rattle.node_rules.specs.MemoryDrafts.{in_memory, with_station}
@@ -71,7 +71,7 @@ abbrev pub counted_on : ℕ → Memory → Memory
 counted_on count m = with_station (record m.station { counter = counter.reserved m.station.counter count }) m
 
 -- records of the log are stored, and then the counter of these units, which go out
-abbrev pub going : {A : Type 0} → A → A → List Write → List Outgoing → Memory → Plan Memory A
+abbrev pub going : {A : Type 0} → A → A → List Write → List UnsealedUnit → Memory → Plan Memory A
 going answer failed ps us m = record {
   answer = answer;
   failed = failed;
@@ -83,23 +83,23 @@ going answer failed ps us m = record {
 }
 
 -- L is what is known of the units
-pub data IsFurther (L : List Outgoing → Type 0) (m : Memory) {A : Type 0} : Plan Memory A → Type 0 where
+pub data IsFurther (L : List UnsealedUnit → Type 0) (m : Memory) {A : Type 0} : Plan Memory A → Type 0 where
   Rests : (answer failed : A) → IsFurther L m (resting m answer failed)
-  Goes : (answer failed : A) (ps : List Write) (us : List Outgoing) → Each IsOfLog ps → L us → length us ≤ 1
+  Goes : (answer failed : A) (ps : List Write) (us : List UnsealedUnit) → Each IsOfLog ps → L us → length us ≤ 1
       → length us ≤ counters_left m.station → IsFurther L m (going answer failed ps us m)
 
 -- nothing need be known of them
-abbrev pub AnyUnits : List Outgoing → Type 0
+abbrev pub AnyUnits : List UnsealedUnit → Type 0
 AnyUnits us = Unit {0}
 
 -- # Of each rule
 
 -- what is done before it is sealed: the memory stays
-abbrev pub drafted : Beside → List Write → List Outgoing → Reaching Memory → Draft (Reaching Memory)
+abbrev pub drafted : Beside → List Write → List UnsealedUnit → Reaching Memory → Draft (Reaching Memory)
 drafted b ps us x = record { puts = ps; memory = record { memory = x.memory; beside = b }; units = us; plain = []; made = []; opened = [] }
 
-module _ (U : List Outgoing → Type 0) where
-  pub sealed_is : {H E : Type 0} (ends : Ends E) (x : Reaching Memory) (b : Beside) (ps : List Write) (us : List Outgoing) (answer : H) → Each IsOfLog ps → U us
+module _ (U : List UnsealedUnit → Type 0) where
+  pub sealed_is : {H E : Type 0} (ends : Ends E) (x : Reaching Memory) (b : Beside) (ps : List Write) (us : List UnsealedUnit) (answer : H) → Each IsOfLog ps → U us
       → length us ≤ 1
       → IsFurther U x.memory (of_memory (sealed (in_reach in_memory) ends x (drafted b ps us x) answer))
   unfolding sealed resting
@@ -188,13 +188,13 @@ module _ (U : List Outgoing → Type 0) where
 abbrev pub SendsOn : Result PathStep PathRefusal → (to : ℕ) → PathMessage → Type 0
 SendsOn o to next = (o ≡ Ok (Forward to next)) ⊎ (o ≡ Ok (Answer to next))
 
-abbrev pub one_of_path : (to : ℕ) → PathMessage → List Outgoing
+abbrev pub one_of_path : (to : ℕ) → PathMessage → List UnsealedUnit
 one_of_path to next = record { to = to; unit = Local 5 (path_spelling next); note = 0 } ∷ []
 
-abbrev pub one_of_broadcast : Broadcast → List Outgoing
+abbrev pub one_of_broadcast : Broadcast → List UnsealedUnit
 one_of_broadcast c = record { to = to_all; unit = Local 4 (spelling (hop_less c)); note = 0 } ∷ []
 
-module _ (U : List Outgoing → Type 0) (none : U []) where
+module _ (U : List UnsealedUnit → Type 0) (none : U []) where
   either : {A : Type 0} (m : Memory) (t : Bool) (p q : Plan (Reaching Memory) A) → IsFurther U m (of_memory p) → IsFurther U m (of_memory q)
       → IsFurther U m (of_memory (choose t p q))
   unfolding choose
@@ -308,7 +308,7 @@ module _ (U : List Outgoing → Type 0) (none : U []) where
 
 -- # What it keeps
 
-module _ (U : List Outgoing → Type 0) (role : Role) (m : Memory) (h : IsMemorySized m) where
+module _ (U : List UnsealedUnit → Type 0) (role : Role) (m : Memory) (h : IsMemorySized m) where
   pub further_ok : {A : Type 0} (p : Plan Memory A) → IsFurther U m p → PlanOk role m p
   unfolding resting
   further_ok p (Rests answer failed) = resting_ok role m h answer failed

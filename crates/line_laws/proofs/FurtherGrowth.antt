@@ -12,7 +12,7 @@ use Rattle.pan_discovery.specs.declared.message.Discovery.{Discovery}
 use Rattle.node_rules.specs.declared.refusal.FrameRefusal.TheVariants as frames
 use Rattle.node_rules.specs.Accepting.{accept}
 use Rattle.node_rules.specs.Ciphers.{Ciphers}
-use Rattle.node_rules.specs.Drafts.{Outgoing}
+use Rattle.node_rules.specs.Drafts.{UnsealedUnit}
 use Rattle.node_rules.specs.Frames.{arrived}
 use Rattle.node_rules.specs.Memory.{Memory, Coordinator, Node}
 use Rattle.node_rules.specs.NodeSteps.{NodeStep, acts, left_by, of_station, stays}
@@ -96,7 +96,7 @@ module _ (V : books.Book → Type 0) where
       (λ (ne : number ≢ 0). has c (sym (slice_get-set_other u.nodes number 0 d.node (λ e. ne (sym e))) ∙ sym (ap (λ ns. slice_get ns 0) nodes) ∙ is))
       (cases_eq number 0)
 
-  module _ (ciphers : Ciphers) (fits : KeepsRanges ciphers) (U : List Outgoing → Type 0) (D : Discovery → Type 0) where
+  module _ (ciphers : Ciphers) (fits : KeepsRanges ciphers) (U : List UnsealedUnit → Type 0) (D : Discovery → Type 0) where
     after_nodes : {A : Type 0} (u : World) (number : ℕ) (d : NodeStep A) → (world_after ciphers u number d).nodes ≡ slice_set u.nodes number d.node
     unfolding world_after
     after_nodes u number d = refl

@@ -11,7 +11,7 @@ use Rattle.node_rules.specs.declared.refusal.FrameRefusal.{FrameRefusal}
 use Rattle.node_rules.specs.declared.refusal.FrameRefusal.TheVariants as frames
 use Rattle.node_rules.specs.Accepting.{accept}
 use Rattle.node_rules.specs.Ciphers.{Ciphers}
-use Rattle.node_rules.specs.Drafts.{Outgoing, choose as choose_plan, refused}
+use Rattle.node_rules.specs.Drafts.{UnsealedUnit, choose as choose_plan, refused}
 use Rattle.node_rules.specs.Frames.{arrived}
 use Rattle.node_rules.specs.Memory.{Memory, Node}
 use Rattle.node_rules.specs.Meters as meters
@@ -98,7 +98,7 @@ module _ (m : Memory) (b : Beside) (own : meters.Identity) (k now : ℕ) where
 
 -- # Moves
 
-pub moved_keyed : (U : List Outgoing → Type 0) (D : Discovery → Type 0) (ciphers : Ciphers) (fits : KeepsRanges ciphers) (v u : World) → Moves U D ciphers v u
+pub moved_keyed : (U : List UnsealedUnit → Type 0) (D : Discovery → Type 0) (ciphers : Ciphers) (fits : KeepsRanges ciphers) (v u : World) → Moves U D ciphers v u
     → WorldOk v → v.running ≡ true → (given : List Issued) → Keyed v given → Keyed u given
 moved_keyed U D ciphers fits v u (Stays z) ok runs given k = k
 moved_keyed U D ciphers fits v u (Carries z number x A halted does there is) ok runs given k =
@@ -182,7 +182,7 @@ module _ (ciphers : Ciphers) (fits : KeepsRanges ciphers) (w : World) (ok : Worl
       (λ agent. joins_plan (identity ciphers x psk) m agent w.clock reads session))
       (λ m. chosen_opened m (beside_at w number) (identity ciphers x psk) k w.clock)
 
-  module _ (U : List Outgoing → Type 0) (D : Discovery → Type 0) where
+  module _ (U : List UnsealedUnit → Type 0) (D : Discovery → Type 0) where
     pub line_keyed_is : (event : Event) → IsEvent event → (s : Step) → IsLineStepBy (OldStep ciphers w) U D ciphers w event s → StepKeyed w given s
     line_keyed_is event says s (Known e z old) = of_old ciphers w event (StepKeyed w given) (λ fault. Fails fault)
         (step_keyed ciphers fits w ok flown given k event says) s old

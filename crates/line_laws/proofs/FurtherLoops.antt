@@ -7,7 +7,7 @@ use Rattle.pan_discovery.specs.declared.message.Discovery.{Discovery}
 use Rattle.node_rules.specs.declared.refusal.FrameRefusal.TheVariants as frames
 use Rattle.node_rules.specs.Accepting.{accept}
 use Rattle.node_rules.specs.Ciphers.{Ciphers, network}
-use Rattle.node_rules.specs.Drafts.{Outgoing}
+use Rattle.node_rules.specs.Drafts.{UnsealedUnit}
 use Rattle.node_rules.specs.Frames.{arrived}
 use Rattle.node_rules.specs.Memory.{Memory, Node}
 use Rattle.node_rules.specs.NodeSteps.{of_station, stays}
@@ -61,7 +61,7 @@ module _ (ciphers : Ciphers) (fits : KeepsRanges ciphers) (w : World) (ok : Worl
   abbrev GoesTo : World → Type 0
   GoesTo v = Goes ciphers fits w ok flown given k v
 
-  moved_goes : (U : List Outgoing → Type 0) (D : Discovery → Type 0) (v u : World) → Moves U D ciphers v u → WorldOk v → v.running ≡ true → (more : List Issued)
+  moved_goes : (U : List UnsealedUnit → Type 0) (D : Discovery → Type 0) (v u : World) → Moves U D ciphers v u → WorldOk v → v.running ≡ true → (more : List Issued)
       → Keyed v more → length w.nodes ≤ length v.nodes → 0 < length w.nodes → GoesTo v → GoesTo u
   moved_goes U D v u moves fine runs more kv longer some g = record {
     grows = λ c there b kept.
@@ -83,7 +83,7 @@ module _ (ciphers : Ciphers) (fits : KeepsRanges ciphers) (w : World) (ok : Worl
   LineGoesBy (Ok r) = r.1.happenings.forged ≡ false → 0 < length w.nodes → GoesTo r.0
   LineGoesBy (Err fault) = Unit {0}
 
-  module _ (U : List Outgoing → Type 0) (D : Discovery → Type 0) where
+  module _ (U : List UnsealedUnit → Type 0) (D : Discovery → Type 0) where
     after_goes : (event : Event) → IsEvent event → (r : World × Trace) (v : World) → OldStep ciphers w event (Ok r) → WorldOk r.0 → r.0.running ≡ true
         → Moves U D ciphers r.0 v → length w.nodes ≤ length r.0.nodes → r.1.happenings.forged ≡ false → 0 < length w.nodes → GoesTo v
     after_goes event says r v old fine runs moves longer honest some =

@@ -43,7 +43,7 @@ use Rattle.node_rules.specs.declared.refusal.FrameRefusal.TheVariants as frames
 use Rattle.node_rules.specs.declared.refusal.LocalRefusal.TheVariants as locals
 use Rattle.node_rules.specs.Accepting.{accept}
 use Rattle.node_rules.specs.Ciphers.{network}
-use Rattle.node_rules.specs.Drafts.{Outgoing, alone, choose as choose_plan, counters_left, empty_draft, goes, refused, sealed, sealing}
+use Rattle.node_rules.specs.Drafts.{UnsealedUnit, alone, choose as choose_plan, counters_left, empty_draft, goes, refused, sealed, sealing}
 use Rattle.node_rules.specs.Frames.{arrived, to_all}
 use Rattle.node_rules.specs.Memory.{StationMemory, Memory, Node, Role, address_of}
 use Rattle.node_rules.specs.MemoryDrafts.{in_memory, with_station}
@@ -170,7 +170,7 @@ unit_octets code body low are = spelling_octets (Local code body) (low, are)
 
 -- # Plans and worlds
 
-abbrev pub Octets : List Outgoing → Type 0
+abbrev pub Octets : List UnsealedUnit → Type 0
 Octets us = All OutSpeaks us
 
 abbrev pub Spelled : Discovery → Type 0

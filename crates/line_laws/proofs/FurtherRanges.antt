@@ -86,7 +86,7 @@ use Rattle.line_rules.specs.Steps.{Step, hearing_step, identity, note_by, runnin
 use Rattle.line_rules.specs.Worlds.{World, node_at}
 use Rattle.line_laws.specs.FurtherLines.{LineStepsSpell, LinesSpellBeacons}
 use Rattle.line_laws.specs.Later.{MayBeSealed}
-use Rattle.line_laws.specs.Letters.{IsFlight}
+use Rattle.line_laws.specs.SealedUnits.{IsFlight}
 use Rattle.line_laws.specs.Lines.{NodeOk, WorldOk}
 use Rattle.line_laws.specs.Ranges.{IsStationRanged, NodeRanged, WorldRanged}
 use Rattle.line_laws.specs.Sizes.{IsMemorySized}

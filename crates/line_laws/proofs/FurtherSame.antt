@@ -5,7 +5,7 @@ use Rattle.std.proofs.lemmas.List.{append_assoc}
 use Rattle.plc_base.specs.declared.tags.PairTag.{PairTag}
 use Rattle.pan_discovery.specs.declared.message.Discovery.{Discovery}
 use Rattle.node_rules.specs.Ciphers.{Ciphers}
-use Rattle.node_rules.specs.Drafts.{Outgoing}
+use Rattle.node_rules.specs.Drafts.{UnsealedUnit}
 use Rattle.node_rules.specs.NodeSteps.{NodeStep, acts}
 use Rattle.line_events.specs.declared.event.Event.{Event}
 use Rattle.line_events.specs.declared.event.StepFault.{StepFault}
@@ -28,7 +28,7 @@ pub record OldStep (ciphers : Ciphers) (w : World) (event : Event) (s : Step) : 
   pub is : IsStep ciphers w event s
   pub same : (r : World × Trace) → s ≡ Ok r → step ciphers w event ≡ Ok r
 
-pub line_step_same : (U : List Outgoing → Type 0) (D : Discovery → Type 0) (ciphers : Ciphers) (fits : KeepsRanges ciphers) (w : World) (ok : WorldOk w)
+pub line_step_same : (U : List UnsealedUnit → Type 0) (D : Discovery → Type 0) (ciphers : Ciphers) (fits : KeepsRanges ciphers) (w : World) (ok : WorldOk w)
     (flown : All FlightFits w.flights) (logs : LogsKept w) (speaks : Speaks U D ciphers w)
     (event : Event) → IsEvent event → IsLineStepBy (OldStep ciphers w) U D ciphers w event (line_step ciphers w event)
 line_step_same U D ciphers fits w ok flown logs speaks event says =
@@ -66,7 +66,7 @@ made_after : {A : Type 0} (ciphers : Ciphers) (w : World) (number : ℕ) (d : No
 unfolding world_after
 made_after ciphers w number d = refl
 
-pub moved_made : (U : List Outgoing → Type 0) (D : Discovery → Type 0) (ciphers : Ciphers) (v u : World) → Moves U D ciphers v u → KeepsMade v u
+pub moved_made : (U : List UnsealedUnit → Type 0) (D : Discovery → Type 0) (ciphers : Ciphers) (v u : World) → Moves U D ciphers v u → KeepsMade v u
 moved_made U D ciphers v u (Stays z) = ([], sym (append-nil v.made))
 moved_made U D ciphers v u (Carries z number x A halted does there is) = ((acts x halted does).made, made_after ciphers v number (acts x halted does))
 moved_made U D ciphers v u (Flies z number x frame there known) = ([], sym (append-nil v.made))
@@ -78,6 +78,6 @@ moved_made U D ciphers v u (Turns z between y first rest) = keeps_both v between
 pub old_on : (ciphers : Ciphers) (w : World) (event : Event) (r : World × Trace) → OldStep ciphers w event (Ok r) → GoesOn w r.0
 old_on ciphers w event r old = steps ciphers w r.0 event r.1 (old.same r refl)
 
-pub after_made : (U : List Outgoing → Type 0) (D : Discovery → Type 0) (ciphers : Ciphers) (w : World) (event : Event) (r : World × Trace) (v : World)
+pub after_made : (U : List UnsealedUnit → Type 0) (D : Discovery → Type 0) (ciphers : Ciphers) (w : World) (event : Event) (r : World × Trace) (v : World)
     → OldStep ciphers w event (Ok r) → Moves U D ciphers r.0 v → KeepsMade w v
 after_made U D ciphers w event r v old moves = keeps_both w r.0 v (old_on ciphers w event r old).made (moved_made U D ciphers r.0 v moves)

@@ -15,7 +15,7 @@ use Rattle.mac_frames.specs.Grammar.{IsTarget}
 use Rattle.mesh_header.specs.declared.unit.Unit.{Unit as MeshUnit}
 use Rattle.routing_set.specs.RoutingSet as routing
 use Rattle.routing_set.specs.declared.rank.Rank.{Rank}
-use Rattle.node_rules.specs.Drafts.{Ends, Outgoing, letters, sealed_by, sealing_key}
+use Rattle.node_rules.specs.Drafts.{Ends, UnsealedUnit, sealed_units, sealed_by, sealing_key}
 use Rattle.node_rules.specs.Frames.{Sent}
 use Rattle.node_rules.specs.Memory.{Memory, Coordinator, address_of}
 use Rattle.node_rules.specs.Plans.{Plan, resting}
@@ -52,7 +52,7 @@ use Rattle.line_laws.proofs.TagPuts as tag_puts
 use Rattle.line_laws.proofs.TagPuts.{Away, away_so}
 
 -- nothing goes out, or one command that may be sealed
-pub data IsOne : List Outgoing → Type 0 where
+pub data IsOne : List UnsealedUnit → Type 0 where
   Silent : IsOne []
   One : (to : ℕ) (unit : MeshUnit) → IsTarget to → MayBeSealed unit → IsOne (record { to = to; unit = unit; note = 0 } ∷ [])
 
@@ -61,7 +61,7 @@ none_sealed : (r : ring.Ring) (first : ℕ) → sealed_by r first [] ≡ []
 none_sealed None first = refl
 none_sealed (Some g) first = by_key (sealing_key g)
   where
-    by_key : (key : Option Key) → option_map_or (λ (k : Key). letters g k first []) key [] ≡ []
+    by_key : (key : Option Key) → option_map_or (λ (k : Key). sealed_units g k first []) key [] ≡ []
     by_key None = refl
     by_key (Some key) = refl
 
@@ -72,11 +72,11 @@ ends = record { spent = tt; store = tt }
 all_of_none : (P : Sent → Type 0) (r : ring.Ring) (first : ℕ) → All P (sealed_by r first [])
 all_of_none P r first = rw (none_sealed r first) (All-nil P)
 
-all_out : (us : List Outgoing) → IsOne us → All IsOut us
+all_out : (us : List UnsealedUnit) → IsOne us → All IsOut us
 all_out us Silent = All-nil IsOut
 all_out us (One to unit target may) = All-cons IsOut _ [] (record { to = target; unit = may.fit; route = no_route unit may.beside }) (All-nil IsOut)
 
-all_speak : (us : List Outgoing) → IsOne us → All OutSpeaks us
+all_speak : (us : List UnsealedUnit) → IsOne us → All OutSpeaks us
 all_speak us Silent = All-nil OutSpeaks
 all_speak us (One to unit target may) = All-cons OutSpeaks _ [] may.octets (All-nil OutSpeaks)
 
@@ -94,18 +94,18 @@ module _ (m : Memory) where
   further_octets p (Rests a f) reads = All-nil SentOctets
   further_octets p (Goes a f ps us logs one few left) reads = sealed_speak m.station.ring m.station.counter.next us reads (all_speak us one)
 
-  pub further_away : {A : Type 0} {L : List Outgoing → Type 0} (p : Plan Memory A) → IsFurther L m p → Each Away p.puts
+  pub further_away : {A : Type 0} {L : List UnsealedUnit → Type 0} (p : Plan Memory A) → IsFurther L m p → Each Away p.puts
   unfolding resting
   further_away p (Rests a f) = tt
   further_away p (Goes a f ps us logs one few left) =
       each_append Away ps _ (log_away ps logs) (tag_puts.counter_away Away away_so m.station.counter (length us))
 
-  pub further_makes : {A : Type 0} {L : List Outgoing → Type 0} (p : Plan Memory A) → IsFurther L m p → p.made ≡ []
+  pub further_makes : {A : Type 0} {L : List UnsealedUnit → Type 0} (p : Plan Memory A) → IsFurther L m p → p.made ≡ []
   unfolding resting
   further_makes p (Rests a f) = refl
   further_makes p (Goes a f ps us logs one few left) = refl
 
-  further_grown : {A : Type 0} {L : List Outgoing → Type 0} (V : books.Book → Type 0) (p : Plan Memory A) → IsFurther L m p → Leads (Grown V) m p.puts p.memory
+  further_grown : {A : Type 0} {L : List UnsealedUnit → Type 0} (V : books.Book → Type 0) (p : Plan Memory A) → IsFurther L m p → Leads (Grown V) m p.puts p.memory
   unfolding resting
   further_grown V p (Rests a f) = leads_beside (Grown V) m m (λ r k. k)
   further_grown V p (Goes a f ps us logs one few left) =
@@ -116,7 +116,7 @@ module _ (m : Memory) where
       let fits = k.range.counter in
       counter_leads (Rest Coordinator m) (rest_lasts Coordinator m) m.station (length us) (omega arith) (omega arith))))
 
-  pub further_quietly : {A : Type 0} {L : List Outgoing → Type 0} (p : Plan Memory A) → IsFurther L m p → Quietly m p
+  pub further_quietly : {A : Type 0} {L : List UnsealedUnit → Type 0} (p : Plan Memory A) → IsFurther L m p → Quietly m p
   unfolding resting
   further_quietly p (Rests a f) = record { leads = λ V. leads_beside (Grown V) m m (λ r k. k); ring = λ S none here reads. tt; session = refl; made = refl }
   further_quietly {L = L} p (Goes a f ps us logs one few left) = record {
@@ -139,11 +139,11 @@ module _ (m : Memory) where
     kept = λ n i some. let none = weighs n i us one in omega arith;
   }
     where
-      by_one : (us : List Outgoing) → IsOne us → All (SentIsOf S) (sealed_by m.station.ring m.station.counter.next us)
+      by_one : (us : List UnsealedUnit) → IsOne us → All (SentIsOf S) (sealed_by m.station.ring m.station.counter.next us)
       by_one us Silent = all_of_none (SentIsOf S) m.station.ring m.station.counter.next
       by_one us (One to unit target may) = sealed_true ends to unit target may S m.station.ring m.station.counter.next
 
-      weighs : (n i : ℕ) (us : List Outgoing) → IsOne us → sum_by (sent_is n i) (sealed_by m.station.ring m.station.counter.next us) ≤ 0
+      weighs : (n i : ℕ) (us : List UnsealedUnit) → IsOne us → sum_by (sent_is n i) (sealed_by m.station.ring m.station.counter.next us) ≤ 0
       weighs n i us Silent = rw (none_sealed m.station.ring m.station.counter.next) zero-le
       weighs n i us (One to unit target may) = sealed_weighs ends to unit target may n i m.station.ring m.station.counter.next
 
@@ -159,6 +159,6 @@ module _ (m : Memory) where
     here = h;
   }
     where
-      by_one : (us : List Outgoing) → IsOne us → All (FrameBacked At m.station.routing) (sealed_by m.station.ring m.station.counter.next us)
+      by_one : (us : List UnsealedUnit) → IsOne us → All (FrameBacked At m.station.routing) (sealed_by m.station.ring m.station.counter.next us)
       by_one us Silent = all_of_none (FrameBacked At m.station.routing) m.station.ring m.station.counter.next
       by_one us (One to unit target may) = sealed_backed ends to unit target may At Own C m.station.routing m.station.ring m.station.counter.next h

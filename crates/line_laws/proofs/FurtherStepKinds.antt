@@ -107,7 +107,7 @@ use Rattle.line_laws.proofs.StoreMarks.{accept_is}
 use Rattle.line_laws.proofs.Worlds.{at_place, counts_ok, ok_after, within as place_within}
 use Rattle.pan_discovery.specs.declared.message.Discovery.{Discovery}
 use Rattle.pan_discovery.specs.declared.message.Discovery.TheVariants as requests
-use Rattle.node_rules.specs.Drafts.{Outgoing}
+use Rattle.node_rules.specs.Drafts.{UnsealedUnit}
 use Rattle.line_rules.specs.Further.{has_discovered, scanning}
 use Rattle.line_rules.specs.Answers.{discovery_word, scan_word}
 use Rattle.line_rules.specs.Further.{beacon_taken}
@@ -149,7 +149,7 @@ use Rattle.line_rules.specs.Steps.{flight_by, accepted_by, arrives, deliver, inj
 -- What follows on what nodes without further reach do: a node stores records of its log and seals one command, a frame of discovery flies, or
 -- something else stands beside the memories. U is what is known of what is sealed, and D
 -- of what flies so.
-pub data Moves (U : List Outgoing → Type 0) (D : Discovery → Type 0) (ciphers : Ciphers) : World → World → Type 1 where
+pub data Moves (U : List UnsealedUnit → Type 0) (D : Discovery → Type 0) (ciphers : Ciphers) : World → World → Type 1 where
   Stays : (w : World) → Moves U D ciphers w w
   Carries : (w : World) (number : ℕ) (x : Node) (A : Type 0) (halted : A) (does : Memory → Plan Memory A) → node_at w number ≡ Some x
       → ((m : Memory) → x.memory ≡ Some m → IsFurther U m (does m))
@@ -183,7 +183,7 @@ pub record SaysTheSame (s t : Trace) : Type 0 where
 -- # Events
 
 -- Old is what is known of an event as it is without further reach
-pub data IsLineStepBy (Old : Event → Step → Type 1) (U : List Outgoing → Type 0) (D : Discovery → Type 0) (ciphers : Ciphers) (w : World) : Event → Step
+pub data IsLineStepBy (Old : Event → Step → Type 1) (U : List UnsealedUnit → Type 0) (D : Discovery → Type 0) (ciphers : Ciphers) (w : World) : Event → Step
     → Type 1 where
   -- as without further reach
   Known : (event : Event) (s : Step) → Old event s → IsLineStepBy Old U D ciphers w event s
@@ -206,11 +206,11 @@ pub data IsLineStepBy (Old : Event → Step → Type 1) (U : List Outgoing → T
       → IsLineStepBy Old U D ciphers w (events.Choose number k) (Ok (chooses_by ciphers w number x k (Some psk)))
 
 -- that it is such an event
-abbrev pub IsLineStep : (List Outgoing → Type 0) → (Discovery → Type 0) → Ciphers → World → Event → Step → Type 1
+abbrev pub IsLineStep : (List UnsealedUnit → Type 0) → (Discovery → Type 0) → Ciphers → World → Event → Step → Type 1
 IsLineStep U D ciphers w event s = IsLineStepBy (IsStep ciphers w) U D ciphers w event s
 
 -- What is known of what the nodes of a world seal by further rules.
-pub record Speaks (U : List Outgoing → Type 0) (D : Discovery → Type 0) (ciphers : Ciphers) (w : World) : Type 0 where
+pub record Speaks (U : List UnsealedUnit → Type 0) (D : Discovery → Type 0) (ciphers : Ciphers) (w : World) : Type 0 where
   pub broadcasts : (number : ℕ) (x : Node) (m : Memory) (datagram : List ℕ) → IsLineOctets datagram → node_at w number ≡ Some x → x.memory ≡ Some m
       → IsFurther U m (with_beside (beside_at w number) (λ y. broadcast in_memory y datagram) m)
   pub asks : (number : ℕ) (x : Node) (m : Memory) (target : ℕ) → node_at w number ≡ Some x → x.memory ≡ Some m
@@ -231,7 +231,7 @@ pub record Speaks (U : List Outgoing → Type 0) (D : Discovery → Type 0) (cip
       → IsFurther U m (acknowledges in_memory reply.to reply.number reply.origin m)
 
 -- what a node does by such plans makes and checks no pair tag
-module _ (U : List Outgoing → Type 0) {A : Type 0} (x : Node) (halted : A) (does : Memory → Plan Memory A) where
+module _ (U : List UnsealedUnit → Type 0) {A : Type 0} (x : Node) (halted : A) (does : Memory → Plan Memory A) where
   plan_makes_none : (m : Memory) (p : Plan Memory A) → IsFurther U m p → (p.made ≡ []) × (p.opened ≡ [])
   unfolding resting
   plan_makes_none m p (Rests answer failed) = (refl, refl)
@@ -258,7 +258,7 @@ same_said_of : (s t : Trace) → t.happenings.forged ≡ s.happenings.forged →
     → t.done ≡ s.done → t.made ≡ s.made → t.opened ≡ s.opened → SaysTheSame s t
 same_said_of s t a b c d e f g h = record { forged = a; up = b; sent = c; issued = d; taken = e; done = f; made = g; opened = h }
 
-module _ (U : List Outgoing → Type 0) (D : Discovery → Type 0) (ciphers : Ciphers) (fits : KeepsRanges ciphers) (w : World) (ok : WorldOk w)
+module _ (U : List UnsealedUnit → Type 0) (D : Discovery → Type 0) (ciphers : Ciphers) (fits : KeepsRanges ciphers) (w : World) (ok : WorldOk w)
     (flown_are : All FlightFits w.flights) (logs : LogsKept w) (speaks : Speaks U D ciphers w)
     (Old : Event → Step → Type 1) (fails : (event : Event) (fault : StepFault) → Old event (Err fault)) (old : (event : Event) → IsEvent event
     → Old event (step ciphers w event)) where
@@ -615,7 +615,7 @@ module _ (U : List Outgoing → Type 0) (D : Discovery → Type 0) (ciphers : Ci
   line_step_by (events.Choose node k) e = choose_step node k
   line_step_by (events.Path from to) e = path_step from to
 
-pub line_step_is : (U : List Outgoing → Type 0) (D : Discovery → Type 0) (ciphers : Ciphers) (fits : KeepsRanges ciphers) (w : World) (ok : WorldOk w)
+pub line_step_is : (U : List UnsealedUnit → Type 0) (D : Discovery → Type 0) (ciphers : Ciphers) (fits : KeepsRanges ciphers) (w : World) (ok : WorldOk w)
     (flown_are : All FlightFits w.flights) (logs : LogsKept w) (speaks : Speaks U D ciphers w)
     (event : Event) → IsEvent event → IsLineStep U D ciphers w event (line_step ciphers w event)
 line_step_is U D ciphers fits w ok flown_are logs speaks event says = line_step_by U D ciphers fits w ok flown_are logs speaks (IsStep ciphers w) OldFails
@@ -655,7 +655,7 @@ any_speaks D ciphers w logs request beacons = record {
 
 -- # What holds of each flight
 
-module _ (U : List Outgoing → Type 0) (D : Discovery → Type 0) (ciphers : Ciphers) (P : Flight → Type 0)
+module _ (U : List UnsealedUnit → Type 0) (D : Discovery → Type 0) (ciphers : Ciphers) (P : Flight → Type 0)
     (sent : (number : ℕ) (frame : Sent) → P (flight_by number (spelled ciphers frame))) (lost : (f : Flight) → P f → P (record f { lost = true }))
     (found : (number : ℕ) (frame : Discovery) → D frame → P (discovery_flight number frame)) where
   moved_all : (w v : World) → Moves U D ciphers w v → All P w.flights → All P v.flights
@@ -696,7 +696,7 @@ spelled_by ciphers fits w ok flown logs beacons all event says =
 
 -- # What holds through moves
 
-module _ (U : List Outgoing → Type 0) (D : Discovery → Type 0) (ciphers : Ciphers) (fits : KeepsRanges ciphers) where
+module _ (U : List UnsealedUnit → Type 0) (D : Discovery → Type 0) (ciphers : Ciphers) (fits : KeepsRanges ciphers) where
   -- what a node does by a further plan
   carried_did : {A : Type 0} (v : World) → WorldOk v → (number : ℕ) (x : Node) (halted : A) (does : Memory → Plan Memory A) → node_at v number ≡ Some x
       → ((m : Memory) → x.memory ≡ Some m → IsFurther U m (does m)) → DidOk x (acts x halted does)

@@ -10,7 +10,7 @@ use Rattle.std.proofs.lemmas.Option.{same_Some}
 use Rattle.store_tables.proofs.SlotTables.{slice_get-set, slice_get-set_other}
 use Rattle.pan_discovery.specs.declared.message.Discovery.{Discovery}
 use Rattle.node_rules.specs.Ciphers.{Ciphers}
-use Rattle.node_rules.specs.Drafts.{Outgoing, refused}
+use Rattle.node_rules.specs.Drafts.{UnsealedUnit, refused}
 use Rattle.node_rules.specs.Memory.{Memory, Node}
 use Rattle.node_rules.specs.Meters as meters
 use Rattle.node_rules.specs.NodeSteps.{NodeStep, acts, left_by, stays}
@@ -107,7 +107,7 @@ after_kept ciphers v number x d there leaves = record { at = at; more = length-s
         (λ (ne : n ≢ number). (y, sym (slice_get-set_other v.nodes number n d.node ne) ∙ here, λ t e. e))
         (cases_eq n number)
 
-moved_kept : (U : List Outgoing → Type 0) (D : Discovery → Type 0) (ciphers : Ciphers) (v u : World) → Moves U D ciphers v u → TagsKept v u
+moved_kept : (U : List UnsealedUnit → Type 0) (D : Discovery → Type 0) (ciphers : Ciphers) (v u : World) → Moves U D ciphers v u → TagsKept v u
 moved_kept U D ciphers v u (Stays z) = same_kept v v refl refl
 moved_kept U D ciphers v u (Carries z number x A halted does there is) = after_kept ciphers v number x (acts x halted does) there
     (acts_leave x halted does (λ m here. further_away m (does m) (is m here)))
@@ -148,7 +148,7 @@ then_kept w v u sent now s k same = record {
 
 -- # Every event
 
-module _ (U : List Outgoing → Type 0) (D : Discovery → Type 0) (ciphers : Ciphers) (fits : KeepsRanges ciphers) (w : World) (ok : WorldOk w) where
+module _ (U : List UnsealedUnit → Type 0) (D : Discovery → Type 0) (ciphers : Ciphers) (fits : KeepsRanges ciphers) (w : World) (ok : WorldOk w) where
   -- the tags, and that one event more is counted
   abbrev Counts : Step → Type 0
   Counts (Ok r) = StepTags w r.0 r.1.sent × (r.0.events ≡ w.events + 1)

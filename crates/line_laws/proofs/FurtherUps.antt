@@ -17,7 +17,7 @@ use Rattle.line_rules.specs.Traces.{AreTracedRight, ComesTo, CountsRight, is_bro
 use Rattle.line_rules.specs.Steps.{is_taken}
 use Rattle.line_rules.specs.Worlds.{World, Sending, start}
 use Rattle.line_laws.specs.InCustody.{Custody, FlightIsOf, SentUnder, sent_as}
-use Rattle.line_laws.specs.Letters.{IsFlight}
+use Rattle.line_laws.specs.SealedUnits.{IsFlight}
 use Rattle.line_laws.specs.Live.{live}
 use Rattle.line_laws.specs.Ranges.{NodeRanged}
 use Rattle.line_laws.specs.Tags.{TagRises}

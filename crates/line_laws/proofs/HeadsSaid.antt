@@ -15,7 +15,7 @@ use Rattle.mac_frames.specs.Reading.{head_by, head_in, body_in}
 use Rattle.mac_frames.specs.Laws.{SaysItsNonce}
 use Rattle.mac_frames.proofs.HeadsSaid.{sealed_say, plain_say, nonces_in_range}
 use Rattle.node_rules.specs.Ciphers.{Ciphers}
-use Rattle.node_rules.specs.Frames.{Sent, Arrived, arrived, arrived_with, Letter, Sealed, Up, Down, to_all, head_of, joining_unit, spelled}
+use Rattle.node_rules.specs.Frames.{Sent, Arrived, arrived, arrived_with, SealedUnit, Sealed, Up, Down, to_all, head_of, joining_unit, spelled}
 use Rattle.line_rules.specs.Steps.{flight_by}
 use Rattle.line_rules.specs.Nonces.{IsSealedUnder, IsPlainFrame, IsSpelled, NonceParts, nonce_in_head}
 use Rattle.plc_base.specs.declared.key.Key.{Key}
@@ -36,21 +36,21 @@ plain_nonce octets e = ap (λ b. nonce_in_head (head_by b (has_modes 2 3 (octet 
 
 -- # What is spelled
 
-letter_says : (ciphers : Ciphers) (l : Letter) → SaysItsNonce l.from l.counter (spelled ciphers (Sealed l)).octets
+sealed_unit_says : (ciphers : Ciphers) (l : SealedUnit) → SaysItsNonce l.from l.counter (spelled ciphers (Sealed l)).octets
 unfolding spelled
-letter_says ciphers l =
+sealed_unit_says ciphers l =
     sealed_say (not (l.to == to_all)) (l.counter % 256) PAN l.to l.from l.counter l.index (ciphers.seals l.key (head_of l) (spelling l.unit))
 
-pub sealed_sender_is : (ciphers : Ciphers) (l : Letter) → l.from < 2 ^ 16
+pub sealed_sender_is : (ciphers : Ciphers) (l : SealedUnit) → l.from < 2 ^ 16
     → IfSome (nonce_in_head (head_in (spelled ciphers (Sealed l)).octets)) (λ p. p.from ≡ l.from)
 sealed_sender_is ciphers l fits =
-    let s = letter_says ciphers l in
+    let s = sealed_unit_says ciphers l in
     subst (λ (o : Option NonceParts). IfSome o (λ p. p.from ≡ l.from)) (sym (said_nonce (spelled ciphers (Sealed l)).octets s.sealed)) (s.sender fits)
 
-pub sealed_counter : (ciphers : Ciphers) (l : Letter) → l.counter < 2 ^ 32
+pub sealed_counter : (ciphers : Ciphers) (l : SealedUnit) → l.counter < 2 ^ 32
     → IfSome (nonce_in_head (head_in (spelled ciphers (Sealed l)).octets)) (λ p. p.counter ≡ l.counter)
 sealed_counter ciphers l fits =
-    let s = letter_says ciphers l in
+    let s = sealed_unit_says ciphers l in
     subst (λ (o : Option NonceParts). IfSome o (λ p. p.counter ≡ l.counter)) (sym (said_nonce (spelled ciphers (Sealed l)).octets s.sealed)) (s.number fits)
 
 pub up_nonce : (ciphers : Ciphers) (agent : ℕ) (from : Eui) (message : JoinMessage)
@@ -84,7 +84,7 @@ none_key k e = cc
 some_key : (k : Key) → Some k ≡ None → ⊥
 some_key k e = cc
 
-sealed_key : (ciphers : Ciphers) (l : Letter) → Some l.key ≡ (spelled ciphers (Sealed l)).key
+sealed_key : (ciphers : Ciphers) (l : SealedUnit) → Some l.key ≡ (spelled ciphers (Sealed l)).key
 unfolding spelled
 sealed_key ciphers l = refl
 
@@ -105,14 +105,14 @@ unfolding spelled
 down_note ciphers from message = refl
 
 -- a sealed frame is a head and what its key seals, and its nonce is read back
-sealed_under : (ciphers : Ciphers) (l : Letter) → IsSealedUnder ciphers l.key (spelled ciphers (Sealed l)).octets
+sealed_under : (ciphers : Ciphers) (l : SealedUnit) → IsSealedUnder ciphers l.key (spelled ciphers (Sealed l)).octets
 unfolding spelled
 sealed_under ciphers l = record {
   head = head_of l;
   payload = spelling l.unit;
   sealed = tt;
   spelled = refl;
-  nonce = ap is_some (said_nonce _ (letter_says ciphers l).sealed);
+  nonce = ap is_some (said_nonce _ (sealed_unit_says ciphers l).sealed);
   opened = λ o. o.opens l.key (head_of l) (spelling l.unit);
 }
 

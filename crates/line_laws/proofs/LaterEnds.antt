@@ -18,7 +18,7 @@ use Rattle.line_rules.specs.Worlds.{start}
 use Rattle.line_laws.specs.InCustody.{FlightIsOf, SentUnder}
 use Rattle.line_laws.specs.Keyed.{AtHome}
 use Rattle.line_laws.specs.Later.{CommandsMayBeSealed, JoinedNodesSeal, OthersMayNot, StartHolds, seals_at}
-use Rattle.line_laws.specs.Letters.{IsFlight}
+use Rattle.line_laws.specs.SealedUnits.{IsFlight}
 use Rattle.line_laws.specs.Lines.{FlightFits}
 use Rattle.line_laws.specs.Ranges.{NodeRanged}
 use Rattle.line_laws.proofs.IssueRuns.{start_keyed}
@@ -45,17 +45,17 @@ others_may_not = record {
 }
 
 module _ {E : Type 0} (ends : Ends E) (halted : E) (to : ℕ) (unit : MeshUnit) (x : Node) (m : Memory) (g : Granted) (key : Key) where
-  abbrev letter : Sent
-  letter = Sealed (record { to = to; from = g.address; counter = m.station.counter.next; index = g.active; key = key; unit = unit; note = 0 })
+  abbrev sealed_unit : Sent
+  sealed_unit = Sealed (record { to = to; from = g.address; counter = m.station.counter.next; index = g.active; key = key; unit = unit; note = 0 })
 
-  plan_sends : m.station.ring ≡ Some g → sealing_key g ≡ Some key → 1 ≤ counters_left m.station → (plan ends to unit m).frames ≡ letter ∷ []
+  plan_sends : m.station.ring ≡ Some g → sealing_key g ≡ Some key → 1 ≤ counters_left m.station → (plan ends to unit m).frames ≡ sealed_unit ∷ []
   plan_sends rings keyed left =
       ap (λ (p : Plan Memory (Result (Unit {0}) E)). p.frames) (goes_out_is ends to unit m left)
       ∙ ap (λ r. sealed_by r m.station.counter.next (record { to = to; unit = unit; note = 0 } ∷ [])) rings
       ∙ ap (λ (k : Option Key). option_map_or (λ (q : Key). Sealed
       (record { to = to; from = g.address; counter = m.station.counter.next; index = g.active; key = q; unit = unit; note = 0 }) ∷ []) k []) keyed
 
-  node_sends : x.memory ≡ Some m → x.store.cut ≡ None → (plan ends to unit m).frames ≡ letter ∷ [] → (seals_at ends halted to unit x).frames ≡ letter ∷ []
+  node_sends : x.memory ≡ Some m → x.store.cut ≡ None → (plan ends to unit m).frames ≡ sealed_unit ∷ [] → (seals_at ends halted to unit x).frames ≡ sealed_unit ∷ []
   unfolding acts
   node_sends here safe sends =
       ap (λ (o : Option Memory). (option_map_or (λ n. left_by x (carry_out x.store.records x.store.cut (plan ends to unit n))) o (stays x (Err halted))).frames)

@@ -40,7 +40,7 @@ use Rattle.line_laws.proofs.IssueWords.{Each}
 use Rattle.line_laws.proofs.LaterStores.{log_away, log_ranks, stores_ok, stores_quietly}
 use Rattle.line_laws.proofs.RankAccount.{account_same}
 use Rattle.line_laws.proofs.RankWrites as rank_writes
-use Rattle.line_laws.specs.Letters.{IsFlight, IsPlainFrame}
+use Rattle.line_laws.specs.SealedUnits.{IsFlight, IsPlainFrame}
 use Rattle.line_laws.specs.Lines.{FlightFits, NodeOk, WorldOk, frontier}
 use Rattle.line_laws.specs.Live.{book_of, live, marks_of}
 use Rattle.line_laws.specs.Loops.{stored}

@@ -24,13 +24,13 @@ use Rattle.line_events.specs.declared.happenings.Handed.{Handed}
 use Rattle.line_laws.specs.InCustody.{Custody, FlightIsOf, SentUnder}
 use Rattle.line_laws.specs.Keyed.{AtHome, Keyed}
 use Rattle.line_laws.specs.Later.{DiscoveringKeeps, GoesOn, Holds, KeepsInTurn, KeepsOn, UnsentHolds, flown, unsent}
-use Rattle.line_laws.specs.Letters.{Discovers, IsFlight}
+use Rattle.line_laws.specs.SealedUnits.{Discovers, IsFlight}
 use Rattle.line_laws.specs.Lines.{FlightFits, IsBelow, Rising, WorldOk, frontier}
 use Rattle.line_laws.specs.Live.{IsLater, MarksRise, live, marks_of}
 use Rattle.line_laws.specs.Loops.{RanksRise}
 use Rattle.line_laws.specs.Owed.{AreOctets}
 use Rattle.line_laws.specs.Places.{LiveFalls, live_is, places}
-use Rattle.line_laws.specs.Ranked.{FlightBacked, IsNearer, IsPlain, IsLetter, RoutingHolds, homes_of}
+use Rattle.line_laws.specs.Ranked.{FlightBacked, IsNearer, IsPlain, IsSealedUnit, RoutingHolds, homes_of}
 use Rattle.routing_set.specs.declared.rank.Rank.{Rank}
 use Rattle.line_laws.proofs.CustodyCalls.{zero_weight}
 use Rattle.std.specs.Prelude.{cond}
@@ -128,7 +128,7 @@ module _ (given : List Issued) (sent : List Sending) (taken : List Pairing) (all
 
     backed_on : (g : Flight) → FlightBacked network (homes_of h.keyed.book w) w g → FlightBacked network (homes_of h.keyed.book w) v g
     backed_on g (IsPlain none) = IsPlain none
-    backed_on g (IsLetter letter y octets key at here backed reads) = IsLetter letter y octets key at here backed reads
+    backed_on g (IsSealedUnit sealed_unit y octets key at here backed reads) = IsSealedUnit sealed_unit y octets key at here backed reads
 
     nearer_on : (next dest : ℕ) (rank : Rank) → IsNearer (homes_of h.keyed.book w) w next dest rank → IsNearer (homes_of h.keyed.book w) v next dest rank
     nearer_on next dest rank (inl e) = inl e

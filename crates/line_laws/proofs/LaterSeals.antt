@@ -17,7 +17,7 @@ use Rattle.mesh_header.specs.declared.unit.Unit.{Unit as MeshUnit}
 use Rattle.mesh_header.specs.declared.unit.Unit.TheVariants as units
 use Rattle.routing_set.specs.RoutingSet as routing
 use Rattle.routing_set.specs.declared.rank.Rank.{Rank}
-use Rattle.node_rules.specs.Drafts.{Ends, Outgoing, alone, counters_left, empty_draft, goes, refused, sealed, sealed_by, sealing, sealing_key}
+use Rattle.node_rules.specs.Drafts.{Ends, UnsealedUnit, alone, counters_left, empty_draft, goes, refused, sealed, sealed_by, sealing, sealing_key}
 use Rattle.node_rules.specs.Frames.{Sent, Sealed}
 use Rattle.node_rules.specs.Laws.{IsWhole, IsCutOff}
 use Rattle.node_rules.specs.Memory.{Memory, Role, Coordinator, Node, address_of}
@@ -27,7 +27,7 @@ use Rattle.node_rules.specs.Plans.{Plan, carry_out, resting}
 use Rattle.node_rules.proofs.Writing.{clean}
 use Rattle.line_laws.specs.Custody.{content_is, sent_is, weigh}
 use Rattle.line_laws.specs.Later.{IsBeside, MayBeSealed, seals}
-use Rattle.line_laws.specs.Letters.{IsRoute}
+use Rattle.line_laws.specs.SealedUnits.{IsRoute}
 use Rattle.line_laws.specs.Ranges.{IsOut, IsStationRanged}
 use Rattle.line_laws.specs.InCustody.{StationIsTrue}
 use Rattle.line_laws.specs.Ranked.{UnitBacked, IsOther}
@@ -92,7 +92,7 @@ no_weight n i (units.Carried mesh body) h = absurd h
 -- # The plan
 
 module _ {E : Type 0} (ends : Ends E) (to : ℕ) (unit : MeshUnit) where
-  abbrev pub one : Outgoing
+  abbrev pub one : UnsealedUnit
   one = record { to = to; unit = unit; note = 0 }
 
   abbrev pub plan : Memory → Plan Memory (Result (Unit {0}) E)

@@ -18,12 +18,12 @@ use Rattle.line_events.specs.declared.happenings.Handed.{Handed}
 use Rattle.line_laws.specs.InCustody.{Custody, FlightIsOf, SentUnder}
 use Rattle.line_laws.specs.Keyed.{AtHome, Keyed}
 use Rattle.line_laws.specs.Later.{BesideKeeps, GoesOn, Holds, KeepsInTurn, KeepsOn, UnsentHolds, unsent}
-use Rattle.line_laws.specs.Letters.{IsFlight}
+use Rattle.line_laws.specs.SealedUnits.{IsFlight}
 use Rattle.line_laws.specs.Lines.{FlightFits, IsBelow, Rising, WorldOk, frontier}
 use Rattle.line_laws.specs.Live.{IsLater, MarksRise, live}
 use Rattle.line_laws.specs.Loops.{RanksRise, stored}
 use Rattle.line_laws.specs.Places.{LiveFalls, live_is}
-use Rattle.line_laws.specs.Ranked.{FlightBacked, IsNearer, IsPlain, IsLetter, RoutingHolds, homes_of}
+use Rattle.line_laws.specs.Ranked.{FlightBacked, IsNearer, IsPlain, IsSealedUnit, RoutingHolds, homes_of}
 use Rattle.routing_set.specs.declared.rank.Rank.{Rank}
 use Rattle.line_laws.specs.Shut.{ShutAt}
 use Rattle.line_laws.specs.Sends.{SentAs}
@@ -182,7 +182,7 @@ module _ (given : List Issued) (sent : List Sending) (taken : List Pairing) (all
 
     backed_on : (g : Flight) → FlightBacked network (homes_of h.keyed.book w) w g → FlightBacked network (homes_of h.keyed.book w) u g
     backed_on g (IsPlain none) = IsPlain none
-    backed_on g (IsLetter letter y octets key at here backed reads) = IsLetter letter y octets key at here backed reads
+    backed_on g (IsSealedUnit sealed_unit y octets key at here backed reads) = IsSealedUnit sealed_unit y octets key at here backed reads
 
     unsent_nearer : (next dest : ℕ) (rank : Rank) → IsNearer (homes_of h.keyed.book w) w next dest rank → IsNearer (homes_of h.keyed.book w) u next dest rank
     unsent_nearer next dest rank (inl e) = inl e

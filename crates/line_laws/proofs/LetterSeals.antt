@@ -10,17 +10,17 @@ use Rattle.mac_frames.proofs.HeadsRead.{frame_read}
 use Rattle.mesh_header.specs.Grammar.{spelling}
 use Rattle.mesh_header.specs.Reading.{unit_in}
 use Rattle.node_rules.specs.Ciphers.{Ciphers}
-use Rattle.node_rules.specs.Frames.{Letter, Sealed, Arrived, arrived_with, head_of, spelled, arrived}
+use Rattle.node_rules.specs.Frames.{SealedUnit, Sealed, Arrived, arrived_with, head_of, spelled, arrived}
 use Rattle.mesh_header.proofs.Readings.{unit_read}
 use Rattle.node_rules.specs.Ciphers.{OpensWhatItSeals}
-use Rattle.line_laws.specs.Letters.{IsLetter}
+use Rattle.line_laws.specs.SealedUnits.{IsSealedUnit}
 
 -- # A letter's spelling
 
 by_fault : {F : Type 0} (o : Option F) (a : Arrived) → o ≡ None → (if is_some o then None else Some a) ≡ Some a
 by_fault o a none = rw none refl
 
-module _ (ciphers : Ciphers) (opens : OpensWhatItSeals ciphers) (l : Letter) (fits : IsLetter l) where
+module _ (ciphers : Ciphers) (opens : OpensWhatItSeals ciphers) (l : SealedUnit) (fits : IsSealedUnit l) where
   abbrev body : List ℕ
   body = ciphers.seals l.key (head_of l) (spelling l.unit)
 
@@ -49,14 +49,14 @@ module _ (ciphers : Ciphers) (opens : OpensWhatItSeals ciphers) (l : Letter) (fi
   is_read = frame_read (head_of l) body octets frame
 
   -- what arrives of it has its head, and its key opens the unit
-  pub letter_arrives : arrived ciphers (spelled ciphers (Sealed l)).octets ≡ Some (arrived_with ciphers (head_of l) (header (head_of l)) body)
+  pub sealed_unit_arrives : arrived ciphers (spelled ciphers (Sealed l)).octets ≡ Some (arrived_with ciphers (head_of l) (header (head_of l)) body)
   unfolding arrived spelled
-  letter_arrives =
+  sealed_unit_arrives =
       by_fault (frame_fault octets) _ is_read.whole ∙ (λ i. Some (arrived_with ciphers (is_read.said i) (is_read.front i) (is_read.rest i)))
 
-  pub letter_opens : (arrived_with ciphers (head_of l) (header (head_of l)) body).opened l.key ≡ Some (spelling l.unit)
-  letter_opens = opens.opens l.key (head_of l) (spelling l.unit)
+  pub sealed_unit_opens : (arrived_with ciphers (head_of l) (header (head_of l)) body).opened l.key ≡ Some (spelling l.unit)
+  sealed_unit_opens = opens.opens l.key (head_of l) (spelling l.unit)
 
   -- and the unit is read
-  pub letter_unit : unit_in (spelling l.unit) ≡ Some l.unit
-  letter_unit = unit_read l.unit (spelling l.unit) (fits.unit.fields, refl)
+  pub sealed_unit_unit : unit_in (spelling l.unit) ≡ Some l.unit
+  sealed_unit_unit = unit_read l.unit (spelling l.unit) (fits.unit.fields, refl)

@@ -15,7 +15,7 @@ use Rattle.node_rules.specs.declared.heard.Accepted.{Accepted}
 use Rattle.node_rules.specs.Calls as calls
 use Rattle.node_rules.specs.Ciphers.{Ciphers, OpensWhatItSeals, network}
 use Rattle.node_rules.specs.Coordinators as coordinator_rules
-use Rattle.node_rules.specs.Frames.{Letter, Sent, Sealed, Up, Down, Arrived, arrived_with, head_of}
+use Rattle.node_rules.specs.Frames.{SealedUnit, Sent, Sealed, Up, Down, Arrived, arrived_with, head_of}
 use Rattle.node_rules.specs.Memory.{Memory, Meter, Node, node_address}
 use Rattle.node_rules.specs.Meters as meters
 use Rattle.node_rules.specs.NodeSteps.{of_station}
@@ -24,18 +24,18 @@ use Rattle.line_events.specs.Events.{IsLineOctets}
 use Rattle.line_rules.specs.Forgery.{accepting}
 use Rattle.line_rules.specs.Steps.{identity, note_by, forged_by}
 use Rattle.line_rules.specs.Worlds.{World, node_at}
-use Rattle.line_laws.specs.Letters.{IsLetter, IsRoute}
+use Rattle.line_laws.specs.SealedUnits.{IsSealedUnit, IsRoute}
 use Rattle.line_laws.specs.Owed.{AreOctets}
 use Rattle.line_laws.proofs.LetterAccepts.{from_of}
 use Rattle.node_rules.proofs.NetworkOpens.{network_opens_again}
-use Rattle.line_laws.proofs.LetterSeals.{letter_arrives, letter_opens, letter_unit}
+use Rattle.line_laws.proofs.LetterSeals.{sealed_unit_arrives, sealed_unit_opens, sealed_unit_unit}
 use Rattle.line_laws.proofs.RangeFrames.{IsSent}
 use Rattle.line_laws.proofs.RangePlans.{RangeOk}
-pub use Rattle.line_laws.specs.Ranked.{LetterRead}
+pub use Rattle.line_laws.specs.Ranked.{SealedUnitRead}
 
 -- a plain frame has no letter
 abbrev pub FrameRead : Ciphers → Sent → Type 0
-FrameRead ciphers (Sealed letter) = LetterRead ciphers letter
+FrameRead ciphers (Sealed sealed_unit) = SealedUnitRead ciphers sealed_unit
 FrameRead ciphers (Up agent from message) = Unit {0}
 FrameRead ciphers (Down from message) = Unit {0}
 
@@ -72,16 +72,16 @@ pub record CallsRead (ciphers : Ciphers) (w : World) : Type 0 where
 
 -- # What is in its ranges is read back
 
-letter_read : (ciphers : Ciphers) → OpensWhatItSeals ciphers → (l : Letter) → IsLetter l → LetterRead ciphers l
-letter_read ciphers opens l fits = record {
+sealed_unit_read : (ciphers : Ciphers) → OpensWhatItSeals ciphers → (l : SealedUnit) → IsSealedUnit l → SealedUnitRead ciphers l
+sealed_unit_read ciphers opens l fits = record {
   opens = λ a ack seq pan to from counter index payload is head opened.
       let body : List ℕ = ciphers.seals l.key (head_of l) (spelling l.unit) in
       let came : Arrived = arrived_with ciphers (head_of l) (header (head_of l)) body in
-      let this : came ≡ a = same_Some came a (sym (letter_arrives ciphers opens l fits) ∙ is) in
+      let this : came ≡ a = same_Some came a (sym (sealed_unit_arrives ciphers opens l fits) ∙ is) in
       let heads_are : head_of l ≡ heads.Sealed ack seq pan to from counter index = ap (λ (x : Arrived). x.head) this ∙ head in
       let payload_is : spelling l.unit
-      ≡ payload = same_Some (spelling l.unit) payload (sym (letter_opens ciphers opens l fits) ∙ ap (λ (x : Arrived). x.opened l.key) this ∙ opened) in
-      (sym (ap from_of heads_are), ap unit_in (sym payload_is) ∙ letter_unit ciphers opens l fits);
+      ≡ payload = same_Some (spelling l.unit) payload (sym (sealed_unit_opens ciphers opens l fits) ∙ ap (λ (x : Arrived). x.opened l.key) this ∙ opened) in
+      (sym (ap from_of heads_are), ap unit_in (sym payload_is) ∙ sealed_unit_unit ciphers opens l fits);
   messages = λ message is.
       let r : IsRoute (units.Local 1 (messages.spelling message)) = subst IsRoute is fits.route in
       let x = r refl in
@@ -89,7 +89,7 @@ letter_read ciphers opens l fits = record {
 }
 
 pub sent_read : (f : Sent) → IsSent f → FrameRead network f
-sent_read (Sealed l) fits = letter_read network network_opens_again l fits
+sent_read (Sealed l) fits = sealed_unit_read network network_opens_again l fits
 sent_read (Up agent from message) fits = tt
 sent_read (Down from message) fits = tt
 

@@ -28,7 +28,7 @@ use Rattle.line_laws.proofs.IssueRuns.{kept, start_keyed}
 use Rattle.line_laws.proofs.IssueWorlds.{Keyed}
 use Rattle.line_laws.proofs.RankSaid.{MessageBacked, UnitBacked, Says, IsWhole, IsPart, IsCarried, IsOther}
 use Rattle.line_laws.proofs.RouteParts as parts
-use Rattle.line_laws.proofs.RouteParts.{At, Own, IsNearer, FlightBacked, IsLetter, RoutingHolds, Reached}
+use Rattle.line_laws.proofs.RouteParts.{At, Own, IsNearer, FlightBacked, IsSealedUnit, RoutingHolds, Reached}
 use Rattle.line_laws.proofs.RouteSteps.{StepHolds, Fails, Taken}
 use Rattle.line_laws.proofs.Homed.{Homes, Grows, DepotFits}
 use Rattle.line_laws.specs.Loops.{stored}
@@ -60,8 +60,8 @@ module _ (ciphers : Ciphers) (h k : Homes) (grows : Grows h k) (w : World) where
 
   flight_grows : (f : Flight) → FlightBacked ciphers h w f → FlightBacked ciphers k w f
   flight_grows f (parts.IsPlain e) = parts.IsPlain e
-  flight_grows f (IsLetter letter x octets key from there b read) =
-      IsLetter letter x octets key (grows f.from letter.from from) there (unit_grows f.from (stored x) letter.unit b) read
+  flight_grows f (IsSealedUnit sealed_unit x octets key from there b read) =
+      IsSealedUnit sealed_unit x octets key (grows f.from sealed_unit.from from) there (unit_grows f.from (stored x) sealed_unit.unit b) read
 
   nearer_grows : (next dest : ℕ) (rank : Rank) → IsNearer h w next dest rank → IsNearer k w next dest rank
   nearer_grows next dest rank (inl same) = inl same

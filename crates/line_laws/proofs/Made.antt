@@ -20,7 +20,7 @@ use Rattle.node_rules.specs.declared.heard.Path.TheVariants as paths
 use Rattle.node_rules.specs.declared.heard.Accepted.{Accepted}
 use Rattle.node_rules.specs.Frames.{to_all}
 use Rattle.node_rules.specs.Memory.{StationMemory, Load, Datagram, load_octets, address_of, next_hop}
-use Rattle.node_rules.specs.Drafts.{Draft, Outgoing, with_rank, with_own_number, with_next_tag, with_ring, with_routing_by, goes, body_goes, waits, leave}
+use Rattle.node_rules.specs.Drafts.{Draft, UnsealedUnit, with_rank, with_own_number, with_next_tag, with_ring, with_routing_by, goes, body_goes, waits, leave}
 use Rattle.node_rules.specs.Drafts.{no_room, numbers_spent}
 use Rattle.node_rules.specs.Hearing.{rank_over, hop_less}
 use Rattle.node_rules.specs.Calls.{near_rank, idled}
@@ -104,8 +104,8 @@ pub data IsLost (g : Given) : ℕ → ℕ → Type 0 where
   OnWay : (by : ℕ) (unit : MeshUnit) (mesh : Mesh) → IsCome g by false unit → mesh_of unit ≡ Some mesh → IsLost g mesh.to mesh.origin
 
 -- none of the units has a note
-abbrev pub AreUnnoted : List Outgoing → Type 0
-AreUnnoted units = AllByRecursion (λ (o : Outgoing). o.note ≡ 0) units
+abbrev pub AreUnnoted : List UnsealedUnit → Type 0
+AreUnnoted units = AllByRecursion (λ (o : UnsealedUnit). o.note ≡ 0) units
 
 -- what goes out under a note goes alone: nothing under a note went before, and nothing began to wait
 pub data IsAlone (s d : Draft StationMemory) : ℕ → Type 0 where

@@ -24,7 +24,7 @@ use Rattle.node_rules.specs.declared.refusal.Dropped.{Dropped}
 use Rattle.node_rules.specs.declared.refusal.Dropped.TheVariants.{BadUnit, NoSession, NoRandom}
 use Rattle.node_rules.specs.Memory.{StationMemory, Memory, Command, MeterSession, SessionWay, ByAgent, ByCommand, address_of, next_hop}
 use Rattle.node_rules.specs.Plans.{Plan}
-use Rattle.node_rules.specs.Drafts.{Draft, Outgoing, alone, empty_draft, checked, with_ring}
+use Rattle.node_rules.specs.Drafts.{Draft, UnsealedUnit, alone, empty_draft, checked, with_ring}
 use Rattle.node_rules.specs.Hearing as station_rules
 use Rattle.node_rules.specs.Hearing.{dropped}
 use Rattle.node_rules.specs.Joining.{message}
@@ -285,7 +285,7 @@ module _ (L : Granted → Type 0) (P : Eui → Key → Type 0) (E : Eui → Type
   abbrev pub Nothing : {H : Type 0} → Memory → H → Type 0
   Nothing n answer = ⊥
 
-  no_units : (units : List Outgoing) (n : ℕ) → units ≡ [] → length units ≤ n
+  no_units : (units : List UnsealedUnit) (n : ℕ) → units ≡ [] → length units ≤ n
   no_units units n e = rw e (omega arith)
 
   abbrev asks : ℕ → Draft Memory

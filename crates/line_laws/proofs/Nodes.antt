@@ -15,7 +15,7 @@ use Rattle.routing_set.specs.RoutingSet as routing
 use Rattle.node_rules.specs.Memory.{Memory, Role, Coordinator, Meter, Node, address_of, node_address}
 use Rattle.line_laws.proofs.Senders.{AreFrom, plan_from, acts_from}
 use Rattle.node_rules.specs.Plans.{Plan, Outcome, carry_out, resting}
-use Rattle.node_rules.specs.Drafts.{Ends, Outgoing, letters, sealed_by, sealing_key}
+use Rattle.node_rules.specs.Drafts.{Ends, UnsealedUnit, sealed_units, sealed_by, sealing_key}
 use Rattle.node_rules.specs.MemoryDrafts.{in_memory}
 use Rattle.node_rules.specs.NodeSteps.{NodeStep, acts, stays, left_by}
 use Rattle.node_rules.specs.Laws.{IsWhole, IsCutOff}
@@ -150,17 +150,17 @@ pair_octets x m psk k is = (subst (λ role. BookKept role m.book x.store.records
 
 -- # Frames
 
-length-letters : (g : Granted) (key : Key) (first : ℕ) (units : List Outgoing) → length (letters g key first units) ≡ length units
-length-letters g key first [] = refl
-length-letters g key first (o ∷ rest) = ap suc (length-letters g key (first + 1) rest)
+length-sealed_units : (g : Granted) (key : Key) (first : ℕ) (units : List UnsealedUnit) → length (sealed_units g key first units) ≡ length units
+length-sealed_units g key first [] = refl
+length-sealed_units g key first (o ∷ rest) = ap suc (length-sealed_units g key (first + 1) rest)
 
-pub sealed_few : (r : ring.Ring) (first : ℕ) (units : List Outgoing) → length (sealed_by r first units) ≤ length units
+pub sealed_few : (r : ring.Ring) (first : ℕ) (units : List UnsealedUnit) → length (sealed_by r first units) ≤ length units
 sealed_few None first units = omega arith
 sealed_few (Some g) first units = by_key (sealing_key g)
   where
-    by_key : (key : Option Key) → length (option_map_or (λ k. letters g k first units) key []) ≤ length units
+    by_key : (key : Option Key) → length (option_map_or (λ k. sealed_units g k first units) key []) ≤ length units
     by_key None = omega arith
-    by_key (Some key) = let same = length-letters g key first units in omega arith
+    by_key (Some key) = let same = length-sealed_units g key first units in omega arith
 
 pub waits_little : (m : Memory) → IsMemorySized m → pending m.station ≤ 21
 waits_little m h = pending_bound m.station h.station.waiting
@@ -180,7 +180,7 @@ module _ (role : Role) (W : RingWord → Type 0) (L : Granted → Type 0) (P : E
   plan_few ends K p (Keeps n answer k) waits = omega arith
   plan_few ends K p (Ended d answer done left) waits =
       let few = done.1.few waits in
-      let letters_few = sealed_few d.memory.station.ring d.memory.station.counter.next d.units in
+      let sealed_units_few = sealed_few d.memory.station.ring d.memory.station.counter.next d.units in
       let both = length-append d.plain (sealed_by d.memory.station.ring d.memory.station.counter.next d.units) in
       omega arith
 

@@ -39,12 +39,12 @@ use Rattle.fragment_buffers.specs.Loads.{load_octets, IsShort}
 use Rattle.fragment_buffers.proofs.LoadOctets.{load_octets_spelled}
 use Rattle.node_rules.specs.declared.heard.Heard.{Heard}
 use Rattle.node_rules.specs.Ciphers.{network}
-use Rattle.node_rules.specs.Frames.{Letter, Sent, Sealed, Up, Down, head_of, joining_unit, spelled}
+use Rattle.node_rules.specs.Frames.{SealedUnit, Sent, Sealed, Up, Down, head_of, joining_unit, spelled}
 use Rattle.node_rules.specs.Hearing.{Hearing, dropped, hop_less}
 use Rattle.node_rules.specs.Memory.{StationMemory, Memory, Body, Load, Datagram, Command, MeterSession, CoordinatorSession, address_of, next_hop}
 use Rattle.node_rules.specs.Plans.{Plan, resting, within}
-use Rattle.node_rules.specs.Drafts.{Draft, Ends, Outgoing, alone, empty_draft, with_rank, with_own_number, with_next_tag, with_ring, with_routing_by, goes}
-use Rattle.node_rules.specs.Drafts.{body_goes, waits, leave, waits_for, all_go, units_of, is_awaited, seeks, seeks_once, sets_out, letters, sealed_by}
+use Rattle.node_rules.specs.Drafts.{Draft, Ends, UnsealedUnit, alone, empty_draft, with_rank, with_own_number, with_next_tag, with_ring, with_routing_by, goes}
+use Rattle.node_rules.specs.Drafts.{body_goes, waits, leave, waits_for, all_go, units_of, is_awaited, seeks, seeks_once, sets_out, sealed_units, sealed_by}
 use Rattle.node_rules.specs.Drafts.{sealing_key, counters_left, refused, sealing, sealed, checked, choose}
 use Rattle.node_rules.specs.MemoryDrafts.{in_memory, with_station, on_station, station_part, with_memory_by, with_pair_tags, goes_up, goes_down, is_commanded}
 use Rattle.node_rules.specs.Coordinators.{with_book_entry}
@@ -116,7 +116,7 @@ pub record MemorySpeaks (m : Memory) : Type 0 where
 
 -- # What is sent
 
-abbrev pub OutSpeaks : Outgoing → Type 0
+abbrev pub OutSpeaks : UnsealedUnit → Type 0
 OutSpeaks o = SpellsOctets o.unit
 
 abbrev pub PlainSpeaks : Sent → Type 0
@@ -144,9 +144,9 @@ pub record DraftSpeaksIn (d : Draft Memory) : Type 0 where
 
 -- # Frames
 
-letter_octets : (l : Letter) → l.index ≤ 1 → AreOctets l.key.0 → SpellsOctets l.unit → SentOctets (Sealed l)
+sealed_unit_octets : (l : SealedUnit) → l.index ≤ 1 → AreOctets l.key.0 → SpellsOctets l.unit → SentOctets (Sealed l)
 unfolding spelled
-letter_octets l low fits unit = header_octets (head_of l) (sealed_body l.key.0 (head_of l) (spelling l.unit)) (remainder l.counter, omega arith)
+sealed_unit_octets l low fits unit = header_octets (head_of l) (sealed_body l.key.0 (head_of l) (spelling l.unit)) (remainder l.counter, omega arith)
     (sealed_octets l.key.0 (head_of l) (spelling l.unit) fits unit)
 
 joining_octets : (message : JoinMessage) → JoinSpeaks message → SpellsOctets (joining_unit message)
@@ -160,23 +160,23 @@ plain_octets (Up agent from message) h =
 plain_octets (Down from message) h = header_octets (heads.Down true 1 0 PAN message.eui from) (spelling (joining_unit message))
     (omega arith, omega arith, h.octets.eui) (joining_octets message h)
 
-letters_speak : (g : Granted) (key : Key) (first : ℕ) (us : List Outgoing) → g.active ≤ 1 → AreOctets key.0 → All OutSpeaks us
-    → All SentOctets (letters g key first us)
-letters_speak g key first [] low fits all = All-nil SentOctets
-letters_speak g key first (o ∷ rest) low fits all =
+sealed_units_speak : (g : Granted) (key : Key) (first : ℕ) (us : List UnsealedUnit) → g.active ≤ 1 → AreOctets key.0 → All OutSpeaks us
+    → All SentOctets (sealed_units g key first us)
+sealed_units_speak g key first [] low fits all = All-nil SentOctets
+sealed_units_speak g key first (o ∷ rest) low fits all =
     All-cons SentOctets (Sealed (record { to = o.to; from = g.address; counter = first; index = g.active; key = key; unit = o.unit; note = o.note }))
-    (letters g key (first + 1) rest)
-    (letter_octets (record { to = o.to; from = g.address; counter = first; index = g.active; key = key; unit = o.unit; note = o.note }) low fits
+    (sealed_units g key (first + 1) rest)
+    (sealed_unit_octets (record { to = o.to; from = g.address; counter = first; index = g.active; key = key; unit = o.unit; note = o.note }) low fits
     (All-head OutSpeaks o rest all))
-    (letters_speak g key (first + 1) rest low fits (All-tail OutSpeaks o rest all))
+    (sealed_units_speak g key (first + 1) rest low fits (All-tail OutSpeaks o rest all))
 
-pub sealed_speak : (r : ring.Ring) (first : ℕ) (us : List Outgoing) → IfSome r IsReadable → All OutSpeaks us → All SentOctets (sealed_by r first us)
+pub sealed_speak : (r : ring.Ring) (first : ℕ) (us : List UnsealedUnit) → IfSome r IsReadable → All OutSpeaks us → All SentOctets (sealed_by r first us)
 sealed_speak None first us reads all = All-nil SentOctets
 sealed_speak (Some g) first us reads all = by_key (sealing_key g) refl
   where
-    by_key : (key : Option Key) → sealing_key g ≡ key → All SentOctets (option_map_or (λ k. letters g k first us) key [])
+    by_key : (key : Option Key) → sealing_key g ≡ key → All SentOctets (option_map_or (λ k. sealed_units g k first us) key [])
     by_key None e = All-nil SentOctets
-    by_key (Some key) e = letters_speak g key first us reads.grant.index (ring_key_octets (Some g) g.active key reads e) all
+    by_key (Some key) e = sealed_units_speak g key first us reads.grant.index (ring_key_octets (Some g) g.active key reads e) all
 
 -- # Plans
 

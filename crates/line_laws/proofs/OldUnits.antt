@@ -22,7 +22,7 @@ use Rattle.node_rules.specs.Accepting.{accept}
 use Rattle.node_rules.specs.Calls as calls
 use Rattle.node_rules.specs.Ciphers.{Ciphers}
 use Rattle.node_rules.specs.Coordinators as coordinators
-use Rattle.node_rules.specs.Drafts.{Draft, Ends, Outgoing, all_go, alone, body_goes, empty_draft, goes, leave, letters, own_mesh, sealed_by, sealing_key}
+use Rattle.node_rules.specs.Drafts.{Draft, Ends, UnsealedUnit, all_go, alone, body_goes, empty_draft, goes, leave, sealed_units, own_mesh, sealed_by, sealing_key}
 use Rattle.node_rules.specs.Drafts.{units_of, waits, waits_for, with_next_tag, with_own_number, with_rank, with_ring, with_routing_by}
 use Rattle.node_rules.specs.Frames.{Sent, Sealed, Up, Down, arrived}
 use Rattle.node_rules.specs.Hearing.{dropped}
@@ -65,7 +65,7 @@ IsOldFrame (Sealed l) = IsOldUnit l.unit
 IsOldFrame (Up agent from message) = Unit {0}
 IsOldFrame (Down from message) = Unit {0}
 
-record IsOldOut (o : Outgoing) : Type 0 where
+record IsOldOut (o : UnsealedUnit) : Type 0 where
   unit : IsOldUnit o.unit
 
 -- # What is said
@@ -164,18 +164,18 @@ module _ (W : RingWord → Type 0) (L : Granted → Type 0) (P : Eui → Key →
 
 -- # Frames
 
-letters_old : (g : Granted) (key : Key) (first : ℕ) (us : List Outgoing) → All IsOldOut us → All IsOldFrame (letters g key first us)
-letters_old g key first [] all = All-nil IsOldFrame
-letters_old g key first (o ∷ rest) all = All-cons IsOldFrame _ _ (All-head IsOldOut o rest all).unit
-    (letters_old g key (first + 1) rest (All-tail IsOldOut o rest all))
+sealed_units_old : (g : Granted) (key : Key) (first : ℕ) (us : List UnsealedUnit) → All IsOldOut us → All IsOldFrame (sealed_units g key first us)
+sealed_units_old g key first [] all = All-nil IsOldFrame
+sealed_units_old g key first (o ∷ rest) all = All-cons IsOldFrame _ _ (All-head IsOldOut o rest all).unit
+    (sealed_units_old g key (first + 1) rest (All-tail IsOldOut o rest all))
 
-sealed_old : (r : ring.Ring) (first : ℕ) (us : List Outgoing) → All IsOldOut us → All IsOldFrame (sealed_by r first us)
+sealed_old : (r : ring.Ring) (first : ℕ) (us : List UnsealedUnit) → All IsOldOut us → All IsOldFrame (sealed_by r first us)
 sealed_old None first us all = All-nil IsOldFrame
 sealed_old (Some g) first us all = by_key (sealing_key g)
   where
-    by_key : (key : Option Key) → All IsOldFrame (option_map_or (λ k. letters g k first us) key [])
+    by_key : (key : Option Key) → All IsOldFrame (option_map_or (λ k. sealed_units g k first us) key [])
     by_key None = All-nil IsOldFrame
-    by_key (Some key) = letters_old g key first us all
+    by_key (Some key) = sealed_units_old g key first us all
 
 module _ (W : RingWord → Type 0) (L : Granted → Type 0) (P : Eui → Key → Type 0) (E : Eui → Type 0) (g : Given) (m : Memory) where
   plan_old : {H F : Type 0} (ends : Ends F) (K : Memory → H → Type 0) (D : Draft Memory → H → Type 0)

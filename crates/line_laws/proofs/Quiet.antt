@@ -14,7 +14,7 @@ use Rattle.node_rules.specs.Frames.{Arrived}
 use Rattle.node_rules.specs.Memory.{StationMemory, Memory, Node}
 use Rattle.node_rules.specs.Plans.{Plan, carry_out, resting}
 use Rattle.node_rules.specs.Accepting.{Accepting, marking}
-use Rattle.node_rules.specs.Drafts.{Draft, alone, StationPlace, Ends, letters, sealed_by, sealing_key, empty_draft, with_rank, with_ring, sealing, refused}
+use Rattle.node_rules.specs.Drafts.{Draft, alone, StationPlace, Ends, sealed_units, sealed_by, sealing_key, empty_draft, with_rank, with_ring, sealing, refused}
 use Rattle.node_rules.specs.Drafts.{checked, choose}
 use Rattle.node_rules.specs.MemoryDrafts.{in_memory, with_memory_by}
 use Rattle.node_rules.specs.Calls as calls
@@ -29,7 +29,7 @@ sealed_none : (r : ring.Ring) (first : ℕ) → sealed_by r first [] ≡ []
 sealed_none None first = refl
 sealed_none (Some g) first = by_key (sealing_key g)
   where
-    by_key : (key : Option Key) → option_map_or (λ k. letters g k first []) key [] ≡ []
+    by_key : (key : Option Key) → option_map_or (λ k. sealed_units g k first []) key [] ≡ []
     by_key None = refl
     by_key (Some key) = refl
 

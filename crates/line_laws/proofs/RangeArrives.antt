@@ -19,7 +19,7 @@ use Rattle.node_rules.specs.NodeSteps.{NodeStep, acts, of_station, answering}
 use Rattle.line_rules.specs.Steps.{identity, hearing_step, note_by, forged_by, world_after, running_world, trace_of, happenings, flights_of, hearing_outcome, arrives}
 use Rattle.line_rules.specs.Worlds.{Trace, World}
 use Rattle.node_rules.specs.Ciphers.{OpensWhatItSeals}
-use Rattle.line_laws.specs.Letters.{IsFlight, AreFlights}
+use Rattle.line_laws.specs.SealedUnits.{IsFlight, AreFlights}
 use Rattle.line_laws.specs.Ranges.{HasRoomInFrames, IsStationRanged}
 use Rattle.line_laws.proofs.Made.{RingWord, Carry}
 use Rattle.line_laws.proofs.StoreMarks.{IsPlain}

@@ -25,7 +25,7 @@ use Rattle.node_rules.specs.Frames.{to_all}
 use Rattle.node_rules.specs.Memory.{StationMemory, Body, Load, address_of, next_hop}
 use Rattle.node_rules.specs.Drafts.{Draft, tag_after, all_go, units_of, waits_for, with_rank, with_own_number, with_next_tag, with_ring, with_routing_by, goes}
 use Rattle.node_rules.specs.Drafts.{body_goes, waits, leave, numbers_spent}
-use Rattle.line_laws.specs.Letters.{IsFit}
+use Rattle.line_laws.specs.SealedUnits.{IsFit}
 use Rattle.line_laws.specs.Ranges.{HasRoomInFrames, IsBody, HasHop, IsStationRanged, IsOut, IsRanged}
 use Rattle.line_laws.specs.Stores.{IsReadable}
 use Rattle.line_laws.proofs.StoreFold.{WordFits, ring_fits}

@@ -11,21 +11,21 @@ use Rattle.group_keys.specs.KeyRing as ring
 use Rattle.node_rules.specs.Ciphers.{Ciphers}
 use Rattle.node_rules.specs.Frames.{Sent, Sealed, Up, Down, spelled}
 use Rattle.node_rules.specs.Memory.{StationMemory, Memory}
-use Rattle.node_rules.specs.Drafts.{Draft, Outgoing, empty_draft, letters, sealed_by, sealing_key, with_rank, with_own_number, with_next_tag, with_ring}
+use Rattle.node_rules.specs.Drafts.{Draft, UnsealedUnit, empty_draft, sealed_units, sealed_by, sealing_key, with_rank, with_own_number, with_next_tag, with_ring}
 use Rattle.node_rules.specs.Drafts.{with_routing_by, goes, body_goes, waits, leave}
 use Rattle.node_rules.specs.MemoryDrafts.{on_station, station_part, with_memory_by, with_pair_tags, goes_up, goes_down}
 use Rattle.node_rules.specs.Coordinators.{with_book_entry}
 use Rattle.node_rules.specs.NodeSteps.{NodeStep}
 use Rattle.line_rules.specs.Steps.{flight_by, flights_of}
 use Rattle.line_laws.specs.Stores.{IsReadable}
-use Rattle.line_laws.specs.Letters.{IsLetter, GoesUp, GoesDown, IsFlight, AreFlights}
+use Rattle.line_laws.specs.SealedUnits.{IsSealedUnit, GoesUp, GoesDown, IsFlight, AreFlights}
 use Rattle.line_laws.specs.Ranges.{IsStationRanged, IsOut}
 use Rattle.line_laws.proofs.Made.{RingWord, Given, Made, Starts, Ranks, Numbers, Tags as TagsOn, Rings, Idles, Loses, Goes, Sends, Waits, Leaves}
 use Rattle.line_laws.proofs.NodeCalls.{no_some}
 use Rattle.line_laws.proofs.MadeIn.{unheard, MadeIn, Begins, Station, OnStation, Remembers, Tags, Enters, Up as UpIn, Down as DownIn}
 use Rattle.line_laws.proofs.StorePlans.{beside_station_of}
 use Rattle.line_laws.proofs.RangeFold.{InRange, made_ranged}
-pub use Rattle.line_laws.specs.Letters.{IsPlainFrame, IsSent}
+pub use Rattle.line_laws.specs.SealedUnits.{IsPlainFrame, IsSent}
 
 plain_sent : (f : Sent) → IsPlainFrame f → IsSent f
 plain_sent (Sealed l) h = absurd h
@@ -34,22 +34,22 @@ plain_sent (Down from message) h = tt
 
 -- # Letters
 
-letters_fit : (g : Granted) (key : Key) (first : ℕ) (units : List Outgoing) → IsReadable g → length units ≤ 4294967295 - first → All IsOut units
-    → All IsSent (letters g key first units)
-letters_fit g key first [] fits left all = All-nil IsSent
-letters_fit g key first (o ∷ rest) fits left all =
+sealed_units_fit : (g : Granted) (key : Key) (first : ℕ) (units : List UnsealedUnit) → IsReadable g → length units ≤ 4294967295 - first → All IsOut units
+    → All IsSent (sealed_units g key first units)
+sealed_units_fit g key first [] fits left all = All-nil IsSent
+sealed_units_fit g key first (o ∷ rest) fits left all =
     let out = All-head IsOut o rest all in
     All-cons IsSent _ _ (record { to = out.to; from = fits.address; counter = omega arith; index = fits.grant.index; unit = out.unit; route = out.route })
-    (letters_fit g key (first + 1) rest fits (omega arith) (All-tail IsOut o rest all))
+    (sealed_units_fit g key (first + 1) rest fits (omega arith) (All-tail IsOut o rest all))
 
-pub sealed_fit : (r : ring.Ring) (first : ℕ) (units : List Outgoing) → IfSome r IsReadable → length units ≤ 4294967295 - first → All IsOut units
+pub sealed_fit : (r : ring.Ring) (first : ℕ) (units : List UnsealedUnit) → IfSome r IsReadable → length units ≤ 4294967295 - first → All IsOut units
     → All IsSent (sealed_by r first units)
 sealed_fit None first units fits left all = All-nil IsSent
 sealed_fit (Some g) first units fits left all = by_key (sealing_key g)
   where
-    by_key : (key : Option Key) → All IsSent (option_map_or (λ k. letters g k first units) key [])
+    by_key : (key : Option Key) → All IsSent (option_map_or (λ k. sealed_units g k first units) key [])
     by_key None = All-nil IsSent
-    by_key (Some key) = letters_fit g key first units fits left all
+    by_key (Some key) = sealed_units_fit g key first units fits left all
 
 -- # Over all of the memory
 
@@ -121,7 +121,7 @@ frames_fit d r left = All-append IsSent d.plain _ (All-weaker IsPlainFrame IsSen
 flight_fits : (ciphers : Ciphers) (number : ℕ) (f : Sent) → IsSent f → IsFlight ciphers (flight_by number (spelled ciphers f))
 unfolding spelled
 flight_fits ciphers number (Sealed l) h =
-    record { sealed = λ key e. record { letter = l; fits = h; key_is = same_Some l.key key e; octets = refl; note = refl }; plain = λ e. absurd (cc) }
+    record { sealed = λ key e. record { sealed_unit = l; fits = h; key_is = same_Some l.key key e; octets = refl; note = refl }; plain = λ e. absurd (cc) }
 flight_fits ciphers number (Up agent from message) h = record { sealed = λ key e. absurd (cc); plain = λ e. (GoesUp agent from message refl, refl) }
 flight_fits ciphers number (Down from message) h = record { sealed = λ key e. absurd (cc); plain = λ e. (GoesDown from message refl, refl) }
 

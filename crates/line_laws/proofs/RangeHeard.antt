@@ -16,13 +16,13 @@ use Rattle.node_rules.specs.declared.heard.Path.TheVariants as paths
 use Rattle.node_rules.specs.declared.heard.Accepted.{Accepted}
 use Rattle.node_rules.specs.declared.heard.Heard.{Heard}
 use Rattle.node_rules.specs.declared.heard.MeterHeard.TheVariants as meter_heard
-use Rattle.node_rules.specs.Frames.{Letter, to_all}
+use Rattle.node_rules.specs.Frames.{SealedUnit, to_all}
 use Rattle.node_rules.specs.Memory.{StationMemory, Memory, Load}
 use Rattle.node_rules.specs.Joining.{command_of}
 use Rattle.node_rules.specs.Hearing.{dropped}
 use Rattle.node_rules.specs.Meters as meters
 use Rattle.loadng_messages.proofs.Readings.{message_read}
-use Rattle.line_laws.specs.Letters.{IsFit, IsRoute, IsLetter}
+use Rattle.line_laws.specs.SealedUnits.{IsFit, IsRoute, IsSealedUnit}
 use Rattle.line_laws.specs.Ranges.{HasRoomInFrames, IsStationRanged}
 use Rattle.line_laws.proofs.LetterAccepts.{IsOfLetter}
 use Rattle.line_laws.proofs.Made.{Given, IsCome, MessageCame, RingWord, Carry}
@@ -45,7 +45,7 @@ all_of (paths.Sealed from all key) = all
 all_of (paths.Up from) = false
 all_of (paths.Down from) = false
 
-module _ (l : Letter) (fits : IsLetter l) (from counter : ℕ) (got : Accepted) (is : IsOfLetter l from counter got) (cost note now : ℕ) where
+module _ (l : SealedUnit) (fits : IsSealedUnit l) (from counter : ℕ) (got : Accepted) (is : IsOfLetter l from counter got) (cost note now : ℕ) where
   abbrev pub heard : Given
   heard = heard_given got cost note now
 

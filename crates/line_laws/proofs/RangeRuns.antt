@@ -36,7 +36,7 @@ use Rattle.node_rules.specs.Meters as meters
 use Rattle.node_rules.specs.NodeSteps.{NodeStep, acts, stays, answering, changing, of_station}
 use Rattle.node_rules.specs.Plans.{Plan}
 use Rattle.node_rules.specs.StoreReading.{first_grant, blank_station}
-use Rattle.line_laws.specs.Letters.{IsFlight}
+use Rattle.line_laws.specs.SealedUnits.{IsFlight}
 use Rattle.line_laws.specs.Owed.{AreOctets}
 use Rattle.line_laws.specs.Ranges.{HasHop, IsBody, IsStationRanged}
 use Rattle.line_laws.specs.Sizes.{IsMemorySized}
@@ -120,7 +120,7 @@ ticked_ranged now x h = by_role x.role x.memory h
 
 lost_flight : (f : Flight) → IsFlight network f → IsFlight network (record f { lost = true })
 lost_flight f h = record {
-  sealed = λ key e. let s = h.sealed key e in record { letter = s.letter; fits = s.fits; key_is = s.key_is; octets = s.octets; note = s.note };
+  sealed = λ key e. let s = h.sealed key e in record { sealed_unit = s.sealed_unit; fits = s.fits; key_is = s.key_is; octets = s.octets; note = s.note };
   plain = h.plain;
 }
 

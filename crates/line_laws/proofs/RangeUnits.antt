@@ -16,7 +16,7 @@ use Rattle.mesh_header.specs.Grammar.{IsMesh, hops_then, mesh_then, piece_spelli
 use Rattle.fragment_buffers.specs.Fragmentation.{piece_of, pieces_cut}
 use Rattle.node_rules.specs.Memory.{Load, Datagram, Command}
 use Rattle.node_rules.specs.Drafts.{own_mesh, units_of, all_go}
-use Rattle.line_laws.specs.Letters.{IsFit, IsRoute}
+use Rattle.line_laws.specs.SealedUnits.{IsFit, IsRoute}
 use Rattle.line_laws.specs.Ranges.{HasRoomInFrames, IsOut}
 use Rattle.line_laws.proofs.Made.{IsLess, Whole, Part, Carried}
 

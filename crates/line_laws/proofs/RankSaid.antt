@@ -25,8 +25,8 @@ use Rattle.routing_set.proofs.Offers.{gone_among, place_there, entered_held, ent
 use Rattle.routing_set.proofs.LookUps.{is_at, is_at-true, entry_of-find}
 use Rattle.node_rules.specs.Frames.{Sent, Sealed, Up as PlainUp, Down as PlainDown}
 use Rattle.node_rules.specs.Memory.{StationMemory, Memory, Load, Datagram, Command, Body, address_of}
-use Rattle.node_rules.specs.Drafts.{Draft, Outgoing, empty_draft, with_rank, with_own_number, with_next_tag, with_ring, with_routing_by, goes, body_goes, waits}
-use Rattle.node_rules.specs.Drafts.{leave, waits_for, all_go, units_of, own_mesh, letters, sealed_by, sealing_key}
+use Rattle.node_rules.specs.Drafts.{Draft, UnsealedUnit, empty_draft, with_rank, with_own_number, with_next_tag, with_ring, with_routing_by, goes, body_goes, waits}
+use Rattle.node_rules.specs.Drafts.{leave, waits_for, all_go, units_of, own_mesh, sealed_units, sealed_by, sealing_key}
 use Rattle.node_rules.specs.MemoryDrafts.{on_station, station_part, with_memory_by, with_pair_tags, goes_up, goes_down}
 use Rattle.node_rules.specs.Coordinators.{with_book_entry}
 use Rattle.line_laws.proofs.Made.{RingWord, Install, Given, Offered, IsSaid, Seeks, Answers, Relays, Passes, SaysTheSame, Forwards, JustRanked, IsLess, Whole, Part}
@@ -119,7 +119,7 @@ offered_held r dest rank by now =
 
 -- a sealed frame has the own address and a unit that is backed
 abbrev pub FrameBacked : (ℕ → Type 0) → routing.Routing → Sent → Type 0
-FrameBacked At t (Sealed letter) = (At letter.from) × UnitBacked At t letter.unit
+FrameBacked At t (Sealed sealed_unit) = (At sealed_unit.from) × UnitBacked At t sealed_unit.unit
 FrameBacked At t (PlainUp agent from message) = Unit {0}
 FrameBacked At t (PlainDown from message) = Unit {0}
 
@@ -141,12 +141,12 @@ unit_rises At t s u up (IsOther code body other) = IsOther code body other
 
 pub frame_rises : (At : ℕ → Type 0) (t s : routing.Routing) (f : Sent) → ((dest : ℕ) → IsAtLeast (routing.held s dest) (routing.held t dest))
     → FrameBacked At t f → FrameBacked At s f
-frame_rises At t s (Sealed letter) up h = (h.0, unit_rises At t s letter.unit up h.1)
+frame_rises At t s (Sealed sealed_unit) up h = (h.0, unit_rises At t s sealed_unit.unit up h.1)
 frame_rises At t s (PlainUp agent from message) up h = tt
 frame_rises At t s (PlainDown from message) up h = tt
 
 -- each unit on its way out is backed
-abbrev pub Out : (ℕ → Type 0) → routing.Routing → Outgoing → Type 0
+abbrev pub Out : (ℕ → Type 0) → routing.Routing → UnsealedUnit → Type 0
 Out At t o = UnitBacked At t o.unit
 
 -- # Bodies
@@ -253,7 +253,7 @@ module _ (At Own : ℕ → Type 0) (C : ℕ → ℕ → Rank → Type 0) (W : Ri
   module _ (L : Granted → Type 0) (P : Eui → Key → Type 0) (E : Eui → Type 0) (m : Memory) where
     -- the plain frames are those of joining messages
     abbrev IsPlainFrame : Sent → Type 0
-    IsPlainFrame (Sealed letter) = ⊥
+    IsPlainFrame (Sealed sealed_unit) = ⊥
     IsPlainFrame (PlainUp agent from message) = Unit {0}
     IsPlainFrame (PlainDown from message) = Unit {0}
 
@@ -286,23 +286,23 @@ module _ (At Own : ℕ → Type 0) (C : ℕ → ℕ → Rank → Type 0) (W : Ri
     in_backed d (Down x message e made) h sound = in_backed e made h sound
 
     -- the letters that seal units
-    letters_backed : (t : routing.Routing) (gr : Granted) (key : Key) (first : ℕ) (us : List Outgoing) → At gr.address → All (Out At t) us
-        → All (FrameBacked At t) (letters gr key first us)
-    letters_backed t gr key first [] is all = All-nil (FrameBacked At t)
-    letters_backed t gr key first (o ∷ us) is all =
-        All-cons (FrameBacked At t) _ _ (is, All-head (Out At t) o us all) (letters_backed t gr key (first + 1) us is (All-tail (Out At t) o us all))
+    sealed_units_backed : (t : routing.Routing) (gr : Granted) (key : Key) (first : ℕ) (us : List UnsealedUnit) → At gr.address → All (Out At t) us
+        → All (FrameBacked At t) (sealed_units gr key first us)
+    sealed_units_backed t gr key first [] is all = All-nil (FrameBacked At t)
+    sealed_units_backed t gr key first (o ∷ us) is all =
+        All-cons (FrameBacked At t) _ _ (is, All-head (Out At t) o us all) (sealed_units_backed t gr key (first + 1) us is (All-tail (Out At t) o us all))
 
-    sealed_backed : (t : routing.Routing) (r : ring.Ring) (first : ℕ) (us : List Outgoing) → IsAt At (option_map (λ (x : Granted). x.address) r)
+    sealed_backed : (t : routing.Routing) (r : ring.Ring) (first : ℕ) (us : List UnsealedUnit) → IsAt At (option_map (λ (x : Granted). x.address) r)
         → All (Out At t) us → All (FrameBacked At t) (sealed_by r first us)
     sealed_backed t None first us h all = All-nil (FrameBacked At t)
     sealed_backed t (Some gr) first us h all = by_key (sealing_key gr)
       where
-        by_key : (key : Option Key) → All (FrameBacked At t) (option_map_or (λ k. letters gr k first us) key [])
+        by_key : (key : Option Key) → All (FrameBacked At t) (option_map_or (λ k. sealed_units gr k first us) key [])
         by_key None = All-nil (FrameBacked At t)
-        by_key (Some key) = letters_backed t gr key first us h all
+        by_key (Some key) = sealed_units_backed t gr key first us h all
 
     plain_backed : (t : routing.Routing) (f : Sent) → IsPlainFrame f → FrameBacked At t f
-    plain_backed t (Sealed letter) h = absurd h
+    plain_backed t (Sealed sealed_unit) h = absurd h
     plain_backed t (PlainUp agent from message) h = tt
     plain_backed t (PlainDown from message) h = tt
 

@@ -27,7 +27,7 @@ use Rattle.node_rules.specs.Coordinators as coordinator_rules
 use Rattle.node_rules.specs.StoreReading.{memory_of}
 use Rattle.node_rules.specs.Calls as calls
 use Rattle.node_rules.specs.Ciphers.{network}
-use Rattle.node_rules.specs.Frames.{Letter, Sent, Sealed, Up, Down, spelled}
+use Rattle.node_rules.specs.Frames.{SealedUnit, Sent, Sealed, Up, Down, spelled}
 use Rattle.node_rules.specs.Memory.{StationMemory, Memory, Node, Role, address_of, node_address}
 use Rattle.node_rules.specs.MemoryDrafts.{in_memory}
 use Rattle.node_rules.specs.NodeSteps.{NodeStep, acts, answering, of_station}
@@ -180,25 +180,25 @@ old_quiet w event s is = by_step s (old_unreported w event s is)
 -- a reply is a frame among these
 record IsReplyAmong (frames : List Sent) (r : Reply) : Type 0 where
   place : ℕ
-  letter : Letter
-  there : slice_get frames place ≡ Some (Sealed letter)
-  to : letter.to ≡ r.to
+  sealed_unit : SealedUnit
+  there : slice_get frames place ≡ Some (Sealed sealed_unit)
+  to : sealed_unit.to ≡ r.to
   cost : ℕ
   target : ℕ
-  carries : route_message letter.unit ≡ Some (Rrep r.number cost r.origin target)
+  carries : route_message sealed_unit.unit ≡ Some (Rrep r.number cost r.origin target)
 
 reply_first : (frame : Sent) (rest : List Sent) (r : Reply) → reply_of frame ≡ Some r → IsReplyAmong (frame ∷ rest) r
 unfolding reply_of
 reply_first (Up agent from message) rest r e = absurd (cc (e))
 reply_first (Down from message) rest r e = absurd (cc (e))
-reply_first (Sealed letter) rest r e = by_message (route_message letter.unit) refl e
+reply_first (Sealed sealed_unit) rest r e = by_message (route_message sealed_unit.unit) refl e
   where
-    by_message : (o : Option Message) → route_message letter.unit ≡ o → reply_with letter.to o ≡ Some r → IsReplyAmong (Sealed letter ∷ rest) r
+    by_message : (o : Option Message) → route_message sealed_unit.unit ≡ o → reply_with sealed_unit.to o ≡ Some r → IsReplyAmong (Sealed sealed_unit ∷ rest) r
     by_message None is k = absurd (cc (k))
     by_message (Some (Rreq number cost origin dest)) is k = absurd (cc (k))
     by_message (Some (Rerr lost target)) is k = absurd (cc (k))
-    by_message (Some (Rrep number cost origin target)) is k = subst (IsReplyAmong (Sealed letter ∷ rest)) (same_Some _ _ k)
-        (record { place = 0; letter = letter; there = refl; to = refl; cost = cost; target = target; carries = is })
+    by_message (Some (Rrep number cost origin target)) is k = subst (IsReplyAmong (Sealed sealed_unit ∷ rest)) (same_Some _ _ k)
+        (record { place = 0; sealed_unit = sealed_unit; there = refl; to = refl; cost = cost; target = target; carries = is })
 
 reply_is : (frames : List Sent) (r : Reply) → reply_among frames ≡ Some r → IsReplyAmong frames r
 reply_is [] r e = absurd (cc (e))
@@ -209,7 +209,7 @@ reply_is (frame ∷ frames) r e = by_first (reply_is frames r) (reply_of frame) 
     by_first rest (Some q) is k = reply_first frame frames r (is ∙ k)
     by_first rest None is k =
         let h = rest k in
-        record { place = suc h.place; letter = h.letter; there = h.there; to = h.to; cost = h.cost; target = h.target; carries = h.carries }
+        record { place = suc h.place; sealed_unit = h.sealed_unit; there = h.there; to = h.to; cost = h.cost; target = h.target; carries = h.carries }
 
 -- a frame that was sent is a flight
 flown_at : {A B : Type 0} (f : A → B) (xs : List A) (rest : List B) (place : ℕ) (x : A) → slice_get xs place ≡ Some x
@@ -576,10 +576,10 @@ module _ (w : World) (logs : LogsKept w) (n : ℕ) where
               record {
                 checks = on;
                 place = h.place;
-                letter = h.letter;
+                sealed_unit = h.sealed_unit;
                 flight = ap (λ fs. slice_get (drop (length w.flights) fs) h.place) flights
                     ∙ ap (λ fs. slice_get fs h.place) (drop-append_seam w.flights (map flight_of d.frames ++ more))
-                    ∙ flown_at flight_of d.frames more h.place (Sealed h.letter) h.there;
+                    ∙ flown_at flight_of d.frames more h.place (Sealed h.sealed_unit) h.there;
                 to = h.to;
                 cost = h.cost;
                 target = h.target;

@@ -24,7 +24,7 @@ use Rattle.line_rules.specs.Further.{beside_at, with_beside}
 use Rattle.line_rules.specs.Runs.{Entry, IsRun, events_of, issued}
 use Rattle.line_rules.specs.Worlds.{World, node_at, start}
 use Rattle.line_laws.specs.Ranges.{NodeRanged}
-use Rattle.line_laws.specs.Reach.{AreAtHome, EveryBroadcastIsOnce, EveryWalkWasTaken, HoldsAlong, IsHeard, IsInRange, SendsLetters, left_hearing}
+use Rattle.line_laws.specs.Reach.{AreAtHome, EveryBroadcastIsOnce, EveryWalkWasTaken, HoldsAlong, IsHeard, IsInRange, SendsSealedUnits, left_hearing}
 use Rattle.line_laws.proofs.AddressWorlds.{coordinator_address, meter_address}
 use Rattle.line_laws.proofs.BroadcastRuns.{broadcast_once}
 use Rattle.line_laws.proofs.CustodyHomes.{HomedAlong}
@@ -60,8 +60,8 @@ module _ (w : World) (before : List Entry) (o : Sound w before) where
       (came_octets network network_ranges w o.stands.ok o.stands.speaks.flights event number octets h.says h.comes) h.is h.honest in
       did.station
 
-  sends_letters : SendsLetters w
-  sends_letters =
+  sends_sealed_units : SendsSealedUnits w
+  sends_sealed_units =
       let speaks = one_speaks w o.stands.ok o.stands.speaks o.ranged o.stands.logs in
       record {
         broadcasts = λ number x datagram there are.
@@ -83,7 +83,7 @@ module _ (w : World) (before : List Entry) (o : Sound w before) where
       }
 
   in_range : IsInRange w
-  in_range = record { ranged = o.ranged; sends = sends_letters }
+  in_range = record { ranged = o.ranged; sends = sends_sealed_units }
 
   at_home : (home : ℕ → ℕ) → home 0 ≡ 0 → HomedAt home w → AreAtHome home w
   at_home home first h = record {

@@ -24,7 +24,7 @@ use Rattle.routing_set.specs.RoutingSet as routing
 use Rattle.node_rules.specs.declared.heard.Path.TheVariants as paths
 use Rattle.node_rules.specs.declared.heard.Accepted.{Accepted}
 use Rattle.node_rules.specs.Ciphers.{Ciphers}
-use Rattle.node_rules.specs.Frames.{Sealed, Letter, spelled, arrived, to_all}
+use Rattle.node_rules.specs.Frames.{Sealed, SealedUnit, spelled, arrived, to_all}
 use Rattle.node_rules.specs.Hearing.{rank_over}
 use Rattle.node_rules.specs.Memory.{StationMemory, Node}
 use Rattle.line_rules.specs.Worlds.{World, Flight, node_at, has_octets}
@@ -38,9 +38,9 @@ use Rattle.line_laws.proofs.RankOrder.{beats_at_least, beats_farther}
 use Rattle.line_laws.proofs.RankFold.{IsAt, OfferFits}
 use Rattle.line_laws.proofs.RankSaid.{RankBacked, MessageBacked, UnitBacked, Says, IsWhole, IsPart, IsCarried, IsOther}
 use Rattle.line_laws.proofs.RouteParts as parts
-use Rattle.line_laws.proofs.RouteParts.{At, Own, IsNearer, FlightBacked, IsLetter}
+use Rattle.line_laws.proofs.RouteParts.{At, Own, IsNearer, FlightBacked, IsSealedUnit}
 use Rattle.line_laws.specs.Loops.{stored}
-use Rattle.line_laws.proofs.LettersRead.{LetterRead}
+use Rattle.line_laws.proofs.LettersRead.{SealedUnitRead}
 use Rattle.line_laws.proofs.Homed.{Homes}
 
 -- The node of an address stands after a message.
@@ -152,10 +152,10 @@ module _ (ciphers : Ciphers) (h : Homes) (w : World) (low : (i address : ℕ) �
       → SaidBy h w from message
   opened_said octets l from counter got a x code body message unit first read = by_flight x.says
     where
-      by_unit : (letter : Letter) (node : Node) → h x.flight.from ≡ Some from → node_at w x.flight.from ≡ Some node → LetterRead ciphers letter → (u : MeshUnit)
-          → letter.unit ≡ u → u ≡ units.Local code body
+      by_unit : (sealed_unit : SealedUnit) (node : Node) → h x.flight.from ≡ Some from → node_at w x.flight.from ≡ Some node → SealedUnitRead ciphers sealed_unit → (u : MeshUnit)
+          → sealed_unit.unit ≡ u → u ≡ units.Local code body
           → UnitBacked (At h x.flight.from) (stored node) u → SaidBy h w from message
-      by_unit letter node home there reads u is same (Says m b) =
+      by_unit sealed_unit node home there reads u is same (Says m b) =
           let body_is : messages.spelling m ≡ body = cc in
           let r = reads.messages m is in
           let this : r.0 ≡ message = same_Some _ _ (sym r.1 ∙ ap message_in body_is ∙ read) in
@@ -167,19 +167,19 @@ module _ (ciphers : Ciphers) (h : Homes) (w : World) (low : (i address : ℕ) �
             backed = subst (MessageBacked (At h x.flight.from) (stored node)) this
                 (same_backed (At h x.flight.from) (stored node) (low x.flight.from) m r.0 r.2 r.3 b);
           }
-      by_unit letter node home there reads u is same (IsWhole mesh os) = absurd (cc)
-      by_unit letter node home there reads u is same (IsPart mesh piece) = absurd (cc)
-      by_unit letter node home there reads u is same (IsCarried mesh bs) = absurd (cc)
-      by_unit letter node home there reads u is same (IsOther c b other) = absurd (other (let code_is : c ≡ code = cc in code_is ∙ eqb-true code 1 first))
+      by_unit sealed_unit node home there reads u is same (IsWhole mesh os) = absurd (cc)
+      by_unit sealed_unit node home there reads u is same (IsPart mesh piece) = absurd (cc)
+      by_unit sealed_unit node home there reads u is same (IsCarried mesh bs) = absurd (cc)
+      by_unit sealed_unit node home there reads u is same (IsOther c b other) = absurd (other (let code_is : c ≡ code = cc in code_is ∙ eqb-true code 1 first))
 
       by_flight : FlightBacked ciphers h w x.flight → SaidBy h w from message
       by_flight (parts.IsPlain none) = absurd (none-some a.key (sym none ∙ x.key_is))
-      by_flight (IsLetter letter node octets_are key_is home there b reads) =
-          let key : letter.key ≡ a.key = same_Some _ _ (sym key_is ∙ x.key_is) in
-          let same : arrived ciphers (spelled ciphers (Sealed letter)).octets ≡ Some a.frame = ap (arrived ciphers) (sym octets_are ∙ x.octets_are) ∙ a.is in
+      by_flight (IsSealedUnit sealed_unit node octets_are key_is home there b reads) =
+          let key : sealed_unit.key ≡ a.key = same_Some _ _ (sym key_is ∙ x.key_is) in
+          let same : arrived ciphers (spelled ciphers (Sealed sealed_unit)).octets ≡ Some a.frame = ap (arrived ciphers) (sym octets_are ∙ x.octets_are) ∙ a.is in
           let opens = reads.opens a.frame a.head.0 a.head.1 a.head.2 a.to from counter a.index a.payload same a.head.3 (ap a.frame.opened key ∙ a.opened) in
-          let this : letter.unit ≡ units.Local code body = same_Some _ _ (sym opens.1 ∙ unit) in
-          by_unit letter node (home ∙ ap Some (sym opens.0)) there reads letter.unit refl this b
+          let this : sealed_unit.unit ≡ units.Local code body = same_Some _ _ (sym opens.1 ∙ unit) in
+          by_unit sealed_unit node (home ∙ ap Some (sym opens.0)) there reads sealed_unit.unit refl this b
 
   not_false : (b : Bool) → not b ≡ false → b ≡ true
   not_false true e = refl

@@ -21,7 +21,7 @@ use Rattle.line_laws.specs.Loops.{stored, Later}
 use Rattle.line_laws.proofs.LettersRead.{FrameRead}
 use Rattle.line_laws.proofs.Homed.{Homes}
 use Rattle.line_laws.specs.Ranked.{via}
-pub use Rattle.line_laws.specs.Ranked.{At, Own, Nearer, IsNearer, FlightBacked, IsPlain, IsLetter, GoodRoute, RanksHold, RoutesHold, RoutingHolds}
+pub use Rattle.line_laws.specs.Ranked.{At, Own, Nearer, IsNearer, FlightBacked, IsPlain, IsSealedUnit, GoodRoute, RanksHold, RoutesHold, RoutingHolds}
 
 -- # The parts
 
@@ -54,9 +54,9 @@ module _ (ciphers : Ciphers) (h : Homes) where
   pub flight_later : (w v : World) → ((i : ℕ) (x : Node) → node_at w i ≡ Some x → Later v i x) → (f : Flight) → FlightBacked ciphers h w f
       → FlightBacked ciphers h v f
   flight_later w v forward f (IsPlain e) = IsPlain e
-  flight_later w v forward f (IsLetter letter x octets key from there backed read) =
+  flight_later w v forward f (IsSealedUnit sealed_unit x octets key from there backed read) =
       let l = forward f.from x there in
-      IsLetter letter l.node octets key from l.there (unit_rises (At h f.from) (stored x) (stored l.node) letter.unit l.above backed) read
+      IsSealedUnit sealed_unit l.node octets key from l.there (unit_rises (At h f.from) (stored x) (stored l.node) sealed_unit.unit l.above backed) read
 
   pub step_holds : (w v : World) → StationStep ciphers h w v → RoutingHolds ciphers h w → RoutingHolds ciphers h v
   step_holds w v s good = record {
@@ -97,7 +97,7 @@ module _ (ciphers : Ciphers) (h : Homes) where
   frame_flies : (v : World) (number : ℕ) (y : Node) → node_at v number ≡ Some y → (frame : Sent) → FrameBacked (At h number) (stored y) frame
       → FrameRead ciphers frame → FlightBacked ciphers h v (flight_by number (spelled ciphers frame))
   unfolding spelled
-  frame_flies v number y there (Sealed letter) b read = IsLetter letter y refl refl b.0 there b.1 read
+  frame_flies v number y there (Sealed sealed_unit) b read = IsSealedUnit sealed_unit y refl refl b.0 there b.1 read
   frame_flies v number y there (Up agent from message) b read = IsPlain refl
   frame_flies v number y there (Down from message) b read = IsPlain refl
 

@@ -16,7 +16,7 @@ use Rattle.group_keys.specs.KeyRing as ring
 use Rattle.node_rules.specs.declared.refusal.CoordinatorRefusal.TheVariants as refusal
 use Rattle.node_rules.specs.Memory.{Memory}
 use Rattle.node_rules.specs.Plans.{Plan, resting}
-use Rattle.node_rules.specs.Drafts.{Draft, Ends, empty_draft, with_ring, refused, sealing, sealed_by, sealing_key, letters, choose}
+use Rattle.node_rules.specs.Drafts.{Draft, Ends, empty_draft, with_ring, refused, sealing, sealed_by, sealing_key, sealed_units, choose}
 use Rattle.node_rules.specs.MemoryDrafts.{in_memory, on_station, with_memory_by, goes_up, give_random, given_ends}
 use Rattle.node_rules.specs.Meters as meters
 use Rattle.node_rules.specs.Coordinators as coordinators
@@ -81,7 +81,7 @@ module _ (ciphers : Ciphers) where
   sealed_read None first = All-nil (FrameRead ciphers)
   sealed_read (Some g) first = by_key (sealing_key g)
     where
-      by_key : (key : Option Key) → All (FrameRead ciphers) (option_map_or (λ k. letters g k first []) key [])
+      by_key : (key : Option Key) → All (FrameRead ciphers) (option_map_or (λ k. sealed_units g k first []) key [])
       by_key None = All-nil (FrameRead ciphers)
       by_key (Some key) = All-nil (FrameRead ciphers)
 

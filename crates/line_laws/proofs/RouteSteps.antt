@@ -70,7 +70,7 @@ use Rattle.line_laws.proofs.RankPlans.{PlanRanks, NodeRanks, acts_ranks, ranks_t
 use Rattle.line_laws.proofs.RankCalls.{send_ranks, near_ranks, counter_ranks, number_ranks, broke_ranks, provision_ranks, random_ranks, join_ranks, leave_ranks}
 use Rattle.line_laws.proofs.RankCalls.{coordinator_hears_ranks, allow_ranks, depot_ranks, rekey_ranks, activate_self_ranks, challenge_ranks, activate_ranks}
 use Rattle.line_laws.proofs.RankCalls.{kick_ranks, accept_ranks}
-use Rattle.line_laws.proofs.RouteParts.{At, Own, IsNearer, FlightBacked, IsPlain, IsLetter, RoutingHolds, ComesFrom, From, New, Reached, reach, flight_later}
+use Rattle.line_laws.proofs.RouteParts.{At, Own, IsNearer, FlightBacked, IsPlain, IsSealedUnit, RoutingHolds, ComesFrom, From, New, Reached, reach, flight_later}
 use Rattle.line_laws.proofs.RouteParts.{after_step}
 use Rattle.line_laws.proofs.RouteHeard.{SaidRight, accepted_said, said_offers}
 use Rattle.line_laws.proofs.RouteNodes.{acts_frames, acts_memory, same_store, ticked_ranks, restarted_ranks, blank_ranks, blank_routes, coordinator_ranks}
@@ -326,7 +326,7 @@ module _ (ciphers : Ciphers) (fits : KeepsRanges ciphers) (h : Homes) (w : World
 
   lost_backed : (v : World) (f : Flight) → FlightBacked ciphers h v f → FlightBacked ciphers h v (record f { lost = true })
   lost_backed v f (IsPlain none) = IsPlain none
-  lost_backed v f (IsLetter letter x octets key home there backed read) = IsLetter letter x octets key home there backed read
+  lost_backed v f (IsSealedUnit sealed_unit x octets key home there backed read) = IsSealedUnit sealed_unit x octets key home there backed read
 
   lose_holds : (number : ℕ) → Holds (lose w number)
   unfolding lose

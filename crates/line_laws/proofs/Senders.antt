@@ -8,7 +8,7 @@ use Rattle.group_keys.specs.KeyRing as ring
 use Rattle.node_rules.specs.Frames.{Sent, Sealed, Up, Down}
 use Rattle.node_rules.specs.Memory.{Memory, Node, address_of, node_address}
 use Rattle.node_rules.specs.Plans.{Plan, carry_out, resting}
-use Rattle.node_rules.specs.Drafts.{Draft, Ends, Outgoing, letters, sealed_by, sealing_key}
+use Rattle.node_rules.specs.Drafts.{Draft, Ends, UnsealedUnit, sealed_units, sealed_by, sealing_key}
 use Rattle.node_rules.specs.MemoryDrafts.{in_memory}
 use Rattle.node_rules.specs.NodeSteps.{NodeStep, acts, stays, left_by}
 use Rattle.node_rules.specs.Laws.{IsWhole, IsCutOff}
@@ -38,17 +38,17 @@ plain_from address (Sealed l ∷ fs) h = absurd h
 plain_from address (Up agent from message ∷ fs) h = (tt, plain_from address fs h)
 plain_from address (Down from message ∷ fs) h = (tt, plain_from address fs h)
 
-letters_from : (g : Granted) (key : Key) (first : ℕ) (units : List Outgoing) → AreFrom (Some g.address) (letters g key first units)
-letters_from g key first [] = tt
-letters_from g key first (o ∷ rest) = (refl, letters_from g key (first + 1) rest)
+sealed_units_from : (g : Granted) (key : Key) (first : ℕ) (units : List UnsealedUnit) → AreFrom (Some g.address) (sealed_units g key first units)
+sealed_units_from g key first [] = tt
+sealed_units_from g key first (o ∷ rest) = (refl, sealed_units_from g key (first + 1) rest)
 
-pub sealed_from : (r : ring.Ring) (first : ℕ) (units : List Outgoing) → AreFrom (option_map (λ (g : Granted). g.address) r) (sealed_by r first units)
+pub sealed_from : (r : ring.Ring) (first : ℕ) (units : List UnsealedUnit) → AreFrom (option_map (λ (g : Granted). g.address) r) (sealed_by r first units)
 sealed_from None first units = tt
 sealed_from (Some g) first units = by_key (sealing_key g)
   where
-    by_key : (key : Option Key) → AreFrom (Some g.address) (option_map_or (λ k. letters g k first units) key [])
+    by_key : (key : Option Key) → AreFrom (Some g.address) (option_map_or (λ k. sealed_units g k first units) key [])
     by_key None = tt
-    by_key (Some key) = letters_from g key first units
+    by_key (Some key) = sealed_units_from g key first units
 
 -- a plan that is made of words: its letters have the address of the ring that is left
 pub plan_from : {H F : Type 0} (W : RingWord → Type 0) (L : Granted → Type 0) (P : Eui → Key → Type 0) (E : Eui → Type 0) (g : Given) (m : Memory)

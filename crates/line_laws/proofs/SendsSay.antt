@@ -7,7 +7,7 @@ use Rattle.plc_base.specs.declared.key.Key.{Key}
 use Rattle.plc_base.specs.Grant.{Granted}
 use Rattle.group_keys.specs.KeyRing as ring
 use Rattle.mesh_header.specs.declared.unit.Unit.{Unit as MeshUnit}
-use Rattle.node_rules.specs.Drafts.{Draft, Ends, Outgoing, counters_left, letters, refused, sealed, sealed_by, sealing, sealing_key}
+use Rattle.node_rules.specs.Drafts.{Draft, Ends, UnsealedUnit, counters_left, sealed_units, refused, sealed, sealed_by, sealing, sealing_key}
 use Rattle.node_rules.specs.Frames.{Sent}
 use Rattle.node_rules.specs.Memory.{Memory, Node}
 use Rattle.node_rules.specs.MemoryDrafts.{in_memory}
@@ -48,21 +48,21 @@ acts_by {A} Q x halted plan down up = by_memory x.memory refl
 -- # What is sealed
 
 module _ (P : ℕ → MeshUnit → Type 0) where
-  record OutSays (o : Outgoing) : Type 0 where
+  record OutSays (o : UnsealedUnit) : Type 0 where
     says : P o.to o.unit
 
-  letters_say : (g : Granted) (key : Key) (first : ℕ) (us : List Outgoing) → All OutSays us → All (FrameSays P) (letters g key first us)
-  letters_say g key first [] all = All-nil (FrameSays P)
-  letters_say g key first (o ∷ rest) all = All-cons (FrameSays P) _ _ (All-head OutSays o rest all).says
-      (letters_say g key (first + 1) rest (All-tail OutSays o rest all))
+  sealed_units_say : (g : Granted) (key : Key) (first : ℕ) (us : List UnsealedUnit) → All OutSays us → All (FrameSays P) (sealed_units g key first us)
+  sealed_units_say g key first [] all = All-nil (FrameSays P)
+  sealed_units_say g key first (o ∷ rest) all = All-cons (FrameSays P) _ _ (All-head OutSays o rest all).says
+      (sealed_units_say g key (first + 1) rest (All-tail OutSays o rest all))
 
-  sealed_say : (r : ring.Ring) (first : ℕ) (us : List Outgoing) → All OutSays us → All (FrameSays P) (sealed_by r first us)
+  sealed_say : (r : ring.Ring) (first : ℕ) (us : List UnsealedUnit) → All OutSays us → All (FrameSays P) (sealed_by r first us)
   sealed_say None first us all = All-nil (FrameSays P)
   sealed_say (Some g) first us all = by_key (sealing_key g)
     where
-      by_key : (key : Option Key) → All (FrameSays P) (option_map_or (λ k. letters g k first us) key [])
+      by_key : (key : Option Key) → All (FrameSays P) (option_map_or (λ k. sealed_units g k first us) key [])
       by_key None = All-nil (FrameSays P)
-      by_key (Some key) = letters_say g key first us all
+      by_key (Some key) = sealed_units_say g key first us all
 
   -- one unit, or none
   pub one_sealed : (r : ring.Ring) (first to : ℕ) (unit : MeshUnit) (note : ℕ) → P to unit

@@ -8,7 +8,7 @@ use Rattle.plc_base.specs.declared.address.Eui.{Eui}
 use Rattle.plc_base.specs.Grant.{Granted}
 use Rattle.joining_messages.specs.declared.message.JoinMessage.{JoinMessage}
 use Rattle.node_rules.specs.Memory.{StationMemory, Load, Command, Memory, load_octets, address_of, next_hop}
-use Rattle.node_rules.specs.Drafts.{Draft, Outgoing, OfRoom, OfNumbers, with_own_number, goes, no_room, numbers_spent, is_awaited, lack, seeks, seeks_once}
+use Rattle.node_rules.specs.Drafts.{Draft, UnsealedUnit, OfRoom, OfNumbers, with_own_number, goes, no_room, numbers_spent, is_awaited, lack, seeks, seeks_once}
 use Rattle.node_rules.specs.Drafts.{sets_out}
 use Rattle.node_rules.specs.MemoryDrafts.{on_station, station_part, is_commanded}
 use Rattle.node_rules.specs.Joining.{command_of}
@@ -45,7 +45,7 @@ sought_same own dest to octets d = by_wait (is_awaited d.memory dest)
     by_wait false = (refl, refl)
 
 -- one more without a note
-unnoted_more : (us : List Outgoing) (o : Outgoing) → AreUnnoted us → o.note ≡ 0 → AreUnnoted (us ++ o ∷ [])
+unnoted_more : (us : List UnsealedUnit) (o : UnsealedUnit) → AreUnnoted us → o.note ≡ 0 → AreUnnoted (us ++ o ∷ [])
 unnoted_more [] o h e = (e, tt)
 unnoted_more (u ∷ us) o h e = (h.0, unnoted_more us o h.1 e)
 

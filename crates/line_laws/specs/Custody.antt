@@ -6,9 +6,9 @@ use Rattle.mesh_header.specs.declared.unit.Unit.TheVariants as units
 use Rattle.fragment_buffers.specs.Reassembly.{PlacedPiece, Reassembly}
 use Rattle.node_rules.specs.declared.heard.Heard.{Heard}
 use Rattle.node_rules.specs.declared.heard.Heard.TheVariants as heard
-use Rattle.node_rules.specs.Frames.{Letter, Sent, Sealed, Up, Down}
+use Rattle.node_rules.specs.Frames.{SealedUnit, Sent, Sealed, Up, Down}
 use Rattle.node_rules.specs.Memory.{StationMemory, Body, Load, Datagram, Command}
-use Rattle.node_rules.specs.Drafts.{Outgoing}
+use Rattle.node_rules.specs.Drafts.{UnsealedUnit}
 
 -- # Counting the octet at a position of the datagram of a note
 
@@ -34,17 +34,17 @@ abbrev pub load_is : ℕ → Load → ℕ
 load_is i (Datagram octets tag) = below i (length octets)
 load_is i (Command octets) = 0
 
-abbrev pub out_is : ℕ → ℕ → Outgoing → ℕ
+abbrev pub out_is : ℕ → ℕ → UnsealedUnit → ℕ
 out_is n i o = weigh n o.note (content_is i o.unit)
 
 abbrev pub body_is : ℕ → ℕ → Body → ℕ
 body_is n i b = weigh n b.note (load_is i b.load)
 
-abbrev pub letter_is : ℕ → ℕ → Letter → ℕ
-letter_is n i l = weigh n l.note (content_is i l.unit)
+abbrev pub sealed_unit_is : ℕ → ℕ → SealedUnit → ℕ
+sealed_unit_is n i l = weigh n l.note (content_is i l.unit)
 
 abbrev pub sent_is : ℕ → ℕ → Sent → ℕ
-sent_is n i (Sealed l) = letter_is n i l
+sent_is n i (Sealed l) = sealed_unit_is n i l
 sent_is n i (Up agent from message) = 0
 sent_is n i (Down from message) = 0
 

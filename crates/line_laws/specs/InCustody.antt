@@ -6,7 +6,7 @@ use Rattle.node_rules.specs.Memory.{StationMemory, Memory, Node, address_of}
 use Rattle.line_rules.specs.Runs.{send_at}
 use Rattle.line_rules.specs.Worlds.{World, Flight, Sending}
 use Rattle.line_events.specs.declared.happenings.Handed.{Handed}
-use Rattle.line_laws.specs.Letters.{AreFlights}
+use Rattle.line_laws.specs.SealedUnits.{AreFlights}
 use Rattle.line_laws.specs.Places.{IsInCustody, unit_of}
 use Rattle.line_laws.specs.Ranges.{NodeRanged}
 use Rattle.line_laws.specs.Sends.{SentAs, UnitIsOf, BodyIsOf, HeldIsOf}

@@ -30,7 +30,7 @@ use Rattle.line_events.specs.declared.happenings.Handed.{Handed}
 use Rattle.line_laws.specs.Agreed.{Confirmed}
 use Rattle.line_laws.specs.InCustody.{Custody, SentUnder}
 use Rattle.line_laws.specs.Keyed.{AtHome, Each, Keyed}
-use Rattle.line_laws.specs.Letters.{IsFit, IsPlainFrame}
+use Rattle.line_laws.specs.SealedUnits.{IsFit, IsPlainFrame}
 use Rattle.line_laws.specs.Lines.{FlightFits, WorldOk}
 use Rattle.line_laws.specs.Live.{MarksRise, live}
 use Rattle.line_laws.specs.Loops.{RanksRise}

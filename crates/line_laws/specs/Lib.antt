@@ -1,7 +1,7 @@
 pub mod Stores
 pub mod Sizes
 pub mod Owed
-pub mod Letters
+pub mod SealedUnits
 pub mod Ranges
 pub mod Custody
 pub mod Sends

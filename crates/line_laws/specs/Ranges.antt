@@ -6,10 +6,10 @@ use Rattle.routing_set.specs.declared.entry.RoutingEntry.{RoutingEntry}
 use Rattle.routing_set.specs.declared.entry.Route.{Route}
 use Rattle.node_rules.specs.Ciphers.{network}
 use Rattle.node_rules.specs.Memory.{StationMemory, Memory, Node, Body, Load, Datagram, Command}
-use Rattle.node_rules.specs.Drafts.{Draft, Outgoing}
+use Rattle.node_rules.specs.Drafts.{Draft, UnsealedUnit}
 use Rattle.line_laws.specs.Stores.{IsReadable}
 use Rattle.line_rules.specs.Worlds.{World}
-use Rattle.line_laws.specs.Letters.{IsFit, IsRoute, AreFlights}
+use Rattle.line_laws.specs.SealedUnits.{IsFit, IsRoute, AreFlights}
 
 -- a datagram that was taken, with a tag; a command, with its code in front
 abbrev pub HasRoomInFrames : Load → Type 0
@@ -34,7 +34,7 @@ pub record IsStationRanged (l : StationMemory) : Type 0 where
   pub number : l.own_number.last ≤ 65535
 
 -- A unit that can be sealed and sent.
-pub record IsOut (o : Outgoing) : Type 0 where
+pub record IsOut (o : UnsealedUnit) : Type 0 where
   pub to : IsTarget o.to
   pub unit : IsFit o.unit
   pub route : IsRoute o.unit

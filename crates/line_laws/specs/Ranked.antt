@@ -16,7 +16,7 @@ use Rattle.routing_set.specs.declared.rank.Rank.{Rank}
 use Rattle.routing_set.specs.Ranks.{Beats, IsAtLeast}
 use Rattle.routing_set.specs.RoutingSet as routing
 use Rattle.node_rules.specs.Ciphers.{Ciphers}
-use Rattle.node_rules.specs.Frames.{Letter, Sealed, Arrived, arrived, spelled}
+use Rattle.node_rules.specs.Frames.{SealedUnit, Sealed, Arrived, arrived, spelled}
 use Rattle.node_rules.specs.Memory.{Memory, Node}
 use Rattle.line_rules.specs.Worlds.{World, Flight, node_at}
 use Rattle.line_laws.specs.Loops.{stored}
@@ -65,12 +65,12 @@ pub data UnitBacked (At : ℕ → Type 0) (t : routing.Routing) : MeshUnit → T
   IsOther : (code : ℕ) (body : List ℕ) → code ≢ 1 → UnitBacked At t (units.Local code body)
 
 -- What a letter spells is read back: the address and the unit of who opens it under its key, and its route message.
-pub record LetterRead (ciphers : Ciphers) (letter : Letter) : Type 0 where
+pub record SealedUnitRead (ciphers : Ciphers) (sealed_unit : SealedUnit) : Type 0 where
   pub opens : (a : Arrived) (ack : Bool) (seq pan to from counter index : ℕ) (payload : List ℕ)
-      → arrived ciphers (spelled ciphers (Sealed letter)).octets ≡ Some a
+      → arrived ciphers (spelled ciphers (Sealed sealed_unit)).octets ≡ Some a
       → a.head ≡ heads.Sealed ack seq pan to from counter index
-      → a.opened letter.key ≡ Some payload → (from ≡ letter.from) × (unit_in payload ≡ Some letter.unit)
-  pub messages : (message : Message) → letter.unit ≡ units.Local 1 (messages.spelling message)
+      → a.opened sealed_unit.key ≡ Some payload → (from ≡ sealed_unit.from) × (unit_in payload ≡ Some sealed_unit.unit)
+  pub messages : (message : Message) → sealed_unit.unit ≡ units.Local 1 (messages.spelling message)
       → (read : Message) × (message_in (messages.spelling message) ≡ Some read)
       × (messages.spelling message ≡ messages.spelling read) × messages.IsMessage read
 
@@ -94,9 +94,9 @@ IsNearer h w next dest rank = (next ≡ dest) ⊎ Nearer h w next dest rank
 -- A flight is plain, or the spelling of a letter from its sender's address whose rank is the sender's own at cost 0, or backed by what the sender stores.
 pub data FlightBacked (ciphers : Ciphers) (h : Homes) (w : World) (f : Flight) : Type 0 where
   IsPlain : f.key ≡ None → FlightBacked ciphers h w f
-  IsLetter : (letter : Letter) (x : Node) → f.octets ≡ (spelled ciphers (Sealed letter)).octets → f.key ≡ Some letter.key → h f.from ≡ Some letter.from
+  IsSealedUnit : (sealed_unit : SealedUnit) (x : Node) → f.octets ≡ (spelled ciphers (Sealed sealed_unit)).octets → f.key ≡ Some sealed_unit.key → h f.from ≡ Some sealed_unit.from
       → node_at w f.from ≡ Some x
-      → UnitBacked (At h f.from) (stored x) letter.unit → LetterRead ciphers letter → FlightBacked ciphers h w f
+      → UnitBacked (At h f.from) (stored x) sealed_unit.unit → SealedUnitRead ciphers sealed_unit → FlightBacked ciphers h w f
 
 -- A valid route is at a stored rank, and leads to its end or nearer.
 pub record GoodRoute (h : Homes) (w : World) (x : Node) (dest next : ℕ) : Type 0 where

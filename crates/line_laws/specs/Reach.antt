@@ -26,7 +26,7 @@ use Rattle.line_rules.specs.FurtherRuns.{AreBroadcastOnce, AreOfHistory, AreWalk
 use Rattle.line_rules.specs.Runs.{Entry, IsLineRun}
 use Rattle.line_rules.specs.Steps.{forged_by, hearing_step, identity, note_by, psk_of}
 use Rattle.line_rules.specs.Worlds.{World, node_at}
-use Rattle.line_laws.specs.Letters.{IsSent}
+use Rattle.line_laws.specs.SealedUnits.{IsSent}
 use Rattle.line_laws.specs.Ranges.{WorldRanged}
 
 -- In every run of the network, forged or not, over restarts and failed writes: what each node holds of checks and of its scan is what its
@@ -72,7 +72,7 @@ abbrev pub left_hearing : World → Node → List ℕ → Accepted → ℕ → N
 left_hearing w x octets got cost = (hearing w x octets got cost).node
 
 -- What the nodes of a world send by further rules is letters in their ranges.
-pub record SendsLetters (w : World) : Type 0 where
+pub record SendsSealedUnits (w : World) : Type 0 where
   pub broadcasts : (number : ℕ) (x : Node) (datagram : List ℕ) → node_at w number ≡ Some x → IsLineOctets datagram
       → All IsSent (reaches x (beside_at w number) (Err broadcasts_of.Halted) (λ y. broadcast in_memory y datagram)).frames
   pub asks : (number : ℕ) (x : Node) (target : ℕ) → node_at w number ≡ Some x
@@ -90,7 +90,7 @@ pub record SendsLetters (w : World) : Type 0 where
 -- A world that is in its ranges, and so is what its nodes send.
 pub record IsInRange (w : World) : Type 0 where
   pub ranged : WorldRanged w
-  pub sends : SendsLetters w
+  pub sends : SendsSealedUnits w
 
 -- Each node of a world that has an address is at its home.
 pub record AreAtHome (home : ℕ → ℕ) (w : World) : Type 0 where

@@ -18,7 +18,7 @@ use Rattle.path_requests.specs.Reading.{path_in}
 use Rattle.node_rules.specs.declared.heard.Accepted.{Accepted}
 use Rattle.node_rules.specs.declared.heard.Path.TheVariants as paths
 use Rattle.node_rules.specs.Ciphers.{network}
-use Rattle.node_rules.specs.Frames.{Letter, Sealed, spelled}
+use Rattle.node_rules.specs.Frames.{SealedUnit, Sealed, spelled}
 use Rattle.node_rules.specs.Memory.{Node}
 use Rattle.node_rules.specs.Replies.{route_message}
 use Rattle.line_events.specs.declared.event.Answer.{Answer}
@@ -117,12 +117,12 @@ is_path _ = false
 pub record ReplyFlew (w : World) (x : Entry) (node neighbour number origin : ℕ) : Type 0 where
   pub checks : w.checks_on ≡ true
   pub place : ℕ
-  pub letter : Letter
-  pub flight : slice_get (drop (length w.flights) x.after.flights) place ≡ Some (flight_by node (spelled network (Sealed letter)))
-  pub to : letter.to ≡ neighbour
+  pub sealed_unit : SealedUnit
+  pub flight : slice_get (drop (length w.flights) x.after.flights) place ≡ Some (flight_by node (spelled network (Sealed sealed_unit)))
+  pub to : sealed_unit.to ≡ neighbour
   pub cost : ℕ
   pub target : ℕ
-  pub carries : route_message letter.unit ≡ Some (Rrep number cost origin target)
+  pub carries : route_message sealed_unit.unit ≡ Some (Rrep number cost origin target)
 
 -- An acknowledgement of this number and origin came from a neighbour, in a frame to this node alone.
 pub record AckCame (w : World) (event : Event) (node neighbour number origin : ℕ) : Type 0 where

@@ -7,7 +7,7 @@ use Rattle.fragment_buffers.specs.Reassembly.{PlacedPiece, Reassembly}
 use Rattle.node_rules.specs.declared.heard.Heard.{Heard}
 use Rattle.node_rules.specs.declared.heard.Heard.TheVariants as heard
 use Rattle.node_rules.specs.Memory.{Body, Load, Datagram, Command}
-use Rattle.node_rules.specs.Drafts.{Outgoing}
+use Rattle.node_rules.specs.Drafts.{UnsealedUnit}
 
 -- A send in addresses: from which to which, and the tag that names its pieces.
 pub record SentAs : Type 0 where
@@ -47,7 +47,7 @@ LoadIsOf S own to note (Datagram octets tag) = IsOf S note own to (λ s. (s.octe
 LoadIsOf S own to note (Command octets) = ⊤
 
 -- What carries a datagram is of the send of its note.
-pub record OutIsOf (S : ℕ → SentAs → Type 0) (o : Outgoing) : Type 0 where
+pub record OutIsOf (S : ℕ → SentAs → Type 0) (o : UnsealedUnit) : Type 0 where
   pub unit : UnitIsOf S o.note o.unit
 
 pub record BodyIsOf (S : ℕ → SentAs → Type 0) (own : ℕ) (b : Body) : Type 0 where

@@ -50,7 +50,7 @@ use Rattle.node_rules.specs.declared.refusal.FrameRefusal.{FrameRefusal}
 use Rattle.node_rules.specs.declared.refusal.Dropped.TheVariants as drops_by
 use Rattle.node_rules.specs.Neighbours.{local_draft, local_ends}
 use Rattle.neighbour_checks.specs.Acks.{ack_spelling}
-use Rattle.node_rules.specs.Drafts.{Draft, Ends, alone, goes, Outgoing, counters_left, empty_draft, refused, sealed, sealing, checked, choose}
+use Rattle.node_rules.specs.Drafts.{Draft, Ends, alone, goes, UnsealedUnit, counters_left, empty_draft, refused, sealed, sealing, checked, choose}
 use Rattle.node_rules.specs.Frames.{Arrived, to_all}
 use Rattle.node_rules.specs.LogSlots.{IsBesideLog, LeavesLog}
 use Rattle.node_rules.specs.Memory.{StationMemory, Memory, Node, Role, address_of, station_route}

@@ -33,7 +33,7 @@ use Rattle.path_requests.specs.Messages.{path_spelling}
 use Rattle.path_requests.specs.Reading.{path_in}
 use Rattle.path_requests.specs.Taking.{taken}
 use Rattle.node_rules.specs.declared.refusal.Dropped.TheVariants.{BadUnit}
-use Rattle.node_rules.specs.Drafts.{Draft, Ends, Outgoing, alone, checked, choose, counters_left, empty_draft, refused, sealed, sealing}
+use Rattle.node_rules.specs.Drafts.{Draft, Ends, UnsealedUnit, alone, checked, choose, counters_left, empty_draft, refused, sealed, sealing}
 use Rattle.node_rules.specs.Frames.{to_all}
 use Rattle.node_rules.specs.Memory.{StationMemory, Memory, address_of, station_route}
 use Rattle.node_rules.specs.MemoryDrafts.{in_memory, with_station}
@@ -155,10 +155,10 @@ module _ (b : Beside) (m : Memory) where
   either_lent false p p' q q' a z = z
 
   -- what is done before it is sealed: what the station holds stays
-  abbrev drafted : {M : Type 0} → Beside → List Write → List Outgoing → M → Draft (Reaching M)
+  abbrev drafted : {M : Type 0} → Beside → List Write → List UnsealedUnit → M → Draft (Reaching M)
   drafted c ps us x = record { puts = ps; memory = record { memory = x; beside = c }; units = us; plain = []; made = []; opened = [] }
 
-  sealed_lent : {H E : Type 0} (ends : Ends E) (c : Beside) (ps : List Write) (us : List Outgoing) (answer : H) → AreApart ps
+  sealed_lent : {H E : Type 0} (ends : Ends E) (c : Beside) (ps : List Write) (us : List UnsealedUnit) (answer : H) → AreApart ps
       → Lent (sealed (in_reach in_memory) ends node_side (drafted c ps us m) answer)
       (sealed (in_reach alone) ends station_side (drafted c ps us m.station) answer)
   unfolding sealed

@@ -9,7 +9,7 @@ use Rattle.plc_base.specs.declared.tags.PairTag.{PairTag}
 use Rattle.plc_base.specs.Fields.{octet}
 use Rattle.plc_base.specs.Grant.{Granted}
 use Rattle.store_tables.specs.Writes.{Written, write}
-use Rattle.fragment_buffers.specs.Loads.{Command, Outgoing}
+use Rattle.fragment_buffers.specs.Loads.{Command, UnsealedUnit}
 use Rattle.mesh_header.specs.declared.unit.Unit.{Unit as MeshUnit}
 use Rattle.mesh_header.specs.declared.unit.Unit.TheVariants as units
 use Rattle.mesh_header.specs.Reading.{unit_in}
@@ -41,7 +41,7 @@ use Rattle.node_rules.specs.declared.refusal.Dropped.TheVariants as drops
 use Rattle.node_rules.specs.Calls.{idled}
 use Rattle.node_rules.specs.Ciphers.{network}
 use Rattle.node_rules.specs.Coordinators as coordinators
-use Rattle.node_rules.specs.Drafts.{Draft, StationPlace, Ends, body_goes, checked, choose, empty_draft, goes, is_awaited, letters, seeks, seeks_once, sealed_by}
+use Rattle.node_rules.specs.Drafts.{Draft, StationPlace, Ends, body_goes, checked, choose, empty_draft, goes, is_awaited, sealed_units, seeks, seeks_once, sealed_by}
 use Rattle.node_rules.specs.Drafts.{sealing_key, sets_out, waits, with_own_number, with_ring}
 use Rattle.node_rules.specs.Frames.{Sent, Up, Down, to_all}
 use Rattle.node_rules.specs.Hearing as stations
@@ -64,28 +64,28 @@ use Rattle.line_rules.specs.Steps.{hearing_step, identity}
 -- # Doings that send no reply
 
 -- the first reply among units on their way out
-abbrev reply_in : List Outgoing → Option Reply
+abbrev reply_in : List UnsealedUnit → Option Reply
 reply_in [] = None
 reply_in (o ∷ os) = first_of (reply_with o.to (route_message o.unit)) (reply_in os)
 
-letters_reply : (g : Granted) (key : Key) (first : ℕ) (us : List Outgoing) → reply_among (letters g key first us) ≡ reply_in us
+sealed_units_reply : (g : Granted) (key : Key) (first : ℕ) (us : List UnsealedUnit) → reply_among (sealed_units g key first us) ≡ reply_in us
 unfolding reply_of
-letters_reply g key first [] = refl
-letters_reply g key first (u ∷ us) = ap (first_of (reply_with u.to (route_message u.unit))) (letters_reply g key (first + 1) us)
+sealed_units_reply g key first [] = refl
+sealed_units_reply g key first (u ∷ us) = ap (first_of (reply_with u.to (route_message u.unit))) (sealed_units_reply g key (first + 1) us)
 
-sealed_none : (r : ring.Ring) (first : ℕ) (us : List Outgoing) → reply_in us ≡ None → reply_among (sealed_by r first us) ≡ None
+sealed_none : (r : ring.Ring) (first : ℕ) (us : List UnsealedUnit) → reply_in us ≡ None → reply_among (sealed_by r first us) ≡ None
 sealed_none None first us e = refl
 sealed_none (Some g) first us e = by_key (sealing_key g)
   where
-    by_key : (k : Option Key) → reply_among (option_map_or (λ key. letters g key first us) k []) ≡ None
+    by_key : (k : Option Key) → reply_among (option_map_or (λ key. sealed_units g key first us) k []) ≡ None
     by_key None = refl
-    by_key (Some key) = letters_reply g key first us ∙ e
+    by_key (Some key) = sealed_units_reply g key first us ∙ e
 
 first_none : (r t u : Option Reply) → (t ≡ None → u ≡ None) → first_of r t ≡ None → first_of r u ≡ None
 first_none None t u tail e = tail e
 first_none (Some reply) t u tail e = e
 
-units_after : (xs : List Outgoing) (y : Outgoing) → reply_in xs ≡ None → reply_with y.to (route_message y.unit) ≡ None → reply_in (xs ++ y ∷ []) ≡ None
+units_after : (xs : List UnsealedUnit) (y : UnsealedUnit) → reply_in xs ≡ None → reply_with y.to (route_message y.unit) ≡ None → reply_in (xs ++ y ∷ []) ≡ None
 units_after [] y e none = ap (λ (r : Option Reply). first_of r None) none
 units_after (x ∷ xs) y e none = first_none (reply_with x.to (route_message x.unit)) (reply_in xs) (reply_in (xs ++ y ∷ [])) (λ t. units_after xs y t none) e
 

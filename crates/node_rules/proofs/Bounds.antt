@@ -8,7 +8,7 @@ use Rattle.group_keys.specs.KeyBook.{Book}
 use Rattle.group_keys.specs.KeyRing as ring
 use Rattle.node_rules.specs.Memory.{StationMemory}
 use Rattle.node_rules.specs.Plans.{Plan, resting}
-use Rattle.node_rules.specs.Drafts.{StationPlace, Ends, Outgoing, letters, sealed_by, sealing_key}
+use Rattle.node_rules.specs.Drafts.{StationPlace, Ends, UnsealedUnit, sealed_units, sealed_by, sealing_key}
 use Rattle.node_rules.specs.Laws.{IsBounded, HearingIsBounded, AMetersHearingIsBounded, ACoordinatorsHearingIsBounded, ASendIsBounded, AJoinIsBounded}
 use Rattle.node_rules.specs.Laws.{AnOrderIsBounded}
 use Rattle.node_rules.proofs.Sizes.{pending_bound}
@@ -24,15 +24,15 @@ use Rattle.node_rules.proofs.CoordinatorShapes.{kick_shape}
 
 -- # Letters
 
-length-letters : (g : Granted) (key : Key) (first : ℕ) (units : List Outgoing) → length (letters g key first units) ≡ length units
-length-letters g key first [] = refl
-length-letters g key first (o ∷ rest) = ap suc (length-letters g key (first + 1) rest)
+length-sealed_units : (g : Granted) (key : Key) (first : ℕ) (units : List UnsealedUnit) → length (sealed_units g key first units) ≡ length units
+length-sealed_units g key first [] = refl
+length-sealed_units g key first (o ∷ rest) = ap suc (length-sealed_units g key (first + 1) rest)
 
-with_key : (g : Granted) (key : Option Key) (first : ℕ) (units : List Outgoing) → length (option_map_or (λ k. letters g k first units) key []) ≤ length units
+with_key : (g : Granted) (key : Option Key) (first : ℕ) (units : List UnsealedUnit) → length (option_map_or (λ k. sealed_units g k first units) key []) ≤ length units
 with_key g None first units = omega arith
-with_key g (Some key) first units = let same = length-letters g key first units in omega arith
+with_key g (Some key) first units = let same = length-sealed_units g key first units in omega arith
 
-pub sealed_few : (r : ring.Ring) (first : ℕ) (units : List Outgoing) → length (sealed_by r first units) ≤ length units
+pub sealed_few : (r : ring.Ring) (first : ℕ) (units : List UnsealedUnit) → length (sealed_by r first units) ≤ length units
 sealed_few None first units = omega arith
 sealed_few (Some g) first units = with_key g (sealing_key g) first units
 
@@ -46,7 +46,7 @@ module _ {M H E : Type 0} (h : StationPlace M) (ends : Ends E) (m : M) (l : Stat
   bounded p (Ended d answer f) = record {
     frames = λ w.
         let few = f.done.few (pending_bound l w) in
-        let letters_few = sealed_few (h.station d.memory).ring (h.station d.memory).counter.next d.units in
+        let sealed_units_few = sealed_few (h.station d.memory).ring (h.station d.memory).counter.next d.units in
         let both = length-append d.plain (sealed_by (h.station d.memory).ring (h.station d.memory).counter.next d.units) in
         omega arith;
     writes = in_turn 0 4 _ (InTurn-append 0 3 4 d.puts _ f.done.turns (counter_turn (h.station d.memory).counter (length d.units)));

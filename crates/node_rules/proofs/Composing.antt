@@ -25,7 +25,7 @@ use Rattle.loadng_messages.specs.Grammar.{spelling as message_spelling}
 use Rattle.node_rules.specs.Memory.{StationMemory, Memory, Load, Command, next_hop, address_of}
 use Rattle.node_rules.specs.Frames.{to_all}
 use Rattle.node_rules.specs.Plans.{resting}
-use Rattle.node_rules.specs.Drafts.{Draft, Ends, empty_draft, sealing, sealed, sealed_by, sealing_key, letters, counters_left, sets_out, body_goes, waits}
+use Rattle.node_rules.specs.Drafts.{Draft, Ends, empty_draft, sealing, sealed, sealed_by, sealing_key, sealed_units, counters_left, sets_out, body_goes, waits}
 use Rattle.node_rules.specs.Drafts.{seeks_once, goes, with_own_number, is_awaited, all_go, units_of, Lack, lack, checked, refused, with_ring}
 use Rattle.node_rules.specs.Calls.{Ringing, sending_ends, lacking, room_fault, command_frames, command_from, send_command, ring_ends, install, command_fault}
 use Rattle.node_rules.specs.MemoryDrafts.{with_station, in_memory, on_station}
@@ -137,7 +137,7 @@ sealed_none : (r : Ring) (first : ℕ) → sealed_by r first [] ≡ []
 sealed_none None first = refl
 sealed_none (Some g) first = by_key (sealing_key g)
   where
-    by_key : (k : Option Key) → option_map_or (λ key. letters g key first []) k [] ≡ []
+    by_key : (k : Option Key) → option_map_or (λ key. sealed_units g key first []) k [] ≡ []
     by_key None = refl
     by_key (Some key) = refl
 

@@ -45,7 +45,7 @@ module _ (l : StationMemory) where
   few w p (Ended d answer f) =
       let bound = pending_bound l w in
       let count = f.count in
-      let letters_few = sealed_few d.memory.ring d.memory.counter.next d.units in
+      let sealed_units_few = sealed_few d.memory.ring d.memory.counter.next d.units in
       let both = length-append d.plain (sealed_by d.memory.ring d.memory.counter.next d.units) in
       omega arith
 

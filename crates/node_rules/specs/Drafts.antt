@@ -13,7 +13,7 @@ use Rattle.group_keys.specs.KeyRing as ring
 use Rattle.routing_set.specs.declared.rank.Rank.{Rank}
 use Rattle.routing_set.specs.RoutingSet as routing
 use Rattle.routing_set.specs.OwnNumber as own_number
-pub use Rattle.fragment_buffers.specs.Loads.{Outgoing, own_mesh, units_of, all_go}
+pub use Rattle.fragment_buffers.specs.Loads.{UnsealedUnit, own_mesh, units_of, all_go}
 pub use Rattle.fragment_buffers.specs.Waiting.{waits_for}
 use Rattle.fragment_buffers.specs.Waiting.{is_awaited_in, waiting_blocks, no_room_in}
 pub use Rattle.fragment_buffers.specs.NextTag.{tag_slot, tag_after, tag_write}
@@ -33,7 +33,7 @@ pub record Draft (M : Type 0) : Type 0 where
   -- the memory that is left
   pub memory : M
   -- the units to be sealed, and the plain frames, in order
-  pub units : List Outgoing
+  pub units : List UnsealedUnit
   pub plain : List Sent
   pub made : List PairTag
   pub opened : List PairTag
@@ -167,9 +167,9 @@ abbrev pub sealing_key : Granted → Option Key
 sealing_key g = key_at g g.active
 
 -- units as letters, with counters from the first on
-abbrev pub letters : Granted → Key → ℕ → List Outgoing → List Sent
-letters g key first [] = []
-letters g key first (o ∷ rest) =
+abbrev pub sealed_units : Granted → Key → ℕ → List UnsealedUnit → List Sent
+sealed_units g key first [] = []
+sealed_units g key first (o ∷ rest) =
     Sealed (record {
       to = o.to;
       from = g.address;
@@ -179,12 +179,12 @@ letters g key first (o ∷ rest) =
       unit = o.unit;
       note = o.note;
     })
-    ∷ letters g key (first + 1) rest
+    ∷ sealed_units g key (first + 1) rest
 
 -- a node without a ring seals nothing
-abbrev pub sealed_by : ring.Ring → ℕ → List Outgoing → List Sent
+abbrev pub sealed_by : ring.Ring → ℕ → List UnsealedUnit → List Sent
 sealed_by None first units = []
-sealed_by (Some g) first units = option_map_or (λ key. letters g key first units) (sealing_key g) []
+sealed_by (Some g) first units = option_map_or (λ key. sealed_units g key first units) (sealing_key g) []
 
 -- where a memory holds what a node is on the line
 pub record StationPlace (M : Type 0) : Type 0 where

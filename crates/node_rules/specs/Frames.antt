@@ -21,7 +21,7 @@ use Rattle.node_rules.specs.Ciphers.{Ciphers}
 -- # What a node sends
 
 -- A unit that is sealed: to whom, from which address, with which counter and under which key.
-pub record Letter : Type 0 where
+pub record SealedUnit : Type 0 where
   pub to : ℕ
   pub from : ℕ
   pub counter : ℕ
@@ -33,14 +33,14 @@ pub record Letter : Type 0 where
 
 -- A frame: sealed, or plain with a joining message, up to an agent from the node of an EUI or down to the message's node.
 pub data Sent : Type 0 where
-  Sealed : (letter : Letter) → Sent
+  Sealed : (sealed_unit : SealedUnit) → Sent
   Up : (agent : ℕ) → (from : Eui) → (message : JoinMessage) → Sent
   Down : (from : ℕ) → (message : JoinMessage) → Sent
 
 -- # What a frame spells
 
 -- the head of a sealed frame
-abbrev pub head_of : Letter → MacHead
+abbrev pub head_of : SealedUnit → MacHead
 head_of l = sent_head l.to l.from l.counter l.index
 
 -- the unit of a joining message on a plain frame
@@ -48,7 +48,7 @@ abbrev pub joining_unit : JoinMessage → Unit
 joining_unit message = Local 2 (joining.spelling message)
 
 -- the octets of a sealed frame, which its sender knows the key and the note of
-abbrev pub sealed_frame : Ciphers → Letter → MacHead → OutFrame
+abbrev pub sealed_frame : Ciphers → SealedUnit → MacHead → OutFrame
 sealed_frame ciphers l head =
     record { octets = header_then head (ciphers.seals l.key head (spelling l.unit)); note = l.note; key = Some l.key }
 

@@ -25,7 +25,7 @@ reply_with to (Some (Rerr lost target)) = None
 
 -- the reply that a frame carries, if it carries one
 unfoldable pub reply_of : Sent → Option Reply
-reply_of (Sealed letter) = reply_with letter.to (route_message letter.unit)
+reply_of (Sealed sealed_unit) = reply_with sealed_unit.to (route_message sealed_unit.unit)
 reply_of (Up agent from message) = None
 reply_of (Down from message) = None
 

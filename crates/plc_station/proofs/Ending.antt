@@ -15,7 +15,7 @@ use Rattle.node_rules.specs.Ciphers.{network}
 use Rattle.node_rules.specs.Frames.{Sent as Frame, spelled}
 use Rattle.node_rules.specs.Memory.{StationMemory}
 use Rattle.node_rules.specs.Plans.{Plan, resting}
-use Rattle.node_rules.specs.Drafts.{Draft, Ends, alone, refused, sealing, sealed_by, sealing_key, letters}
+use Rattle.node_rules.specs.Drafts.{Draft, Ends, alone, refused, sealing, sealed_by, sealing_key, sealed_units}
 use Rattle.node_rules.specs.States.{State}
 use Rattle.node_rules.specs.Carrying.{Carries, nothing}
 use Rattle.plc_station.specs.Sealing.{only_frames}
@@ -85,7 +85,7 @@ pub sealed_none : (r : Ring) (first : ℕ) → sealed_by r first [] ≡ []
 sealed_none None first = refl
 sealed_none (Some g) first = by_key (sealing_key g)
   where
-    by_key : (k : Option Key) → option_map_or (λ key. letters g key first []) k [] ≡ []
+    by_key : (k : Option Key) → option_map_or (λ key. sealed_units g key first []) k [] ≡ []
     by_key None = refl
     by_key (Some key) = refl
 

@@ -20,7 +20,7 @@ use Rattle.loadng_messages.proofs.Readings.{message_read}
 use Rattle.group_keys.specs.KeyRing.{Ring}
 use Rattle.routing_set.specs.declared.rank.Rank.{Rank}
 use Rattle.fragment_buffers.specs.Fragmentation.{pieces_cut}
-use Rattle.fragment_buffers.specs.Loads.{Load, Datagram, Command, own_mesh, units_of, Outgoing, all_go}
+use Rattle.fragment_buffers.specs.Loads.{Load, Datagram, Command, own_mesh, units_of, UnsealedUnit, all_go}
 use Rattle.fragment_buffers.specs.Waiting.{Body, units_by, waits_for}
 use Rattle.node_rules.specs.declared.heard.Heard.{Heard}
 use Rattle.node_rules.specs.declared.heard.Heard.TheVariants as heard
@@ -29,7 +29,7 @@ use Rattle.node_rules.specs.declared.refusal.Dropped.{Dropped}
 use Rattle.node_rules.specs.Frames.{Sent, to_all}
 use Rattle.node_rules.specs.Memory.{StationMemory, next_hop}
 use Rattle.node_rules.specs.Plans.{Plan, resting}
-use Rattle.node_rules.specs.Drafts.{Draft, Ends, alone, checked, choose, counters_left, empty_draft, goes, leave, letters, refused, sealed, sealed_by, sealing}
+use Rattle.node_rules.specs.Drafts.{Draft, Ends, alone, checked, choose, counters_left, empty_draft, goes, leave, sealed_units, refused, sealed, sealed_by, sealing}
 use Rattle.node_rules.specs.Drafts.{sealing_key, send_message, with_own_number, with_rank, with_routing_by}
 use Rattle.node_rules.specs.Hearing.{dropped, drop_it, ends, error_hop, forward, forward_by, gathered, hear_error, hear_over_mesh, hop_less, is_spent, learns}
 use Rattle.node_rules.specs.Hearing.{loses, offers, offers_numbered, rank_fault, report_by, pass_error_on}
@@ -42,28 +42,28 @@ use Rattle.plc_station.proofs.Ending.{refusal, rested, answered, failed}
 -- # What units carry
 
 -- the first reply among units on their way out
-abbrev reply_in : List Outgoing → Option Reply
+abbrev reply_in : List UnsealedUnit → Option Reply
 reply_in [] = None
 reply_in (o ∷ os) = first_of (reply_with o.to (route_message o.unit)) (reply_in os)
 
-letters_reply : (g : Granted) (key : Key) (first : ℕ) (us : List Outgoing) → reply_among (letters g key first us) ≡ reply_in us
+sealed_units_reply : (g : Granted) (key : Key) (first : ℕ) (us : List UnsealedUnit) → reply_among (sealed_units g key first us) ≡ reply_in us
 unfolding reply_of
-letters_reply g key first [] = refl
-letters_reply g key first (u ∷ us) = ap (first_of (reply_with u.to (route_message u.unit))) (letters_reply g key (first + 1) us)
+sealed_units_reply g key first [] = refl
+sealed_units_reply g key first (u ∷ us) = ap (first_of (reply_with u.to (route_message u.unit))) (sealed_units_reply g key (first + 1) us)
 
 -- a ring whose key seals sends the reply of its units, and no ring sends one where there is none
-sealed_reply : (g : Granted) (key : Key) (first : ℕ) (us : List Outgoing) → sealing_key g ≡ Some key → reply_among (sealed_by (Some g) first us) ≡ reply_in us
-sealed_reply g key first us e = ap (λ (k : Option Key). reply_among (option_map_or (λ q. letters g q first us) k [])) e ∙ letters_reply g key first us
+sealed_reply : (g : Granted) (key : Key) (first : ℕ) (us : List UnsealedUnit) → sealing_key g ≡ Some key → reply_among (sealed_by (Some g) first us) ≡ reply_in us
+sealed_reply g key first us e = ap (λ (k : Option Key). reply_among (option_map_or (λ q. sealed_units g q first us) k [])) e ∙ sealed_units_reply g key first us
 
-sealed_quiet : (r : Ring) (first : ℕ) (us : List Outgoing) → reply_in us ≡ None → reply_among (sealed_by r first us) ≡ None
+sealed_quiet : (r : Ring) (first : ℕ) (us : List UnsealedUnit) → reply_in us ≡ None → reply_among (sealed_by r first us) ≡ None
 sealed_quiet None first us e = refl
 sealed_quiet (Some g) first us e = by_key (sealing_key g)
   where
-    by_key : (k : Option Key) → reply_among (option_map_or (λ key. letters g key first us) k []) ≡ None
+    by_key : (k : Option Key) → reply_among (option_map_or (λ key. sealed_units g key first us) k []) ≡ None
     by_key None = refl
-    by_key (Some key) = letters_reply g key first us ∙ e
+    by_key (Some key) = sealed_units_reply g key first us ∙ e
 
-after_quiet : (xs ys : List Outgoing) → reply_in xs ≡ None → reply_in (xs ++ ys) ≡ reply_in ys
+after_quiet : (xs ys : List UnsealedUnit) → reply_in xs ≡ None → reply_in (xs ++ ys) ≡ reply_in ys
 after_quiet [] ys e = refl
 after_quiet (x ∷ xs) ys e = by_first (reply_with x.to (route_message x.unit)) (after_quiet xs ys) e
   where
@@ -93,12 +93,12 @@ bodies_quiet own hop (b ∷ bs) =
     after_quiet (units_by own hop b) (flat_map (units_by own hop) bs) (load_quiet own hop b.note b.to b.load) ∙ bodies_quiet own hop bs
 
 -- what leaves, and one unit after it
-then_one : (own hop dest : ℕ) (bs : List Body) (o : Outgoing)
+then_one : (own hop dest : ℕ) (bs : List Body) (o : UnsealedUnit)
     → reply_in (flat_map (units_by own hop) (filter (waits_for dest) bs) ++ o ∷ []) ≡ first_of (reply_with o.to (route_message o.unit)) None
 then_one own hop dest bs o = after_quiet (flat_map (units_by own hop) (filter (waits_for dest) bs)) (o ∷ []) (bodies_quiet own hop (filter (waits_for dest) bs))
 
 -- the units of a step in which bodies leave and a message goes out
-abbrev message_units : (own by origin to : ℕ) → List Body → Message → List Outgoing
+abbrev message_units : (own by origin to : ℕ) → List Body → Message → List UnsealedUnit
 message_units own by origin to bs m =
     flat_map (units_by own by) (filter (waits_for origin) bs) ++ record { to = to; unit = Local 1 (messages.spelling m); note = 0 } ∷ []
 
@@ -232,9 +232,9 @@ passed_goes l g own by hop origin to rank now ring seals is =
     ∙ message_alone own by origin hop l.waiting (Rrep rank.number rank.cost origin to)
     ∙ reply_is_message hop rank.number rank.cost origin to is
   where
-    by_key : (us : List Outgoing) (k : Option Key) → IsSome k → reply_among (option_map_or (λ q. letters g q l.counter.next us) k []) ≡ reply_in us
+    by_key : (us : List UnsealedUnit) (k : Option Key) → IsSome k → reply_among (option_map_or (λ q. sealed_units g q l.counter.next us) k []) ≡ reply_in us
     by_key us None h = absurd (cc)
-    by_key us (Some key) h = letters_reply g key l.counter.next us
+    by_key us (Some key) h = sealed_units_reply g key l.counter.next us
 
 -- what is kept of a reply is no part of the plan that sent it
 pub restated : {A : Type 0} (s t : State StationMemory) (r : Option Reply) (p : Plan StationMemory A) (answer : A) (out : Out) → Carries s p answer out t

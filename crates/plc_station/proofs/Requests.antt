@@ -13,14 +13,14 @@ use Rattle.node_rules.specs.declared.heard.Heard.TheVariants.{Answered, Relayed}
 use Rattle.node_rules.specs.declared.refusal.Dropped.TheVariants.{SeqSpent, CounterSpent}
 use Rattle.node_rules.specs.Frames.{to_all}
 use Rattle.node_rules.specs.Memory.{StationMemory}
-use Rattle.node_rules.specs.Drafts.{Outgoing, alone, empty_draft, choose, checked, goes, send_message, leave, with_own_number, with_rank, numbers_spent}
+use Rattle.node_rules.specs.Drafts.{UnsealedUnit, alone, empty_draft, choose, checked, goes, send_message, leave, with_own_number, with_rank, numbers_spent}
 use Rattle.node_rules.specs.Drafts.{counters_left}
 use Rattle.node_rules.specs.Drafts.{refused, sealing}
 use Rattle.node_rules.specs.Hearing.{dropped, rank_fault, hear_request, offers, offers_numbered}
 use Rattle.fragment_buffers.specs.Waiting.{leaving}
 use Rattle.plc_station.proofs.Ways.{sealed_spent, sealed_fits}
 
-abbrev one : ℕ → Message → List Outgoing
+abbrev one : ℕ → Message → List UnsealedUnit
 one to message = record { to = to; unit = Local 1 (messages.spelling message); note = 0 } ∷ []
 
 answer_long : (l : StationMemory) (own by origin dest : ℕ) (rank : Rank) (now : ℕ)

@@ -30,7 +30,7 @@ use Rattle.node_rules.specs.declared.refusal.LocalRefusal.{LocalRefusal}
 use Rattle.node_rules.specs.Memory.{StationMemory, address_of, station_route}
 use Rattle.node_rules.specs.Neighbours.{local_ends, local_draft}
 use Rattle.node_rules.specs.Plans.{Plan, resting}
-use Rattle.node_rules.specs.Drafts.{Draft, StationPlace, Ends, Outgoing, alone, empty_draft, goes, letters, sealed_by, sealing_key, sealing, refused, sealed}
+use Rattle.node_rules.specs.Drafts.{Draft, StationPlace, Ends, UnsealedUnit, alone, empty_draft, goes, sealed_units, sealed_by, sealing_key, sealing, refused, sealed}
 use Rattle.node_rules.specs.Drafts.{checked, choose}
 use Rattle.node_rules.specs.Laws.{RefusesCleanly, WritesInTurn, turn_of}
 use Rattle.node_rules.proofs.Words.{InTurn, InTurn-append, in_turn, counter_turn}
@@ -86,19 +86,19 @@ number_turn n = by_limit (passes n 1)
 -- # Units and frames
 
 -- nothing is said, or one command for the neighbours
-data Says : List Outgoing → Type 0 where
+data Says : List UnsealedUnit → Type 0 where
   Nothing : Says []
   Command : (to code : ℕ) (body : List ℕ) → 3 ≤ code → code ≤ 5 → Says (record { to = to; unit = Local code body; note = 0 } ∷ [])
 
-letters_say : (g : Granted) (key : Option Key) (first : ℕ) (units : List Outgoing) → Says units
-    → AtMostACommand (option_map_or (λ key. letters g key first units) key [])
-letters_say g None first units s = tt
-letters_say g (Some key) first _ Nothing = tt
-letters_say g (Some key) first _ (Command to code body low high) = (refl, (low, high))
+sealed_units_say : (g : Granted) (key : Option Key) (first : ℕ) (units : List UnsealedUnit) → Says units
+    → AtMostACommand (option_map_or (λ key. sealed_units g key first units) key [])
+sealed_units_say g None first units s = tt
+sealed_units_say g (Some key) first _ Nothing = tt
+sealed_units_say g (Some key) first _ (Command to code body low high) = (refl, (low, high))
 
-sealed_say : (r : ring.Ring) (first : ℕ) (units : List Outgoing) → Says units → AtMostACommand (sealed_by r first units)
+sealed_say : (r : ring.Ring) (first : ℕ) (units : List UnsealedUnit) → Says units → AtMostACommand (sealed_by r first units)
 sealed_say None first units s = tt
-sealed_say (Some g) first units s = letters_say g (sealing_key g) first units s
+sealed_say (Some g) first units s = sealed_units_say g (sealing_key g) first units s
 
 -- # Drafts
 

@@ -206,7 +206,7 @@ IsNeighbourUnit (units.Carried mesh body) = ⊥
 
 -- a sealed frame with such a command, under the note 0
 abbrev pub IsNeighbourFrame : Sent → Type 0
-IsNeighbourFrame (Sealed letter) = (letter.note ≡ 0) × IsNeighbourUnit letter.unit
+IsNeighbourFrame (Sealed sealed_unit) = (sealed_unit.note ≡ 0) × IsNeighbourUnit sealed_unit.unit
 IsNeighbourFrame (Up agent from message) = ⊥
 IsNeighbourFrame (Down from message) = ⊥
 

@@ -18,7 +18,7 @@ use Rattle.node_rules.specs.declared.refusal.SendRefusal.{SendRefusal}
 use Rattle.node_rules.specs.Accepting.{accept}
 use Rattle.node_rules.specs.Calls as calls
 use Rattle.node_rules.specs.Ciphers.{network}
-use Rattle.node_rules.specs.Frames.{Sent, Letter, Sealed, Up, Down, Arrived, head_of}
+use Rattle.node_rules.specs.Frames.{Sent, SealedUnit, Sealed, Up, Down, Arrived, head_of}
 use Rattle.node_rules.specs.Hearing.{hear}
 use Rattle.node_rules.specs.Memory.{StationMemory, Memory, Role, Coordinator, Meter}
 use Rattle.node_rules.specs.MemoryDrafts.{with_station, in_memory}
@@ -150,11 +150,11 @@ discovers s n x word d = node_did s n (with_scan d.scan x) (flown d.sent) (word 
     flown (Some frame) = OfDiscovery frame ∷ []
 
 -- a sealed frame as it comes, which the key opens that sealed it
-abbrev pub letter_arrived : Letter → Arrived
-letter_arrived letter = record {
-  head = head_of letter;
+abbrev pub sealed_unit_arrived : SealedUnit → Arrived
+sealed_unit_arrived sealed_unit = record {
+  head = head_of sealed_unit;
   body = [];
-  opened = λ key. if same_key key letter.key then Some (spelling letter.unit) else None;
+  opened = λ key. if same_key key sealed_unit.key then Some (spelling sealed_unit.unit) else None;
 }
 
 -- a frame that was accepted is heard, by a node that has taken its mark
@@ -165,17 +165,17 @@ hears s n x got cost note =
     (of_station x.memory (hear x.memory.station got cost note s.clock)))
 
 -- a frame is heard where it is accepted
-abbrev pub accepts : SmallLine → ℕ → Reaching Memory → Letter → ℕ → Happened
-accepts s n x letter cost =
-    let p = accept x.memory.station no_eui (Some (letter_arrived letter)) in by_answer p.answer (on_line p.memory x)
+abbrev pub accepts : SmallLine → ℕ → Reaching Memory → SealedUnit → ℕ → Happened
+accepts s n x sealed_unit cost =
+    let p = accept x.memory.station no_eui (Some (sealed_unit_arrived sealed_unit)) in by_answer p.answer (on_line p.memory x)
   where
     by_answer : Result Accepted FrameRefusal → Reaching Memory → Happened
     by_answer (Err reason) y = nothing_but s (Refusing reason)
-    by_answer (Ok got) y = hears s n y got cost letter.note
+    by_answer (Ok got) y = hears s n y got cost sealed_unit.note
 
 -- a flight comes to a node
 abbrev pub comes : SmallLine → ℕ → Reaching Memory → ℕ → Flight → Happened
-comes s n x cost (OfNode (Sealed letter)) = accepts s n x letter cost
+comes s n x cost (OfNode (Sealed sealed_unit)) = accepts s n x sealed_unit cost
 comes s n x cost (OfNode (Up agent from message)) = nothing_but s Nobody
 comes s n x cost (OfNode (Down from message)) = nothing_but s Nobody
 comes s n x cost (OfDiscovery frame) =

@@ -25,7 +25,7 @@ use Rattle.mesh_header.specs.declared.unit.Unit.TheVariants.{Part}
 use Rattle.mesh_header.specs.Grammar.{spelling}
 use Rattle.mesh_header.specs.Pieces.{Placed}
 use Rattle.fragment_buffers.specs.Fragmentation.{pieces_cut, pieces_of, piece_of}
-use Rattle.fragment_buffers.specs.Loads.{Outgoing, all_go, own_mesh}
+use Rattle.fragment_buffers.specs.Loads.{UnsealedUnit, all_go, own_mesh}
 use Rattle.station_queues.specs.Frames.{unit_frame, frames_of, pieces_sent}
 
 -- a unit that was sealed is the frame of its letter
@@ -40,7 +40,7 @@ sealed_is g key counter to note unit head aes payload octets h a p o =
 
 -- # Units one after another
 
-pub frames-append : (g : Granted) (key : Key) (first : ℕ) (xs ys : List Outgoing)
+pub frames-append : (g : Granted) (key : Key) (first : ℕ) (xs ys : List UnsealedUnit)
     → frames_of g key first (xs ++ ys) ≡ frames_of g key first xs ++ frames_of g key (first + length xs) ys
 frames-append g key first [] ys = ap (λ n. frames_of g key n ys) (sym (zero-right first))
   where
@@ -50,19 +50,19 @@ frames-append g key first (x ∷ xs) ys =
     let same : first + 1 + length xs ≡ first + length (x ∷ xs) = omega arith in
     ap (λ zs. unit_frame g key first x ∷ zs) (frames-append g key (first + 1) xs ys ∙ ap (λ n. frames_of g key (first + 1) xs ++ frames_of g key n ys) same)
 
-pub length-frames : (g : Granted) (key : Key) (first : ℕ) (us : List Outgoing) → length (frames_of g key first us) ≡ length us
+pub length-frames : (g : Granted) (key : Key) (first : ℕ) (us : List UnsealedUnit) → length (frames_of g key first us) ≡ length us
 length-frames g key first [] = refl
 length-frames g key first (u ∷ us) = ap suc (length-frames g key (first + 1) us)
 
 -- the frames of one unit more
-frames-suc : (g : Granted) (key : Key) (first k : ℕ) (units : List Outgoing) (o : Outgoing) → k < length units → ((d : Outgoing) → get_or units k d ≡ o)
+frames-suc : (g : Granted) (key : Key) (first k : ℕ) (units : List UnsealedUnit) (o : UnsealedUnit) → k < length units → ((d : UnsealedUnit) → get_or units k d ≡ o)
     → frames_of g key first (take (suc k) units) ≡ frames_of g key first (take k units) ++ unit_frame g key (first + k) o ∷ []
 frames-suc g key first k units o lt is =
     ap (frames_of g key first) (take-suc units k o lt)
     ∙ frames-append g key first (take k units) (get_or units k o ∷ [])
     ∙ (λ i. frames_of g key first (take k units) ++ unit_frame g key (first + length-take k units lt i) (is o i) ∷ [])
   where
-    length-take : (n : ℕ) (xs : List Outgoing) → n < length xs → length (take n xs) ≡ n
+    length-take : (n : ℕ) (xs : List UnsealedUnit) → n < length xs → length (take n xs) ≡ n
     length-take zero [] h = refl
     length-take zero (x ∷ xs) h = refl
     length-take (suc n) [] h = absurd (omega arith)
@@ -70,7 +70,7 @@ frames-suc g key first k units o lt is =
 
 -- # The pieces of a datagram
 
-units : Mesh → (hop note : ℕ) → List ℕ → ℕ → List Outgoing
+units : Mesh → (hop note : ℕ) → List ℕ → ℕ → List UnsealedUnit
 units mesh hop note datagram tag = all_go hop note (map (λ piece. Part mesh piece) (pieces_cut datagram tag))
 
 pub length-cut : (datagram : List ℕ) (tag : ℕ) → 376 ≤ length datagram → length (pieces_cut datagram tag) ≡ pieces_of (length datagram)
@@ -101,7 +101,7 @@ pieces-suc g key first to hop note datagram tag k piece long lt is =
     one-more : (n : ℕ) → n + 1 ≡ suc n
     one-more n = omega arith
 
-    get_or-two : (xs : List Placed) (n : ℕ) (d : Outgoing) → n < length xs
+    get_or-two : (xs : List Placed) (n : ℕ) (d : UnsealedUnit) → n < length xs
         → get_or (all_go hop note (map (λ p. Part (own_mesh g.address to) p) xs)) n d
         ≡ record { to = hop; unit = Part (own_mesh g.address to) (get_or xs n piece); note = note }
     get_or-two [] n d h = absurd (omega arith)
@@ -111,10 +111,10 @@ pieces-suc g key first to hop note datagram tag k piece long lt is =
 pub pieces-length : (g : Granted) (key : Key) (first to hop note : ℕ) (datagram : List ℕ) (tag k : ℕ)
     → length (pieces_sent g key first to hop note datagram tag k) ≤ k
 pieces-length g key first to hop note datagram tag k =
-    let us : List Outgoing = all_go hop note (map (λ p. Part (own_mesh g.address to) p) (pieces_cut datagram tag)) in
+    let us : List UnsealedUnit = all_go hop note (map (λ p. Part (own_mesh g.address to) p) (pieces_cut datagram tag)) in
     omega (arith, length-frames g key first (take k us), length-take k us)
   where
-    length-take : (n : ℕ) (xs : List Outgoing) → length (take n xs) ≤ n
+    length-take : (n : ℕ) (xs : List UnsealedUnit) → length (take n xs) ≤ n
     length-take zero xs = omega arith
     length-take (suc n) [] = omega arith
     length-take (suc n) (x ∷ xs) = omega (arith, length-take n xs)

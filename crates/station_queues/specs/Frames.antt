@@ -10,20 +10,20 @@ use Rattle.mac_frames.specs.Sent.{sent_head, sealed_body}
 use Rattle.mesh_header.specs.declared.unit.Unit.TheVariants.{Part}
 use Rattle.mesh_header.specs.Grammar.{spelling}
 use Rattle.fragment_buffers.specs.Fragmentation.{pieces_cut}
-use Rattle.fragment_buffers.specs.Loads.{Outgoing, all_go, own_mesh, Command}
+use Rattle.fragment_buffers.specs.Loads.{UnsealedUnit, all_go, own_mesh, Command}
 use Rattle.fragment_buffers.specs.Waiting.{Body}
 
 -- the frame of a unit with this head under a key
-abbrev pub frame_with : MacHead → Key → Outgoing → OutFrame
+abbrev pub frame_with : MacHead → Key → UnsealedUnit → OutFrame
 frame_with head key o =
     record { octets = header_then head (sealed_body key.0 head (spelling o.unit)); note = o.note; key = Some key }
 
 -- the frame of a unit under a grant's active key, with a counter
-unfoldable pub unit_frame : Granted → Key → ℕ → Outgoing → OutFrame
+unfoldable pub unit_frame : Granted → Key → ℕ → UnsealedUnit → OutFrame
 unit_frame g key counter o = frame_with (sent_head o.to g.address counter g.active) key o
 
 -- units as frames, with counters from the first on
-abbrev pub frames_of : Granted → Key → ℕ → List Outgoing → List OutFrame
+abbrev pub frames_of : Granted → Key → ℕ → List UnsealedUnit → List OutFrame
 frames_of g key first [] = []
 frames_of g key first (o ∷ rest) = unit_frame g key first o ∷ frames_of g key (first + 1) rest
 

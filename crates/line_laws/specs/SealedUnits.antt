@@ -13,7 +13,7 @@ use Rattle.joining_messages.specs.declared.message.JoinMessage.{JoinMessage}
 use Rattle.pan_discovery.specs.declared.message.Discovery.{Discovery}
 use Rattle.pan_discovery.specs.Messages.{discovery_spelling}
 use Rattle.node_rules.specs.Ciphers.{Ciphers}
-use Rattle.node_rules.specs.Frames.{Letter, Sent, Sealed, Up, Down, spelled}
+use Rattle.node_rules.specs.Frames.{SealedUnit, Sent, Sealed, Up, Down, spelled}
 use Rattle.line_rules.specs.Worlds.{Flight}
 
 -- A unit that a sealed frame has room for.
@@ -30,7 +30,7 @@ IsRoute (units.Part mesh piece) = ⊤
 IsRoute (units.Carried mesh body) = ⊤
 
 -- A letter in its ranges.
-pub record IsLetter (l : Letter) : Type 0 where
+pub record IsSealedUnit (l : SealedUnit) : Type 0 where
   pub to : IsTarget l.to
   pub from : IsAddress l.from
   pub counter : l.counter < 2 ^ 32
@@ -39,12 +39,12 @@ pub record IsLetter (l : Letter) : Type 0 where
   pub route : IsRoute l.unit
 
 -- A flight under a key is the spelling of a letter that this key sealed, under the letter's note.
-pub record SpellsLetter (ciphers : Ciphers) (f : Flight) (key : Key) : Type 0 where
-  pub letter : Letter
-  pub fits : IsLetter letter
-  pub key_is : letter.key ≡ key
-  pub octets : f.octets ≡ (spelled ciphers (Sealed letter)).octets
-  pub note : f.note ≡ letter.note
+pub record SpellsSealedUnit (ciphers : Ciphers) (f : Flight) (key : Key) : Type 0 where
+  pub sealed_unit : SealedUnit
+  pub fits : IsSealedUnit sealed_unit
+  pub key_is : sealed_unit.key ≡ key
+  pub octets : f.octets ≡ (spelled ciphers (Sealed sealed_unit)).octets
+  pub note : f.note ≡ sealed_unit.note
 
 -- A frame without a key: up to an agent, down to the node of its message, or of discovery.
 pub data IsPlain (ciphers : Ciphers) (octets : List ℕ) : Type 0 where
@@ -56,7 +56,7 @@ pub data IsPlain (ciphers : Ciphers) (octets : List ℕ) : Type 0 where
 
 -- A flight is what its key says.
 pub record IsFlight (ciphers : Ciphers) (f : Flight) : Type 0 where
-  pub sealed : (key : Key) → f.key ≡ Some key → SpellsLetter ciphers f key
+  pub sealed : (key : Key) → f.key ≡ Some key → SpellsSealedUnit ciphers f key
   pub plain : f.key ≡ None → IsPlain ciphers f.octets × (f.note ≡ 0)
 
 -- all the flights are
@@ -71,6 +71,6 @@ IsPlainFrame (Down from message) = ⊤
 
 -- a sealed frame is a letter in its ranges
 abbrev pub IsSent : Sent → Type 0
-IsSent (Sealed l) = IsLetter l
+IsSent (Sealed l) = IsSealedUnit l
 IsSent (Up agent from message) = ⊤
 IsSent (Down from message) = ⊤
