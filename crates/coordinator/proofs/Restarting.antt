@@ -8,7 +8,7 @@ use Rattle.plc_base.specs.declared.keeper.BadStore.{BadStore}
 use Rattle.plc_base.specs.Grant.{Granted}
 use Rattle.group_keys.specs.KeyBook as book
 use Rattle.node_rules.specs.Agreement.{AgreesWith}
-use Rattle.coordinator.specs.CoordinatorAgreement.{CoordinatorAgreesWith, HasHome}
+use Rattle.coordinator.specs.CoordinatorAgreement.{CoordinatorAgreesWith, HasCoordinatorAddress}
 use Rattle.node_rules.specs.Memory.{StationMemory, Memory, Coordinator}
 use Rattle.node_rules.specs.StoreReading.{station_of, memory_of, reading, remembering}
 use Rattle.plc_station.specs.StationReading as stations
@@ -59,7 +59,7 @@ module _ (records : Records) where
       by_station (Err c) = refl
 
   -- the address that the records give is the coordinator's
-  pub restarted_holds : (b : book.Book) (o : Option StationMemory) → IfSome o (λ l. AgreesWith l records) → book.AgreesWith b records → HasHome records
+  pub restarted_holds : (b : book.Book) (o : Option StationMemory) → IfSome o (λ l. AgreesWith l records) → book.AgreesWith b records → HasCoordinatorAddress records
       → IfSome (option_map (memory_in [] [] b) o) (λ m. CoordinatorAgreesWith m records)
   restarted_holds b None a kept home = tt
   restarted_holds b (Some l) a kept home = record {

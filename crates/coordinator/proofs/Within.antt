@@ -25,7 +25,7 @@ use Rattle.node_rules.specs.States.{State}
 use Rattle.node_rules.specs.Composing.{seen}
 use Rattle.node_rules.proofs.Composing.{carries_within}
 use Rattle.node_rules.specs.Carrying.{Carries}
-use Rattle.coordinator.specs.CoordinatorAgreement.{CoordinatorAgreesWith, CoordinatorAgrees, HasHome}
+use Rattle.coordinator.specs.CoordinatorAgreement.{CoordinatorAgreesWith, CoordinatorAgrees, HasCoordinatorAddress}
 
 -- so its station did
 pub within_carried : {A B : Type 0} (f : StationMemory → Memory) (reads : A → B) (s t : State StationMemory) (p : Plan StationMemory A) (answer : A) (out : Out)
@@ -124,6 +124,6 @@ active_home None index home = home
 active_home (Some g) index home = home
 
 -- whatever became of the put of a ring with the address 0, the records hold one
-pub ring_home : (r : Ring) (old new : Records) → option_map (λ (g : Granted). g.address) r ≡ Some 0 → IsOldRingOrAgrees r old new → HasHome old → HasHome new
+pub ring_home : (r : Ring) (old new : Records) → option_map (λ (g : Granted). g.address) r ≡ Some 0 → IsOldRingOrAgrees r old new → HasCoordinatorAddress old → HasCoordinatorAddress new
 ring_home r old new home (inl same) h = ap (option_and_then (option_map (λ (g : Granted). g.address))) same ∙ h
 ring_home r old new home (inr kept) h = ap (option_and_then (option_map (λ (g : Granted). g.address))) kept.stored ∙ home

@@ -34,5 +34,5 @@ pub record CoordinatorReadyToAnswer (s : State Memory) (out : Out) : Type 0 wher
   pub empty : out ≡ nothing
 
 -- the records hold a ring with address 0000
-abbrev pub HasHome : Records → Type 0
-HasHome records = option_and_then (option_map (λ (g : Granted). g.address)) (ring_at (get records ring_slot)) ≡ Some 0
+abbrev pub HasCoordinatorAddress : Records → Type 0
+HasCoordinatorAddress records = option_and_then (option_map (λ (g : Granted). g.address)) (ring_at (get records ring_slot)) ≡ Some 0

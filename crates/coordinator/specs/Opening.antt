@@ -14,7 +14,7 @@ use Rattle.node_rules.specs.States.{State}
 use Rattle.node_rules.specs.Carrying.{Carries, nothing}
 use Rattle.plc_station.specs.declared.station.OpenFault.{OpenFault}
 use Rattle.plc_station.specs.declared.station.OpenFault.TheVariants as faults
-use Rattle.coordinator.specs.CoordinatorAgreement.{HasHome}
+use Rattle.coordinator.specs.CoordinatorAgreement.{HasCoordinatorAddress}
 
 -- the coordinator with what its store gives, before it has a ring
 abbrev pub read_state : Store → Eui → Memory → State Memory
@@ -42,4 +42,4 @@ IsOpenFault store eui key faults.Store left = Begins store eui key (Err rings.St
 
 -- the records hold no ring, or one with the address 0000
 abbrev pub MayBegin : Records → Type 0
-MayBegin records = (ring_at (get records ring_slot) ≡ Some None) ⊎ HasHome records
+MayBegin records = (ring_at (get records ring_slot) ≡ Some None) ⊎ HasCoordinatorAddress records

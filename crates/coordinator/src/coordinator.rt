@@ -11,7 +11,7 @@ ghost use Rattle.node_rules.specs.Coordinators as rules;
 ghost use Rattle.plc_station.specs.Sizes.{HasSizes};
 ghost use Rattle.coordinator.specs.CoordinatorReading.{if_read, read_answer};
 ghost use Rattle.coordinator.specs.CoordinatorStates.{node_of};
-ghost use Rattle.coordinator.specs.CoordinatorAgreement.{HasHome, CoordinatorAgrees};
+ghost use Rattle.coordinator.specs.CoordinatorAgreement.{HasCoordinatorAddress, CoordinatorAgrees};
 ghost use Rattle.coordinator.specs.Tables.{session_in};
 
 use crate::sessions::Sessions;
@@ -154,7 +154,7 @@ impl<K: Keeper + Drop> Coordinator<K> {
         ensures eui { self.new.station.eui ≡ self.old.station.eui }
         ensures holds { IsGapless peers self.old.station.store.records
             → IsGapless ranks self.old.station.store.records → IsGapless book.entries self.old.station.store.records
-            → HasHome self.old.station.store.records → CoordinatorAgrees (node_of self.new) }
+            → HasCoordinatorAddress self.old.station.store.records → CoordinatorAgrees (node_of self.new) }
     {
         self.randoms.clear();
         self.sessions.clear();

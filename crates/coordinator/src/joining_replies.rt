@@ -20,7 +20,7 @@ use node_rules::{Dropped, Way};
 use plc_base::{Keeper, Out, Short, TagList};
 
 // The address of the coordinator.
-fn home() -> Short
+fn coordinator_address() -> Short
     ensures { result ≡ 0 }
 {
     Short::new(0).unwrap()
@@ -112,7 +112,7 @@ impl<K: Keeper + Drop> Coordinator<K> {
     {
         match way {
             Way::Air(_) => {
-                push_down(message, home(), out);
+                push_down(message, coordinator_address(), out);
                 out.tags = tags;
                 return Ok(());
             }

@@ -8,7 +8,7 @@ ghost use Rattle.node_rules.specs.MemoryDrafts as words;
 ghost use Rattle.node_rules.specs.Coordinators as rules;
 ghost use Rattle.node_rules.specs.Carrying.{Carries, nothing};
 ghost use Rattle.coordinator.specs.CoordinatorStates.{node_of};
-ghost use Rattle.coordinator.specs.CoordinatorAgreement.{CoordinatorReady, HasHome, CoordinatorAgrees};
+ghost use Rattle.coordinator.specs.CoordinatorAgreement.{CoordinatorReady, HasCoordinatorAddress, CoordinatorAgrees};
 
 use crate::coordinator::Coordinator;
 use node_rules::CoordinatorRefusal;
@@ -40,7 +40,7 @@ impl<K: Keeper + Drop> Coordinator<K> {
             Carries (node_of self.old) (drafts.sealing words.in_memory rules.orders
             (words.on_station (calls.with_key_at m.station index key.now) (drafts.empty_draft m)) tt)
             result nothing (node_of self.new)) }
-        ensures home { HasHome self.old.station.store.records → HasHome self.new.station.store.records }
+        ensures home { HasCoordinatorAddress self.old.station.store.records → HasCoordinatorAddress self.new.station.store.records }
         ensures holds { CoordinatorAgrees (node_of self.new) }
     {
         let Ok(()) = self.station.put_key(index, key) else {
@@ -57,7 +57,7 @@ impl<K: Keeper + Drop> Coordinator<K> {
             Carries (node_of self.old) (drafts.sealing words.in_memory rules.orders
             (words.on_station (calls.with_active m.station index) (drafts.empty_draft m)) tt)
             result nothing (node_of self.new)) }
-        ensures home { HasHome self.old.station.store.records → HasHome self.new.station.store.records }
+        ensures home { HasCoordinatorAddress self.old.station.store.records → HasCoordinatorAddress self.new.station.store.records }
         ensures holds { CoordinatorAgrees (node_of self.new) }
     {
         let Ok(()) = self.station.activate(index) else {
@@ -77,7 +77,7 @@ impl<K: Keeper + Drop> Coordinator<K> {
         ensures carries { IfSome (node_of self.old).memory (λ m.
             Carries (node_of self.old) (rules.rekey m index key.now) result nothing (node_of self.new)) }
         // Whichever write fails, the keeper holds a ring with the address 0000 as before.
-        ensures home { HasHome self.old.station.store.records → HasHome self.new.station.store.records }
+        ensures home { HasCoordinatorAddress self.old.station.store.records → HasCoordinatorAddress self.new.station.store.records }
         ensures holds { CoordinatorAgrees (node_of self.new) }
     {
         if self.halted() {
@@ -100,7 +100,7 @@ impl<K: Keeper + Drop> Coordinator<K> {
         ensures carries { IfSome (node_of self.old).memory (λ m.
             Carries (node_of self.old) (rules.activate_self m index) result nothing (node_of self.new)) }
         // Whichever write fails, the keeper holds a ring with the address 0000 as before.
-        ensures home { HasHome self.old.station.store.records → HasHome self.new.station.store.records }
+        ensures home { HasCoordinatorAddress self.old.station.store.records → HasCoordinatorAddress self.new.station.store.records }
         ensures holds { CoordinatorAgrees (node_of self.new) }
     {
         if self.halted() {

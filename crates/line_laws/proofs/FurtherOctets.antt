@@ -54,7 +54,7 @@ use Rattle.node_rules.specs.Plans.{Plan, resting, within}
 use Rattle.reach_rules.specs.declared.refusal.ChooseRefusal.{ChooseRefusal}
 use Rattle.reach_rules.specs.declared.refusal.ChooseRefusal.TheVariants as choices
 use Rattle.reach_rules.specs.declared.refusal.DiscoveryDropped.TheVariants as scan_drops
-use Rattle.reach_rules.specs.Beacons.{ChosenAgent, beacons, choose_agent, choosing_ends, cost_home, hear_discovery_in, is_foreign, joins_by, takes_beacon}
+use Rattle.reach_rules.specs.Beacons.{ChosenAgent, beacons, choose_agent, choosing_ends, cost_to_coordinator, hear_discovery_in, is_foreign, joins_by, takes_beacon}
 use Rattle.reach_rules.specs.Beacons.{takes_beacons, stays as stays_scan}
 use Rattle.reach_rules.specs.Broadcasts.{hop_less, own_broadcast}
 use Rattle.reach_rules.specs.CheckedReplies.{acknowledges}
@@ -256,9 +256,9 @@ beacons_spelled r l scan (Some (requests.Request seq)) link = by_address (addres
     by_cost own None = tt
     by_cost own (Some cost) = beacon_spelled own cost
 
-    by_address : (a : Option ℕ) → SentSpelled (option_map_or (λ own. beacons scan own (cost_home r l)) a (stays_scan scan (Err scan_drops.NotForMe))).sent
+    by_address : (a : Option ℕ) → SentSpelled (option_map_or (λ own. beacons scan own (cost_to_coordinator r l)) a (stays_scan scan (Err scan_drops.NotForMe))).sent
     by_address None = tt
-    by_address (Some own) = by_cost own (cost_home r l)
+    by_address (Some own) = by_cost own (cost_to_coordinator r l)
 beacons_spelled r l scan (Some (requests.Beacon seq pan from cost)) link = by_tests (is_foreign l pan from) (takes_beacons l scan)
   where
     by_tests : (s t : Bool) → SentSpelled (if s then stays_scan scan (Err scan_drops.NotForMe)

@@ -63,7 +63,7 @@ use Rattle.node_rules.specs.Plans.{Plan, resting, within}
 use Rattle.reach_rules.specs.declared.refusal.ChooseRefusal.{ChooseRefusal}
 use Rattle.reach_rules.specs.declared.refusal.ChooseRefusal.TheVariants as choices
 use Rattle.reach_rules.specs.declared.refusal.DiscoveryDropped.TheVariants as scan_drops
-use Rattle.reach_rules.specs.Beacons.{ChosenAgent, beacons, choose_agent, choosing_ends, cost_home, hear_discovery_in, is_foreign, joins_by, takes_beacon}
+use Rattle.reach_rules.specs.Beacons.{ChosenAgent, beacons, choose_agent, choosing_ends, cost_to_coordinator, hear_discovery_in, is_foreign, joins_by, takes_beacon}
 use Rattle.reach_rules.specs.Beacons.{takes_beacons, stays as stays_scan}
 use Rattle.reach_rules.specs.Broadcasts.{datagram_fault, hop_less, own_broadcast}
 use Rattle.reach_rules.specs.CheckedReplies.{acknowledges, message_of}
@@ -133,7 +133,7 @@ held_small t dest all = by_place (routing.place_of t.entries dest)
     by_place None = omega arith
     by_place (Some place) = by_entry place (slice_get t.entries place) refl
 
-home_small : (r : Role) (l : StationMemory) → All HasShortRank l.routing.entries → (cost : ℕ) → cost_home r l ≡ Some cost → cost < 2 ^ 16
+home_small : (r : Role) (l : StationMemory) → All HasShortRank l.routing.entries → (cost : ℕ) → cost_to_coordinator r l ≡ Some cost → cost < 2 ^ 16
 home_small Coordinator l all cost e = let same : 0 ≡ cost = same_Some _ _ e in omega arith
 home_small (Meter psk) l all cost e = by_route (station_route l 0) e
   where
@@ -154,14 +154,14 @@ sent_is : (r : Role) (l : StationMemory) (scan : Scanned) (o : Option Discovery)
 sent_is r l scan None link reads all = tt
 sent_is r l scan (Some (discoveries.Request seq)) link reads all = by_address (address_of l) refl
   where
-    by_cost : (own : ℕ) → own < 0xFFFE → (c : Option ℕ) → cost_home r l ≡ c → SentIs (beacons scan own c).sent
+    by_cost : (own : ℕ) → own < 0xFFFE → (c : Option ℕ) → cost_to_coordinator r l ≡ c → SentIs (beacons scan own c).sent
     by_cost own low None e = tt
     by_cost own low (Some cost) e = (omega arith, omega arith, low, home_small r l all cost e)
 
     by_address : (a : Option ℕ) → address_of l ≡ a
-        → SentIs (option_map_or (λ own. beacons scan own (cost_home r l)) a (stays_scan scan (Err scan_drops.NotForMe))).sent
+        → SentIs (option_map_or (λ own. beacons scan own (cost_to_coordinator r l)) a (stays_scan scan (Err scan_drops.NotForMe))).sent
     by_address None e = tt
-    by_address (Some own) e = by_cost own (own_low l.ring own reads e) (cost_home r l) refl
+    by_address (Some own) e = by_cost own (own_low l.ring own reads e) (cost_to_coordinator r l) refl
 sent_is r l scan (Some (discoveries.Beacon seq pan from cost)) link reads all = by_tests (is_foreign l pan from) (takes_beacons l scan)
   where
     by_tests : (s t : Bool) → SentIs (if s then stays_scan scan (Err scan_drops.NotForMe) else (if t then takes_beacon scan from cost link else stays_scan scan

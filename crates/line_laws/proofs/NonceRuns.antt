@@ -17,7 +17,7 @@ use Rattle.line_laws.proofs.AddressWorlds.{one_meter, above_nought, meter_addres
 use Rattle.line_laws.proofs.IssueWorlds.{Keyed}
 use Rattle.line_laws.proofs.Homes.{at_length}
 use Rattle.line_laws.proofs.FlightFolds.{NewSenders}
-pub use Rattle.line_laws.specs.Keyed.{IsHome, AtHome}
+pub use Rattle.line_laws.specs.Keyed.{IsCoordinatorAddress, AtHome}
 
 -- # Homes
 
@@ -52,7 +52,7 @@ all_both P Q xs a b k d lt = (a k d lt, b k d lt)
 module _ (w v : World) (given more : List Issued) (k : Keyed w given) (kv : Keyed v more) (okv : WorldOk v)
     (grows : (0 < length w.nodes) → Grows k.book kv.book) (euis : (0 < length w.nodes) → (n : ℕ) (y : Node) → n < length w.nodes → node_at v n ≡ Some y
     → (x : Node) × (node_at w n ≡ Some x) × (x.eui ≡ y.eui)) where
-  home_stays : (n a : ℕ) → n < length w.nodes → IsHome k.book w n a → IsHome kv.book v n a
+  home_stays : (n a : ℕ) → n < length w.nodes → IsCoordinatorAddress k.book w n a → IsCoordinatorAddress kv.book v n a
   home_stays n a lt home y there =
       let some : 0 < length w.nodes = omega arith in
       let old = euis some n y lt there in
@@ -61,21 +61,21 @@ module _ (w v : World) (given more : List Issued) (k : Keyed w given) (kv : Keye
 
   old_home : (f g : Flight) → SameFlight f g → (f.from < length w.nodes) × AtHome k.book w f → AtHome kv.book v g
   old_home f g same h =
-      let moved : IfSome (nonce_parts f) (λ p. IsHome kv.book v f.from p.from) = if_parts (nonce_parts f) (λ p. IsHome k.book w f.from p.from)
-      (λ p. IsHome kv.book v f.from p.from) (λ p. home_stays f.from p.from h.0) h.1 in
+      let moved : IfSome (nonce_parts f) (λ p. IsCoordinatorAddress kv.book v f.from p.from) = if_parts (nonce_parts f) (λ p. IsCoordinatorAddress k.book w f.from p.from)
+      (λ p. IsCoordinatorAddress kv.book v f.from p.from) (λ p. home_stays f.from p.from h.0) h.1 in
       let parts : nonce_parts g ≡ nonce_parts f = ap (λ octets. nonce_in_head (head_in octets)) same.octets in
-      subst (λ n. IfSome (nonce_parts g) (λ p. IsHome kv.book v n p.from)) (sym same.from)
-      (subst (λ o. IfSome o (λ p. IsHome kv.book v f.from p.from)) (sym parts) moved)
+      subst (λ n. IfSome (nonce_parts g) (λ p. IsCoordinatorAddress kv.book v n p.from)) (sym same.from)
+      (subst (λ o. IfSome o (λ p. IsCoordinatorAddress kv.book v f.from p.from)) (sym parts) moved)
 
   -- a node's address is its home
-  home_of : (n a : ℕ) → HasAddress v n a → IsHome kv.book v n a
+  home_of : (n a : ℕ) → HasAddress v n a → IsCoordinatorAddress kv.book v n a
   home_of n a t x there = (
     (λ e. coordinator_address v more okv kv x a (ap (slice_get v.nodes) (sym e) ∙ there) (rw there at t)),
     (λ ne. meter_address v more okv kv n x a ne there (rw there at t)),
   )
 
   new_home : (f : Flight) → HasSender v f → AtHome kv.book v f
-  new_home f t = if_parts (nonce_parts f) (λ p. HasAddress v f.from p.from) (λ p. IsHome kv.book v f.from p.from) (λ p. home_of f.from p.from) t
+  new_home f t = if_parts (nonce_parts f) (λ p. HasAddress v f.from p.from) (λ p. IsCoordinatorAddress kv.book v f.from p.from) (λ p. home_of f.from p.from) t
 
   pub later_homes : KeepsFlights w.flights v.flights → All (λ (f : Flight). f.from < length w.nodes) w.flights → All (AtHome k.book w) w.flights
       → NewSenders w v → All (AtHome kv.book v) v.flights
@@ -87,7 +87,7 @@ module _ (w v : World) (given more : List Issued) (k : Keyed w given) (kv : Keye
 -- # Nonces
 
 module _ (v : World) (given : List Issued) (k : Keyed v given) (ok : WorldOk v) where
-  one_home : (i j a : ℕ) (x y : Node) → node_at v i ≡ Some x → node_at v j ≡ Some y → IsHome k.book v i a → IsHome k.book v j a → i ≡ j
+  one_home : (i j a : ℕ) (x y : Node) → node_at v i ≡ Some x → node_at v j ≡ Some y → IsCoordinatorAddress k.book v i a → IsCoordinatorAddress k.book v j a → i ≡ j
   one_home i j a x y hx hy home other = ⊎_elim
       (λ (e : i ≡ 0). ⊎_elim
       (λ (f : j ≡ 0). e ∙ sym f)
@@ -103,14 +103,14 @@ module _ (v : World) (given : List Issued) (k : Keyed v given) (ok : WorldOk v) 
   another f g rises lf lg hf hg same_key = by_key f.key
     where
       by_parts : (o u : Option NonceParts) → (f.from ≡ g.from → IfSome o (λ p. IfSome u (λ q. p.counter < q.counter)))
-          → IfSome o (λ p. IsHome k.book v f.from p.from) → IfSome u (λ q. IsHome k.book v g.from q.from) → IfSome o (λ p. IfSome u (λ q. p ≢ q))
+          → IfSome o (λ p. IsCoordinatorAddress k.book v f.from p.from) → IfSome u (λ q. IsCoordinatorAddress k.book v g.from q.from) → IfSome o (λ p. IfSome u (λ q. p ≢ q))
       by_parts None u r a b = tt
       by_parts (Some p) None r a b = tt
       by_parts (Some p) (Some q) r a b = λ same.
           let x = at_length v.nodes f.from lf in
           let y = at_length v.nodes g.from lg in
           let from : q.from ≡ p.from = ap (λ (z : NonceParts). z.from) (sym same) in
-          let one : f.from ≡ g.from = one_home f.from g.from p.from x.one y.one x.is y.is a (subst (IsHome k.book v g.from) from b) in
+          let one : f.from ≡ g.from = one_home f.from g.from p.from x.one y.one x.is y.is a (subst (IsCoordinatorAddress k.book v g.from) from b) in
           let less : p.counter < q.counter = r one in
           let counter : p.counter ≡ q.counter = ap (λ (z : NonceParts). z.counter) same in
           omega arith

@@ -57,7 +57,7 @@ use Rattle.reach_rules.specs.declared.refusal.ChooseRefusal.TheVariants as choic
 use Rattle.reach_rules.specs.declared.refusal.DiscoveryDropped.{DiscoveryDropped}
 use Rattle.reach_rules.specs.declared.refusal.DiscoveryDropped.TheVariants as discovery_drops
 use Rattle.reach_rules.specs.declared.refusal.ScanRefusal.TheVariants as scan_faults
-use Rattle.reach_rules.specs.Beacons.{Discovering, beacons, begin_scan, choose_agent, choosing_ends, cost_home, hear_discovery_in, is_foreign, joins_by}
+use Rattle.reach_rules.specs.Beacons.{Discovering, beacons, begin_scan, choose_agent, choosing_ends, cost_to_coordinator, hear_discovery_in, is_foreign, joins_by}
 use Rattle.reach_rules.specs.Beacons.{takes_beacon, takes_beacons, stays as stays_scan}
 use Rattle.reach_rules.specs.Broadcasts.{admits_broadcast, broadcast, broadcast_ends, broadcast_fault, broadcast_from, datagram_fault, goes_further}
 use Rattle.reach_rules.specs.Broadcasts.{hear_broadcast_in, hop_less, own_broadcast, with_broadcast_mark, with_broadcast_number}
@@ -471,10 +471,10 @@ module _ (number now : ℕ) (b : Beside) where
       by_cost own None = scan_stays noted (Err discovery_drops.NoRoute) refl
       by_cost own (Some cost) = same_notes number now b (record b { scan = b.scan }) refl refl
 
-      by_address : (o : Option ℕ) → ScanNotes number now b noted (option_map_or (λ own. beacons b.scan own (cost_home r l)) o
+      by_address : (o : Option ℕ) → ScanNotes number now b noted (option_map_or (λ own. beacons b.scan own (cost_to_coordinator r l)) o
           (stays_scan b.scan (Err discovery_drops.NotForMe)))
       by_address None = scan_stays noted (Err discovery_drops.NotForMe) refl
-      by_address (Some own) = by_cost own (cost_home r l)
+      by_address (Some own) = by_cost own (cost_to_coordinator r l)
   hears_notes r l link (Some (discoveries.Beacon seq pan from cost)) = by_tests (is_foreign l pan from) (takes_beacons l b.scan)
     where
       noted : Result DiscoveryHeard DiscoveryDropped → Option Noticed

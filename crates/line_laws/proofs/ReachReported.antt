@@ -49,7 +49,7 @@ use Rattle.reach_rules.specs.declared.refusal.BroadcastRefusal.TheVariants as br
 use Rattle.reach_rules.specs.declared.refusal.ScanRefusal.{ScanRefusal}
 use Rattle.reach_rules.specs.declared.refusal.ScanRefusal.TheVariants as scan_faults
 use Rattle.reach_rules.specs.PathAsking.{ask_path}
-use Rattle.reach_rules.specs.Beacons.{Discovering, beacons, begin_scan, choose_agent, cost_home, hear_discovery, hear_discovery_in, is_foreign, takes_beacon}
+use Rattle.reach_rules.specs.Beacons.{Discovering, beacons, begin_scan, choose_agent, cost_to_coordinator, hear_discovery, hear_discovery_in, is_foreign, takes_beacon}
 use Rattle.reach_rules.specs.Beacons.{takes_beacons, stays as stays_scan}
 use Rattle.reach_rules.specs.Broadcasts.{broadcast, broadcast_ends, broadcast_from}
 use Rattle.reach_rules.specs.CheckedReplies.{message_of}
@@ -387,9 +387,9 @@ module _ (w : World) (logs : LogsKept w) (n : ℕ) where
       by_cost own (Some cost) = record { bup = refl; path = refl; acked = refl; scans = refl; beacons = refl; frame = λ x octets comes over is. tt }
 
       by_address : (a : Option ℕ) → FindsSo number link request
-          (option_map_or (λ own. beacons scan own (cost_home r l)) a (stays_scan scan (Err discovery_drops.NotForMe))).answer
+          (option_map_or (λ own. beacons scan own (cost_to_coordinator r l)) a (stays_scan scan (Err discovery_drops.NotForMe))).answer
       by_address None = loses_so number link request discovery_drops.NotForMe refl
-      by_address (Some own) = by_cost own (cost_home r l)
+      by_address (Some own) = by_cost own (cost_to_coordinator r l)
   finds_so number link r l scan (Some (discoveries.Beacon seq pan from cost)) = by_tests (is_foreign l pan from) (takes_beacons l scan)
     where
       beacon : Option Discovery

@@ -106,9 +106,9 @@ pub record Keyed (w : World) (given : List Issued) : Type 0 where
 -- # Senders
 
 -- an address is that of the node of a number, by the book
-abbrev pub IsHome : books.Book → World → ℕ → ℕ → Type 0
-IsHome b w n a = (x : Node) → node_at w n ≡ Some x → (n ≡ 0 → a ≡ 0) × (n ≢ 0 → books.address_of b x.eui ≡ Some a)
+abbrev pub IsCoordinatorAddress : books.Book → World → ℕ → ℕ → Type 0
+IsCoordinatorAddress b w n a = (x : Node) → node_at w n ≡ Some x → (n ≡ 0 → a ≡ 0) × (n ≢ 0 → books.address_of b x.eui ≡ Some a)
 
 -- the sender field of a flight is the address of its node
 abbrev pub AtHome : books.Book → World → Flight → Type 0
-AtHome b w f = IfSome (nonce_parts f) (λ (p : NonceParts). IsHome b w f.from p.from)
+AtHome b w f = IfSome (nonce_parts f) (λ (p : NonceParts). IsCoordinatorAddress b w f.from p.from)

@@ -29,7 +29,7 @@ use Rattle.node_rules.specs.StoreReading.{blank_station, memory_of}
 use Rattle.node_rules.specs.Tables.{HasGaplessTables}
 use Rattle.node_rules.proofs.RingPuts.{writes_keep_ring}
 use Rattle.node_rules.proofs.TablePlans.{meters_in_place}
-use Rattle.coordinator.specs.CoordinatorAgreement.{CoordinatorAgreesWith, CoordinatorAgrees, HasHome}
+use Rattle.coordinator.specs.CoordinatorAgreement.{CoordinatorAgreesWith, CoordinatorAgrees, HasCoordinatorAddress}
 use Rattle.coordinator.specs.CoordinatorReading.{if_read, read_answer}
 use Rattle.coordinator.specs.CoordinatorStates.{CoordinatorState, memory_in, node_of}
 use Rattle.line_rules.specs.Steps.{memory_by, restart_word, restarts, ticked}
@@ -46,7 +46,7 @@ IsSoundCoordinator x = IsSound Coordinator (node_of x)
 
 -- # Agreement
 
-home_of : (ring : Ring) (records : Records) → ring_at (get records ring_slot) ≡ Some ring → HasHome records
+home_of : (ring : Ring) (records : Records) → ring_at (get records ring_slot) ≡ Some ring → HasCoordinatorAddress records
     → option_map (λ (g : Granted). g.address) ring ≡ Some 0
 home_of ring records stored home = sym (ap (option_and_then (option_map (λ (g : Granted). g.address))) stored) ∙ home
 
@@ -66,7 +66,7 @@ agrees_as y h = by (node_of y).memory h
     by (Some m) h = record { station = h.station; book = h.book }
 
 pub sound_with : (y : CoordinatorState) → IsSome y.station.store.known_cut → HasGaplessTables Coordinator y.station.store.records
-    → HasHome y.station.store.records
+    → HasCoordinatorAddress y.station.store.records
     → CoordinatorAgrees (node_of y)
     → IsSoundCoordinator y
 sound_with y known_cut tables home h = record { known_cut = known_cut; tables = tables; home = home; agrees = agrees_as y h }
@@ -105,7 +105,7 @@ own_took x y halted p answer out sound stayed carries =
 -- It is sound still where its home is as before.
 pub own_sound : {A : Type 0} (x y : CoordinatorState) (halted : A) (p : Memory → Plan Memory A) (answer : A) (out : Out) → Places p → IsSoundCoordinator x
     → Stayed x halted answer out y
-    → IfSome (node_of x).memory (λ m. Carries (node_of x) (p m) answer out (node_of y)) → HasHome y.station.store.records → CoordinatorAgrees (node_of y)
+    → IfSome (node_of x).memory (λ m. Carries (node_of x) (p m) answer out (node_of y)) → HasCoordinatorAddress y.station.store.records → CoordinatorAgrees (node_of y)
     → IsSoundCoordinator y
 own_sound x y halted p answer out places sound stayed carries home h =
     let s = stays x y halted answer out stayed in
@@ -118,12 +118,12 @@ NoRing p = (m : Memory) → WritesNoRing (p m)
 
 home_after : {A : Type 0} (x y : CoordinatorState) (halted : A) (p : Memory → Plan Memory A) (answer : A) (out : Out) → NoRing p → IsSoundCoordinator x
     → Stayed x halted answer out y
-    → IfSome (node_of x).memory (λ m. Carries (node_of x) (p m) answer out (node_of y)) → HasHome y.station.store.records
+    → IfSome (node_of x).memory (λ m. Carries (node_of x) (p m) answer out (node_of y)) → HasCoordinatorAddress y.station.store.records
 home_after {A} x y halted p answer out rings sound stayed carries = by (node_of x).memory stayed carries
   where
     by : (o : Option Memory) → IfNone o ((answer ≡ halted) × (out ≡ nothing) × (y ≡ x)) → IfSome o (λ m. Carries (node_of x) (p m) answer out (node_of y))
-        → HasHome y.station.store.records
-    by None s c = subst (λ (z : CoordinatorState). HasHome z.station.store.records) (sym s.2) sound.home
+        → HasCoordinatorAddress y.station.store.records
+    by None s c = subst (λ (z : CoordinatorState). HasCoordinatorAddress z.station.store.records) (sym s.2) sound.home
     by (Some m) s c =
         same_home x.station.store.records y.station.store.records (writes_keep_ring x.station.store (p m).puts c.done y.station.store (rings m) c.wrote)
         sound.home
@@ -193,7 +193,7 @@ pub stored_sound : (x y : CoordinatorState) → IsSoundCoordinator x → y.stati
 stored_sound x y sound store h =
     sound_with y (subst (λ (s : Store). IsSome s.known_cut) (sym store) sound.known_cut)
     (subst (λ (s : Store). HasGaplessTables Coordinator s.records) (sym store) sound.tables)
-    (subst (λ (s : Store). HasHome s.records) (sym store) sound.home) h
+    (subst (λ (s : Store). HasCoordinatorAddress s.records) (sym store) sound.home) h
 
 -- # Restarts
 

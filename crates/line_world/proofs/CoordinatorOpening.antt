@@ -22,7 +22,7 @@ use Rattle.node_rules.specs.StoreReading.{memory_of, remembering, blank_station,
 use Rattle.node_rules.specs.Tables.{HasGaplessTables}
 use Rattle.node_rules.proofs.Blank.{blank}
 use Rattle.line_rules.specs.Steps.{blank_node, coordinator_node}
-use Rattle.coordinator.specs.CoordinatorAgreement.{CoordinatorAgreesWith, CoordinatorAgrees, HasHome}
+use Rattle.coordinator.specs.CoordinatorAgreement.{CoordinatorAgreesWith, CoordinatorAgrees, HasCoordinatorAddress}
 use Rattle.coordinator.specs.CoordinatorStates.{CoordinatorState, node_of}
 use Rattle.coordinator.specs.Opening.{Begins, MayBegin, read_state}
 use Rattle.line_world.specs.Nodes.{node_in, of_coordinator}
@@ -37,7 +37,7 @@ gapless m records h = record {
   entries = stored_gapless book.entries m.book records h.book;
 }
 
-home_of : (m : Memory) (records : Records) → CoordinatorAgreesWith m records → HasHome records
+home_of : (m : Memory) (records : Records) → CoordinatorAgreesWith m records → HasCoordinatorAddress records
 home_of m records h = ap (option_and_then (option_map (λ (g : Granted). g.address))) h.station.ring.stored ∙ h.home
 
 runs_sound : (y : CoordinatorState) → IsSome (node_of y).memory → CoordinatorAgrees (node_of y) → IsSome y.station.store.known_cut → IsSoundCoordinator y
@@ -46,7 +46,7 @@ runs_sound y running h reported =
     sound_with y reported both.0 both.1 h
   where
     by : (o : Option Memory) → IsSome o → IfSome o (λ m. CoordinatorAgreesWith m y.station.store.records)
-        → HasGaplessTables Coordinator y.station.store.records × HasHome y.station.store.records
+        → HasGaplessTables Coordinator y.station.store.records × HasCoordinatorAddress y.station.store.records
     by None is h = absurd (cc)
     by (Some m) is h = (gapless m y.station.store.records h, home_of m y.station.store.records h)
 

@@ -16,7 +16,7 @@ use Rattle.node_rules.specs.States.{State}
 use Rattle.reach_rules.specs.declared.heard.CommandHeard.{CommandHeard}
 use Rattle.reach_rules.specs.declared.refusal.ReachDropped.{ReachDropped}
 use Rattle.reach_rules.specs.declared.refusal.ReachDropped.TheVariants.{Known}
-use Rattle.reach_rules.specs.Beacons.{cost_home}
+use Rattle.reach_rules.specs.Beacons.{cost_to_coordinator}
 use Rattle.reach_rules.specs.ReachingNodes.{Beside, Reaching}
 use Rattle.reach_rules.specs.Receiving.{NeighbourCommand, hear_command}
 use Rattle.node_rules.specs.Drafts.{alone}
@@ -47,13 +47,13 @@ module _ (x : CoordinatorState) (old : Node) (s : State StationMemory) (view : o
 
   -- its cost to itself
   pub cost_its : (halted : Bool) (r : Option ℕ) → MatchBool halted (s.memory ≡ None) (IsSome s.memory) → r ≡ (if halted then None else Some 0)
-      → r ≡ option_and_then (λ m. cost_home old.role m.station) old.memory
+      → r ≡ option_and_then (λ m. cost_to_coordinator old.role m.station) old.memory
   cost_its halted r h is =
       is ∙ by x.station.memory halted (subst (λ (k : State StationMemory). MatchBool halted (k.memory ≡ None) (IsSome k.memory)) same h)
-      ∙ ap (λ (n : Node). option_and_then (λ m. cost_home n.role m.station) n.memory) view
+      ∙ ap (λ (n : Node). option_and_then (λ m. cost_to_coordinator n.role m.station) n.memory) view
     where
       by : (o : Option StationMemory) (b : Bool) → MatchBool b (o ≡ None) (IsSome o)
-          → (if b then None else Some 0) ≡ option_and_then (λ m. cost_home Coordinator m.station) (option_map (memory_in x.randoms x.sessions x.book) o)
+          → (if b then None else Some 0) ≡ option_and_then (λ m. cost_to_coordinator Coordinator m.station) (option_map (memory_in x.randoms x.sessions x.book) o)
       by None true k = refl
       by None false k = absurd (cc)
       by (Some l) true k = absurd (cc)

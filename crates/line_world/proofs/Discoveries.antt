@@ -38,7 +38,7 @@ use Rattle.reach_rules.specs.declared.refusal.ChooseRefusal.{ChooseRefusal}
 use Rattle.reach_rules.specs.declared.refusal.ChooseRefusal.TheVariants as choices
 use Rattle.reach_rules.specs.declared.refusal.DiscoveryDropped.TheVariants as drops
 use Rattle.reach_rules.specs.declared.refusal.ScanRefusal.TheVariants as scan_faults
-use Rattle.reach_rules.specs.Beacons.{ChosenAgent, Discovering, begin_scan, choose_agent, choosing_ends, chosen, cost_home, hear_beacon, hear_request, joins_by}
+use Rattle.reach_rules.specs.Beacons.{ChosenAgent, Discovering, begin_scan, choose_agent, choosing_ends, chosen, cost_to_coordinator, hear_beacon, hear_request, joins_by}
 use Rattle.reach_rules.specs.Beacons.{takes_beacon, takes_beacons}
 use Rattle.reach_rules.specs.Beacons as beacons
 use Rattle.reach_rules.specs.ReachingNodes.{Beside, Reaching, nothing_beside}
@@ -196,9 +196,9 @@ pub at_number : (o : Option Node) (x : Node) (P : Node → Type 0) → o ≡ Som
 at_number o x P at h = subst (λ (k : Option Node). IfSome k P) at h
 
 -- the cost home of a node that is not halted
-pub cost_in : (x : Node) (m : Memory) (o : Option ℕ) → x.memory ≡ Some m → o ≡ option_and_then (λ (k : Memory). cost_home x.role k.station) x.memory
-    → o ≡ cost_home x.role m.station
-cost_in x m o here is = is ∙ ap (option_and_then (λ (k : Memory). cost_home x.role k.station)) here
+pub cost_in : (x : Node) (m : Memory) (o : Option ℕ) → x.memory ≡ Some m → o ≡ option_and_then (λ (k : Memory). cost_to_coordinator x.role k.station) x.memory
+    → o ≡ cost_to_coordinator x.role m.station
+cost_in x m o here is = is ∙ ap (option_and_then (λ (k : Memory). cost_to_coordinator x.role k.station)) here
 
 -- what is said of what stands beside a node
 pub beside_has : (bs : List Beside) (number : ℕ) (P : Beside → Type 0) → number < length bs → IfSome (slice_get bs number) P
@@ -214,19 +214,19 @@ pub address_in : (x : Node) (m : Memory) (o : Option ℕ) → x.memory ≡ Some 
 address_in x m o there is = is ∙ ap (λ (k : Option Memory). option_and_then (λ (m : Memory). address_of m.station) k) there
 
 request_by : (role : Role) (l : StationMemory) (scan : Scanned) (own : Option ℕ) → own ≡ address_of l
-    → option_map_or (λ a. beacons.beacons scan a (cost_home role l)) own (beacons.stays scan (Err drops.NotForMe)) ≡ hear_request role l scan
+    → option_map_or (λ a. beacons.beacons scan a (cost_to_coordinator role l)) own (beacons.stays scan (Err drops.NotForMe)) ≡ hear_request role l scan
 request_by role l scan own is =
-    ap (λ (o : Option ℕ). option_map_or (λ a. beacons.beacons scan a (cost_home role l)) o (beacons.stays scan (Err drops.NotForMe))) is
+    ap (λ (o : Option ℕ). option_map_or (λ a. beacons.beacons scan a (cost_to_coordinator role l)) o (beacons.stays scan (Err drops.NotForMe))) is
 
 pub request_elsewhere : (role : Role) (l : StationMemory) (scan : Scanned) → None ≡ address_of l
     → hear_request role l scan ≡ beacons.stays scan (Err drops.NotForMe)
 request_elsewhere role l scan is = sym (request_by role l scan None is)
 
-pub request_routeless : (role : Role) (l : StationMemory) (scan : Scanned) (own : ℕ) → Some own ≡ address_of l → None ≡ cost_home role l
+pub request_routeless : (role : Role) (l : StationMemory) (scan : Scanned) (own : ℕ) → Some own ≡ address_of l → None ≡ cost_to_coordinator role l
     → hear_request role l scan ≡ beacons.stays scan (Err drops.NoRoute)
 request_routeless role l scan own is none = sym (request_by role l scan (Some own) is) ∙ ap (λ (o : Option ℕ). beacons.beacons scan own o) (sym none)
 
-pub request_answered : (role : Role) (l : StationMemory) (scan : Scanned) (own cost : ℕ) → Some own ≡ address_of l → Some cost ≡ cost_home role l
+pub request_answered : (role : Role) (l : StationMemory) (scan : Scanned) (own cost : ℕ) → Some own ≡ address_of l → Some cost ≡ cost_to_coordinator role l
     → hear_request role l scan ≡ record { answer = Ok discovered.Beacon; scan = scan; sent = Some (discoveries.Beacon 0 PAN own cost) }
 request_answered role l scan own cost is some = sym (request_by role l scan (Some own) is) ∙ ap (λ (o : Option ℕ). beacons.beacons scan own o) (sym some)
 

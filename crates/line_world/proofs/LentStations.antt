@@ -31,7 +31,7 @@ use Rattle.node_rules.specs.Tables.{HasShortTables, IsInPlace, OfCoordinator, Wr
 use Rattle.node_rules.proofs.Composing.{carries_within}
 use Rattle.node_rules.proofs.StationPuts.{stations_write_their_own, writes_keep_membership}
 use Rattle.node_rules.proofs.TablePlans.{stations}
-use Rattle.coordinator.specs.CoordinatorAgreement.{HasHome}
+use Rattle.coordinator.specs.CoordinatorAgreement.{HasCoordinatorAddress}
 use Rattle.line_events.specs.declared.event.Answer.{Answer}
 use Rattle.line_events.specs.declared.event.Answer.TheVariants as answers
 use Rattle.line_world.specs.Nodes.{node_in, stored_in}
@@ -143,10 +143,10 @@ abbrev home_at : Option (List ℕ) → Option ℕ
 home_at o = option_and_then (option_map (λ (g : Granted). g.address)) (ring_at o)
 
 -- the home is as before where the record of the ring is
-pub same_home : (old new : Records) → get new ring_slot ≡ get old ring_slot → HasHome old → HasHome new
+pub same_home : (old new : Records) → get new ring_slot ≡ get old ring_slot → HasCoordinatorAddress old → HasCoordinatorAddress new
 same_home old new same home = ap home_at same ∙ home
 
-home_stays : (role : Role) (old new : Records) → SameMembership old new → OfCoordinator role (HasHome old) → OfCoordinator role (HasHome new)
+home_stays : (role : Role) (old new : Records) → SameMembership old new → OfCoordinator role (HasCoordinatorAddress old) → OfCoordinator role (HasCoordinatorAddress new)
 home_stays Coordinator old new same home = same_home old new same.ring home
 home_stays (Meter psk) old new same home = tt
 

@@ -20,7 +20,7 @@ use Rattle.node_rules.specs.States.{State}
 use Rattle.reach_rules.specs.declared.heard.CommandHeard.{CommandHeard}
 use Rattle.reach_rules.specs.declared.refusal.ReachDropped.{ReachDropped}
 use Rattle.reach_rules.specs.declared.refusal.ReachDropped.TheVariants.{Known}
-use Rattle.reach_rules.specs.Beacons.{cost_home}
+use Rattle.reach_rules.specs.Beacons.{cost_to_coordinator}
 use Rattle.reach_rules.specs.ReachingNodes.{Beside, Reaching}
 use Rattle.reach_rules.specs.Receiving.{NeighbourCommand, hear_command}
 use Rattle.line_rules.specs.Further.{reaches}
@@ -74,14 +74,14 @@ module _ (ms : List MeterState) (old : List Node) (place : ℕ) (x : MeterState)
   -- the cost of its valid route to the coordinator
   pub cost_there : (r : Option (ℕ × ℕ)) (cost : Option ℕ) (dest : ℕ) → dest ≡ 0 → (s.memory ≡ None → r ≡ None) → IfSome s.memory (λ l. r ≡ valid_route l dest)
       → cost ≡ option_map (λ (k : ℕ × ℕ). k.1) r
-      → IfSome (slice_get old place) (λ n. cost ≡ option_and_then (λ m. cost_home n.role m.station) n.memory)
+      → IfSome (slice_get old place) (λ n. cost ≡ option_and_then (λ m. cost_to_coordinator n.role m.station) n.memory)
   cost_there r cost dest home none some is =
-      found_at ms old place x (λ n. cost ≡ option_and_then (λ m. cost_home n.role m.station) n.memory) view there here
+      found_at ms old place x (λ n. cost ≡ option_and_then (λ m. cost_to_coordinator n.role m.station) n.memory) view there here
       (is ∙ by x.station.memory (λ e. none (ap (λ (k : State StationMemory). k.memory) same ∙ e))
       (subst (λ (k : State StationMemory). IfSome k.memory (λ l. r ≡ valid_route l dest)) same some))
     where
       by : (o : Option StationMemory) → (o ≡ None → r ≡ None) → IfSome o (λ l. r ≡ valid_route l dest)
-          → option_map (λ (k : ℕ × ℕ). k.1) r ≡ option_and_then (λ m. cost_home (Meter x.psk) m.station) (option_map (memory_with x) o)
+          → option_map (λ (k : ℕ × ℕ). k.1) r ≡ option_and_then (λ m. cost_to_coordinator (Meter x.psk) m.station) (option_map (memory_with x) o)
       by None n k = ap (λ (q : Option (ℕ × ℕ)). option_map (λ (k : ℕ × ℕ). k.1) q) (n refl)
       by (Some l) n k = ap (λ (q : Option (ℕ × ℕ)). option_map (λ (k : ℕ × ℕ). k.1) q) (k ∙ ap (λ (to : ℕ). valid_route l to) home)
 

@@ -8,7 +8,7 @@ use Rattle.node_rules.specs.Agreement.{AgreesWith}
 use Rattle.node_rules.specs.Tables.{OfCoordinator, HasGaplessTables, HasShortTables}
 use Rattle.meter_node.specs.MeterStates.{MeterState}
 use Rattle.meter_node.specs.MeterStates as meters
-use Rattle.coordinator.specs.CoordinatorAgreement.{HasHome}
+use Rattle.coordinator.specs.CoordinatorAgreement.{HasCoordinatorAddress}
 
 -- What a node holds as stored is what its records give, for the coordinator the book too.
 pub record NodeAgreesWith (role : Role) (m : Memory) (records : Records) : Type 0 where
@@ -20,7 +20,7 @@ pub record NodeAgreesWith (role : Role) (m : Memory) (records : Records) : Type 
 pub record IsSound (role : Role) (s : State Memory) : Type 0 where
   pub known_cut : IsSome s.store.known_cut
   pub tables : HasGaplessTables role s.store.records
-  pub home : OfCoordinator role (HasHome s.store.records)
+  pub home : OfCoordinator role (HasCoordinatorAddress s.store.records)
   pub agrees : IfSome s.memory (λ m. NodeAgreesWith role m s.store.records)
 
 -- a meter that is sound

@@ -107,7 +107,7 @@ impl Line {
         let Some(own) = self.nodes.address(node) else {
             return self.answered(Answer::NotForMe);
         };
-        let Some(cost) = self.nodes.cost_home(node) else {
+        let Some(cost) = self.nodes.cost_to_coordinator(node) else {
             return self.answered(Answer::NoRoute);
         };
         let beacon = Discovery::Beacon {

@@ -19,7 +19,7 @@ use Rattle.node_rules.specs.Memory.{StationMemory}
 use Rattle.node_rules.specs.MemoryDrafts.{in_memory}
 use Rattle.node_rules.specs.Drafts.{alone}
 use Rattle.node_rules.specs.Calls as calls
-use Rattle.node_rules.specs.Home.{IsHome, ReadsHome, PutsHome, CoordinatorsWriteHome, WritesKeepHome, CarryingOutKeepsHome}
+use Rattle.node_rules.specs.Home.{IsCoordinatorAddress, ReadsHome, PutsHome, CoordinatorsWriteHome, WritesKeepHome, CarryingOutKeepsHome}
 use Rattle.node_rules.proofs.Tables.{Keep, wrote_keeps, carried_keeps}
 use Rattle.node_rules.proofs.TablePuts.{Membership, RingOf, EntryOf, PutOf, OfFloors, OfNumber, OfRing, OfMark, OfRank, OfEntry, SameHome, AreOf}
 use Rattle.node_rules.proofs.TablePlans.{plan_puts, accept_puts, local_puts, near_puts, begin_puts}
@@ -30,17 +30,17 @@ use Rattle.node_rules.proofs.CoordinatorShapes.{activate_shape, kick_shape}
 
 -- # What a ring's octets read as
 
-grant_home : (octets : List ℕ) → big_number 2 octets ≡ 0 → IfSome (option_map Some (ring.grant_in octets)) IsHome
+grant_home : (octets : List ℕ) → big_number 2 octets ≡ 0 → IfSome (option_map Some (ring.grant_in octets)) IsCoordinatorAddress
 grant_home octets zero_first = by_keys (held_in (take 17 (drop 3 octets))) (held_in (drop 17 (drop 3 octets)))
   where
     by_test : (b : Bool) (address active : ℕ) (key0 key1 : Option Key) → address ≡ 0
-        → IfSome (option_map Some (if b then Some (record { address = address; active = active; key0 = key0; key1 = key1 }) else None)) IsHome
+        → IfSome (option_map Some (if b then Some (record { address = address; active = active; key0 = key0; key1 = key1 }) else None)) IsCoordinatorAddress
     by_test true address active key0 key1 e = e
     by_test false address active key0 key1 e = tt
 
     by_keys : (k0 k1 : Option (Option Key))
         → IfSome (option_map Some (option_map_or (λ key0. option_map_or (λ key1. ring.grant_of (big_number 2 octets) (slice_index octets 2) key0 key1) k1 None)
-        k0 None)) IsHome
+        k0 None)) IsCoordinatorAddress
     by_keys None k1 = tt
     by_keys (Some key0) None = tt
     by_keys (Some key0) (Some key1) =
@@ -48,26 +48,26 @@ grant_home octets zero_first = by_keys (held_in (take 17 (drop 3 octets))) (held
         (big_number 2 octets) (slice_index octets 2) key0 key1 zero_first
 
 -- octets with 1 and the address 0 in front read as a ring of the address 0, if they read as one
-octets_home : (octets : List ℕ) → big_number 2 (drop 1 octets) ≡ 0 → IfSome (ring.ring_in octets) IsHome
+octets_home : (octets : List ℕ) → big_number 2 (drop 1 octets) ≡ 0 → IfSome (ring.ring_in octets) IsCoordinatorAddress
 octets_home octets e = by_tests (are_zeros 38 octets) (length octets == 38 && slice_index octets 0 == 1)
   where
-    by_tests : (b c : Bool) → IfSome (if b then Some None else (if c then option_map Some (ring.grant_in (drop 1 octets)) else None)) IsHome
+    by_tests : (b c : Bool) → IfSome (if b then Some None else (if c then option_map Some (ring.grant_in (drop 1 octets)) else None)) IsCoordinatorAddress
     by_tests true c = tt
     by_tests false true = grant_home (drop 1 octets) e
     by_tests false false = tt
 
-ring_home : (r : ring.Ring) → IsHome r → IfSome (ring.ring_in (ring.ring_octets r)) IsHome
+ring_home : (r : ring.Ring) → IsCoordinatorAddress r → IfSome (ring.ring_in (ring.ring_octets r)) IsCoordinatorAddress
 ring_home None h = tt
 ring_home (Some g) h = octets_home (ring.ring_octets (Some g)) (ap (λ (a : ℕ). big_number 2 (drop 1 (ring.ring_octets (Some (record g { address = a }))))) h)
 
 -- # Puts
 
-same_home : (before r : ring.Ring) → SameHome before r → IsHome before → IsHome r
+same_home : (before r : ring.Ring) → SameHome before r → IsCoordinatorAddress before → IsCoordinatorAddress r
 same_home before None s h = tt
 same_home None (Some g) s h = absurd (cc (s.same))
 same_home (Some f) (Some g) s h = let same : g.address ≡ f.address = same_Some g.address f.address s.same in same ∙ h
 
-module _ (R : Membership → Type 0) (b : book.Book) (l : StationMemory) (home : (r : ring.Ring) → R (RingOf r) → IsHome r) where
+module _ (R : Membership → Type 0) (b : book.Book) (l : StationMemory) (home : (r : ring.Ring) → R (RingOf r) → IsCoordinatorAddress r) where
   put_home : (w : Write) → PutOf R b l w → PutsHome w
   put_home w (OfFloors floors) = λ e. absurd (omega arith)
   put_home w (OfNumber at number low high) = λ e. absurd (omega arith)
@@ -81,7 +81,7 @@ module _ (R : Membership → Type 0) (b : book.Book) (l : StationMemory) (home :
 
 -- a ring with the address 0, or an entry of any kind
 abbrev HomeMembership : Membership → Type 0
-HomeMembership (RingOf r) = IsHome r
+HomeMembership (RingOf r) = IsCoordinatorAddress r
 HomeMembership (EntryOf e) = Unit {0}
 
 pub coordinators_home : CoordinatorsWriteHome
@@ -117,8 +117,8 @@ coordinators_home own m home = record {
 
 home_put : (w : Write) → PutsHome w → (r : Records) → ReadsHome r → ReadsHome (insert r w.slot w.octets)
 home_put w put r h = elim (cases_eq w.slot ring.ring_slot) [
-  | inl e ↦ subst (λ o. IfSome (ring.ring_at o) IsHome) (sym (get-insert_same r w.slot ring.ring_slot w.octets (sym e))) (put e)
-  | inr ne ↦ subst (λ o. IfSome (ring.ring_at o) IsHome) (sym (get-insert_other r w.slot ring.ring_slot w.octets (λ e. ne (sym e)))) h
+  | inl e ↦ subst (λ o. IfSome (ring.ring_at o) IsCoordinatorAddress) (sym (get-insert_same r w.slot ring.ring_slot w.octets (sym e))) (put e)
+  | inr ne ↦ subst (λ o. IfSome (ring.ring_at o) IsCoordinatorAddress) (sym (get-insert_other r w.slot ring.ring_slot w.octets (λ e. ne (sym e)))) h
 ]
 
 keep_home : (puts : List Write) → All PutsHome puts → Keep ReadsHome puts

@@ -19,16 +19,16 @@ use Rattle.node_rules.specs.Neighbours as neighbours
 use Rattle.node_rules.specs.Coordinators as coordinator_rules
 
 -- a ring, if there is one, has the address 0
-abbrev pub IsHome : ring.Ring → Type 0
-IsHome r = IfSome r (λ (g : Granted). g.address ≡ 0)
+abbrev pub IsCoordinatorAddress : ring.Ring → Type 0
+IsCoordinatorAddress r = IfSome r (λ (g : Granted). g.address ≡ 0)
 
 -- where slot 1 reads as a ring, that ring has the address 0
 abbrev pub ReadsHome : Records → Type 0
-ReadsHome records = IfSome (ring.ring_at (get records ring.ring_slot)) IsHome
+ReadsHome records = IfSome (ring.ring_at (get records ring.ring_slot)) IsCoordinatorAddress
 
 -- where a write to slot 1 reads as a ring, that ring has the address 0
 abbrev pub PutsHome : Write → Type 0
-PutsHome w = w.slot ≡ ring.ring_slot → IfSome (ring.ring_in w.octets) IsHome
+PutsHome w = w.slot ≡ ring.ring_slot → IfSome (ring.ring_in w.octets) IsCoordinatorAddress
 
 -- so it is of the writes of a plan
 abbrev pub WritesHome : {M A : Type 0} → Plan M A → Type 0
@@ -57,7 +57,7 @@ pub record CoordinatorWritesHome (own : coordinator_rules.CoordinatorIdentity) (
 -- a coordinator with the address 0, or with no ring yet, puts no ring of another address
 abbrev pub CoordinatorsWriteHome : Type 0
 CoordinatorsWriteHome =
-    (own : coordinator_rules.CoordinatorIdentity) (m : Memory) → IsHome m.station.ring → CoordinatorWritesHome own m
+    (own : coordinator_rules.CoordinatorIdentity) (m : Memory) → IsCoordinatorAddress m.station.ring → CoordinatorWritesHome own m
 
 -- such writes leave slot 1 so, whichever of them fails
 abbrev pub WritesKeepHome : Type 0

@@ -37,7 +37,7 @@ use Rattle.reach_rules.specs.declared.refusal.ReachDropped.TheVariants.{NotAwait
 use Rattle.reach_rules.specs.ReachingNodes.{Reaching, with_checks, remembers}
 use Rattle.reach_rules.specs.ReachingNodes as reaching
 use Rattle.reach_rules.specs.CheckedReplies.{hear_acknowledgement, hear_acknowledgement_in}
-use Rattle.reach_rules.specs.Beacons.{hear_discovery_in, cost_home, beacons, is_foreign, takes_beacons, takes_beacon}
+use Rattle.reach_rules.specs.Beacons.{hear_discovery_in, cost_to_coordinator, beacons, is_foreign, takes_beacons, takes_beacon}
 use Rattle.reach_rules.specs.Beacons as discovering
 use Rattle.reach_rules.specs.Receiving.{NeighbourCommand, command_of, command_on, hear_by}
 use Rattle.reach_rules.specs.Laws.{DoesAsWithout, HearsAsWithout, NodesHearAsWithout, CommandsAreHandedOn, NothingIsAwaited, NobodyIsListedByTime}
@@ -116,9 +116,9 @@ module _ (role : Role) (l : StationMemory) (scan : Scanned) where
   beacons_stay own (Some cost) = refl
 
   request_stays : (address : Option ℕ)
-      → (option_map_or (λ own. beacons scan own (cost_home role l)) address (discovering.stays scan (Err dropped.NotForMe))).scan ≡ scan
+      → (option_map_or (λ own. beacons scan own (cost_to_coordinator role l)) address (discovering.stays scan (Err dropped.NotForMe))).scan ≡ scan
   request_stays None = refl
-  request_stays (Some own) = beacons_stay own (cost_home role l)
+  request_stays (Some own) = beacons_stay own (cost_to_coordinator role l)
 
   taken_stays : (t : Bool) (from cost link : ℕ) → scan.scanning ≡ false
       → (if t then takes_beacon scan from cost link else discovering.stays scan (Err dropped.NotScanning)).scan ≡ scan

@@ -49,9 +49,9 @@ abbrev pub is_discovery : List ℕ → Bool
 is_discovery octets = nat_lt 0 (length octets) && ((frame_type octets == 0) || (frame_type octets == 3))
 
 -- the cost from a node to the coordinator: nothing from the coordinator itself, and from a meter that of its valid route
-abbrev pub cost_home : Role → StationMemory → Option ℕ
-cost_home Coordinator l = Some 0
-cost_home (Meter psk) l = option_map (λ r. r.1) (valid_route l 0)
+abbrev pub cost_to_coordinator : Role → StationMemory → Option ℕ
+cost_to_coordinator Coordinator l = Some 0
+cost_to_coordinator (Meter psk) l = option_map (λ r. r.1) (valid_route l 0)
 
 -- what a node heard of discovery
 abbrev pub Heard : Type 0
@@ -66,7 +66,7 @@ beacons scan own (Some cost) =
 -- a request is answered by a node that has an address
 abbrev pub hear_request : Role → StationMemory → Scanned → Heard
 hear_request role l scan =
-    option_map_or (λ own. beacons scan own (cost_home role l)) (address_of l) (stays scan (Err drops.NotForMe))
+    option_map_or (λ own. beacons scan own (cost_to_coordinator role l)) (address_of l) (stays scan (Err drops.NotForMe))
 
 -- a beacon is taken into the scan
 abbrev pub takes_beacon : Scanned → (from cost link : ℕ) → Heard

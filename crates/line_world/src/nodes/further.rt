@@ -4,7 +4,7 @@ ghost use Rattle.std.specs.Option.{option_and_then, option_map};
 ghost use Rattle.broadcast_log.specs.Log as logs;
 ghost use Rattle.node_rules.specs.MemoryDrafts.{in_memory};
 ghost use Rattle.node_rules.specs.NodeSteps.{acts};
-ghost use Rattle.reach_rules.specs.Beacons.{cost_home};
+ghost use Rattle.reach_rules.specs.Beacons.{cost_to_coordinator};
 ghost use Rattle.reach_rules.specs.Broadcasts as broadcast_rules;
 ghost use Rattle.reach_rules.specs.CheckedReplies.{acknowledges};
 ghost use Rattle.reach_rules.specs.PathAsking.{ask_path};
@@ -67,8 +67,8 @@ impl LineCoordinator {
     }
 
     /// The cost from it to itself, none where it is halted.
-    pub fn cost_home(&mut self) -> Option<u16>
-        ensures value { result ≡ option_and_then (λ m. cost_home self.old.role m.station) self.old.memory }
+    pub fn cost_to_coordinator(&mut self) -> Option<u16>
+        ensures value { result ≡ option_and_then (λ m. cost_to_coordinator self.old.role m.station) self.old.memory }
         ensures same { self.new ≡ self.old }
     {
         own_cost(self.coordinator.station().halted())
@@ -154,9 +154,9 @@ impl Meters {
     }
 
     /// The cost of a meter's valid route to the coordinator.
-    pub fn cost_home(&mut self, place: usize) -> Option<u16>
+    pub fn cost_to_coordinator(&mut self, place: usize) -> Option<u16>
         requires there { place < length self.old }
-        ensures value { IfSome (slice_get self.old place) (λ x. result ≡ option_and_then (λ m. cost_home x.role m.station) x.memory) }
+        ensures value { IfSome (slice_get self.old place) (λ x. result ≡ option_and_then (λ m. cost_to_coordinator x.role m.station) x.memory) }
         ensures same { self.new ≡ self.old }
     {
         cost_of(self.meters[place].station().valid(coordinator()))
@@ -272,18 +272,18 @@ impl Nodes {
 
     /// The cost from a node to the coordinator: nothing from the coordinator itself, and from a meter that of its valid route. A halted node
     /// has none.
-    pub fn cost_home(&mut self, number: usize) -> Option<u16>
+    pub fn cost_to_coordinator(&mut self, number: usize) -> Option<u16>
         requires there { number < length self.old }
-        ensures value { IfSome (slice_get self.old number) (λ x. result ≡ option_and_then (λ m. cost_home x.role m.station) x.memory) }
+        ensures value { IfSome (slice_get self.old number) (λ x. result ≡ option_and_then (λ m. cost_to_coordinator x.role m.station) x.memory) }
         ensures same { self.new ≡ self.old }
     {
         if number > 0 {
-            return self.meters.cost_home(number - 1);
+            return self.meters.cost_to_coordinator(number - 1);
         }
         let Some(coordinator) = &mut self.coordinator else {
             return None;
         };
-        coordinator.cost_home()
+        coordinator.cost_to_coordinator()
     }
 
     /// The log of broadcasts that a node's store gives.

@@ -8,7 +8,7 @@ use Rattle.pan_discovery.specs.declared.message.Discovery.TheVariants as discove
 use Rattle.node_rules.specs.Memory.{Memory, Node, node_address}
 use Rattle.reach_rules.specs.declared.heard.DiscoveryHeard.TheVariants as discovered
 use Rattle.reach_rules.specs.declared.refusal.DiscoveryDropped.TheVariants as drops
-use Rattle.reach_rules.specs.Beacons.{cost_home, hear_request}
+use Rattle.reach_rules.specs.Beacons.{cost_to_coordinator, hear_request}
 use Rattle.line_rules.specs.Answers.{discovery_word}
 use Rattle.line_rules.specs.Further.{beacon_taken, beside_at}
 use Rattle.line_rules.specs.Steps.{running_world}
@@ -35,12 +35,12 @@ returns-in_default c =
     (address_in x m None here (at_number _ x (λ (y : Node). ◌≡◌ {A = Option ℕ} None (node_address y)) at c.in_default.ensures)))
     c.answered.ensures.reported (ap world_of c.answered.ensures.line))
 
-pub returns-in_default-cost_home : goal.returns-in_default-cost_home
-returns-in_default-cost_home c =
+pub returns-in_default-cost_to_coordinator : goal.returns-in_default-cost_to_coordinator
+returns-in_default-cost_to_coordinator c =
     let w = world_of c.args.self.now in
     let node = c.args.node in
     let scan : Scanned = (beside_at w node).scan in
-    let answered = c.answered-in_default-cost_home in
+    let answered = c.answered-in_default-cost_to_coordinator in
     by_memory w.nodes node
     (λ x m. (seq : ℕ) → Steps true w (Ok answered.result) (world_of answered.new.self)
     (Ok (discovers_in w node x.role m.station (Some (discoveries.Request seq)) 0)))
@@ -51,9 +51,9 @@ returns-in_default-cost_home c =
     (request_routeless x.role m.station scan c.in-Some.own
     (address_in x m (Some c.in-Some.own) here (at_number _ x (λ (y : Node). ◌≡◌ {A = Option ℕ} (Some c.in-Some.own) (node_address y)) at c.in-Some.ensures))
     (cost_in x m None here
-    (at_number _ x (λ (y : Node). ◌≡◌ {A = Option ℕ} None (option_and_then (λ (k : Memory). cost_home y.role k.station) y.memory)) at
-    c.in_default-cost_home.ensures.value)))
-    answered.ensures.reported (ap world_of answered.ensures.line ∙ (λ i. record (running_world w) { nodes = c.cost_home.ensures.same i })))
+    (at_number _ x (λ (y : Node). ◌≡◌ {A = Option ℕ} None (option_and_then (λ (k : Memory). cost_to_coordinator y.role k.station) y.memory)) at
+    c.in_default-cost_to_coordinator.ensures.value)))
+    answered.ensures.reported (ap world_of answered.ensures.line ∙ (λ i. record (running_world w) { nodes = c.cost_to_coordinator.ensures.same i })))
 
 pub returns : goal.returns
 returns c =
@@ -61,7 +61,7 @@ returns c =
     let node = c.args.node in
     let scan : Scanned = (beside_at w node).scan in
     let own = c.in-Some.own in
-    let cost = c.in-Some-cost_home.cost in
+    let cost = c.in-Some-cost_to_coordinator.cost in
     let beacon : Discovery = discoveries.Beacon 0 PAN own cost in
     let flown = c.discovery_flies in
     by_memory w.nodes node
@@ -73,7 +73,7 @@ returns c =
     (request_answered x.role m.station scan own cost
     (address_in x m (Some own) here (at_number _ x (λ (y : Node). ◌≡◌ {A = Option ℕ} (Some own) (node_address y)) at c.in-Some.ensures))
     (cost_in x m (Some cost) here
-    (at_number _ x (λ (y : Node). ◌≡◌ {A = Option ℕ} (Some cost) (option_and_then (λ (k : Memory). cost_home y.role k.station) y.memory)) at
-    c.in-Some-cost_home.ensures.value)))
+    (at_number _ x (λ (y : Node). ◌≡◌ {A = Option ℕ} (Some cost) (option_and_then (λ (k : Memory). cost_to_coordinator y.role k.station) y.memory)) at
+    c.in-Some-cost_to_coordinator.ensures.value)))
     flown.ensures.reported
-    (flown.ensures.world ∙ (λ i. flies_in (record w { nodes = c.cost_home.ensures.same i }) node (Some beacon)) ∙ scan_stays w node (Some beacon)))
+    (flown.ensures.world ∙ (λ i. flies_in (record w { nodes = c.cost_to_coordinator.ensures.same i }) node (Some beacon)) ∙ scan_stays w node (Some beacon)))

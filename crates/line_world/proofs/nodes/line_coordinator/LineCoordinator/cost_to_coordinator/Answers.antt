@@ -4,7 +4,7 @@ use Rattle.coordinator.specs.CoordinatorStates.{CoordinatorState}
 use Rattle.line_world.specs.Nodes.{of_coordinator}
 use Rattle.line_world.proofs.CoordinatorActing.{sound_back, unchanged}
 use Rattle.line_world.proofs.CoordinatorReaching.{cost_its}
-use Rattle.line_world.proofs.nodes.line_coordinator.LineCoordinator.cost_home.Goals as goal
+use Rattle.line_world.proofs.nodes.line_coordinator.LineCoordinator.cost_to_coordinator.Goals as goal
 
 pub returns-clause-value : goal.returns-clause-value
 returns-clause-value c = cost_its c.self.inside.coordinator _ c.station.result.now c.self.view_is c.station.ensures.value c.halted.result c.own_cost.result

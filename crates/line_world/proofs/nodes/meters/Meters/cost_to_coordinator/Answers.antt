@@ -4,7 +4,7 @@ use Rattle.line_world.specs.Soundness.{IsSoundMeter}
 use Rattle.line_world.proofs.MeterActing.{sound_back, unchanged}
 use Rattle.line_world.proofs.MeterReaching.{cost_there}
 use Rattle.line_world.proofs.Places.{same_at, sound_at}
-use Rattle.line_world.proofs.nodes.meters.Meters.cost_home.Goals as goal
+use Rattle.line_world.proofs.nodes.meters.Meters.cost_to_coordinator.Goals as goal
 
 pub returns-clause-value : goal.returns-clause-value
 returns-clause-value c =
