@@ -217,10 +217,10 @@ module _ (own : rules.CoordinatorIdentity) (m : Memory) (way : Way) (now : ℕ) 
 
 -- without a packet the meter asks, and with one it answers
 module _ (own : rules.CoordinatorIdentity) (m : Memory) (way : Way) (eui : Eui) (now : ℕ) where
-  pub asks : (packet : List ℕ) → length packet ≡ 0 → rules.asked own m way eui now ≡ rules.hear_join own m way eui (body.Join packet) now
+  pub asks : (packet : List ℕ) → length packet ≡ 0 → rules.join_without_packet own m way eui now ≡ rules.hear_join own m way eui (body.Join packet) now
   asks [] none = refl
   asks (x ∷ packet) none = absurd (cc)
 
-  pub replies : (packet : List ℕ) → (length packet ≡ 0 → ⊥) → rules.answered own m eui packet now ≡ rules.hear_join own m way eui (body.Join packet) now
+  pub replies : (packet : List ℕ) → (length packet ≡ 0 → ⊥) → rules.join_with_packet own m eui packet now ≡ rules.hear_join own m way eui (body.Join packet) now
   replies [] some = absurd (some refl)
   replies (x ∷ packet) some = refl

@@ -36,7 +36,7 @@ use Rattle.node_rules.specs.Joining.{message, server_agrees}
 use Rattle.node_rules.specs.Drafts.{empty_draft, refused, checked}
 use Rattle.node_rules.specs.Hearing.{dropped}
 use Rattle.node_rules.specs.Coordinators.{CoordinatorIdentity, Hearing, session_of, is_of, allowed_entry, grant_for, with_session, without_session}
-use Rattle.node_rules.specs.Coordinators.{with_book_entry, keys_for, take_second, accepts, take_fourth, take_packet, answered}
+use Rattle.node_rules.specs.Coordinators.{with_book_entry, keys_for, take_second, accepts, take_fourth, take_packet, join_with_packet}
 use Rattle.node_rules.specs.States.{State}
 use Rattle.node_rules.specs.Carrying.{Carries}
 use Rattle.plc_station.proofs.Carrying.{at_some}
@@ -124,15 +124,15 @@ served m eui e s home may is =
 -- # The plan, by what is tested
 
 module _ (own : CoordinatorIdentity) (m : Memory) (eui : Eui) (packet : List ℕ) (now : ℕ) where
-  pub not_allowed : None ≡ allowed_entry m eui → refused {H = CoordinatorHeard} dropped m NotAllowed ≡ answered own m eui packet now
+  pub not_allowed : None ≡ allowed_entry m eui → refused {H = CoordinatorHeard} dropped m NotAllowed ≡ join_with_packet own m eui packet now
   not_allowed e = rw (← e) refl
 
   pub no_session : (entry : BookEntry) → Some entry ≡ allowed_entry m eui → None ≡ session_of m eui
-      → refused {H = CoordinatorHeard} dropped m NoSession ≡ answered own m eui packet now
+      → refused {H = CoordinatorHeard} dropped m NoSession ≡ join_with_packet own m eui packet now
   no_session entry e s = rw (← e, ← s) refl
 
   pub answers : (entry : BookEntry) (session : CoordinatorSession) → Some entry ≡ allowed_entry m eui → Some session ≡ session_of m eui
-      → take_packet own m entry packet now session ≡ answered own m eui packet now
+      → take_packet own m entry packet now session ≡ join_with_packet own m eui packet now
   answers entry session e s = rw (← e, ← s) refl
 
 module _ (own : CoordinatorIdentity) (m : Memory) (e : BookEntry) (packet : List ℕ) (now : ℕ) (s : CoordinatorSession) where

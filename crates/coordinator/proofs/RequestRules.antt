@@ -23,7 +23,7 @@ use Rattle.node_rules.specs.MemoryDrafts.{with_memory_by, oldest, without_oldest
 use Rattle.node_rules.specs.Joining.{message, first_packet, server_for}
 use Rattle.node_rules.specs.Drafts.{empty_draft, refused, checked, choose}
 use Rattle.node_rules.specs.Hearing.{dropped}
-use Rattle.node_rules.specs.Coordinators.{CoordinatorIdentity, with_session, sessions_full, declines, challenges, open_session, asked}
+use Rattle.node_rules.specs.Coordinators.{CoordinatorIdentity, with_session, sessions_full, declines, challenges, open_session, join_without_packet}
 use Rattle.node_rules.specs.States.{State}
 use Rattle.node_rules.specs.Carrying.{Carries}
 use Rattle.coordinator.specs.CoordinatorAgreement.{CoordinatorAgreesWith}
@@ -47,11 +47,11 @@ module _ (own : CoordinatorIdentity) (m : Memory) (way : Way) (eui : Eui) (now :
   unfolding checked
   opens value f v = rw (← f, ← v) refl
 
-  pub let_in : true ≡ book.is_allowed m.book eui → open_session own m way eui now ≡ asked own m way eui now
+  pub let_in : true ≡ book.is_allowed m.book eui → open_session own m way eui now ≡ join_without_packet own m way eui now
   unfolding choose
   let_in a = rw (← a) refl
 
-  pub kept_out : false ≡ book.is_allowed m.book eui → declines m way (message eui body.Decline) now ≡ asked own m way eui now
+  pub kept_out : false ≡ book.is_allowed m.book eui → declines m way (message eui body.Decline) now ≡ join_without_packet own m way eui now
   unfolding choose
   kept_out a = rw (← a) refl
 

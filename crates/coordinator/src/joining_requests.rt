@@ -140,7 +140,7 @@ impl<K: Keeper + Drop> Coordinator<K> {
     ) -> Result<CoordinatorHeard<'static>, Dropped>
         requires ready { CoordinatorReadyToAnswer (node_of self.old) out.old }
         ensures carries { IfSome (node_of self.old).memory (λ m. Carries (node_of self.old)
-            (rules.asked (identity_of self.old) m way.now eui now) result out.new (node_of self.new)) }
+            (rules.join_without_packet (identity_of self.old) m way.now eui now) result out.new (node_of self.new)) }
         ensures holds { CoordinatorAgrees (node_of self.new) }
     {
         if !self.is_allowed(eui) {

@@ -243,7 +243,7 @@ impl<K: Keeper + Drop> Coordinator<K> {
     ) -> Result<CoordinatorHeard<'static>, Dropped>
         requires ready { CoordinatorReadyToAnswer (node_of self.old) out.old }
         ensures carries { IfSome (node_of self.old).memory (λ m. Carries (node_of self.old)
-            (rules.answered (identity_of self.old) m eui packet.now now) result out.new (node_of self.new)) }
+            (rules.join_with_packet (identity_of self.old) m eui packet.now now) result out.new (node_of self.new)) }
         ensures holds { CoordinatorAgrees (node_of self.new) }
     {
         let Some(entry) = self.allowed_one(eui) else {

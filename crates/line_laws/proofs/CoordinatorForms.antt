@@ -41,8 +41,8 @@ use Rattle.eap_psk.specs.Sessions.{rand_p_in}
 use Rattle.node_rules.specs.MemoryDrafts.{in_memory, on_station, station_part, with_memory_by, with_pair_tags, is_commanded, oldest, without_oldest, Unread}
 use Rattle.node_rules.specs.MemoryDrafts.{unread}
 use Rattle.node_rules.specs.Coordinators.{Hearing, CoordinatorIdentity, drop_it, is_of, session_of, sessions_full, session_fault, with_session, without_session}
-use Rattle.node_rules.specs.Coordinators.{grant_for, says, say_lack, with_book_entry, declines, opens, challenges, open_session, asked, keys_for, take_second}
-use Rattle.node_rules.specs.Coordinators.{accepts, take_fourth, take_packet, answered, hear_join, hear_join_in, heard_by, hear_coordinator, Ordering, orders}
+use Rattle.node_rules.specs.Coordinators.{grant_for, says, say_lack, with_book_entry, declines, opens, challenges, open_session, join_without_packet, keys_for, take_second}
+use Rattle.node_rules.specs.Coordinators.{accepts, take_fourth, take_packet, join_with_packet, hear_join, hear_join_in, heard_by, hear_coordinator, Ordering, orders}
 use Rattle.node_rules.specs.Coordinators.{allowed_entry, order_lack, lacking, changes, changed, allow, depot_by, depot, rekey, activate_self, challenge_by}
 use Rattle.node_rules.specs.Coordinators.{challenge_at, challenge, allowed_address, activate_by, activate, kick_goes, kick_by, kick}
 use Rattle.node_rules.proofs.Words.{IsDone, Fits, looser, sets_out_fits, begun_fits, on_ring, remembered_fits, entered_fits, down_done, commanded_done}
@@ -186,7 +186,7 @@ module _ (W : RingWord → Type 0) (P : Eui → Key → Type 0) (E : Eui → Typ
       (λ value here. challenges_is way (server_for eui own.eui value) value there (SaysChallenge eui value known here) here (no_session_fault m eui e) known)
       (λ none. Refuses _))
 
-  asked_is : (way : Way) (eui : Eui) → WayIsReached g m way → E eui → Is (asked own m way eui g.now)
+  asked_is : (way : Way) (eui : Eui) → WayIsReached g m way → E eui → Is (join_without_packet own m way eui g.now)
   asked_is way eui there known = choose_planned (λ allowed. open_is way eui there known) (λ other. declines_is way _ there (SaysDecline eui known))
 
   -- the keys of a grant go to a meter whose session is there and which is allowed
@@ -287,7 +287,7 @@ module _ (W : RingWord → Type 0) (P : Eui → Key → Type 0) (E : Eui → Typ
   by_number : (a b : Eui) → book.eui_number a ≡ book.eui_number b → book.allowed_one m.book a ≡ book.allowed_one m.book b
   by_number a b same = ap (λ k. option_map_or (λ (e : BookEntry). if e.allowed then Some e else None) (slots.entry_of book.entries m.book k) None) same
 
-  answered_is : (eui : Eui) (packet : List ℕ) → Is (answered own m eui packet g.now)
+  answered_is : (eui : Eui) (packet : List ℕ) → Is (join_with_packet own m eui packet g.now)
   answered_is eui packet = option_planned (λ e. option_map_or (take_packet own m e packet g.now) (session_of m eui) (drop_it m drops.NoSession))
       (allowed_entry m eui) (drop_it m drops.NotAllowed)
       (λ e allowed. option_planned (take_packet own m e packet g.now) (session_of m eui) (drop_it m drops.NoSession)

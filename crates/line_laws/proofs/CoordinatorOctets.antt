@@ -36,7 +36,7 @@ use Rattle.node_rules.specs.Hearing.{dropped}
 use Rattle.node_rules.specs.Joining.{message, first_packet, server_for}
 use Rattle.node_rules.specs.MemoryDrafts.{in_memory, with_memory_by, is_commanded, oldest, without_oldest, Unread, unread}
 use Rattle.node_rules.specs.Coordinators.{CoordinatorIdentity, drop_it, is_of, session_of, with_session, without_session, grant_for, says, with_book_entry}
-use Rattle.node_rules.specs.Coordinators.{declines, opens, challenges, open_session, asked, keys_for, take_second, accepts, take_fourth, take_packet, answered}
+use Rattle.node_rules.specs.Coordinators.{declines, opens, challenges, open_session, join_without_packet, keys_for, take_second, accepts, take_fourth, take_packet, join_with_packet}
 use Rattle.node_rules.specs.Coordinators.{hear_join, hear_join_in, heard_by, hear_coordinator, orders, allowed_entry, changes, changed, allow, depot_by, depot}
 use Rattle.node_rules.specs.Coordinators.{rekey, activate_self, challenge_by, challenge_at, challenge, allowed_address, activate_by, activate, kick_goes}
 use Rattle.node_rules.specs.Coordinators.{kick_by, kick}
@@ -176,7 +176,7 @@ module _ (eui : Eui) (own : HasEui eui) (m : Memory) (h : MemorySpeaks m) (reads
       (opened_speaks s (named, is.0, is.1, near)))))
       (refuses m h _ _))
 
-  asked_is : (way : Way) (meter : Eui) → HasEui meter → WayFits way → PlanSpeaks (asked self m way meter now)
+  asked_is : (way : Way) (meter : Eui) → HasEui meter → WayFits way → PlanSpeaks (join_without_packet self m way meter now)
   asked_is way meter named near = choose_speaks (λ allowed. open_is way meter named near) (λ other. declines_is way meter named)
 
   -- # Packets
@@ -210,7 +210,7 @@ module _ (eui : Eui) (own : HasEui eui) (m : Memory) (h : MemorySpeaks m) (reads
   packet_is e packet s k pair = option_speaks (λ rand_p. take_fourth self m s e packet rand_p now) s.server.rand_p (take_second self m s e packet now)
       (λ rand_p here. checked_speaks m h _ (λ right. accepts_is s rand_p k)) (second_is s e packet k pair)
 
-  answered_is : (meter : Eui) (packet : List ℕ) → PlanSpeaks (answered self m meter packet now)
+  answered_is : (meter : Eui) (packet : List ℕ) → PlanSpeaks (join_with_packet self m meter packet now)
   answered_is meter packet = option_speaks (λ e. option_map_or (take_packet self m e packet now) (session_of m meter) (drop_it m drops.NoSession))
       (allowed_entry m meter) (drop_it m drops.NotAllowed)
       (λ e allowed. option_speaks (take_packet self m e packet now) (session_of m meter) (drop_it m drops.NoSession)

@@ -37,8 +37,8 @@ use Rattle.eap_psk.specs.Sessions.{rand_p_in}
 use Rattle.node_rules.specs.MemoryDrafts.{in_memory, with_station, goes_up, goes_down, oldest, without_oldest, Unread, unread, with_memory_by, with_pair_tags}
 use Rattle.node_rules.specs.MemoryDrafts.{on_station, station_part}
 use Rattle.node_rules.specs.Coordinators.{Hearing, CoordinatorIdentity, drop_it, ends, session_of, with_session, without_session, grant_for, says}
-use Rattle.node_rules.specs.Coordinators.{with_book_entry, declines, challenges, open_session, asked, keys_for, take_second, accepts, take_fourth, take_packet}
-use Rattle.node_rules.specs.Coordinators.{answered, hear_join, hear_join_in, heard_by, hear_coordinator, allowed_entry}
+use Rattle.node_rules.specs.Coordinators.{with_book_entry, declines, challenges, open_session, join_without_packet, keys_for, take_second, accepts, take_fourth, take_packet}
+use Rattle.node_rules.specs.Coordinators.{join_with_packet, hear_join, hear_join_in, heard_by, hear_coordinator, allowed_entry}
 use Rattle.node_rules.proofs.MemoryDraftShapes.{whole}
 use Rattle.line_laws.specs.Stores.{IsReadable}
 use Rattle.line_laws.proofs.Planned.{Planned, Refuses, Keeps, Ended, checked_planned, choose_planned, sealed_planned, option_planned}
@@ -178,7 +178,7 @@ module _ (own : CoordinatorIdentity) (m : Memory) (g : Given) where
   open_is way eui = checked_planned (λ e. option_planned (λ value. challenges m way (server_for eui own.eui value) g.now) (oldest m) (drop_it m drops.NoRandom)
       (λ value here. challenges_is way (server_for eui own.eui value)) (λ none. Refuses _))
 
-  asked_is : (way : Way) (eui : Eui) → Is (asked own m way eui g.now)
+  asked_is : (way : Way) (eui : Eui) → Is (join_without_packet own m way eui g.now)
   asked_is way eui = choose_planned (λ allowed. open_is way eui) (λ other. declines_is way _)
 
   keys_is : (s : CoordinatorSession) (e : BookEntry) (rand_p : Rand) (granted : Granted) → grant_for m s.server.eui ≡ Some granted
@@ -199,7 +199,7 @@ module _ (own : CoordinatorIdentity) (m : Memory) (g : Given) where
   packet_is e packet s = option_planned (λ rand_p. take_fourth own m s e packet rand_p g.now) s.server.rand_p (take_second own m s e packet g.now)
       (λ rand_p here. checked_planned (λ right. accepts_is s rand_p)) (λ none. second_is s e packet)
 
-  answered_is : (eui : Eui) (packet : List ℕ) → Is (answered own m eui packet g.now)
+  answered_is : (eui : Eui) (packet : List ℕ) → Is (join_with_packet own m eui packet g.now)
   answered_is eui packet = option_planned (λ e. option_map_or (take_packet own m e packet g.now) (session_of m eui) (drop_it m drops.NoSession))
       (allowed_entry m eui) (drop_it m drops.NotAllowed)
       (λ e allowed. option_planned (take_packet own m e packet g.now) (session_of m eui) (drop_it m drops.NoSession) (λ s there. packet_is e packet s)

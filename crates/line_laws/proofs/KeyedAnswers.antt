@@ -28,8 +28,8 @@ use Rattle.node_rules.specs.Hearing.{dropped}
 use Rattle.node_rules.specs.Joining.{server_for}
 use Rattle.eap_psk.specs.Sessions.{rand_p_in}
 use Rattle.node_rules.specs.MemoryDrafts.{in_memory, with_station, oldest, Unread, unread}
-use Rattle.node_rules.specs.Coordinators.{Hearing, CoordinatorIdentity, drop_it, session_of, grant_for, declines, challenges, open_session, asked, keys_for}
-use Rattle.node_rules.specs.Coordinators.{take_second, accepts, take_fourth, take_packet, answered, hear_join, hear_join_in, heard_by, hear_coordinator}
+use Rattle.node_rules.specs.Coordinators.{Hearing, CoordinatorIdentity, drop_it, session_of, grant_for, declines, challenges, open_session, join_without_packet, keys_for}
+use Rattle.node_rules.specs.Coordinators.{take_second, accepts, take_fourth, take_packet, join_with_packet, hear_join, hear_join_in, heard_by, hear_coordinator}
 use Rattle.node_rules.specs.Coordinators.{allowed_entry}
 use Rattle.node_rules.proofs.MemoryDraftShapes.{whole}
 use Rattle.line_laws.proofs.Planned.{Planned, Refuses, Keeps, Ended, checked_planned, choose_planned, sealed_planned, option_planned}
@@ -75,7 +75,7 @@ module _ (own : CoordinatorIdentity) (m : Memory) (g : Given) where
   open_is way eui = checked_planned (λ e. option_planned (λ value. challenges m way (server_for eui own.eui value) g.now) (oldest m) (drop_it m drops.NoRandom)
       (λ value here. challenges_is way (server_for eui own.eui value)) (λ none. Refuses _))
 
-  asked_is : (way : Way) (eui : Eui) → Is (asked own m way eui g.now)
+  asked_is : (way : Way) (eui : Eui) → Is (join_without_packet own m way eui g.now)
   asked_is way eui = choose_planned (λ allowed. open_is way eui) (λ other. declines_is way _)
 
   keys_is : (s : CoordinatorSession) (e : BookEntry) (rand_p : Rand) (granted : Granted) → IsGrantedTo m s.server.eui granted
@@ -97,7 +97,7 @@ module _ (own : CoordinatorIdentity) (m : Memory) (g : Given) where
   packet_is asked e packet s there allowed = option_planned (λ rand_p. take_fourth own m s e packet rand_p g.now) s.server.rand_p
       (take_second own m s e packet g.now) (λ rand_p here. checked_planned (λ right. accepts_is s rand_p)) (λ none. second_is asked s e packet there allowed)
 
-  answered_is : (eui : Eui) (packet : List ℕ) → Is (answered own m eui packet g.now)
+  answered_is : (eui : Eui) (packet : List ℕ) → Is (join_with_packet own m eui packet g.now)
   answered_is eui packet = option_planned (λ e. option_map_or (take_packet own m e packet g.now) (session_of m eui) (drop_it m drops.NoSession))
       (allowed_entry m eui) (drop_it m drops.NotAllowed)
       (λ e allowed. option_planned (take_packet own m e packet g.now) (session_of m eui) (drop_it m drops.NoSession)

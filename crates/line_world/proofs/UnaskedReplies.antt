@@ -336,7 +336,7 @@ module _ (own : coordinators.CoordinatorIdentity) (m : Memory) where
       (by_option m (λ value. coordinators.challenges m way (server_for eui own.eui value) now) (oldest m) (coordinators.drop_it m drops.NoRandom)
       (λ value. challenges_quiet way (server_for eui own.eui value) now) (Rests _))
 
-  asked_quiet : (way : Way) (eui : Eui) (now : ℕ) → OfCoordinator (coordinators.asked own m way eui now)
+  asked_quiet : (way : Way) (eui : Eui) (now : ℕ) → OfCoordinator (coordinators.join_without_packet own m way eui now)
   asked_quiet way eui now = chosen m _ _ _ (open_quiet way eui now) (declines_quiet way _ now)
 
   keys_quiet : (s : CoordinatorSession) (e : BookEntry) (rand_p : Rand) (granted : Granted) (now : ℕ)
@@ -368,7 +368,7 @@ module _ (own : coordinators.CoordinatorIdentity) (m : Memory) where
       by_option m (λ rand_p. coordinators.take_fourth own m s e packet rand_p now) s.server.rand_p (coordinators.take_second own m s e packet now)
       (λ rand_p. fourth_quiet s e packet rand_p now) (second_quiet s e packet now)
 
-  answered_quiet : (eui : Eui) (packet : List ℕ) (now : ℕ) → OfCoordinator (coordinators.answered own m eui packet now)
+  answered_quiet : (eui : Eui) (packet : List ℕ) (now : ℕ) → OfCoordinator (coordinators.join_with_packet own m eui packet now)
   answered_quiet eui packet now =
       by_option m (λ e. option_map_or (coordinators.take_packet own m e packet now) (coordinators.session_of m eui) (coordinators.drop_it m drops.NoSession))
       (coordinators.allowed_entry m eui) (coordinators.drop_it m drops.NotAllowed)

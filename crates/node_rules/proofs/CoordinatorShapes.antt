@@ -32,7 +32,7 @@ use Rattle.node_rules.specs.Joining.{message, server_for}
 use Rattle.eap_psk.specs.Sessions.{rand_p_in}
 use Rattle.node_rules.specs.MemoryDrafts.{with_memory_by, is_commanded, in_memory, oldest, Unread, unread}
 use Rattle.node_rules.specs.Coordinators.{CoordinatorIdentity, Hearing, drop_it, ends, session_of, allowed_entry, grant_for, declines, challenges, open_session}
-use Rattle.node_rules.specs.Coordinators.{asked, keys_for, take_second, accepts, take_fourth, take_packet, answered, hear_join, hear_join_in, heard_by}
+use Rattle.node_rules.specs.Coordinators.{join_without_packet, keys_for, take_second, accepts, take_fourth, take_packet, join_with_packet, hear_join, hear_join_in, heard_by}
 use Rattle.node_rules.specs.Coordinators.{hear_coordinator, with_book_entry, changed, Ordering, orders, allow, depot_by, depot, rekey, activate_self}
 use Rattle.node_rules.specs.Coordinators.{challenge_by, challenge_at, challenge, allowed_address, activate_by, activate, kick_by, kick, changes, kick_goes}
 use Rattle.node_rules.specs.Coordinators.{without_session}
@@ -78,7 +78,7 @@ module _ (Home : Membership → Type 0) (entered : (e : BookEntry) → Home (Ent
       (by_option (λ value. challenges m way (server_for eui own.eui value) now) (oldest m) (drop_it m drops.NoRandom)
       (λ value. challenges_shape way (server_for eui own.eui value) now) (Rests _))
 
-  asked_shape : (way : Way) (eui : Eui) (now : ℕ) → IsRule (asked own m way eui now)
+  asked_shape : (way : Way) (eui : Eui) (now : ℕ) → IsRule (join_without_packet own m way eui now)
   asked_shape way eui now = chosen _ _ _ (open_shape way eui now) (declines_shape way _ now)
 
   keys_shape : (s : CoordinatorSession) (e : BookEntry) (rand_p : Rand) (granted : Granted) (now : ℕ) → IsRule (keys_for own m s e rand_p granted now)
@@ -106,7 +106,7 @@ module _ (Home : Membership → Type 0) (entered : (e : BookEntry) → Home (Ent
   packet_shape e packet now s = by_option (λ rand_p. take_fourth own m s e packet rand_p now) s.server.rand_p (take_second own m s e packet now)
       (λ rand_p. fourth_shape s e packet rand_p now) (second_shape s e packet now)
 
-  answered_shape : (eui : Eui) (packet : List ℕ) (now : ℕ) → IsRule (answered own m eui packet now)
+  answered_shape : (eui : Eui) (packet : List ℕ) (now : ℕ) → IsRule (join_with_packet own m eui packet now)
   answered_shape eui packet now = by_option (λ e. option_map_or (take_packet own m e packet now) (session_of m eui) (drop_it m drops.NoSession))
       (allowed_entry m eui) (drop_it m drops.NotAllowed)
       (λ e. by_option (take_packet own m e packet now) (session_of m eui) (drop_it m drops.NoSession) (λ s. packet_shape e packet now s) (Rests _)) (Rests _)

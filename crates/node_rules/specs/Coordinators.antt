@@ -149,8 +149,8 @@ open_session own m way eui now =
     (option_map_or (λ value. challenges m way (server_for eui own.eui value) now) (oldest m) (drop_it m drops.NoRandom))
 
 -- a meter asks: the allowed one is challenged, the other one declined
-abbrev pub asked : CoordinatorIdentity → Memory → Way → Eui → ℕ → Hearing
-asked own m way eui now =
+abbrev pub join_without_packet : CoordinatorIdentity → Memory → Way → Eui → ℕ → Hearing
+join_without_packet own m way eui now =
     choose (book.is_allowed m.book eui) (open_session own m way eui now) (declines m way (message eui body.Decline) now)
 
 -- # JOIN with a packet
@@ -199,8 +199,8 @@ take_packet own m e packet now s =
     option_map_or (λ rand_p. take_fourth own m s e packet rand_p now) s.server.rand_p (take_second own m s e packet now)
 
 -- a packet comes from a meter that is allowed and has a session
-abbrev pub answered : CoordinatorIdentity → Memory → Eui → List ℕ → ℕ → Hearing
-answered own m eui packet now =
+abbrev pub join_with_packet : CoordinatorIdentity → Memory → Eui → List ℕ → ℕ → Hearing
+join_with_packet own m eui packet now =
     option_map_or (λ e. option_map_or (take_packet own m e packet now) (session_of m eui) (drop_it m drops.NoSession))
     (allowed_entry m eui) (drop_it m drops.NotAllowed)
 
@@ -214,8 +214,8 @@ may_come (Mesh origin) eui = true
 
 -- a JOIN asks or answers, and the coordinator hears no other message
 abbrev pub hear_join : CoordinatorIdentity → Memory → Way → Eui → JoinBody → ℕ → Hearing
-hear_join own m way eui (body.Join []) now = asked own m way eui now
-hear_join own m way eui (body.Join (x ∷ packet)) now = answered own m eui (x ∷ packet) now
+hear_join own m way eui (body.Join []) now = join_without_packet own m way eui now
+hear_join own m way eui (body.Join (x ∷ packet)) now = join_with_packet own m eui (x ∷ packet) now
 hear_join own m way eui _ now = drop_it m drops.BadUnit
 
 -- octets that spell no joining message are dropped
