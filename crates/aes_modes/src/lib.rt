@@ -1,8 +1,20 @@
 //! AES-128 and the modes that the network uses: CMAC, EAX and CCM*.
 //!
-//! Each call equals the definition of its standard, in `specs/`, over whole lists of octets. Texts are changed in place
-//! and nothing is allocated. No table in memory is read at a place that depends on an octet of a key, a text or a tag, and
-//! tags are compared whole; what the compiler makes of that is measured, and not proved.
+//! - [`Aes`] is a key with its schedule: `new` makes it once for a key, `encrypt_block` is the cipher of FIPS 197.
+//! - [`cmac`] gives the tag of a text (RFC 4493). [`eax_seal`] and [`eax_open`] serve the protected channel of EAP-PSK.
+//! - [`ccm_seal`] and [`ccm_open`] serve frames: a nonce of 13 octets, a header that is authenticated alone, a tag of 4 or 8 octets.
+//! - [`is_same`] compares two blocks whole, for a tag or a code that somebody may be guessing.
+//!
+//! What its calls promise, by the names of their clauses:
+//!
+//! - Each call equals the definition of its standard, in `specs/`, over whole lists of octets (`text`, `tag`).
+//! - What opens is exactly what has the tag (`tag`, `opened`), and [`BadTag`] leaves the text as it was given (`unchanged`).
+//! - What a key seals it opens again, and it is what it was (`laws::ccm_seal_and_open`, `laws::eax_seal_and_open`).
+//!
+//! Texts are changed in place, nothing is allocated, and there is no `unsafe`. A header of CCM* has fewer than 65,280 octets and a text fewer
+//! than 65,536. No table in memory is read at a place that depends on an octet of a key, a text or a tag, and tags are compared whole; what the
+//! compiler makes of that is measured (`.ci/secrets`), and not proved. Nothing says that a tag can't be guessed, and a nonce that comes again
+//! is the caller's fault.
 #![tactic(auto)]
 
 mod bad_tag;

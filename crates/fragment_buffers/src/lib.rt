@@ -1,9 +1,24 @@
-//! Datagrams in pieces: the cut of a datagram, and reassemblies that gather the pieces of datagrams in the blocks of a pool.
+//! Datagrams in pieces (RFC 4944, 5.3): the pieces of a datagram, and reassemblies that gather the pieces of datagrams in the blocks of a pool.
 //!
-//! A datagram that is too long for one frame goes in fragments (RFC 4944, 5.3), which are pieces of 368 octets and a last one.
-//! `specs/Fragmentation.antt` says which pieces a datagram has, `specs/Reassembly.antt` what a reassembly is and when it is whole, and
-//! `specs/Taking.antt` how a piece is taken in. `specs/Loads.antt` says which units a datagram or a command goes out as,
-//! `specs/Waiting.antt` what waits for a route, and `specs/NextTag.antt` what is stored of the tags of datagrams.
+//! - [`pieces`] says how many units carry a datagram, and [`piece_at`] gives its k-th piece: 368 octets, and the last one what is left.
+//! - [`NextTag`] is the tag that names the pieces of the next datagram: `open`, `take` before a datagram is sent, and the tag after it is
+//!   stored at slot 4 first.
+//! - [`Reassembly`] gathers: `take` for each piece that comes, which answers when a datagram is whole ([`Taken`]), `expire` at a time in seconds,
+//!   `clear`. The octets stand in chains of a pool (`block_pool`), which each call is lent.
+//!
+//! What its calls promise, by the names of their clauses:
+//!
+//! - The k-th piece is that of the definition (`value`, `kth`).
+//! - What is held after a piece or after time is the definition's, `taken` and `unexpired` (`gathered`, `answer`, `datagram`).
+//! - [`BufferFull`] comes exactly where a new reassembly would be the ninth, or its blocks with those in use would pass 80, and nothing has
+//!   changed then (`full`, `err`).
+//! - The pieces of a datagram, in any order and with repeats, make exactly it; no two placed pieces overlap; other chains of the pool stay
+//!   ([`the_pieces_of_a_datagram_come_together`], [`placed_pieces_never_overlap`], [`other_chains_keep_reassemblies`]).
+//! - A tag is stored before it is used, so it is new also after a loss of power (`tag`, `store`, `kept`).
+//!
+//! It holds 8 reassemblies of 60 seconds each, and takes no memory but blocks of the pool; there is no `unsafe`. A piece that overlaps
+//! another one begins its reassembly anew. Times are the caller's, in seconds. `specs/Loads.antt` says which units a datagram or a command
+//! goes out as, and `specs/Waiting.antt` what waits for a route; the crates above carry that out.
 #![tactic(auto)]
 
 mod buffer;

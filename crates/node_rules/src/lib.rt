@@ -1,6 +1,24 @@
 //! The rules of the nodes, as definitions: what a node holds, and what each call and each frame does to it.
 //!
-//! The definitions stand in `specs/`; here are the words of the answers, which they name, and the laws.
+//! The definitions stand in `specs/`, and `docs/NODE-RULES.md` reads them aloud. To begin with:
+//!
+//! - `Memory.antt` is what a node holds, `Plans.antt` what a rule answers: a plan of puts, memory and frames. `Carrying.antt` says how a plan is
+//!   carried out over a store whose writes may fail (`Carries`, `carry_out`).
+//! - `Calls.antt` and `Accepting.antt`, `Hearing.antt` are the rules of a station; `Meters.antt` and `Coordinators.antt` those of the roles.
+//! - `Frames.antt` is the edge: what a frame spells, and what arrived octets are, under ciphers that are given (`Ciphers.antt`).
+//! - `Agreement.antt` is what memory and store say of one another, `StoreReading.antt` what a restart makes of a store.
+//!
+//! The code here is the words of the answers ([`Accepted`], [`Heard`], [`SendRefusal`] ..), [`Shown`], and the laws, each an empty function whose
+//! clause is the law:
+//!
+//! - A refusal changes nothing ([`a_frame_refused_changes_nothing`] and its like), and [`the_room_names_the_refusal`] of a command.
+//! - A call sends so much and no more ([`hearing_is_bounded`], [`a_send_is_bounded`], [`replies_are_few`]).
+//! - A failed write leaves old or new ([`writes_fail_cleanly`]), and without a loss of power none fails ([`no_cut_no_failure`]).
+//! - Tables keep their places ([`plans_write_in_place`], [`carrying_out_keeps_tables`]), and the coordinator's ring its address
+//!   ([`carrying_out_keeps_home`]).
+//!
+//! No rule reads a clock, draws a random value or knows of other nodes. What holds of whole lines is `line_laws`; that code follows the rules is
+//! `plc_station`, `meter_node` and `coordinator`.
 #![tactic(auto)]
 
 mod heard;

@@ -1,8 +1,22 @@
 //! What nodes do for further reach: acknowledged route replies, broadcasts, beacons and path requests. They are definitions, in
-//! `specs/`, over those of `node_rules` and of the four crates of these subjects. No line uses them yet: a node's step is that of
-//! `node_rules`, and the laws say where the further rules do the same.
+//! `specs/`, over those of `node_rules` and of the four crates of these subjects, and the step of a line is made of them (`line_rules`).
 //!
-//! Here are the words of their answers, which they name, and the laws.
+//! - `ReachingNodes.antt` is a node with what it holds beside its memory: checks, a scan, a log of broadcasts. `Receiving.antt` is what it does with a
+//!   frame (`hear_reaching`), `CheckedReplies.antt`, `Broadcasts.antt`, `Beacons.antt` and `PathAsking.antt` the rule of each subject.
+//! - `ReachScripts.antt` and `ReachCases.antt` are small runs and cases that the checker computes.
+//!
+//! The code here is the words of the answers ([`CommandHeard`], [`DiscoveryHeard`], [`ReachDropped`] ..) and the laws, each an empty function
+//! whose clause is the law:
+//!
+//! - Where checks are off, other frames are heard as without further reach ([`frames_are_heard_as_without`], [`nodes_hear_as_without`]).
+//! - A refusal changes nothing ([`commands_refuse_cleanly`], [`further_calls_refuse_cleanly`], [`frames_refuse_cleanly`]).
+//! - A broadcast is handed up once, its mark stored first ([`a_broadcast_is_handed_up_once`], [`a_broadcast_is_marked_first`]).
+//! - A neighbour that is listed is not believed ([`listed_are_not_believed`]); nothing is heard without a scan
+//!   ([`nothing_is_heard_without_a_scan`]).
+//! - The rest of a node stays as it is ([`commands_keep_the_rest`], [`further_calls_keep_the_rest`]).
+//!
+//! The rules are for a node of either role; the code that follows them is in `line_world`. What holds of whole
+//! runs, as that a reported walk was taken, is `line_laws`.
 #![tactic(auto)]
 
 mod cases;
