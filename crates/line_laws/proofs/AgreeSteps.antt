@@ -96,7 +96,8 @@ use Rattle.line_laws.proofs.IssueMeters.{MeterTag, Second, Fourth, joins_made, l
 use Rattle.line_laws.proofs.IssueCoordinator.{CoordinatorTag, ServerMac, Third, IsDoneBy}
 use Rattle.line_laws.proofs.Untagged.{allow_untagged, depot_untagged, rekey_untagged, activate_self_untagged, challenge_untagged, activate_untagged}
 use Rattle.line_laws.proofs.Untagged.{kick_untagged}
-use Rattle.line_laws.proofs.IssueSteps.{took_same, keyed_same, or_false, address_low, other_there, flight_octets, quiet_meter_did}
+use Rattle.line_laws.proofs.IssueSteps.{took_same, keyed_same, or_false, flight_octets, quiet_meter_did}
+use Rattle.line_laws.proofs.IssueSetup.{address_low, other_there}
 use Rattle.std.specs.List.{position_or_len}
 use Rattle.std.specs.Prelude.{position}
 use Rattle.std.proofs.lemmas.List.Quantifiers.{position-Some}

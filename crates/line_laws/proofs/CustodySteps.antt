@@ -72,7 +72,7 @@ use Rattle.line_laws.proofs.RangeFrames.{IsSent, flights_fit}
 use Rattle.line_laws.proofs.RangeHeard.{SaysShort}
 use Rattle.line_laws.proofs.RangePlans.{DidRanged, acts_ranged}
 use Rattle.line_laws.proofs.Readings.{held, none_held}
-use Rattle.line_laws.proofs.StepsOk.{coordinator_acts, read_again}
+use Rattle.line_laws.proofs.NodesOk.{coordinator_acts, read_again}
 use Rattle.line_laws.proofs.TagRuns.{at_end}
 use Rattle.line_laws.proofs.StepKinds.{IsAddressed, IsAddressedAt, workshop, IsAsked, AskRandom, AskJoin, AskLeave, AskRekey, AskTurn, AskChallenge}
 use Rattle.line_laws.proofs.StepKinds.{AskActivate}

@@ -52,7 +52,8 @@ use Rattle.line_laws.proofs.Answered.{acts_answered}
 use Rattle.line_laws.proofs.Senders.{IsFrom, AreFrom}
 use Rattle.line_laws.proofs.HeadsSaid.{spelled_well, sealed_sender_is, up_nonce, down_nonce}
 use Rattle.line_laws.proofs.Worlds.{NodeFits, FlightFits, WorldOk, within as place_within, at_place}
-use Rattle.line_laws.proofs.StepsOk.{coordinator_acts, hears_ok}
+use Rattle.line_laws.proofs.StepsOk.{hears_ok}
+use Rattle.line_laws.proofs.NodesOk.{coordinator_acts}
 use Rattle.line_laws.proofs.Quiet.{acts_quiet, counter_quiet, number_quiet, near_quiet, install_quiet, allow_quiet, depot_quiet, accept_quiet}
 use Rattle.line_laws.proofs.StepKinds.{IsCall, Gives, Joins, Leaves, Sends, Breaks, Nears, Counts, Numbers, Accepts, Provisions, Depots, Allows, Rekeys, Turns}
 use Rattle.line_laws.proofs.StepKinds.{Challenges, Activates, Kicks, preset_call, IsStep, Fails, Makes, Rests, Shows, Acts, BreaksLink, SendsFrom, AllowsMeter}

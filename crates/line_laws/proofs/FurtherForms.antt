@@ -60,7 +60,7 @@ use Rattle.line_laws.proofs.LaterStores.{log_leads, log_high, log_marks}
 use Rattle.line_laws.proofs.MarkWrites as marks
 use Rattle.line_laws.proofs.Nodes.{PlanOk, sealed_few}
 use Rattle.line_laws.proofs.Senders.{sealed_from}
-use Rattle.line_laws.proofs.StepsOk.{resting_ok}
+use Rattle.line_laws.proofs.NodesOk.{resting_ok}
 use Rattle.line_laws.proofs.StoreBook.{Rest, rest_lasts, station_leads}
 use Rattle.line_laws.proofs.StoreWords.{counter_leads}
 

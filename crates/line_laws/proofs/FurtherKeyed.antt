@@ -42,7 +42,8 @@ use Rattle.line_laws.proofs.FurtherStepKinds.{After, Anew, Besides, Carries, Cho
 use Rattle.line_laws.proofs.FurtherStepKinds.{Unsends, moved_ok}
 use Rattle.line_laws.proofs.IssueCalls.{accept_quietly}
 use Rattle.line_laws.proofs.IssueMeters.{MeterPlan, joins_made, joins_opened, joins_plan}
-use Rattle.line_laws.proofs.IssueSteps.{Fails, StepKeyed, Taken, own_after, quiet_after, quiet_after_at, step_keyed}
+use Rattle.line_laws.proofs.IssueSteps.{Fails, StepKeyed, Taken, own_after, quiet_after, quiet_after_at}
+use Rattle.line_laws.proofs.IssueSetup.{step_keyed}
 use Rattle.line_laws.proofs.IssueWorlds.{same_keyed}
 use Rattle.line_laws.proofs.StepsOk.{ran_ok as steps_ran_ok}
 use Rattle.line_laws.proofs.Worlds.{at_place}

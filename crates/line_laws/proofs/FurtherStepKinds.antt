@@ -126,7 +126,8 @@ use Rattle.line_laws.proofs.StepKinds as step_kinds
 use Rattle.line_laws.proofs.StepKinds.{IsStep, Ticks, Restarts, Hears, TurnsDown, step_is}
 use Rattle.line_laws.proofs.StepKinds.{Fails as OldFails}
 use Rattle.line_laws.proofs.FlightFolds.{came_octets}
-use Rattle.line_laws.proofs.StepsOk.{StepGood, Taken, restarts_ok, tick_good, true_false}
+use Rattle.line_laws.proofs.StepsOk.{StepGood, Taken, tick_good}
+use Rattle.line_laws.proofs.NodesOk.{restarts_ok, true_false}
 use Rattle.line_laws.proofs.StepsOk.{ran_ok as steps_ran_ok}
 use Rattle.line_laws.proofs.FurtherLines.{flown_ok}
 use Rattle.line_laws.proofs.MarkSteps.{Follows, FollowsIn, follows, marks_rise, of_did, same_follows, after_follows, after_nodes}

@@ -104,8 +104,10 @@ use Rattle.line_laws.proofs.Nodes.{DidOk, PlanOk, acts_ok, node_kept, ring_reada
 use Rattle.node_rules.proofs.Writing.{clean}
 use Rattle.node_rules.specs.Laws.{IsCutOff, IsWhole}
 use Rattle.line_laws.proofs.Quiet.{acts_quiet, accept_quiet}
+use Rattle.line_laws.proofs.NodesOk as steps_below
 use Rattle.line_laws.proofs.StepsOk as steps
-use Rattle.line_laws.proofs.StepsOk.{StepGood, Fails, Taken, CountsFlights, hears_ok, none_more, resting_ok, after_more, after_none, true_false}
+use Rattle.line_laws.proofs.StepsOk.{StepGood, Fails, Taken, CountsFlights, hears_ok, none_more, after_more, after_none}
+use Rattle.line_laws.proofs.NodesOk.{resting_ok, true_false}
 use Rattle.line_laws.proofs.StoreMarks.{accept_is}
 use Rattle.line_laws.proofs.Worlds.{at_place, counts_ok, ok_after, within as place_within}
 
@@ -626,7 +628,7 @@ module _ (ciphers : Ciphers) (fits : KeepsRanges ciphers) (w : World) (ok : Worl
   restarts_good : (number : ℕ) (x : Node) → node_at w number ≡ Some x → (o : Result Beside BadStore) → restarted x.store.records ≡ o
       → StepGood w (Ok (restarts_by ciphers w number x o))
   restarts_good number x there (Ok b) e =
-      aside _ _ _ (steps.acted_good ciphers fits w ok flown number x (restarts x) there (steps.restarts_ok x (node_ok number x there)))
+      aside _ _ _ (steps.acted_good ciphers fits w ok flown number x (restarts x) there (steps_below.restarts_ok x (node_ok number x there)))
   restarts_good number x there (Err bad) e = absurd (restarts_read ciphers w logs number x there bad e)
 
   restart_good : (number : ℕ) → StepGood w (restarts_further ciphers w number)

@@ -57,7 +57,7 @@ use Rattle.line_laws.proofs.IssueWorlds.{Keyed}
 use Rattle.line_laws.proofs.Keeping.{Left}
 use Rattle.line_laws.proofs.Nodes.{NodeOk, DidOk, acts_ok, node_kept, ring_readable, pair_octets}
 use Rattle.line_laws.proofs.StoreMarks.{accept_is}
-use Rattle.line_laws.proofs.StepsOk.{coordinator_acts as coordinator_ok}
+use Rattle.line_laws.proofs.NodesOk.{coordinator_acts as coordinator_ok}
 use Rattle.line_laws.proofs.Worlds.{NodeFits, FlightFits, WorldOk, at_place, within as place_within}
 
 -- # What a node found right

@@ -1,23 +1,18 @@
 -- Every event keeps the parts of addresses and of issued keys, unless it is forged.
-use Rattle.std.proofs.Common.{◌≡◌, ◌≢◌, ⊎_elim, ℕ, zero, suc, ◌+◌, ◌-◌, ◌≤◌, ◌<◌, Bool, true, false, not, List, [], ◌∷◌, ◌++◌, length, map, Option, Some, None}
-use Rattle.std.proofs.Common.{Result, Ok, Err, refl, sym, ap, ◌∙◌, subst, arith}
-use Rattle.std.specs.Prelude.{if◌then◌else◌, All, IfSome, is_some, ◌==◌, ◌||◌, ◌&&◌, nat_lt, slice_get}
+use Rattle.std.proofs.Common.{◌≡◌, ◌≢◌, ⊎_elim, ℕ, ◌+◌, ◌-◌, ◌≤◌, Bool, true, false, List, [], ◌∷◌, ◌++◌, length, map, Option, Some, None}
+use Rattle.std.proofs.Common.{Result, Ok, Err, refl, sym, ap, ◌∙◌, subst}
+use Rattle.std.specs.Prelude.{if◌then◌else◌, All, IfSome, ◌==◌, ◌||◌, slice_get}
 use Rattle.std.specs.List.{list_any}
-use Rattle.std.specs.Option.{option_map, option_map_or, option_and_then}
-use Rattle.std.specs.Ordering.{nat_cmp}
-use Rattle.std.specs.FinMap.{get, empty, get-empty}
-use Rattle.std.proofs.lemmas.Bool.{cases_eq, eqb-false, ltb-true, ltb-false, or_parts}
+use Rattle.std.specs.Option.{option_map, option_map_or}
+use Rattle.std.proofs.lemmas.Bool.{cases_eq, eqb-false}
 use Rattle.std.proofs.lemmas.Option.{same_Some}
-use Rattle.store_tables.proofs.SlotTables.{slice_get-set_other, slice_get-map, slice_get-push, slice_get-push_other}
+use Rattle.store_tables.proofs.SlotTables.{slice_get-map}
 use Rattle.plc_base.specs.Keeper.{Records}
 use Rattle.plc_base.specs.declared.address.Eui.{Eui}
 use Rattle.plc_base.specs.declared.key.Key.{Key}
 use Rattle.plc_base.specs.declared.key.Rand.{Rand}
-use Rattle.plc_base.specs.Grant.{Granted}
 use Rattle.group_keys.specs.KeyRing as ring
 use Rattle.group_keys.specs.KeyBook as book
-use Rattle.line_events.specs.declared.event.Event.{Event}
-use Rattle.line_events.specs.declared.event.Event.TheVariants as events
 use Rattle.line_events.specs.declared.event.Answer.{Answer}
 use Rattle.line_events.specs.declared.event.StepFault.{StepFault}
 use Rattle.line_events.specs.declared.event.StepFault.TheVariants as faults
@@ -34,78 +29,62 @@ use Rattle.node_rules.specs.declared.refusal.LeaveRefusal.TheVariants as leaves
 use Rattle.node_rules.specs.declared.refusal.SendRefusal.TheVariants as sends
 use Rattle.node_rules.specs.Ciphers.{Ciphers}
 use Rattle.node_rules.specs.Frames.{arrived}
-use Rattle.node_rules.specs.Memory.{StationMemory, Memory, Role, Coordinator, Meter, Node, address_of, node_address}
-use Rattle.node_rules.specs.Plans.{Plan, resting, within}
+use Rattle.node_rules.specs.Memory.{StationMemory, Memory, Role, Coordinator, Meter, Node, node_address}
+use Rattle.node_rules.specs.Plans.{Plan}
 use Rattle.node_rules.specs.Accepting.{accept}
 use Rattle.node_rules.specs.Calls as calls
 use Rattle.node_rules.specs.Meters as meters
 use Rattle.node_rules.specs.Coordinators as coordinator_rules
-use Rattle.node_rules.specs.StoreReading.{first_grant, remembering, memory_of}
+use Rattle.node_rules.specs.StoreReading.{remembering, memory_of}
 use Rattle.line_rules.specs.Answers.{Reception, meter_reception, coordinator_reception, random_word, join_word, leave_word, sent_word, ordered_word, frame_word}
-use Rattle.group_keys.specs.declared.fault.RingFault.TheVariants.{Store as RingStore}
-use Rattle.node_rules.specs.Drafts.{choose, empty_draft, with_ring}
-use Rattle.node_rules.specs.MemoryDrafts.{with_station}
-use Rattle.line_events.specs.Events.{IsEvent}
 use Rattle.line_rules.specs.Worlds.{World, Flight, Trace, node_at, flight_at, is_forged_tag}
-use Rattle.line_rules.specs.Steps.{Step, set_up, running_world, world_after, node_outcome, once_begun, in_setup, has_begun, takes_setup, on_node, on_meter, blank_node, identity}
+use Rattle.line_rules.specs.Steps.{Step, set_up, running_world, world_after, node_outcome, once_begun, in_setup, has_begun, takes_setup, on_node, on_meter, identity}
 use Rattle.line_rules.specs.Steps.{hearing_step}
 use Rattle.line_rules.specs.Steps.{restarts, memory_by, ticked, rand, join, joins_by, leave, send, sends_by, sent_if, breaks, breaks_by, lose, tick, restart}
-use Rattle.line_rules.specs.Steps.{cut, show, psk_of, trace_of, happenings, coordinator, coordinator_node, meter, is_known, depot, depot_by, near, near_by}
-use Rattle.line_rules.specs.Steps.{keeps_rank, ranks_full, offered_near, preset, allow, allowed, deliver, inject, arrives, accepted_by, received}
-use Rattle.line_rules.specs.Steps.{by_coordinator, forged_by, note_by, rekey, challenge, activate, kick, step}
+use Rattle.line_rules.specs.Steps.{cut, show, psk_of, trace_of, happenings, coordinator, meter}
+use Rattle.line_rules.specs.Steps.{allow, allowed, deliver, inject, arrives, accepted_by, received}
+use Rattle.line_rules.specs.Steps.{by_coordinator, forged_by, note_by, rekey, challenge, activate, kick}
 use Rattle.node_rules.specs.NodeSteps.{NodeStep, acts, stays, answering, of_station}
 use Rattle.plc_base.specs.declared.tags.PairTag.{PairTag}
 use Rattle.std.proofs.Common.{append-nil}
-use Rattle.node_rules.specs.declared.heard.Heard.{Heard}
-use Rattle.node_rules.specs.declared.heard.Heard.TheVariants as station_heard
-use Rattle.node_rules.specs.declared.heard.MeterHeard.{MeterHeard}
-use Rattle.node_rules.specs.declared.heard.MeterHeard.TheVariants as meter_heard
 use Rattle.node_rules.specs.declared.heard.CoordinatorHeard.{CoordinatorHeard}
-use Rattle.node_rules.specs.declared.heard.CoordinatorHeard.TheVariants as coordinator_heard
 use Rattle.node_rules.specs.declared.refusal.Dropped.{Dropped}
-use Rattle.line_rules.specs.Answers.{station_reception}
 use Rattle.line_rules.specs.Worlds.{Issued}
-use Rattle.line_rules.specs.Steps.{issued_of, issued_by}
+use Rattle.line_rules.specs.Steps.{issued_of}
 use Rattle.plc_base.specs.declared.keeper.BadStore.{BadStore}
 use Rattle.node_rules.specs.StoreReading.{station_of, reading}
 use Rattle.node_rules.specs.Hearing.{dropped}
 use Rattle.node_rules.specs.Memory.{MeterSession}
-use Rattle.line_laws.specs.Stores.{IsReadable, IsKept, IsBookKept, HasEui, IsPair}
+use Rattle.line_laws.specs.Stores.{IsReadable, IsBookKept}
 use Rattle.line_laws.specs.Sizes.{IsMemorySized}
 use Rattle.line_laws.specs.Owed.{AreOctets, KeepsRanges}
 use Rattle.joining_messages.proofs.JoinRanges.{read_fits}
-use Rattle.line_laws.proofs.Keeping.{Left}
 use Rattle.line_laws.proofs.Nodes.{NodeOk, ring_readable, pair_octets}
 use Rattle.line_laws.proofs.NodeCalls.{RoutesFit, no_some, heard_given}
-use Rattle.line_laws.proofs.Readings.{held, none_held}
-use Rattle.line_laws.proofs.CoordinatorCalls.{accept_ok, accept_failed, accepted_routes, depot_ok, depot_failed}
+use Rattle.line_laws.proofs.Readings.{held}
+use Rattle.line_laws.proofs.CoordinatorCalls.{accept_ok, accept_failed, accepted_routes}
 use Rattle.line_laws.proofs.StoreMarks.{accept_is}
-use Rattle.line_laws.proofs.Answered.{acts_answered, depot_grants}
-use Rattle.line_laws.proofs.StepsOk.{blank_ok, begin_ok, coordinator_acts as coordinator_ok}
+use Rattle.line_laws.proofs.Answered.{acts_answered}
 use Rattle.line_laws.proofs.Nodes.{DidOk, acts_ok}
 use Rattle.line_laws.proofs.Worlds.{NodeFits, FlightFits, WorldOk, at_place}
-use Rattle.line_laws.proofs.AddressPuts.{RingIn, RingWrites, Puts, counter_away}
-use Rattle.line_laws.proofs.AddressBook.{one_book}
+use Rattle.line_laws.proofs.AddressPuts.{RingIn}
 use Rattle.line_laws.proofs.IssueWords.{Among, Each, none_among}
 use Rattle.line_laws.proofs.IssueMeters.{PeerIs, MeterPlan, took_in, meter_plan, meter_hears, joins_plan, leaves_plan, joins_opened, leaves_opened}
-use Rattle.line_laws.proofs.IssueCoordinator.{keyed_in, done_in}
 use Rattle.line_laws.proofs.IssueNodes.{RingOk, TagOk, MeterOk, MeterDid, Nought, CoordinatorOk, CoordinatorDid, CoordinatorPlan, meter_acts, sound_acts}
-use Rattle.line_laws.proofs.IssueNodes.{coordinator_acts, all_made, acts_opened, acts_ring, acts_whole, depot_address, installs_ring, installs_rest}
-use Rattle.line_laws.proofs.IssueNodes.{issued_keys}
-use Rattle.line_laws.proofs.IssueCalls.{Quietly, quiet_coordinator, send_quietly, near_quietly, counter_quietly, number_quietly, broke_quietly, random_quietly}
-use Rattle.line_laws.proofs.IssueCalls.{accept_quietly, hears_coordinator, allow_coordinator, depot_coordinator, rekey_coordinator, activate_self_coordinator}
+use Rattle.line_laws.proofs.IssueNodes.{coordinator_acts, all_made, acts_opened}
+use Rattle.line_laws.proofs.IssueCalls.{Quietly, quiet_coordinator, send_quietly, broke_quietly, random_quietly}
+use Rattle.line_laws.proofs.IssueCalls.{accept_quietly, hears_coordinator, allow_coordinator, rekey_coordinator, activate_self_coordinator}
 use Rattle.line_laws.proofs.IssueCalls.{challenge_coordinator, activate_coordinator, kick_coordinator}
-pub use Rattle.line_laws.proofs.ReceivedKeys.{keyed_same, no_keys, took_same}
-use Rattle.line_laws.proofs.IssueWorlds.{Keyed, IsMeter, same_keyed, after_meter, after_coordinator, after_here, keyed_more}
-use Rattle.node_rules.specs.Accepting.{same_eui}
+use Rattle.line_laws.proofs.IssueWorlds.{Keyed, IsMeter, same_keyed, after_meter, after_coordinator}
 use Rattle.line_events.specs.Events.{IsEui}
+pub use Rattle.line_laws.proofs.ReceivedKeys.{keyed_same, no_keys, took_same}
 
 pub data StepKeyed (w : World) (given : List Issued) : Step → Type 0 where
   Fails : (fault : StepFault) → StepKeyed w given (Err fault)
   Taken : (r : World × Trace) → (r.1.happenings.forged ≡ false → Keyed r.0 (given ++ r.1.issued)) → StepKeyed w given (Ok r)
 
 -- the answer does not matter
-after_as : {A B : Type 0} (ciphers : Ciphers) (w : World) (number : ℕ) (reads : A → B) (d : NodeStep A) (given : List Issued)
+pub after_as : {A B : Type 0} (ciphers : Ciphers) (w : World) (number : ℕ) (reads : A → B) (d : NodeStep A) (given : List Issued)
     → Keyed (world_after ciphers w number d) given → Keyed (world_after ciphers w number (answering reads d)) given
 unfolding world_after
 after_as ciphers w number reads d given k = same_keyed _ _ given k refl refl
@@ -115,7 +94,7 @@ or_false true b e = absurd (cc)
 or_false false b e = e
 
 module _ (ciphers : Ciphers) (fits : KeepsRanges ciphers) where
-  sized_at : (x : Node) (m : Memory) → NodeOk x → x.memory ≡ Some m → IsMemorySized m
+  pub sized_at : (x : Node) (m : Memory) → NodeOk x → x.memory ≡ Some m → IsMemorySized m
   sized_at x m ok there = subst (λ o. IfSome o IsMemorySized) there ok.sized
 
   -- a call that leaves the ring, the session and the book
@@ -170,39 +149,39 @@ module _ (ciphers : Ciphers) (fits : KeepsRanges ciphers) (w : World) (ok : Worl
   abbrev Good : Step → Type 0
   Good s = StepKeyed w given s
 
-  branch : (b : Bool) (p q : Step) → (b ≡ true → Good p) → (b ≡ false → Good q) → Good (if b then p else q)
+  pub branch : (b : Bool) (p q : Step) → (b ≡ true → Good p) → (b ≡ false → Good q) → Good (if b then p else q)
   branch true p q s t = s refl
   branch false p q s t = t refl
 
-  by_option : {X : Type 0} (f : X → Step) (x : Option X) (p : Step) → ((y : X) → x ≡ Some y → Good (f y)) → Good p → Good (option_map_or f x p)
+  pub by_option : {X : Type 0} (f : X → Step) (x : Option X) (p : Step) → ((y : X) → x ≡ Some y → Good (f y)) → Good p → Good (option_map_or f x p)
   by_option f None p s t = t
   by_option f (Some y) p s t = s y refl
 
   once : (s : Step) → Good s → Good (once_begun w s)
   once s h = branch (has_begun w) s (Err faults.Setup) (λ _. h) (λ _. Fails faults.Setup)
 
-  setup : (s : Step) → Good s → Good (in_setup w s)
+  pub setup : (s : Step) → Good s → Good (in_setup w s)
   setup s h = branch (takes_setup w) s (Err faults.Setup) (λ _. h) (λ _. Fails faults.Setup)
 
-  at_node : (number : ℕ) (f : Node → Step) → ((x : Node) → node_at w number ≡ Some x → Good (f x)) → Good (on_node w number f)
+  pub at_node : (number : ℕ) (f : Node → Step) → ((x : Node) → node_at w number ≡ Some x → Good (f x)) → Good (on_node w number f)
   at_node number f h = by_option f (node_at w number) (Err faults.Node) h (Fails faults.Node)
 
   at_meter : (number : ℕ) (f : Node → Step) → (number ≢ 0 → (x : Node) → node_at w number ≡ Some x → Good (f x)) → Good (on_meter w number f)
   at_meter number f h = branch (number == 0) (Err faults.Node) (on_node w number f) (λ _. Fails faults.Node) (λ e. at_node number f (h (eqb-false _ _ e)))
 
-  node_ok : (number : ℕ) (x : Node) → node_at w number ≡ Some x → NodeOk x
+  pub node_ok : (number : ℕ) (x : Node) → node_at w number ≡ Some x → NodeOk x
   node_ok number x e = at_place NodeOk w.nodes number x e ok.nodes
 
-  node_fits : (number : ℕ) (x : Node) → node_at w number ≡ Some x → NodeFits x
+  pub node_fits : (number : ℕ) (x : Node) → node_at w number ≡ Some x → NodeFits x
   node_fits number x e = at_place NodeFits w.nodes number x e ok.fits
 
-  taken_none : (r : World × Trace) → r.1.issued ≡ [] → Keyed r.0 given → Good (Ok r)
+  pub taken_none : (r : World × Trace) → r.1.issued ≡ [] → Keyed r.0 given → Good (Ok r)
   taken_none r none h = Taken r (λ honest. subst (Keyed r.0) (sym (append-nil given) ∙ ap (λ more. given ++ more) (sym none)) h)
 
   ran_keyed : Keyed (running_world w) given
   ran_keyed = same_keyed w (running_world w) given k refl refl
 
-  set_up_keyed : Keyed (set_up w) given
+  pub set_up_keyed : Keyed (set_up w) given
   set_up_keyed = same_keyed w (set_up w) given k refl refl
 
   rests : (d : Trace) → d.issued ≡ [] → Good (Ok (running_world w, d))
@@ -215,7 +194,7 @@ module _ (ciphers : Ciphers) (fits : KeepsRanges ciphers) (w : World) (ok : Worl
       (after_as ciphers (running_world w) number reads (acts x halted plan) given
       (quiet_after ciphers fits (running_world w) given ran_keyed number x there (node_ok number x there) halted plan q))
 
-  rand_keyed : (number : ℕ) (value : Rand) → Good (rand ciphers w number value)
+  pub rand_keyed : (number : ℕ) (value : Rand) → Good (rand ciphers w number value)
   unfolding rand
   rand_keyed number value =
       once _ (at_node number _ (λ x there. acted_quiet number x random_word (Err randoms.Halted) _ there (λ m sized. random_quietly m sized value)))
@@ -233,7 +212,7 @@ module _ (ciphers : Ciphers) (fits : KeepsRanges ciphers) (w : World) (ok : Worl
       (quiet_after ciphers fits (running_world w) given ran_keyed from x there (node_ok from x there) (Err sends.Halted)
       (λ m. of_station m (calls.send m.station a datagram (w.sends + 1) w.clock)) (λ m sized. send_quietly m sized a datagram (w.sends + 1) w.clock)))
 
-  send_keyed : (from to : ℕ) (datagram : List ℕ) → Good (send ciphers w from to datagram)
+  pub send_keyed : (from to : ℕ) (datagram : List ℕ) → Good (send ciphers w from to datagram)
   unfolding send
   send_keyed from to datagram = once _ (at_node from _ (λ x there. at_node to _ (λ y other. sends_keyed from to datagram x (node_address y) there)))
 
@@ -242,7 +221,7 @@ module _ (ciphers : Ciphers) (fits : KeepsRanges ciphers) (w : World) (ok : Worl
   breaks_keyed number x (Some next) there = taken_none _ refl (quiet_after ciphers fits (running_world w) given ran_keyed number x there (node_ok number x there)
       answers.Halted _ (λ m sized. broke_quietly m sized next answers.Broken))
 
-  break_keyed : (number next : ℕ) → Good (breaks ciphers w number next)
+  pub break_keyed : (number next : ℕ) → Good (breaks ciphers w number next)
   unfolding breaks
   break_keyed number next = once _ (at_node number _ (λ x there. at_node next _ (λ y other. breaks_keyed number x (node_address y) there)))
 
@@ -256,24 +235,24 @@ module _ (ciphers : Ciphers) (fits : KeepsRanges ciphers) (w : World) (ok : Worl
       (λ m. meters.join (identity ciphers x psk) m a w.clock) (λ m reads session. joins_plan (identity ciphers x psk) m a w.clock reads session)
       (λ m. joins_opened (identity ciphers x psk) m a w.clock)))
 
-  join_keyed : (number agent : ℕ) → Good (join ciphers w number agent)
+  pub join_keyed : (number agent : ℕ) → Good (join ciphers w number agent)
   unfolding join
   join_keyed number agent =
       once _ (at_meter number _ (λ ne x there. at_node agent _ (λ y other. joins_keyed number agent x (node_address y) (psk_of x) ne there)))
 
-  leave_keyed : (number : ℕ) → Good (leave ciphers w number)
+  pub leave_keyed : (number : ℕ) → Good (leave ciphers w number)
   unfolding leave
   leave_keyed number =
       once _ (at_meter number _ (λ ne x there. taken_none _ refl (after_as ciphers (running_world w) number leave_word (acts x (Err leaves.Halted) meters.leave) given
       (own_after ciphers fits (running_world w) given ran_keyed number x ne there (node_ok number x there) (Err leaves.Halted) meters.leave
       (λ m reads session. leaves_plan x.eui m reads session) leaves_opened))))
 
-  lose_keyed : (number : ℕ) → Good (lose w number)
+  pub lose_keyed : (number : ℕ) → Good (lose w number)
   unfolding lose
   lose_keyed number = once _ (by_option _ (flight_at w number) (Err faults.Flight)
       (λ f there. branch f.lost _ _ (λ _. Fails faults.Flight) (λ _. taken_none _ refl (same_keyed w _ given k refl refl))) (Fails faults.Flight))
 
-  show_keyed : (number : ℕ) → Good (show w number)
+  pub show_keyed : (number : ℕ) → Good (show w number)
   unfolding show
   show_keyed number = once _ (at_node number _ (λ x there. rests _ refl))
 
@@ -301,18 +280,18 @@ module _ (ciphers : Ciphers) (fits : KeepsRanges ciphers) (w : World) (ok : Worl
   abbrev own_of : Node → coordinator_rules.CoordinatorIdentity
   own_of c = record { eui = c.eui; ciphers = ciphers }
 
-  rekey_keyed : (index : ℕ) (key : Key) → length key.0 ≡ 16 → AreOctets key.0 → Good (rekey ciphers w index key)
+  pub rekey_keyed : (index : ℕ) (key : Key) → length key.0 ≡ 16 → AreOctets key.0 → Good (rekey ciphers w index key)
   unfolding rekey
   rekey_keyed index key long are = once _ (at_node 0 _ (λ c there. ordered_keyed c answers.Drawn _ there
       (λ m sized b nought reads. rekey_coordinator ciphers fits (own_of c) m sized b nought reads index key (held key long are))))
 
-  challenge_keyed : (number : ℕ) → Good (challenge ciphers w number)
+  pub challenge_keyed : (number : ℕ) → Good (challenge ciphers w number)
   unfolding challenge
   challenge_keyed number = once _ (at_meter number _ (λ ne x is. at_node 0 _
       (λ c there. ordered_keyed c answers.Challenged _ there
       (λ m sized b nought reads. challenge_coordinator ciphers fits (own_of c) m sized b nought reads x.eui w.clock (node_fits number x is).eui))))
 
-  activate_keyed : (number index : ℕ) → index ≤ 1 → Good (activate ciphers w number index)
+  pub activate_keyed : (number index : ℕ) → index ≤ 1 → Good (activate ciphers w number index)
   unfolding activate
   activate_keyed number index low = once _ (at_node number _ (λ x is. at_node 0 _ (λ c there. by_number (number == 0) x c there)))
     where
@@ -324,20 +303,20 @@ module _ (ciphers : Ciphers) (fits : KeepsRanges ciphers) (w : World) (ok : Worl
       by_number false x c there = ordered_keyed c answers.Ordered _ there
           (λ m sized b nought reads. activate_coordinator ciphers fits (own_of c) m sized b nought reads x.eui index w.clock)
 
-  kick_keyed : (number : ℕ) → Good (kick ciphers w number)
+  pub kick_keyed : (number : ℕ) → Good (kick ciphers w number)
   unfolding kick
   kick_keyed number = once _ (at_meter number _ (λ ne x is. at_node 0 _
       (λ c there. ordered_keyed c answers.Kicked _ there
       (λ m sized b nought reads. kick_coordinator ciphers fits (own_of c) m sized b nought reads x.eui (node_fits number x is).eui))))
 
-  psk_is : (x : Node) (psk : Key) → psk_of x ≡ Some psk → x.role ≡ Meter psk
+  pub psk_is : (x : Node) (psk : Key) → psk_of x ≡ Some psk → x.role ≡ Meter psk
   psk_is x psk = by_role x.role
     where
       by_role : (role : Role) → psk_of (record x { role = role }) ≡ Some psk → role ≡ Meter psk
       by_role Coordinator e = absurd (no_some _ e)
       by_role (Meter key) e = ap Meter (same_Some _ _ e)
 
-  allow_keyed : (number : ℕ) → Good (allow ciphers w number)
+  pub allow_keyed : (number : ℕ) → Good (allow ciphers w number)
   unfolding allow
   allow_keyed number = once _ (at_meter number _ (λ ne x is. at_node 0 _ (λ c there.
       by_option (λ psk. Ok (allowed ciphers w number (acts c (Err orders.Halted) (λ m. coordinator_rules.allow m x.eui psk)))) (psk_of x) (Err faults.Node)
@@ -389,7 +368,7 @@ module _ (ciphers : Ciphers) (fits : KeepsRanges ciphers) (w : World) (ok : Worl
       by_station (Ok l) = tt
       by_station (Err bad) = tt
 
-  restart_keyed : (number : ℕ) → Good (restart ciphers w number)
+  pub restart_keyed : (number : ℕ) → Good (restart ciphers w number)
   unfolding restart
   restart_keyed number = once _ (at_node number _
       (λ x there. taken_none _ refl (same_store number x (restarts x) there refl refl refl refl (no_session x.eui x.role x.store.records))))
@@ -397,7 +376,7 @@ module _ (ciphers : Ciphers) (fits : KeepsRanges ciphers) (w : World) (ok : Worl
   held_session : (number : ℕ) (x : Node) → node_at w number ≡ Some x → number ≢ 0 → IfSome x.memory (λ m. PeerIs x.eui m.session)
   held_session number x there ne = (k.meters number x ne there).session
 
-  cut_keyed : (number nth : ℕ) (keeps_new : Bool) → Good (cut ciphers w number nth keeps_new)
+  pub cut_keyed : (number nth : ℕ) (keeps_new : Bool) → Good (cut ciphers w number nth keeps_new)
   unfolding cut
   cut_keyed number nth keeps_new = once _ (at_node number _ (λ x there. taken_none _ refl
       (same_store number x _ there refl refl refl refl
@@ -440,7 +419,7 @@ module _ (ciphers : Ciphers) (fits : KeepsRanges ciphers) (w : World) (ok : Worl
       by_node None there e = absurd (no_some _ e)
       by_node (Some x) there e = record { node = x; is = there; same = same_Some _ _ e }
 
-  tick_keyed : (seconds : ℕ) → Good (tick w seconds)
+  pub tick_keyed : (seconds : ℕ) → Good (tick w seconds)
   unfolding tick
   tick_keyed seconds = once _ (taken_none _ refl (record {
     book = k.book;
@@ -619,285 +598,12 @@ module _ (ciphers : Ciphers) (fits : KeepsRanges ciphers) (w : World) (ok : Worl
       by_number true e = absurd (no_some f e)
       by_number false e = at_place FlightFits w.flights (number - 1) f e flown
 
-  deliver_keyed : (flight number cost : ℕ) → Good (deliver ciphers w flight number cost)
+  pub deliver_keyed : (flight number cost : ℕ) → Good (deliver ciphers w flight number cost)
   unfolding deliver
   deliver_keyed flight number cost = once _ (at_node number _ (λ x there.
       by_option _ (flight_at w flight) (Err faults.Flight) (λ f is. branch f.lost _ _ (λ _. Fails faults.Flight)
       (λ _. arrives_keyed number x f.octets cost there (flight_octets flight f is))) (Fails faults.Flight)))
 
-  inject_keyed : (number cost : ℕ) (octets : List ℕ) → AreOctets octets → Good (inject ciphers w number cost octets)
+  pub inject_keyed : (number cost : ℕ) (octets : List ℕ) → AreOctets octets → Good (inject ciphers w number cost octets)
   unfolding inject
   inject_keyed number cost octets are = once _ (at_node number _ (λ x there. arrives_keyed number x octets cost there are))
-
-  -- # Setup
-
-  preset_keyed : (number : ℕ) (plan : StationMemory → calls.Presetting) → ((m : Memory) → IsMemorySized m → Quietly m (of_station m (plan m.station)))
-      → Good (preset ciphers w number plan)
-  preset_keyed number plan q = setup _ (at_node number _
-      (λ x there. taken_none _ refl (quiet_after ciphers fits (set_up w) given set_up_keyed number x there (node_ok number x there) (Ok tt) _ q)))
-
-  -- an address of a node is below FFFE
-  pub address_low : (x : Node) (address : ℕ) → NodeOk x → node_address x ≡ Some address → address < 0xFFFE
-  address_low x address h = by_memory x.memory h.kept
-    where
-      by_ring : (r : ring.Ring) → IfSome r IsReadable → option_map (λ (g : Granted). g.address) r ≡ Some address → address < 0xFFFE
-      by_ring None q e = absurd (no_some _ e)
-      by_ring (Some g) q e = let this : g.address ≡ address = same_Some _ _ e in let low = q.address in omega arith
-
-      by_memory : (o : Option Memory) → Left (IsKept x.role) x.store.records o → option_and_then (λ (m : Memory). address_of m.station) o ≡ Some address
-          → address < 0xFFFE
-      by_memory None q e = absurd (no_some _ e)
-      by_memory (Some m) q e = by_ring m.station.ring q.station.range.ring e
-
-  pub other_there : {A : Type 0} (a b : ℕ) (d : NodeStep A) (y : Node) → b ≢ a → node_at w b ≡ Some y → node_at (world_after ciphers (set_up w) a d) b ≡ Some y
-  unfolding world_after
-  other_there a b d y far there = slice_get-set_other w.nodes a b d.node far ∙ there
-
-  offered_after : (v : World) → Keyed v given → (number : ℕ) (x : Node) → node_at v number ≡ Some x → NodeOk x → (to cost : ℕ) → to < 0xFFFE → cost ≤ 255
-      → Keyed (world_after ciphers v number (offered_near x to cost w.clock)) given
-  offered_after v kv number x there good to cost short low =
-      after_as ciphers v number (λ _. tt) (acts x (Ok tt) (λ m. of_station m (calls.preset_near m.station to cost w.clock))) given
-      (quiet_after ciphers fits v given kv number x there good (Ok tt) (λ m. of_station m (calls.preset_near m.station to cost w.clock))
-      (λ m sized. near_quietly m sized to cost w.clock short (omega arith)))
-
-  near_by_keyed : (a b cost : ℕ) (x y : Node) (p q : Option ℕ) → cost ≤ 255 → node_at w a ≡ Some x → node_at w b ≡ Some y → node_address x ≡ p
-      → node_address y ≡ q → Good (near_by ciphers w a b cost x y p q)
-  near_by_keyed a b cost x y None q low hx hy ep eq = Fails faults.Setup
-  near_by_keyed a b cost x y (Some p) None low hx hy ep eq = Fails faults.Setup
-  near_by_keyed a b cost x y (Some p) (Some q) low hx hy ep eq =
-      branch ((a == b) || (keeps_rank x q || (ranks_full x || ranks_full y))) _ _ (λ _. Fails faults.Setup) (λ may.
-      let far : b ≢ a = λ same. eqb-false _ _ (or_parts _ _ may).0 (sym same) in
-      let first = offered_after (set_up w) set_up_keyed a x hx (node_ok a x hx) q cost (address_low y q (node_ok b y hy) eq) low in
-      taken_none _ refl (offered_after (world_after ciphers (set_up w) a (offered_near x q cost w.clock)) first b y
-      (other_there a b (offered_near x q cost w.clock) y far hy) (node_ok b y hy) p cost (address_low x p (node_ok a x hx) ep) low))
-
-  near_keyed : (a b cost : ℕ) → cost ≤ 255 → Good (near ciphers w a b cost)
-  unfolding near
-  near_keyed a b cost low =
-      setup _ (at_node a _ (λ x hx. at_node b _ (λ y hy. near_by_keyed a b cost x y (node_address x) (node_address y) low hx hy refl refl)))
-
-  none_get : (n : ℕ) (x : Node) → slice_get [] n ≡ Some x → ⊥
-  none_get n x e = absurd (cc)
-
-  no_records : (S : ring.Ring → Type 0) → S None → RingIn S empty
-  no_records S none x e =
-      let got : ring.ring_at (get empty 1) ≡ Some None = ap ring.ring_at (get-empty nat_cmp 1) in
-      subst S (same_Some _ _ (sym got ∙ e)) none
-
-  begin_writes : (key : Key) → length key.0 ≡ 16 → AreOctets key.0 → (m : Memory) → RingWrites Nought (coordinator_rules.begin m (first_grant key)).puts
-  unfolding choose resting empty_draft with_ring
-  begin_writes key long are m = by_ring (is_some m.station.ring)
-    where
-      readable : IsReadable (first_grant key)
-      readable = record { grant = record { index = omega arith; held = refl }; address = omega arith; key0 = held key long are; key1 = none_held }
-
-      by_ring : (b : Bool) → RingWrites Nought
-          (if b then resting m (Ok tt) (Err RingStore) else within (λ l. with_station l m) (λ r. r) (calls.install m.station (first_grant key))).puts
-      by_ring true = tt
-      by_ring false = (Puts (Some (first_grant key)) readable refl, counter_away Nought m.station.counter 0)
-
-  -- a node more
-  record Pushed (x : Node) (n : ℕ) (y : Node) : Type 0 where
-    is : (n ≡ length w.nodes) × (x ≡ y)
-
-  pushed_or : {P : Type 0} (x : Node) (n : ℕ) (y : Node) → slice_get (w.nodes ++ x ∷ []) n ≡ Some y → (Pushed x n y → P) → (slice_get w.nodes n ≡ Some y → P)
-      → P
-  pushed_or x n y is f g = ⊎_elim
-      (λ (e : n ≡ length w.nodes). f (record { is = (e, same_Some _ _ (sym (slice_get-push w.nodes x) ∙ ap (slice_get (w.nodes ++ x ∷ [])) (sym e) ∙ is)) }))
-      (λ (e : n ≢ length w.nodes). g (sym (slice_get-push_other w.nodes n x e) ∙ is))
-      (cases_eq n (length w.nodes))
-
-  left_book : (role : Role) (r : Records) (o : Option Memory) → role ≡ Coordinator → Left (IsKept role) r o → (b : book.Book) × IsBookKept b r
-  left_book Coordinator r None e q = (q.memory.book, q.kept.book)
-  left_book Coordinator r (Some m) e q = (m.book, q.book)
-  left_book (Meter psk) r o e q = absurd (cc)
-
-  no_node : (xs : List Node) → length xs ≤ 0 → xs ≡ []
-  no_node [] le = refl
-  no_node (x ∷ xs) le = absurd (omega arith)
-
-  some_nodes : (x : Node) → (xs : List Node) → xs ++ x ∷ [] ≡ [] → ⊥
-  some_nodes x [] e = absurd (cc)
-  some_nodes x (y ∷ xs) e = absurd (cc)
-
-  coordinator_keyed : (eui : Eui) (key : Key) → IsEui eui → length key.0 ≡ 16 → AreOctets key.0 → Good (coordinator w eui key)
-  unfolding coordinator
-  coordinator_keyed eui key known long are = branch (has_begun w) _ _ (λ _. Fails faults.Setup) (λ none.
-      let few : length w.nodes ≤ 0 = ltb-false _ _ none in
-      let empty_is : w.nodes ≡ [] = no_node w.nodes few in
-      let x = coordinator_node eui key in
-      let plan : Memory → Plan Memory (Result (Unit {0}) _) = λ m. coordinator_rules.begin m (first_grant key) in
-      let did = acts_ok (blank_node Coordinator eui) (Ok tt) plan (blank_ok Coordinator eui tt)
-      (λ m there kept sized. begin_ok ciphers fits w ok flown key long are m sized) in
-      let b = left_book x.role x.store.records x.memory did.role did.node.kept in
-      let nought : RingIn Nought x.store.records = acts_ring Nought (blank_node Coordinator eui) (Ok tt) plan (λ m. begin_writes key long are m)
-      (no_records Nought tt) in
-      let gone : (n : ℕ) (y : Node) → slice_get w.nodes n ≡ Some y → ⊥ = λ n y is. none_get n y (sym (ap (λ ns. slice_get ns n) empty_is) ∙ is) in
-      let at_nought : (n : ℕ) → n ≡ length w.nodes → n ≡ 0 = λ n e. e ∙ ap length empty_is in
-      taken_none _ refl (record {
-        book = b.0;
-        coordinator = λ c is. pushed_or x 0 c is (λ p. subst (CoordinatorOk b.0) p.is.1 (record { role = did.role; book_kept = b.1; ring = nought }))
-            (λ old. absurd (gone 0 c old));
-        meters = λ n y ne is. pushed_or x n y is (λ p. absurd (ne (at_nought n p.is.0))) (λ old. absurd (gone n y old));
-        made = subst (Each (TagOk b.0 given)) (sym (k.still empty_is)) tt;
-        roles = λ n y ne is. pushed_or x n y is (λ p. absurd (ne (at_nought n p.is.0))) (λ old. absurd (gone n y old));
-        apart = λ i j y z a c same. pushed_or x i y a
-            (λ p. pushed_or x j z c (λ q. p.is.0 ∙ sym q.is.0) (λ old. absurd (gone j z old)))
-            (λ old. absurd (gone i y old));
-        still = λ e. absurd (some_nodes x w.nodes e);
-        named = λ n y is. pushed_or x n y is (λ p. subst (λ (z : Node). IsEui z.eui) p.is.1 (subst IsEui (sym did.eui) known)) (λ old. absurd (gone n y old));
-      }))
-
-  known_apart : (eui : Eui) (xs : List Node) (n : ℕ) (y : Node) → slice_get xs n ≡ Some y → list_any (λ (x : Node). same_eui x.eui eui) xs ≡ false
-      → book.eui_number y.eui ≡ book.eui_number eui → ⊥
-  known_apart eui [] n y is none same = none_get n y is
-  known_apart eui (x ∷ xs) zero y is none same =
-      let this : x ≡ y = same_Some _ _ is in
-      eqb-false _ _ (or_parts _ _ none).0 (ap (λ (u : Node). book.eui_number u.eui) this ∙ same)
-  known_apart eui (x ∷ xs) (suc n) y is none same = known_apart eui xs n y is (or_parts _ _ none).1 same
-
-  meter_keyed : (eui : Eui) (psk : Key) → IsEui eui → Good (meter w eui psk)
-  unfolding meter
-  meter_keyed eui psk known = branch (not (takes_setup w) || (nat_lt 999 (length w.nodes) || is_known w eui)) _ _ (λ _. Fails faults.Setup) (λ may.
-      let parts = or_parts _ _ may in
-      let new : is_known w eui ≡ false = (or_parts _ _ parts.1).1 in
-      let some : 0 < length w.nodes = begun_some (has_begun w) (not w.running) refl parts.0 in
-      let x = blank_node (Meter psk) eui in
-      let fresh : MeterOk k.book given x = record { ring = no_records (RingOk k.book given eui) tt; session = tt } in
-      taken_none _ refl (record {
-        book = k.book;
-        coordinator = λ c is. pushed_or x 0 c is (λ p. absurd (let e = p.is.0 in omega arith)) (k.coordinator c);
-        meters = λ n y ne is. pushed_or x n y is (λ p. subst (MeterOk k.book given) p.is.1 fresh) (k.meters n y ne);
-        made = k.made;
-        roles = λ n y ne is. pushed_or x n y is (λ p. subst (λ (u : Node). IsMeter u.role) p.is.1 tt) (k.roles n y ne);
-        apart = λ i j y z a c same. pushed_or x i y a
-            (λ p. pushed_or x j z c (λ q. p.is.0 ∙ sym q.is.0)
-            (λ old. absurd (known_apart eui w.nodes j z old new (sym same ∙ ap (λ (u : Node). book.eui_number u.eui) (sym p.is.1)))))
-            (λ old. pushed_or x j z c
-            (λ q. absurd (known_apart eui w.nodes i y old new (same ∙ ap (λ (u : Node). book.eui_number u.eui) (sym q.is.1))))
-            (λ older. k.apart i j y z old older same));
-        still = λ e. absurd (some_nodes x w.nodes e);
-        named = λ n y is. pushed_or x n y is (λ p. subst (λ (z : Node). IsEui z.eui) p.is.1 known) (k.named n y);
-      }))
-    where
-      begun_some : (a b : Bool) → nat_lt 0 (length w.nodes) ≡ a → not (a && b) ≡ false → 0 < length w.nodes
-      begun_some true b e h = ltb-true _ _ e
-      begun_some false b e h = absurd (cc)
-
-  -- # depot
-
-  depot_by_keyed : (number : ℕ) (x c : Node) (psk : Key) → number ≢ 0 → node_at w number ≡ Some x → node_at w 0 ≡ Some c → IsPair psk
-      → Good (depot_by ciphers w number x (acts c (Err orders.Halted) (λ m. coordinator_rules.depot m x.eui psk)))
-  depot_by_keyed number x c psk ne hx hc long = by_answer (acts c (Err orders.Halted) plan).answer refl
-    where
-      plan : Memory → Plan Memory (Result Granted CoordinatorRefusal)
-      plan m = coordinator_rules.depot m x.eui psk
-
-      known : HasEui x.eui
-      known = (node_fits number x hx).eui
-
-      good : NodeOk c
-      good = node_ok 0 c hc
-
-      h : CoordinatorOk set_up_keyed.book c
-      h = set_up_keyed.coordinator c hc
-
-      did : CoordinatorDid set_up_keyed.book given [] c (acts c (Err orders.Halted) plan)
-      did = coordinator_acts set_up_keyed.book given c (Err orders.Halted) plan [] good h (λ a. None) (λ m here said. refl)
-          (λ m here kept. depot_coordinator ciphers fits (own_of c) m (sized_at ciphers fits c m good here) set_up_keyed.book
-          (h.ring m.station.ring kept.station.ring.stored) kept.station.range.ring x.eui psk known long)
-
-      ok_did : DidOk c (acts c (Err orders.Halted) plan)
-      ok_did = coordinator_ok c (Err orders.Halted) plan h.role good (λ m sized. depot_ok ciphers fits (own_of c) m sized x.eui psk known long)
-
-      failed : (m : Memory) → (plan m).failed ≡ Err orders.Store
-      failed m = depot_failed ciphers fits (own_of c) m x.eui psk known long
-
-      address : (g : Granted) → (acts c (Err orders.Halted) plan).answer ≡ Ok g → book.address_of did.book x.eui ≡ Some g.address
-      address g e =
-          let a = acts_whole c orders.Halted orders.Store plan failed g e in
-          let kept : Left (IsKept Coordinator) (acts c (Err orders.Halted) plan).node.store.records (Some (plan a.memory).memory) =
-          subst (λ o. Left (IsKept Coordinator) (acts c (Err orders.Halted) plan).node.store.records o) a.leaves
-          (subst (λ role. Left (IsKept role) (acts c (Err orders.Halted) plan).node.store.records (acts c (Err orders.Halted) plan).node.memory)
-          (ok_did.role ∙ h.role) ok_did.node.kept) in
-          let same : (plan a.memory).memory.book ≡ did.book = one_book _ _ _ kept.book did.node.book_kept in
-          subst (λ (y : book.Book). book.address_of y x.eui ≡ Some g.address) same (depot_address a.memory x.eui psk g a.is)
-
-      readable : (g : Granted) → (acts c (Err orders.Halted) plan).answer ≡ Ok g → IsReadable g
-      readable g e =
-          let a = acts_whole c orders.Halted orders.Store plan failed g e in
-          let kept : Left (IsKept Coordinator) c.store.records (Some a.memory) = subst (λ o. Left (IsKept Coordinator) c.store.records o) a.there
-          (subst (λ role. Left (IsKept role) c.store.records c.memory) h.role good.kept) in
-          depot_grants a.memory x.eui psk g kept.station.range.ring kept.book.table.short a.is
-
-      provisioned_keyed : (g : Granted) (v : World) (kv : Keyed v (given ++ issued_by x.eui g)) → node_at v number ≡ Some x → IsReadable g
-          → book.address_of kv.book x.eui ≡ Some g.address
-          → Keyed (world_after ciphers v number (acts x (Ok tt) (λ m. meters.provision m g))) (given ++ issued_by x.eui g)
-      provisioned_keyed g v kv there reads at =
-          let m = kv.meters number x ne there in
-          let keys = issued_keys given x.eui g in
-          let did = sound_acts kv.book (given ++ issued_by x.eui g) x (Ok tt) (λ m. meters.provision m g) (node_ok number x hx) m.ring m.session
-          (λ n here kept session ring.
-          let rest = installs_rest n g in
-          record {
-            puts = installs_ring (RingOk kv.book (given ++ issued_by x.eui g) x.eui) n g reads (record { address = at; key0 = keys.0; key1 = keys.1 });
-            session = subst (PeerIs x.eui) (sym rest.0) session;
-            made = subst (Each (TagOk kv.book (given ++ issued_by x.eui g))) (sym rest.1) tt;
-          }) in
-          after_meter ciphers v number x _ there did.eui (given ++ issued_by x.eui g) kv ne did
-
-      by_answer : (r : Result Granted CoordinatorRefusal) → (acts c (Err orders.Halted) plan).answer ≡ r
-          → Good (depot_by ciphers w number x (acts c (Err orders.Halted) plan))
-      by_answer (Err reason) e = rw e (Fails faults.Setup)
-      by_answer (Ok g) e =
-          let d : NodeStep (Result Granted CoordinatorRefusal) = record (acts c (Err orders.Halted) plan) { answer = Ok g } in
-          let v = world_after ciphers (set_up w) 0 d in
-          let more = issued_by x.eui g in
-          let all : CoordinatorDid set_up_keyed.book given [] c
-          d = record { book = did.book; node = did.node; grows = did.grows; eui = did.eui; made = did.made } in
-          let first = after_coordinator ciphers (set_up w) 0 c d hc did.eui given [] set_up_keyed refl all in
-          let kv : Keyed v (given ++ more) = keyed_more v given more (subst (Keyed v) (append-nil given) first) in
-          rw e (Taken _ (λ honest. provisioned_keyed g v kv (other_there 0 number d x ne hx) (readable g e)
-          (let same = one_book did.book kv.book d.node.store.records did.node.book_kept
-          (kv.coordinator d.node (after_here ciphers (set_up w) 0 c d hc)).book_kept in
-          subst (λ (y : book.Book). book.address_of y x.eui ≡ Some g.address) same (address g e))))
-
-  depot_keyed : (number : ℕ) → Good (depot ciphers w number)
-  unfolding depot
-  depot_keyed number =
-      setup _ (at_node number _ (λ x hx. at_node 0 _ (λ c hc. branch ((number == 0) || is_some (node_address x)) _ _ (λ _. Fails faults.Setup) (λ may.
-      by_option (λ psk. depot_by ciphers w number x (acts c (Err orders.Halted) (λ m. coordinator_rules.depot m x.eui psk))) (psk_of x) (Err faults.Setup)
-      (λ psk pair. depot_by_keyed number x c psk (eqb-false _ _ (or_parts _ _ may).0) hx hc ((node_fits number x hx).psk psk (psk_is x psk pair)))
-      (Fails faults.Setup)))))
-
-  -- # All kinds
-
-  pub step_keyed : (event : Event) → IsEvent event → Good (step ciphers w event)
-  step_keyed (events.Coordinator eui key) e = coordinator_keyed eui key e.0 e.1.0 e.1.1
-  step_keyed (events.Meter eui psk) e = meter_keyed eui psk e.0
-  step_keyed (events.Depot node) e = depot_keyed node
-  step_keyed (events.Near a b cost) e = near_keyed a b cost e.2.1
-  step_keyed (events.Counter node value) e = preset_keyed node _ (λ m sized. counter_quietly m sized value e.1)
-  step_keyed (events.Number node value) e = preset_keyed node _ (λ m sized. number_quietly m sized value e.1 e.2)
-  step_keyed (events.Allow node) e = allow_keyed node
-  step_keyed (events.Rand node value) e = rand_keyed node value
-  step_keyed (events.Join node agent) e = join_keyed node agent
-  step_keyed (events.Leave node) e = leave_keyed node
-  step_keyed (events.Send from to datagram) e = send_keyed from to datagram
-  step_keyed (events.Deliver flight node cost) e = deliver_keyed flight node cost
-  step_keyed (events.Inject node cost octets) e = inject_keyed node cost octets e.2.2
-  step_keyed (events.Lose flight) e = lose_keyed flight
-  step_keyed (events.Break node next) e = break_keyed node next
-  step_keyed (events.Tick seconds) e = tick_keyed seconds
-  step_keyed (events.Restart node) e = restart_keyed node
-  step_keyed (events.Cut node nth keeps_new) e = cut_keyed node nth keeps_new
-  step_keyed (events.Rekey index key) e = rekey_keyed index key e.1.0 e.1.1
-  step_keyed (events.Challenge node) e = challenge_keyed node
-  step_keyed (events.Activate node index) e = activate_keyed node index e.1
-  step_keyed (events.Kick node) e = kick_keyed node
-  step_keyed (events.Show node) e = show_keyed node
-  step_keyed events.Checks e = Fails faults.Setup
-  step_keyed (events.Bcast node datagram) e = Fails faults.Setup
-  step_keyed (events.Scan node) e = Fails faults.Setup
-  step_keyed (events.Choose node k) e = Fails faults.Setup
-  step_keyed (events.Path from to) e = Fails faults.Setup

@@ -57,7 +57,7 @@ use Rattle.line_laws.proofs.RankPlans.{PlanRanks, resting_ranks}
 use Rattle.line_laws.proofs.RankSaid.{FrameBacked}
 use Rattle.line_laws.proofs.RankWrites as rank_writes
 use Rattle.line_laws.proofs.Senders.{sealed_from}
-use Rattle.line_laws.proofs.StepsOk.{resting_ok}
+use Rattle.line_laws.proofs.NodesOk.{resting_ok}
 use Rattle.line_laws.proofs.StoreBook.{Rest, rest_lasts, station_leads}
 use Rattle.line_laws.proofs.StoreWords.{counter_leads}
 use Rattle.line_laws.proofs.TagPuts as tag_puts

@@ -46,6 +46,7 @@ pub mod CustodyEvents
 pub mod Answered
 pub mod Rising
 pub mod Worlds
+pub mod NodesOk
 pub mod StepsOk
 pub mod Running
 pub mod StepKinds
@@ -100,6 +101,7 @@ pub mod IssueCalls
 pub mod IssueWorlds
 pub mod ReceivedKeys
 pub mod IssueSteps
+pub mod IssueSetup
 pub mod IssueRuns
 pub mod AddressWorlds
 pub mod AgreeTags

@@ -51,7 +51,8 @@ use Rattle.line_laws.proofs.Readings.{held}
 use Rattle.line_laws.proofs.StoreMarks.{accept_is}
 use Rattle.line_laws.proofs.Answered.{acts_answered, depot_grants}
 use Rattle.line_laws.proofs.Worlds.{NodeFits, FlightFits, WorldOk, within as place_within, at_place}
-use Rattle.line_laws.proofs.StepsOk.{coordinator_acts, hears_ok, restarts_ok}
+use Rattle.line_laws.proofs.StepsOk.{hears_ok}
+use Rattle.line_laws.proofs.NodesOk.{coordinator_acts, restarts_ok}
 use Rattle.line_laws.proofs.FlightFolds.{address_low, came_octets}
 use Rattle.line_laws.proofs.OctetRuns.{psk_role}
 use Rattle.line_laws.proofs.StepKinds.{IsCall, Gives, Joins, Leaves, Sends, Breaks, Nears, Counts, Numbers, Accepts, Provisions, Depots, Allows, Rekeys, Turns}

@@ -35,7 +35,7 @@ use Rattle.line_laws.proofs.OctetDrafts.{remembers_speaks, sets_out_speaks}
 use Rattle.line_laws.proofs.Planned.{Planned, Refuses, Keeps, Ended, checked_planned, sealed_planned, option_planned}
 use Rattle.line_laws.proofs.Quiet.{install_quiet}
 use Rattle.line_laws.proofs.Restarting.{IsBlank}
-use Rattle.line_laws.proofs.StepsOk.{read_again}
+use Rattle.line_laws.proofs.NodesOk.{read_again}
 use Rattle.line_laws.proofs.StoreMarks.{Accepts, Turned, Plain, Marked, accept_is}
 
 -- # A plan that is carried out

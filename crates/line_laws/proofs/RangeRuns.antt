@@ -64,7 +64,7 @@ use Rattle.line_laws.proofs.RangeOrders.{random_ranged, counter_ranged, number_r
 use Rattle.line_laws.proofs.RangeOrders.{challenge_ranged, activate_ranged, allow_ranged, depot_ranged, rekey_ranged, turn_ranged, kick_ranged}
 use Rattle.line_laws.proofs.RangePlans.{DidRanged, acts_ranged, did_flights}
 use Rattle.line_laws.proofs.Readings.{held, none_held, network_ranges}
-use Rattle.line_laws.proofs.StepsOk.{read_again}
+use Rattle.line_laws.proofs.NodesOk.{read_again}
 use Rattle.line_laws.proofs.StoreMarks.{accept_is}
 use Rattle.line_laws.proofs.StepKinds.{IsCall, Gives, Joins, Leaves, Sends, Breaks, Nears, Counts, Numbers, Accepts, Provisions, Depots, Allows, Rekeys, Turns}
 use Rattle.line_laws.proofs.StepKinds.{Challenges, Activates, Kicks, IsMade, OfCoordinator, OfMeter, preset_call, IsStep, Fails, Makes, Rests, Shows, Acts}

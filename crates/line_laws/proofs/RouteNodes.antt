@@ -38,7 +38,7 @@ use Rattle.line_laws.specs.Stores.{IsKept}
 use Rattle.line_laws.specs.Sizes.{IsMemorySized}
 use Rattle.line_laws.proofs.Keeping.{Left}
 use Rattle.line_laws.proofs.Nodes.{NodeOk}
-use Rattle.line_laws.proofs.StepsOk.{blank_ok, blank_kept}
+use Rattle.line_laws.proofs.NodesOk.{blank_ok, blank_kept}
 use Rattle.line_laws.proofs.RankPlans.{rank_read, NodeCause, Stood, Came, NodeRanks, acts_ranks}
 use Rattle.line_laws.proofs.RankCalls.{begin_ranks}
 use Rattle.line_laws.proofs.RankSaid.{FrameBacked}

@@ -18,7 +18,8 @@ use Rattle.line_laws.specs.Owed.{KeepsRanges}
 use Rattle.line_laws.proofs.Keeping.{Left}
 use Rattle.line_laws.proofs.Nodes.{NodeOk}
 use Rattle.line_laws.proofs.Worlds.{none_rising, NodeFits, FlightFits, WorldOk}
-use Rattle.line_laws.proofs.StepsOk.{StepGood, Fails, Taken, step_good, read_again}
+use Rattle.line_laws.proofs.StepsOk.{StepGood, Fails, Taken, step_good}
+use Rattle.line_laws.proofs.NodesOk.{read_again}
 
 pub start_ok : WorldOk start
 start_ok = record {

@@ -60,7 +60,7 @@ use Rattle.line_laws.proofs.Planned.{planned_failed}
 use Rattle.line_laws.proofs.IssueWords.{Each}
 use Rattle.line_laws.proofs.NodeCalls.{call_given, send_ok}
 use Rattle.line_laws.proofs.Nodes.{NodeOk, acts_ok, node_kept}
-use Rattle.line_laws.proofs.StepsOk.{blank_ok}
+use Rattle.line_laws.proofs.NodesOk.{blank_ok}
 use Rattle.line_laws.proofs.StoreWords.{tag_reads}
 use Rattle.line_laws.proofs.TagPuts.{Away, TagPut, Elsewhere, Next, carried_puts, away_tags, send_tags, random_away, join_away, leave_away, broke_away}
 use Rattle.line_laws.proofs.TagPuts.{near_away, counter_put_away, number_put_away, provision_away, accept_away, meter_away, coordinator_away, allow_away}

@@ -21,7 +21,7 @@ use Rattle.line_rules.specs.Further.{acknowledging, beside_at}
 use Rattle.line_rules.specs.Worlds.{World}
 use Rattle.line_world.specs.Arrivals.{Acknowledges, is_stored, with_check_of}
 use Rattle.line_world.specs.Reaching.{DidAfter}
-use Rattle.line_world.proofs.Hearings.{beside_same, set_same}
+use Rattle.line_world.proofs.HeardCommands.{beside_same, set_same}
 
 -- an acknowledgement fails where its node halts
 pub ack_stored : (x : Node) (reply : Reply) → is_stored (acknowledging x reply).answer ≡ is_some (acknowledging x reply).node.memory

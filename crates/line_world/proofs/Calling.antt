@@ -25,7 +25,7 @@ use Rattle.line_world.specs.Bounds.{IsBounded}
 use Rattle.line_world.specs.Reaching.{IsLogOf, ReachedCommand}
 use Rattle.line_world.specs.Receiving.{Received}
 use Rattle.line_world.proofs.Arrivals.{as_many, at_node_after, in_run_again}
-use Rattle.line_world.proofs.Hearings.{command_silent, log_of}
+use Rattle.line_world.proofs.HeardCommands.{command_silent, log_of}
 use Rattle.line_world.proofs.Orders.{Runs, as_found}
 use Rattle.line_world.proofs.Settings.{bounded_beside}
 use Rattle.line_world.proofs.Taking.{IsThere, at_node, begun}

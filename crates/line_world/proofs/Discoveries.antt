@@ -58,7 +58,7 @@ use Rattle.line_world.specs.Discovering.{HearsBeacon, TakesBeacon, flies_in, joi
 use Rattle.line_world.specs.NodeOutcomes.{Did}
 use Rattle.line_world.specs.Soundness.{AreBelow, IsBelow}
 use Rattle.line_world.specs.Steps.{Steps}
-use Rattle.line_world.proofs.Hearings.{beside_same, set_same}
+use Rattle.line_world.proofs.HeardCommands.{beside_same, set_same}
 use Rattle.line_world.proofs.Orders.{IsMeter, Runs, at_meter}
 use Rattle.line_world.proofs.Settings.{bounded_beside}
 use Rattle.line_world.proofs.Taking.{IsThere, after, bounded_by, is_taken_so, node_acted}

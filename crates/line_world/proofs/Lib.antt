@@ -27,6 +27,7 @@ mod UnaskedReplies
 mod NumberedNodes
 mod Comings
 mod Unchecked
+mod HeardCommands
 mod Hearings
 mod Discoveries
 mod Storable

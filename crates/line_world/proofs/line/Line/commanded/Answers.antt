@@ -15,7 +15,7 @@ use Rattle.line_world.specs.Receiving.{Received}
 use Rattle.line_world.specs.Steps.{Steps}
 use Rattle.line_world.proofs.Arrivals.{at_node_after, at_some}
 use Rattle.line_world.proofs.Calling.{beside_found, command_bounded, command_log, command_room}
-use Rattle.line_world.proofs.Hearings.{was_commanded}
+use Rattle.line_world.proofs.HeardCommands.{was_commanded}
 use Rattle.line_world.proofs.line.Line.commanded.Goals as goal
 
 pub hear_command-commanded-requires-clause-log : goal.hear_command-commanded-requires-clause-log

@@ -7,7 +7,7 @@ use Rattle.line_world.specs.Arrivals.{outcome_of_unbelieved}
 use Rattle.line_world.specs.Lines.{world_of}
 use Rattle.line_world.specs.Steps.{Steps}
 use Rattle.line_world.proofs.Arrivals.{at_some}
-use Rattle.line_world.proofs.Hearings.{was_unbelieved}
+use Rattle.line_world.proofs.HeardCommands.{was_unbelieved}
 use Rattle.line_world.proofs.line.Line.unbelieved.Goals as goal
 
 pub returns : goal.returns
