@@ -8,11 +8,11 @@ ghost use Rattle.line_replay.specs.Texts.{sent_text};
 ghost use Rattle.line_replay.specs.Replay.{Playing, is_forged, event_taking, turn_by, turn_of, end_of, stops_at_too_much};
 
 use crate::report::{push_sent, refuse, totals};
-use script_lines::{LineKind, LineMachine, StopReason, write_made, write_text};
 use line_events::{Event, Happenings, MAX_EVENTS, StepFault};
 use line_script::{LINE_OCTETS, Reading, Reason, end_text, push_happened, read_line};
 use line_world::{Buffers, World};
 use plc_base::Sink;
+use script_lines::{LineKind, LineMachine, StopReason, write_made, write_text};
 use std::alloc::{AllocError, Global};
 use std::marker::Model;
 

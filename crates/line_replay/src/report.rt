@@ -4,10 +4,10 @@ ghost use Rattle.script_lines.specs.Clauses.{StopsWith};
 ghost use Rattle.line_script.specs.Texts.{bad_text};
 ghost use Rattle.line_replay.specs.Texts.{flight_text, flies_text, sent_text, totals};
 
-use script_lines::{StopReason, stop};
 use line_script::{Reason, Totals, bad_text, push_fly};
 use line_world::World;
 use plc_base::Sink;
+use script_lines::{StopReason, stop};
 use std::alloc::{AllocError, Global};
 
 #[tactic(auto, unfolding(crate::specs::Texts::flight_text))]

@@ -5,11 +5,11 @@ ghost use Rattle.line_replay.specs.Shown.{frame_text, shown_text, frames_text};
 ghost use Rattle.line_replay.specs.Shown.{show_turn, show_stops};
 
 use crate::report::refuse;
-use script_lines::{LineKind, LineMachine, StopReason, write_text};
 use line_script::{LINE_OCTETS, Reason, hex_octets, short_word};
 use mac_frames::{FrameFault, FrameFaultKind, MacHead, read_frame};
 use pan_discovery::{Discovery, read_discovery};
 use plc_base::{Eui, OctetRef, Sink};
+use script_lines::{LineKind, LineMachine, StopReason, write_text};
 use std::alloc::{AllocError, Global};
 use std::marker::Model;
 

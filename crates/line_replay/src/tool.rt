@@ -11,10 +11,10 @@ use crate::drill::drill_text;
 use crate::replay::Replay;
 use crate::show::Show;
 use crate::status::Status;
-use script_lines::{Exit, run};
 use line_laws::every_network_run_is_right;
 use line_script::number_within;
 use plc_base::{Sink, Source, write_all};
+use script_lines::{Exit, run};
 use standard_vectors::vectors_text;
 use std::alloc::{AllocError, Global};
 

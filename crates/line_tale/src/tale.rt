@@ -44,7 +44,8 @@ impl Tale {
         ensures err { OnErr result (self.new.events.items ≡ self.old.events.items) }
         ensures flights { self.new.flights.items ≡ self.old.flights.items }
     {
-        self.events.push(event_told(line, event, happenings, clock))?;
+        self.events
+            .push(event_told(line, event, happenings, clock))?;
         Ok(())
     }
 

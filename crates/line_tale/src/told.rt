@@ -71,7 +71,12 @@ fn address_of(grant: &Option<Admission>) -> Option<u16>
 }
 
 /// An event that was taken, by the number of its line, what happened, and the clock after it.
-pub fn event_told(line: u32, event: &Event<'_>, happenings: &Happenings<'_>, clock: u64) -> TaleEvent
+pub fn event_told(
+    line: u32,
+    event: &Event<'_>,
+    happenings: &Happenings<'_>,
+    clock: u64,
+) -> TaleEvent
     ensures { result ≡ event_told line event.now happenings.now clock }
 {
     TaleEvent {

@@ -21,4 +21,4 @@ mod setup;
 mod time;
 mod world;
 
-pub use world::{Counts, Buffers, World};
+pub use world::{Buffers, Counts, World};

@@ -10,7 +10,7 @@ ghost use Rattle.meter_node.specs.MeterStates.{identity_of, node_of};
 
 use crate::commanding::{coordinator, join_with, write_up};
 use crate::meter::Meter;
-use crate::session::{SessionWay, Session};
+use crate::session::{Session, SessionWay};
 use joining_base::{CommandBuf, push_up};
 use node_rules::{Dropped, MeterHeard};
 use plc_base::{EapBuf, Keeper, Out, Short, TagList};

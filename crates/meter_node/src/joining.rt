@@ -9,7 +9,7 @@ ghost use Rattle.meter_node.specs.MeterCalls.{MeterAfter};
 ghost use Rattle.meter_node.specs.MeterStates.{identity_of, node_of};
 
 use crate::meter::Meter;
-use crate::session::{SessionWay, Session};
+use crate::session::{Session, SessionWay};
 use group_keys::RingFault;
 use joining_base::push_up;
 use joining_messages::{JoinBody, JoinMessage};

@@ -14,10 +14,10 @@ ghost use Rattle.plc_station.specs.OpenFaults.{IsOpenFault};
 use crate::parts::Parts;
 use node_rules::Reply;
 use plc_base::{BadStore, Eui, Keeper, LONGEST_DATAGRAM, Short};
+use station_queues::{Bodies, BodyBuffer};
 use std::alloc::Global;
 use std::marker::Model;
 use thiserror::Error;
-use station_queues::{Bodies, BodyBuffer};
 
 /// Why a station is not opened.
 #[derive(Clone, Copy, Debug, PartialEq, Eq, Error)]

@@ -355,7 +355,17 @@ impl Bodies {
         let before = out.frames.frames().len();
         for index in 0..self.waiting.len() {
             let sealed = (out.frames.frames().len() - before) as u32;
-            self.seal_if(index, dest, grant, key, aes, first + sealed, hop, buffer, out);
+            self.seal_if(
+                index,
+                dest,
+                grant,
+                key,
+                aes,
+                first + sealed,
+                hop,
+                buffer,
+                out,
+            );
         }
     }
 
