@@ -138,7 +138,8 @@ module _ (s : State StationMemory) (l : StationMemory) (running : s.memory ≡ S
 
     module _ (randoms : List Rand) (sessions : List CoordinatorSession) (b : book.Book) (new : State StationMemory) (reply : Option Reply) where
       -- it was stored, and the store was read again
-      pub first_stored : is_some l.ring ≡ false → Stores before (ring.ring_write (Some x)) true left → (r : ring.Ring) → r ≡ Some x → ring.AgreesWith r left.records
+      pub first_stored : is_some l.ring ≡ false → Stores before (ring.ring_write (Some x)) true left → (r : ring.Ring) → r ≡ Some x
+          → ring.AgreesWith r left.records
           → OutsideStays 1 1 before left
           → new ≡ record { store = left; eui = s.eui; memory = stations.if_read (station_of left.records); replied = reply }
           → Carries (state_in s randoms sessions b) (begin (memory_in randoms sessions b l) (first_grant key)) (Ok tt) nothing (state_in new randoms sessions b)
@@ -190,7 +191,8 @@ module _ (s : State StationMemory) (l : StationMemory) (running : s.memory ≡ S
           → IfSome (option_map (memory_in randoms sessions b) new.memory) (λ m. CoordinatorAgreesWith m new.store.records)
       first_holds agrees stays r is kept apart now =
           let outside = subst (λ (k : Store). OutsideStays 1 1 k left) same apart in
-          subst (λ (k : State StationMemory). IfSome (option_map (memory_in randoms sessions b) k.memory) (λ m. CoordinatorAgreesWith m k.store.records)) (sym now)
+          subst (λ (k : State StationMemory). IfSome (option_map (memory_in randoms sessions b) k.memory) (λ m. CoordinatorAgreesWith m k.store.records))
+          (sym now)
           (subst (λ (o : Result StationMemory BadStore). IfSome (option_map (memory_in randoms sessions b) (stations.if_read o))
           (λ m. CoordinatorAgreesWith m left.records)) (sym (reads r is kept apart))
           (record {

@@ -41,7 +41,8 @@ module _ (s : State StationMemory) (randoms : List Rand) (sessions : List Coordi
       → OutsideStays 0x1000 0x13E6 before now → book.AgreesWith after now.records
       → CoordinatorAgrees (state_in (record s { store = now }) randoms sessions after)
   booked_holds l running h stays kept =
-      subst (λ (o : Option StationMemory). IfSome (option_map (memory_in randoms sessions after) o) (λ m. CoordinatorAgreesWith m now.records)) (sym running) (record {
+      subst (λ (o : Option StationMemory). IfSome (option_map (memory_in randoms sessions after) o) (λ m. CoordinatorAgreesWith m now.records)) (sym running)
+      (record {
         station = agrees_booked l s.store.records now.records h.station (subst (λ (k : Store). OutsideStays 0x1000 0x13E6 k now) same stays);
         book = kept;
         home = h.home;

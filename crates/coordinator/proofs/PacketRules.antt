@@ -277,7 +277,8 @@ agreed_tags agreed server rand_p tags theirs awaits is =
 
 -- # The acceptance
 
-module _ (m : Memory) (session : CoordinatorSession) (agreed : Agreed) (tags : TagList) (now : ℕ) (s : State Memory) (h : CoordinatorAgreesWith m s.store.records) where
+module _ (m : Memory) (session : CoordinatorSession) (agreed : Agreed) (tags : TagList) (now : ℕ) (s : State Memory)
+    (h : CoordinatorAgreesWith m s.store.records) where
   -- the plan with this message
   accepting_with : JoinMessage → Hearing
   accepting_with join = said_after m session.way join now (done_by [] (without_session session.server.eui m) tags) (Done session.server.eui agreed)

@@ -26,7 +26,8 @@ module _ (randoms : List Rand) (sessions : List CoordinatorSession) (b : book.Bo
   part_agrees None h = tt
   part_agrees (Some l) h = h.station
 
-  pub part_joined : (o : Option StationMemory) → IfSome (option_map (memory_in randoms sessions b) o) (λ m. CoordinatorAgreesWith m records) → IfSome o (λ l. IsSome l.ring)
+  pub part_joined : (o : Option StationMemory) → IfSome (option_map (memory_in randoms sessions b) o) (λ m. CoordinatorAgreesWith m records)
+      → IfSome o (λ l. IsSome l.ring)
   part_joined None h = tt
   part_joined (Some l) h = has_ring l.ring h.home
 
@@ -36,7 +37,8 @@ module _ (randoms : List Rand) (sessions : List CoordinatorSession) (b : book.Bo
   part_book None runs h = absurd (cc)
   part_book (Some l) runs h = h.book
 
-  pub part_home : (o : Option StationMemory) (l : StationMemory) → o ≡ Some l → IfSome (option_map (memory_in randoms sessions b) o) (λ m. CoordinatorAgreesWith m records)
+  pub part_home : (o : Option StationMemory) (l : StationMemory) → o ≡ Some l
+      → IfSome (option_map (memory_in randoms sessions b) o) (λ m. CoordinatorAgreesWith m records)
       → address_of l ≡ Some 0
   part_home o l running h =
       (subst (λ (k : Option StationMemory). IfSome (option_map (memory_in randoms sessions b) k) (λ m. CoordinatorAgreesWith m records)) running h).home

@@ -99,7 +99,8 @@ module _ (m : Memory) (way : Way) (server : Server) (now : ℕ) where
       → IfSome mid.memory (λ k. RoomToSay k way join)
   opened_room s mid join is room = room_held mid m Opened way join (ap (λ (x : State Memory). x.memory) is) refl room
 
-  pub challenged : (s mid t : State Memory) (join : JoinMessage) (tags : TagList) (r : Result (Unit {0}) Dropped) (out : Out) → CoordinatorAgreesWith m s.store.records
+  pub challenged : (s mid t : State Memory) (join : JoinMessage) (tags : TagList) (r : Result (Unit {0}) Dropped) (out : Out)
+      → CoordinatorAgreesWith m s.store.records
       → join ≡ message server.eui (body.Challenge (first_packet server)) → tags ≡ no_tags → RoomToSay m way join → mid ≡ record s { memory = Some Opened }
       → IfSome mid.memory (λ k. Carries mid (saying k way join tags now) r out t) → Carries s (challenges m way server now) (answered Challenged r) out t
   challenged s mid t join tags r out h same none room is c =

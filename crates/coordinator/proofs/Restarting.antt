@@ -59,7 +59,8 @@ module _ (records : Records) where
       by_station (Err c) = refl
 
   -- the address that the records give is the coordinator's
-  pub restarted_holds : (b : book.Book) (o : Option StationMemory) → IfSome o (λ l. AgreesWith l records) → book.AgreesWith b records → HasCoordinatorAddress records
+  pub restarted_holds : (b : book.Book) (o : Option StationMemory) → IfSome o (λ l. AgreesWith l records) → book.AgreesWith b records
+      → HasCoordinatorAddress records
       → IfSome (option_map (memory_in [] [] b) o) (λ m. CoordinatorAgreesWith m records)
   restarted_holds b None a kept home = tt
   restarted_holds b (Some l) a kept home = record {

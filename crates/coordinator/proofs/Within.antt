@@ -100,7 +100,8 @@ home_holds s t p f answer out b at_station at_book c keeps kept agrees = by_done
     by_done true wrote held = subst P (sym held) (λ a. record {
       station = subst (λ (k : StationMemory). AgreesWith k t.store.records) (sym (at_station p.memory)) a;
       book =
-          subst (λ (k : book.Book). book.AgreesWith k t.store.records) (sym (at_book p.memory)) (book_beside b s.store t.store p.puts true keeps.below wrote kept);
+          subst (λ (k : book.Book). book.AgreesWith k t.store.records) (sym (at_book p.memory))
+          (book_beside b s.store t.store p.puts true keeps.below wrote kept);
       home = ap address_of (at_station p.memory) ∙ keeps.home;
     }) agrees
 
@@ -124,6 +125,7 @@ active_home None index home = home
 active_home (Some g) index home = home
 
 -- whatever became of the put of a ring with the address 0, the records hold one
-pub ring_home : (r : Ring) (old new : Records) → option_map (λ (g : Granted). g.address) r ≡ Some 0 → IsOldRingOrAgrees r old new → HasCoordinatorAddress old → HasCoordinatorAddress new
+pub ring_home : (r : Ring) (old new : Records) → option_map (λ (g : Granted). g.address) r ≡ Some 0 → IsOldRingOrAgrees r old new → HasCoordinatorAddress old
+    → HasCoordinatorAddress new
 ring_home r old new home (inl same) h = ap (option_and_then (option_map (λ (g : Granted). g.address))) same ∙ h
 ring_home r old new home (inr kept) h = ap (option_and_then (option_map (λ (g : Granted). g.address))) kept.stored ∙ home

@@ -4,7 +4,8 @@ ghost use Rattle.std.specs.Prelude.{◌≡◌, ◌⊎◌, ◌≤◌, true, Some,
 ghost use Rattle.std.specs.Bool.{OnTrue};
 ghost use Rattle.std.specs.Option.{option_map};
 ghost use Rattle.plc_base.specs.Keeper.{Stores, OutsideStays};
-ghost use Rattle.group_keys.specs.KeyRing.{AgreesWith, IsOldRingOrAgrees, IsOldOrNewRing, opened, ring_at, ring_slot, ring_in, grant_in, ring_octets, ring_write};
+ghost use Rattle.group_keys.specs.KeyRing.{AgreesWith, IsOldRingOrAgrees, IsOldOrNewRing, opened, ring_at, ring_slot, ring_in, grant_in, ring_octets};
+ghost use Rattle.group_keys.specs.KeyRing.{ring_write};
 ghost use Rattle.group_keys.specs.KeyRing.{key_in_ring, with_key, with_active, stored_result, activate_result, activate_write, activate_after, is_stored};
 
 use crate::RingFault;

@@ -56,7 +56,8 @@ use Rattle.line_rules.specs.Answers.{Reception, command_word, discovery_word, dr
 use Rattle.line_rules.specs.Further.{adds_frames, asks_by, beside_at, chooses_by, discovers_by, line_step, reaches, scans_by, sends_nothing}
 use Rattle.line_rules.specs.Further.{acknowledged, acknowledging}
 use Rattle.line_rules.specs.Runs.{Entry, IsLineRun, IsRun, events_of}
-use Rattle.line_rules.specs.Steps.{Step, node_outcome, admission_by, allow, allowed, allowed_word, has_begun, identity, is_taken, note_by, on_node, psk_of, running_world}
+use Rattle.line_rules.specs.Steps.{Step, node_outcome, admission_by, allow, allowed, allowed_word, has_begun, identity, is_taken, note_by, on_node, psk_of}
+use Rattle.line_rules.specs.Steps.{running_world}
 use Rattle.line_rules.specs.Steps.{sent_if}
 use Rattle.line_rules.specs.Steps.{tag_of, world_after}
 use Rattle.line_rules.specs.Worlds.{World, Trace, node_at, start}

@@ -39,10 +39,13 @@ use Rattle.node_rules.specs.Coordinators as coordinator_rules
 use Rattle.line_rules.specs.Answers.{Reception, meter_reception, coordinator_reception, random_word, join_word, leave_word, sent_word, ordered_word, frame_word}
 use Rattle.line_events.specs.Events.{IsEvent}
 use Rattle.line_rules.specs.Worlds.{World, Trace, node_at, flight_at, is_forged_tag}
-use Rattle.line_rules.specs.Steps.{Step, set_up, running_world, world_after, node_outcome, once_begun, in_setup, has_begun, takes_setup, on_node, on_meter, made_node}
+use Rattle.line_rules.specs.Steps.{Step, set_up, running_world, world_after, node_outcome, once_begun, in_setup, has_begun, takes_setup, on_node, on_meter}
+use Rattle.line_rules.specs.Steps.{made_node}
 use Rattle.line_rules.specs.Steps.{blank_node}
-use Rattle.line_rules.specs.Steps.{identity, hearing_step, restarts, ticked, rand, join, joins_by, leave, send, sends_by, sent_if, breaks, breaks_by, lose, tick}
-use Rattle.line_rules.specs.Steps.{restart, cut, show, psk_of, trace_of, happenings, coordinator, coordinator_node, meter, is_known, depot, depot_by, provisioned}
+use Rattle.line_rules.specs.Steps.{identity, hearing_step, restarts, ticked, rand, join, joins_by, leave, send, sends_by, sent_if, breaks, breaks_by, lose}
+use Rattle.line_rules.specs.Steps.{tick}
+use Rattle.line_rules.specs.Steps.{restart, cut, show, psk_of, trace_of, happenings, coordinator, coordinator_node, meter, is_known, depot, depot_by}
+use Rattle.line_rules.specs.Steps.{provisioned}
 use Rattle.line_rules.specs.Steps.{near, near_by, keeps_rank, ranks_full, offered_near, preset, allow, allowed, deliver, inject, arrives, accepted_by, received}
 use Rattle.line_rules.specs.Steps.{by_coordinator, forged_by, note_by, rekey, challenge, activate, kick, step}
 use Rattle.node_rules.specs.NodeSteps.{NodeStep, acts, stays, answering, of_station}
@@ -316,7 +319,8 @@ module _ (ciphers : Ciphers) (fits : KeepsRanges ciphers) (w : World) (ok : Worl
   breaks_agrees : (number : ℕ) (x : Node) (next : Option ℕ) → node_at w number ≡ Some x → Good (Ok (breaks_by ciphers w number x next))
   breaks_agrees number x None there = rests _ refl refl
   breaks_agrees number x (Some next) there = quiet _ refl refl
-      (plain_acts (running_world w) c number x there answers.Halted _ (λ m here. (broke_quietly m (sized_of x m (node_ok number x there) here) next answers.Broken).made))
+      (plain_acts (running_world w) c number x there answers.Halted _
+      (λ m here. (broke_quietly m (sized_of x m (node_ok number x there) here) next answers.Broken).made))
 
   break_agrees : (number next : ℕ) → Good (breaks ciphers w number next)
   unfolding breaks
@@ -375,7 +379,8 @@ module _ (ciphers : Ciphers) (fits : KeepsRanges ciphers) (w : World) (ok : Worl
 
   order_agrees : {A : Type 0} (x : Node) (answer : Answer) (order : Memory → Plan Memory (Result A CoordinatorRefusal)) → node_at w 0 ≡ Some x
       → ((m : Memory) → (order m).made ≡ []) → Good (Ok (by_coordinator ciphers w x answer order))
-  order_agrees x answer order there none = quiet _ refl refl (plain_after (running_world w) c 0 x there (ordered_word answer) (Err orders.Halted) order (λ m here. none m))
+  order_agrees x answer order there none =
+      quiet _ refl refl (plain_after (running_world w) c 0 x there (ordered_word answer) (Err orders.Halted) order (λ m here. none m))
 
   activate_agrees : (number index : ℕ) → Good (activate ciphers w number index)
   unfolding activate
@@ -404,7 +409,8 @@ module _ (ciphers : Ciphers) (fits : KeepsRanges ciphers) (w : World) (ok : Worl
   unfolding allow
   allow_agrees number = once _ (at_meter number _ (λ ne x is. at_node 0 _ (λ y there.
       by_option (λ psk. Ok (allowed ciphers w number (acts y (Err orders.Halted) (λ m. coordinator_rules.allow m x.eui psk)))) (psk_of x) (Err faults.Node)
-      (λ psk pair. quiet _ refl refl (plain_acts (running_world w) c 0 y there (Err orders.Halted) _ (λ m here. (allow_untagged m x.eui psk).0))) (Refused faults.Node))))
+      (λ psk pair. quiet _ refl refl (plain_acts (running_world w) c 0 y there (Err orders.Halted) _ (λ m here. (allow_untagged m x.eui psk).0)))
+      (Refused faults.Node))))
 
   preset_agrees : (number : ℕ) (plan : StationMemory → calls.Presetting) → ((m : Memory) → (of_station m (plan m.station)).made ≡ [])
       → Good (preset ciphers w number plan)
@@ -588,7 +594,8 @@ module _ (ciphers : Ciphers) (fits : KeepsRanges ciphers) (w : World) (ok : Worl
 
   Agreeing : (number : ℕ) → NodeStep Reception → Type 0
   Agreeing number d =
-      Confirmed (world_after ciphers (running_world w) number d) (taken ++ one_of (paired number d.answer.took)) × IfSome (done_by w d.answer.done) (λ p. Among p taken)
+      Confirmed (world_after ciphers (running_world w) number d) (taken ++ one_of (paired number d.answer.took))
+      × IfSome (done_by w d.answer.done) (λ p. Among p taken)
 
   hears_agree : (number : ℕ) (x y : Node) (got : Accepted) (cost note now : ℕ) → node_at w number ≡ Some x → NodeOk y → y.eui ≡ x.eui → y.role ≡ x.role
       → (number ≢ 0 → IfSome y.memory (λ m. PeerIs y.eui m.session)) → RoutesFit got

@@ -138,7 +138,8 @@ module _ (x : Identity) (m : Memory) (g : Given) where
   takes_is session_way peer identifier granted join = checked_planned (λ e.
       sealed_planned _ _ (said (Some (agreed_by peer)) session_way peer.eui join g.now _ (taken_under m peer identifier granted)))
 
-  take_with_is : (session_way : SessionWay) (packet : List ℕ) (peer : Peer) (granted : Option Granted) → Is (take_with x m session_way packet g.now peer granted)
+  take_with_is : (session_way : SessionWay) (packet : List ℕ) (peer : Peer) (granted : Option Granted)
+      → Is (take_with x m session_way packet g.now peer granted)
   take_with_is session_way packet peer None = Refuses _
   take_with_is session_way packet peer (Some granted) = takes_is session_way peer _ granted _
 

@@ -36,7 +36,8 @@ use Rattle.line_rules.specs.Answers.{coordinator_reception, meter_reception, Rec
 use Rattle.line_events.specs.Events.{IsEvent}
 use Rattle.line_rules.specs.Forgery.{Comes, accepting}
 use Rattle.line_rules.specs.Worlds.{World, Issued, node_at}
-use Rattle.line_rules.specs.Steps.{Step, set_up, running_world, world_after, node_outcome, sending, sent_if, is_taken, tag_of, hearing_step, offered_near, hearing_outcome, note_by, identity}
+use Rattle.line_rules.specs.Steps.{Step, set_up, running_world, world_after, node_outcome, sending, sent_if, is_taken, tag_of, hearing_step, offered_near}
+use Rattle.line_rules.specs.Steps.{hearing_outcome, note_by, identity}
 use Rattle.line_rules.specs.Steps.{issued_of}
 use Rattle.line_rules.specs.Steps.{psk_of, restarts, ticked}
 use Rattle.line_laws.specs.Stores.{IsReadable, IsBookKept}
@@ -250,7 +251,8 @@ module _ (ciphers : Ciphers) (fits : KeepsRanges ciphers) (w : World) (ok : Worl
       → IsCall ciphers w number x A halted plan
       → Goes v
   called u v number x A B reads halted plan e f there call =
-      goes_after u v number x (answering reads (acts x halted plan)) (same_goes w u e self_goes) (f ∙ after_nodes u number (answering reads (acts x halted plan)))
+      goes_after u v number x (answering reads (acts x halted plan)) (same_goes w u e self_goes)
+      (f ∙ after_nodes u number (answering reads (acts x halted plan)))
       (ap (λ ns. slice_get ns number) e ∙ there) (acts_eui x halted plan) (call_grows number x A halted plan there call)
 
   sent_nodes : (from to : ℕ) (datagram : List ℕ) (tag : ℕ) (d : NodeStep Answer)
@@ -292,8 +294,10 @@ module _ (ciphers : Ciphers) (fits : KeepsRanges ciphers) (w : World) (ok : Worl
   }
   goes event s (Rests e quiet) = λ some. same_goes w (running_world w) refl self_goes
   goes event s (Shows number x) = λ some. same_goes w (running_world w) refl self_goes
-  goes event s (Acts e number x A halted plan reads there call word asked) = λ some. called (running_world w) _ number x A _ reads halted plan refl refl there call
-  goes event s (BreaksLink number next x a there call) = λ some. called (running_world w) _ number x _ _ (λ (b : Answer). b) answers.Halted _ refl refl there call
+  goes event s (Acts e number x A halted plan reads there call word asked) =
+      λ some. called (running_world w) _ number x A _ reads halted plan refl refl there call
+  goes event s (BreaksLink number next x a there call) =
+      λ some. called (running_world w) _ number x _ _ (λ (b : Answer). b) answers.Halted _ refl refl there call
   goes event s (SendsFrom from to datagram x a there call target) = λ some.
       let plan : Memory → Plan Memory (Result SentHow SendRefusal) = λ m. of_station m (calls.send m.station a datagram (w.sends + 1) w.clock) in
       called (running_world w) _ from x _ _ sent_word (Err sends.Halted) plan refl

@@ -73,7 +73,8 @@ use Rattle.line_rules.specs.Further.{discovery_flights, due, has_discovered, lin
 use Rattle.line_rules.specs.FurtherRuns.{AreBroadcastOnce, AreBroadcastOnceAfter, IsFirst, WasBroadcast, broadcast_ups, broadcasts}
 use Rattle.line_rules.specs.Logs.{LogIn, LogsKept}
 use Rattle.line_rules.specs.Runs.{Entry, IsRun, events_of, one_of}
-use Rattle.line_rules.specs.Steps.{Step, node_outcome, forged_by, hearing_outcome, identity, is_taken, note_by, running_world, restarts, sent_if, tag_of, world_after}
+use Rattle.line_rules.specs.Steps.{Step, node_outcome, forged_by, hearing_outcome, identity, is_taken, note_by, running_world, restarts, sent_if, tag_of}
+use Rattle.line_rules.specs.Steps.{world_after}
 use Rattle.line_rules.specs.Worlds.{Broadcasting, Flight, Noticed, Trace, World, node_at, start}
 use Rattle.line_laws.specs.FurtherLines.{HoldsAfter}
 use Rattle.line_laws.specs.Lines.{NodeOk, WorldOk}
@@ -613,7 +614,8 @@ module _ (w : World) (ok : WorldOk w) (s : WorldSpeaks w) (logs : LogsKept w) (r
     checked_honest = by_due (due got.path (message_of got) (heard_node network w x octets got cost).answer.answer)
       where
         by_memory : (reply : Reply) (t : Bool) → (if t then adds_frames (world_after network noted.0 number (acknowledging left reply)) noted.1
-            (acknowledging left reply) else sends_nothing w (world_after network noted.0 number (acknowledging left reply), noted.1)).1.happenings.forged ≡ false
+            (acknowledging left reply) else sends_nothing w (world_after network noted.0 number (acknowledging left reply), noted.1)).1.happenings.forged
+            ≡ false
             → h.1.happenings.forged ≡ false
         by_memory reply true e = e
         by_memory reply false e = e

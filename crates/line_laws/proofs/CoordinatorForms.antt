@@ -41,8 +41,10 @@ use Rattle.eap_psk.specs.Sessions.{rand_p_in}
 use Rattle.node_rules.specs.MemoryDrafts.{in_memory, on_station, station_part, with_memory_by, with_pair_tags, is_commanded, oldest, without_oldest, Unread}
 use Rattle.node_rules.specs.MemoryDrafts.{unread}
 use Rattle.node_rules.specs.Coordinators.{Hearing, CoordinatorIdentity, drop_it, is_of, session_of, sessions_full, session_fault, with_session, without_session}
-use Rattle.node_rules.specs.Coordinators.{grant_for, says, say_lack, with_book_entry, declines, opens, challenges, open_session, join_without_packet, keys_for, take_second}
-use Rattle.node_rules.specs.Coordinators.{accepts, take_fourth, take_packet, join_with_packet, hear_join, hear_join_in, heard_by, hear_coordinator, Ordering, orders}
+use Rattle.node_rules.specs.Coordinators.{grant_for, says, say_lack, with_book_entry, declines, opens, challenges, open_session, join_without_packet, keys_for}
+use Rattle.node_rules.specs.Coordinators.{take_second}
+use Rattle.node_rules.specs.Coordinators.{accepts, take_fourth, take_packet, join_with_packet, hear_join, hear_join_in, heard_by, hear_coordinator, Ordering}
+use Rattle.node_rules.specs.Coordinators.{orders}
 use Rattle.node_rules.specs.Coordinators.{allowed_entry, order_lack, lacking, changes, changed, allow, depot_by, depot, rekey, activate_self, challenge_by}
 use Rattle.node_rules.specs.Coordinators.{challenge_at, challenge, allowed_address, activate_by, activate, kick_goes, kick_by, kick}
 use Rattle.node_rules.proofs.Words.{IsDone, Fits, looser, sets_out_fits, begun_fits, on_ring, remembered_fits, entered_fits, down_done, commanded_done}

@@ -36,7 +36,8 @@ use Rattle.node_rules.specs.Hearing.{dropped}
 use Rattle.node_rules.specs.Joining.{message, first_packet, server_for}
 use Rattle.node_rules.specs.MemoryDrafts.{in_memory, with_memory_by, is_commanded, oldest, without_oldest, Unread, unread}
 use Rattle.node_rules.specs.Coordinators.{CoordinatorIdentity, drop_it, is_of, session_of, with_session, without_session, grant_for, says, with_book_entry}
-use Rattle.node_rules.specs.Coordinators.{declines, opens, challenges, open_session, join_without_packet, keys_for, take_second, accepts, take_fourth, take_packet, join_with_packet}
+use Rattle.node_rules.specs.Coordinators.{declines, opens, challenges, open_session, join_without_packet, keys_for, take_second, accepts, take_fourth}
+use Rattle.node_rules.specs.Coordinators.{take_packet, join_with_packet}
 use Rattle.node_rules.specs.Coordinators.{hear_join, hear_join_in, heard_by, hear_coordinator, orders, allowed_entry, changes, changed, allow, depot_by, depot}
 use Rattle.node_rules.specs.Coordinators.{rekey, activate_self, challenge_by, challenge_at, challenge, allowed_address, activate_by, activate, kick_goes}
 use Rattle.node_rules.specs.Coordinators.{kick_by, kick}

@@ -25,7 +25,8 @@ use Rattle.line_rules.specs.Answers.{Reception, Up, station_reception, meter_rec
 use Rattle.node_rules.specs.Meters as meters
 use Rattle.node_rules.specs.Coordinators as coordinators
 use Rattle.node_rules.specs.NodeSteps.{NodeStep, acts, of_station, answering}
-use Rattle.line_rules.specs.Steps.{identity, hearing_step, note_by, world_after, running_world, trace_of, happenings, flights_of, flight_by, handed_by, hearing_outcome, arrives}
+use Rattle.line_rules.specs.Steps.{identity, hearing_step, note_by, world_after, running_world, trace_of, happenings, flights_of, flight_by, handed_by}
+use Rattle.line_rules.specs.Steps.{hearing_outcome, arrives}
 use Rattle.line_rules.specs.Worlds.{Trace, World}
 use Rattle.line_events.specs.declared.happenings.Handed.{Handed}
 use Rattle.node_rules.specs.Ciphers.{OpensWhatItSeals}
@@ -39,7 +40,8 @@ use Rattle.line_laws.proofs.CustodyWhole.{OneSend}
 use Rattle.line_laws.proofs.CustodyWorld.{unit_back}
 use Rattle.line_laws.proofs.CustodyTaking.{TakesHome, taking_true}
 use Rattle.line_laws.proofs.CustodyDeliver.{WhatCame, PlainCame, LetterCame, opening}
-use Rattle.line_laws.proofs.CustodyTrue.{SentIsOf, StationIsTrue, PlanIsTrue, AnswerIsOf, MeterUpIsOf, CoordinatorUpIsOf, HearsTrue, sealed_unit_true, plain_true}
+use Rattle.line_laws.proofs.CustodyTrue.{SentIsOf, StationIsTrue, PlanIsTrue, AnswerIsOf, MeterUpIsOf, CoordinatorUpIsOf, HearsTrue, sealed_unit_true}
+use Rattle.line_laws.proofs.CustodyTrue.{plain_true}
 use Rattle.line_laws.proofs.CustodyTrue.{coordinator_hears_true, DidTrue, acts_true}
 pub use Rattle.line_laws.specs.InCustody.{FlightIsOf, NodeTrue}
 

@@ -33,7 +33,8 @@ use Rattle.node_rules.specs.Laws.{IsWhole, IsCutOff}
 use Rattle.node_rules.specs.Meters as meters
 use Rattle.node_rules.specs.Coordinators as coordinators
 use Rattle.node_rules.specs.NodeSteps.{NodeStep, acts, stays, left_by, of_station, answering}
-use Rattle.line_rules.specs.Steps.{identity, hearing_step, note_by, forged_by, world_after, running_world, trace_of, happenings, flights_of, handed_by, hearing_outcome, arrives}
+use Rattle.line_rules.specs.Steps.{identity, hearing_step, note_by, forged_by, world_after, running_world, trace_of, happenings, flights_of, handed_by}
+use Rattle.line_rules.specs.Steps.{hearing_outcome, arrives}
 use Rattle.line_rules.specs.Worlds.{Flight, Trace, World, has_octets, note_of, is_forged_frame}
 use Rattle.line_events.specs.declared.happenings.Handed.{Handed}
 use Rattle.node_rules.proofs.Writing.{clean}
@@ -45,7 +46,8 @@ use Rattle.line_laws.proofs.LetterAccepts.{IsOfLetter, accepts_sealed_unit}
 use Rattle.line_laws.proofs.StoreMarks.{IsAdmitted, IsPlain, Accepts, Turned, Plain, Marked, accept_is}
 use Rattle.line_laws.proofs.NodeCalls.{heard_given}
 use Rattle.line_laws.proofs.CustodyPlans.{Agrees, up_by, DidKeep, acts_kept}
-use Rattle.line_laws.proofs.CustodyCalls.{meter_up, coordinator_up, Comes, sealed_unit_comes, plain_comes, meter_hears_kept, coordinator_hears_kept, accept_kept}
+use Rattle.line_laws.proofs.CustodyCalls.{meter_up, coordinator_up, Comes, sealed_unit_comes, plain_comes, meter_hears_kept, coordinator_hears_kept}
+use Rattle.line_laws.proofs.CustodyCalls.{accept_kept}
 use Rattle.line_laws.proofs.CustodyWorld.{unit_back, flight_weighs, opened_is, sent_flies, custody_after}
 use Rattle.line_laws.proofs.RangeFrames.{IsSent}
 

@@ -18,7 +18,8 @@ use Rattle.node_rules.specs.declared.heard.Heard.TheVariants as heard
 use Rattle.node_rules.specs.Frames.{Sent, Sealed, Up, Down}
 use Rattle.node_rules.specs.Memory.{StationMemory, Memory, Node}
 use Rattle.node_rules.specs.Plans.{Plan, carry_out, resting}
-use Rattle.node_rules.specs.Drafts.{Draft, Ends, UnsealedUnit, empty_draft, sealed_units, sealed_by, sealing_key, with_rank, with_own_number, with_next_tag, with_ring}
+use Rattle.node_rules.specs.Drafts.{Draft, Ends, UnsealedUnit, empty_draft, sealed_units, sealed_by, sealing_key, with_rank, with_own_number, with_next_tag}
+use Rattle.node_rules.specs.Drafts.{with_ring}
 use Rattle.node_rules.specs.Drafts.{with_routing_by, goes, body_goes, waits, leave}
 use Rattle.node_rules.specs.MemoryDrafts.{in_memory, on_station, station_part, with_memory_by, with_pair_tags, goes_up, goes_down}
 use Rattle.node_rules.specs.Coordinators.{with_book_entry}
@@ -105,7 +106,8 @@ plain_of W g L P E n i m d (DownIn own message e made) =
 
 -- # Letters
 
-sealed_units_sum : (n i : ℕ) (g : Granted) (key : Key) (first : ℕ) (us : List UnsealedUnit) → sum_by (sent_is n i) (sealed_units g key first us) ≡ sum_by (out_is n i) us
+sealed_units_sum : (n i : ℕ) (g : Granted) (key : Key) (first : ℕ) (us : List UnsealedUnit)
+    → sum_by (sent_is n i) (sealed_units g key first us) ≡ sum_by (out_is n i) us
 sealed_units_sum n i g key first [] = refl
 sealed_units_sum n i g key first (o ∷ us) =
     let one : Sent = Sealed (record { to = o.to; from = g.address; counter = first; index = g.active; key = key; unit = o.unit; note = o.note }) in

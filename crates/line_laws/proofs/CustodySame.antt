@@ -20,7 +20,8 @@ use Rattle.node_rules.specs.Drafts.{Draft, own_mesh, units_of, all_go, waits_for
 use Rattle.node_rules.specs.Drafts.{body_goes, waits, leave}
 use Rattle.line_laws.specs.Sends.{SentAs, FitsAt, UnitIsOf, LoadIsOf, OutIsOf, BodyIsOf}
 use Rattle.line_laws.proofs.Made.{Given, IsCome, IsLess, Whole, Part, Carried, RingWord, Carry, Install, RingChange, Drops, Installs, Draws, Activates, IsSaid}
-use Rattle.line_laws.proofs.Made.{Seeks, Answers, Relays, Passes, SaysTheSame, Forwards, Made, Starts, Ranks, Numbers, Tags, Rings, Idles, Loses, Goes, Sends, Waits}
+use Rattle.line_laws.proofs.Made.{Seeks, Answers, Relays, Passes, SaysTheSame, Forwards, Made, Starts, Ranks, Numbers, Tags, Rings, Idles, Loses, Goes, Sends}
+use Rattle.line_laws.proofs.Made.{Waits}
 use Rattle.line_laws.proofs.Made.{Leaves}
 
 -- # Cutting

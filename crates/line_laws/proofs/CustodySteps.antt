@@ -37,7 +37,8 @@ use Rattle.node_rules.specs.Plans.{Plan, resting}
 use Rattle.node_rules.specs.StoreReading.{blank_station, first_grant}
 use Rattle.line_rules.specs.Answers.{sent_word}
 use Rattle.line_rules.specs.Forgery.{Comes, OfFlight, OfScript}
-use Rattle.line_rules.specs.Steps.{Step, set_up, running_world, world_after, flights_of, made_node, blank_node, psk_of, ticked, node_outcome, sending, sent_if, is_taken, tag_of}
+use Rattle.line_rules.specs.Steps.{Step, set_up, running_world, world_after, flights_of, made_node, blank_node, psk_of, ticked, node_outcome, sending, sent_if}
+use Rattle.line_rules.specs.Steps.{is_taken, tag_of}
 use Rattle.line_rules.specs.Steps.{offered_near, identity, restarts, memory_by}
 use Rattle.line_rules.specs.Worlds.{World, Flight, Sending, node_at, flight_at}
 use Rattle.line_laws.specs.SealedUnits.{IsFlight, AreFlights}
@@ -430,7 +431,8 @@ module _ (ciphers : Ciphers) (opens : OpensWhatItSeals ciphers) (fits : KeepsRan
 
       after_so : Rest ciphers opens S home (world_after ciphers (running_world w) from (answering sent_word d))
       after_so = after_rest ciphers opens S home (running_world w) from x (answering sent_word d)
-          (rest_of ciphers opens S home L before (running_world w) (ran_at ciphers opens S home L before w c)) there ranged.station ranged.frames did.station did.frames
+          (rest_of ciphers opens S home L before (running_world w) (ran_at ciphers opens S home L before w c)) there ranged.station ranged.frames did.station
+          did.frames
 
       rest : Rest ciphers opens S home v
       rest = by_taken (is_taken (sent_word d.answer))
@@ -582,7 +584,8 @@ module _ (ciphers : Ciphers) (opens : OpensWhatItSeals ciphers) (fits : KeepsRan
       let did : DidClean S (home 0) cn d = subst (λ (z : NodeStep (Result Granted CoordinatorRefusal)). DidClean S (home 0) cn z) (sym same)
       (clean_at 0 cn (Err orders.Halted) (λ m. coordinator_rules.depot m x.eui psk) hc
       (λ m here r t. depot_clean S (home 0) m r t (own_of cn) 0 (owed.speaks cn hc m here 0) x.eui psk (eight_at number x hx))) in
-      after_at ciphers opens S home L before (world_after ciphers (set_up w) 0 d) number x (acts x (Ok tt) (λ m. meters.provision m g)) (set_after 0 cn d hc did)
+      after_at ciphers opens S home L before (world_after ciphers (set_up w) 0 d) number x (acts x (Ok tt) (λ m. meters.provision m g))
+      (set_after 0 cn d hc did)
       (other_there 0 number d x ne hx)
       (clean_at number x (Ok tt) (λ m. meters.provision m g) hx (λ m here r t. provision_clean S (home number) m r t g
       (grant_reads x cn psk g number hx hc role answered) (grant_home number x cn psk g ne hx hc role answered

@@ -112,7 +112,8 @@ module _ (ciphers : Ciphers) (opens : OpensWhatItSeals ciphers) (live : World �
       by_answer : (a : Result Accepted FrameRefusal) → a ≡ Ok got → (after a).1.happenings.forged ≡ false
           → list_any (is_forged_tag w.made) (hearing_step ciphers accepting.node got cost (note_by w octets got.path) w.clock).opened ≡ false
       by_answer (Ok g) is h = let same : g ≡ got = cc in
-          subst (λ (k : Accepted). list_any (is_forged_tag w.made) (hearing_step ciphers accepting.node k cost (note_by w octets k.path) w.clock).opened ≡ false) same
+          subst (λ (k : Accepted). list_any (is_forged_tag w.made) (hearing_step ciphers accepting.node k cost (note_by w octets k.path) w.clock).opened
+          ≡ false) same
           (or_parts _ _ h).1
       by_answer (Err reason) is h = absurd (cc)
 
@@ -123,7 +124,8 @@ module _ (ciphers : Ciphers) (opens : OpensWhatItSeals ciphers) (live : World �
       × JoinsWell ciphers accepting.node got cost (note_by w octets got.path) w.clock)
       → (arrives ciphers w number x octets cost).1.happenings.forged ≡ false
       → LiveFalls live w (arrives ciphers w number x octets cost).0 (opened_at w octets accepting.answer)
-      → Custody ciphers live S home (arrives ciphers w number x octets cost).0 (before ++ option_to_list (arrives ciphers w number x octets cost).1.happenings.up)
+      → Custody ciphers live S home (arrives ciphers w number x octets cost).0
+      (before ++ option_to_list (arrives ciphers w number x octets cost).1.happenings.up)
       × ((u : Handed) → (arrives ciphers w number x octets cost).1.happenings.up ≡ Some u → HandedIsOf S (home number) u.note u.octets)
   arrival_keeps owed unforged falls =
       let ok : NodeRanged x = at_place NodeRanged w.nodes number x here c.ranged in

@@ -37,7 +37,8 @@ use Rattle.line_rules.specs.Forgery.{Comes, OfFlight, OfScript, accepting}
 use Rattle.line_rules.specs.Worlds.{World, Flight, node_at, flight_at}
 use Rattle.line_rules.specs.SafeRuns.{HasAddress}
 use Rattle.line_rules.specs.Nonces.{NonceParts, IsSpelled, HasSender}
-use Rattle.line_rules.specs.Steps.{Step, set_up, running_world, world_after, made_node, ticked, flights_of, flight_by, node_outcome, sending, sent_if, is_taken, tag_of, hearing_step}
+use Rattle.line_rules.specs.Steps.{Step, set_up, running_world, world_after, made_node, ticked, flights_of, flight_by, node_outcome, sending, sent_if, is_taken}
+use Rattle.line_rules.specs.Steps.{tag_of, hearing_step}
 use Rattle.line_rules.specs.Steps.{offered_near, hearing_outcome, note_by, identity, restarts}
 use Rattle.line_laws.specs.Stores.{IsReadable, IsKept}
 use Rattle.line_laws.specs.Owed.{AreOctets, KeepsRanges}
@@ -72,7 +73,8 @@ module _ (ciphers : Ciphers) (P : Flight → Type 0) (sent : (number : ℕ) (f :
       → All P (sending ciphers w from to datagram tag d).0.flights
   sending_all w from to datagram tag d all = by_taken (is_taken d.answer) (after_all (running_world w) from d all)
     where
-      by_taken : (b : Bool) → All P (world_after ciphers (running_world w) from d).flights → All P (sent_if w from to datagram tag b (node_outcome ciphers w from d)).0.flights
+      by_taken : (b : Bool) → All P (world_after ciphers (running_world w) from d).flights
+          → All P (sent_if w from to datagram tag b (node_outcome ciphers w from d)).0.flights
       by_taken true k = k
       by_taken false k = k
 
@@ -294,7 +296,8 @@ module _ (ciphers : Ciphers) (fits : KeepsRanges ciphers) (w : World) (ok : Worl
   senders event s (Makes e x is) = none_new w (made_node w x).0 refl
   senders event s (Rests e quiet) = none_new w (running_world w) refl
   senders event s (Shows number x) = none_new w (running_world w) refl
-  senders event s (Acts e number x A halted plan reads there call word asked) = after_one (running_world w) number x (answering reads (acts x halted plan)) refl refl there
+  senders event s (Acts e number x A halted plan reads there call word asked) =
+      after_one (running_world w) number x (answering reads (acts x halted plan)) refl refl there
       (answered reads (acts x halted plan) (call_sent number x A halted plan there call))
   senders event s (BreaksLink number next x a there call) =
       let plan : Memory → Plan Memory Answer = λ m. changing answers.Broken (with_station (calls.broke a m.station) m) in

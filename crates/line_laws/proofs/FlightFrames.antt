@@ -84,7 +84,8 @@ module _ (ciphers : Ciphers) (P : Flight → Type 0) (sent : (number : ℕ) (f :
       plain_all = act_all (running_world w) number outcome_of_hearing all
 
       -- and a reply among them that is acknowledged
-      answers_all : (reply : Reply) → Stay (acknowledged ciphers w number (acknowledging outcome_of_hearing.node reply) (checks_so ciphers w number x octets got cost)).0
+      answers_all : (reply : Reply) → Stay
+          (acknowledged ciphers w number (acknowledging outcome_of_hearing.node reply) (checks_so ciphers w number x octets got cost)).0
       answers_all reply = by_memory (is_some a.node.memory)
         where
           a : NodeStep (Result (Unit {0}) LocalRefusal)

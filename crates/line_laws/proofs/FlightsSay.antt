@@ -39,7 +39,8 @@ use Rattle.line_events.specs.declared.event.Event.{Event}
 use Rattle.line_events.specs.Events.{IsEvent}
 use Rattle.line_rules.specs.Forgery.{Comes, accepting}
 use Rattle.line_rules.specs.Further.{discovery_flight}
-use Rattle.line_rules.specs.Steps.{Step, node_outcome, flight_by, flights_of, forged_by, hearing_outcome, hearing_step, is_taken, note_by, offered_near, running_world, restarts, sent_if}
+use Rattle.line_rules.specs.Steps.{Step, node_outcome, flight_by, flights_of, forged_by, hearing_outcome, hearing_step, is_taken, note_by, offered_near}
+use Rattle.line_rules.specs.Steps.{running_world, restarts, sent_if}
 use Rattle.line_rules.specs.Steps.{sending, set_up, tag_of, world_after}
 use Rattle.line_rules.specs.Worlds.{World, Flight, flight_at, node_at}
 use Rattle.line_laws.specs.SealedUnits.{IsSealedUnit}
@@ -210,5 +211,6 @@ module _ (P : ℕ → MeshUnit → Type 0) where
       old_flights event st (Ticks seconds) = λ honest before. before
       old_flights event st (Restarts number x there) = λ honest before. after_silently (running_world w) number (restarts x) refl before
       old_flights event st (Cuts number nth keeps_new x there) = λ honest before.
-          after_silently (running_world w) number (stays (record x { store = record x.store { cut = Some (record { nth = nth; keeps_new = keeps_new }) } }) answers.Set) refl
+          after_silently (running_world w) number
+          (stays (record x { store = record x.store { cut = Some (record { nth = nth; keeps_new = keeps_new }) } }) answers.Set) refl
           before

@@ -82,7 +82,8 @@ module _ (ciphers : Ciphers) (fits : KeepsRanges ciphers) (w : World) (ok : Worl
     pub line_agrees_is : (event : Event) → IsEvent event → (s : Step) → IsLineStepBy (OldStep ciphers w) U D ciphers w event s → StepAgrees w taken s
     line_agrees_is event says s (Known e z old) = old_agrees event says s old
     line_agrees_is event says s (Opens begun) = of_none _ refl refl c
-    line_agrees_is event says s (Anew e v t moves silent) = of_none (v, t) silent.taken silent.done (moved_confirmed U D ciphers (running_world w) v moves taken c)
+    line_agrees_is event says s (Anew e v t moves silent) =
+        of_none (v, t) silent.taken silent.done (moved_confirmed U D ciphers (running_world w) v moves taken c)
     line_agrees_is event says s (After e r v t old good runs moves same_words) = Happened (v, t) (λ honest.
         let h = agreed_then r (old_agrees event says (Ok r) old) (sym same_words.forged ∙ honest) in (
           subst (λ o. Confirmed v (taken ++ one_of o)) (sym same_words.taken) (moved_confirmed U D ciphers r.0 v moves (taken ++ one_of r.1.taken) h.0),

@@ -128,7 +128,8 @@ step_appends ciphers w event s (step_kinds.Rests e quiet) kept = same_appends w 
 step_appends ciphers w event s (step_kinds.Shows number x) kept = same_appends w (running_world w) refl
 step_appends ciphers w event s (step_kinds.Acts e number x A halted plan reads there call word asked) kept = after_appends ciphers (running_world w) number _
 step_appends ciphers w event s (step_kinds.BreaksLink number next x a there call) kept = after_appends ciphers (running_world w) number _
-step_appends ciphers w event s (step_kinds.SendsFrom from to datagram x a there call target) kept = sent_appends w from to datagram _ _ (node_outcome ciphers w from _)
+step_appends ciphers w event s (step_kinds.SendsFrom from to datagram x a there call target) kept =
+    sent_appends w from to datagram _ _ (node_outcome ciphers w from _)
     (after_appends ciphers (running_world w) from _)
 step_appends ciphers w event s (step_kinds.AllowsMeter number y c psk there call meter) kept = after_appends ciphers (running_world w) 0 _
 step_appends ciphers w event s (step_kinds.Sets e quiet number x plan there open_is is) kept = after_appends ciphers (set_up w) number _
@@ -140,7 +141,8 @@ step_appends ciphers w event s (step_kinds.Provides number x c psk g d ne open_i
     let v : World = world_after ciphers (set_up w) 0 d in
     let p = acts x (Ok tt) (λ m. meters.provision m g) in
     appends_both (set_up w) v (world_after ciphers v number p) (after_appends ciphers (set_up w) 0 d) (after_appends ciphers v number p)
-step_appends ciphers w event s (step_kinds.TurnsDown e number x octets reason d there says comes same is) kept = after_appends ciphers (running_world w) number d
+step_appends ciphers w event s (step_kinds.TurnsDown e number x octets reason d there says comes same is) kept =
+    after_appends ciphers (running_world w) number d
 step_appends ciphers w event s (step_kinds.Hears e number x octets cost got there says comes low is) kept = after_appends ciphers (running_world w) number _
 step_appends ciphers w event s (step_kinds.Loses number f there) kept = absurd (kept tt)
 step_appends ciphers w event s (step_kinds.Ticks seconds) kept =
@@ -310,7 +312,8 @@ module _ (home : ℕ → ℕ) (apart : (i j : ℕ) → home i ≡ home j → i �
 
   chosen_held : (number count : ℕ) (x : Node) (psk : Key) → node_at w number ≡ Some x
       → Custody network (λ _ f. live w f) S home
-      (world_after network (running_world w) number (reaches x (beside_at w number) (Err choices.Halted) (λ y. choose_agent (identity network x psk) y count w.clock)))
+      (world_after network (running_world w) number
+      (reaches x (beside_at w number) (Err choices.Halted) (λ y. choose_agent (identity network x psk) y count w.clock)))
       before
   chosen_held number count x psk there =
       after_at network network_opens_again S home (live w) before (running_world w) number x
@@ -380,13 +383,15 @@ module _ (home : ℕ → ℕ) (apart : (i j : ℕ) → home i ≡ home j → i �
   line_done_is event says kept st (Opens begun) = λ falls later up_at is_sent honest.
       silent event _ None refl (falls_on network live S home w _ before (same_now S home (live w) before w _ refl refl refl held) falls)
   line_done_is event says kept st (Anew e v t moves quiet) = λ falls later up_at is_sent honest.
-      silent event v t.happenings.up quiet.up (falls_on network live S home w v before (moved_now S home (live w) before (running_world w) v moves ran_held) falls)
+      silent event v t.happenings.up quiet.up
+      (falls_on network live S home w v before (moved_now S home (live w) before (running_world w) v moves ran_held) falls)
   line_done_is event says kept st (After e q v t old fine runs moves same_words) = λ falls later up_at is_sent honest.
       let unforged = sym same_words.forged ∙ honest in
       let was = same_done event says q (old.same q refl) (homed_then event says q v old fine runs moves unforged later)
       (subst (λ o. IfSome o (λ (u : Handed). ComesTo event u.node)) same_words.up up_at) (λ z is. is_sent z (same_words.sent ∙ is)) unforged in
       record {
-        custody = falls_on network live S home q.0 v (before ++ option_to_list t.happenings.up) (then_done event says q v t.happenings.up same_words.up moves was)
+        custody =
+            falls_on network live S home q.0 v (before ++ option_to_list t.happenings.up) (then_done event says q v t.happenings.up same_words.up moves was)
             (falls_then event says q v old fine runs moves unforged);
         handed = λ u is. was.handed u (sym same_words.up ∙ is);
       }
@@ -405,7 +410,8 @@ module _ (home : ℕ → ℕ) (apart : (i j : ℕ) → home i ≡ home j → i �
       }
   line_done_is event says kept st (Unbelieves e number x octets got there known comes is) = λ falls later up_at is_sent honest.
       silent event _ None refl (falls_on network live S home w _ before
-      (same_now S home (live w) before (world_after network (running_world w) number (stays (accepting network x octets).node (only answers.Blacklisted))) _ refl refl refl
+      (same_now S home (live w) before (world_after network (running_world w) number (stays (accepting network x octets).node (only answers.Blacklisted))) _
+      refl refl refl
       (rests_held (only answers.Blacklisted) number x octets there)) falls)
   line_done_is event says kept st (Chooses number count x psk ne there pair) = λ falls later up_at is_sent honest.
       silent event _ None refl (falls_on network live S home w _ before

@@ -38,9 +38,11 @@ use Rattle.line_rules.specs.Answers.{Reception}
 use Rattle.line_events.specs.Events.{IsEvent}
 use Rattle.line_rules.specs.Forgery.{Comes, OfFlight, OfScript, accepting}
 use Rattle.line_rules.specs.Further.{line_step, checks, bcast, broadcasts_by, path, asks_by, scan, scans_by, choose, chooses_by, discovers_by, commanded}
-use Rattle.line_rules.specs.Further.{checked, acknowledged_if, acknowledged, acknowledging, unbelieved, hearing_outcome_by, further_hearing_outcome, is_dropped, accepted_further}
+use Rattle.line_rules.specs.Further.{checked, acknowledged_if, acknowledged, acknowledging, unbelieved, hearing_outcome_by, further_hearing_outcome, is_dropped}
+use Rattle.line_rules.specs.Further.{accepted_further}
 use Rattle.line_rules.specs.Further.{comes, delivers, injects, ticks, after_ok, due, with_check, restarts_by, restarts_further}
-use Rattle.line_rules.specs.Steps.{Step, set_up, running_world, happenings, trace_of, has_begun, takes_setup, once_begun, in_setup, on_node, on_meter, on_flight, psk_of}
+use Rattle.line_rules.specs.Steps.{Step, set_up, running_world, happenings, trace_of, has_begun, takes_setup, once_begun, in_setup, on_node, on_meter}
+use Rattle.line_rules.specs.Steps.{on_flight, psk_of}
 use Rattle.line_rules.specs.Steps.{node_outcome, ticked, hearing_step, hearing_outcome, note_by, restarts, tick}
 use Rattle.line_rules.specs.Worlds.{World, Flight, Trace, node_at, flight_at}
 use Rattle.line_laws.proofs.IssueNodes.{acts_whole}
@@ -106,7 +108,8 @@ module _ (ciphers : Ciphers) (w : World) (number : ℕ) (x : Node) (octets : Lis
       by_command None e = by_checks w.checks_on
       by_command (Some c) e = IsCommand c e
 
-      by_dropped : (b : Bool) → IsSo (if b then unbelieved ciphers w number y octets got else hearing_outcome_by ciphers w number y octets got cost (command_of got))
+      by_dropped : (b : Bool) → IsSo
+          (if b then unbelieved ciphers w number y octets got else hearing_outcome_by ciphers w number y octets got cost (command_of got))
       by_dropped true = IsUnbelieved
       by_dropped false = by_command (command_of got) refl
 
@@ -228,7 +231,8 @@ module _ (ciphers : Ciphers) (w : World) where
           → Is event (Ok (accepted_further ciphers w number octets cost (accepting ciphers x octets)))
       by_answer (Err reason) e = rw e (Old event _ (TurnsDown event number x octets reason (accepting ciphers x octets) there says outcome_of_arrival refl e))
       by_answer (Ok got) e = rw e
-          (Takes event number x octets cost got (further_hearing_outcome ciphers w number (taker ciphers x octets) octets got cost) there says outcome_of_arrival low e
+          (Takes event number x octets cost got (further_hearing_outcome ciphers w number (taker ciphers x octets) octets got cost) there says
+          outcome_of_arrival low e
           (further_is ciphers w number x octets got cost))
 
       by_kind : (b : Bool) → is_discovery octets ≡ b

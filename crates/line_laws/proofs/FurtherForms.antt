@@ -99,7 +99,8 @@ abbrev pub drafted : Beside → List Write → List UnsealedUnit → Reaching Me
 drafted b ps us x = record { puts = ps; memory = record { memory = x.memory; beside = b }; units = us; plain = []; made = []; opened = [] }
 
 module _ (U : List UnsealedUnit → Type 0) where
-  pub sealed_is : {H E : Type 0} (ends : Ends E) (x : Reaching Memory) (b : Beside) (ps : List Write) (us : List UnsealedUnit) (answer : H) → Each IsOfLog ps → U us
+  pub sealed_is : {H E : Type 0} (ends : Ends E) (x : Reaching Memory) (b : Beside) (ps : List Write) (us : List UnsealedUnit) (answer : H) → Each IsOfLog ps
+      → U us
       → length us ≤ 1
       → IsFurther U x.memory (of_memory (sealed (in_reach in_memory) ends x (drafted b ps us x) answer))
   unfolding sealed resting

@@ -99,7 +99,8 @@ module _ (m : Memory) (b : Beside) (own : meters.Identity) (k now : ℕ) where
 
 -- # Moves
 
-pub moved_keyed : (U : List UnsealedUnit → Type 0) (D : Discovery → Type 0) (ciphers : Ciphers) (fits : KeepsRanges ciphers) (v u : World) → Moves U D ciphers v u
+pub moved_keyed : (U : List UnsealedUnit → Type 0) (D : Discovery → Type 0) (ciphers : Ciphers) (fits : KeepsRanges ciphers) (v u : World)
+    → Moves U D ciphers v u
     → WorldOk v → v.running ≡ true → (given : List Issued) → Keyed v given → Keyed u given
 moved_keyed U D ciphers fits v u (Stays z) ok runs given k = k
 moved_keyed U D ciphers fits v u (Carries z number x A halted does there is) ok runs given k =

@@ -61,7 +61,8 @@ module _ (w : World) (ok : WorldOk w) where
       reached : (bs : List Beside) → WorldOk (record (world_after ciphers (running_world w) number (reaches x b halted plan)) { beside = bs })
       reached bs =
           let v : World = world_after ciphers (running_world w) number (reaches x b halted plan) in
-          counts_ok v (record v { beside = bs }) (ok_after ciphers fits (running_world w) number x (reaches x b halted plan) ran_ok there did (λ e. absurd (true_false e)))
+          counts_ok v (record v { beside = bs })
+          (ok_after ciphers fits (running_world w) number x (reaches x b halted plan) ran_ok there did (λ e. absurd (true_false e)))
           refl refl (λ e. e)
 
     broadcast_holds : (datagram : List ℕ) → LineHolds (broadcasts_by ciphers w number x datagram)
@@ -87,7 +88,8 @@ module _ (w : World) (ok : WorldOk w) where
     unsaid : (frame : Discovery) (P : NonceParts → Type 0) → IfSome (nonce_parts (discovery_flight number frame)) P
     unsaid frame P = subst (λ o. IfSome o P) (sym (discovery_nonce frame)) tt
 
-    pub flown_ok : (frame : Discovery) (bs : List Beside) → WorldOk (record (running_world w) { flights = w.flights ++ discovery_flight number frame ∷ []; beside = bs })
+    pub flown_ok : (frame : Discovery) (bs : List Beside)
+        → WorldOk (record (running_world w) { flights = w.flights ++ discovery_flight number frame ∷ []; beside = bs })
     flown_ok frame bs = record {
       nodes = ok.nodes;
       fits = ok.fits;
@@ -139,7 +141,8 @@ discovery_keeps w ok number x there = (scan_holds w ok number x there x.memory, 
 
 -- # Commands
 
-module _ (ciphers : Ciphers) (fits : KeepsRanges ciphers) (r : World × Trace) (ok : WorldOk r.0) (runs : r.0.running ≡ true) (silent : r.1.happenings.flights ≡ 0)
+module _ (ciphers : Ciphers) (fits : KeepsRanges ciphers) (r : World × Trace) (ok : WorldOk r.0) (runs : r.0.running ≡ true)
+    (silent : r.1.happenings.flights ≡ 0)
     (number : ℕ) (x : Node) (there : node_at r.0 number ≡ Some x) (logs : (m : Memory) → x.memory ≡ Some m → LogFits (beside_at r.0 number)) where
   not_both : r.0.running ≡ false → ⊥
   not_both e = cc (runs, e)

@@ -41,7 +41,8 @@ use Rattle.line_laws.specs.Owed.{KeepsRanges}
 use Rattle.line_laws.specs.Stores.{IsBookKept}
 use Rattle.line_laws.proofs.AddressBook.{Grows}
 use Rattle.line_laws.proofs.BookGrowth.{Goes}
-use Rattle.line_laws.proofs.FurtherEvents.{IsHeard, checks_so, further_is, hearing, outcome_of_command, none_accepts, taker, IsUnbelieved, IsPlain, IsCommand, IsChecked}
+use Rattle.line_laws.proofs.FurtherEvents.{IsHeard, checks_so, further_is, hearing, outcome_of_command, none_accepts, taker, IsUnbelieved, IsPlain, IsCommand}
+use Rattle.line_laws.proofs.FurtherEvents.{IsChecked}
 use Rattle.line_laws.proofs.FurtherEvents.{IsAnswered}
 use Rattle.line_laws.proofs.FurtherForms.{AnyUnits}
 use Rattle.line_laws.proofs.FurtherGrowth.{GoesIn, any_line, line_goes}

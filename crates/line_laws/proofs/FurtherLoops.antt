@@ -61,7 +61,8 @@ module _ (ciphers : Ciphers) (fits : KeepsRanges ciphers) (w : World) (ok : Worl
   abbrev GoesTo : World → Type 0
   GoesTo v = Goes ciphers fits w ok flown given k v
 
-  moved_goes : (U : List UnsealedUnit → Type 0) (D : Discovery → Type 0) (v u : World) → Moves U D ciphers v u → WorldOk v → v.running ≡ true → (more : List Issued)
+  moved_goes : (U : List UnsealedUnit → Type 0) (D : Discovery → Type 0) (v u : World) → Moves U D ciphers v u → WorldOk v → v.running ≡ true
+      → (more : List Issued)
       → Keyed v more → length w.nodes ≤ length v.nodes → 0 < length w.nodes → GoesTo v → GoesTo u
   moved_goes U D v u moves fine runs more kv longer some g = record {
     grows = λ c there b kept.
@@ -95,7 +96,8 @@ module _ (ciphers : Ciphers) (fits : KeepsRanges ciphers) (w : World) (ok : Worl
     line_goes_is event says (Err fault) (Known e z old) = tt
     line_goes_is event says s (Opens begun) = λ honest some. record { grows = ran_goes.grows; euis = ran_goes.euis }
     line_goes_is event says s (Anew e v t moves silent) = λ honest some.
-        moved_goes U D (running_world w) v moves (steps_ran_ok ciphers fits w ok flown) refl given (same_keyed w (running_world w) given k refl refl) (omega arith) some ran_goes
+        moved_goes U D (running_world w) v moves (steps_ran_ok ciphers fits w ok flown) refl given (same_keyed w (running_world w) given k refl refl)
+        (omega arith) some ran_goes
     line_goes_is event says s (After e r v t old fine runs moves same_words) = λ honest some.
         after_goes event says r v old fine runs moves (old_on ciphers w event r old).nodes (sym same_words.forged ∙ honest) some
     line_goes_is event says s (Unsends e r v t old fine runs moves same_words) = λ honest some.

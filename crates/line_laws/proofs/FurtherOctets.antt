@@ -54,7 +54,8 @@ use Rattle.node_rules.specs.Plans.{Plan, resting, within}
 use Rattle.reach_rules.specs.declared.refusal.ChooseRefusal.{ChooseRefusal}
 use Rattle.reach_rules.specs.declared.refusal.ChooseRefusal.TheVariants as choices
 use Rattle.reach_rules.specs.declared.refusal.DiscoveryDropped.TheVariants as scan_drops
-use Rattle.reach_rules.specs.Beacons.{ChosenAgent, beacons, choose_agent, choosing_ends, cost_to_coordinator, hear_discovery_in, is_foreign, joins_by, takes_beacon}
+use Rattle.reach_rules.specs.Beacons.{ChosenAgent, beacons, choose_agent, choosing_ends, cost_to_coordinator, hear_discovery_in, is_foreign, joins_by}
+use Rattle.reach_rules.specs.Beacons.{takes_beacon}
 use Rattle.reach_rules.specs.Beacons.{takes_beacons, stays as stays_scan}
 use Rattle.reach_rules.specs.Broadcasts.{hop_less, own_broadcast}
 use Rattle.reach_rules.specs.CheckedReplies.{acknowledges}
@@ -256,7 +257,8 @@ beacons_spelled r l scan (Some (requests.Request seq)) link = by_address (addres
     by_cost own None = tt
     by_cost own (Some cost) = beacon_spelled own cost
 
-    by_address : (a : Option ℕ) → SentSpelled (option_map_or (λ own. beacons scan own (cost_to_coordinator r l)) a (stays_scan scan (Err scan_drops.NotForMe))).sent
+    by_address : (a : Option ℕ) → SentSpelled
+        (option_map_or (λ own. beacons scan own (cost_to_coordinator r l)) a (stays_scan scan (Err scan_drops.NotForMe))).sent
     by_address None = tt
     by_address (Some own) = by_cost own (cost_to_coordinator r l)
 beacons_spelled r l scan (Some (requests.Beacon seq pan from cost)) link = by_tests (is_foreign l pan from) (takes_beacons l scan)
@@ -306,7 +308,8 @@ module _ (w : World) (ok : WorldOk w) (s : WorldSpeaks w) (logs : LogsKept w) wh
       record { nodes = t.nodes; flights = t.flights }
   line_speaks event st (Chooses number k x psk ne there pair) =
       let fit = at_place NodeFits w.nodes number x there ok.fits in
-      let t = after_speaks (running_world w) number (reaches x (beside_at w number) (Err choices.Halted) (λ y. choose_agent (identity network x psk) y k w.clock))
+      let t = after_speaks (running_world w) number
+      (reaches x (beside_at w number) (Err choices.Halted) (λ y. choose_agent (identity network x psk) y k w.clock))
       ran_octets
       (acts_speaks x (Err choices.Halted) (with_beside (beside_at w number) (λ y. choose_agent (identity network x psk) y k w.clock))
       (at_place NodeSpeaks w.nodes number x there s.nodes)

@@ -63,7 +63,8 @@ use Rattle.node_rules.specs.Plans.{Plan, resting, within}
 use Rattle.reach_rules.specs.declared.refusal.ChooseRefusal.{ChooseRefusal}
 use Rattle.reach_rules.specs.declared.refusal.ChooseRefusal.TheVariants as choices
 use Rattle.reach_rules.specs.declared.refusal.DiscoveryDropped.TheVariants as scan_drops
-use Rattle.reach_rules.specs.Beacons.{ChosenAgent, beacons, choose_agent, choosing_ends, cost_to_coordinator, hear_discovery_in, is_foreign, joins_by, takes_beacon}
+use Rattle.reach_rules.specs.Beacons.{ChosenAgent, beacons, choose_agent, choosing_ends, cost_to_coordinator, hear_discovery_in, is_foreign, joins_by}
+use Rattle.reach_rules.specs.Beacons.{takes_beacon}
 use Rattle.reach_rules.specs.Beacons.{takes_beacons, stays as stays_scan}
 use Rattle.reach_rules.specs.Broadcasts.{datagram_fault, hop_less, own_broadcast}
 use Rattle.reach_rules.specs.CheckedReplies.{acknowledges, message_of}
@@ -497,7 +498,8 @@ module _ (w : World) (ok : WorldOk w) (s : WorldSpeaks w) (r : WorldRanged w) wh
       (record { station = left.station; frames = All-nil IsSent }) in
       record { nodes = t.nodes; flights = t.flights }
   line_ranged_is event st (Chooses number k x psk ne there pair) = λ honest.
-      let t = after_ranged (running_world w) number (reaches x (beside_at w number) (Err choices.Halted) (λ y. choose_agent (identity network x psk) y k w.clock))
+      let t = after_ranged (running_world w) number
+      (reaches x (beside_at w number) (Err choices.Halted) (λ y. choose_agent (identity network x psk) y k w.clock))
       ran_ranged (choice_ranged number k x psk there) in
       record { nodes = t.nodes; flights = t.flights }
 

@@ -73,7 +73,8 @@ use Rattle.line_rules.specs.Forgery.{Comes, IsForged, accepting}
 use Rattle.line_rules.specs.Further.{line_step, agent_line, asks_by, beacon_taken, beside_at, broadcasts_by, choice_word, chooses_by, commanded, discovers_by}
 use Rattle.line_rules.specs.Further.{discovery_flights, due, due_of, has_discovered, is_reply_taken, acknowledged, acknowledging, adds_frames, bcast, of_memory}
 use Rattle.line_rules.specs.Further.{restarts_by, scanning, unbelieved, scans_by, sends_nothing, with_beside}
-use Rattle.line_rules.specs.Steps.{Step, node_outcome, forged_by, happenings, has_begun, identity, is_taken, note_by, running_world, set_up, world_after, trace_of}
+use Rattle.line_rules.specs.Steps.{Step, node_outcome, forged_by, happenings, has_begun, identity, is_taken, note_by, running_world, set_up, world_after}
+use Rattle.line_rules.specs.Steps.{trace_of}
 use Rattle.line_rules.specs.Traces.{Adds, IsTracedRight, is_broadcast, is_done, is_issue, is_took, is_up}
 use Rattle.line_rules.specs.Worlds.{World, Trace, Further, Noticed, nothing_further, node_at}
 use Rattle.line_rules.specs.Runs.{Entry}
@@ -383,7 +384,8 @@ module _ (ciphers : Ciphers) (w : World) where
 
   finds_right : (n : ℕ) (event : Event) (number : ℕ) (x : Node) (octets : List ℕ) (link : ℕ) → NoneCame ciphers w event → (o : Option Memory)
       → Right ciphers w (entry n event (discovers_by w number x octets link o))
-  finds_right n event number x octets link came None = still_right ciphers w n event (running_world w) answers.Halted (refl, refl, refl, refl, refl) came (ran_counted w)
+  finds_right n event number x octets link came None =
+      still_right ciphers w n event (running_world w) answers.Halted (refl, refl, refl, refl, refl) came (ran_counted w)
       (omega arith) (sym (append-nil w.made))
   finds_right n event number x octets link came (Some m) =
       let d = hear_discovery x.role m.station (beside_at w number).scan octets link in

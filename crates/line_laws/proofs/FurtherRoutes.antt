@@ -251,10 +251,12 @@ module _ (h : Homes) (w : World) (ok : WorldOk w) (s : WorldSpeaks w) (r : World
       → Reached network h w (world_after network (running_world w) number
       (reaches x (beside_at w number) (Err choices.Halted) (λ y. choose_agent (identity network x psk) y k w.clock)))
   chosen_reached number k x psk there =
-      after_keeps h w (running_world w) number x (reaches x (beside_at w number) (Err choices.Halted) (λ y. choose_agent (identity network x psk) y k w.clock)) there
+      after_keeps h w (running_world w) number x (reaches x (beside_at w number) (Err choices.Halted) (λ y. choose_agent (identity network x psk) y k w.clock))
+      there
       (acts_ranks (At h number) (Own h number) (IsNearer h (running_world w)) x (Err choices.Halted)
       (with_beside (beside_at w number) (λ y. choose_agent (identity network x psk) y k w.clock)) (good_at number x there)
-      (λ m here kept. chosen_ranks (At h number) (Own h number) (IsNearer h (running_world w)) m (at_home h w homes.addressed number x m there here) (beside_at w number)
+      (λ m here kept. chosen_ranks (At h number) (Own h number) (IsNearer h (running_world w)) m (at_home h w homes.addressed number x m there here)
+      (beside_at w number)
       (identity network x psk) k w.clock))
       (choice_ranged w ok s r number k x psk there).frames ran_reached
 

@@ -105,7 +105,8 @@ module _ (m : Memory) where
   further_makes p (Rests a f) = refl
   further_makes p (Goes a f ps us logs one few left) = refl
 
-  further_grown : {A : Type 0} {L : List UnsealedUnit → Type 0} (V : books.Book → Type 0) (p : Plan Memory A) → IsFurther L m p → Leads (Grown V) m p.puts p.memory
+  further_grown : {A : Type 0} {L : List UnsealedUnit → Type 0} (V : books.Book → Type 0) (p : Plan Memory A) → IsFurther L m p
+      → Leads (Grown V) m p.puts p.memory
   unfolding resting
   further_grown V p (Rests a f) = leads_beside (Grown V) m m (λ r k. k)
   further_grown V p (Goes a f ps us logs one few left) =

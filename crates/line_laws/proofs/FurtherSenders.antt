@@ -212,7 +212,8 @@ module _ (ciphers : Ciphers) (fits : KeepsRanges ciphers) (w : World) (ok : Worl
         let halted : Result CommandHeard ReachDropped = Err (reach_drops.Known drops.Store) in
         let does = with_beside (beside_at r.0 number) (λ z. hear_command in_memory z c) in
         let a = acts d.node halted does in
-        let did = further_did d.node halted does heard_did.node (λ m here. known.commands event number x octets got cost c m says outcome_of_arrival there is e here) in
+        let did = further_did d.node halted does heard_did.node
+        (λ m here. known.commands event number x octets got cost c m says outcome_of_arrival there is e here) in
         let same : r.0.flights ≡ w.flights = ap (λ fs. w.flights ++ map (λ frame. flight_by number (spelled ciphers frame)) fs) none ∙ append-nil w.flights in
         sent_now (commanded ciphers number d.node c r).0 number a.node a.frames (ap (λ fs. fs ++ flights_of ciphers number a) same)
         (slice_get-set r.0.nodes number a.node (place_within r.0.nodes number d.node now_there)) did.node did.from
@@ -269,7 +270,8 @@ module _ (ciphers : Ciphers) (fits : KeepsRanges ciphers) (w : World) (ok : Worl
   line_senders event s (Picks number k x psk ne there e) = picks_senders number k x there psk
   line_senders event s (Finds e number x octets link there says outcome_of_arrival is) = finds_senders number x octets link x.memory
   line_senders event s
-      (Takes e number x octets cost got t there says outcome_of_arrival low is how) = heard_senders e number x octets cost got there says outcome_of_arrival is t low how
+      (Takes e number x octets cost got t there says outcome_of_arrival low is how) =
+      heard_senders e number x octets cost got there says outcome_of_arrival is t low how
   line_senders event s (Puts e r bs quiet is) = senders ciphers fits w ok flown e (Ok r) is
   line_senders event s (Unread number x bad there e) = absurd (restarts_read ciphers w logs number x there bad e)
 

@@ -77,11 +77,14 @@ use Rattle.line_rules.specs.Answers.{Reception, coordinator_reception, frame_wor
 use Rattle.line_events.specs.Events.{IsEvent, IsLineOctets}
 use Rattle.line_rules.specs.Further.{line_step, checks, bcast, broadcasts_by, path, asks_by, scan, scans_by, choose, choice_word, chooses_by, discovers_by}
 use Rattle.line_rules.specs.Further.{discovery_flights, commanded, checked, acknowledged_if, acknowledged, acknowledging, adds_frames, sends_nothing}
-use Rattle.line_rules.specs.Further.{unbelieved, hearing_outcome_by, further_hearing_outcome, is_dropped, accepted_further, comes, delivers, injects, ticks, after_ok, due}
+use Rattle.line_rules.specs.Further.{unbelieved, hearing_outcome_by, further_hearing_outcome, is_dropped, accepted_further, comes, delivers, injects, ticks}
+use Rattle.line_rules.specs.Further.{after_ok, due}
 use Rattle.line_rules.specs.Further.{with_check, restarts_by, restarts_further, beside_at, reaches, with_beside, of_memory}
 use Rattle.line_rules.specs.Logs.{AreLogged, HaveShortTables, LogIn, LogsKept}
-use Rattle.line_rules.specs.Steps.{Step, set_up, running_world, world_after, node_outcome, ticked, flights_of, happenings, trace_of, has_begun, takes_setup, once_begun, in_setup}
-use Rattle.line_rules.specs.Steps.{on_node, on_meter, psk_of, identity, on_flight, hearing_step, hearing_outcome, received, forged_by, note_by, restarts, tick, step}
+use Rattle.line_rules.specs.Steps.{Step, set_up, running_world, world_after, node_outcome, ticked, flights_of, happenings, trace_of, has_begun, takes_setup}
+use Rattle.line_rules.specs.Steps.{once_begun, in_setup}
+use Rattle.line_rules.specs.Steps.{on_node, on_meter, psk_of, identity, on_flight, hearing_step, hearing_outcome, received, forged_by, note_by, restarts, tick}
+use Rattle.line_rules.specs.Steps.{step}
 use Rattle.line_rules.specs.Worlds.{World, Flight, Trace, node_at, flight_at, is_forged_tag}
 use Rattle.line_rules.proofs.LogSteps.{logged_at}
 use Rattle.line_laws.specs.FurtherLines.{LineHolds, LineStepsHold, LogFits, LogsFit, StepHolds, TablesAreShort}
@@ -227,7 +230,8 @@ pub record Speaks (U : List UnsealedUnit → Type 0) (D : Discovery → Type 0) 
       → IsFurther U m (with_beside (beside_at w number) (λ y. hear_neighbours in_memory y c) m)
   pub acknowledges : (event : Event) (number : ℕ) (x : Node) (octets : List ℕ) (got : Accepted) (cost : ℕ) (reply : Reply) (m : Memory) → IsEvent event
       → Comes w event number octets → node_at w number ≡ Some x → (accepting ciphers x octets).answer ≡ Ok got
-      → due got.path (message_of got) (hearing_step ciphers (accepting ciphers x octets).node got cost (note_by w octets got.path) w.clock).answer.answer ≡ Some reply
+      → due got.path (message_of got) (hearing_step ciphers (accepting ciphers x octets).node got cost (note_by w octets got.path) w.clock).answer.answer
+      ≡ Some reply
       → (hearing_step ciphers (accepting ciphers x octets).node got cost (note_by w octets got.path) w.clock).node.memory ≡ Some m
       → IsFurther U m (acknowledges in_memory reply.to reply.number reply.origin m)
 
@@ -255,7 +259,8 @@ module _ (U : List UnsealedUnit → Type 0) {A : Type 0} (x : Node) (halted : A)
       by_memory None e = (refl, refl)
       by_memory (Some m) e = by_outcome m (is m e)
 
-same_said_of : (s t : Trace) → t.happenings.forged ≡ s.happenings.forged → t.happenings.up ≡ s.happenings.up → t.sent ≡ s.sent → t.issued ≡ s.issued → t.taken ≡ s.taken
+same_said_of : (s t : Trace) → t.happenings.forged ≡ s.happenings.forged → t.happenings.up ≡ s.happenings.up → t.sent ≡ s.sent → t.issued ≡ s.issued
+    → t.taken ≡ s.taken
     → t.done ≡ s.done → t.made ≡ s.made → t.opened ≡ s.opened → SaysTheSame s t
 same_said_of s t a b c d e f g h = record { forged = a; up = b; sent = c; issued = d; taken = e; done = f; made = g; opened = h }
 
@@ -312,9 +317,11 @@ module _ (U : List UnsealedUnit → Type 0) (D : Discovery → Type 0) (ciphers 
   bcast_step number datagram are = once _ _ (at_node _ number _ (λ x there.
       let is = λ (m : Memory) (e : x.memory ≡ Some m). speaks.broadcasts number x m datagram are there e in
       let n = makes_none U x (Err broadcasts.Halted) (with_beside (beside_at w number) (λ y. broadcast in_memory y datagram)) is in
-      let v : World = world_after ciphers (running_world w) number (reaches x (beside_at w number) (Err broadcasts.Halted) (λ y. broadcast in_memory y datagram)) in
+      let v : World = world_after ciphers (running_world w) number
+      (reaches x (beside_at w number) (Err broadcasts.Halted) (λ y. broadcast in_memory y datagram)) in
       Anew _ (broadcasts_by ciphers w number x datagram).0 (broadcasts_by ciphers w number x datagram).1
-      (Turns (running_world w) v _ (Carries (running_world w) number x _ (Err broadcasts.Halted) (with_beside (beside_at w number) (λ y. broadcast in_memory y datagram)) there is)
+      (Turns (running_world w) v _ (Carries (running_world w) number x _ (Err broadcasts.Halted)
+      (with_beside (beside_at w number) (λ y. broadcast in_memory y datagram)) there is)
       (Besides v v.checks_on (broadcasts_by ciphers w number x datagram).0.beside))
       (record { forged = refl; up = refl; sent = refl; issued = refl; taken = refl; done = refl; made = n.0; opened = n.1 })))
 
@@ -325,7 +332,8 @@ module _ (U : List UnsealedUnit → Type 0) (D : Discovery → Type 0) (ciphers 
       let n = makes_none U x (Err asks.Halted) (with_beside (beside_at w from) (λ y. ask_path in_memory y target)) is in
       let v : World = world_after ciphers (running_world w) from (reaches x (beside_at w from) (Err asks.Halted) (λ y. ask_path in_memory y target)) in
       Anew _ (asks_by ciphers w from x (Some target)).0 (asks_by ciphers w from x (Some target)).1
-      (Turns (running_world w) v _ (Carries (running_world w) from x _ (Err asks.Halted) (with_beside (beside_at w from) (λ y. ask_path in_memory y target)) there is)
+      (Turns (running_world w) v _ (Carries (running_world w) from x _ (Err asks.Halted) (with_beside (beside_at w from) (λ y. ask_path in_memory y target))
+      there is)
       (Besides v v.checks_on (asks_by ciphers w from x (Some target)).0.beside))
       (record { forged = refl; up = refl; sent = refl; issued = refl; taken = refl; done = refl; made = n.0; opened = n.1 })
 
@@ -416,7 +424,8 @@ module _ (U : List UnsealedUnit → Type 0) (D : Discovery → Type 0) (ciphers 
   restart_step number says = by_node (has_begun w) (node_at w number) refl (old (events.Restart number) says)
     where
       by_node : (b : Bool) (o : Option Node) → node_at w number ≡ o
-          → Old (events.Restart number) (if b then option_map_or (λ x. Ok (node_outcome ciphers w number (restarts x))) o (Err faults.Node) else Err faults.Setup)
+          → Old (events.Restart number) (if b then option_map_or (λ x. Ok (node_outcome ciphers w number (restarts x))) o (Err faults.Node)
+          else Err faults.Setup)
           → Is (events.Restart number) (if b then option_map_or (λ x. Ok (restarts_by ciphers w number x (restarted x.store.records))) o (Err faults.Node) else
           Err faults.Setup)
       by_node false o e known = failed _ faults.Setup
@@ -751,7 +760,8 @@ module _ (U : List UnsealedUnit → Type 0) (D : Discovery → Type 0) (ciphers 
     line_follows event s (Known e t is) = follows ciphers fits w ok flown_are event s is
     line_follows event s (Opens begun) = same_follows w _ refl
     line_follows event s (Anew e v t moves silent) = moved_follows w (running_world w) v (same_follows w (running_world w) refl) moves ran_good refl
-    line_follows event s (After e r v t is good runs moves same_words) = moved_follows w r.0 v (follows ciphers fits w ok flown_are event (Ok r) is) moves good runs
+    line_follows event s (After e r v t is good runs moves same_words) =
+        moved_follows w r.0 v (follows ciphers fits w ok flown_are event (Ok r) is) moves good runs
     line_follows event s (Unsends e r v t is good runs moves same_words) =
         let f = moved_follows w r.0 v (follows ciphers fits w ok flown_are event (Ok r) is) moves good runs in
         record { at = λ n y here. let l = f.at n y here in record { node = l.node; there = l.there; role = l.role; eui = l.eui; raised = l.raised } }
@@ -768,7 +778,8 @@ module _ (U : List UnsealedUnit → Type 0) (D : Discovery → Type 0) (ciphers 
         let did : DidOk x d = acts_ok x (Err choices.Halted) (with_beside (beside_at w number) (λ y. choose_agent (identity ciphers x psk) y k w.clock))
         (at_place NodeOk w.nodes number x there ok.nodes)
         (λ m here kept sized. choice_ok x.role m sized ciphers fits (identity ciphers x psk) refl (beside_at w number) k w.clock) in
-        after_follows w (running_world w) _ number x d (same_follows w (running_world w) refl) there (after_nodes ciphers (running_world w) number d) (of_did x d did)
+        after_follows w (running_world w) _ number x d (same_follows w (running_world w) refl) there (after_nodes ciphers (running_world w) number d)
+        (of_did x d did)
 
 rises_in : (ciphers : Ciphers) (fits : KeepsRanges ciphers) (w : World) (ok : WorldOk w) (flown_are : All FlightFits w.flights) (s : Step)
     → FollowsIn ciphers fits w ok flown_are s → RisesIn w s

@@ -77,10 +77,12 @@ use Rattle.line_rules.specs.Answers.{Reception, coordinator_reception, frame_wor
 use Rattle.line_events.specs.Events.{IsEvent}
 use Rattle.line_rules.specs.Further.{line_step, checks, bcast, broadcasts_by, path, asks_by, scan, scans_by, choose, choice_word, chooses_by, discovers_by}
 use Rattle.line_rules.specs.Further.{discovery_flights, commanded, checked, acknowledged_if, acknowledged, acknowledging, adds_frames, sends_nothing}
-use Rattle.line_rules.specs.Further.{unbelieved, hearing_outcome_by, further_hearing_outcome, is_dropped, accepted_further, comes, delivers, injects, ticks, after_ok, due}
+use Rattle.line_rules.specs.Further.{unbelieved, hearing_outcome_by, further_hearing_outcome, is_dropped, accepted_further, comes, delivers, injects, ticks}
+use Rattle.line_rules.specs.Further.{after_ok, due}
 use Rattle.line_rules.specs.Further.{with_check, restarts_by, restarts_further, beside_at, reaches, with_beside, of_memory}
 use Rattle.line_rules.specs.Logs.{AreLogged, HaveShortTables, LogIn, LogsKept}
-use Rattle.line_rules.specs.Steps.{Step, set_up, running_world, world_after, flights_of, happenings, trace_of, has_begun, takes_setup, once_begun, in_setup, on_node}
+use Rattle.line_rules.specs.Steps.{Step, set_up, running_world, world_after, flights_of, happenings, trace_of, has_begun, takes_setup, once_begun, in_setup}
+use Rattle.line_rules.specs.Steps.{on_node}
 use Rattle.line_rules.specs.Steps.{on_meter}
 use Rattle.line_rules.specs.Steps.{psk_of, identity, on_flight, hearing_step, hearing_outcome, received, forged_by, note_by, restarts, tick, step}
 use Rattle.line_rules.specs.Worlds.{World, Flight, Trace, node_at, flight_at, is_forged_tag}
@@ -410,7 +412,8 @@ module _ (ciphers : Ciphers) (fits : KeepsRanges ciphers) (w : World) (ok : Worl
       (λ m here kept sized. choice_ok x.role m sized ciphers fits (identity ciphers x psk) refl (beside_at w number) k w.clock) in
       let v : World = world_after ciphers (running_world w) number d in
       Taken (chooses_by ciphers w number x k (Some psk)) (counts_ok v (chooses_by ciphers w number x k (Some psk)).0
-      (ok_after ciphers fits (running_world w) number x d ran_ok there did (λ e. absurd (true_false e))) refl refl (λ e. e)) did.few (after_more ciphers (running_world w) number d)
+      (ok_after ciphers fits (running_world w) number x d ran_ok there did (λ e. absurd (true_false e))) refl refl (λ e. e)) did.few
+      (after_more ciphers (running_world w) number d)
 
   choose_good : (number k : ℕ) → StepGood w (choose ciphers w number k)
   unfolding choose
@@ -447,7 +450,8 @@ module _ (ciphers : Ciphers) (fits : KeepsRanges ciphers) (w : World) (ok : Worl
 
       pub heard_ok : WorldOk r.0
       heard_ok =
-          counts_ok (world_after ciphers (running_world w) number d) r.0 (ok_after ciphers fits (running_world w) number x d ran_ok there heard_did (λ e. absurd (true_false e)))
+          counts_ok (world_after ciphers (running_world w) number d) r.0
+          (ok_after ciphers fits (running_world w) number x d ran_ok there heard_did (λ e. absurd (true_false e)))
           refl refl (λ e. e)
 
       heard_good : StepGood w (Ok r)

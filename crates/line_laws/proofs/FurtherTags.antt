@@ -181,7 +181,8 @@ module _ (U : List UnsealedUnit → Type 0) (D : Discovery → Type 0) (ciphers 
       let d : NodeStep (Result ChosenAgent ChooseRefusal) = reaches x (beside_at w number) (Err choices.Halted) (λ y. choose_agent own y k w.clock) in
       let leaves = acts_leave x (Err choices.Halted) (with_beside (beside_at w number) (λ y. choose_agent own y k w.clock))
       (λ m here. choice_away m own (beside_at w number) k w.clock) in
-      then_kept w (running_world w) (world_after ciphers (running_world w) number d) None None ran_tags (after_kept ciphers (running_world w) number x d there leaves) refl
+      then_kept w (running_world w) (world_after ciphers (running_world w) number d) None None ran_tags
+      (after_kept ciphers (running_world w) number x d there leaves) refl
 
   pub line_tags : (event : Event) (s : Step) → IsLineStep U D ciphers w event s → Counts s
   unfolding world_after
@@ -206,8 +207,10 @@ module _ (U : List UnsealedUnit → Type 0) (D : Discovery → Type 0) (ciphers 
       (as_sent (world_after ciphers (running_world w) number d) _ None a refl, refl)
   line_tags event s (Chooses number k x psk ne there e) =
       let own = identity ciphers x psk in
-      let d : NodeStep (Result ChosenAgent ChooseRefusal) = reaches x (beside_at w number) (Err choices.Halted) (λ y. choose_agent own y k w.clock) in
-      (as_sent (world_after ciphers (running_world w) number d) (chooses_by ciphers w number x k (Some psk)).0 None (chooses_tags number k x own there) refl, refl)
+      let d : NodeStep (Result ChosenAgent ChooseRefusal) = reaches x (beside_at w number) (Err choices.Halted) (λ y. choose_agent own y k w.clock) in (
+        as_sent (world_after ciphers (running_world w) number d) (chooses_by ciphers w number x k (Some psk)).0 None (chooses_tags number k x own there) refl,
+        refl,
+      )
 
   tags_in : (sent : List Sending) → TagsOk w sent → w.events < 50000 → (s : Step) → Counts s → TagsIn sent s
   tags_in sent tags few (Ok r) c = next_tags w r.0 sent tags few c.1 r.1.sent c.0

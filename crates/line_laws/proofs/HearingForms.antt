@@ -33,7 +33,8 @@ use Rattle.node_rules.specs.Hearing.{hear_error, loses, pass_error_on, report_by
 use Rattle.node_rules.specs.Hearing.{hear_sealed, is_joining, hear_plain, hear_unit, hear_unit_in, hear}
 use Rattle.node_rules.proofs.Words.{IsDone, learns_done, sends_on_done, answers_done, goes_done, error_done, error_on_done}
 use Rattle.line_laws.proofs.Planned.{Planned, Refuses, Keeps, checked_planned, choose_planned, sealed_planned}
-use Rattle.line_laws.proofs.Made.{RingWord, Given, IsCome, MessageCame, Offered, ByRequest, ByReply, IsLess, Whole, Part, Carried, RankFits, mesh_of, ByError, OnWay}
+use Rattle.line_laws.proofs.Made.{RingWord, Given, IsCome, MessageCame, Offered, ByRequest, ByReply, IsLess, Whole, Part, Carried, RankFits, mesh_of, ByError}
+use Rattle.line_laws.proofs.Made.{OnWay}
 use Rattle.line_laws.proofs.Made.{IsAlone, Unnoted, Alone, Answers, Relays, Passes, SaysTheSame, Forwards, Made, Starts, Ranks, Numbers, Loses, Goes, Leaves}
 
 -- # What a station answers beside the store
@@ -165,7 +166,8 @@ module _ (W : RingWord → Type 0) (g : Given) (l : StationMemory) where
       (λ left. sealed_planned _ _ (answers_made own by origin number c dest _ came_so here p o left, answers_done l own origin _ by g.now _ _ _, tt)))
       (λ other. sealed_planned _ _ (relays_made own by origin dest number c _ came_so here p o, sends_on_done l own origin _ by g.now _ _ _, tt)))
 
-  reply_for_is : (own by number c origin to : ℕ) (hop : Option ℕ) → next_hop l to ≡ hop → address_of l ≡ Some own → MessageCame g by false (Rrep number c origin to)
+  reply_for_is : (own by number c origin to : ℕ) (hop : Option ℕ) → next_hop l to ≡ hop → address_of l ≡ Some own
+      → MessageCame g by false (Rrep number c origin to)
       → Is (hear_reply_for l own by origin to (rank_over number c g.cost) g.now hop)
   reply_for_is own by number c origin to None there here came_so = Refuses _
   reply_for_is own by number c origin to (Some hop) there here came_so = checked_planned (λ e.

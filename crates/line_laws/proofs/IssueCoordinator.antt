@@ -37,7 +37,8 @@ use Rattle.eap_psk.specs.Sessions.{rand_p_in}
 use Rattle.node_rules.specs.MemoryDrafts.{in_memory, with_station, goes_up, goes_down, oldest, without_oldest, Unread, unread, with_memory_by, with_pair_tags}
 use Rattle.node_rules.specs.MemoryDrafts.{on_station, station_part}
 use Rattle.node_rules.specs.Coordinators.{Hearing, CoordinatorIdentity, drop_it, ends, session_of, with_session, without_session, grant_for, says}
-use Rattle.node_rules.specs.Coordinators.{with_book_entry, declines, challenges, open_session, join_without_packet, keys_for, take_second, accepts, take_fourth, take_packet}
+use Rattle.node_rules.specs.Coordinators.{with_book_entry, declines, challenges, open_session, join_without_packet, keys_for, take_second, accepts, take_fourth}
+use Rattle.node_rules.specs.Coordinators.{take_packet}
 use Rattle.node_rules.specs.Coordinators.{join_with_packet, hear_join, hear_join_in, heard_by, hear_coordinator, allowed_entry}
 use Rattle.node_rules.proofs.MemoryDraftShapes.{whole}
 use Rattle.line_laws.specs.Stores.{IsReadable}

@@ -247,7 +247,8 @@ module _ (x : Identity) (m : Memory) (now : ℕ) (reads : IfSome m.station.ring 
 
   replies_is : (session_way : SessionWay) (peer : Peer) (join : JoinMessage) → peer.eui ≡ x.eui → Is (replies m session_way peer join now)
   replies_is session_way peer join own =
-      checked_planned (λ e. sealed_planned _ _ (said x.eui m.station.ring None session_way peer.eui join now _ (replied_done x None m session_way peer now own reads)))
+      checked_planned (λ e. sealed_planned _ _
+      (said x.eui m.station.ring None session_way peer.eui join now _ (replied_done x None m session_way peer now own reads)))
 
   reply_is : (session_way : SessionWay) (packet : List ℕ) → Is (reply x m session_way packet now)
   reply_is session_way packet = checked_planned (λ e.
@@ -271,13 +272,15 @@ module _ (x : Identity) (m : Memory) (now : ℕ) (reads : IfSome m.station.ring 
       → x.ciphers.third_fault x.psk peer packet ≡ None → x.ciphers.granted x.psk peer packet ≡ granted → AreOctets packet
       → Is (take_with x m session_way packet now peer granted)
   take_with_is session_way packet peer None own right is are = Refuses _
-  take_with_is session_way packet peer (Some granted) own right is are = takes_is session_way peer _ granted _ own (granted_fits peer packet granted are right is)
+  take_with_is session_way packet peer (Some granted) own right is are =
+      takes_is session_way peer _ granted _ own (granted_fits peer packet granted are right is)
 
   take_by_is : (session_way : SessionWay) (packet : List ℕ) (peer : Option Peer) → AreOctets packet → IfSome peer (λ p. p.eui ≡ x.eui)
       → Is (take_by x m session_way packet now peer)
   take_by_is session_way packet None are own = Refuses _
   take_by_is session_way packet (Some peer) are own = checked_planned (λ e.
-      take_with_is session_way packet peer (x.ciphers.granted x.psk peer packet) own (no_fault packet_fault (x.ciphers.third_fault x.psk peer packet) e) refl are)
+      take_with_is session_way packet peer (x.ciphers.granted x.psk peer packet) own (no_fault packet_fault (x.ciphers.third_fault x.psk peer packet) e) refl
+      are)
 
   take_is : (session_way : SessionWay) (packet : List ℕ) → AreOctets packet → Is (take x m session_way packet now)
   take_is session_way packet are = checked_planned (λ e.
@@ -421,7 +424,8 @@ pub joins_plan : (x : Identity) (m : Memory) (agent now : ℕ) → IfSome m.stat
     → MeterPlan x.eui m.station.ring None (join x m agent now)
 joins_plan x m agent now reads session = meter_plan x.eui m joining_ends (λ a. None) (λ a. None) (λ a. refl) reads session _
     (choose_planned (λ joined. Refuses _) (λ outside. sealing_planned _ tt
-    (asked_done x.eui m agent x.eui _ (record { session_way = ByAgent agent; peer = None; since = now }) refl reads) (few_units _ _ (asked_none m agent x.eui _ _))))
+    (asked_done x.eui m agent x.eui _ (record { session_way = ByAgent agent; peer = None; since = now }) refl reads)
+    (few_units _ _ (asked_none m agent x.eui _ _))))
 
 pub leaves_plan : (eui : Eui) (m : Memory) → IfSome m.station.ring IsReadable → PeerIs eui m.session → MeterPlan eui m.station.ring None (leave m)
 leaves_plan eui m reads session = meter_plan eui m leaving_ends (λ a. None) (λ a. None) (λ a. refl) reads session _

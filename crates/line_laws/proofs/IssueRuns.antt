@@ -126,7 +126,8 @@ kept w given s (Taken r f) = f
 
 pub all_of_one : {A : Type 0} (listed : Trace → List A) (xs : List Entry) (x : Entry) → all_of listed (xs ++ x ∷ []) ≡ all_of listed xs ++ listed x.trace
 all_of_one listed [] x = append-nil (listed x.trace)
-all_of_one listed (y ∷ ys) x = ap (λ zs. listed y.trace ++ zs) (all_of_one listed ys x) ∙ sym (append_assoc (listed y.trace) (all_of listed ys) (listed x.trace))
+all_of_one listed (y ∷ ys) x =
+    ap (λ zs. listed y.trace ++ zs) (all_of_one listed ys x) ∙ sym (append_assoc (listed y.trace) (all_of listed ys) (listed x.trace))
 
 abbrev pub EntryFlies : Entry → Type 0
 EntryFlies x = All FlightFits x.after.flights

@@ -65,7 +65,10 @@ use Rattle.line_laws.proofs.IssueCalls.{depot_coordinator}
 use Rattle.line_laws.proofs.IssueWorlds.{Keyed, IsMeter, after_meter, after_coordinator, after_here, keyed_more}
 use Rattle.node_rules.specs.Accepting.{same_eui}
 use Rattle.line_events.specs.Events.{IsEui}
-use Rattle.line_laws.proofs.IssueSteps.{Fails, StepKeyed, Taken, activate_keyed, after_as, allow_keyed, at_node, branch, break_keyed, by_option, challenge_keyed, cut_keyed, deliver_keyed, inject_keyed, join_keyed, kick_keyed, leave_keyed, lose_keyed, node_fits, node_ok, psk_is, quiet_after, rand_keyed, rekey_keyed, restart_keyed, send_keyed, set_up_keyed, setup, show_keyed, sized_at, taken_none, tick_keyed}
+use Rattle.line_laws.proofs.IssueSteps.{Fails, StepKeyed, Taken, activate_keyed, after_as, allow_keyed, at_node, branch, break_keyed, by_option}
+use Rattle.line_laws.proofs.IssueSteps.{challenge_keyed, cut_keyed, deliver_keyed, inject_keyed, join_keyed, kick_keyed, leave_keyed, lose_keyed, node_fits}
+use Rattle.line_laws.proofs.IssueSteps.{node_ok, psk_is, quiet_after, rand_keyed, rekey_keyed, restart_keyed, send_keyed, set_up_keyed, setup, show_keyed}
+use Rattle.line_laws.proofs.IssueSteps.{sized_at, taken_none, tick_keyed}
 
 module _ (ciphers : Ciphers) (fits : KeepsRanges ciphers) (w : World) (ok : WorldOk w) (flown : All FlightFits w.flights) (given : List Issued)
     (k : Keyed w given) where
@@ -80,7 +83,9 @@ module _ (ciphers : Ciphers) (fits : KeepsRanges ciphers) (w : World) (ok : Worl
   preset_keyed : (number : ℕ) (plan : StationMemory → calls.Presetting) → ((m : Memory) → IsMemorySized m → Quietly m (of_station m (plan m.station)))
       → Good (preset ciphers w number plan)
   preset_keyed number plan q = (setup ciphers fits w ok flown given k) _ ((at_node ciphers fits w ok flown given k) number _
-      (λ x there. (taken_none ciphers fits w ok flown given k) _ refl (quiet_after ciphers fits (set_up w) given (set_up_keyed ciphers fits w ok flown given k) number x there ((node_ok ciphers fits w ok flown given k) number x there) (Ok tt) _ q)))
+      (λ x there. (taken_none ciphers fits w ok flown given k) _ refl
+      (quiet_after ciphers fits (set_up w) given (set_up_keyed ciphers fits w ok flown given k) number x there
+      ((node_ok ciphers fits w ok flown given k) number x there) (Ok tt) _ q)))
 
   -- an address of a node is below FFFE
   pub address_low : (x : Node) (address : ℕ) → NodeOk x → node_address x ≡ Some address → address < 0xFFFE
@@ -113,14 +118,17 @@ module _ (ciphers : Ciphers) (fits : KeepsRanges ciphers) (w : World) (ok : Worl
   near_by_keyed a b cost x y (Some p) (Some q) low hx hy ep eq =
       (branch ciphers fits w ok flown given k) ((a == b) || (keeps_rank x q || (ranks_full x || ranks_full y))) _ _ (λ _. Fails faults.Setup) (λ may.
       let far : b ≢ a = λ same. eqb-false _ _ (or_parts _ _ may).0 (sym same) in
-      let first = offered_after (set_up w) (set_up_keyed ciphers fits w ok flown given k) a x hx ((node_ok ciphers fits w ok flown given k) a x hx) q cost (address_low y q ((node_ok ciphers fits w ok flown given k) b y hy) eq) low in
+      let first = offered_after (set_up w) (set_up_keyed ciphers fits w ok flown given k) a x hx ((node_ok ciphers fits w ok flown given k) a x hx) q cost
+      (address_low y q ((node_ok ciphers fits w ok flown given k) b y hy) eq) low in
       (taken_none ciphers fits w ok flown given k) _ refl (offered_after (world_after ciphers (set_up w) a (offered_near x q cost w.clock)) first b y
-      (other_there a b (offered_near x q cost w.clock) y far hy) ((node_ok ciphers fits w ok flown given k) b y hy) p cost (address_low x p ((node_ok ciphers fits w ok flown given k) a x hx) ep) low))
+      (other_there a b (offered_near x q cost w.clock) y far hy) ((node_ok ciphers fits w ok flown given k) b y hy) p cost
+      (address_low x p ((node_ok ciphers fits w ok flown given k) a x hx) ep) low))
 
   near_keyed : (a b cost : ℕ) → cost ≤ 255 → Good (near ciphers w a b cost)
   unfolding near
   near_keyed a b cost low =
-      (setup ciphers fits w ok flown given k) _ ((at_node ciphers fits w ok flown given k) a _ (λ x hx. (at_node ciphers fits w ok flown given k) b _ (λ y hy. near_by_keyed a b cost x y (node_address x) (node_address y) low hx hy refl refl)))
+      (setup ciphers fits w ok flown given k) _ ((at_node ciphers fits w ok flown given k) a _
+      (λ x hx. (at_node ciphers fits w ok flown given k) b _ (λ y hy. near_by_keyed a b cost x y (node_address x) (node_address y) low hx hy refl refl)))
 
   none_get : (n : ℕ) (x : Node) → slice_get [] n ≡ Some x → ⊥
   none_get n x e = absurd (cc)
@@ -204,7 +212,8 @@ module _ (ciphers : Ciphers) (fits : KeepsRanges ciphers) (w : World) (ok : Worl
 
   meter_keyed : (eui : Eui) (psk : Key) → IsEui eui → Good (meter w eui psk)
   unfolding meter
-  meter_keyed eui psk known = (branch ciphers fits w ok flown given k) (not (takes_setup w) || (nat_lt 999 (length w.nodes) || is_known w eui)) _ _ (λ _. Fails faults.Setup) (λ may.
+  meter_keyed eui psk known =
+      (branch ciphers fits w ok flown given k) (not (takes_setup w) || (nat_lt 999 (length w.nodes) || is_known w eui)) _ _ (λ _. Fails faults.Setup) (λ may.
       let parts = or_parts _ _ may in
       let new : is_known w eui ≡ false = (or_parts _ _ parts.1).1 in
       let some : 0 < length w.nodes = begun_some (has_begun w) (not w.running) refl parts.0 in
@@ -282,7 +291,8 @@ module _ (ciphers : Ciphers) (fits : KeepsRanges ciphers) (w : World) (ok : Worl
       provisioned_keyed g v kv there reads at =
           let m = kv.meters number x ne there in
           let keys = issued_keys given x.eui g in
-          let did = sound_acts kv.book (given ++ issued_by x.eui g) x (Ok tt) (λ m. meters.provision m g) ((node_ok ciphers fits w ok flown given k) number x hx) m.ring m.session
+          let did = sound_acts kv.book (given ++ issued_by x.eui g) x (Ok tt) (λ m. meters.provision m g)
+          ((node_ok ciphers fits w ok flown given k) number x hx) m.ring m.session
           (λ n here kept session ring.
           let rest = installs_rest n g in
           record {
@@ -311,9 +321,13 @@ module _ (ciphers : Ciphers) (fits : KeepsRanges ciphers) (w : World) (ok : Worl
   depot_keyed : (number : ℕ) → Good (depot ciphers w number)
   unfolding depot
   depot_keyed number =
-      (setup ciphers fits w ok flown given k) _ ((at_node ciphers fits w ok flown given k) number _ (λ x hx. (at_node ciphers fits w ok flown given k) 0 _ (λ c hc. (branch ciphers fits w ok flown given k) ((number == 0) || is_some (node_address x)) _ _ (λ _. Fails faults.Setup) (λ may.
-      (by_option ciphers fits w ok flown given k) (λ psk. depot_by ciphers w number x (acts c (Err orders.Halted) (λ m. coordinator_rules.depot m x.eui psk))) (psk_of x) (Err faults.Setup)
-      (λ psk pair. depot_by_keyed number x c psk (eqb-false _ _ (or_parts _ _ may).0) hx hc (((node_fits ciphers fits w ok flown given k) number x hx).psk psk ((psk_is ciphers fits w ok flown given k) x psk pair)))
+      (setup ciphers fits w ok flown given k) _ ((at_node ciphers fits w ok flown given k) number _
+      (λ x hx. (at_node ciphers fits w ok flown given k) 0 _
+      (λ c hc. (branch ciphers fits w ok flown given k) ((number == 0) || is_some (node_address x)) _ _ (λ _. Fails faults.Setup) (λ may.
+      (by_option ciphers fits w ok flown given k) (λ psk. depot_by ciphers w number x (acts c (Err orders.Halted) (λ m. coordinator_rules.depot m x.eui psk)))
+      (psk_of x) (Err faults.Setup)
+      (λ psk pair. depot_by_keyed number x c psk (eqb-false _ _ (or_parts _ _ may).0) hx hc
+      (((node_fits ciphers fits w ok flown given k) number x hx).psk psk ((psk_is ciphers fits w ok flown given k) x psk pair)))
       (Fails faults.Setup)))))
 
   -- # All kinds

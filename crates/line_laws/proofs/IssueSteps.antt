@@ -38,7 +38,8 @@ use Rattle.node_rules.specs.Coordinators as coordinator_rules
 use Rattle.node_rules.specs.StoreReading.{remembering, memory_of}
 use Rattle.line_rules.specs.Answers.{Reception, meter_reception, coordinator_reception, random_word, join_word, leave_word, sent_word, ordered_word, frame_word}
 use Rattle.line_rules.specs.Worlds.{World, Flight, Trace, node_at, flight_at, is_forged_tag}
-use Rattle.line_rules.specs.Steps.{Step, set_up, running_world, world_after, node_outcome, once_begun, in_setup, has_begun, takes_setup, on_node, on_meter, identity}
+use Rattle.line_rules.specs.Steps.{Step, set_up, running_world, world_after, node_outcome, once_begun, in_setup, has_begun, takes_setup, on_node, on_meter}
+use Rattle.line_rules.specs.Steps.{identity}
 use Rattle.line_rules.specs.Steps.{hearing_step}
 use Rattle.line_rules.specs.Steps.{restarts, memory_by, ticked, rand, join, joins_by, leave, send, sends_by, sent_if, breaks, breaks_by, lose, tick, restart}
 use Rattle.line_rules.specs.Steps.{cut, show, psk_of, trace_of, happenings, coordinator, meter}
@@ -218,7 +219,8 @@ module _ (ciphers : Ciphers) (fits : KeepsRanges ciphers) (w : World) (ok : Worl
 
   breaks_keyed : (number : ℕ) (x : Node) (next : Option ℕ) → node_at w number ≡ Some x → Good (Ok (breaks_by ciphers w number x next))
   breaks_keyed number x None there = rests _ refl
-  breaks_keyed number x (Some next) there = taken_none _ refl (quiet_after ciphers fits (running_world w) given ran_keyed number x there (node_ok number x there)
+  breaks_keyed number x (Some next) there =
+      taken_none _ refl (quiet_after ciphers fits (running_world w) given ran_keyed number x there (node_ok number x there)
       answers.Halted _ (λ m sized. broke_quietly m sized next answers.Broken))
 
   pub break_keyed : (number next : ℕ) → Good (breaks ciphers w number next)
@@ -230,7 +232,8 @@ module _ (ciphers : Ciphers) (fits : KeepsRanges ciphers) (w : World) (ok : Worl
   joins_keyed number agent x None psk ne there = rests _ refl
   joins_keyed number agent x (Some a) None ne there = rests _ refl
   joins_keyed number agent x (Some a) (Some psk) ne there =
-      taken_none _ refl (after_as ciphers (running_world w) number join_word (acts x (Err joins.Halted) (λ m. meters.join (identity ciphers x psk) m a w.clock)) given
+      taken_none _ refl (after_as ciphers (running_world w) number join_word (acts x (Err joins.Halted) (λ m. meters.join (identity ciphers x psk) m a w.clock))
+      given
       (own_after ciphers fits (running_world w) given ran_keyed number x ne there (node_ok number x there) (Err joins.Halted)
       (λ m. meters.join (identity ciphers x psk) m a w.clock) (λ m reads session. joins_plan (identity ciphers x psk) m a w.clock reads session)
       (λ m. joins_opened (identity ciphers x psk) m a w.clock)))
@@ -243,7 +246,8 @@ module _ (ciphers : Ciphers) (fits : KeepsRanges ciphers) (w : World) (ok : Worl
   pub leave_keyed : (number : ℕ) → Good (leave ciphers w number)
   unfolding leave
   leave_keyed number =
-      once _ (at_meter number _ (λ ne x there. taken_none _ refl (after_as ciphers (running_world w) number leave_word (acts x (Err leaves.Halted) meters.leave) given
+      once _ (at_meter number _ (λ ne x there. taken_none _ refl
+      (after_as ciphers (running_world w) number leave_word (acts x (Err leaves.Halted) meters.leave) given
       (own_after ciphers fits (running_world w) given ran_keyed number x ne there (node_ok number x there) (Err leaves.Halted) meters.leave
       (λ m reads session. leaves_plan x.eui m reads session) leaves_opened))))
 
@@ -269,7 +273,8 @@ module _ (ciphers : Ciphers) (fits : KeepsRanges ciphers) (w : World) (ok : Worl
 
   coordinator_after : {A : Type 0} (c : Node) (d : NodeStep A) → node_at w 0 ≡ Some c → CoordinatorDid ran_keyed.book given [] c d
       → Keyed (world_after ciphers (running_world w) 0 d) given
-  coordinator_after c d there did = subst (Keyed _) (append-nil given) (after_coordinator ciphers (running_world w) 0 c d there did.eui given [] ran_keyed refl did)
+  coordinator_after c d there did =
+      subst (Keyed _) (append-nil given) (after_coordinator ciphers (running_world w) 0 c d there did.eui given [] ran_keyed refl did)
 
   ordered_keyed : {A : Type 0} (c : Node) (answer : Answer) (order : Memory → Plan Memory (Result A CoordinatorRefusal)) → node_at w 0 ≡ Some c
       → ((m : Memory) → IsMemorySized m → (b : book.Book) → Nought m.station.ring → IfSome m.station.ring IsReadable → CoordinatorPlan b m None (order m))
@@ -299,7 +304,8 @@ module _ (ciphers : Ciphers) (fits : KeepsRanges ciphers) (w : World) (ok : Worl
           → Good (Ok (if b then by_coordinator ciphers w c answers.Activated (λ m. coordinator_rules.activate_self m index)
           else by_coordinator ciphers w c answers.Ordered (λ m. coordinator_rules.activate m x.eui index w.clock)))
       by_number true x c there =
-          ordered_keyed c answers.Activated _ there (λ m sized b nought reads. activate_self_coordinator ciphers fits (own_of c) m sized b nought reads index low)
+          ordered_keyed c answers.Activated _ there
+          (λ m sized b nought reads. activate_self_coordinator ciphers fits (own_of c) m sized b nought reads index low)
       by_number false x c there = ordered_keyed c answers.Ordered _ there
           (λ m sized b nought reads. activate_coordinator ciphers fits (own_of c) m sized b nought reads x.eui index w.clock)
 
@@ -495,7 +501,8 @@ module _ (ciphers : Ciphers) (fits : KeepsRanges ciphers) (w : World) (ok : Worl
   after_answer number d r h = same_keyed _ _ given h refl refl
 
   received_keyed : (number : ℕ) (forged : Bool) (d : NodeStep Reception)
-      → (forged ≡ false → Keyed (world_after ciphers (running_world w) number d) (given ++ issued_of d.answer.keyed)) → Good (Ok (received ciphers w number forged d))
+      → (forged ≡ false → Keyed (world_after ciphers (running_world w) number d) (given ++ issued_of d.answer.keyed))
+      → Good (Ok (received ciphers w number forged d))
   received_keyed number forged d h = Taken _ (λ honest. same_keyed (world_after ciphers (running_world w) number d) _ _ (h honest) refl refl)
 
   after_later : {A : Type 0} (number : ℕ) (reads : A → Reception) (d : NodeStep A) (more : List Issued)
@@ -507,7 +514,8 @@ module _ (ciphers : Ciphers) (fits : KeepsRanges ciphers) (w : World) (ok : Worl
       → RoutesFit got
       → (number ≡ 0 → CoordinatorDid ran_keyed.book given [] x (stays y (tt {0}))) → (number ≢ 0 → MeterOk ran_keyed.book given y)
       → list_any (is_forged_tag w.made) (hearing_step ciphers y got cost note now).opened ≡ false
-      → Keyed (world_after ciphers (running_world w) number (hearing_step ciphers y got cost note now)) (given ++ issued_of (hearing_step ciphers y got cost note now).answer.keyed)
+      → Keyed (world_after ciphers (running_world w) number (hearing_step ciphers y got cost note now))
+      (given ++ issued_of (hearing_step ciphers y got cost note now).answer.keyed)
   hears_after number x y got cost note now there good role eui routes coordinator meter = by_role y.role refl
     where
       hears_as : Role → NodeStep Reception

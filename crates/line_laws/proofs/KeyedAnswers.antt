@@ -28,7 +28,8 @@ use Rattle.node_rules.specs.Hearing.{dropped}
 use Rattle.node_rules.specs.Joining.{server_for}
 use Rattle.eap_psk.specs.Sessions.{rand_p_in}
 use Rattle.node_rules.specs.MemoryDrafts.{in_memory, with_station, oldest, Unread, unread}
-use Rattle.node_rules.specs.Coordinators.{Hearing, CoordinatorIdentity, drop_it, session_of, grant_for, declines, challenges, open_session, join_without_packet, keys_for}
+use Rattle.node_rules.specs.Coordinators.{Hearing, CoordinatorIdentity, drop_it, session_of, grant_for, declines, challenges, open_session, join_without_packet}
+use Rattle.node_rules.specs.Coordinators.{keys_for}
 use Rattle.node_rules.specs.Coordinators.{take_second, accepts, take_fourth, take_packet, join_with_packet, hear_join, hear_join_in, heard_by, hear_coordinator}
 use Rattle.node_rules.specs.Coordinators.{allowed_entry}
 use Rattle.node_rules.proofs.MemoryDraftShapes.{whole}

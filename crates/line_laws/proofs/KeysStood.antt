@@ -13,7 +13,8 @@ use Rattle.line_rules.specs.Agreement.{NodeHasKey}
 use Rattle.line_rules.specs.Answers.{Reception, coordinator_reception, meter_reception, sent_word}
 use Rattle.line_events.specs.Events.{IsEvent}
 use Rattle.line_rules.specs.Forgery.{Comes, accepting}
-use Rattle.line_rules.specs.Steps.{Step, issued_at, issued_by, issued_of, node_outcome, sent_if, is_taken, tag_of, hearing_step, note_by, identity, takes_setup, psk_of}
+use Rattle.line_rules.specs.Steps.{Step, issued_at, issued_by, issued_of, node_outcome, sent_if, is_taken, tag_of, hearing_step, note_by, identity, takes_setup}
+use Rattle.line_rules.specs.Steps.{psk_of}
 use Rattle.line_rules.specs.Worlds.{World, Issued, Trace, node_at}
 use Rattle.line_events.specs.declared.event.Event.{Event}
 use Rattle.line_events.specs.declared.event.Event.TheVariants as events

@@ -55,7 +55,8 @@ module _ {E : Type 0} (ends : Ends E) (halted : E) (to : ℕ) (unit : MeshUnit) 
       ∙ ap (λ (k : Option Key). option_map_or (λ (q : Key). Sealed
       (record { to = to; from = g.address; counter = m.station.counter.next; index = g.active; key = q; unit = unit; note = 0 }) ∷ []) k []) keyed
 
-  node_sends : x.memory ≡ Some m → x.store.cut ≡ None → (plan ends to unit m).frames ≡ sealed_unit ∷ [] → (seals_at ends halted to unit x).frames ≡ sealed_unit ∷ []
+  node_sends : x.memory ≡ Some m → x.store.cut ≡ None → (plan ends to unit m).frames ≡ sealed_unit ∷ []
+      → (seals_at ends halted to unit x).frames ≡ sealed_unit ∷ []
   unfolding acts
   node_sends here safe sends =
       ap (λ (o : Option Memory). (option_map_or (λ n. left_by x (carry_out x.store.records x.store.cut (plan ends to unit n))) o (stays x (Err halted))).frames)

@@ -36,7 +36,8 @@ use Rattle.line_events.specs.Events.{IsEvent}
 use Rattle.line_rules.specs.Forgery.{Comes, OfFlight, OfScript, accepting}
 use Rattle.line_rules.specs.Runs.{Entry}
 use Rattle.line_rules.specs.Worlds.{World, Flight, Trace, Issued, node_at, has_octets}
-use Rattle.line_rules.specs.Steps.{Step, memory_by, once_begun, has_begun, on_flight, running_world, world_after, trace_of, happenings, hearing_outcome, hearing_step, note_by, arrives}
+use Rattle.line_rules.specs.Steps.{Step, memory_by, once_begun, has_begun, on_flight, running_world, world_after, trace_of, happenings, hearing_outcome}
+use Rattle.line_rules.specs.Steps.{hearing_step, note_by, arrives}
 use Rattle.line_rules.specs.Steps.{deliver}
 use Rattle.line_rules.specs.Steps.{inject, step}
 use Rattle.line_laws.specs.Live.{holding, marks_of, admits, book_in, book_of, home_by, home, is_past, is_live, live, FlightsFall}

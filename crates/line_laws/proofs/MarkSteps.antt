@@ -35,7 +35,8 @@ use Rattle.line_events.specs.Events.{IsEvent}
 use Rattle.line_rules.specs.Forgery.{Comes, accepting}
 use Rattle.line_rules.specs.Runs.{Entry}
 use Rattle.line_rules.specs.Worlds.{World, node_at}
-use Rattle.line_rules.specs.Steps.{Step, set_up, running_world, world_after, node_outcome, sending, sent_if, is_taken, tag_of, hearing_step, offered_near, note_by, identity, psk_of}
+use Rattle.line_rules.specs.Steps.{Step, set_up, running_world, world_after, node_outcome, sending, sent_if, is_taken, tag_of, hearing_step, offered_near}
+use Rattle.line_rules.specs.Steps.{note_by, identity, psk_of}
 use Rattle.line_rules.specs.Steps.{restarts}
 use Rattle.line_rules.specs.Steps.{ticked, step}
 use Rattle.line_laws.specs.Live.{marks_of, MarksRise}
@@ -266,11 +267,13 @@ module _ (ciphers : Ciphers) (fits : KeepsRanges ciphers) (w : World) (ok : Worl
   follows event s (Rests e quiet) = same_follows w (running_world w) refl
   follows event s (Shows number x) = same_follows w (running_world w) refl
   follows event s (Acts e number x A halted plan reads there call word asked) =
-      one_follows (running_world w) _ number x (answering reads (acts x halted plan)) refl (after_nodes ciphers (running_world w) number (answering reads (acts x halted plan)))
+      one_follows (running_world w) _ number x (answering reads (acts x halted plan)) refl
+      (after_nodes ciphers (running_world w) number (answering reads (acts x halted plan)))
       there (answered x reads _ (call_marks number x A halted plan there call))
   follows event s (BreaksLink number next x a there call) =
       let plan : Memory → Plan Memory Answer = λ m. changing answers.Broken (with_station (calls.broke a m.station) m) in
-      one_follows (running_world w) _ number x (acts x answers.Halted plan) refl (after_nodes ciphers (running_world w) number (acts x answers.Halted plan)) there
+      one_follows (running_world w) _ number x (acts x answers.Halted plan) refl (after_nodes ciphers (running_world w) number (acts x answers.Halted plan))
+      there
       (call_marks number x Answer answers.Halted plan there call)
   follows event s (SendsFrom from to datagram x a there call asked) =
       let plan : Memory → Plan Memory (Result SentHow SendRefusal) = λ m. of_station m (calls.send m.station a datagram (w.sends + 1) w.clock) in
@@ -279,7 +282,8 @@ module _ (ciphers : Ciphers) (fits : KeepsRanges ciphers) (w : World) (ok : Worl
       (answered x sent_word _ (call_marks from x _ (Err sends.Halted) plan there call))
   follows event s (AllowsMeter number y c psk there call meter) =
       let plan : Memory → Plan Memory (Result ℕ CoordinatorRefusal) = λ m. coordinator_rules.allow m y.eui psk in
-      one_follows (running_world w) _ 0 c (acts c (Err orders.Halted) plan) refl (after_nodes ciphers (running_world w) 0 (acts c (Err orders.Halted) plan)) there
+      one_follows (running_world w) _ 0 c (acts c (Err orders.Halted) plan) refl (after_nodes ciphers (running_world w) 0 (acts c (Err orders.Halted) plan))
+      there
       (call_marks 0 c _ (Err orders.Halted) plan there call)
   follows event s (Sets e quiet number x plan there open_is is) =
       one_follows (set_up w) _ number x (acts x (Ok tt) (λ m. of_station m (plan m.station))) refl
@@ -330,11 +334,13 @@ module _ (ciphers : Ciphers) (fits : KeepsRanges ciphers) (w : World) (ok : Worl
           raised = t.0;
         };
   }
-  follows event s (Restarts number x there) = one_follows (running_world w) _ number x (restarts x) refl (after_nodes ciphers (running_world w) number (restarts x)) there
+  follows event s (Restarts number x there) =
+      one_follows (running_world w) _ number x (restarts x) refl (after_nodes ciphers (running_world w) number (restarts x)) there
       (of_did x _ (restarts_ok x (good_at number x there)))
   follows event s (Cuts number nth keeps_new x there) =
       let d : NodeStep Answer = stays (record x { store = record x.store { cut = Some (record { nth = nth; keeps_new = keeps_new }) } }) answers.Set in
-      one_follows (running_world w) _ number x d refl (after_nodes ciphers (running_world w) number d) there (record { role = refl; eui = refl; raised = raised_same (marks_of x) })
+      one_follows (running_world w) _ number x d refl (after_nodes ciphers (running_world w) number d) there
+      (record { role = refl; eui = refl; raised = raised_same (marks_of x) })
 
 -- # Runs
 

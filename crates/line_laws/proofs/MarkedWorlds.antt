@@ -58,7 +58,8 @@ use Rattle.line_rules.specs.Further.{acknowledged_if, acknowledging, adds_frames
 use Rattle.line_rules.specs.Further.{chooses_by, commanded, discovers_by, due, reaches, restarts_by, scans_by, sends_nothing, unbelieved, with_check}
 use Rattle.line_rules.specs.Logs.{AreLogged, HaveShortTables, LogsKept}
 use Rattle.line_rules.specs.Runs.{one_of}
-use Rattle.line_rules.specs.Steps.{Step, node_outcome, blank_node, coordinator_node, happenings, hearing_outcome, hearing_step, identity, is_taken, note_by, offered_near, running_world, restarts}
+use Rattle.line_rules.specs.Steps.{Step, node_outcome, blank_node, coordinator_node, happenings, hearing_outcome, hearing_step, identity, is_taken, note_by}
+use Rattle.line_rules.specs.Steps.{offered_near, running_world, restarts}
 use Rattle.line_rules.specs.Steps.{sent_if, set_up, tag_of, ticked, world_after, trace_of}
 use Rattle.line_rules.specs.Worlds.{Trace, World, node_at}
 use Rattle.line_rules.proofs.LogPlans.{accept_short, acts_short, leave_leaves, random_leaves, acknowledging_leaves}
@@ -307,7 +308,8 @@ module _ (ciphers : Ciphers) (w : World) (short : HaveShortTables w) where
                 (held n y (sym (slice_get-push_other w.nodes n x ne) ∙ here))
     old_marks event s other (old.Rests e quiet) = at_none ups w held (running_world w) refl (λ n. refl)
     old_marks event s other (old.Shows number x) = at_none ups w held (running_world w) refl (λ n. refl)
-    old_marks event s other (old.Acts e number x A halts plan reads there call word asked) = one_quiet (running_world w) number x (answering reads (acts x halts plan))
+    old_marks event s other (old.Acts e number x A halts plan reads there call word asked) =
+        one_quiet (running_world w) number x (answering reads (acts x halts plan))
         refl refl there (call_quiet number x A halts plan there call)
     old_marks event s other (old.BreaksLink number next x a there call) =
         let plan : Memory → Plan Memory Answer = λ m. changing answers.Broken (with_station (calls.broke a m.station) m) in
@@ -502,7 +504,8 @@ module _ (w : World) (ok : WorldOk w) (flown_are : All FlightFits w.flights) (lo
   unfolding world_after
   marks_on event s (Fails e fault) = tt
   marks_on event s (Known e t other is nothing) = known_marks event s other is
-  marks_on event s (Rests e answer idle other nothing) = none (running_world w, trace_of (happenings w answer)) refl (at_none ups w held (running_world w) refl (λ n. refl))
+  marks_on event s (Rests e answer idle other nothing) =
+      none (running_world w, trace_of (happenings w answer)) refl (at_none ups w held (running_world w) refl (λ n. refl))
   marks_on event s Opens = none (record (set_up w) { checks_on = true }, trace_of (happenings w answers.Set)) refl
       (at_none ups w held (record (set_up w) { checks_on = true }) refl (λ n. refl))
   marks_on event s (Bcasts number x datagram there are) =
@@ -530,7 +533,8 @@ module _ (w : World) (ok : WorldOk w) (flown_are : All FlightFits w.flights) (lo
   marks_on event s (Checked e number x octets cost got a low passes nothing on) = checked_marks event number x octets cost got a
   marks_on event s (Hears e number x octets cost got a low passes nothing off) =
       none (hearing_outcome network w number (after_accepting network x octets) octets got cost) refl
-      (at_quiet ups w held (hearing_outcome network w number (after_accepting network x octets) octets got cost).0 number x (heard_node network w x octets got cost).node
+      (at_quiet ups w held (hearing_outcome network w number (after_accepting network x octets) octets got cost).0 number x
+      (heard_node network w x octets got cost).node
       a.there refl (λ n. refl) (left_quiet event number x octets cost got a))
   marks_on event s (Ticks seconds) =
       let v : World = record (running_world w) {

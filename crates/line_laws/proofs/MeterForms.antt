@@ -145,7 +145,8 @@ module _ (L : Granted → Type 0) (P : Eui → Key → Type 0) (E : Eui → Type
       (Remembers (λ n. with_session (Some (record { session_way = session_way; peer = Some peer; since = g.now })) (without_oldest n)) (empty_draft m) Begins
       (Replies (record { session_way = session_way; peer = Some peer; since = g.now }) value here))
 
-  replied_lacks : (session_way : SessionWay) (peer : Peer) (octets : ℕ) → LacksNothing m.station 0 octets → LacksNothing (replied session_way peer).memory.station 0 octets
+  replied_lacks : (session_way : SessionWay) (peer : Peer) (octets : ℕ) → LacksNothing m.station 0 octets
+      → LacksNothing (replied session_way peer).memory.station 0 octets
   unfolding empty_draft with_memory_by with_pair_tags
   replied_lacks session_way peer octets f = f
 
@@ -198,7 +199,8 @@ module _ (L : Granted → Type 0) (P : Eui → Key → Type 0) (E : Eui → Type
         tt,
       ))
 
-  take_with_is : (session_way : SessionWay) (packet : List ℕ) → IsPacket g m packet → (s : MeterSession) (peer : Peer) (granted : Option Granted) → m.session ≡ Some s
+  take_with_is : (session_way : SessionWay) (packet : List ℕ) → IsPacket g m packet → (s : MeterSession) (peer : Peer) (granted : Option Granted)
+      → m.session ≡ Some s
       → s.peer ≡ Some peer → x.ciphers.third_fault x.psk peer packet ≡ None → x.ciphers.granted x.psk peer packet ≡ granted
       → Is (take_with x m session_way packet g.now peer granted)
   take_with_is session_way packet c s peer None there has right is = Refuses _
@@ -209,7 +211,8 @@ module _ (L : Granted → Type 0) (P : Eui → Key → Type 0) (E : Eui → Type
       → Is (take_by x m session_way packet g.now peer)
   take_by_is session_way packet c s None there has = Refuses _
   take_by_is session_way packet c s (Some peer) there has = checked_planned (λ e.
-      take_with_is session_way packet c s peer (x.ciphers.granted x.psk peer packet) there has (no_fault packet_fault (x.ciphers.third_fault x.psk peer packet) e)
+      take_with_is session_way packet c s peer (x.ciphers.granted x.psk peer packet) there has
+      (no_fault packet_fault (x.ciphers.third_fault x.psk peer packet) e)
       refl)
 
   take_is : (session_way : SessionWay) (packet : List ℕ) → IsPacket g m packet → Is (take x m session_way packet g.now)

@@ -119,10 +119,12 @@ module _ (eui : Eui) (psk : Key) (own : HasEui eui) (pair : AreOctets psk.0) (m 
   replied_speaks : (session_way : SessionWay) (peer : Peer) → PeerSpeaks peer → DraftSpeaksIn (replied session_way peer)
   unfolding empty_draft
   replied_speaks session_way peer p = tagged_speaks (mac_p_tag peer.eui peer.id_s peer.rand_s peer.rand_p ∷ []) [] _
-      (remembers_speaks (λ n. with_session (Some (record { session_way = session_way; peer = Some peer; since = now })) (without_oldest n)) (empty_draft m) begun reads
+      (remembers_speaks (λ n. with_session (Some (record { session_way = session_way; peer = Some peer; since = now })) (without_oldest n)) (empty_draft m)
+      begun reads
       (record { waiting = h.waiting; randoms = All-drop RandSpeaks 1 m.randoms h.randoms; session = p; sessions = h.sessions }))
 
-  replies_is : (session_way : SessionWay) (peer : Peer) (join : JoinMessage) → PeerSpeaks peer → JoinSpeaks join → PlanSpeaks (replies m session_way peer join now)
+  replies_is : (session_way : SessionWay) (peer : Peer) (join : JoinMessage) → PeerSpeaks peer → JoinSpeaks join
+      → PlanSpeaks (replies m session_way peer join now)
   replies_is (ByAgent agent) peer join p says = checked_speaks m h _
       (λ e. sealed_speaks m h _ _ _ (up_speaks agent peer.eui join (replied (ByAgent agent) peer) (replied_speaks (ByAgent agent) peer p) p.0 says))
   replies_is ByCommand peer join p says =
@@ -156,7 +158,8 @@ module _ (eui : Eui) (psk : Key) (own : HasEui eui) (pair : AreOctets psk.0) (m 
   took_speaks peer identifier granted r = tagged_speaks _ _ (on_station (with_ring (Some granted)) (with_memory_by (with_session None) (empty_draft m)))
       (ringed_speaks (Some granted) (with_memory_by (with_session None) (empty_draft m)) ended_speaks r)
 
-  takes_is : (session_way : SessionWay) (peer : Peer) (identifier : ℕ) (granted : Granted) (join : JoinMessage) → PeerSpeaks peer → IsReadable granted → JoinSpeaks join
+  takes_is : (session_way : SessionWay) (peer : Peer) (identifier : ℕ) (granted : Granted) (join : JoinMessage) → PeerSpeaks peer → IsReadable granted
+      → JoinSpeaks join
       → PlanSpeaks (takes m session_way peer identifier granted join now)
   takes_is (ByAgent agent) peer identifier granted join p r says = checked_speaks m h _
       (λ e. sealed_speaks m h _ _ _ (up_speaks agent peer.eui join (took peer identifier granted) (took_speaks peer identifier granted r) p.0 says))
@@ -255,7 +258,8 @@ module _ (eui : Eui) (psk : Key) (own : HasEui eui) (pair : AreOctets psk.0) (m 
 
   -- # What a meter does by itself
 
-  asks_speaks : (agent : ℕ) → DraftSpeaksIn (with_memory_by (with_session (Some (record { session_way = ByAgent agent; peer = None; since = now }))) (empty_draft m))
+  asks_speaks : (agent : ℕ) → DraftSpeaksIn
+      (with_memory_by (with_session (Some (record { session_way = ByAgent agent; peer = None; since = now }))) (empty_draft m))
   unfolding empty_draft
   asks_speaks agent = remembers_speaks (with_session (Some (record { session_way = ByAgent agent; peer = None; since = now }))) (empty_draft m) begun reads
       (record { waiting = h.waiting; randoms = h.randoms; session = tt; sessions = h.sessions })

@@ -61,7 +61,8 @@ module _ (w v : World) (given more : List Issued) (k : Keyed w given) (kv : Keye
 
   old_home : (f g : Flight) → SameFlight f g → (f.from < length w.nodes) × AtHome k.book w f → AtHome kv.book v g
   old_home f g same h =
-      let moved : IfSome (nonce_parts f) (λ p. IsCoordinatorAddress kv.book v f.from p.from) = if_parts (nonce_parts f) (λ p. IsCoordinatorAddress k.book w f.from p.from)
+      let moved : IfSome (nonce_parts f) (λ p. IsCoordinatorAddress kv.book v f.from p.from) = if_parts (nonce_parts f)
+      (λ p. IsCoordinatorAddress k.book w f.from p.from)
       (λ p. IsCoordinatorAddress kv.book v f.from p.from) (λ p. home_stays f.from p.from h.0) h.1 in
       let parts : nonce_parts g ≡ nonce_parts f = ap (λ octets. nonce_in_head (head_in octets)) same.octets in
       subst (λ n. IfSome (nonce_parts g) (λ p. IsCoordinatorAddress kv.book v n p.from)) (sym same.from)
@@ -87,7 +88,8 @@ module _ (w v : World) (given more : List Issued) (k : Keyed w given) (kv : Keye
 -- # Nonces
 
 module _ (v : World) (given : List Issued) (k : Keyed v given) (ok : WorldOk v) where
-  one_home : (i j a : ℕ) (x y : Node) → node_at v i ≡ Some x → node_at v j ≡ Some y → IsCoordinatorAddress k.book v i a → IsCoordinatorAddress k.book v j a → i ≡ j
+  one_home : (i j a : ℕ) (x y : Node) → node_at v i ≡ Some x → node_at v j ≡ Some y → IsCoordinatorAddress k.book v i a → IsCoordinatorAddress k.book v j a
+      → i ≡ j
   one_home i j a x y hx hy home other = ⊎_elim
       (λ (e : i ≡ 0). ⊎_elim
       (λ (f : j ≡ 0). e ∙ sym f)
@@ -103,7 +105,8 @@ module _ (v : World) (given : List Issued) (k : Keyed v given) (ok : WorldOk v) 
   another f g rises lf lg hf hg same_key = by_key f.key
     where
       by_parts : (o u : Option NonceParts) → (f.from ≡ g.from → IfSome o (λ p. IfSome u (λ q. p.counter < q.counter)))
-          → IfSome o (λ p. IsCoordinatorAddress k.book v f.from p.from) → IfSome u (λ q. IsCoordinatorAddress k.book v g.from q.from) → IfSome o (λ p. IfSome u (λ q. p ≢ q))
+          → IfSome o (λ p. IsCoordinatorAddress k.book v f.from p.from) → IfSome u (λ q. IsCoordinatorAddress k.book v g.from q.from)
+          → IfSome o (λ p. IfSome u (λ q. p ≢ q))
       by_parts None u r a b = tt
       by_parts (Some p) None r a b = tt
       by_parts (Some p) (Some q) r a b = λ same.

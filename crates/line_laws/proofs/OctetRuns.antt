@@ -32,7 +32,8 @@ use Rattle.node_rules.specs.StoreReading.{first_grant}
 use Rattle.line_events.specs.Events.{IsEvent}
 use Rattle.line_rules.specs.Forgery.{Comes, accepting}
 use Rattle.line_rules.specs.Worlds.{World, Flight, node_at, flight_at, start}
-use Rattle.line_rules.specs.Steps.{Step, set_up, running_world, world_after, blank_node, ticked, flights_of, flight_by, node_outcome, sending, sent_if, is_taken, tag_of, hearing_step}
+use Rattle.line_rules.specs.Steps.{Step, set_up, running_world, world_after, blank_node, ticked, flights_of, flight_by, node_outcome, sending, sent_if}
+use Rattle.line_rules.specs.Steps.{is_taken, tag_of, hearing_step}
 use Rattle.line_rules.specs.Steps.{offered_near, hearing_outcome, note_by, identity, restarts, psk_of}
 use Rattle.line_laws.specs.Stores.{IsReadable, HasEui}
 use Rattle.line_laws.specs.Owed.{AreOctets}
@@ -199,7 +200,8 @@ module _ (w : World) (ok : WorldOk w) (s : WorldSpeaks w) where
       by_taken true k = record { nodes = k.nodes; flights = k.flights }
       by_taken false k = k
 
-  heard_is : (number : ℕ) (y : Node) (octets : List ℕ) (got : Accepted) (cost : ℕ) → DidSpeak (hearing_step network y got cost (note_by w octets got.path) w.clock)
+  heard_is : (number : ℕ) (y : Node) (octets : List ℕ) (got : Accepted) (cost : ℕ)
+      → DidSpeak (hearing_step network y got cost (note_by w octets got.path) w.clock)
       → WorldSpeaks (hearing_outcome network w number y octets got cost).0
   heard_is number y octets got cost did =
       let k = after_speaks (running_world w) number (hearing_step network y got cost (note_by w octets got.path) w.clock) ran_speaks did in
@@ -263,7 +265,8 @@ module _ (w : World) (ok : WorldOk w) (s : WorldSpeaks w) where
   }
   event_speaks event st (Restarts number x there) = after_speaks (running_world w) number (restarts x) ran_speaks (restarts_speaks x (good_at number x there))
   event_speaks event st (Cuts number nth keeps_new x there) =
-      after_speaks (running_world w) number (stays (record x { store = record x.store { cut = Some (record { nth = nth; keeps_new = keeps_new }) } }) answers.Set) ran_speaks
+      after_speaks (running_world w) number
+      (stays (record x { store = record x.store { cut = Some (record { nth = nth; keeps_new = keeps_new }) } }) answers.Set) ran_speaks
       (record { node = speaks_at number x there; frames = All-nil SentOctets })
 
 -- # Runs

@@ -22,7 +22,8 @@ use Rattle.node_rules.specs.Accepting.{accept}
 use Rattle.node_rules.specs.Calls as calls
 use Rattle.node_rules.specs.Ciphers.{Ciphers}
 use Rattle.node_rules.specs.Coordinators as coordinators
-use Rattle.node_rules.specs.Drafts.{Draft, Ends, UnsealedUnit, all_go, alone, body_goes, empty_draft, goes, leave, sealed_units, own_mesh, sealed_by, sealing_key}
+use Rattle.node_rules.specs.Drafts.{Draft, Ends, UnsealedUnit, all_go, alone, body_goes, empty_draft, goes, leave, sealed_units, own_mesh, sealed_by}
+use Rattle.node_rules.specs.Drafts.{sealing_key}
 use Rattle.node_rules.specs.Drafts.{units_of, waits, waits_for, with_next_tag, with_own_number, with_rank, with_ring, with_routing_by}
 use Rattle.node_rules.specs.Frames.{Sent, Sealed, Up, Down, arrived}
 use Rattle.node_rules.specs.Hearing.{dropped}
@@ -41,7 +42,8 @@ use Rattle.line_rules.specs.Steps.{hearing_step, identity}
 use Rattle.line_rules.specs.Worlds.{World}
 use Rattle.line_laws.proofs.CallForms.{Few, Nothing, random_is, send_is}
 use Rattle.line_laws.proofs.CoordinatorForms.{IsGranted, IsReached, IsSaidDown, activate_is, activate_self_is, challenge_is, coordinator_is, kick_is, rekey_is}
-use Rattle.line_laws.proofs.Made.{Given, IsLess, Whole, Part, Carried, IsSaid, Seeks, Answers, Relays, Passes, SaysTheSame, Forwards, Made, Starts, Ranks, Numbers}
+use Rattle.line_laws.proofs.Made.{Given, IsLess, Whole, Part, Carried, IsSaid, Seeks, Answers, Relays, Passes, SaysTheSame, Forwards, Made, Starts, Ranks}
+use Rattle.line_laws.proofs.Made.{Numbers}
 use Rattle.line_laws.proofs.Made.{Tags as TagsOn, Rings, Idles, Loses, Goes, Sends, Waits, Leaves, RingWord, Carry}
 use Rattle.line_laws.proofs.MadeIn.{MadeIn, Begins, Station, OnStation, Remembers, Tags, Enters, Up as UpIn, Down as DownIn}
 use Rattle.line_laws.proofs.MemoryDraftForms.{AnyAnswer, MadeBy}

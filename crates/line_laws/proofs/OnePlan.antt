@@ -247,7 +247,8 @@ checks_in_turn {H} x b got now e p = (
     subst (λ o. (hearing_step_of o).frames ≡ []) (sym e) (subst (λ t. (checked_by t).frames ≡ []) (sym listed)
         (acts_quiet x halted (with_beside b (λ y. drop_reach y reach_drops.Blacklisted)) (λ m. refl))),
   ),
-  λ other. subst (λ o. IsSameMove known_answer (hearing_step_of o) (acts x (Err drops.Store) (λ m. acknowledged in_memory got.path (message_of got) (p m)))) (sym e)
+  λ other. subst (λ o. IsSameMove known_answer (hearing_step_of o) (acts x (Err drops.Store) (λ m. acknowledged in_memory got.path (message_of got) (p m))))
+      (sym e)
       (subst (λ t. IsSameMove known_answer (checked_by t) (acts x (Err drops.Store) (λ m. acknowledged in_memory got.path (message_of got) (p m)))) (sym other)
       (same_move known_answer x (Err drops.Store) (λ m. acknowledged in_memory got.path (message_of got) (p m)))),
 )

@@ -30,8 +30,10 @@ use Rattle.line_laws.specs.Ranges.{HasRoomInFrames, IsBody, HasHop, IsStationRan
 use Rattle.line_laws.specs.Stores.{IsReadable}
 use Rattle.line_laws.proofs.StoreFold.{WordFits, ring_fits}
 use Rattle.line_laws.proofs.RangeUnits.{less_fit, less_route, all_out}
-use Rattle.line_laws.proofs.Made.{Given, IsCome, MessageCame, Offered, ByRequest, ByReply, ByItself, RingWord, Carry, mesh_of, IsLost, ByError, OnWay, IsSaid, Seeks}
-use Rattle.line_laws.proofs.Made.{Answers, Relays, Passes, SaysTheSame, Forwards, Made, Starts, Ranks, Numbers, Tags, Rings, Idles, Loses, Goes, Sends, Waits, Leaves}
+use Rattle.line_laws.proofs.Made.{Given, IsCome, MessageCame, Offered, ByRequest, ByReply, ByItself, RingWord, Carry, mesh_of, IsLost, ByError, OnWay, IsSaid}
+use Rattle.line_laws.proofs.Made.{Seeks}
+use Rattle.line_laws.proofs.Made.{Answers, Relays, Passes, SaysTheSame, Forwards, Made, Starts, Ranks, Numbers, Tags, Rings, Idles, Loses, Goes, Sends, Waits}
+use Rattle.line_laws.proofs.Made.{Leaves}
 
 -- What is known of a call and of what came: the readings and the call's own words say it.
 pub record InRange (W : RingWord → Type 0) (g : Given) : Type 0 where

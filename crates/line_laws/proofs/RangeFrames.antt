@@ -11,7 +11,8 @@ use Rattle.group_keys.specs.KeyRing as ring
 use Rattle.node_rules.specs.Ciphers.{Ciphers}
 use Rattle.node_rules.specs.Frames.{Sent, Sealed, Up, Down, spelled}
 use Rattle.node_rules.specs.Memory.{StationMemory, Memory}
-use Rattle.node_rules.specs.Drafts.{Draft, UnsealedUnit, empty_draft, sealed_units, sealed_by, sealing_key, with_rank, with_own_number, with_next_tag, with_ring}
+use Rattle.node_rules.specs.Drafts.{Draft, UnsealedUnit, empty_draft, sealed_units, sealed_by, sealing_key, with_rank, with_own_number, with_next_tag}
+use Rattle.node_rules.specs.Drafts.{with_ring}
 use Rattle.node_rules.specs.Drafts.{with_routing_by, goes, body_goes, waits, leave}
 use Rattle.node_rules.specs.MemoryDrafts.{on_station, station_part, with_memory_by, with_pair_tags, goes_up, goes_down}
 use Rattle.node_rules.specs.Coordinators.{with_book_entry}

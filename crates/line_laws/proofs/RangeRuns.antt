@@ -14,7 +14,8 @@ use Rattle.line_events.specs.declared.event.Answer.TheVariants as answers
 use Rattle.line_events.specs.declared.event.Event.{Event}
 use Rattle.line_rules.specs.Forgery.{accepting}
 use Rattle.line_rules.specs.Worlds.{World, Flight, node_at, flight_at, start}
-use Rattle.line_rules.specs.Steps.{Step, set_up, running_world, world_after, node_outcome, sending, sent_if, is_taken, tag_of, hearing_step, hearing_outcome, note_by, forged_by, identity}
+use Rattle.line_rules.specs.Steps.{Step, set_up, running_world, world_after, node_outcome, sending, sent_if, is_taken, tag_of, hearing_step, hearing_outcome}
+use Rattle.line_rules.specs.Steps.{note_by, forged_by, identity}
 use Rattle.line_rules.specs.Steps.{psk_of}
 use Rattle.line_rules.specs.Steps.{flights_of, offered_near, blank_node, restarts, memory_by, ticked}
 use Rattle.node_rules.specs.declared.heard.Accepted.{Accepted}
@@ -341,7 +342,8 @@ module _ (w : World) (ok : WorldOk w) (s : WorldSpeaks w) (r : WorldRanged w) wh
       by_taken true k = record { nodes = k.nodes; flights = k.flights }
       by_taken false k = k
 
-  heard_is : (number : ℕ) (y : Node) (octets : List ℕ) (got : Accepted) (cost : ℕ) → DidRanged (hearing_step network y got cost (note_by w octets got.path) w.clock)
+  heard_is : (number : ℕ) (y : Node) (octets : List ℕ) (got : Accepted) (cost : ℕ)
+      → DidRanged (hearing_step network y got cost (note_by w octets got.path) w.clock)
       → WorldRanged (hearing_outcome network w number y octets got cost).0
   heard_is number y octets got cost did =
       let k = after_ranged (running_world w) number (hearing_step network y got cost (note_by w octets got.path) w.clock) ran_ranged did in
@@ -407,7 +409,9 @@ module _ (w : World) (ok : WorldOk w) (s : WorldSpeaks w) (r : WorldRanged w) wh
         (All-weaker NodeRanged (λ x. NodeRanged (ticked (w.clock + seconds) x)) (ticked_ranged (w.clock + seconds)) w.nodes r.nodes);
     flights = r.flights;
   }
-  event_ranged event st (Restarts number x there) = λ honest. after_ranged (running_world w) number (restarts x) ran_ranged (restarts_ranged x (good_at number x there))
+  event_ranged event st (Restarts number x there) =
+      λ honest. after_ranged (running_world w) number (restarts x) ran_ranged (restarts_ranged x (good_at number x there))
   event_ranged event st (Cuts number nth keeps_new x there) = λ honest.
-      after_ranged (running_world w) number (stays (record x { store = record x.store { cut = Some (record { nth = nth; keeps_new = keeps_new }) } }) answers.Set) ran_ranged
+      after_ranged (running_world w) number
+      (stays (record x { store = record x.store { cut = Some (record { nth = nth; keeps_new = keeps_new }) } }) answers.Set) ran_ranged
       (record { station = ranged_at number x there; frames = All-nil IsSent })

@@ -156,7 +156,8 @@ module _ (At Own : ℕ → Type 0) (C : ℕ → ℕ → Rank → Type 0) (m : Me
 
   -- a grant of the workshop
   pub provision_ranks : (granted : Granted) → At granted.address → Ranked (meters.provision m granted)
-  provision_ranks granted at = quiet calls.ringing_ends 0 0 0 Is NoGrant NoPair NoEui _ (λ g e. subst (λ (w : RingWord). IsCoordinatorAddress w) (sym e) at) (λ d a x. x) _
+  provision_ranks granted at =
+      quiet calls.ringing_ends 0 0 0 Is NoGrant NoPair NoEui _ (λ g e. subst (λ (w : RingWord). IsCoordinatorAddress w) (sym e) at) (λ d a x. x) _
       (of_station_planned Is (call_given 0 0 0) _ (λ d a x. x.0) _ (install_is Is (call_given 0 0 0) m.station granted refl))
     where
       Is : RingWord → Type 0

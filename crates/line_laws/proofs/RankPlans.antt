@@ -88,7 +88,8 @@ ranks_read t r sound kept = rw (opened_again t r sound.entries kept) refl
 pub held_read : (t : routing.Routing) (r : Records) → IsRouting t → routing.AgreesWith t r → (dest : ℕ) → routing.held (ranks_in r) dest ≡ routing.held t dest
 held_read t r sound kept dest = ap (λ s. routing.held s dest) (ranks_read t r sound kept) ∙ ended_held (λ _. true) t dest
 
-pub rank_read : (t : routing.Routing) (r : Records) → IsRouting t → routing.AgreesWith t r → (dest : ℕ) → routing.rank_of (ranks_in r) dest ≡ routing.rank_of t dest
+pub rank_read : (t : routing.Routing) (r : Records) → IsRouting t → routing.AgreesWith t r → (dest : ℕ)
+    → routing.rank_of (ranks_in r) dest ≡ routing.rank_of t dest
 rank_read t r sound kept dest = ap (λ s. routing.rank_of s dest) (ranks_read t r sound kept) ∙ ended_ranks (λ _. true) t dest
 
 -- # A node
@@ -111,7 +112,8 @@ module _ (At Own : ℕ → Type 0) (C : ℕ → ℕ → Rank → Type 0) where
       record { above = λ dest. inl refl; not_own = λ dest is none. none; routes = λ dest next e. Stood e refl; backed = All-nil (FrameBacked At (stored x)) }
 
   -- the ranks that the records before and after give
-  module _ (x y : Node) (t s : routing.Routing) (sound : IsRouting t) (kept : routing.AgreesWith t x.store.records) (q : RankKept Own C t s y.store.records) where
+  module _ (x y : Node) (t s : routing.Routing) (sound : IsRouting t) (kept : routing.AgreesWith t x.store.records)
+      (q : RankKept Own C t s y.store.records) where
     was : (dest : ℕ) → routing.held (stored x) dest ≡ routing.held t dest
     was dest = held_read t x.store.records sound kept dest
 

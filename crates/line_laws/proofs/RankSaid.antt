@@ -25,11 +25,13 @@ use Rattle.routing_set.proofs.Offers.{gone_among, place_there, entered_held, ent
 use Rattle.routing_set.proofs.LookUps.{is_at, is_at-true, entry_of-find}
 use Rattle.node_rules.specs.Frames.{Sent, Sealed, Up as PlainUp, Down as PlainDown}
 use Rattle.node_rules.specs.Memory.{StationMemory, Memory, Load, Datagram, Command, Body, address_of}
-use Rattle.node_rules.specs.Drafts.{Draft, UnsealedUnit, empty_draft, with_rank, with_own_number, with_next_tag, with_ring, with_routing_by, goes, body_goes, waits}
+use Rattle.node_rules.specs.Drafts.{Draft, UnsealedUnit, empty_draft, with_rank, with_own_number, with_next_tag, with_ring, with_routing_by, goes, body_goes}
+use Rattle.node_rules.specs.Drafts.{waits}
 use Rattle.node_rules.specs.Drafts.{leave, waits_for, all_go, units_of, own_mesh, sealed_units, sealed_by, sealing_key}
 use Rattle.node_rules.specs.MemoryDrafts.{on_station, station_part, with_memory_by, with_pair_tags, goes_up, goes_down}
 use Rattle.node_rules.specs.Coordinators.{with_book_entry}
-use Rattle.line_laws.proofs.Made.{RingWord, Install, Given, Offered, IsSaid, Seeks, Answers, Relays, Passes, SaysTheSame, Forwards, JustRanked, IsLess, Whole, Part}
+use Rattle.line_laws.proofs.Made.{RingWord, Install, Given, Offered, IsSaid, Seeks, Answers, Relays, Passes, SaysTheSame, Forwards, JustRanked, IsLess, Whole}
+use Rattle.line_laws.proofs.Made.{Part}
 use Rattle.line_laws.proofs.Made.{Carried, Made, Starts, Ranks, Numbers, Tags, Rings, Idles, Loses, Goes, Sends, Waits, Leaves}
 use Rattle.line_laws.proofs.MadeIn.{unheard, MadeIn, Begins, Station, OnStation, Remembers, Tags as TagsIn, Enters, Up, Down}
 use Rattle.line_laws.proofs.RankOrder.{at_least_trans}
@@ -192,7 +194,8 @@ module _ (At Own : ℕ → Type 0) (C : ℕ → ℕ → Rank → Type 0) (W : Ri
   said_backed : (s d : Draft StationMemory) (to : ℕ) (unit : MeshUnit) (note : ℕ) → IsSaid W g s d to unit note → IsAt At (address_of d.memory)
       → UnitBacked At d.memory.routing unit
   said_backed s d to unit note (Seeks x dest number n load here last some carried) h = Says (Rreq number 0 x dest) (inl (subst (IsAt At) here h, refl))
-  said_backed s d to unit note (Answers x by origin number n c dest here last some came_so) h = Says (Rrep number 0 x origin) (inl (subst (IsAt At) here h, refl))
+  said_backed s d to unit note (Answers x by origin number n c dest here last some came_so) h =
+      Says (Rrep number 0 x origin) (inl (subst (IsAt At) here h, refl))
   said_backed s d to unit note (Relays by origin dest n c rank o just came_so) h =
       Says (Rreq rank.number rank.cost origin dest) (inr (inl (just_held d by origin rank just), small d by origin rank h o))
   said_backed s d to unit note (Passes by origin target hop n c rank o just came_so there) h =

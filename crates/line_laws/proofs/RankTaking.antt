@@ -140,7 +140,8 @@ module _ (x : Identity) (m : Memory) (got : Accepted) (cost note now : ℕ) (ok 
               };
               wrong = e;
             })
-            (subst (Among (granting_tag peer.eui (identifier_of packet) peer.rand_s peer.rand_p (granting_text g))) (sym (said_opens session_way peer.eui join d))
+            (subst (Among (granting_tag peer.eui (identifier_of packet) peer.rand_s peer.rand_p (granting_text g)))
+            (sym (said_opens session_way peer.eui join d))
             (tagged_draft made opened before _ (Later _ _ (Here []))))
 
     no_fault : {A B : Type 0} (f : A → B) (o : Option A) → option_map f o ≡ None → o ≡ None

@@ -49,7 +49,8 @@ use Rattle.reach_rules.specs.declared.refusal.BroadcastRefusal.TheVariants as br
 use Rattle.reach_rules.specs.declared.refusal.ScanRefusal.{ScanRefusal}
 use Rattle.reach_rules.specs.declared.refusal.ScanRefusal.TheVariants as scan_faults
 use Rattle.reach_rules.specs.PathAsking.{ask_path}
-use Rattle.reach_rules.specs.Beacons.{Discovering, beacons, begin_scan, choose_agent, cost_to_coordinator, hear_discovery, hear_discovery_in, is_foreign, takes_beacon}
+use Rattle.reach_rules.specs.Beacons.{Discovering, beacons, begin_scan, choose_agent, cost_to_coordinator, hear_discovery, hear_discovery_in, is_foreign}
+use Rattle.reach_rules.specs.Beacons.{takes_beacon}
 use Rattle.reach_rules.specs.Beacons.{takes_beacons, stays as stays_scan}
 use Rattle.reach_rules.specs.Broadcasts.{broadcast, broadcast_ends, broadcast_from}
 use Rattle.reach_rules.specs.CheckedReplies.{message_of}
@@ -66,7 +67,8 @@ use Rattle.line_rules.specs.Further.{broadcasts_by, checked, commanded, discover
 use Rattle.line_rules.specs.Further.{scans_by, sends_nothing, with_beside, with_check}
 use Rattle.line_rules.specs.Logs.{LogsKept}
 use Rattle.line_rules.specs.Runs.{Entry, IsRun, events_of, one_of}
-use Rattle.line_rules.specs.Steps.{Step, node_outcome, allowed_word, flight_by, flights_of, happenings, hearing_outcome, identity, is_taken, note_by, running_world, sent_if, tag_of}
+use Rattle.line_rules.specs.Steps.{Step, node_outcome, allowed_word, flight_by, flights_of, happenings, hearing_outcome, identity, is_taken, note_by}
+use Rattle.line_rules.specs.Steps.{running_world, sent_if, tag_of}
 use Rattle.line_rules.specs.Steps.{trace_of, world_after}
 use Rattle.line_rules.specs.Forgery.{Comes}
 use Rattle.line_rules.specs.FurtherRuns.{broadcasts}

@@ -27,10 +27,12 @@ use Rattle.line_events.specs.Events.{IsEvent, IsLineOctets}
 use Rattle.line_rules.specs.Forgery.{Comes, OfFlight, OfScript, accepting}
 use Rattle.line_rules.specs.FurtherRuns.{is_restart_of, is_tick}
 use Rattle.line_rules.specs.Further.{accepted_further, after_ok, asks_by, bcast, broadcasts_by, checked, checks, choose, chooses_by, comes, commanded, delivers}
-use Rattle.line_rules.specs.Further.{discovers_by, hearing_outcome_by, further_hearing_outcome, injects, is_dropped, line_step, path, restarts_by, restarts_further, scan, scans_by}
+use Rattle.line_rules.specs.Further.{discovers_by, hearing_outcome_by, further_hearing_outcome, injects, is_dropped, line_step, path, restarts_by}
+use Rattle.line_rules.specs.Further.{restarts_further, scan, scans_by}
 use Rattle.line_rules.specs.Further.{ticks, unbelieved}
 use Rattle.line_rules.specs.Logs.{LogsKept}
-use Rattle.line_rules.specs.Steps.{Step, happenings, has_begun, hearing_outcome, hearing_step, in_setup, note_by, on_flight, on_meter, on_node, once_begun, psk_of, running_world, set_up}
+use Rattle.line_rules.specs.Steps.{Step, happenings, has_begun, hearing_outcome, hearing_step, in_setup, note_by, on_flight, on_meter, on_node, once_begun}
+use Rattle.line_rules.specs.Steps.{psk_of, running_world, set_up}
 use Rattle.line_rules.specs.Steps.{takes_setup, tick, ticked, world_after, trace_of}
 use Rattle.line_rules.specs.Worlds.{World, Trace, Flight, flight_at, node_at}
 use Rattle.line_laws.specs.ReachTraces.{link_of}
@@ -205,7 +207,10 @@ module _ (ciphers : Ciphers) (w : World) (logs : LogsKept w) where
   ticks_step seconds = by_start (has_begun w)
     where
       by_start : (b : Bool) → Is (events.Tick seconds) (after_ok (λ r. (record r.0 { beside = map (tick_beside (w.clock + seconds)) w.beside }, r.1))
-          (if b then Ok (record (running_world w) { clock = w.clock + seconds; nodes = map (ticked (w.clock + seconds)) w.nodes }, trace_of (happenings w answers.Ticked)) else
+          (if b then Ok (
+            record (running_world w) { clock = w.clock + seconds; nodes = map (ticked (w.clock + seconds)) w.nodes },
+            trace_of (happenings w answers.Ticked),
+          ) else
           Err faults.Setup))
       by_start true = Ticks seconds
       by_start false = Fails _ faults.Setup
@@ -240,7 +245,8 @@ module _ (ciphers : Ciphers) (w : World) (logs : LogsKept w) where
         by_command passes None e = by_checks w.checks_on refl
           where
             by_checks : (b : Bool) → w.checks_on ≡ b → Is event (Ok (if b then checked ciphers w number got (heard_node ciphers w x octets got cost)
-                (hearing_outcome ciphers w number (after_accepting ciphers x octets) octets got cost) else hearing_outcome ciphers w number (after_accepting ciphers x octets)
+                (hearing_outcome ciphers w number (after_accepting ciphers x octets) octets got cost)
+                else hearing_outcome ciphers w number (after_accepting ciphers x octets)
                 octets got cost))
             by_checks true on = Checked event number x octets cost got accepted low passes e on
             by_checks false off = Hears event number x octets cost got accepted low passes e off
@@ -257,7 +263,8 @@ module _ (ciphers : Ciphers) (w : World) (logs : LogsKept w) where
       where
         by_answer : is_discovery octets ≡ false → (o : Result Accepted FrameRefusal) → (accepting ciphers x octets).answer ≡ o
             → Is event (Ok (accepted_further ciphers w number octets cost (accepting ciphers x octets)))
-        by_answer sealed (Err reason) e = rw e (Known event _ other (TurnsDown event number x octets reason (accepting ciphers x octets) there says outcome_of_arrival
+        by_answer sealed (Err reason) e =
+            rw e (Known event _ other (TurnsDown event number x octets reason (accepting ciphers x octets) there says outcome_of_arrival
             refl e)
             (λ n y ys got c here is. not_both n y ys got (same_comes w event number n octets ys outcome_of_arrival c) here is))
           where

@@ -152,7 +152,8 @@ module _ (ciphers : Ciphers) (h : Homes) (w : World) (low : (i address : ℕ) �
       → SaidBy h w from message
   opened_said octets l from counter got a x code body message unit first read = by_flight x.says
     where
-      by_unit : (sealed_unit : SealedUnit) (node : Node) → h x.flight.from ≡ Some from → node_at w x.flight.from ≡ Some node → SealedUnitRead ciphers sealed_unit → (u : MeshUnit)
+      by_unit : (sealed_unit : SealedUnit) (node : Node) → h x.flight.from ≡ Some from → node_at w x.flight.from ≡ Some node
+          → SealedUnitRead ciphers sealed_unit → (u : MeshUnit)
           → sealed_unit.unit ≡ u → u ≡ units.Local code body
           → UnitBacked (At h x.flight.from) (stored node) u → SaidBy h w from message
       by_unit sealed_unit node home there reads u is same (Says m b) =
@@ -176,7 +177,8 @@ module _ (ciphers : Ciphers) (h : Homes) (w : World) (low : (i address : ℕ) �
       by_flight (parts.IsPlain none) = absurd (none-some a.key (sym none ∙ x.key_is))
       by_flight (IsSealedUnit sealed_unit node octets_are key_is home there b reads) =
           let key : sealed_unit.key ≡ a.key = same_Some _ _ (sym key_is ∙ x.key_is) in
-          let same : arrived ciphers (spelled ciphers (Sealed sealed_unit)).octets ≡ Some a.frame = ap (arrived ciphers) (sym octets_are ∙ x.octets_are) ∙ a.is in
+          let same : arrived ciphers (spelled ciphers (Sealed sealed_unit)).octets
+          ≡ Some a.frame = ap (arrived ciphers) (sym octets_are ∙ x.octets_are) ∙ a.is in
           let opens = reads.opens a.frame a.head.0 a.head.1 a.head.2 a.to from counter a.index a.payload same a.head.3 (ap a.frame.opened key ∙ a.opened) in
           let this : sealed_unit.unit ≡ units.Local code body = same_Some _ _ (sym opens.1 ∙ unit) in
           by_unit sealed_unit node (home ∙ ap Some (sym opens.0)) there reads sealed_unit.unit refl this b

@@ -43,10 +43,13 @@ use Rattle.line_rules.specs.Answers.{Reception, meter_reception, coordinator_rec
 use Rattle.node_rules.specs.MemoryDrafts.{with_station, give_random}
 use Rattle.line_events.specs.Events.{IsEvent, IsLineOctets}
 use Rattle.line_rules.specs.Worlds.{World, Flight, Trace, node_at, flight_at, is_forged_tag}
-use Rattle.line_rules.specs.Steps.{Step, set_up, running_world, world_after, node_outcome, once_begun, in_setup, has_begun, takes_setup, on_node, on_meter, made_node}
+use Rattle.line_rules.specs.Steps.{Step, set_up, running_world, world_after, node_outcome, once_begun, in_setup, has_begun, takes_setup, on_node, on_meter}
+use Rattle.line_rules.specs.Steps.{made_node}
 use Rattle.line_rules.specs.Steps.{blank_node}
-use Rattle.line_rules.specs.Steps.{identity, hearing_step, restarts, ticked, rand, join, joins_by, leave, send, sends_by, sent_if, breaks, breaks_by, lose, tick}
-use Rattle.line_rules.specs.Steps.{restart, cut, show, psk_of, trace_of, happenings, coordinator, coordinator_node, meter, is_known, depot, depot_by, provisioned}
+use Rattle.line_rules.specs.Steps.{identity, hearing_step, restarts, ticked, rand, join, joins_by, leave, send, sends_by, sent_if, breaks, breaks_by, lose}
+use Rattle.line_rules.specs.Steps.{tick}
+use Rattle.line_rules.specs.Steps.{restart, cut, show, psk_of, trace_of, happenings, coordinator, coordinator_node, meter, is_known, depot, depot_by}
+use Rattle.line_rules.specs.Steps.{provisioned}
 use Rattle.line_rules.specs.Steps.{near, near_by, keeps_rank, ranks_full, offered_near, preset, allow, allowed, deliver, inject, arrives, accepted_by, received}
 use Rattle.line_rules.specs.Steps.{by_coordinator, forged_by, note_by, rekey, challenge, activate, kick, step}
 use Rattle.node_rules.specs.NodeSteps.{NodeStep, acts, answering, of_station, changing}
@@ -70,7 +73,8 @@ use Rattle.line_laws.proofs.RankPlans.{PlanRanks, NodeRanks, acts_ranks, ranks_t
 use Rattle.line_laws.proofs.RankCalls.{send_ranks, near_ranks, counter_ranks, number_ranks, broke_ranks, provision_ranks, random_ranks, join_ranks, leave_ranks}
 use Rattle.line_laws.proofs.RankCalls.{coordinator_hears_ranks, allow_ranks, depot_ranks, rekey_ranks, activate_self_ranks, challenge_ranks, activate_ranks}
 use Rattle.line_laws.proofs.RankCalls.{kick_ranks, accept_ranks}
-use Rattle.line_laws.proofs.RouteParts.{At, Own, IsNearer, FlightBacked, IsPlain, IsSealedUnit, RoutingHolds, ComesFrom, From, New, Reached, reach, flight_later}
+use Rattle.line_laws.proofs.RouteParts.{At, Own, IsNearer, FlightBacked, IsPlain, IsSealedUnit, RoutingHolds, ComesFrom, From, New, Reached, reach}
+use Rattle.line_laws.proofs.RouteParts.{flight_later}
 use Rattle.line_laws.proofs.RouteParts.{after_step}
 use Rattle.line_laws.proofs.RouteHeard.{SaidRight, accepted_said, said_offers}
 use Rattle.line_laws.proofs.RouteNodes.{acts_frames, acts_memory, same_store, ticked_ranks, restarted_ranks, blank_ranks, blank_routes, coordinator_ranks}
@@ -250,9 +254,11 @@ module _ (ciphers : Ciphers) (fits : KeepsRanges ciphers) (h : Homes) (w : World
 
   rand_holds : (number : ℕ) (value : Rand) → Holds (rand ciphers w number value)
   unfolding rand
-  rand_holds number value = once _ (at_node number _ (λ x there. acted_holds number x _ there (answering_holds ciphers h (running_world w) number x random_word _
+  rand_holds number value =
+      once _ (at_node number _ (λ x there. acted_holds number x _ there (answering_holds ciphers h (running_world w) number x random_word _
       (call (running_world w) number x (Err randoms.Halted) (λ m. give_random m value) there
-      (λ m here kept sized. random_ranks (At h number) (Own h number) (IsNearer h (running_world w)) m here value) (λ m is. none_read (random_quiet m value))))))
+      (λ m here kept sized. random_ranks (At h number) (Own h number) (IsNearer h (running_world w)) m here value)
+      (λ m is. none_read (random_quiet m value))))))
 
   joins_hold : (number agent : ℕ) (x : Node) (address : Option ℕ) (psk : Option Key) → node_at w number ≡ Some x
       → Holds (Ok (joins_by ciphers w number x address psk))
@@ -299,7 +305,8 @@ module _ (ciphers : Ciphers) (fits : KeepsRanges ciphers) (h : Homes) (w : World
   breaks_hold number x None there = Taken _ (λ honest. ran_holds)
   breaks_hold number x (Some next) there = acted_holds number x _ there
       (call (running_world w) number x answers.Halted (λ m. changing answers.Broken (with_station (calls.broke next m.station) m)) there
-      (λ m here kept sized. broke_ranks (At h number) (Own h number) (IsNearer h (running_world w)) m here next answers.Broken) (λ m is. All-nil (FrameRead ciphers)))
+      (λ m here kept sized. broke_ranks (At h number) (Own h number) (IsNearer h (running_world w)) m here next answers.Broken)
+      (λ m is. All-nil (FrameRead ciphers)))
 
   break_holds : (number next : ℕ) → Holds (breaks ciphers w number next)
   unfolding breaks
@@ -417,7 +424,8 @@ module _ (ciphers : Ciphers) (fits : KeepsRanges ciphers) (h : Homes) (w : World
           → Holds (Ok (if b then by_coordinator ciphers w c answers.Activated (λ m. coordinator_rules.activate_self m index)
           else by_coordinator ciphers w c answers.Ordered (λ m. coordinator_rules.activate m x.eui index w.clock)))
       by_number true x c other there = order_holds c answers.Activated _ there
-          (λ m here. activate_self_ranks (At h 0) (Own h 0) (IsNearer h (running_world w)) m here (own_of c) index) (λ m at. none_read (activate_self_quiet m index))
+          (λ m here. activate_self_ranks (At h 0) (Own h 0) (IsNearer h (running_world w)) m here (own_of c) index)
+          (λ m at. none_read (activate_self_quiet m index))
       by_number false x c other there = order_holds c answers.Ordered _ there
           (λ m here. activate_ranks (At h 0) (Own h 0) (IsNearer h (running_world w)) m here (own_of c) x.eui index w.clock)
           (λ m at. reads.activate 0 c m there at number x index other low)
@@ -433,7 +441,8 @@ module _ (ciphers : Ciphers) (fits : KeepsRanges ciphers) (h : Homes) (w : World
       by_option (λ psk. Ok (allowed ciphers w number (acts c (Err orders.Halted) (λ m. coordinator_rules.allow m x.eui psk)))) (psk_of x) (Err faults.Node)
       (λ psk pair. Taken _ (λ honest. after_holds ciphers h (running_world w) 0 c _ there
       (call (running_world w) 0 c (Err orders.Halted) (λ m. coordinator_rules.allow m x.eui psk) there
-      (λ m here kept sized. allow_ranks (At h 0) (Own h 0) (IsNearer h (running_world w)) m here (own_of c) x.eui psk) (λ m at. none_read (allow_quiet m x.eui psk)))
+      (λ m here kept sized. allow_ranks (At h 0) (Own h 0) (IsNearer h (running_world w)) m here (own_of c) x.eui psk)
+      (λ m at. none_read (allow_quiet m x.eui psk)))
       ran_holds)) (Fails faults.Node))))
 
   -- # Setup
@@ -610,7 +619,8 @@ module _ (ciphers : Ciphers) (fits : KeepsRanges ciphers) (h : Homes) (w : World
 
       accepts : CallHolds ciphers h (running_world w) number x (acts x (Err frames.Halted) plan)
       accepts = call (running_world w) number x (Err frames.Halted) plan there
-          (λ m here kept sized. accept_ranks (At h number) (Own h number) (IsNearer h (running_world w)) m here x.eui (arrived ciphers octets) kept.station.range.marks)
+          (λ m here kept sized. accept_ranks (At h number) (Own h number) (IsNearer h (running_world w)) m here x.eui (arrived ciphers octets)
+          kept.station.range.marks)
           (λ m is. no_frames m _ (accept_is m.station x.eui (arrived ciphers octets)))
 
       answered : (got : Accepted) → (acts x (Err frames.Halted) plan).answer ≡ Ok got → Answered x plan got

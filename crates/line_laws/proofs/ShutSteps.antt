@@ -12,7 +12,8 @@ use Rattle.line_rules.specs.Agreement.{is_allow_of}
 use Rattle.line_rules.specs.Answers.{Reception, coordinator_reception, meter_reception, ordered_word, order_word, sent_word}
 use Rattle.line_events.specs.Events.{IsEvent}
 use Rattle.line_rules.specs.Forgery.{Comes, accepting}
-use Rattle.line_rules.specs.Steps.{Step, running_world, world_after, node_outcome, allow, kick, by_coordinator, takes_setup, has_begun, sending, sent_if, is_taken, tag_of}
+use Rattle.line_rules.specs.Steps.{Step, running_world, world_after, node_outcome, allow, kick, by_coordinator, takes_setup, has_begun, sending, sent_if}
+use Rattle.line_rules.specs.Steps.{is_taken, tag_of}
 use Rattle.line_rules.specs.Steps.{hearing_step}
 use Rattle.line_rules.specs.Steps.{hearing_outcome, note_by, identity, psk_of, restarts, ticked, step}
 use Rattle.line_rules.specs.Worlds.{World, Trace, node_at}
@@ -178,7 +179,8 @@ module _ (eui : Eui) where
         (accept_is a.memory.station x.eui (arrived ciphers octets)) a.is in
         let y = (accepting ciphers x octets).node in
         let d = hearing_step ciphers y got cost (note_by w octets got.path) w.clock in
-        after_shut (running_world w) (hearing_outcome ciphers w number y octets got cost).0 number x d (same_shut w (running_world w) refl shut) (after_nodes (running_world w) number d) there
+        after_shut (running_world w) (hearing_outcome ciphers w number y octets got cost).0 number x d (same_shut w (running_world w) refl shut)
+        (after_nodes (running_world w) number d) there
         (λ first. hears_at y got cost (note_by w octets got.path) w.clock did.node (did.role ∙ first_role number x first there)
         (accepted_shut event number x octets there says comes first) routes)
 
@@ -188,7 +190,8 @@ module _ (eui : Eui) where
         → (sending ciphers w from to datagram tag d).0.nodes ≡ (world_after ciphers (running_world w) from d).nodes
     sent_nodes from to datagram tag d = by_taken (is_taken d.answer)
       where
-        by_taken : (b : Bool) → (sent_if w from to datagram tag b (node_outcome ciphers w from d)).0.nodes ≡ (world_after ciphers (running_world w) from d).nodes
+        by_taken : (b : Bool) → (sent_if w from to datagram tag b (node_outcome ciphers w from d)).0.nodes
+            ≡ (world_after ciphers (running_world w) from d).nodes
         by_taken true = refl
         by_taken false = refl
 
@@ -202,7 +205,8 @@ module _ (eui : Eui) where
         (λ y hy. found_one ShutBy shut_failed (node_at w 0) _ (λ c hc. found_one ShutBy shut_failed (psk_of y) _ (λ psk pair.
         let d = acts c (Err orders.Halted) (λ m. coordinator_rules.allow m y.eui psk) in
         let fit = given_at n y hy in
-        after_shut (running_world w) (world_after ciphers (running_world w) 0 d) 0 c d (same_shut w (running_world w) refl shut) (after_nodes (running_world w) 0 d) hc
+        after_shut (running_world w) (world_after ciphers (running_world w) 0 d) 0 c d (same_shut w (running_world w) refl shut)
+        (after_nodes (running_world w) 0 d) hc
         (λ first. acts_shut eui c (Err orders.Halted) (λ m. coordinator_rules.allow m y.eui psk) (good_at 0 c hc) (first_role 0 c refl hc)
         (first_shut 0 c refl hc)
         (λ m sized. allow_shut eui (own_of c) m sized y.eui psk fit.eui
@@ -226,12 +230,14 @@ module _ (eui : Eui) where
       stays_shut event s (Rests e quiet) e_is other running some = same_shut w (running_world w) refl shut
       stays_shut event s (Shows number x) e_is other running some = same_shut w (running_world w) refl shut
       stays_shut event s (Acts e number x A halted plan reads there call word asked) e_is other running some =
-          after_shut (running_world w) (world_after ciphers (running_world w) number (answering reads (acts x halted plan))) number x (answering reads (acts x halted plan))
+          after_shut (running_world w) (world_after ciphers (running_world w) number (answering reads (acts x halted plan))) number x
+          (answering reads (acts x halted plan))
           (same_shut w (running_world w) refl shut) (after_nodes (running_world w) number (answering reads (acts x halted plan))) there
           (asked_shut number x A halted plan there asked)
       stays_shut event s (BreaksLink number next x a there call) e_is other running some =
           let plan : Memory → Plan Memory Answer = λ m. changing answers.Broken (with_station (calls.broke a m.station) m) in
-          after_shut (running_world w) (world_after ciphers (running_world w) number (acts x answers.Halted plan)) number x (acts x answers.Halted plan) (same_shut w (running_world w) refl shut)
+          after_shut (running_world w) (world_after ciphers (running_world w) number (acts x answers.Halted plan)) number x (acts x answers.Halted plan)
+          (same_shut w (running_world w) refl shut)
           (after_nodes (running_world w) number (acts x answers.Halted plan)) there
           (quiet_shut number x answers.Halted plan there (λ m sized. broke_quietly m sized a answers.Broken))
       stays_shut event s (SendsFrom from to datagram x a there call target) e_is other running some =
@@ -246,7 +252,8 @@ module _ (eui : Eui) where
       stays_shut event s (SetsTwo e quiet a b cost x y p q hx hy apart open_is first second fresh near) e_is other running some = absurd (over running open_is)
       stays_shut event s (Provides number x c psk g d ne open_is hx hc pair same is) e_is other running some = absurd (over running open_is)
       stays_shut event s (TurnsDown e number x octets reason d there says comes same is) e_is other running some =
-          after_shut (running_world w) (world_after ciphers (running_world w) number d) number x d (same_shut w (running_world w) refl shut) (after_nodes (running_world w) number d) there
+          after_shut (running_world w) (world_after ciphers (running_world w) number d) number x d (same_shut w (running_world w) refl shut)
+          (after_nodes (running_world w) number d) there
           (λ first. subst (λ (z : NodeStep _). BookShut eui z.node) (sym same) (accepted_shut e number x octets there says comes first))
       stays_shut event s (Hears e number x octets cost got there says comes low is) e_is other running some =
           heard_shut e number x octets cost got there says comes is
@@ -263,7 +270,8 @@ module _ (eui : Eui) where
           (same_shut w (running_world w) refl shut) (after_nodes (running_world w) number (restarts x)) there (λ first. first_shut number x first there)
       stays_shut event s (Cuts number nth keeps_new x there) e_is other running some =
           let d : NodeStep Answer = stays (record x { store = record x.store { cut = Some (record { nth = nth; keeps_new = keeps_new }) } }) answers.Set in
-          after_shut (running_world w) (world_after ciphers (running_world w) number d) number x d (same_shut w (running_world w) refl shut) (after_nodes (running_world w) number d) there
+          after_shut (running_world w) (world_after ciphers (running_world w) number d) number x d (same_shut w (running_world w) refl shut)
+          (after_nodes (running_world w) number d) there
           (λ first. first_shut number x first there)
 
     -- every event but one that allows the meter

@@ -45,7 +45,8 @@ module _ (r : Records) (slot : ℕ) (octets : List ℕ) where
   pub tag_stays : (tag : ℕ) → tag_in (get r tag_slot) ≡ Ok tag → 4 ≢ slot → tag_in (get (insert r slot octets) tag_slot) ≡ Ok tag
   tag_stays tag kept ne = ap tag_in (get-insert_other r slot tag_slot octets ne) ∙ kept
 
-  pub routing_stays : (t : routing.Routing) → routing.AgreesWith t r → 5 ≢ slot → (slot < 0x0200) ⊎ (0x023F < slot) → routing.AgreesWith t (insert r slot octets)
+  pub routing_stays : (t : routing.Routing) → routing.AgreesWith t r → 5 ≢ slot → (slot < 0x0200) ⊎ (0x023F < slot)
+      → routing.AgreesWith t (insert r slot octets)
   routing_stays t kept ne apart = record {
     floors = ap routing.floors_in (get-insert_other r slot routing.floor_slot octets ne) ∙ kept.floors;
     ranks = stored_elsewhere routing.ranks t.entries r (insert r slot octets) slot slot kept.ranks (put_outside r slot octets) (outside apart);

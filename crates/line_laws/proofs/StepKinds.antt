@@ -38,7 +38,8 @@ use Rattle.line_rules.specs.Answers.{random_word, join_word, leave_word, sent_wo
 use Rattle.line_events.specs.Events.{AreOctets, IsEui, IsKey, IsLineOctets, IsEvent}
 use Rattle.line_rules.specs.Forgery.{Comes, OfFlight, OfScript, accepting}
 use Rattle.line_rules.specs.Worlds.{World, Flight, node_at, flight_at}
-use Rattle.line_rules.specs.Steps.{Step, set_up, running_world, world_after, node_outcome, sending, tag_of, once_begun, in_setup, has_begun, takes_setup, on_node, on_meter}
+use Rattle.line_rules.specs.Steps.{Step, set_up, running_world, world_after, node_outcome, sending, tag_of, once_begun, in_setup, has_begun, takes_setup}
+use Rattle.line_rules.specs.Steps.{on_node, on_meter}
 use Rattle.line_rules.specs.Steps.{made_node}
 use Rattle.line_rules.specs.Steps.{blank_node, coordinator_node, identity, is_known, restarts, rand, join, joins_by, leave, send, sends_by, breaks, breaks_by}
 use Rattle.line_rules.specs.Steps.{lose, on_flight, tick, ticked, restart, cut, show, psk_of, trace_of, happenings, coordinator, meter, depot, depot_by}
@@ -166,7 +167,8 @@ pub data IsStep (ciphers : Ciphers) (w : World) : Event → Step → Type 1 wher
   Makes : (event : Event) (x : Node) → IsMade w event x → IsStep ciphers w event (Ok (made_node w x))
   -- nothing is done
   Rests : (event : Event) → (IsBrought event → ⊥) → IsStep ciphers w event (Ok (running_world w, trace_of (happenings w answers.NoAddress)))
-  Shows : (number : ℕ) (x : Node) → IsStep ciphers w (events.Show number) (Ok (running_world w, trace_of (record (happenings w answers.Shown) { shown = Some (shown_of x) })))
+  Shows : (number : ℕ) (x : Node)
+      → IsStep ciphers w (events.Show number) (Ok (running_world w, trace_of (record (happenings w answers.Shown) { shown = Some (shown_of x) })))
   -- one node acts
   Acts : (event : Event) (number : ℕ) (x : Node) (A : Type 0) (halted : A) (plan : Memory → Plan Memory A) (reads : A → Answer) → node_at w number ≡ Some x
       → IsCall ciphers w number x A halted plan → IsWord A reads event → IsAsked ciphers w number x A halted plan
@@ -209,7 +211,8 @@ pub data IsStep (ciphers : Ciphers) (w : World) : Event → Step → Type 1 wher
       → IsStep ciphers w event (Ok (world_after ciphers (running_world w) number d, trace_of (happenings w (frame_word reason))))
   Hears : (event : Event) (number : ℕ) (x : Node) (octets : List ℕ) (cost : ℕ) (got : Accepted) → node_at w number ≡ Some x → IsEvent event
       → Comes w event number octets → cost ≤ 255
-      → (accepting ciphers x octets).answer ≡ Ok got → IsStep ciphers w event (Ok (hearing_outcome ciphers w number (accepting ciphers x octets).node octets got cost))
+      → (accepting ciphers x octets).answer ≡ Ok got
+      → IsStep ciphers w event (Ok (hearing_outcome ciphers w number (accepting ciphers x octets).node octets got cost))
   -- flights alone
   Loses : (number : ℕ) (f : Flight) → flight_at w number ≡ Some f
       → IsStep ciphers w (events.Lose number)
@@ -220,7 +223,8 @@ pub data IsStep (ciphers : Ciphers) (w : World) : Event → Step → Type 1 wher
   Restarts : (number : ℕ) (x : Node) → node_at w number ≡ Some x → IsStep ciphers w (events.Restart number) (Ok (node_outcome ciphers w number (restarts x)))
   Cuts : (number nth : ℕ) (keeps_new : Bool) (x : Node) → node_at w number ≡ Some x
       → IsStep ciphers w (events.Cut number nth keeps_new)
-      (Ok (node_outcome ciphers w number (stays (record x { store = record x.store { cut = Some (record { nth = nth; keeps_new = keeps_new }) } }) answers.Set)))
+      (Ok (node_outcome ciphers w number
+      (stays (record x { store = record x.store { cut = Some (record { nth = nth; keeps_new = keeps_new }) } }) answers.Set)))
 
 -- # Every event is one of them
 

@@ -46,10 +46,12 @@ use Rattle.node_rules.specs.Drafts.{choose}
 use Rattle.node_rules.specs.MemoryDrafts.{with_station}
 use Rattle.line_events.specs.Events.{IsEvent}
 use Rattle.line_rules.specs.Worlds.{World, Flight, Trace, node_at, flight_at, is_forged_tag}
-use Rattle.line_rules.specs.Steps.{Step, set_up, running_world, world_after, flights_of, node_outcome, once_begun, in_setup, has_begun, takes_setup, on_node, on_meter}
+use Rattle.line_rules.specs.Steps.{Step, set_up, running_world, world_after, flights_of, node_outcome, once_begun, in_setup, has_begun, takes_setup, on_node}
+use Rattle.line_rules.specs.Steps.{on_meter}
 use Rattle.line_rules.specs.Steps.{made_node}
 use Rattle.line_rules.specs.Steps.{blank_node, identity, hearing_step, restarts, ticked, rand, join, joins_by, leave, send, sends_by, sent_if, breaks}
-use Rattle.line_rules.specs.Steps.{breaks_by, lose, tick, restart, cut, show, psk_of, trace_of, happenings, coordinator, coordinator_node, meter, is_known, depot}
+use Rattle.line_rules.specs.Steps.{breaks_by, lose, tick, restart, cut, show, psk_of, trace_of, happenings, coordinator, coordinator_node, meter, is_known}
+use Rattle.line_rules.specs.Steps.{depot}
 use Rattle.line_rules.specs.Steps.{depot_by, provisioned, near, near_by, keeps_rank, ranks_full, offered_near, preset, allow, allowed, deliver, inject, arrives}
 use Rattle.line_rules.specs.Steps.{accepted_by, received, by_coordinator, forged_by, note_by, rekey, challenge, activate, kick, step}
 use Rattle.node_rules.specs.NodeSteps.{NodeStep, acts, answering, of_station}
@@ -153,7 +155,8 @@ module _ (ciphers : Ciphers) (fits : KeepsRanges ciphers) (w : World) (ok : Worl
   -- what a node did goes into the world and into the report
   pub acted_good : (number : ℕ) (x : Node) (d : NodeStep Answer) → node_at w number ≡ Some x → DidOk x d → StepGood w (Ok (node_outcome ciphers w number d))
   acted_good number x d there did =
-      Taken _ (ok_after ciphers fits (running_world w) number x d ran_ok there did (λ e. absurd (true_false e))) did.few (after_more ciphers (running_world w) number d)
+      Taken _ (ok_after ciphers fits (running_world w) number x d ran_ok there did (λ e. absurd (true_false e))) did.few
+      (after_more ciphers (running_world w) number d)
 
   -- # coordinator, meter
 
@@ -357,7 +360,8 @@ module _ (ciphers : Ciphers) (fits : KeepsRanges ciphers) (w : World) (ok : Worl
   pub received_good : (number : ℕ) (x : Node) (forged : Bool) (d : NodeStep Reception) → node_at w number ≡ Some x → DidOk x d
       → StepGood w (Ok (received ciphers w number forged d))
   received_good number x forged d there did = Taken _ (counts_ok (world_after ciphers (running_world w) number d) _
-      (ok_after ciphers fits (running_world w) number x d ran_ok there did (λ e. absurd (true_false e))) refl refl (λ e. e)) did.few (after_more ciphers (running_world w) number d)
+      (ok_after ciphers fits (running_world w) number x d ran_ok there did (λ e. absurd (true_false e))) refl refl (λ e. e)) did.few
+      (after_more ciphers (running_world w) number d)
 
   arrives_good : (number : ℕ) (x : Node) (octets : List ℕ) (cost : ℕ) → node_at w number ≡ Some x → AreOctets octets
       → StepGood w (Ok (arrives ciphers w number x octets cost))
@@ -475,9 +479,11 @@ module _ (ciphers : Ciphers) (fits : KeepsRanges ciphers) (w : World) (ok : Worl
   unfolding allow
   allow_good number = once _ (at_meter number _ (λ x is. at_node 0 _ (λ c there.
       by_option (λ psk. Ok (allowed ciphers w number (acts c (Err orders.Halted) (λ m. coordinator_rules.allow m x.eui psk)))) (psk_of x) (Err faults.Node)
-      (λ psk pair. Taken _ (ok_after ciphers fits (running_world w) 0 c _ ran_ok there (coordinator_acts c (Err orders.Halted) _ (ok.first c there) (node_ok 0 c there)
+      (λ psk pair. Taken _ (ok_after ciphers fits (running_world w) 0 c _ ran_ok there
+      (coordinator_acts c (Err orders.Halted) _ (ok.first c there) (node_ok 0 c there)
       (λ m sized. allow_ok ciphers fits (own_of c) m sized x.eui psk (node_fits number x is).eui ((node_fits number x is).psk psk (psk_is x psk pair))))
-      (λ e. absurd (true_false e))) (omega arith) (after_none ciphers (running_world w) 0 _ (acts_quiet c (Err orders.Halted) _ (λ m. allow_quiet m x.eui psk))))
+      (λ e. absurd (true_false e))) (omega arith)
+      (after_none ciphers (running_world w) 0 _ (acts_quiet c (Err orders.Halted) _ (λ m. allow_quiet m x.eui psk))))
       (Fails faults.Node))))
 
   -- # Setup

@@ -47,7 +47,8 @@ use Rattle.node_rules.specs.StoreReading.{blank_station, first_grant, rememberin
 use Rattle.line_rules.specs.Answers.{Reception, sent_word, meter_reception, coordinator_reception}
 use Rattle.line_rules.specs.Forgery.{accepting}
 use Rattle.line_rules.specs.Runs.{one_of}
-use Rattle.line_rules.specs.Steps.{Step, set_up, running_world, world_after, made_node, blank_node, ticked, node_outcome, sending, sent_if, is_taken, tag_of, hearing_step, hearing_outcome}
+use Rattle.line_rules.specs.Steps.{Step, set_up, running_world, world_after, made_node, blank_node, ticked, node_outcome, sending, sent_if, is_taken, tag_of}
+use Rattle.line_rules.specs.Steps.{hearing_step, hearing_outcome}
 use Rattle.line_rules.specs.Steps.{offered_near, identity, note_by, restarts}
 use Rattle.line_rules.specs.Worlds.{World, Sending, node_at, start}
 use Rattle.line_laws.specs.Owed.{KeepsRanges}
@@ -282,7 +283,8 @@ module _ (ciphers : Ciphers) (fits : KeepsRanges ciphers) (w : World) (ok : Worl
   good_at number x there = at_place NodeOk w.nodes number x there ok.nodes
 
   -- one node did something, and nothing was sent as a datagram
-  pub after_tags : {A : Type 0} (u : World) (number : ℕ) (x : Node) (d : NodeStep A) → AllMoved w u → length u.nodes ≡ length w.nodes → node_at w number ≡ Some x
+  pub after_tags : {A : Type 0} (u : World) (number : ℕ) (x : Node) (d : NodeStep A) → AllMoved w u → length u.nodes ≡ length w.nodes
+      → node_at w number ≡ Some x
       → TagMoves x d.node → StepTags w (world_after ciphers u number d) None
   after_tags u number x d all same there moves = record {
     nodes = after_moved ciphers w u number d all (Was x there moves);
@@ -393,9 +395,11 @@ module _ (ciphers : Ciphers) (fits : KeepsRanges ciphers) (w : World) (ok : Worl
       By answer = Tagged w (Ok (sent_if w from to datagram (tag_of x) (is_taken answer) (node_outcome ciphers w from (answering sent_word d))))
 
       v : World
-      v = record (world_after ciphers (running_world w) from (answering sent_word d)) { sends = (world_after ciphers (running_world w) from (answering sent_word d)).sends + 1 }
+      v = record (world_after ciphers (running_world w) from (answering sent_word d))
+          { sends = (world_after ciphers (running_world w) from (answering sent_word d)).sends + 1 }
 
-      sent_so : (h : SentHow) → d.answer ≡ Ok h → Tagged w (Ok (sent_if w from to datagram (tag_of x) true (node_outcome ciphers w from (answering sent_word d))))
+      sent_so : (h : SentHow) → d.answer ≡ Ok h
+          → Tagged w (Ok (sent_if w from to datagram (tag_of x) true (node_outcome ciphers w from (answering sent_word d))))
       sent_so h e = record {
         nodes = after_so.nodes;
         more = after_so.more;
@@ -415,7 +419,8 @@ module _ (ciphers : Ciphers) (fits : KeepsRanges ciphers) (w : World) (ok : Worl
           (subst (λ (b : Bool). Tagged w (Ok (sent_if w from to datagram (tag_of x) b (node_outcome ciphers w from (answering sent_word d)))))
           (sym (word_refused reason)) after_so)
       by_answer (Ok h) e = subst (λ (r : Result SentHow SendRefusal). By (sent_word r)) (sym e)
-          (subst (λ (b : Bool). Tagged w (Ok (sent_if w from to datagram (tag_of x) b (node_outcome ciphers w from (answering sent_word d))))) (sym (word_taken h))
+          (subst (λ (b : Bool). Tagged w (Ok (sent_if w from to datagram (tag_of x) b (node_outcome ciphers w from (answering sent_word d)))))
+          (sym (word_taken h))
           (sent_so h e))
 
   -- # Every event
@@ -426,10 +431,12 @@ module _ (ciphers : Ciphers) (fits : KeepsRanges ciphers) (w : World) (ok : Worl
   event_tags event s (Rests e quiet) = record { nodes = same_moved ciphers w; more = omega arith; took = none_took w (running_world w) }
   event_tags event s (Shows number x) = record { nodes = same_moved ciphers w; more = omega arith; took = none_took w (running_world w) }
   event_tags event s (Acts e number x A halted plan reads there call word asked) =
-      after_tags (running_world w) number x (answering reads (acts x halted plan)) (same_moved ciphers w) refl there (call_moves number x A halted plan there call)
+      after_tags (running_world w) number x (answering reads (acts x halted plan)) (same_moved ciphers w) refl there
+      (call_moves number x A halted plan there call)
   event_tags event s (BreaksLink number next x a there call) =
       let plan : Memory → Plan Memory Answer = λ m. changing answers.Broken (with_station (calls.broke a m.station) m) in
-      after_tags (running_world w) number x (acts x answers.Halted plan) (same_moved ciphers w) refl there (call_moves number x Answer answers.Halted plan there call)
+      after_tags (running_world w) number x (acts x answers.Halted plan) (same_moved ciphers w) refl there
+      (call_moves number x Answer answers.Halted plan there call)
   event_tags event s (SendsFrom from to datagram x a there call target) = sending_tags from to datagram x a there
       (call_moves from x _ (Err sends.Halted) (λ m. of_station m (calls.send m.station a datagram (w.sends + 1) w.clock)) there call)
   event_tags event s (AllowsMeter number y c psk there call meter) = after_tags (running_world w) 0 c

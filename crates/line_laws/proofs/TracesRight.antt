@@ -54,7 +54,8 @@ use Rattle.node_rules.specs.StoreReading.{memory_of}
 use Rattle.line_rules.specs.Answers.{Reception, Up, SentGrant, drop_word, send_word, order_word, frame_word, random_word, join_word, leave_word, sent_word}
 use Rattle.line_rules.specs.Answers.{ordered_word, station_reception, meter_reception, coordinator_reception}
 use Rattle.line_rules.specs.Worlds.{World, Flight, Trace, Pairing, node_at, flight_at, is_forged_tag, nothing_further}
-use Rattle.line_rules.specs.Steps.{Step, is_taken, set_up, running_world, world_after, flights_of, node_outcome, trace_of, happenings, sending, sent_if, tag_of, offered_near}
+use Rattle.line_rules.specs.Steps.{Step, is_taken, set_up, running_world, world_after, flights_of, node_outcome, trace_of, happenings, sending, sent_if, tag_of}
+use Rattle.line_rules.specs.Steps.{offered_near}
 use Rattle.line_rules.specs.Steps.{hearing_step}
 use Rattle.line_rules.specs.Steps.{received, forged_by, note_by, number_if, handed_by, issued_of, identity, restart_word, restarts, made_node}
 use Rattle.line_rules.specs.Runs.{Entry, one_of}
@@ -411,7 +412,8 @@ module _ (ciphers : Ciphers) (w : World) where
   acted_right n event number d p none came =
       quiet_right n event (world_after ciphers (running_world w) number d) (record (happenings w d.answer) { flights = length d.frames })
       d.made d.opened p refl refl refl refl none came
-      (after_counted ciphers w (running_world w) number d (ran_counted w)) refl (after_flights ciphers (running_world w) number d) (made_after ciphers (running_world w) number d)
+      (after_counted ciphers w (running_world w) number d (ran_counted w)) refl (after_flights ciphers (running_world w) number d)
+      (made_after ciphers (running_world w) number d)
 
   none_after : {A : Type 0} (u : World) (number : ℕ) (d : NodeStep A) → d.frames ≡ [] → d.made ≡ []
       → (length (world_after ciphers u number d).flights ≡ length u.flights + 0) × ((world_after ciphers u number d).made ≡ u.made ++ [])
@@ -640,14 +642,16 @@ module _ (ciphers : Ciphers) (w : World) where
   right event s (Makes e x is) n = still_right n event (made_node w x).0 answers.Made (refl, refl, refl, refl, refl) (unbrought event (made_quiet event x is))
       (record { events = refl; sends = refl; ups = refl; forged = refl; done = refl }) (omega arith) (sym (append-nil w.made))
   right event s (Rests e quiet) n =
-      still_right n event (running_world w) answers.NoAddress (refl, refl, refl, refl, refl) (unbrought event quiet) (ran_counted w) (omega arith) (sym (append-nil w.made))
+      still_right n event (running_world w) answers.NoAddress (refl, refl, refl, refl, refl) (unbrought event quiet) (ran_counted w) (omega arith)
+      (sym (append-nil w.made))
   right event s (Shows number x) n = quiet_right n (events.Show number) (running_world w) _ [] [] (refl, refl, refl, refl, refl) refl refl refl refl refl
       (unbrought (events.Show number) (λ b. b)) (ran_counted w) refl (omega arith) (sym (append-nil w.made))
   right event s (Acts e number x A halted plan reads there call word asked) n =
       acted_right n event number (answering reads (acts x halted plan)) (word_plain A reads event word (acts x halted plan).answer)
       (acts_opened x halted plan (call_opened ciphers w number x A halted plan call)) (unbrought event (word_quiet A reads event word))
   right event s (BreaksLink number next x a there call) n =
-      acted_right n (events.Break number next) number _ (breaks_plain x a) (acts_opened x answers.Halted _ (call_opened ciphers w number x _ answers.Halted _ call))
+      acted_right n (events.Break number next) number _ (breaks_plain x a)
+      (acts_opened x answers.Halted _ (call_opened ciphers w number x _ answers.Halted _ call))
       (unbrought (events.Break number next) (λ b. b))
   right event s (SendsFrom from to datagram x a there call target) n =
       sent_right n from to datagram x (answering sent_word (acts x (Err sends.Halted)

@@ -94,7 +94,8 @@ IsNearer h w next dest rank = (next ≡ dest) ⊎ Nearer h w next dest rank
 -- A flight is plain, or the spelling of a letter from its sender's address whose rank is the sender's own at cost 0, or backed by what the sender stores.
 pub data FlightBacked (ciphers : Ciphers) (h : Homes) (w : World) (f : Flight) : Type 0 where
   IsPlain : f.key ≡ None → FlightBacked ciphers h w f
-  IsSealedUnit : (sealed_unit : SealedUnit) (x : Node) → f.octets ≡ (spelled ciphers (Sealed sealed_unit)).octets → f.key ≡ Some sealed_unit.key → h f.from ≡ Some sealed_unit.from
+  IsSealedUnit : (sealed_unit : SealedUnit) (x : Node) → f.octets ≡ (spelled ciphers (Sealed sealed_unit)).octets → f.key ≡ Some sealed_unit.key
+      → h f.from ≡ Some sealed_unit.from
       → node_at w f.from ≡ Some x
       → UnitBacked (At h f.from) (stored x) sealed_unit.unit → SealedUnitRead ciphers sealed_unit → FlightBacked ciphers h w f
 
