@@ -56,14 +56,17 @@ use Rattle.node_rules.specs.MemoryDrafts.{in_memory}
 use Rattle.line_rules.specs.Answers.{Reception, only, coordinator_reception, meter_reception}
 use Rattle.line_rules.specs.Forgery.{Comes, OfFlight, OfScript, accepting}
 use Rattle.line_rules.specs.Worlds.{World, Flight, Trace, node_at, flight_at, is_forged_tag}
-use Rattle.line_rules.specs.Steps.{Step, set_up, running_world, world_after, node_outcome, has_begun, takes_setup, once_begun, in_setup, on_node, on_meter, made_node}
+use Rattle.line_rules.specs.Steps.{Step, set_up, running_world, world_after, node_outcome, has_begun, takes_setup, once_begun, in_setup, on_node, on_meter}
+use Rattle.line_rules.specs.Steps.{made_node}
 use Rattle.line_rules.specs.Steps.{blank_node}
 use Rattle.line_rules.specs.Steps.{coordinator_node, is_known, coordinator, meter, depot, depot_by, provisioned, psk_of, near, near_by, keeps_rank, ranks_full}
 use Rattle.line_rules.specs.Steps.{offered_near, preset, allow, allowed, rand, join, joins_by, leave, send, sends_by, sent_if, breaks, breaks_by, received}
-use Rattle.line_rules.specs.Steps.{on_flight, lose, tick, ticked, restart, cut, show, rekey, challenge, activate, activate_at, kick, step, hearing_step, hearing_outcome}
+use Rattle.line_rules.specs.Steps.{on_flight, lose, tick, ticked, restart, cut, show, rekey, challenge, activate, activate_at, kick, step, hearing_step}
+use Rattle.line_rules.specs.Steps.{hearing_outcome}
 use Rattle.line_rules.specs.Steps.{identity, note_by, forged_by, restarts, trace_of, happenings}
 use Rattle.line_rules.specs.Further.{line_step, checks, bcast, broadcasts_by, path, asks_by, scan, scans_by, choose, chooses_by, discovers_by, commanded}
-use Rattle.line_rules.specs.Further.{checked, acknowledged_if, acknowledged, acknowledging, hearing_outcome_by, further_hearing_outcome, is_dropped, accepted_further, comes}
+use Rattle.line_rules.specs.Further.{checked, acknowledged_if, acknowledged, acknowledging, hearing_outcome_by, further_hearing_outcome, is_dropped}
+use Rattle.line_rules.specs.Further.{accepted_further, comes}
 use Rattle.line_rules.specs.Further.{delivers, injects, ticks, after_ok, due, with_check, restarts_by, restarts_further, beside_at, set_beside, reaches}
 use Rattle.line_rules.specs.Logs.{LogIn, AreLogged, LogsKept, HaveShortTables, CommandsAreOctets, LineStepsKeepLogs, LogsKeptAtFirst}
 use Rattle.line_rules.proofs.LogSteps.{NodeIn, Quiet, all_changed, acts_quiet, further_in, halted_in, logged_at, one_more, quiet_in, quiet_on, quiet_same}
@@ -277,7 +280,10 @@ module _ (ciphers : Ciphers) (w : World) (short : HaveShortTables w) (h : LogsKe
   ticks_in seconds = by_start (has_begun w)
     where
       by_start : (b : Bool) → Kept (after_ok (λ r. (record r.0 { beside = map (tick_beside (w.clock + seconds)) w.beside }, r.1))
-          (if b then Ok (record (running_world w) { clock = w.clock + seconds; nodes = map (ticked (w.clock + seconds)) w.nodes }, trace_of (happenings w answers.Ticked))
+          (if b then Ok (
+            record (running_world w) { clock = w.clock + seconds; nodes = map (ticked (w.clock + seconds)) w.nodes },
+            trace_of (happenings w answers.Ticked),
+          )
           else Err faults.Setup))
       by_start true = all_changed (tick_beside (w.clock + seconds)) (ticked (w.clock + seconds)) (ticked_in (w.clock + seconds)) w.beside w.nodes h
       by_start false = tt
@@ -329,13 +335,15 @@ module _ (ciphers : Ciphers) (w : World) (short : HaveShortTables w) (h : LogsKe
   bcast_in : (number : ℕ) (datagram : List ℕ) → Kept (bcast ciphers w number datagram)
   unfolding bcast
   bcast_in number datagram = once _
-      (at_node number _ (λ x hx. after_both (running_world w) number (reaches x (beside_at w number) (Err broadcasts.Halted) (λ y. broadcast in_memory y datagram)) _ h
+      (at_node number _ (λ x hx. after_both (running_world w) number
+      (reaches x (beside_at w number) (Err broadcasts.Halted) (λ y. broadcast in_memory y datagram)) _ h
       (further_in x (beside_at w number) (Err broadcasts.Halted) (λ y. broadcast in_memory y datagram)
       (λ m e. (broadcast_leads m (beside_at w number) datagram).leads) (here number x hx))))
 
   asks_in : (number : ℕ) (x : Node) → node_at w number ≡ Some x → (target : Option ℕ) → LogsKept (asks_by ciphers w number x target).0
   asks_in number x hx None = h
-  asks_in number x hx (Some target) = after_both (running_world w) number (reaches x (beside_at w number) (Err asks.Halted) (λ y. ask_path in_memory y target)) _ h
+  asks_in number x hx (Some target) =
+      after_both (running_world w) number (reaches x (beside_at w number) (Err asks.Halted) (λ y. ask_path in_memory y target)) _ h
       (further_in x (beside_at w number) (Err asks.Halted) (λ y. ask_path in_memory y target) (λ m e. (asks_lead m (beside_at w number) target).leads)
       (here number x hx))
 
@@ -393,7 +401,8 @@ module _ (ciphers : Ciphers) (w : World) (short : HaveShortTables w) (h : LogsKe
         (hearing_step ciphers y got cost (note_by w octets got.path) w.clock) (hears_quiet y has got cost (note_by w octets got.path) w.clock)
 
     commanded_in : (got : Accepted) (cost : ℕ) (c : NeighbourCommand) → AreOctets c.body
-        → LogsKept (commanded ciphers number (hearing_step ciphers y got cost (note_by w octets got.path) w.clock).node c (hearing_outcome ciphers w number y octets got cost)).0
+        → LogsKept (commanded ciphers number (hearing_step ciphers y got cost (note_by w octets got.path) w.clock).node c
+        (hearing_outcome ciphers w number y octets got cost)).0
     unfolding world_after
     commanded_in got cost c are =
         let z : Node = (hearing_step ciphers y got cost (note_by w octets got.path) w.clock).node in
@@ -404,7 +413,8 @@ module _ (ciphers : Ciphers) (w : World) (short : HaveShortTables w) (h : LogsKe
         (λ m e. (command_leads m (beside_at w number) c are).leads) (quiet_in _ x z q (here number x there)))
 
     checked_in : (got : Accepted) (cost : ℕ)
-        → LogsKept (checked ciphers w number got (hearing_step ciphers y got cost (note_by w octets got.path) w.clock) (hearing_outcome ciphers w number y octets got cost)).0
+        → LogsKept (checked ciphers w number got (hearing_step ciphers y got cost (note_by w octets got.path) w.clock)
+        (hearing_outcome ciphers w number y octets got cost)).0
     unfolding world_after
     checked_in got cost = by_due (due got.path (message_of got) (hearing_step ciphers y got cost (note_by w octets got.path) w.clock).answer.answer)
       where
@@ -415,11 +425,14 @@ module _ (ciphers : Ciphers) (w : World) (short : HaveShortTables w) (h : LogsKe
         quiet = quiet_on x y z first (hears_quiet y has got cost (note_by w octets got.path) w.clock)
 
         b : Beside
-        b = record (beside_at w number)
-            { checks = checks_after (beside_at w number).checks (reply_among (hearing_step ciphers y got cost (note_by w octets got.path) w.clock).frames) w.clock }
+        b = record (beside_at w number) {
+          checks = checks_after (beside_at w number).checks (reply_among (hearing_step ciphers y got cost (note_by w octets got.path) w.clock).frames)
+              w.clock;
+        }
 
         r : World × Trace
-        r = with_check w number (reply_among (hearing_step ciphers y got cost (note_by w octets got.path) w.clock).frames) (hearing_outcome ciphers w number y octets got cost)
+        r = with_check w number (reply_among (hearing_step ciphers y got cost (note_by w octets got.path) w.clock).frames)
+            (hearing_outcome ciphers w number y octets got cost)
 
         heard_nodes : List Node
         heard_nodes = slice_set w.nodes number z
@@ -487,7 +500,8 @@ module _ (ciphers : Ciphers) (w : World) (short : HaveShortTables w) (h : LogsKe
   restarts_in number x there (Ok b) e =
       after_both (running_world w) number (restarts x) b h (restart_in (beside_at w number).log x b (restarts x).node.memory (here number x there) e)
   restarts_in number x there (Err bad) e =
-      after_both (running_world w) number (stays (record x { memory = None }) answers.BadStore) nothing_beside h (halted_in (beside_at w number).log x (here number x there))
+      after_both (running_world w) number (stays (record x { memory = None }) answers.BadStore) nothing_beside h
+      (halted_in (beside_at w number).log x (here number x there))
 
   restart_kept : (number : ℕ) → Kept (restarts_further ciphers w number)
   unfolding restarts_further

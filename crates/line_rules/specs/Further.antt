@@ -62,7 +62,8 @@ use Rattle.line_events.specs.declared.happenings.AgentLine.{AgentLine}
 use Rattle.line_events.specs.declared.happenings.BroadcastUp.{BroadcastUp}
 use Rattle.line_events.specs.declared.happenings.PathLine.{PathLine}
 use Rattle.line_rules.specs.Answers.{Reception, only, frame_word, command_word, discovery_word, broadcast_word, ask_word, scan_word}
-use Rattle.line_rules.specs.Steps.{Step, set_up, running_world, world_after, node_trace, happenings, trace_of, once_begun, in_setup, on_node, on_meter, on_flight, node_outcome}
+use Rattle.line_rules.specs.Steps.{Step, set_up, running_world, world_after, node_trace, happenings, trace_of, once_begun, in_setup, on_node, on_meter}
+use Rattle.line_rules.specs.Steps.{on_flight, node_outcome}
 use Rattle.line_rules.specs.Steps.{psk_of}
 use Rattle.line_rules.specs.Steps.{identity, hearing_step, hearing_outcome, received, forged_by, note_by, restarts, restart, tick, step}
 use Rattle.line_rules.specs.Worlds.{World, Flight, Trace, Broadcasting, Stepping, Noticed, Replied, Acknowledged, Scans, Heard, Further, nothing_further}

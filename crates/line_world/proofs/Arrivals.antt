@@ -54,15 +54,18 @@ use Rattle.line_events.specs.declared.happenings.Happenings.{Happenings}
 use Rattle.line_events.specs.declared.event.Answer.TheVariants as answers
 use Rattle.line_rules.specs.Answers.{CompletedJoining, Reception, Up, coordinator_reception, frame_word, meter_reception, only}
 use Rattle.line_rules.specs.Forgery.{accepting}
-use Rattle.line_rules.specs.Further.{accepted_further, acknowledged_if, checked, comes, commanded, discovers_by, due, hearing_outcome_by, further_hearing_outcome, injects}
+use Rattle.line_rules.specs.Further.{accepted_further, acknowledged_if, checked, comes, commanded, discovers_by, due, hearing_outcome_by}
+use Rattle.line_rules.specs.Further.{further_hearing_outcome, injects}
 use Rattle.line_rules.specs.Further.{is_dropped, unbelieved, with_check}
 use Rattle.line_rules.specs.Further.{delivers as delivers_by}
 use Rattle.line_rules.specs.Logs.{AreLogged, LogsKept}
 use Rattle.line_rules.proofs.LogSteps.{Quiet, acts_quiet, log_at, logged_at, quiet_in, set_node}
 use Rattle.line_rules.specs.Worlds.{Flight, Pairing, Trace, World, flight_at, is_forged_tag, node_at}
-use Rattle.line_rules.specs.Steps.{Step, done_by, forged_by, handed_by, happenings, hearing_outcome, has_begun, hearing_step, identity, note_by, number_if, number_of, on_flight}
+use Rattle.line_rules.specs.Steps.{Step, done_by, forged_by, handed_by, happenings, hearing_outcome, has_begun, hearing_step, identity, note_by, number_if}
+use Rattle.line_rules.specs.Steps.{number_of, on_flight}
 use Rattle.line_rules.specs.Steps.{running_world, received, reception_trace, world_after, trace_of}
-use Rattle.line_world.specs.Arrivals.{outcome_of_checked, outcome_of_arrival, done_in, forged_in, handed_in, outcome_of_further, outcome_of_hearing, in_run, left_of, note_in, outcome_of_reception}
+use Rattle.line_world.specs.Arrivals.{outcome_of_checked, outcome_of_arrival, done_in, forged_in, handed_in, outcome_of_further, outcome_of_hearing, in_run}
+use Rattle.line_world.specs.Arrivals.{left_of, note_in, outcome_of_reception}
 use Rattle.line_world.specs.Arrivals.{reception_happenings, taker_in, outcome_of_unbelieved}
 use Rattle.line_world.specs.Arrivals.{outcome_of_command as heard_by_command}
 use Rattle.line_world.specs.Bounds.{IsBounded}
@@ -306,7 +309,8 @@ was_received w new number x origin d r out nodes forged h b room frames tags at 
     (received_many w number x d r out nodes right forged at same rec forgery) frames tags))
 
 -- what is said and what is left of a frame that a node heard
-pub outcome_of_command : (w new : World) (number : ℕ) (x : Node) (got : Accepted) (origin : Origin) (cost : ℕ) (r : receiving.Reception) (out : Out) (nodes : List Node)
+pub outcome_of_command : (w new : World) (number : ℕ) (x : Node) (got : Accepted) (origin : Origin) (cost : ℕ) (r : receiving.Reception) (out : Out)
+    (nodes : List Node)
     (forged : Bool) (h : Happenings) → IsBounded (in_run w) → w.events < MAX_EVENTS → length out.frames ≤ 24 → length out.tags.made ≤ 2
     → slice_get w.nodes number ≡ Some x
     → Received (hearing_step network x got cost origin.note w.clock) w.nodes number r out nodes
@@ -392,7 +396,8 @@ module _ (w : World) (number : ℕ) (x y : Node) (octets : List ℕ) (got : Acce
       ∙ acknowledged_as (heard_with (note_by w octets got.path)).node (due got.path (message_of got) (heard_with (note_by w octets got.path)).answer.answer)
       (with_check w number (reply_among (heard_with (note_by w octets got.path)).frames) (hearing_outcome network w number y octets got cost))
 
-  by_command : (o : Option NeighbourCommand) → heard_by_command network seen_world number y got origin cost o ≡ hearing_outcome_by network w number y octets got cost o
+  by_command : (o : Option NeighbourCommand)
+      → heard_by_command network seen_world number y got origin cost o ≡ hearing_outcome_by network w number y octets got cost o
   by_command (Some c) = λ i. commanded network number (heard_with (n i)).node c (hears_as i)
   by_command None = λ i. if w.checks_on then checked_as i else hears_as i
 
@@ -444,7 +449,8 @@ came w new number x octets cost accepted origin nodes h plain at looked forged n
     let steps : Steps true (record w { nodes = nodes }) (Ok h) new
     (Ok (outcome_of_arrival network (record w { nodes = nodes }) number (looks x octets).node accepted origin cost)) =
     subst (λ (o : Option Node). IfSome o
-    (λ y. Steps true (record w { nodes = nodes }) (Ok h) new (Ok (outcome_of_arrival network (record w { nodes = nodes }) number y accepted origin cost)))) left s in
+    (λ y. Steps true (record w { nodes = nodes }) (Ok h) new (Ok (outcome_of_arrival network (record w { nodes = nodes }) number y accepted origin cost)))) left
+    s in
     subst (λ (r : World × Trace). Steps true w (Ok h) new (Ok r)) (comes_as w number x octets cost accepted origin nodes plain at did forged note)
     (record { gives = steps.gives; memory = tt; bounds = steps.bounds })
 

@@ -67,7 +67,8 @@ module _ {w : World} {number found : ℕ} (there : IsThere w number found) (kept
   pub restart_is : (log : Log) → r ≡ Ok log
       → restarts_by network w number there.node (restarted there.node.store.records)
       ≡ (
-        record (node_outcome network w number (restarts there.node)).0 { beside = slice_set w.beside number (record { checks = nobody; log = log; scan = ended }) },
+        record (node_outcome network w number (restarts there.node)).0
+            { beside = slice_set w.beside number (record { checks = nobody; log = log; scan = ended }) },
         (node_outcome network w number (restarts there.node)).1,
       )
   unfolding world_after
@@ -112,7 +113,8 @@ module _ {A : Type 0} {w : World} {number found : ℕ} (there : IsThere w number
       subst (λ o. IfSome o (λ y. ReachedFirst y (beside_at w found) halted plan w.nodes found answer out nodes c)) at did in
       let own : IfSome (slice_get w.nodes found) (λ y. Did (reached_by y) w.nodes found answer out nodes) =
       subst (λ o. IfSome o (λ y. Did (reached_by y) w.nodes found answer out nodes)) (sym at) r.did in
-      let s = steps_further true w (after (running_world w) found nodes out) h (node_outcome network w number (answering word (reached_by x))) (slice_set w.beside found c) more
+      let s = steps_further true w (after (running_world w) found nodes out) h (node_outcome network w number (answering word (reached_by x)))
+      (slice_set w.beside found c) more
       (node_acted true w (after (running_world w) found nodes out) there reached_by word answer out nodes h b room frames tags own said refl) in
       subst (λ v. Steps true w (Ok h) v (Ok (
         has_reached network (running_world w) number x halted plan (reaches x (beside_at w number) halted plan),

@@ -28,7 +28,8 @@ changed {A} s t l answer e = subst (λ (k : State StationMemory). Carries s (res
 })
 
 module _ (s t : State StationMemory) (next : ℕ) (r : Result (Unit {0}) Halted) (word : Answer) where
-  pub stayed_broken : (o : Option StationMemory) → IsBrokenWord r word → IfNone o ((r ≡ Err (record {})) × (t ≡ s)) → IfNone o ((word ≡ answers.Halted) × (t ≡ s))
+  pub stayed_broken : (o : Option StationMemory) → IsBrokenWord r word → IfNone o ((r ≡ Err (record {})) × (t ≡ s))
+      → IfNone o ((word ≡ answers.Halted) × (t ≡ s))
   stayed_broken None is h = (subst (λ (k : Result (Unit {0}) Halted). IsBrokenWord k word) h.0 is, h.1)
   stayed_broken (Some l) is h = tt
 

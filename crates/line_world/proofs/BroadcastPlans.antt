@@ -388,7 +388,8 @@ module _ {H E : Type 0} (ends : Ends E) (s : State StationMemory) (b : Beside) (
       → CarriesAfter m (send_local l code to body) sent before out t → c ≡ (if is_some t.memory then record b { log = log } else without_log b)
       → Reaches s b halted plan (local_answer ends answer sent) before out t c
   recorded before out m t sent c p carried stands =
-      put_and_goes s b halted plan l running put (record b { log = log }) (local_answer ends answer) (send_local l code to body) is before out m t sent c p carried
+      put_and_goes s b halted plan l running put (record b { log = log }) (local_answer ends answer) (send_local l code to body) is before out m t sent c p
+      carried
       stands refl
 
   -- the same of what comes first in a step

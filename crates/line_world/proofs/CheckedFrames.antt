@@ -91,11 +91,13 @@ module _ (w : World) (nodes : List Node) (number : ℕ) (got : Accepted) (origin
 
   -- the reply that begins a check
   sent_then : (sent : Option Reply) → sent ≡ (if is_some message then r.replied else None)
-      → (IsSome (message_of got) → IfSome (slice_get w.nodes number) (λ y. r.replied ≡ reply_among (hearing_step network y got cost origin.note w.clock).frames))
+      → (IsSome (message_of got) → IfSome (slice_get w.nodes number)
+      (λ y. r.replied ≡ reply_among (hearing_step network y got cost origin.note w.clock).frames))
       → sent ≡ reply_among d.frames
   sent_then sent is replied =
       is ∙ ap (λ (m : Option Message). if is_some m then r.replied else None) message_is
-      ∙ by (message_of got) refl (λ some. at_node_after w.nodes number x (λ y. r.replied ≡ reply_among (hearing_step network y got cost origin.note w.clock).frames) at
+      ∙ by (message_of got) refl (λ some. at_node_after w.nodes number x
+      (λ y. r.replied ≡ reply_among (hearing_step network y got cost origin.note w.clock).frames) at
       (replied some))
     where
       by : (m : Option Message) → message_of got ≡ m → (IsSome m → r.replied ≡ reply_among d.frames)
@@ -135,7 +137,8 @@ module _ (w : World) (nodes : List Node) (number : ℕ) (got : Accepted) (origin
     pub checked_then : (v3 : World) (sent : Option Reply) (done : Bool) → done ≡ true
         → IfSome (slice_get nodes number) (λ y. Acknowledges (record w { nodes = nodes }) number y reply before done out v2)
         → sent ≡ (if is_some message then r.replied else None)
-        → (IsSome (message_of got) → IfSome (slice_get w.nodes number) (λ y. r.replied ≡ reply_among (hearing_step network y got cost origin.note w.clock).frames))
+        → (IsSome (message_of got) → IfSome (slice_get w.nodes number)
+        (λ y. r.replied ≡ reply_among (hearing_step network y got cost origin.note w.clock).frames))
         → v3 ≡ with_check_of v2 number sent → h ≡ reception_happenings v3 number out forged r → new ≡ left_of v3 number out forged r
         → IfSome (slice_get w.nodes number) (λ y. Steps true w (Ok h) new (Ok (outcome_of_checked network w number y got origin cost)))
     checked_then v3 sent done up acknowledges sent_is replied checks said is =

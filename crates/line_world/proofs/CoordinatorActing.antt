@@ -54,14 +54,16 @@ home_of ring records stored home = sym (ap (option_and_then (option_map (λ (g :
 pub holds : (x : CoordinatorState) → IsSoundCoordinator x → CoordinatorAgrees (node_of x)
 holds x sound = by (node_of x).memory sound.agrees
   where
-    by : (o : Option Memory) → IfSome o (λ m. NodeAgreesWith Coordinator m x.station.store.records) → IfSome o (λ m. CoordinatorAgreesWith m x.station.store.records)
+    by : (o : Option Memory) → IfSome o (λ m. NodeAgreesWith Coordinator m x.station.store.records)
+        → IfSome o (λ m. CoordinatorAgreesWith m x.station.store.records)
     by None a = tt
     by (Some m) a = record { station = a.station; book = a.book; home = home_of m.station.ring x.station.store.records a.station.ring.stored sound.home }
 
 agrees_as : (y : CoordinatorState) → CoordinatorAgrees (node_of y) → IfSome (node_of y).memory (λ m. NodeAgreesWith Coordinator m y.station.store.records)
 agrees_as y h = by (node_of y).memory h
   where
-    by : (o : Option Memory) → IfSome o (λ m. CoordinatorAgreesWith m y.station.store.records) → IfSome o (λ m. NodeAgreesWith Coordinator m y.station.store.records)
+    by : (o : Option Memory) → IfSome o (λ m. CoordinatorAgreesWith m y.station.store.records)
+        → IfSome o (λ m. NodeAgreesWith Coordinator m y.station.store.records)
     by None h = tt
     by (Some m) h = record { station = h.station; book = h.book }
 
@@ -105,7 +107,8 @@ own_took x y halted p answer out sound stayed carries =
 -- It is sound still where its home is as before.
 pub own_sound : {A : Type 0} (x y : CoordinatorState) (halted : A) (p : Memory → Plan Memory A) (answer : A) (out : Out) → Places p → IsSoundCoordinator x
     → Stayed x halted answer out y
-    → IfSome (node_of x).memory (λ m. Carries (node_of x) (p m) answer out (node_of y)) → HasCoordinatorAddress y.station.store.records → CoordinatorAgrees (node_of y)
+    → IfSome (node_of x).memory (λ m. Carries (node_of x) (p m) answer out (node_of y)) → HasCoordinatorAddress y.station.store.records
+    → CoordinatorAgrees (node_of y)
     → IsSoundCoordinator y
 own_sound x y halted p answer out places sound stayed carries home h =
     let s = stays x y halted answer out stayed in

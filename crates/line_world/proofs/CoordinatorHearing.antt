@@ -84,12 +84,14 @@ module _ (x y : CoordinatorState) (got : Accepted) (cost note now : ℕ) (r : Re
   node_outcome carries = own_took x y (Err drops.Store) plan r out sound (not_none (node_of x).memory _ may.running) carries
 
   pub heard : IfSome (node_of x).memory (λ m. Carries (node_of x) (plan m) r out (node_of y))
-      → Took (hearing_step network (of_coordinator x) got cost note now) (hearing_step network (of_coordinator x) got cost note now).answer out (of_coordinator y)
+      → Took (hearing_step network (of_coordinator x) got cost note now) (hearing_step network (of_coordinator x) got cost note now).answer out
+      (of_coordinator y)
   heard carries = let t = node_outcome carries in record { answer_is = refl; out_is = t.out_is; node_is = t.node_is }
 
   pub reported : IfSome (node_of x).memory (λ m. Carries (node_of x) (plan m) r out (node_of y)) → (word : Reception)
       → ReportsReception word (rules.coordinator_reception r) → ReportsReception word (hearing_step network (of_coordinator x) got cost note now).answer
-  reported carries word t = subst (λ (k : Result CoordinatorHeard Dropped). ReportsReception word (rules.coordinator_reception k)) (node_outcome carries).answer_is t
+  reported carries word t =
+      subst (λ (k : Result CoordinatorHeard Dropped). ReportsReception word (rules.coordinator_reception k)) (node_outcome carries).answer_is t
 
   pub heard_sound : IfSome (node_of x).memory (λ m. Carries (node_of x) (plan m) r out (node_of y)) → CoordinatorAgrees (node_of y) → IsSoundCoordinator y
   heard_sound carries h =

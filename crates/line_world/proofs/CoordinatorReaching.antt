@@ -53,7 +53,8 @@ module _ (x : CoordinatorState) (old : Node) (s : State StationMemory) (view : o
       ∙ ap (λ (n : Node). option_and_then (λ m. cost_to_coordinator n.role m.station) n.memory) view
     where
       by : (o : Option StationMemory) (b : Bool) → MatchBool b (o ≡ None) (IsSome o)
-          → (if b then None else Some 0) ≡ option_and_then (λ m. cost_to_coordinator Coordinator m.station) (option_map (memory_in x.randoms x.sessions x.book) o)
+          → (if b then None else Some 0)
+          ≡ option_and_then (λ m. cost_to_coordinator Coordinator m.station) (option_map (memory_in x.randoms x.sessions x.book) o)
       by None true k = refl
       by None false k = absurd (cc)
       by (Some l) true k = absurd (cc)

@@ -38,7 +38,8 @@ use Rattle.reach_rules.specs.declared.refusal.ChooseRefusal.{ChooseRefusal}
 use Rattle.reach_rules.specs.declared.refusal.ChooseRefusal.TheVariants as choices
 use Rattle.reach_rules.specs.declared.refusal.DiscoveryDropped.TheVariants as drops
 use Rattle.reach_rules.specs.declared.refusal.ScanRefusal.TheVariants as scan_faults
-use Rattle.reach_rules.specs.Beacons.{ChosenAgent, Discovering, begin_scan, choose_agent, choosing_ends, chosen, cost_to_coordinator, hear_beacon, hear_request, joins_by}
+use Rattle.reach_rules.specs.Beacons.{ChosenAgent, Discovering, begin_scan, choose_agent, choosing_ends, chosen, cost_to_coordinator, hear_beacon, hear_request}
+use Rattle.reach_rules.specs.Beacons.{joins_by}
 use Rattle.reach_rules.specs.Beacons.{takes_beacon, takes_beacons}
 use Rattle.reach_rules.specs.Beacons as beacons
 use Rattle.reach_rules.specs.ReachingNodes.{Beside, Reaching, nothing_beside}
@@ -141,7 +142,8 @@ module _ {A : Type 0} (w new : World) (number : ℕ) (word : A → Answer) (noti
 
   -- the scan changes alone
   pub discovery_keeps : (answer : A) (scan : Scanned) → d ≡ record { answer = answer; scan = scan; sent = None } → h ≡ happenings w (word answer)
-      → new ≡ set_beside number (record (beside_at w number) { scan = scan }) (running_world w) → Steps true w (Ok h) new (Ok (has_discovered w number word noticed d))
+      → new ≡ set_beside number (record (beside_at w number) { scan = scan }) (running_world w)
+      → Steps true w (Ok h) new (Ok (has_discovered w number word noticed d))
   discovery_keeps answer scan same said is =
       discovered_so (said ∙ (λ i. record (happenings w (word (sym same i).answer)) { flights = length (discovery_flights number (sym same i).sent) }))
       (is ∙ ap (λ (v : World). set_beside number (record (beside_at w number) { scan = scan }) v) (sym nothing_flies)
@@ -449,7 +451,8 @@ module _ (w : World) (number : ℕ) (x : Node) (k : ℕ) (psk : Key) (m : Memory
       let keeps : (plan held).memory.beside ≡ b = ap (λ (p : Plan (Reaching Memory) (Result ChosenAgent ChooseRefusal)). p.memory.beside) is in
       let world : chosen_so.0 ≡ running_world w =
       ap (λ (d : NodeStep (Result ChosenAgent ChooseRefusal)). has_reached network (running_world w) number x (Err choices.Halted) plan d) same
-      ∙ ap (λ (c : Beside). set_beside number c (world_after network (running_world w) number (stays x (refusal reason)))) (chooses_beside x keeps (ap is_some there))
+      ∙ ap (λ (c : Beside). set_beside number c (world_after network (running_world w) number (stays x (refusal reason))))
+      (chooses_beside x keeps (ap is_some there))
       ∙ (λ i. record (running_world w) {
         nodes = set_same w.nodes number x at i;
         flights = append-nil w.flights i;
@@ -498,7 +501,8 @@ module _ (w : World) (number : ℕ) (x : Node) (k : ℕ) (psk : Key) (m : Memory
       let world : world_after network (running_world w) number d ≡ chosen_so.0 =
       (λ i. record (world_after network (running_world w) number d) { beside = sym (beside_same w.beside number) i })
       ∙ ap (λ (c : Beside). set_beside number c (world_after network (running_world w) number d)) (sym (chooses_beside does.node keeps up))
-      ∙ ap (λ (e : NodeStep (Result ChosenAgent ChooseRefusal)). set_beside number (beside_after x b plan does.node) (world_after network (running_world w) number e))
+      ∙ ap (λ (e : NodeStep (Result ChosenAgent ChooseRefusal)). set_beside number (beside_after x b plan does.node)
+      (world_after network (running_world w) number e))
       (sym same) in
       (λ i. (
         world i,
@@ -507,7 +511,8 @@ module _ (w : World) (number : ℕ) (x : Node) (k : ℕ) (psk : Key) (m : Memory
               { agent = agent_line number (chosen agent d.answer) };
         },
       )) ∙ ap (λ (e : NodeStep (Result ChosenAgent ChooseRefusal)).
-      let trace = node_trace w (answering choice_word e) in (chosen_so.0, record trace { happenings = record trace.happenings { agent = agent_line number e.answer } }))
+      let trace = node_trace w (answering choice_word e) in
+      (chosen_so.0, record trace { happenings = record trace.happenings { agent = agent_line number e.answer } }))
       (sym same)
 
 -- a meter that is halted is as it was
@@ -535,7 +540,8 @@ choice_halted w new number x k psk h at none bounds room is left =
     }) in
     let trace = (chooses_by network w number x k (Some psk)).1 in
     is_taken_so true w new (Ok (chooses_by network w number x k (Some psk))) trace h (λ i. Ok ((world ∙ sym left) i, trace))
-    (is ∙ (λ i. record (happenings w (choice_word (sym same i).answer)) { flights = length (sym same i).frames; agent = agent_line number (sym same i).answer }))
+    (is ∙ (λ i. record (happenings w (choice_word (sym same i).answer))
+    { flights = length (sym same i).frames; agent = agent_line number (sym same i).answer }))
     (subst IsBounded (sym left) (bounded_by w w.clock w.nodes w.flights bounds room (omega arith) refl refl))
 
 -- # The report of a meter that joins by an agent
@@ -566,7 +572,8 @@ abbrev said_in : Happenings → Result (World × Trace) StepFault → Happenings
 said_in h (Ok q) = q.1.happenings
 said_in h (Err fault) = h
 
-pub joins_reported : (w new : World) (number : ℕ) (x : Node) (psk : Key) (address total : ℕ) (asked : Result (Unit {0}) JoinRefusal) (out : Out) (nodes : List Node)
+pub joins_reported : (w new : World) (number : ℕ) (x : Node) (psk : Key) (address total : ℕ) (asked : Result (Unit {0}) JoinRefusal) (out : Out)
+    (nodes : List Node)
     (agent : Option AgentLine) (h : Happenings)
     → slice_get w.nodes number ≡ Some x → psk_of x ≡ Some psk
     → IfSome (slice_get w.nodes number) (λ y. IfSome (psk_of y)

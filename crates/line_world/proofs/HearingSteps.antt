@@ -62,7 +62,8 @@ module _ (x y : MeterState) (got : Accepted) (cost note now : ℕ) (r : Result M
 
   pub reported : y.psk ≡ x.psk → IfSome (node_of x).memory (λ m. Carries (node_of x) (plan m) r out (node_of y)) → (word : Reception)
       → ReportsReception word (rules.meter_reception r) → ReportsReception word (hearing_step network (of_meter x) got cost note now).answer
-  reported psk carries word t = subst (λ (k : Result MeterHeard Dropped). ReportsReception word (rules.meter_reception k)) (node_outcome psk carries).answer_is t
+  reported psk carries word t =
+      subst (λ (k : Result MeterHeard Dropped). ReportsReception word (rules.meter_reception k)) (node_outcome psk carries).answer_is t
 
   pub heard_sound : IfSome (node_of x).memory (λ m. Carries (node_of x) (plan m) r out (node_of y)) → Agrees y.station → IsSoundMeter y
   heard_sound carries agrees =

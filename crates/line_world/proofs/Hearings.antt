@@ -340,7 +340,8 @@ module _ (x : Node) (got : Accepted) (cost note now : ℕ) (n : Memory) where
       subst (λ (q : Memory). IsSome q.station.ring) k.left
       (meter_joined psk k.memory (subst (λ (r : Result MeterHeard Dropped). IsDue got.path (message_of got) (meter_reception r).answer) k.answered due))
 
-  pub joined : IsDue got.path (message_of got) (hearing_step network x got cost note now).answer.answer → (hearing_step network x got cost note now).node.memory ≡ Some n
+  pub joined : IsDue got.path (message_of got) (hearing_step network x got cost note now).answer.answer
+      → (hearing_step network x got cost note now).node.memory ≡ Some n
       → IsSome n.station.ring
   joined due here = joined_by x.role due here
 
@@ -350,7 +351,8 @@ module _ (x : Node) (got : Accepted) (cost note now : ℕ) (n : Memory) where
 abbrev pub unacknowledged : receiving.Reception
 unacknowledged = record { answer = answers.Store; up = None; took = false; done = None; replied = None }
 
-module _ (w v2 new : World) (number : ℕ) (x : Node) (got : Accepted) (origin : Origin) (cost : ℕ) (r : receiving.Reception) (before out : Out) (nodes : List Node)
+module _ (w v2 new : World) (number : ℕ) (x : Node) (got : Accepted) (origin : Origin) (cost : ℕ) (r : receiving.Reception) (before out : Out)
+    (nodes : List Node)
     (forged : Bool)
     (due_now : Option Reply) (h : Happenings) (bounded : IsBounded (in_run w)) (room : w.events < MAX_EVENTS) (frames : length out.frames ≤ 24)
     (tags : length out.tags.made ≤ 2)

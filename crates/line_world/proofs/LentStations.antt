@@ -146,7 +146,8 @@ home_at o = option_and_then (option_map (λ (g : Granted). g.address)) (ring_at 
 pub same_home : (old new : Records) → get new ring_slot ≡ get old ring_slot → HasCoordinatorAddress old → HasCoordinatorAddress new
 same_home old new same home = ap home_at same ∙ home
 
-home_stays : (role : Role) (old new : Records) → SameMembership old new → OfCoordinator role (HasCoordinatorAddress old) → OfCoordinator role (HasCoordinatorAddress new)
+home_stays : (role : Role) (old new : Records) → SameMembership old new → OfCoordinator role (HasCoordinatorAddress old)
+    → OfCoordinator role (HasCoordinatorAddress new)
 home_stays Coordinator old new same home = same_home old new same.ring home
 home_stays (Meter psk) old new same home = tt
 
@@ -170,7 +171,8 @@ agrees_left {A} role m s t halted answer out same sound stayed agrees = by s.mem
     both kept (Some l) a = record { station = a; book = kept }
 
     by : (o : Option StationMemory) → s.memory ≡ o → IfSome (option_map (λ l. with_station l m) o) (λ n. NodeAgreesWith role n s.store.records)
-        → IfNone o ((answer ≡ halted) × (out ≡ nothing) × (t ≡ s)) → IfSome (option_map (λ l. with_station l m) t.memory) (λ n. NodeAgreesWith role n t.store.records)
+        → IfNone o ((answer ≡ halted) × (out ≡ nothing) × (t ≡ s))
+        → IfSome (option_map (λ l. with_station l m) t.memory) (λ n. NodeAgreesWith role n t.store.records)
     by None e a h =
         let none : t.memory ≡ None = ap (λ (k : State StationMemory). k.memory) h.2 ∙ e in
         subst (λ (o : Option StationMemory). IfSome (option_map (λ l. with_station l m) o) (λ n. NodeAgreesWith role n t.store.records)) (sym none) tt

@@ -16,7 +16,8 @@ use Rattle.line_world.specs.Reaching.{Reached, ReachedCommand, ReportsCommand}
 module _ (ms left : List Node) (b d : Beside) (c : NeighbourCommand) (reported : Commanded) (before out : Out) where
   -- what is told of the meter at a place, under a number
   abbrev IsReported : ℕ → ℕ → Type 0
-  IsReported place number = IfSome (slice_get ms place) (λ x. ReportsCommand reported number (reaches x b (Err (Known Store)) (λ y. hear_command in_memory y c)).answer)
+  IsReported place number =
+      IfSome (slice_get ms place) (λ x. ReportsCommand reported number (reaches x b (Err (Known Store)) (λ y. hear_command in_memory y c)).answer)
 
   abbrev Done : ℕ → Type 0
   Done place = IfSome (slice_get ms place) (λ x. Reached x b (Err (Known Store)) (λ y. hear_command in_memory y c) ms place

@@ -174,7 +174,8 @@ about_taken w number at bounds room is k =
     ap is_ok (about_meter (record { begun = meter_begun w number at is; bounds = bounds; room = room }) (is_meter w number at is) (λ x c. Ok (k x c)))
 
 -- what is said of an event at which frames went out, its word being another's
-pub said_with : (w : World) (word answer_word : Answer) (count : ℕ) (h : Happenings) → h ≡ record (happenings w answer_word) { flights = count } → answer_word ≡ word
+pub said_with : (w : World) (word answer_word : Answer) (count : ℕ) (h : Happenings) → h ≡ record (happenings w answer_word) { flights = count }
+    → answer_word ≡ word
     → h ≡ record (happenings w word) { flights = count }
 said_with w word answer_word count h said is = said ∙ (λ i. record (happenings w (is i)) { flights = count })
 
@@ -214,7 +215,8 @@ has_allowed w new number there k answer nodes h b room did said is =
     let d : Did (k there.node) w.nodes 0 answer nothing nodes = of_found there (λ y. Did (k y) w.nodes 0 answer nothing nodes) did in
     let all : new ≡ after (running_world w) 0 nodes nothing = is
     ∙ (λ i. record (running_world w) { nodes = nodes; flights = sym (append-nil w.flights) i; made = sym (append-nil w.made) i }) in
-    let left : world_after network (running_world w) 0 (k there.node) ≡ new = after_is (running_world w) 0 (k there.node) nodes nothing d.out_is d.nodes_are ∙ sym all in
+    let left : world_after network (running_world w) 0 (k there.node)
+    ≡ new = after_is (running_world w) 0 (k there.node) nodes nothing d.out_is d.nodes_are ∙ sym all in
     let same : length nodes ≡ length w.nodes = ap (λ (l : List Node). length l) d.nodes_are ∙ length-set w.nodes 0 (k there.node).node in
     let trace : Result ℕ CoordinatorRefusal → Trace = λ a. trace_of (record (happenings w (allowed_word a)) { grant = admission_by number a }) in
     record {
@@ -229,7 +231,8 @@ has_allowed w new number there k answer nodes h b room did said is =
 
 -- # An event of which there is nothing but a word
 
-pub only_said : (takes : Bool) (w new : World) (answer : Answer) (h : Happenings) → IsBounded w → w.events < MAX_EVENTS → h ≡ happenings w answer → new ≡ running_world w
+pub only_said : (takes : Bool) (w new : World) (answer : Answer) (h : Happenings) → IsBounded w → w.events < MAX_EVENTS → h ≡ happenings w answer
+    → new ≡ running_world w
     → Steps takes w (Ok h) new (Ok (running_world w, trace_of (happenings w answer)))
 only_said takes w new answer h b room said is = record {
   gives = record { trace = trace_of (happenings w answer); taken = λ i. Ok (sym is i, trace_of (happenings w answer)); reported = said };

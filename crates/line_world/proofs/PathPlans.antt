@@ -356,7 +356,8 @@ ended_command s b c own number l reported r checks before running is ends report
 }
 
 -- a path message that was heard
-pub path_command : (s t : State StationMemory) (b d : Beside) (c : NeighbourCommand) (own number : ℕ) (reported : Commanded) (r : Result CommandHeard ReachDropped)
+pub path_command : (s t : State StationMemory) (b d : Beside) (c : NeighbourCommand) (own number : ℕ) (reported : Commanded)
+    (r : Result CommandHeard ReachDropped)
     (before out : Out)
     → c.code ≡ 5 → Reaches s b (Err (Known Store)) (λ y. hear_path alone y own c.from c.to_all c.body) r before out t d → ReportsCommand reported number r
     → ReachesCommand s b (λ y. hear_command_at alone y own c) reported number before out t d

@@ -127,7 +127,8 @@ reply_is x halted p m left last reported there after is same =
     same_reply reported last same ∙ is ∙ ap (λ (o : Option Memory). reply_sent (p m) o) after ∙ acts_reply x halted p m there
 
 -- what is told beside the reply
-pub reported_with_reply : (word reported : Reception) (replied : Option Reply) (r : rules.Reception) → reported ≡ record word { replied = replied } → ReportsReception word r
+pub reported_with_reply : (word reported : Reception) (replied : Option Reply) (r : rules.Reception) → reported ≡ record word { replied = replied }
+    → ReportsReception word r
     → ReportsReception reported r
 reported_with_reply word reported replied r is t =
     subst (λ (k : Reception). ReportsReception k r) (sym is) (record { answer = t.answer; up = t.up; took = t.took; done = t.done })

@@ -82,7 +82,8 @@ pub node_sent : (w new : World) {number found : ℕ} (there : IsThere w number f
     (sent : Result SentHow SendRefusal) (out : Out) (nodes : List Node) (counted : ℕ) (h : Happenings) → IsBounded w → w.events < MAX_EVENTS
     → length out.frames ≤ 24
     → length out.tags.made ≤ 2 → IfSome (slice_get w.nodes found) (λ y. Did (k y) w.nodes found sent out nodes) → counted ≡ bool_byte (is_ok sent)
-    → h ≡ record (happenings w (sent_word sent)) { flights = length out.frames } → new ≡ record (after (running_world w) found nodes out) { sends = w.sends + counted }
+    → h ≡ record (happenings w (sent_word sent)) { flights = length out.frames }
+    → new ≡ record (after (running_world w) found nodes out) { sends = w.sends + counted }
     → Steps true w (Ok h) new (Ok (sending network w number to datagram tag (answering sent_word (k there.node))))
 node_sent w new {number} {found} there to datagram tag k sent out nodes counted h b room frames tags did count said is =
     let d : Did (k there.node) w.nodes found sent out nodes = holds_there there (λ y. Did (k y) w.nodes found sent out nodes) did in

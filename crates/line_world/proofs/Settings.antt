@@ -402,7 +402,8 @@ was_made w new step x nodes h b room few uncut are made node_trace is =
     record {
       gives = record {
         trace = trace_of (happenings w answers.Made);
-        taken = made ∙ (λ i. Ok (one_node_more w (sym are i), trace_of (happenings w answers.Made))) ∙ (λ i. Ok (sym is i, trace_of (happenings w answers.Made)));
+        taken =
+            made ∙ (λ i. Ok (one_node_more w (sym are i), trace_of (happenings w answers.Made))) ∙ (λ i. Ok (sym is i, trace_of (happenings w answers.Made)));
         reported = node_trace;
       };
       memory = tt;
@@ -579,7 +580,8 @@ depot_granted {w} new {number} there address eui psk r g answer between nodes h 
     (subst (λ (s : Result Granted CoordinatorRefusal). Did
     (acts (first_there w takes).0 (Err orders.Halted) (λ m. coordinator_rules.depot m there.node.eui psk)) w.nodes 0 s nothing between) ok
     (by_first there eui psk r between takes own did))
-    (subst (λ n. IfSome (slice_get between n) (λ y. Did (acts y (Ok tt) (λ m. meters.provision m g)) between n answer nothing nodes)) there.same second) node_trace
+    (subst (λ n. IfSome (slice_get between n) (λ y. Did (acts y (Ok tt) (λ m. meters.provision m g)) between n answer nothing nodes)) there.same second)
+    node_trace
     is
 
 -- the list of nodes is as long as before

@@ -18,7 +18,8 @@ use Rattle.line_events.specs.declared.event.StepFault.TheVariants as faults
 use Rattle.line_events.specs.declared.event.TheConstants.{MAX_EVENTS}
 use Rattle.line_events.specs.declared.happenings.Happenings.{Happenings}
 use Rattle.line_rules.specs.Worlds.{World, Flight, Trace, node_at}
-use Rattle.line_rules.specs.Steps.{Step, node_outcome, flight_by, flights_of, happenings, has_begun, on_node, once_begun, running_world, node_trace, world_after}
+use Rattle.line_rules.specs.Steps.{Step, node_outcome, flight_by, flights_of, happenings, has_begun, on_node, once_begun, running_world, node_trace}
+use Rattle.line_rules.specs.Steps.{world_after}
 use Rattle.line_world.specs.Bounds.{IsBounded}
 use Rattle.line_world.specs.Finding.{found}
 use Rattle.line_world.specs.Steps.{Gives, HasMemory, Steps, has_address, is_memory}
@@ -262,7 +263,8 @@ is_taken_so takes w new step trace h taken said bounds =
     by false = tt
 
 -- an event that changes nothing but what it counts
-pub only_ran : (takes : Bool) (w new : World) (trace : Trace) (h : Happenings) → IsBounded w → w.events < MAX_EVENTS → h ≡ trace.happenings → new ≡ running_world w
+pub only_ran : (takes : Bool) (w new : World) (trace : Trace) (h : Happenings) → IsBounded w → w.events < MAX_EVENTS → h ≡ trace.happenings
+    → new ≡ running_world w
     → Steps takes w (Ok h) new (Ok (running_world w, trace))
 only_ran takes w new trace h b room said is =
     is_taken_so takes w new (Ok (running_world w, trace)) trace h (λ i. Ok (sym is i, trace)) said

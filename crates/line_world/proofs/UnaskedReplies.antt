@@ -41,7 +41,8 @@ use Rattle.node_rules.specs.declared.refusal.Dropped.TheVariants as drops
 use Rattle.node_rules.specs.Calls.{idled}
 use Rattle.node_rules.specs.Ciphers.{network}
 use Rattle.node_rules.specs.Coordinators as coordinators
-use Rattle.node_rules.specs.Drafts.{Draft, StationPlace, Ends, body_goes, checked, choose, empty_draft, goes, is_awaited, sealed_units, seeks, seeks_once, sealed_by}
+use Rattle.node_rules.specs.Drafts.{Draft, StationPlace, Ends, body_goes, checked, choose, empty_draft, goes, is_awaited, sealed_units, seeks, seeks_once}
+use Rattle.node_rules.specs.Drafts.{sealed_by}
 use Rattle.node_rules.specs.Drafts.{sealing_key, sets_out, waits, with_own_number, with_ring}
 use Rattle.node_rules.specs.Frames.{Sent, Up, Down, to_all}
 use Rattle.node_rules.specs.Hearing as stations

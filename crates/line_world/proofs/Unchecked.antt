@@ -65,12 +65,15 @@ use Rattle.line_events.specs.declared.happenings.Happenings.{Happenings}
 use Rattle.line_rules.specs.Answers.{Reception}
 use Rattle.line_rules.specs.Further.{accepted_further, acknowledged_if, acknowledging, adds_frames, after_ok, asks_by, bcast, beside_after, beside_at}
 use Rattle.line_rules.specs.Further.{checked, checks, chooses_by, choose as choose_event, comes, commanded, delivers, discovers_by, due, has_reached}
-use Rattle.line_rules.specs.Further.{hearing_outcome_by, further_hearing_outcome, injects, is_dropped, line_step, path, restarts_by, restarts_further, scan, scans_by}
+use Rattle.line_rules.specs.Further.{hearing_outcome_by, further_hearing_outcome, injects, is_dropped, line_step, path, restarts_by, restarts_further, scan}
+use Rattle.line_rules.specs.Further.{scans_by}
 use Rattle.line_rules.specs.Further.{sends_nothing, set_beside, ticks, with_check}
 use Rattle.line_rules.specs.Forgery.{accepting}
 use Rattle.line_rules.specs.Steps.{Step, activate, activate_at, allow, allowed, breaks, breaks_by, challenge, coordinator, cut, depot, depot_by, happenings}
-use Rattle.line_rules.specs.Steps.{has_begun, hearing_step, hearing_outcome, identity, in_setup, is_known, join, joins_by, keeps_rank, kick, leave, lose, meter, near, near_by}
-use Rattle.line_rules.specs.Steps.{note_by, on_flight, on_meter, on_node, once_begun, preset, psk_of, rand, running_world, ranks_full, rekey, send, sends_by, sent_if}
+use Rattle.line_rules.specs.Steps.{has_begun, hearing_step, hearing_outcome, identity, in_setup, is_known, join, joins_by, keeps_rank, kick, leave, lose, meter}
+use Rattle.line_rules.specs.Steps.{near, near_by}
+use Rattle.line_rules.specs.Steps.{note_by, on_flight, on_meter, on_node, once_begun, preset, psk_of, rand, running_world, ranks_full, rekey, send, sends_by}
+use Rattle.line_rules.specs.Steps.{sent_if}
 use Rattle.line_rules.specs.Steps.{set_up, show, takes_setup, tick, ticked, world_after, trace_of}
 use Rattle.line_rules.specs.Worlds.{Flight, Trace, World, flight_at, node_at}
 use Rattle.line_world.specs.Bounds.{HasNoChecks, NoneChecked}
@@ -462,7 +465,8 @@ module _ (ciphers : Ciphers) (w : World) (h : NoneChecked w) where
 
   chooses_in : (number : ℕ) (x : Node) (k : ℕ) (psk : Option Key) → NoneChecked (chooses_by ciphers w number x k psk).0
   chooses_in number x k None = h
-  chooses_in number x k (Some psk) = reached_in ciphers (running_world w) number x (Err choices.Halted) (λ y. choose_agent (identity ciphers x psk) y k w.clock) _ h
+  chooses_in number x k (Some psk) =
+      reached_in ciphers (running_world w) number x (Err choices.Halted) (λ y. choose_agent (identity ciphers x psk) y k w.clock) _ h
       (λ m b none. chooses_left (record { memory = m; beside = b }) none (identity ciphers x psk) k w.clock)
 
   choose_in : (number k : ℕ) → Kept (choose_event ciphers w number k)
@@ -543,7 +547,10 @@ module _ (ciphers : Ciphers) (w : World) (h : NoneChecked w) where
   ticks_in seconds = by_start (has_begun w)
     where
       by_start : (b : Bool) → Kept (after_ok (λ r. (record r.0 { beside = map (tick_beside (w.clock + seconds)) w.beside }, r.1))
-          (if b then Ok (record (running_world w) { clock = w.clock + seconds; nodes = map (ticked (w.clock + seconds)) w.nodes }, trace_of (happenings w answers.Ticked))
+          (if b then Ok (
+            record (running_world w) { clock = w.clock + seconds; nodes = map (ticked (w.clock + seconds)) w.nodes },
+            trace_of (happenings w answers.Ticked),
+          )
           else Err faults.Setup))
       by_start true = λ off. ticked_none (w.clock + seconds) w.beside (h off)
       by_start false = tt

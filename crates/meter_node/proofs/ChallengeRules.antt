@@ -164,7 +164,8 @@ module _ (x : MeterState) (l : StationMemory) (session_way : SessionWay) (packet
       ≡ meters.reply (identity_of x) (memory_with x l) session_way packet now
   unfolding checked
   reply_goes peer free fine value is =
-      ap (λ (p : Peer). meters.replies (memory_with x l) session_way p (message x.station.eui (body.Join (second_packet (keys_of x.psk.0) (identifier_of packet) p)))
+      ap (λ (p : Peer). meters.replies (memory_with x l) session_way p
+      (message x.station.eui (body.Join (second_packet (keys_of x.psk.0) (identifier_of packet) p)))
       now) is
       ∙ (λ i. Replies (sym free i) (sym value i) (sym (no_fault (slice_get x.randoms 0) (first_fault packet) peer.rand_p value fine) i))
 
@@ -278,10 +279,12 @@ pub first_challenge : (x : MeterState) (l : StationMemory) (session_way : Sessio
     → meters.reply (identity_of x) (memory_with x l) session_way packet now ≡ meters.challenged (identity_of x) (memory_with x l) session_way packet now
 unfolding choose
 first_challenge x l session_way packet now e =
-    λ i. choose (sym e i) (meters.reply (identity_of x) (memory_with x l) session_way packet now) (meters.take (identity_of x) (memory_with x l) session_way packet now)
+    λ i. choose (sym e i) (meters.reply (identity_of x) (memory_with x l) session_way packet now)
+    (meters.take (identity_of x) (memory_with x l) session_way packet now)
 
 pub other_challenge : (x : MeterState) (l : StationMemory) (session_way : SessionWay) (packet : List ℕ) (now : ℕ) → is_first packet ≡ false
     → meters.take (identity_of x) (memory_with x l) session_way packet now ≡ meters.challenged (identity_of x) (memory_with x l) session_way packet now
 unfolding choose
 other_challenge x l session_way packet now e =
-    λ i. choose (sym e i) (meters.reply (identity_of x) (memory_with x l) session_way packet now) (meters.take (identity_of x) (memory_with x l) session_way packet now)
+    λ i. choose (sym e i) (meters.reply (identity_of x) (memory_with x l) session_way packet now)
+    (meters.take (identity_of x) (memory_with x l) session_way packet now)

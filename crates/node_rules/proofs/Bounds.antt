@@ -28,7 +28,8 @@ length-sealed_units : (g : Granted) (key : Key) (first : ℕ) (units : List Unse
 length-sealed_units g key first [] = refl
 length-sealed_units g key first (o ∷ rest) = ap suc (length-sealed_units g key (first + 1) rest)
 
-with_key : (g : Granted) (key : Option Key) (first : ℕ) (units : List UnsealedUnit) → length (option_map_or (λ k. sealed_units g k first units) key []) ≤ length units
+with_key : (g : Granted) (key : Option Key) (first : ℕ) (units : List UnsealedUnit)
+    → length (option_map_or (λ k. sealed_units g k first units) key []) ≤ length units
 with_key g None first units = omega arith
 with_key g (Some key) first units = let same = length-sealed_units g key first units in omega arith
 

@@ -32,7 +32,8 @@ use Rattle.node_rules.specs.Joining.{message, server_for}
 use Rattle.eap_psk.specs.Sessions.{rand_p_in}
 use Rattle.node_rules.specs.MemoryDrafts.{with_memory_by, is_commanded, in_memory, oldest, Unread, unread}
 use Rattle.node_rules.specs.Coordinators.{CoordinatorIdentity, Hearing, drop_it, ends, session_of, allowed_entry, grant_for, declines, challenges, open_session}
-use Rattle.node_rules.specs.Coordinators.{join_without_packet, keys_for, take_second, accepts, take_fourth, take_packet, join_with_packet, hear_join, hear_join_in, heard_by}
+use Rattle.node_rules.specs.Coordinators.{join_without_packet, keys_for, take_second, accepts, take_fourth, take_packet, join_with_packet, hear_join}
+use Rattle.node_rules.specs.Coordinators.{hear_join_in, heard_by}
 use Rattle.node_rules.specs.Coordinators.{hear_coordinator, with_book_entry, changed, Ordering, orders, allow, depot_by, depot, rekey, activate_self}
 use Rattle.node_rules.specs.Coordinators.{challenge_by, challenge_at, challenge, allowed_address, activate_by, activate, kick_by, kick, changes, kick_goes}
 use Rattle.node_rules.specs.Coordinators.{without_session}

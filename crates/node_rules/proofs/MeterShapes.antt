@@ -92,7 +92,8 @@ module _ (x : Identity) (m : Memory) where
 
   take_shape : (session_way : SessionWay) (packet : List ℕ) (now : ℕ) → IsRule (take x m session_way packet now)
   take_shape session_way packet now = passed _ _
-      (by_option (λ (s : MeterSession). take_by x m session_way packet now s.peer) m.session (drop_it m NoSession) (λ s. take_by_shape session_way packet now s.peer)
+      (by_option (λ (s : MeterSession). take_by x m session_way packet now s.peer) m.session (drop_it m NoSession)
+      (λ s. take_by_shape session_way packet now s.peer)
       (Rests _))
 
   challenged_shape : (session_way : SessionWay) (packet : List ℕ) (now : ℕ) → IsRule (challenged x m session_way packet now)

@@ -33,7 +33,8 @@ agrees_counted l x old new a kept same = record {
   tag = ap tag_in (same 4 (inr (omega arith))) ∙ a.tag;
 }
 
-pub agrees_numbered : (l : StationMemory) (x : own_number.Numbering) (old new : Records) → AgreesWith l old → own_number.AgreesWith x new → SameOutside 3 3 old new
+pub agrees_numbered : (l : StationMemory) (x : own_number.Numbering) (old new : Records) → AgreesWith l old → own_number.AgreesWith x new
+    → SameOutside 3 3 old new
     → AgreesWith (record l { own_number = x }) new
 agrees_numbered l x old new a kept same = record {
   ring = record { stored = ap ring_at (same 1 (inl (omega arith))) ∙ a.ring.stored };

@@ -19,7 +19,8 @@ use Rattle.plc_station.proofs.Stepping.{stepping}
 use Rattle.plc_station.proofs.Ways.{sealed_spent, sealed_fits, never_less}
 
 -- a step in the words of another call
-pub message_done : {H E F : Type 0} (ends : Ends E) (others : Ends F) (s t : State StationMemory) (d : Draft StationMemory) (u : Unit {0}) (answer : H) (out : Out)
+pub message_done : {H E F : Type 0} (ends : Ends E) (others : Ends F) (s t : State StationMemory) (d : Draft StationMemory) (u : Unit {0}) (answer : H)
+    (out : Out)
     → Carries s (sealing {H = Unit {0}} alone ends d tt) (Ok u) out t
     → Carries s (sealing alone others d answer) (Ok answer) out t
 message_done {H} {E} {F} ends others s t d u answer out c =
@@ -30,7 +31,8 @@ message_done {H} {E} {F} ends others s t d u answer out c =
     so true e = refl
     so false e = cc
 
-pub message_failed : {H E F : Type 0} (ends : Ends E) (others : Ends F) (s t : State StationMemory) (d : Draft StationMemory) (reason : E) (answer : H) (out : Out)
+pub message_failed : {H E F : Type 0} (ends : Ends E) (others : Ends F) (s t : State StationMemory) (d : Draft StationMemory) (reason : E) (answer : H)
+    (out : Out)
     → Carries s (sealing {H = Unit {0}} alone ends d tt) (Err reason) out t
     → Carries s (sealing alone others d answer) (Err others.store) out t
 message_failed {H} {E} {F} ends others s t d reason answer out c =

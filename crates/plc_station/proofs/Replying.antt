@@ -29,7 +29,8 @@ use Rattle.node_rules.specs.declared.refusal.Dropped.{Dropped}
 use Rattle.node_rules.specs.Frames.{Sent, to_all}
 use Rattle.node_rules.specs.Memory.{StationMemory, next_hop}
 use Rattle.node_rules.specs.Plans.{Plan, resting}
-use Rattle.node_rules.specs.Drafts.{Draft, Ends, alone, checked, choose, counters_left, empty_draft, goes, leave, sealed_units, refused, sealed, sealed_by, sealing}
+use Rattle.node_rules.specs.Drafts.{Draft, Ends, alone, checked, choose, counters_left, empty_draft, goes, leave, sealed_units, refused, sealed, sealed_by}
+use Rattle.node_rules.specs.Drafts.{sealing}
 use Rattle.node_rules.specs.Drafts.{sealing_key, send_message, with_own_number, with_rank, with_routing_by}
 use Rattle.node_rules.specs.Hearing.{dropped, drop_it, ends, error_hop, forward, forward_by, gathered, hear_error, hear_over_mesh, hop_less, is_spent, learns}
 use Rattle.node_rules.specs.Hearing.{loses, offers, offers_numbered, rank_fault, report_by, pass_error_on}
@@ -52,7 +53,8 @@ sealed_units_reply g key first [] = refl
 sealed_units_reply g key first (u ∷ us) = ap (first_of (reply_with u.to (route_message u.unit))) (sealed_units_reply g key (first + 1) us)
 
 -- a ring whose key seals sends the reply of its units, and no ring sends one where there is none
-sealed_reply : (g : Granted) (key : Key) (first : ℕ) (us : List UnsealedUnit) → sealing_key g ≡ Some key → reply_among (sealed_by (Some g) first us) ≡ reply_in us
+sealed_reply : (g : Granted) (key : Key) (first : ℕ) (us : List UnsealedUnit) → sealing_key g ≡ Some key
+    → reply_among (sealed_by (Some g) first us) ≡ reply_in us
 sealed_reply g key first us e = ap (λ (k : Option Key). reply_among (option_map_or (λ q. sealed_units g q first us) k [])) e ∙ sealed_units_reply g key first us
 
 sealed_quiet : (r : Ring) (first : ℕ) (us : List UnsealedUnit) → reply_in us ≡ None → reply_among (sealed_by r first us) ≡ None

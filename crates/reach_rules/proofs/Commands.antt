@@ -30,7 +30,8 @@ use Rattle.node_rules.specs.declared.refusal.LocalRefusal.{LocalRefusal}
 use Rattle.node_rules.specs.Memory.{StationMemory, address_of, station_route}
 use Rattle.node_rules.specs.Neighbours.{local_ends, local_draft}
 use Rattle.node_rules.specs.Plans.{Plan, resting}
-use Rattle.node_rules.specs.Drafts.{Draft, StationPlace, Ends, UnsealedUnit, alone, empty_draft, goes, sealed_units, sealed_by, sealing_key, sealing, refused, sealed}
+use Rattle.node_rules.specs.Drafts.{Draft, StationPlace, Ends, UnsealedUnit, alone, empty_draft, goes, sealed_units, sealed_by, sealing_key, sealing, refused}
+use Rattle.node_rules.specs.Drafts.{sealed}
 use Rattle.node_rules.specs.Drafts.{checked, choose}
 use Rattle.node_rules.specs.Laws.{RefusesCleanly, WritesInTurn, turn_of}
 use Rattle.node_rules.proofs.Words.{InTurn, InTurn-append, in_turn, counter_turn}

@@ -7,7 +7,8 @@ use Rattle.store_tables.proofs.SlotTables.{stored_elsewhere}
 use Rattle.routing_set.specs.RoutingSet.{Routing, ranks, AgreesWith, SameElsewhere, floor_slot, floors_in}
 
 -- what is kept stays where other slots are put
-pub kept_elsewhere : (routing : Routing) (old new : Records) (first last : ℕ) → AgreesWith routing old → SameOutside first last old new → (last < 5) ⊎ (5 < first)
+pub kept_elsewhere : (routing : Routing) (old new : Records) (first last : ℕ) → AgreesWith routing old → SameOutside first last old new
+    → (last < 5) ⊎ (5 < first)
     → (last < 0x0200) ⊎ (0x0240 ≤ first) → AgreesWith routing new
 kept_elsewhere routing old new first last kept same floors table = record {
   floors = ap floors_in (same floor_slot (outside floors)) ∙ kept.floors;

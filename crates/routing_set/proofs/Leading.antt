@@ -16,7 +16,8 @@ use Rattle.store_tables.proofs.StoreLemmas.{get-insert_other}
 use Rattle.store_tables.proofs.SlotTables.{found, stored_set, stored_push, stored_elsewhere}
 use Rattle.routing_set.specs.declared.rank.Rank.{Rank}
 use Rattle.routing_set.specs.declared.entry.RoutingEntry.{RoutingEntry}
-use Rattle.routing_set.specs.RoutingSet.{Routing, AgreesWith, ranks, octets_of, floors_in, floor_slot, floors_due, floors_write, raised, raises, class_of, place_of}
+use Rattle.routing_set.specs.RoutingSet.{Routing, AgreesWith, ranks, octets_of, floors_in, floor_slot, floors_due, floors_write, raised, raises, class_of}
+use Rattle.routing_set.specs.RoutingSet.{place_of}
 use Rattle.routing_set.specs.RoutingSet.{entered, entry_writes, writes_of, after_of, first_to_go, is_full, offered_entry, offer_writes, offered}
 use Rattle.routing_set.specs.OwnNumber as numbers
 use Rattle.routing_set.specs.Histories.{IsRouting}

@@ -15,7 +15,8 @@ use Rattle.store_tables.specs.SlotTables as slots
 use Rattle.store_tables.proofs.SlotTables.{apart, stored_elsewhere}
 use Rattle.routing_set.specs.declared.entry.RoutingEntry.{RoutingEntry}
 use Rattle.routing_set.specs.Laws.{Among}
-use Rattle.routing_set.specs.RoutingSet.{Routing, ranks, place_of, AgreesWith, Keeps, floor_slot, floors_in, is_fresh, goes_before, first_of, first_to_go, is_full}
+use Rattle.routing_set.specs.RoutingSet.{Routing, ranks, place_of, AgreesWith, Keeps, floor_slot, floors_in, is_fresh, goes_before, first_of, first_to_go}
+use Rattle.routing_set.specs.RoutingSet.{is_full}
 use Rattle.routing_set.specs.RoutingSet.{forgotten, raised, floors_due, writes_of, half_of, after_of, half_entered, entered, entry_writes}
 
 -- # Which entry is forgotten
@@ -146,7 +147,8 @@ one_put old entries ok s t kept stored either same = record {
     by_ok true h = record { floors = floors; ranks = h }
     by_ok false h = tt
 
-    by_either : slots.IsStored ranks old.entries t ⊎ slots.IsStored ranks entries t → AgreesWith old t ⊎ AgreesWith old t ⊎ AgreesWith (record old { entries = entries }) t
+    by_either : slots.IsStored ranks old.entries t ⊎ slots.IsStored ranks entries t
+        → AgreesWith old t ⊎ AgreesWith old t ⊎ AgreesWith (record old { entries = entries }) t
     by_either (inl h) = inl (record { floors = floors; ranks = h })
     by_either (inr h) = inr (inr (record { floors = floors; ranks = h }))
 
@@ -165,7 +167,8 @@ two_puts old floors entries ok s m t kept raised first stored either second =
       elsewhere = λ slot ne outside. k.elsewhere slot ne outside ∙ first slot (apart_from slot ne outside);
     }
   where
-    by_either : AgreesWith (record old { floors = floors }) t ⊎ AgreesWith (record old { floors = floors }) t ⊎ AgreesWith (record { entries = entries; floors = floors }) t
+    by_either : AgreesWith (record old { floors = floors }) t ⊎ AgreesWith (record old { floors = floors }) t
+        ⊎ AgreesWith (record { entries = entries; floors = floors }) t
         → AgreesWith (record old { floors = floors }) t ⊎ AgreesWith (record { entries = entries; floors = floors }) t
     by_either (inl h) = inl h
     by_either (inr h) = h

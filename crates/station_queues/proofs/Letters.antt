@@ -55,7 +55,8 @@ length-frames g key first [] = refl
 length-frames g key first (u ∷ us) = ap suc (length-frames g key (first + 1) us)
 
 -- the frames of one unit more
-frames-suc : (g : Granted) (key : Key) (first k : ℕ) (units : List UnsealedUnit) (o : UnsealedUnit) → k < length units → ((d : UnsealedUnit) → get_or units k d ≡ o)
+frames-suc : (g : Granted) (key : Key) (first k : ℕ) (units : List UnsealedUnit) (o : UnsealedUnit) → k < length units
+    → ((d : UnsealedUnit) → get_or units k d ≡ o)
     → frames_of g key first (take (suc k) units) ≡ frames_of g key first (take k units) ++ unit_frame g key (first + k) o ∷ []
 frames-suc g key first k units o lt is =
     ap (frames_of g key first) (take-suc units k o lt)
@@ -96,7 +97,8 @@ pieces-suc g key first to hop note datagram tag k piece long lt is =
     ∙ frames-suc g key first k (units (own_mesh g.address to) hop note datagram tag) _
     (omega (arith, length-units (own_mesh g.address to) hop note datagram tag long)) (λ d.
     get_or-two (pieces_cut datagram tag) k d (omega (arith, length-cut datagram tag long))
-    ∙ ap (λ (p : Placed). record { to = hop; unit = Part (own_mesh g.address to) p; note = note }) (get_or_from_slice_get (pieces_cut datagram tag) k piece piece is))
+    ∙ ap (λ (p : Placed). record { to = hop; unit = Part (own_mesh g.address to) p; note = note })
+    (get_or_from_slice_get (pieces_cut datagram tag) k piece piece is))
   where
     one-more : (n : ℕ) → n + 1 ≡ suc n
     one-more n = omega arith

@@ -5,7 +5,8 @@ use Rattle.std.specs.Prelude.{IfSome}
 use Rattle.std.specs.FinMap.{get}
 use Rattle.plc_base.specs.Keeper.{Records, Store, Stores}
 use Rattle.store_tables.specs.declared.number_slot.NumberSlot.{NumberSlot}
-use Rattle.store_tables.specs.Numberings.{Counting, AgreesWith, opened, counting_from, counting_at, limit_in, limit_write, greatest, raised, passes, reserve_write}
+use Rattle.store_tables.specs.Numberings.{Counting, AgreesWith, opened, counting_from, counting_at, limit_in, limit_write, greatest, raised, passes}
+use Rattle.store_tables.specs.Numberings.{reserve_write}
 use Rattle.store_tables.specs.Numberings.{reserved, run_of, AllBelow, EachAbove}
 use Rattle.store_tables.proofs.StoredLimits.{Reads, kept_reserved, raised_reads, reserved_reads, limit_either}
 

@@ -52,7 +52,8 @@ in_time =
 unfoldable pub RepliesAreAcknowledged : Type 0
 RepliesAreAcknowledged =
     (line_answers 5 late
-    ≡ answers.Set ∷ answers.Waiting ∷ answers.Answered ∷ answers.Ticked ∷ answers.Waiting ∷ answers.Blacklisted ∷ answers.Learned ∷ answers.Up ∷ answers.NotAwaited ∷ answers.Ticked
+    ≡ answers.Set ∷ answers.Waiting ∷ answers.Answered ∷ answers.Ticked ∷ answers.Waiting ∷ answers.Blacklisted ∷ answers.Learned ∷ answers.Up
+    ∷ answers.NotAwaited ∷ answers.Ticked
     ∷ answers.Waiting ∷ answers.Relayed ∷ [])
     × (line_counts late ≡ record { events = 17; flights = 7; sends = 3; ups = 1; forged = 0 })
     × (line_answers 5 in_time
@@ -86,7 +87,8 @@ of_coordinator = begun_scan ++ (Deliver 1 0 9 ∷ Deliver 4 3 7 ∷ Deliver 2 2 
 
 unfoldable pub MetersChooseAgents : Type 0
 MetersChooseAgents =
-    (line_answers 8 cheapest ≡ answers.Scanning ∷ answers.Beacon ∷ answers.Beacon ∷ answers.Beaconed ∷ answers.Beaconed ∷ answers.Asked ∷ answers.Asked ∷ answers.NoBeacon ∷ [])
+    (line_answers 8 cheapest ≡ answers.Scanning ∷ answers.Beacon ∷ answers.Beacon ∷ answers.Beaconed ∷ answers.Beaconed ∷ answers.Asked ∷ answers.Asked
+    ∷ answers.NoBeacon ∷ [])
     × (agents (run plain start cheapest) ≡ record { node = 3; address = 1; total = 6 } ∷ record { node = 3; address = 2; total = 6 } ∷ [])
     × (line_octets cheapest 1 ≡ Some (0x03 ∷ 0x08 ∷ 0x00 ∷ 0xFF ∷ 0xFF ∷ 0xFF ∷ 0xFF ∷ 0x07 ∷ []))
     × (line_octets cheapest 2 ≡ Some (0x00 ∷ 0x80 ∷ 0x00 ∷ 0x1D ∷ 0x78 ∷ 0x01 ∷ 0x00 ∷ 0xFF ∷ 0x8F ∷ 0x00 ∷ 0x00 ∷ 0x00 ∷ 0x05 ∷ []))
@@ -108,7 +110,8 @@ broken = learned ++ (Break 1 2 ∷ Deliver 6 1 1 ∷ [])
 unfoldable pub PathsAreAnswered : Type 0
 PathsAreAnswered =
     (line_answers 7 walked
-    ≡ answers.Waiting ∷ answers.Relayed ∷ answers.Answered ∷ answers.Relayed ∷ answers.Learned ∷ answers.Traced ∷ answers.Relayed ∷ answers.Answered ∷ answers.Relayed ∷ answers.Path ∷ [])
+    ≡ answers.Waiting ∷ answers.Relayed ∷ answers.Answered ∷ answers.Relayed ∷ answers.Learned ∷ answers.Traced ∷ answers.Relayed ∷ answers.Answered
+    ∷ answers.Relayed ∷ answers.Path ∷ [])
     × (paths (run plain start walked) ≡ record { node = 0; walk = 0 ∷ 1 ∷ 2 ∷ [] } ∷ [])
     × (line_counts walked ≡ record { events = 17; flights = 9; sends = 1; ups = 0; forged = 0 })
     × (line_answers 12 broken ≡ answers.Traced ∷ answers.Broken ∷ answers.NoRoute ∷ [])

@@ -99,5 +99,6 @@ returns c =
     ∙ ap (λ e. Ok (by_coordinator network kept first.node answers.Ordered (λ k. coordinators.activate k e c.args.index kept.clock))) (sym eui))
     (node_acted true kept _ first (λ x. acts x (Err orders.Halted) (λ k. coordinators.activate k c.eui-eui.result c.args.index kept.clock))
     (ordered_word answers.Ordered) _ _ _ _
-    r.bounds r.room c.node_outcome.ensures.frames c.node_outcome.ensures.tags c.activate-done.ensures (said_with kept _ _ _ _ c.node_outcome.ensures.reported c.ordered_word-2.ensures)
+    r.bounds r.room c.node_outcome.ensures.frames c.node_outcome.ensures.tags c.activate-done.ensures
+    (said_with kept _ _ _ _ c.node_outcome.ensures.reported c.ordered_word-2.ensures)
     c.node_outcome.ensures.world)))

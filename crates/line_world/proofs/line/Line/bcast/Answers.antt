@@ -60,7 +60,8 @@ broadcast-sent-requires-clause-log c =
     (beside_found kept.beside number c.index_mut.result.now within c.index_mut.ensures.value)
 
 pub node_outcome-requires-clause-node : goal.node_outcome-requires-clause-node
-node_outcome-requires-clause-node c = within_line c.requires.bounds (is_there (world_of c.args.self.now) c.args.node c.in_ok-number.number c.in_ok-number.ensures)
+node_outcome-requires-clause-node c =
+    within_line c.requires.bounds (is_there (world_of c.args.self.now) c.args.node c.in_ok-number.number c.in_ok-number.ensures)
 
 pub returns : goal.returns
 returns c =
@@ -87,6 +88,8 @@ returns c =
       broadcast = broadcast_sent c.args.node there.node (beside_at kept c.args.node) c.args.datagram.now
           (reaches there.node (beside_at kept c.args.node) (Err broadcasts.Halted) plan).answer;
     })
-    (world_of c.node_outcome.new.self) c.broadcast-sent.result c.broadcast-sent.new.out c.broadcast-sent.new.self c.broadcast-sent.new.beside c.node_outcome.result
-    r.bounds r.room c.node_outcome.ensures.frames c.node_outcome.ensures.tags did (said_with kept _ _ _ _ c.node_outcome.ensures.reported c.broadcast_word.ensures)
+    (world_of c.node_outcome.new.self) c.broadcast-sent.result c.broadcast-sent.new.out c.broadcast-sent.new.self c.broadcast-sent.new.beside
+    c.node_outcome.result
+    r.bounds r.room c.node_outcome.ensures.frames c.node_outcome.ensures.tags did
+    (said_with kept _ _ _ _ c.node_outcome.ensures.reported c.broadcast_word.ensures)
     c.node_outcome.ensures.world))

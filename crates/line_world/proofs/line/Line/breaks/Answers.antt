@@ -53,5 +53,6 @@ returns c =
     steps_as _ _ (begun w _ (has_coordinator (world_of c.args.self.now) c.args.node c.in_ok-number.number c.in_ok-number.ensures)
     ∙ at_node w c.args.node there.node _ there.at ∙ at_node w c.args.next next.node _ next.at
     ∙ ap (λ a. Ok (breaks_by network w c.args.node there.node a)) (sym (holds_there next (λ y. Some c.in-Some.address ≡ node_address y) c.in-Some.ensures)))
-    (node_said false w _ there (λ (x : Node). acts x answers.Halted (λ m. changing answers.Broken (with_station (calls.broke c.in-Some.address m.station) m))) _ _ _
+    (node_said false w _ there (λ (x : Node). acts x answers.Halted (λ m. changing answers.Broken (with_station (calls.broke c.in-Some.address m.station) m))) _
+    _ _
     c.requires.bounds c.requires.events c.broke-answer.ensures c.answered-2.ensures.reported (ap world_of c.answered-2.ensures.line))

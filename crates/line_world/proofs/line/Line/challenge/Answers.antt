@@ -36,10 +36,12 @@ eui-eui-requires-clause-there c =
 pub returns : goal.returns
 unfolding challenge
 returns c =
-    has_ordered (world_of c.args.self.now) (world_of c.reserve.new.self) (world_of c.node_outcome.new.self) c.args.node c.in_ok-number.number c.reserve.ensures.world
+    has_ordered (world_of c.args.self.now) (world_of c.reserve.new.self) (world_of c.node_outcome.new.self) c.args.node c.in_ok-number.number
+    c.reserve.ensures.world
     c.requires.bounds
     c.requires.events c.in_ok-number.ensures (λ it. challenge network it c.args.node) answers.Challenged
     (λ x e k. coordinators.challenge x.eui k e (world_of c.reserve.new.self).clock)
-    c.eui-eui.result c.challenge-done.result c.challenge-done.new.out c.challenge-done.new.self c.ordered_word.result c.node_outcome.result refl c.eui-eui.ensures
+    c.eui-eui.result c.challenge-done.result c.challenge-done.new.out c.challenge-done.new.self c.ordered_word.result c.node_outcome.result refl
+    c.eui-eui.ensures
     c.challenge-done.ensures c.node_outcome.ensures.frames
     c.node_outcome.ensures.tags c.ordered_word.ensures c.node_outcome.ensures.reported c.node_outcome.ensures.world

@@ -12,26 +12,30 @@ use Rattle.line_world.proofs.line.Line.checked.Goals as goal
 
 pub acknowledged-requires-clause-joined : goal.acknowledged-requires-clause-joined
 acknowledged-requires-clause-joined c =
-    joined_then (world_of c.args.self.now) c.hear-reported.new.self c.args.node c.args.got.now c.args.origin c.args.cost c.hear-reported.result c.hear-reported.new.out
+    joined_then (world_of c.args.self.now) c.hear-reported.new.self c.args.node c.args.got.now c.args.origin c.args.cost c.hear-reported.result
+    c.hear-reported.new.out
     c.args.message.now c.due.result
     c.requires.there c.requires.accepted c.hear-reported.ensures.received c.requires.message c.due.ensures.value
 
 pub acknowledged-requires-clause-room : goal.acknowledged-requires-clause-room
 acknowledged-requires-clause-room c =
-    room_then (world_of c.args.self.now) c.hear-reported.new.self c.args.node c.args.got.now c.args.origin c.args.cost c.hear-reported.result c.hear-reported.new.out
+    room_then (world_of c.args.self.now) c.hear-reported.new.self c.args.node c.args.got.now c.args.origin c.args.cost c.hear-reported.result
+    c.hear-reported.new.out
     c.args.message.now c.due.result
     c.requires.there c.requires.accepted c.hear-reported.ensures.received c.requires.message c.due.ensures.value
 
 pub received-requires-clause-bounds : goal.received-requires-clause-bounds
 received-requires-clause-bounds c =
-    bounds_then (world_of c.args.self.now) c.hear-reported.new.self c.args.node c.args.got.now c.args.origin c.args.cost c.hear-reported.result c.hear-reported.new.out
+    bounds_then (world_of c.args.self.now) c.hear-reported.new.self c.args.node c.args.got.now c.args.origin c.args.cost c.hear-reported.result
+    c.hear-reported.new.out
     c.args.message.now c.due.result
     c.requires.there c.requires.accepted c.hear-reported.ensures.received c.requires.message c.due.ensures.value
     (world_of c.acknowledged.new.self) c.acknowledged.result c.acknowledged.new.self.out c.acknowledged.ensures.acknowledges c.requires.bounds
 
 pub received-requires-clause-events : goal.received-requires-clause-events
 received-requires-clause-events c =
-    events_then (world_of c.args.self.now) c.hear-reported.new.self c.args.node c.args.got.now c.args.origin c.args.cost c.hear-reported.result c.hear-reported.new.out
+    events_then (world_of c.args.self.now) c.hear-reported.new.self c.args.node c.args.got.now c.args.origin c.args.cost c.hear-reported.result
+    c.hear-reported.new.out
     c.args.message.now c.due.result
     c.requires.there c.requires.accepted c.hear-reported.ensures.received c.requires.message c.due.ensures.value
     (world_of c.acknowledged.new.self) c.acknowledged.result c.acknowledged.new.self.out c.acknowledged.ensures.acknowledges c.requires.events
@@ -50,7 +54,8 @@ begin_check-requires c =
 pub received-requires-2-clause-bounds : goal.received-requires-2-clause-bounds
 received-requires-2-clause-bounds c =
     checked_bounds (world_of c.acknowledged.new.self) (world_of c.begin_check.new.self) c.args.node c.reply_of.result c.begin_check.ensures.world
-    (bounds_then (world_of c.args.self.now) c.hear-reported.new.self c.args.node c.args.got.now c.args.origin c.args.cost c.hear-reported.result c.hear-reported.new.out
+    (bounds_then (world_of c.args.self.now) c.hear-reported.new.self c.args.node c.args.got.now c.args.origin c.args.cost c.hear-reported.result
+    c.hear-reported.new.out
     c.args.message.now c.due.result
     c.requires.there c.requires.accepted c.hear-reported.ensures.received c.requires.message c.due.ensures.value
     (world_of c.acknowledged.new.self) c.acknowledged.result c.acknowledged.new.self.out c.acknowledged.ensures.acknowledges c.requires.bounds)
@@ -58,7 +63,8 @@ received-requires-2-clause-bounds c =
 pub received-requires-2-clause-events : goal.received-requires-2-clause-events
 received-requires-2-clause-events c =
     checked_events (world_of c.acknowledged.new.self) (world_of c.begin_check.new.self) c.args.node c.reply_of.result c.begin_check.ensures.world
-    (events_then (world_of c.args.self.now) c.hear-reported.new.self c.args.node c.args.got.now c.args.origin c.args.cost c.hear-reported.result c.hear-reported.new.out
+    (events_then (world_of c.args.self.now) c.hear-reported.new.self c.args.node c.args.got.now c.args.origin c.args.cost c.hear-reported.result
+    c.hear-reported.new.out
     c.args.message.now c.due.result
     c.requires.there c.requires.accepted c.hear-reported.ensures.received c.requires.message c.due.ensures.value
     (world_of c.acknowledged.new.self) c.acknowledged.result c.acknowledged.new.self.out c.acknowledged.ensures.acknowledges c.requires.events)
@@ -80,7 +86,8 @@ returns-then-not-acknowledged c =
 pub returns : goal.returns
 returns c =
     let out : c.begin_check.new.self.out ≡ c.acknowledged.new.self.out = c.begin_check.ensures.out in
-    checked_then (world_of c.args.self.now) c.hear-reported.new.self c.args.node c.args.got.now c.args.origin c.args.cost c.hear-reported.result c.hear-reported.new.out
+    checked_then (world_of c.args.self.now) c.hear-reported.new.self c.args.node c.args.got.now c.args.origin c.args.cost c.hear-reported.result
+    c.hear-reported.new.out
     c.args.message.now c.due.result
     c.requires.there c.requires.accepted c.hear-reported.ensures.received c.requires.message c.due.ensures.value
     (world_of c.acknowledged.new.self) (world_of c.received-2.new.self) c.begin_check.new.self.out c.is_forged-forged.result c.received-2.result

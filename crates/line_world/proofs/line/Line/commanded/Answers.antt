@@ -24,7 +24,8 @@ hear_command-commanded-requires-clause-log c =
     let number = c.args.node in
     let x = at_some w.nodes number c.requires.there in
     let step : Node → NodeStep Reception = λ y. hearing_step network y c.args.got.now c.args.cost c.args.origin.note w.clock in
-    let heard = at_node_after w.nodes number x.0 (λ y. Received (step y) w.nodes number c.hear-reported.result c.hear-reported.new.out c.hear-reported.new.self) x.1
+    let heard = at_node_after w.nodes number x.0 (λ y. Received (step y) w.nodes number c.hear-reported.result c.hear-reported.new.out c.hear-reported.new.self)
+    x.1
     c.hear-reported.ensures.received in
     let within : number < length w.beside = subst (λ (n : ℕ). number < n) (sym c.requires.beside) c.requires.there in
     let held : c.index_mut.result.now ≡ beside_at w number = beside_found w.beside number c.index_mut.result.now within c.index_mut.ensures.value in
@@ -39,7 +40,8 @@ hear_command-commanded-requires-clause-room c =
     let number = c.args.node in
     let x = at_some w.nodes number c.requires.there in
     let step : Node → NodeStep Reception = λ y. hearing_step network y c.args.got.now c.args.cost c.args.origin.note w.clock in
-    let heard = at_node_after w.nodes number x.0 (λ y. Received (step y) w.nodes number c.hear-reported.result c.hear-reported.new.out c.hear-reported.new.self) x.1
+    let heard = at_node_after w.nodes number x.0 (λ y. Received (step y) w.nodes number c.hear-reported.result c.hear-reported.new.out c.hear-reported.new.self)
+    x.1
     c.hear-reported.ensures.received in
     command_room w number x.0 c.args.got.now (command_of c.args.command.now) c.args.cost c.args.origin.note c.hear-reported.result c.hear-reported.new.out
     c.hear-reported.new.self
@@ -51,7 +53,8 @@ received-happenings-requires-clause-bounds c =
     let number = c.args.node in
     let x = at_some w.nodes number c.requires.there in
     let step : Node → NodeStep Reception = λ y. hearing_step network y c.args.got.now c.args.cost c.args.origin.note w.clock in
-    let heard = at_node_after w.nodes number x.0 (λ y. Received (step y) w.nodes number c.hear-reported.result c.hear-reported.new.out c.hear-reported.new.self) x.1
+    let heard = at_node_after w.nodes number x.0 (λ y. Received (step y) w.nodes number c.hear-reported.result c.hear-reported.new.out c.hear-reported.new.self)
+    x.1
     c.hear-reported.ensures.received in
     command_bounded w number x.0 c.args.got.now (command_of c.args.command.now) c.args.cost c.args.origin.note c.hear-reported.result c.hear-reported.new.out
     c.hear-reported.new.self
@@ -66,7 +69,8 @@ returns c =
     let number = c.args.node in
     let x = at_some w.nodes number c.requires.there in
     let step : Node → NodeStep Reception = λ y. hearing_step network y c.args.got.now c.args.cost c.args.origin.note w.clock in
-    let heard = at_node_after w.nodes number x.0 (λ y. Received (step y) w.nodes number c.hear-reported.result c.hear-reported.new.out c.hear-reported.new.self) x.1
+    let heard = at_node_after w.nodes number x.0 (λ y. Received (step y) w.nodes number c.hear-reported.result c.hear-reported.new.out c.hear-reported.new.self)
+    x.1
     c.hear-reported.ensures.received in
     let within : number < length w.beside = subst (λ (n : ℕ). number < n) (sym c.requires.beside) c.requires.there in
     let held : c.index_mut.result.now ≡ beside_at w number = beside_found w.beside number c.index_mut.result.now within c.index_mut.ensures.value in

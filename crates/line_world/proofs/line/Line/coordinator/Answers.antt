@@ -33,6 +33,7 @@ returns c =
     let w = world_of c.args.self.now in
     first_made w _ c.args.eui c.args.key.now _ _ c.requires.bounds c.requires.events c.if-has_begun.ensures
     (went_well _ c.make_coordinator.ensures.ok c.if-is_err-2.ensures.value)
-    (c.happenings.ensures ∙ ap (λ (l : Line). happenings (world_of l) answers.Made) c.set_up.ensures ∙ ap (λ (v : World). happenings v answers.Made) c.hold_beside.ensures)
+    (c.happenings.ensures ∙ ap (λ (l : Line). happenings (world_of l) answers.Made) c.set_up.ensures
+    ∙ ap (λ (v : World). happenings v answers.Made) c.hold_beside.ensures)
     (ap world_of c.set_up.ensures ∙ ap (λ (v : World). set_up v) c.hold_beside.ensures
     ∙ (λ i. record (set_up w) { nodes = c.make_coordinator.new.self; beside = c.reserve.ensures.items i ++ nothing_beside ∷ [] }))

@@ -16,7 +16,8 @@ returns c =
     let new = world_of node_outcome.new.self in
     by_key w.nodes node (λ x psk. Steps true w (Ok (with_agent node_outcome.result c.agent_of-agent.result)) new (Ok (joins_in w node x psk a.address a.total)))
     (λ x psk at key.
-    joins_reported w new node x psk a.address a.total c.join-asked.result c.join-asked.new.out c.join-asked.new.self c.agent_of-agent.result node_outcome.result at key
+    joins_reported w new node x psk a.address a.total c.join-asked.result c.join-asked.new.out c.join-asked.new.self c.agent_of-agent.result
+    node_outcome.result at key
     c.join-asked.ensures.did
     c.requires.bounds c.requires.events node_outcome.ensures.frames node_outcome.ensures.tags c.agent_of-agent.ensures
     (said_with w _ _ _ _ node_outcome.ensures.reported c.choice_word.ensures) node_outcome.ensures.world)

@@ -36,9 +36,11 @@ eui-eui-requires-clause-there c =
 pub returns : goal.returns
 unfolding kick
 returns c =
-    has_ordered (world_of c.args.self.now) (world_of c.reserve.new.self) (world_of c.node_outcome.new.self) c.args.node c.in_ok-number.number c.reserve.ensures.world
+    has_ordered (world_of c.args.self.now) (world_of c.reserve.new.self) (world_of c.node_outcome.new.self) c.args.node c.in_ok-number.number
+    c.reserve.ensures.world
     c.requires.bounds
     c.requires.events c.in_ok-number.ensures (λ it. kick network it c.args.node) answers.Kicked (λ x e k. coordinators.kick k e)
-    c.eui-eui.result c.kick-done.result c.kick-done.new.out c.kick-done.new.self c.ordered_word.result c.node_outcome.result refl c.eui-eui.ensures c.kick-done.ensures
+    c.eui-eui.result c.kick-done.result c.kick-done.new.out c.kick-done.new.self c.ordered_word.result c.node_outcome.result refl c.eui-eui.ensures
+    c.kick-done.ensures
     c.node_outcome.ensures.frames
     c.node_outcome.ensures.tags c.ordered_word.ensures c.node_outcome.ensures.reported c.node_outcome.ensures.world

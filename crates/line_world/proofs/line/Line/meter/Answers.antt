@@ -48,6 +48,7 @@ returns c =
     let room : length w.nodes < 1000 = omega (arith, c.if-len-ge-MAX_NODES.false, c.len.ensures) in
     meter_made w _ c.args.eui c.args.psk _ _ c.requires.bounds c.requires.events c.if-not-takes_setup.ensures room c.if-has.ensures
     (went_well _ c.make_meter.ensures.ok c.if-is_err-2.ensures.value)
-    (c.happenings.ensures ∙ ap (λ (l : Line). happenings (world_of l) answers.Made) c.set_up.ensures ∙ ap (λ (v : World). happenings v answers.Made) c.hold_beside.ensures)
+    (c.happenings.ensures ∙ ap (λ (l : Line). happenings (world_of l) answers.Made) c.set_up.ensures
+    ∙ ap (λ (v : World). happenings v answers.Made) c.hold_beside.ensures)
     (ap world_of c.set_up.ensures ∙ ap (λ (v : World). set_up v) c.hold_beside.ensures
     ∙ (λ i. record (set_up w) { nodes = c.make_meter.new.self; beside = c.reserve.ensures.items i ++ nothing_beside ∷ [] }))

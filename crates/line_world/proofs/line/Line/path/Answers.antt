@@ -111,4 +111,5 @@ returns c =
     (node_reached there (Err asks.Halted) plan ask_word
     (record nothing_further { stepping = asked there.node target (reaches there.node (beside_at kept c.args.from) (Err asks.Halted) plan).answer })
     (world_of c.node_outcome.new.self) c.ask-asked.result c.ask-asked.new.out c.ask-asked.new.self c.ask-asked.new.beside c.node_outcome.result
-    r.bounds r.room c.node_outcome.ensures.frames c.node_outcome.ensures.tags did (said_with kept _ _ _ _ c.node_outcome.ensures.reported c.ask_word.ensures) c.node_outcome.ensures.world)))
+    r.bounds r.room c.node_outcome.ensures.frames c.node_outcome.ensures.tags did (said_with kept _ _ _ _ c.node_outcome.ensures.reported c.ask_word.ensures)
+    c.node_outcome.ensures.world)))

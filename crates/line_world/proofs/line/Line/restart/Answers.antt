@@ -70,4 +70,5 @@ returns c =
     (steps_as _ _ (begun w _ (has_coordinator w c.args.node c.in_ok-number.number c.in_ok-number.ensures) ∙ at_node w c.args.node there.node _ there.at
     ∙ ap (λ (r : World × Trace). Ok r) (restart_is there c.requires.logs c.open_log.result c.open_log.ensures.value c.in-Ok.log c.in-Ok.is))
     (steps_beside false w (record (running_world w) { nodes = nodes }) _ (node_outcome network w c.args.node (restarts there.node)) bs
-    (node_said false w (record (running_world w) { nodes = nodes }) there restarts c.restart-answer.result nodes _ c.requires.bounds c.requires.events did reported refl)))
+    (node_said false w (record (running_world w) { nodes = nodes }) there restarts c.restart-answer.result nodes _ c.requires.bounds c.requires.events did
+    reported refl)))

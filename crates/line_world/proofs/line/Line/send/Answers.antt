@@ -16,7 +16,8 @@ use Rattle.line_rules.specs.Steps.{happenings, has_begun, send, sends_by, tag_of
 use Rattle.line_world.specs.Bounds.{IsBounded}
 use Rattle.line_world.specs.Lines.{world_of}
 use Rattle.line_world.specs.Steps.{Steps, has_address}
-use Rattle.line_world.proofs.Taking.{IsThere, steps_as, begun, at_node, is_there, holds_there, only_ran, not_found, second_not_found, has_coordinator, unreserved}
+use Rattle.line_world.proofs.Taking.{IsThere, steps_as, begun, at_node, is_there, holds_there, only_ran, not_found, second_not_found, has_coordinator}
+use Rattle.line_world.proofs.Taking.{unreserved}
 use Rattle.line_world.proofs.Taking.{taking, addressed}
 use Rattle.line_world.proofs.Sendings.{node_sent}
 use Rattle.line_world.proofs.line.Line.send.Goals as goal
@@ -98,11 +99,14 @@ returns c =
     let has : true ≡ has_begun v = subst (λ (it : World). true ≡ has_begun it) (sym same)
     (has_coordinator (world_of c.args.self.now) c.args.from c.in_ok-from.from c.in_ok-from.ensures) in
     taking (addressed (is_there w c.args.to c.in_ok-to.to c.in_ok-to.ensures) address c.in-Some.ensures)
-    (subst (λ (it : World). Steps true it (Ok c.node_outcome.result) (world_of c.node_outcome.new.self) (send network it c.args.from c.args.to c.args.datagram.now)) same
+    (subst (λ (it : World). Steps true it (Ok c.node_outcome.result) (world_of c.node_outcome.new.self)
+    (send network it c.args.from c.args.to c.args.datagram.now)) same
     (steps_as _ _ (begun v _ has ∙ at_node v c.args.from there.node _ there.at ∙ at_node v c.args.to to.node _ to.at
     ∙ ap (λ a. Ok (sends_by network v c.args.from c.args.to c.args.datagram.now there.node a)) (sym at))
     (node_sent v _ there c.args.to c.args.datagram.now (tag_of there.node)
     (λ (x : Node). acts x (Err sends.Halted) (λ m. of_station m (calls.send m.station address c.args.datagram.now (v.sends + 1) v.clock)))
-    c.send-sent.result c.send-sent.new.out c.send-sent.new.self c.from.result _ bounds room c.node_outcome.ensures.frames c.node_outcome.ensures.tags c.send-sent.ensures
+    c.send-sent.result c.send-sent.new.out c.send-sent.new.self c.from.result _ bounds room c.node_outcome.ensures.frames c.node_outcome.ensures.tags
+    c.send-sent.ensures
     (c.from.ensures ∙ ap bool_byte c.is_ok.ensures.value)
-    (c.node_outcome.ensures.reported ∙ (λ i. record (happenings v (c.sent_word.ensures i)) { flights = length c.send-sent.new.out.frames })) c.node_outcome.ensures.world)))
+    (c.node_outcome.ensures.reported ∙ (λ i. record (happenings v (c.sent_word.ensures i)) { flights = length c.send-sent.new.out.frames }))
+    c.node_outcome.ensures.world)))

@@ -33,7 +33,8 @@ returns c =
     let left : World = record set { beside = map (tick_beside clock) w.beside } in
     let new : world_of c.answered.new.self ≡ left =
     ap world_of c.answered.ensures.line ∙ ap (λ (v : World). running_world v) c.tick_beside.ensures
-    ∙ (λ i. record (running_world w) { clock = w.clock + c.from.ensures i; nodes = nodes i; beside = map (tick_beside (w.clock + c.from.ensures i)) w.beside }) in
+    ∙ (λ i. record (running_world w)
+    { clock = w.clock + c.from.ensures i; nodes = nodes i; beside = map (tick_beside (w.clock + c.from.ensures i)) w.beside }) in
     let reported = c.answered.ensures.reported ∙ ap (λ (v : World). happenings v answers.Ticked) c.tick_beside.ensures in
     steps_as _ _ (ap (after_ok (λ r. (record r.0 { beside = map (tick_beside clock) w.beside }, r.1))) (begun w _ c.if-not-has_begun.ensures))
     (is_taken_so false w _ (Ok (left, trace)) trace _ (λ i. Ok (sym new i, trace)) reported

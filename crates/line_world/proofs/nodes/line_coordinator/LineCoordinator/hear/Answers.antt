@@ -29,7 +29,8 @@ returns-clause-reports c =
     (reported c.self.inside.coordinator c.hear-heard.new.self c.args.got.now c.args.cost c.args.note c.args.now c.hear-heard.result c.hear-heard.new.out
     c.self.invariant may
     c.hear-heard.ensures.carries c.with_reply.result
-    (reported_with_reply c.reception_of_coordinator.result c.with_reply.result c.reply_of-replied.result _ c.with_reply.ensures c.reception_of_coordinator.ensures))
+    (reported_with_reply c.reception_of_coordinator.result c.with_reply.result c.reply_of-replied.result _ c.with_reply.ensures
+    c.reception_of_coordinator.ensures))
 
 pub returns-clause-took : goal.returns-clause-took
 returns-clause-took c =

@@ -16,7 +16,8 @@ break_at-requires c = record {
 pub returns : goal.returns
 unfolding resting
 returns c =
-    station_did answers.Halted (breaking c.args.next) c.self.inside.meters.items _ c.args.place c.index_mut.result.now c.station.result.now c.break_at.new.station
+    station_did answers.Halted (breaking c.args.next) c.self.inside.meters.items _ c.args.place c.index_mut.result.now c.station.result.now
+    c.break_at.new.station
     c.break_at.result nothing c.self.view_is c.requires.there c.index_mut.ensures.value c.self.invariant c.station.ensures.value
     (gives_nothing c.station.result.now.memory _ _ c.break_at.ensures.halted) c.break_at.ensures.carries
 
