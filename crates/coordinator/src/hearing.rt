@@ -5,7 +5,7 @@ ghost use Rattle.joining_messages.specs.declared.message.JoinBody.TheVariants as
 ghost use Rattle.plc_station.specs.Heard.{Fits};
 ghost use Rattle.node_rules.specs.Hearing as hearing;
 ghost use Rattle.node_rules.specs.Coordinators as rules;
-ghost use Rattle.node_rules.specs.Carrying.{Carries, nothing};
+ghost use Rattle.node_rules.specs.Carrying.{Carries};
 ghost use Rattle.node_rules.specs.MemoryDrafts.{unread};
 ghost use Rattle.node_rules.specs.Replies.{reply_sent};
 ghost use Rattle.coordinator.specs.CoordinatorStates.{node_of, identity_of};

@@ -52,11 +52,6 @@ unfolding reply_of
 sealed_units_reply g key first [] = refl
 sealed_units_reply g key first (u ∷ us) = ap (first_of (reply_with u.to (route_message u.unit))) (sealed_units_reply g key (first + 1) us)
 
--- a ring whose key seals sends the reply of its units, and no ring sends one where there is none
-sealed_reply : (g : Granted) (key : Key) (first : ℕ) (us : List UnsealedUnit) → sealing_key g ≡ Some key
-    → reply_among (sealed_by (Some g) first us) ≡ reply_in us
-sealed_reply g key first us e = ap (λ (k : Option Key). reply_among (option_map_or (λ q. sealed_units g q first us) k [])) e ∙ sealed_units_reply g key first us
-
 sealed_quiet : (r : Ring) (first : ℕ) (us : List UnsealedUnit) → reply_in us ≡ None → reply_among (sealed_by r first us) ≡ None
 sealed_quiet None first us e = refl
 sealed_quiet (Some g) first us e = by_key (sealing_key g)
@@ -209,16 +204,24 @@ sent_on_quiet l own by origin dest rank now =
 
 -- # Plans that send one
 
-pub answer_goes : (l : StationMemory) (g : Granted) (key : Key) (own by origin : ℕ) (rank : Rank) (now : ℕ) → l.ring ≡ Some g → sealing_key g ≡ Some key
+-- a ring whose key seals sends the reply of its units, whichever the key is
+under_a_key : (g : Granted) (first : ℕ) (us : List UnsealedUnit) → IsSome (sealing_key g) → reply_among (sealed_by (Some g) first us) ≡ reply_in us
+under_a_key g first us seals = by_key (sealing_key g) seals
+  where
+    by_key : (k : Option Key) → IsSome k → reply_among (option_map_or (λ q. sealed_units g q first us) k []) ≡ reply_in us
+    by_key None h = absurd (cc)
+    by_key (Some key) h = sealed_units_reply g key first us
+
+pub answer_goes : (l : StationMemory) (g : Granted) (own by origin : ℕ) (rank : Rank) (now : ℕ) → l.ring ≡ Some g → IsSome (sealing_key g)
     → messages.IsMessage (Rrep (l.own_number.last + 1) 0 own origin)
     → reply_among (sealing {H = Unit {0}} alone dropped (send_message by (Rrep (l.own_number.last + 1) 0 own origin) (offers_numbered own origin rank by now l))
     tt).frames
     ≡ Some (record { to = by; number = l.own_number.last + 1; origin = own })
 unfolding goes leave with_own_number with_rank empty_draft
-answer_goes l g key own by origin rank now ring seals is =
+answer_goes l g own by origin rank now ring seals is =
     let us = message_units own by origin by l.waiting (Rrep (l.own_number.last + 1) 0 own origin) in
     ap (λ (r : Ring). reply_among (sealed_by r l.counter.next us)) ring
-    ∙ sealed_reply g key l.counter.next us seals
+    ∙ under_a_key g l.counter.next us seals
     ∙ message_alone own by origin by l.waiting (Rrep (l.own_number.last + 1) 0 own origin)
     ∙ reply_is_message by (l.own_number.last + 1) 0 own origin is
 
@@ -230,13 +233,9 @@ unfolding goes leave with_rank empty_draft
 passed_goes l g own by hop origin to rank now ring seals is =
     let us = message_units own by origin hop l.waiting (Rrep rank.number rank.cost origin to) in
     ap (λ (r : Ring). reply_among (sealed_by r l.counter.next us)) ring
-    ∙ by_key us (sealing_key g) seals
+    ∙ under_a_key g l.counter.next us seals
     ∙ message_alone own by origin hop l.waiting (Rrep rank.number rank.cost origin to)
     ∙ reply_is_message hop rank.number rank.cost origin to is
-  where
-    by_key : (us : List UnsealedUnit) (k : Option Key) → IsSome k → reply_among (option_map_or (λ q. sealed_units g q l.counter.next us) k []) ≡ reply_in us
-    by_key us None h = absurd (cc)
-    by_key us (Some key) h = sealed_units_reply g key l.counter.next us
 
 -- what is kept of a reply is no part of the plan that sent it
 pub restated : {A : Type 0} (s t : State StationMemory) (r : Option Reply) (p : Plan StationMemory A) (answer : A) (out : Out) → Carries s p answer out t

@@ -7,7 +7,6 @@ use Rattle.loadng_messages.specs.declared.message.Message.{Message}
 use Rattle.loadng_messages.specs.declared.message.Message.TheVariants.{Rreq, Rrep}
 use Rattle.mesh_header.specs.declared.unit.Unit.TheVariants.{Local}
 use Rattle.routing_set.specs.declared.rank.Rank.{Rank}
-use Rattle.routing_set.specs.RoutingSet as routing
 use Rattle.node_rules.specs.declared.heard.Heard.{Heard}
 use Rattle.node_rules.specs.declared.heard.Heard.TheVariants.{Answered, Relayed}
 use Rattle.node_rules.specs.declared.refusal.Dropped.TheVariants.{SeqSpent, CounterSpent}

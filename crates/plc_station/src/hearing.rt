@@ -3,9 +3,8 @@ ghost use Rattle.std.specs.Prelude.{◌≡◌, ◌==◌, not, ◌+◌, ◌<◌, 
 ghost use Rattle.mesh_header.specs.Grammar.{IsAllowed, spelled_length};
 ghost use Rattle.mesh_header.specs.Reading as units;
 ghost use Rattle.loadng_messages.specs.Grammar as messages;
-ghost use Rattle.loadng_messages.specs.declared.message.Message.TheVariants as message;
 ghost use Rattle.node_rules.specs.Hearing as hearing;
-ghost use Rattle.node_rules.specs.Carrying.{Carries, nothing};
+ghost use Rattle.node_rules.specs.Carrying.{Carries};
 ghost use Rattle.plc_station.specs.Hears.{Hears};
 ghost use Rattle.node_rules.specs.Agreement.{Agrees};
 ghost use Rattle.plc_station.specs.Ready.{Ready, ReadyToAnswer, ReadyToSend};
@@ -15,12 +14,12 @@ ghost use Rattle.node_rules.specs.Replies.{reply_sent};
 ghost use Rattle.group_keys.specs.KeyRing as ring;
 ghost use Rattle.plc_base.specs.declared.limits.TheConstants.{LONGEST_FRAME};
 
-use crate::offers::{LastHop, Offered};
+use crate::offers::LastHop;
 use crate::station::Station;
 use loadng_messages::{Message, read_message};
 use mesh_header::{Unit, read_unit};
 use node_rules::{Accepted, Dropped, Heard, Path, Way};
-use plc_base::{DatagramBuf, Grant, Keeper, LinkCost, OctetRef, Out, Short};
+use plc_base::{DatagramBuf, Grant, Keeper, LinkCost, OctetRef, Out};
 
 // The unit that octets are, if they are one.
 fn unit_in(octets: &[u8]) -> Option<Unit<'_>>
@@ -90,12 +89,7 @@ impl<K: Keeper + Drop> Station<K> {
                 if !last.to_all {
                     return Err(Dropped::BadUnit);
                 }
-                let cost = u32::from(cost) + u32::from(last.link.number());
-                let offered = Offered {
-                    origin,
-                    number,
-                    cost,
-                };
+                let offered = last.offered(origin, number, cost);
                 self.hear_request(grant, last, &offered, dest, out)
             }
             Message::Rrep {
@@ -107,12 +101,7 @@ impl<K: Keeper + Drop> Station<K> {
                 if last.to_all {
                     return Err(Dropped::BadUnit);
                 }
-                let cost = u32::from(cost) + u32::from(last.link.number());
-                let offered = Offered {
-                    origin,
-                    number,
-                    cost,
-                };
+                let offered = last.offered(origin, number, cost);
                 self.hear_reply(grant, last, &offered, to, out)
             }
             Message::Rerr { lost, to } => {

@@ -1,5 +1,5 @@
 //! How a sealed frame came, and the rank that a route message in it offers.
-ghost use Rattle.std.specs.Prelude.{◌≡◌, ◌==◌, ◌||◌, ◌≤◌, not, IfOk, IfSome};
+ghost use Rattle.std.specs.Prelude.{◌≡◌, ◌==◌, ◌+◌, ◌||◌, ◌≤◌, not, IfOk, IfSome};
 ghost use Rattle.std.specs.Result.{result_err};
 ghost use Rattle.routing_set.specs.RoutingSet as routing;
 ghost use Rattle.node_rules.specs.Hearing as hearing;
@@ -27,6 +27,19 @@ pub struct Offered {
     pub(crate) origin: Short,
     pub(crate) number: u16,
     pub(crate) cost: u32,
+}
+
+impl LastHop {
+    // The rank for an address that a route message offers at this hop, whose link adds its cost.
+    pub(crate) fn offered(&self, origin: Short, number: u16, cost: u16) -> Offered
+        ensures { result ≡ record { origin = origin; number = number; cost = cost + self.now.link } }
+    {
+        Offered {
+            origin,
+            number,
+            cost: u32::from(cost) + u32::from(self.link.number()),
+        }
+    }
 }
 
 /// A rank for an address that is taken: from which neighbour, and when, in seconds.

@@ -2,20 +2,18 @@
 ghost use Rattle.std.specs.Prelude.{◌+◌, ◌<◌, ◌≤◌, true, false, Ok, Err, IfSome, length};
 ghost use Rattle.node_rules.specs.Drafts as drafts;
 ghost use Rattle.node_rules.specs.Hearing as hearing;
-ghost use Rattle.routing_set.specs.RoutingSet as routing;
 ghost use Rattle.fragment_buffers.specs.Waiting.{leaving};
 ghost use Rattle.node_rules.specs.Carrying.{Carries};
 ghost use Rattle.plc_station.specs.Hears.{Hears};
 ghost use Rattle.plc_station.specs.Ready.{After, ReadyToSend};
 ghost use Rattle.plc_station.specs.Offers.{CanBeKept, offered_rank};
-ghost use Rattle.group_keys.specs.KeyRing as ring;
 ghost use Rattle.plc_base.specs.declared.limits.TheConstants.{GREATEST_COUNTER};
 
 use crate::offers::{LastHop, Offer, Offered};
 use crate::station::Station;
 use aes_modes::Aes;
 use node_rules::{Dropped, Heard};
-use plc_base::{Grant, Keeper, Out, Short};
+use plc_base::{Grant, Keeper, Out};
 
 impl<K: Keeper + Drop> Station<K> {
     // Keeps the rank that a reply for the own address offers, and what waits for the origin leaves.

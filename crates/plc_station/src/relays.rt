@@ -4,19 +4,16 @@ ghost use Rattle.loadng_messages.specs.Grammar as messages;
 ghost use Rattle.loadng_messages.specs.declared.message.Message.TheVariants as message;
 ghost use Rattle.node_rules.specs.Drafts as drafts;
 ghost use Rattle.node_rules.specs.Hearing as hearing;
-ghost use Rattle.routing_set.specs.RoutingSet as routing;
 ghost use Rattle.fragment_buffers.specs.Waiting.{leaving};
 ghost use Rattle.node_rules.specs.Carrying.{Carries};
 ghost use Rattle.plc_station.specs.Ready.{After, ReadyToSend};
 ghost use Rattle.plc_station.specs.Offers.{CanBeKept};
-ghost use Rattle.group_keys.specs.KeyRing as ring;
 ghost use Rattle.node_rules.specs.Frames.{to_all};
 ghost use Rattle.plc_base.specs.declared.limits.TheConstants.{GREATEST_COUNTER};
 
 use crate::offers::Offer;
-use crate::sealing::seal_message;
+use crate::sealing::seal_waiting_then;
 use crate::station::Station;
-use aes_modes::Aes;
 use loadng_messages::Message;
 use node_rules::Dropped;
 use plc_base::{Destination, Grant, Keeper, Out, Short};
@@ -59,20 +56,16 @@ impl<K: Keeper + Drop> Station<K> {
         let Ok(first) = self.parts.counter.reserve(&mut self.keeper, units + 1) else {
             return Err(Dropped::Store);
         };
-        let key = grant.sealing_key();
-        let aes = Aes::new(&key);
-        self.bodies.seal_leaving(
-            offer.origin,
-            grant,
-            &key,
-            &aes,
-            first,
-            offer.by,
+        seal_waiting_then(
+            &mut self.bodies,
             &mut self.buffer,
+            grant,
+            offer,
+            first,
+            to,
+            message,
             out,
         );
-        seal_message(grant, &key, &aes, first + units, to, message, out);
-        self.bodies.drop_for(offer.origin);
         self.halted = false;
         Ok(())
     }

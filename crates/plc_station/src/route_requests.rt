@@ -3,20 +3,17 @@ ghost use Rattle.std.specs.Prelude.{◌≡◌, ◌==◌, ◌+◌, ◌<◌, ◌�
 ghost use Rattle.loadng_messages.specs.declared.message.Message.TheVariants as message;
 ghost use Rattle.node_rules.specs.Drafts as drafts;
 ghost use Rattle.node_rules.specs.Hearing as hearing;
-ghost use Rattle.routing_set.specs.RoutingSet as routing;
 ghost use Rattle.fragment_buffers.specs.Waiting.{leaving};
 ghost use Rattle.node_rules.specs.Carrying.{Carries};
 ghost use Rattle.plc_station.specs.Hears.{Hears, reply_sent_by};
 ghost use Rattle.node_rules.specs.Agreement.{Agrees};
 ghost use Rattle.plc_station.specs.Ready.{ReadyToSend};
 ghost use Rattle.plc_station.specs.Offers.{CanBeKept, offered_rank};
-ghost use Rattle.group_keys.specs.KeyRing as ring;
 ghost use Rattle.plc_base.specs.declared.limits.TheConstants.{GREATEST_COUNTER};
 
 use crate::offers::{LastHop, Offer, Offered};
-use crate::sealing::seal_message;
+use crate::sealing::seal_waiting_then;
 use crate::station::Station;
-use aes_modes::Aes;
 use loadng_messages::Message;
 use node_rules::{Dropped, Heard, Reply};
 use plc_base::{Destination, Grant, Keeper, Out, Short};
@@ -57,34 +54,22 @@ impl<K: Keeper + Drop> Station<K> {
         let Ok(first) = self.parts.counter.reserve(&mut self.keeper, units + 1) else {
             return Err(Dropped::Store);
         };
-        let key = grant.sealing_key();
-        let aes = Aes::new(&key);
-        self.bodies.seal_leaving(
-            offer.origin,
-            grant,
-            &key,
-            &aes,
-            first,
-            offer.by,
-            &mut self.buffer,
-            out,
-        );
         let reply = Message::Rrep {
             number,
             cost: 0,
             origin: grant.address,
             to: offer.origin,
         };
-        seal_message(
+        seal_waiting_then(
+            &mut self.bodies,
+            &mut self.buffer,
             grant,
-            &key,
-            &aes,
-            first + units,
+            offer,
+            first,
             Destination::one(offer.by),
             &reply,
             out,
         );
-        self.bodies.drop_for(offer.origin);
         self.replied = Some(Reply {
             to: offer.by,
             number,

@@ -1,22 +1,26 @@
 //! Seals what one call of a station sends.
-ghost use Rattle.std.specs.Prelude.{◌≡◌, ◌+◌, ◌<◌, ◌≤◌, ◌++◌, ◌∷◌, [], Some, length, map};
+ghost use Rattle.std.specs.Prelude.{◌≡◌, ◌+◌, ◌<◌, ◌≤◌, ◌++◌, ◌∷◌, [], Some, IsSome, length, map, not};
+ghost use Rattle.std.specs.List.{filter};
 ghost use Rattle.mesh_header.specs.declared.unit.Unit.TheVariants as mesh;
 ghost use Rattle.loadng_messages.specs.Grammar as messages;
 ghost use Rattle.loadng_messages.specs.declared.message.Message.TheVariants as message;
 ghost use Rattle.fragment_buffers.specs.Fragmentation.{pieces_of};
+ghost use Rattle.fragment_buffers.specs.Waiting.{leaving, waits_for};
 ghost use Rattle.node_rules.specs.Ciphers.{network};
 ghost use Rattle.node_rules.specs.Frames.{spelled};
 ghost use Rattle.node_rules.specs.Memory.{Datagram};
 ghost use Rattle.node_rules.specs.Drafts as drafts;
 ghost use Rattle.node_rules.specs.Carrying.{nothing};
 ghost use Rattle.node_rules.specs.Frames.{to_all};
+ghost use Rattle.plc_station.specs.Sealing.{only_frames};
 ghost use Rattle.plc_base.specs.declared.limits.TheConstants.{GREATEST_COUNTER, LONGEST_DATAGRAM, MOST_FRAMES};
 
+use crate::offers::Offer;
 use aes_modes::Aes;
 use loadng_messages::{Message, MessageBuf, write_message};
 use mesh_header::Unit;
 use plc_base::{Destination, Grant, Key, OctetRef, Out, Short};
-use station_queues::{seal, seal_load};
+use station_queues::{Bodies, BodyBuffer, seal, seal_load};
 
 // Seals a datagram, whole or in pieces.
 pub(crate) fn seal_datagram(
@@ -81,6 +85,45 @@ pub(crate) fn seal_message(
         body: octets,
     };
     seal(grant, key, aes, counter, to, &unit, 0, out);
+}
+
+// Seals what waits for the origin of an offer, for the neighbour that made it, and a message after it, under the active key of the grant and
+// with counters from `first` on. Then nothing waits for that origin. Each body is read into `buffer`, whose octets mean nothing before and after.
+pub(crate) fn seal_waiting_then(
+    bodies: &mut Bodies,
+    buffer: &mut BodyBuffer,
+    grant: &Grant,
+    offer: &Offer,
+    first: u32,
+    to: Destination,
+    message: &Message,
+    out: &mut Out,
+)
+    requires left { first + (length (leaving grant.now.address offer.now.origin offer.now.by bodies.old.waiting) + 1) ≤ GREATEST_COUNTER }
+    requires allowed { messages.IsAllowed message.now }
+    requires empty { out.old ≡ nothing }
+    ensures key { IsSome (drafts.sealing_key grant.now) }
+    ensures message { messages.IsMessage message.now }
+    ensures sent { out.new ≡ only_frames (map (spelled network) (drafts.sealed_by (Some grant.now) first
+        (leaving grant.now.address offer.now.origin offer.now.by bodies.old.waiting
+        ++ record { to = to; unit = mesh.Local 1 (messages.spelling message.now); note = 0 } ∷ []))) }
+    ensures left { bodies.new ≡ record bodies.old { waiting = filter (λ b. not (waits_for offer.now.origin b)) bodies.old.waiting } }
+{
+    let units = bodies.units_for(offer.origin);
+    let key = grant.sealing_key();
+    let aes = Aes::new(&key);
+    bodies.seal_leaving(
+        offer.origin,
+        grant,
+        &key,
+        &aes,
+        first,
+        offer.by,
+        buffer,
+        out,
+    );
+    seal_message(grant, &key, &aes, first + units, to, message, out);
+    bodies.drop_for(offer.origin);
 }
 
 // Seals a request for the route to an address, which goes to all.

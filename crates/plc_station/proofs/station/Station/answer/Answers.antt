@@ -1,7 +1,6 @@
 use Rattle.std.proofs.Common.{◌≡◌, ◌∷◌, [], ◌++◌, ◌+◌, Some, length, map, refl, sym, ap, subst, ◌∙◌, arith}
 use Rattle.std.proofs.lemmas.List.{length-append}
 use Rattle.store_tables.proofs.WritesLemmas.{wrote_append, wrote_append_stop, wrote_one}
-use Rattle.plc_base.specs.declared.out_frame.Out.{Out}
 use Rattle.plc_base.specs.Grant.{Granted}
 use Rattle.loadng_messages.specs.Grammar as messages
 use Rattle.loadng_messages.specs.declared.message.Message.TheVariants.{Rrep}
@@ -13,7 +12,6 @@ use Rattle.node_rules.specs.Drafts.{empty_draft, goes, leave, with_own_number, w
 use Rattle.node_rules.specs.Hearing.{dropped, offers_numbered}
 use Rattle.station_queues.specs.Bodies.{Held}
 use Rattle.fragment_buffers.specs.Waiting.{leaving}
-use Rattle.station_queues.specs.Frames.{frames_of}
 use Rattle.node_rules.specs.Agreement.{AgreesWith}
 use Rattle.plc_station.specs.Offers.{CanBeKept}
 use Rattle.plc_station.specs.StationReading.{station_in}
@@ -25,8 +23,6 @@ use Rattle.node_rules.specs.States.{unless_halted}
 use Rattle.plc_station.proofs.Agreeing.{agrees_counted, agrees_numbered, agrees_ranked, agrees_holding}
 use Rattle.plc_station.proofs.Ending.{ended, stopped, uncounted}
 use Rattle.plc_station.proofs.Replying.{answer_goes}
-use Rattle.station_queues.proofs.Letters.{length-frames}
-use Rattle.plc_station.proofs.Sealed.{sealed_then}
 use Rattle.plc_station.proofs.station.Station.answer.Goals as goal
 
 pub keep-requires-clause-valid : goal.keep-requires-clause-valid
@@ -96,20 +92,6 @@ returns-in_default-reserve-clause-carries g c =
     refl (wrote_append _ _ _ _ _ _ c.in-Ok.ensures.store (wrote_one _ _ _ _ c.in-Ok-advance.ensures.store)) count c.in_default-reserve.ensures.store
     c.requires.ready.empty refl))
 
-pub seal_message-requires-clause-room : goal.seal_message-requires-clause-room
-seal_message-requires-clause-room g c =
-    omega (
-      arith,
-      ap (λ (o : Out). length o.frames) c.seal_leaving.ensures,
-      ap (λ (o : Out). length o.frames) c.requires.ready.empty,
-      length-append c.args.out.now.frames (frames_of c.args.grant.now c.sealing_key-key.result c.in-Ok-reserve.first
-          (leaving c.args.grant.now.address c.args.offer.now.origin c.args.offer.now.by c.self.inside.bodies.waiting)),
-      length-frames c.args.grant.now c.sealing_key-key.result c.in-Ok-reserve.first
-          (leaving c.args.grant.now.address c.args.offer.now.origin c.args.offer.now.by c.self.inside.bodies.waiting),
-      c.units_for-units.ensures.units c.args.grant.now.address c.args.offer.now.by,
-      c.units_for-units.ensures.few,
-    )
-
 pub returns-clause-carries : goal.returns-clause-carries
 unfolding goes leave with_own_number with_rank empty_draft leaving
 returns-clause-carries g c =
@@ -136,39 +118,14 @@ returns-clause-carries g c =
     (offers_numbered c.args.grant.now.address c.args.offer.now.origin c.args.offer.now.rank c.args.offer.now.by c.args.offer.now.time
     (station_in c.self.inside.parts c.self.inside.bodies))) tt _ _ _
     refl (wrote_append _ _ _ _ _ _ c.in-Ok.ensures.store (wrote_one _ _ _ _ c.in-Ok-advance.ensures.store)) count c.in-Ok-reserve.ensures.store
-    (c.seal_message.ensures.sent
-    ∙ (λ i. record {
-      frames = (c.seal_leaving.ensures i).frames
-          ++ map (spelled network) (sealed_by (Some c.args.grant.now) (c.in-Ok-reserve.first
-          + c.units_for-units.ensures.units c.args.grant.now.address c.args.offer.now.by i)
-          (record {
-            to = c.one.ensures.value i;
-            unit = Local 1 (messages.spelling
-                (Rrep (c.in-Ok-advance.ensures.number i) 0 (ap (λ (g : Granted). g.address) c.grant.view_is i) c.args.offer.now.origin));
-            note = 0;
-          } ∷ []));
-      tags = (c.seal_leaving.ensures i).tags;
-    })
-    ∙ (λ i. record {
-      frames = ((c.requires.ready.empty i).frames ++ frames_of c.args.grant.now c.sealing_key-key.result (c.in-Ok-reserve.ensures.number i)
-          (leaving c.args.grant.now.address c.args.offer.now.origin c.args.offer.now.by c.self.inside.bodies.waiting))
-          ++ map (spelled network) (sealed_by (Some c.args.grant.now) (c.in-Ok-reserve.ensures.number i
-          + length (leaving c.args.grant.now.address c.args.offer.now.origin c.args.offer.now.by c.self.inside.bodies.waiting))
-          ((record {
-            to = c.args.offer.now.by;
-            unit = Local 1
-                (messages.spelling (Rrep (c.self.inside.parts.own_number.last + 1) 0 c.args.grant.now.address c.args.offer.now.origin));
-            note = 0;
-          }) ∷ []));
-      tags = (c.requires.ready.empty i).tags;
-    })
-    ∙ ap only_frames (sealed_then c.args.grant.now c.sealing_key-key.result c.self.inside.parts.counter.next
-    (leaving c.args.grant.now.address c.args.offer.now.origin c.args.offer.now.by c.self.inside.bodies.waiting)
-    ((record {
-      to = c.args.offer.now.by;
-      unit = Local 1 (messages.spelling (Rrep (c.self.inside.parts.own_number.last + 1) 0 c.args.grant.now.address c.args.offer.now.origin));
+    (c.seal_waiting_then.ensures.sent
+    ∙ (λ i. only_frames (map (spelled network) (sealed_by (Some c.args.grant.now) (c.in-Ok-reserve.ensures.number i)
+    (leaving c.args.grant.now.address c.args.offer.now.origin c.args.offer.now.by c.self.inside.bodies.waiting ++ (record {
+      to = c.one.ensures.value i;
+      unit = Local 1 (messages.spelling
+          (Rrep (c.in-Ok-advance.ensures.number i) 0 (ap (λ (g : Granted). g.address) c.grant.view_is i) c.args.offer.now.origin));
       note = 0;
-    }) ∷ []) c.sealing_key-key.ensures)
+    }) ∷ []))))
     ∙ (λ i. only_frames (map (spelled network) (sealed_by ((sym (at_some c.args.self.now.memory (λ l. l.ring ≡ Some c.args.grant.now)
     (station_in c.self.inside.parts c.self.inside.bodies) (ap (λ (s : State StationMemory). s.memory) (sym c.self.view_is) ∙ running) c.requires.ready.ring)) i)
     c.self.inside.parts.counter.next ((leaving c.args.grant.now.address c.args.offer.now.origin c.args.offer.now.by c.self.inside.bodies.waiting)
@@ -178,14 +135,14 @@ returns-clause-carries g c =
       note = 0;
     }) ∷ [])))))
     (lines_are _ _ _ _ refl c.in-Ok-reserve.ensures.counter refl c.in-Ok.ensures.routing c.in-Ok-advance.ensures.numbering refl
-    (ap (λ (h : Held). h.reassemblies) c.drop_for.ensures) (ap (λ (h : Held). h.waiting) c.drop_for.ensures))))
+    (ap (λ (h : Held). h.reassemblies) c.seal_waiting_then.ensures.left) (ap (λ (h : Held). h.waiting) c.seal_waiting_then.ensures.left))))
 
 pub returns-clause-agrees : goal.returns-clause-agrees
 returns-clause-agrees g c =
     let before : IfSome (unless_halted c.self.inside.halted (station_in c.self.inside.parts c.self.inside.bodies))
     (λ l. AgreesWith l (g.K.Keeper.store c.self.inside.keeper).records) = rw (← c.self.view_is) at c.requires.ready.agrees in
     let running = rw (← c.self.view_is) at c.requires.ready.running in
-    agrees_holding _ c.self.inside.bodies c.drop_for.new.self _
+    agrees_holding _ c.self.inside.bodies c.seal_waiting_then.new.bodies _
     (agrees_counted _ _ _ _ (agrees_numbered _ _ _ _ (agrees_ranked (station_in c.self.inside.parts c.self.inside.bodies) _ _ _ (of_some _ _ _ running before)
     c.in-Ok.ensures.kept c.in-Ok.ensures.elsewhere)
     c.in-Ok-advance.ensures.kept c.in-Ok-advance.ensures.elsewhere) c.in-Ok-reserve.ensures.kept c.in-Ok-reserve.ensures.elsewhere)
@@ -205,10 +162,10 @@ pub returns-clause-replied : goal.returns-clause-replied
 returns-clause-replied g c =
     rw (← c.self.view_is) (on_memory c.self.inside.halted _ _ (λ running.
     (λ i. Some (record { to = c.args.offer.now.by; number = c.in-Ok-advance.ensures.number i; origin = ap (λ (g : Granted). g.address) c.grant.view_is i }))
-    ∙ sym (answer_goes (station_in c.self.inside.parts c.self.inside.bodies) c.args.grant.now c.sealing_key-key.result c.args.grant.now.address
+    ∙ sym (answer_goes (station_in c.self.inside.parts c.self.inside.bodies) c.args.grant.now c.args.grant.now.address
     c.args.offer.now.by
     c.args.offer.now.origin c.args.offer.now.rank c.args.offer.now.time
     (at_some c.args.self.now.memory (λ l. l.ring ≡ Some c.args.grant.now) (station_in c.self.inside.parts c.self.inside.bodies)
-    (ap (λ (s : State StationMemory). s.memory) (sym c.self.view_is) ∙ running) c.requires.ready.ring) c.sealing_key-key.ensures
+    (ap (λ (s : State StationMemory). s.memory) (sym c.self.view_is) ∙ running) c.requires.ready.ring) c.seal_waiting_then.ensures.key
     (subst messages.IsMessage (λ i. Rrep (c.in-Ok-advance.ensures.number i) 0 (ap (λ (g : Granted). g.address) c.grant.view_is i) c.args.offer.now.origin)
-    c.seal_message.ensures.message))))
+    c.seal_waiting_then.ensures.message))))

@@ -1,6 +1,5 @@
 use Rattle.std.proofs.Common.{◌≡◌, ◌∷◌, [], ◌++◌, ◌+◌, Some, length, map, refl, sym, ap, ◌∙◌, arith}
 use Rattle.std.proofs.lemmas.List.{length-append}
-use Rattle.plc_base.specs.declared.out_frame.Out.{Out}
 use Rattle.loadng_messages.specs.Grammar as messages
 use Rattle.mesh_header.specs.declared.unit.Unit.TheVariants.{Local}
 use Rattle.node_rules.specs.Ciphers.{network}
@@ -10,7 +9,6 @@ use Rattle.node_rules.specs.Drafts.{empty_draft, goes, leave, with_own_number, w
 use Rattle.node_rules.specs.Hearing.{dropped, offers}
 use Rattle.station_queues.specs.Bodies.{Held}
 use Rattle.fragment_buffers.specs.Waiting.{leaving}
-use Rattle.station_queues.specs.Frames.{frames_of}
 use Rattle.node_rules.specs.Agreement.{AgreesWith}
 use Rattle.plc_station.specs.Offers.{CanBeKept}
 use Rattle.plc_station.specs.StationReading.{station_in}
@@ -21,8 +19,6 @@ use Rattle.std.specs.Prelude.{IfSome}
 use Rattle.node_rules.specs.States.{unless_halted}
 use Rattle.plc_station.proofs.Agreeing.{agrees_counted, agrees_ranked, agrees_holding}
 use Rattle.plc_station.proofs.Ending.{ended, stopped, uncounted}
-use Rattle.station_queues.proofs.Letters.{length-frames}
-use Rattle.plc_station.proofs.Sealed.{sealed_then}
 use Rattle.plc_station.proofs.station.Station.relay.Goals as goal
 
 pub keep-requires-clause-valid : goal.keep-requires-clause-valid
@@ -70,20 +66,6 @@ returns-in_default-reserve-clause-carries g c =
     (station_in c.self.inside.parts c.self.inside.bodies))) tt _ _ _ refl
     c.in-Ok.ensures.store count c.in_default-reserve.ensures.store c.requires.ready.empty refl))
 
-pub seal_message-requires-clause-room : goal.seal_message-requires-clause-room
-seal_message-requires-clause-room g c =
-    omega (
-      arith,
-      ap (λ (o : Out). length o.frames) c.seal_leaving.ensures,
-      ap (λ (o : Out). length o.frames) c.requires.ready.empty,
-      length-append c.args.out.now.frames (frames_of c.args.grant.now c.sealing_key-key.result c.in-Ok-reserve.first
-          (leaving c.args.grant.now.address c.args.offer.now.origin c.args.offer.now.by c.self.inside.bodies.waiting)),
-      length-frames c.args.grant.now c.sealing_key-key.result c.in-Ok-reserve.first
-          (leaving c.args.grant.now.address c.args.offer.now.origin c.args.offer.now.by c.self.inside.bodies.waiting),
-      c.units_for-units.ensures.units c.args.grant.now.address c.args.offer.now.by,
-      c.units_for-units.ensures.few,
-    )
-
 pub returns-clause-carries : goal.returns-clause-carries
 unfolding goes leave with_own_number with_rank empty_draft leaving
 returns-clause-carries g c =
@@ -102,31 +84,14 @@ returns-clause-carries g c =
     (offers c.args.grant.now.address c.args.offer.now.origin c.args.offer.now.rank c.args.offer.now.by c.args.offer.now.time
     (station_in c.self.inside.parts c.self.inside.bodies))) tt _ _ _ refl
     c.in-Ok.ensures.store count c.in-Ok-reserve.ensures.store
-    (c.seal_message.ensures.sent
-    ∙ (λ i. record {
-      frames = (c.seal_leaving.ensures i).frames
-          ++ map (spelled network) (sealed_by (Some c.args.grant.now) (c.in-Ok-reserve.first
-          + c.units_for-units.ensures.units c.args.grant.now.address c.args.offer.now.by i)
-          (record { to = c.args.to; unit = Local 1 (messages.spelling c.args.message.now); note = 0 } ∷ []));
-      tags = (c.seal_leaving.ensures i).tags;
-    })
-    ∙ (λ i. record {
-      frames = ((c.requires.ready.empty i).frames ++ frames_of c.args.grant.now c.sealing_key-key.result (c.in-Ok-reserve.ensures.number i)
-          (leaving c.args.grant.now.address c.args.offer.now.origin c.args.offer.now.by c.self.inside.bodies.waiting))
-          ++ map (spelled network) (sealed_by (Some c.args.grant.now) (c.in-Ok-reserve.ensures.number i
-          + length (leaving c.args.grant.now.address c.args.offer.now.origin c.args.offer.now.by c.self.inside.bodies.waiting))
-          ((record { to = c.args.to; unit = Local 1 (messages.spelling c.args.message.now); note = 0 }) ∷ []));
-      tags = (c.requires.ready.empty i).tags;
-    })
-    ∙ ap only_frames (sealed_then c.args.grant.now c.sealing_key-key.result c.self.inside.parts.counter.next
-    (leaving c.args.grant.now.address c.args.offer.now.origin c.args.offer.now.by c.self.inside.bodies.waiting)
-    ((record { to = c.args.to; unit = Local 1 (messages.spelling c.args.message.now); note = 0 }) ∷ []) c.sealing_key-key.ensures)
+    (c.seal_waiting_then.ensures.sent
     ∙ (λ i. only_frames (map (spelled network) (sealed_by ((sym (at_some c.args.self.now.memory (λ l. l.ring ≡ Some c.args.grant.now)
     (station_in c.self.inside.parts c.self.inside.bodies) (ap (λ (s : State StationMemory). s.memory) (sym c.self.view_is) ∙ running) c.requires.ready.ring)) i)
-    c.self.inside.parts.counter.next ((leaving c.args.grant.now.address c.args.offer.now.origin c.args.offer.now.by c.self.inside.bodies.waiting)
+    (c.in-Ok-reserve.ensures.number i) ((leaving c.args.grant.now.address c.args.offer.now.origin c.args.offer.now.by c.self.inside.bodies.waiting)
     ++ (record { to = c.args.to; unit = Local 1 (messages.spelling c.args.message.now); note = 0 }) ∷ [])))))
-    (lines_are _ _ _ _ refl c.in-Ok-reserve.ensures.counter refl c.in-Ok.ensures.routing refl refl (ap (λ (h : Held). h.reassemblies) c.drop_for.ensures)
-    (ap (λ (h : Held). h.waiting) c.drop_for.ensures))))
+    (lines_are _ _ _ _ refl c.in-Ok-reserve.ensures.counter refl c.in-Ok.ensures.routing refl refl
+    (ap (λ (h : Held). h.reassemblies) c.seal_waiting_then.ensures.left)
+    (ap (λ (h : Held). h.waiting) c.seal_waiting_then.ensures.left))))
 
 pub returns-clause-after : goal.returns-clause-after
 returns-clause-after g c = record {
@@ -134,7 +99,7 @@ returns-clause-after g c = record {
       let before : IfSome (unless_halted c.self.inside.halted (station_in c.self.inside.parts c.self.inside.bodies))
       (λ l. AgreesWith l (g.K.Keeper.store c.self.inside.keeper).records) = rw (← c.self.view_is) at c.requires.ready.agrees in
       let running = rw (← c.self.view_is) at c.requires.ready.running in
-      agrees_holding _ c.self.inside.bodies c.drop_for.new.self _
+      agrees_holding _ c.self.inside.bodies c.seal_waiting_then.new.bodies _
       (agrees_counted _ _ _ _ (agrees_ranked (station_in c.self.inside.parts c.self.inside.bodies) _ _ _ (of_some _ _ _ running before) c.in-Ok.ensures.kept
       c.in-Ok.ensures.elsewhere)
       c.in-Ok-reserve.ensures.kept c.in-Ok-reserve.ensures.elsewhere);
