@@ -9,5 +9,5 @@ pub returns : goal.returns
 returns c =
     ap (λ k. k == c.read_u128-other.result) c.read_u128-one.ensures
     ∙ ap (λ k. big_number 16 c.args.first.now == k) c.read_u128-other.ensures
-    ∙ same_by_number 16 c.args.first.now c.args.second.now c.is_origin-first c.is_origin-second
+    ∙ same_by_number 16 c.args.first.now c.args.second.now c.told-first c.told-second
     (octets_all c.args.first.now c.fits-first) (octets_all c.args.second.now c.fits-second)
