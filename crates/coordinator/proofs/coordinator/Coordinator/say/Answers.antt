@@ -19,7 +19,7 @@ returns-in-Air-clause-carries g c =
     running (record { 0 = [] })
     (λ i. record {
       frames = (ap (λ (o : Out). o.frames) c.push_down.ensures
-          ∙ (λ j. (c.requires.ready.empty j).frames ++ spelled network (Down (c.home.ensures j) c.args.message.now) ∷ [])) i;
+          ∙ (λ j. (c.requires.ready.empty j).frames ++ spelled network (Down (c.coordinator_address.ensures j) c.args.message.now) ∷ [])) i;
       tags = c.args.tags;
     })))
 
