@@ -1,5 +1,5 @@
 -- What agreement owes to the part that put.
-use Rattle.std.proofs.Common.{inl, inr, Option, Some, None, ap, ◌∙◌, arith}
+use Rattle.std.proofs.Common.{ℕ, inl, inr, Option, Some, None, ap, ◌∙◌, arith}
 use Rattle.std.specs.Prelude.{IfSome, IsSome}
 use Rattle.plc_base.specs.Keeper.{Records, SameOutside}
 use Rattle.store_tables.specs.SlotTables.{IsGapless}
@@ -7,6 +7,7 @@ use Rattle.store_tables.proofs.Opening.{stored_gapless}
 use Rattle.store_tables.proofs.SlotTables.{stored_elsewhere}
 use Rattle.frame_counters.specs.PeerMarks.{peers}
 use Rattle.frame_counters.specs.SendCounter as counter
+use Rattle.fragment_buffers.specs.NextTag as next_tag
 use Rattle.group_keys.specs.KeyRing.{ring_at, Ring}
 use Rattle.group_keys.specs.KeyRing as ring
 use Rattle.routing_set.specs.RoutingSet.{ranks}
@@ -43,6 +44,17 @@ agrees_numbered l x old new a kept same = record {
   routing = routing_elsewhere l.routing old new 3 3 a.routing same (inl (omega arith)) (inl (omega arith));
   own_number = kept;
   tag = ap tag_in (same 4 (inr (omega arith))) ∙ a.tag;
+}
+
+pub agrees_tagged : (l : StationMemory) (x : ℕ) (old new : Records) → AgreesWith l old → next_tag.AgreesWith x new → SameOutside 4 4 old new
+    → AgreesWith (record l { next_tag = x }) new
+agrees_tagged l x old new a kept same = record {
+  ring = record { stored = ap ring_at (same 1 (inl (omega arith))) ∙ a.ring.stored };
+  counter = record { limit = ap counter.limit_in (same 2 (inl (omega arith))) ∙ a.counter.limit; below = a.counter.below };
+  marks = stored_elsewhere peers l.marks old new 4 4 a.marks same (inl (omega arith));
+  routing = routing_elsewhere l.routing old new 4 4 a.routing same (inl (omega arith)) (inl (omega arith));
+  own_number = record { limit = ap own_number.limit_in (same 3 (inl (omega arith))) ∙ a.own_number.limit; below = a.own_number.below };
+  tag = kept;
 }
 
 pub agrees_ranked : (l : StationMemory) (x : routing.Routing) (old new : Records) → AgreesWith l old → routing.AgreesWith x new → routing.SameElsewhere old new

@@ -1,47 +1,18 @@
 -- What sending a command comes to, by what is tested.
-use Rattle.std.proofs.Common.{◌≡◌, ℕ, Bool, true, false, List, length, Some, None, Result, Ok, Err, refl}
-use Rattle.std.specs.Prelude.{nat_lt, if◌then◌else◌}
-use Rattle.plc_base.specs.declared.out_frame.Out.{Out}
+use Rattle.std.proofs.Common.{◌≡◌, ℕ, true, false, List, length, Some, None, Result, Ok, Err, refl}
+use Rattle.std.specs.Prelude.{nat_lt}
 use Rattle.node_rules.specs.declared.heard.SentHow.TheVariants.{Sent, Waiting}
 use Rattle.node_rules.specs.declared.refusal.SendRefusal.TheVariants.{NotJoined, WaitingFull, SeqSpent, CounterSpent}
 use Rattle.node_rules.specs.declared.refusal.SendRefusal.{SendRefusal}
 use Rattle.node_rules.specs.Memory.{StationMemory, Command, next_hop}
-use Rattle.node_rules.specs.Drafts.{Draft, Ends, alone, empty_draft, body_goes, waits, seeks, seeks_once, lack, no_room, numbers_spent, is_awaited}
+use Rattle.node_rules.specs.Drafts.{alone, empty_draft, body_goes, waits, seeks, seeks_once, lack, no_room, numbers_spent, is_awaited}
 use Rattle.node_rules.specs.Drafts.{counters_left, refused, sealing, checked, goes, with_own_number}
 use Rattle.node_rules.specs.Calls.{sending_ends, command_from, send_command, room_fault, room}
 use Rattle.plc_station.specs.Rooms.{room_answer}
-use Rattle.node_rules.specs.States.{State}
-use Rattle.node_rules.specs.Carrying.{Carries}
 use Rattle.plc_station.specs.declared.next_steps.NextStep.{NextStep}
-use Rattle.plc_station.specs.NextSteps.{next_step, step_answer}
+use Rattle.plc_station.specs.NextSteps.{next_step, step_answer, stepping}
 use Rattle.plc_station.proofs.Stepping as step
-use Rattle.plc_station.proofs.Stepping.{stepping}
 use Rattle.plc_station.proofs.Ways.{sealed_spent, sealed_fits, never_less}
-
--- a step in the words of another call
-pub message_done : {H E F : Type 0} (ends : Ends E) (others : Ends F) (s t : State StationMemory) (d : Draft StationMemory) (u : Unit {0}) (answer : H)
-    (out : Out)
-    → Carries s (sealing {H = Unit {0}} alone ends d tt) (Ok u) out t
-    → Carries s (sealing alone others d answer) (Ok answer) out t
-message_done {H} {E} {F} ends others s t d u answer out c =
-    record { done = c.done; wrote = c.wrote; answer_is = so c.done c.answer_is; out_is = c.out_is; new_is = c.new_is }
-  where
-    so : (done : Bool) → ◌≡◌ {A = Result (Unit {0}) E} (Ok u) (if done then Ok tt else Err ends.store)
-        → ◌≡◌ {A = Result H F} (Ok answer) (if done then Ok answer else Err others.store)
-    so true e = refl
-    so false e = cc
-
-pub message_failed : {H E F : Type 0} (ends : Ends E) (others : Ends F) (s t : State StationMemory) (d : Draft StationMemory) (reason : E) (answer : H)
-    (out : Out)
-    → Carries s (sealing {H = Unit {0}} alone ends d tt) (Err reason) out t
-    → Carries s (sealing alone others d answer) (Err others.store) out t
-message_failed {H} {E} {F} ends others s t d reason answer out c =
-    record { done = c.done; wrote = c.wrote; answer_is = so c.done c.answer_is; out_is = c.out_is; new_is = c.new_is }
-  where
-    so : (done : Bool) → ◌≡◌ {A = Result (Unit {0}) E} (Err reason) (if done then Ok tt else Err ends.store)
-        → ◌≡◌ {A = Result H F} (Err others.store) (if done then Ok answer else Err others.store)
-    so true e = cc
-    so false e = refl
 
 goes_spent : (l : StationMemory) (own to : ℕ) (octets : List ℕ) (now hop : ℕ) → Some hop ≡ next_hop l to → true ≡ nat_lt (counters_left l) 1
     → refused sending_ends l CounterSpent ≡ command_from l own to octets now

@@ -3,11 +3,8 @@ use Rattle.std.proofs.Common.{◌≡◌, ℕ, Bool, true, false, Option, Some, N
 use Rattle.std.specs.Prelude.{nat_lt, if◌then◌else◌}
 use Rattle.node_rules.specs.declared.refusal.SendRefusal.{SendRefusal}
 use Rattle.node_rules.specs.declared.refusal.SendRefusal.TheVariants.{WaitingFull, SeqSpent, CounterSpent}
-use Rattle.node_rules.specs.Memory.{StationMemory, Load, next_hop}
-use Rattle.node_rules.specs.declared.heard.SentHow.TheVariants.{Sent, Waiting}
-use Rattle.node_rules.specs.Calls.{Sending, sending_ends}
-use Rattle.node_rules.specs.Drafts.{Draft, alone, body_goes, counters_left, is_awaited, no_room, numbers_spent, refused, sealing}
-use Rattle.node_rules.specs.Drafts as drafts
+use Rattle.node_rules.specs.Memory.{StationMemory, next_hop}
+use Rattle.node_rules.specs.Drafts.{counters_left, is_awaited, no_room, numbers_spent}
 use Rattle.plc_station.specs.declared.next_steps.NextStep.{NextStep}
 use Rattle.plc_station.specs.declared.next_steps.NextStep.TheVariants.{Goes, Waits, Seeks}
 use Rattle.plc_station.specs.NextSteps.{next_step, step_by, step_without}
@@ -55,12 +52,3 @@ step_is l to octets frames r (waits e p q) = rw (← e, ← p, ← q) refl
 step_is l to octets frames r (numbers e p q n) = rw (← e, ← p, ← q, ← n) refl
 step_is l to octets frames r (seeks_spent e p q n s) = rw (← e, ← p, ← q, ← n, ← s) refl
 step_is l to octets frames r (seeks e p q n s) = rw (← e, ← p, ← q, ← n, ← s) refl
-
--- # The plan, by the step
-
--- what a body does that is carried so, after what is done of it already
-abbrev pub stepping : StationMemory → (own to note now : ℕ) → Load → Draft StationMemory → Result NextStep SendRefusal → Sending
-stepping l own to note now load d (Ok (Goes hop)) = sealing alone sending_ends (body_goes own hop to note load d) Sent
-stepping l own to note now load d (Ok Waits) = sealing alone sending_ends (drafts.waits to note load now d) Waiting
-stepping l own to note now load d (Ok Seeks) = sealing alone sending_ends (drafts.waits to note load now (drafts.seeks own to d)) Waiting
-stepping l own to note now load d (Err reason) = refused sending_ends l reason

@@ -19,9 +19,8 @@ use Rattle.node_rules.specs.Drafts.{counters_left, refused, sealing, sealed, che
 use Rattle.node_rules.specs.Calls.{sending_ends, send, send_from, tag_taken}
 use Rattle.node_rules.proofs.Sizes.{length-all_go, length-units_of}
 use Rattle.plc_station.specs.declared.next_steps.NextStep.{NextStep}
-use Rattle.plc_station.specs.NextSteps.{next_step}
+use Rattle.plc_station.specs.NextSteps.{next_step, stepping}
 use Rattle.plc_station.proofs.Stepping as step
-use Rattle.plc_station.proofs.Stepping.{stepping}
 use Rattle.plc_station.proofs.Tagging.{tagged_is}
 
 -- # Sealing, by the counters that are left

@@ -9,3 +9,4 @@ pub mod Ready
 pub mod Sizes
 pub mod Offers
 pub mod NextSteps
+pub mod OwnLoads

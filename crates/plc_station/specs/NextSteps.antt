@@ -1,10 +1,13 @@
--- What a body for an address would do.
+-- What a body for an address would do, and does.
 use Rattle.std.specs.Prelude.{◌≡◌, ◌+◌, ◌<◌, ◌≤◌, ℕ, Bool, false, nat_lt, if◌then◌else◌, Option, Some, None, Result, Ok, Err}
 use Rattle.plc_base.specs.declared.limits.TheConstants.{GREATEST_COUNTER}
 use Rattle.node_rules.specs.declared.refusal.SendRefusal.{SendRefusal}
 use Rattle.node_rules.specs.declared.refusal.SendRefusal.TheVariants.{WaitingFull, SeqSpent, CounterSpent}
-use Rattle.node_rules.specs.Memory.{StationMemory, next_hop}
-use Rattle.node_rules.specs.Drafts.{counters_left, is_awaited, no_room, numbers_spent}
+use Rattle.node_rules.specs.declared.heard.SentHow.TheVariants.{Sent, Waiting}
+use Rattle.node_rules.specs.Memory.{StationMemory, Load, next_hop}
+use Rattle.node_rules.specs.Drafts.{Draft, alone, body_goes, counters_left, is_awaited, no_room, numbers_spent, refused, sealing}
+use Rattle.node_rules.specs.Drafts as drafts
+use Rattle.node_rules.specs.Calls.{Sending, sending_ends}
 use Rattle.plc_station.specs.declared.next_steps.NextStep.{NextStep}
 use Rattle.plc_station.specs.declared.next_steps.NextStep.TheVariants.{Goes, Waits, Seeks}
 
@@ -40,3 +43,10 @@ CanStep l octets frames Seeks = CanSeek l octets
 abbrev pub step_answer : Result NextStep SendRefusal → Result (Unit {0}) SendRefusal
 step_answer (Ok step) = Ok tt
 step_answer (Err reason) = Err reason
+
+-- what a body does that is carried so, after what is done of it already
+abbrev pub stepping : StationMemory → (own to note now : ℕ) → Load → Draft StationMemory → Result NextStep SendRefusal → Sending
+stepping l own to note now load d (Ok (Goes hop)) = sealing alone sending_ends (body_goes own hop to note load d) Sent
+stepping l own to note now load d (Ok Waits) = sealing alone sending_ends (drafts.waits to note load now d) Waiting
+stepping l own to note now load d (Ok Seeks) = sealing alone sending_ends (drafts.waits to note load now (drafts.seeks own to d)) Waiting
+stepping l own to note now load d (Err reason) = refused sending_ends l reason

@@ -42,6 +42,7 @@ mod commands;
 mod expiry;
 mod frames;
 mod hearing;
+mod loads;
 mod mesh;
 mod neighbours;
 mod next_steps;

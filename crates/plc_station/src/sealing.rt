@@ -1,19 +1,19 @@
 //! Seals what one call of a station sends.
-ghost use Rattle.std.specs.Prelude.{◌≡◌, ◌+◌, ◌<◌, ◌≤◌, ◌++◌, ◌∷◌, [], Some, IsSome, length, map, not};
+ghost use Rattle.std.specs.Prelude.{◌≡◌, ◌+◌, ◌<◌, ◌≤◌, ◌++◌, ◌∷◌, [], Some, None, IsSome, length, map, not};
 ghost use Rattle.std.specs.List.{filter};
 ghost use Rattle.mesh_header.specs.declared.unit.Unit.TheVariants as mesh;
 ghost use Rattle.loadng_messages.specs.Grammar as messages;
 ghost use Rattle.loadng_messages.specs.declared.message.Message.TheVariants as message;
-ghost use Rattle.fragment_buffers.specs.Fragmentation.{pieces_of};
+ghost use Rattle.fragment_buffers.specs.Loads.{load_of, units_in};
 ghost use Rattle.fragment_buffers.specs.Waiting.{leaving, waits_for};
 ghost use Rattle.node_rules.specs.Ciphers.{network};
 ghost use Rattle.node_rules.specs.Frames.{spelled};
-ghost use Rattle.node_rules.specs.Memory.{Datagram};
 ghost use Rattle.node_rules.specs.Drafts as drafts;
 ghost use Rattle.node_rules.specs.Carrying.{nothing};
 ghost use Rattle.node_rules.specs.Frames.{to_all};
 ghost use Rattle.plc_station.specs.Sealing.{only_frames};
 ghost use Rattle.plc_base.specs.declared.limits.TheConstants.{GREATEST_COUNTER, LONGEST_DATAGRAM, MOST_FRAMES};
+ghost use Rattle.station_queues.specs.declared.bodies.TheConstants.{LONGEST_COMMAND};
 
 use crate::offers::Offer;
 use aes_modes::Aes;
@@ -22,24 +22,25 @@ use mesh_header::Unit;
 use plc_base::{Destination, Grant, Key, OctetRef, Out, Short};
 use station_queues::{Bodies, BodyBuffer, seal, seal_load};
 
-// Seals a datagram, whole or in pieces.
-pub(crate) fn seal_datagram(
+// Seals a datagram with its tag, whole or in pieces, or a command, which has none.
+pub(crate) fn seal_own(
     grant: &Grant,
     first: u32,
     hop: Short,
     to: Short,
     note: u32,
-    tag: u16,
-    datagram: &[u8],
+    tag: Option<u16>,
+    octets: &[u8],
     out: &mut Out,
 )
-    requires some { 1 ≤ length datagram.now }
-    requires fits { length datagram.now ≤ LONGEST_DATAGRAM }
-    requires left { first + pieces_of (length datagram.now) ≤ GREATEST_COUNTER }
+    requires some { 1 ≤ length octets.now }
+    requires fits { length octets.now ≤ LONGEST_DATAGRAM }
+    requires command { tag ≡ None → length octets.now ≤ LONGEST_COMMAND }
+    requires left { first + units_in (load_of tag octets.now) ≤ GREATEST_COUNTER }
     requires empty { out.old ≡ nothing }
     ensures { out.new ≡ record nothing {
       frames = map (spelled network) (drafts.sealed_by (Some grant.now) first
-          (drafts.all_go hop note (drafts.units_of grant.now.address to (Datagram datagram.now tag))));
+          (drafts.all_go hop note (drafts.units_of grant.now.address to (load_of tag octets.now))));
     } }
 {
     let key = grant.sealing_key();
@@ -51,8 +52,8 @@ pub(crate) fn seal_datagram(
         hop,
         to,
         note,
-        Some(tag),
-        datagram,
+        tag,
+        octets,
         out,
     );
 }

@@ -1,15 +1,16 @@
-use Rattle.std.proofs.Common.{◌∷◌, [], ◌++◌, refl, ap, ◌∙◌}
+use Rattle.std.proofs.Common.{◌∷◌, [], ◌++◌, length, refl, ap, ◌∙◌}
 use Rattle.store_tables.proofs.WritesLemmas.{wrote_one}
 use Rattle.node_rules.specs.declared.heard.SentHow.TheVariants.{Waiting}
-use Rattle.node_rules.specs.Memory.{Datagram}
-use Rattle.node_rules.specs.Drafts.{empty_draft, waits}
-use Rattle.node_rules.specs.Calls.{sending_ends, tag_taken}
+use Rattle.node_rules.specs.Drafts.{waits}
+use Rattle.node_rules.specs.Calls.{sending_ends}
+use Rattle.plc_station.specs.OwnLoads.{own_load, own_draft}
+use Rattle.fragment_buffers.specs.Loads.{load_of}
 use Rattle.node_rules.specs.Agreement.{AgreesWith}
 use Rattle.station_queues.specs.Bodies.{Held}
 use Rattle.plc_station.specs.StationReading.{station_in}
 use Rattle.plc_station.proofs.Carrying.{at_some, on_memory, lines_are}
 use Rattle.plc_station.proofs.Ending.{settled, stopped}
-use Rattle.plc_station.proofs.Tagging.{with_tag, tagged_is}
+use Rattle.plc_station.proofs.Tagging.{with_own, own_is, untagged}
 use Rattle.plc_station.proofs.station.Station.waits.Goals as goal
 
 pub returns-in_default-clause-carries : goal.returns-in_default-clause-carries
@@ -17,12 +18,12 @@ unfolding waits
 returns-in_default-clause-carries g c =
     rw (← c.self.view_is)
     (on_memory c.self.inside.halted _ _ (λ running. stopped sending_ends _ _
-    (waits c.args.to c.args.note (Datagram c.args.datagram.now c.self.inside.parts.next_tag) c.args.now
-    (with_tag (station_in c.self.inside.parts c.self.inside.bodies) c.args.datagram.now))
-    (waits c.args.to c.args.note (Datagram c.args.datagram.now c.self.inside.parts.next_tag) c.args.now
-    (tag_taken c.args.datagram.now (empty_draft (station_in c.self.inside.parts c.self.inside.bodies)))) Waiting _
-    (ap (waits c.args.to c.args.note (Datagram c.args.datagram.now c.self.inside.parts.next_tag) c.args.now)
-    (tagged_is (station_in c.self.inside.parts c.self.inside.bodies) c.args.datagram.now))
+    (waits c.args.to c.args.note (own_load c.args.kind c.args.octets.now c.self.inside.parts.next_tag) c.args.now
+    (with_own c.args.kind c.args.octets.now (station_in c.self.inside.parts c.self.inside.bodies)))
+    (waits c.args.to c.args.note (own_load c.args.kind c.args.octets.now c.self.inside.parts.next_tag) c.args.now
+    (own_draft c.args.kind c.args.octets.now (station_in c.self.inside.parts c.self.inside.bodies))) Waiting _
+    (ap (waits c.args.to c.args.note (own_load c.args.kind c.args.octets.now c.self.inside.parts.next_tag) c.args.now)
+    (own_is c.args.kind c.args.octets.now (station_in c.self.inside.parts c.self.inside.bodies)))
     (wrote_one _ _ _ _ c.in_default.ensures.store) c.requires.ready.empty refl))
 
 pub returns-clause-carries : goal.returns-clause-carries
@@ -31,18 +32,21 @@ returns-clause-carries g c =
     let before = rw (← c.self.view_is) at c.requires.ready.agrees in
     rw (← c.self.view_is)
     (on_memory c.self.inside.halted _ _
-    (λ running. settled sending_ends _ _ (waits c.args.to c.args.note (Datagram c.args.datagram.now c.self.inside.parts.next_tag) c.args.now
-    (with_tag (station_in c.self.inside.parts c.self.inside.bodies) c.args.datagram.now)).puts
-    (waits c.args.to c.args.note (Datagram c.args.datagram.now c.self.inside.parts.next_tag) c.args.now
-    (with_tag (station_in c.self.inside.parts c.self.inside.bodies) c.args.datagram.now)).memory
-    (waits c.args.to c.args.note (Datagram c.args.datagram.now c.self.inside.parts.next_tag) c.args.now
-    (tag_taken c.args.datagram.now (empty_draft (station_in c.self.inside.parts c.self.inside.bodies)))) Waiting _
-    (ap (waits c.args.to c.args.note (Datagram c.args.datagram.now c.self.inside.parts.next_tag) c.args.now)
-    (tagged_is (station_in c.self.inside.parts c.self.inside.bodies) c.args.datagram.now))
+    (λ running. settled sending_ends _ _ (waits c.args.to c.args.note (own_load c.args.kind c.args.octets.now c.self.inside.parts.next_tag) c.args.now
+    (with_own c.args.kind c.args.octets.now (station_in c.self.inside.parts c.self.inside.bodies))).puts
+    (waits c.args.to c.args.note (own_load c.args.kind c.args.octets.now c.self.inside.parts.next_tag) c.args.now
+    (with_own c.args.kind c.args.octets.now (station_in c.self.inside.parts c.self.inside.bodies))).memory
+    (waits c.args.to c.args.note (own_load c.args.kind c.args.octets.now c.self.inside.parts.next_tag) c.args.now
+    (own_draft c.args.kind c.args.octets.now (station_in c.self.inside.parts c.self.inside.bodies))) Waiting _
+    (ap (waits c.args.to c.args.note (own_load c.args.kind c.args.octets.now c.self.inside.parts.next_tag) c.args.now)
+    (own_is c.args.kind c.args.octets.now (station_in c.self.inside.parts c.self.inside.bodies)))
     (wrote_one _ _ _ _ c.in-Ok.ensures.store)
     (at_some _ (λ l. AgreesWith l (g.K.Keeper.store c.self.inside.keeper).records) (station_in c.self.inside.parts c.self.inside.bodies) running
     before).counter.below c.requires.ready.empty
     (lines_are _ _ _ _ refl refl refl refl refl c.in-Ok.ensures.next (ap (λ (h : Held). h.reassemblies) c.push.ensures)
     (ap (λ (h : Held). h.waiting) c.push.ensures
     ∙ (λ i. c.self.inside.bodies.waiting
-    ++ record { to = c.args.to; note = c.args.note; since = c.args.now; load = Datagram c.args.datagram.now (c.in-Ok.ensures.tag i) } ∷ [])))))
+    ++ record { to = c.args.to; note = c.args.note; since = c.args.now; load = load_of (c.in-Ok.ensures.tag i) c.args.octets.now } ∷ [])))))
+
+pub push-requires-clause-command : goal.push-requires-clause-command
+push-requires-clause-command g c = untagged c.args.kind c.self.inside.parts.next_tag _ (length c.args.octets.now) _ c.requires.command c.in-Ok.ensures.tag
