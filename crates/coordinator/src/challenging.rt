@@ -14,7 +14,7 @@ ghost use Rattle.coordinator.specs.MeshCommands as mesh_plans;
 use crate::coordinator::Coordinator;
 use crate::sessions::ServerSession;
 use eap_psk::Server;
-use joining_base::{CommandBuf, write_command};
+use joining_base::command_length;
 use joining_messages::{JoinBody, JoinMessage};
 use node_rules::{CoordinatorRefusal, Way};
 use plc_base::{EapBuf, Eui, Keeper, Out, Rand, Short};
@@ -52,9 +52,7 @@ impl<K: Keeper + Drop> Coordinator<K> {
         ensures refused { IfErr result (λ reason. IfSome (node_of self.now).memory (λ m.
             mesh_plans.lacks m to (length (command_of message.now)) ≡ Some reason)) }
     {
-        let mut octets = CommandBuf::new();
-        write_command(message, &mut octets);
-        self.room_for(to, octets.len() as u16)
+        self.room_for(to, command_length(message))
     }
 
     // A session begins, with the oldest random value.

@@ -14,7 +14,7 @@ ghost use Rattle.coordinator.specs.JoiningReplies as saying;
 ghost use Rattle.station_queues.specs.declared.bodies.TheConstants.{LONGEST_COMMAND};
 
 use crate::coordinator::Coordinator;
-use joining_base::{CommandBuf, dropped_send, push_down, write_command};
+use joining_base::{command_length, dropped_send, push_down};
 use joining_messages::JoinMessage;
 use node_rules::{Dropped, Way};
 use plc_base::{Keeper, Out, Short, TagList};
@@ -49,9 +49,7 @@ impl<K: Keeper + Drop> Coordinator<K> {
         ensures refused { IfErr result (λ reason. IfSome (node_of self.now).memory (λ m.
             command_fault dropped dropped_for m.station to (length (command_of message.now)) ≡ Some reason)) }
     {
-        let mut octets = CommandBuf::new();
-        write_command(message, &mut octets);
-        self.command_room(to, octets.len() as u16)
+        self.command_room(to, command_length(message))
     }
 
     // What a message to a meter would be dropped for.

@@ -14,6 +14,6 @@ mod messages;
 mod random_values;
 mod reasons;
 
-pub use messages::{CommandBuf, push_down, push_up, read_message, write_command};
+pub use messages::{CommandBuf, command_length, push_down, push_up, read_message, write_command};
 pub use random_values::RandomValues;
 pub use reasons::{JoiningCommand, dropped_packet, dropped_send, joining_command};

@@ -10,7 +10,7 @@ ghost use Rattle.node_rules.specs.Frames as frames;
 ghost use Rattle.node_rules.specs.Joining.{command_of};
 ghost use Rattle.plc_base.specs.declared.limits.TheConstants.{MOST_FRAMES};
 
-use joining_messages::{JoinMessage, read_join, write_join};
+use joining_messages::{JoinBody, JoinMessage, read_join, write_join};
 use mac_frames::{MacHead, write_header};
 use plc_base::{Destination, Eui, FrameBuf, Octets, Out, PAN, Short};
 
@@ -37,6 +37,21 @@ pub fn write_command(message: &JoinMessage, out: &mut CommandBuf)
     out.clear();
     out.push(2);
     write_join(message, out);
+}
+
+/// How many octets the command that carries a message is: 10, and what its body has after them.
+pub fn command_length(message: &JoinMessage) -> u16
+    requires message { IsMessage message.now }
+    ensures length { result ≡ length (command_of message.now) }
+    ensures fits { result ≤ 138 }
+{
+    let rest = match &message.body {
+        JoinBody::Join { eap } | JoinBody::Challenge { eap } => eap.len(),
+        JoinBody::Accept { .. } => 4,
+        JoinBody::Decline | JoinBody::Kick => 0,
+        JoinBody::Activate { .. } => 1,
+    };
+    10 + rest as u16
 }
 
 // Appends a plain frame with this head, whose payload is a joining command.
