@@ -67,8 +67,8 @@ use Rattle.line_world.proofs.Taking.{after, is_taken_so, many_given, after_is}
 
 pub set_same : (nodes : List Node) (number : ℕ) (x : Node) → slice_get nodes number ≡ Some x → slice_set nodes number x ≡ nodes
 set_same [] number x at = absurd (cc (at))
-pub set_same (y ∷ nodes) zero x at = ap (λ (z : Node). z ∷ nodes) (sym (same_Some _ _ at))
-pub set_same (y ∷ nodes) (suc number) x at = ap (λ (ns : List Node). y ∷ ns) (set_same nodes number x at)
+set_same (y ∷ nodes) zero x at = ap (λ (z : Node). z ∷ nodes) (sym (same_Some _ _ at))
+set_same (y ∷ nodes) (suc number) x at = ap (λ (ns : List Node). y ∷ ns) (set_same nodes number x at)
 
 -- what stands beside a node stays
 pub beside_same : (bs : List Beside) (number : ℕ) → slice_set bs number (unwrap_or (slice_get bs number) nothing_beside) ≡ bs
