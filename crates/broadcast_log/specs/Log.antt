@@ -4,6 +4,8 @@ use Rattle.std.specs.Coded.{Coded, code_by, coded×}
 use Rattle.std.specs.FinMap.{get}
 use Rattle.plc_base.specs.Keeper.{Records, Write}
 use Rattle.store_tables.specs.SlotTables as slots
+use Rattle.store_tables.specs.declared.open_fault.OpenFault.{OpenFault}
+use Rattle.store_tables.specs.OpenFaults.{IsOpened}
 use Rattle.plc_base.specs.declared.keeper.BadStore.{BadStore}
 use Rattle.store_tables.specs.Numberings.{counting_code, counting_at}
 use Rattle.store_tables.specs.Marks.{table_code, admission_answer, where_room}
@@ -53,10 +55,10 @@ IsBad records slot =
 abbrev pub log_at_rest : Log → Log
 log_at_rest log = record { numbering = counting_at log.numbering.limit; marks = map at_rest log.marks }
 
--- a log that was kept is opened again, at rest
-abbrev pub Reopens : Records → Result Log BadStore → Type 0
+-- a log that was kept is opened again, at rest, unless there is no memory for it
+abbrev pub Reopens : Records → Result Log OpenFault → Type 0
 Reopens records result =
-    (log : Log) → slots.IsTable marks log.marks → AgreesWith log records → result ≡ Ok (log_at_rest log)
+    (log : Log) → slots.IsTable marks log.marks → AgreesWith log records → IsOpened result (Ok (log_at_rest log))
 
 -- # Calls: what each answers, which put it makes and what the log is afterwards; done says that no put failed
 

@@ -15,8 +15,8 @@
 //! - What is read is what the octets spell, each broadcast by one spelling (`found`, `only`, `one_spelling`).
 //!
 //! What is stored is ahead, so most calls put nothing: after a new start the next number is up to 32 higher, and numbers of an origin that are up
-//! to 63 ahead are refused. It holds 32 origins and forgets none. No memory is taken, and there is no `unsafe`. After `Store` the
-//! log is to be opened again. Who may send a broadcast is not its question: a frame is opened and its counter marked before.
+//! to 63 ahead are refused. It holds 32 origins and forgets none. A log takes its memory when it is made, and none after that. There is no
+//! `unsafe`. After `Store` the log is to be opened again. Who may send a broadcast is not its question: a frame is opened and its counter marked before.
 #![tactic(auto)]
 
 mod broadcast;

@@ -1,8 +1,9 @@
 //! What a node keeps of broadcasts.
-ghost use Rattle.std.specs.Prelude.{◌≡◌, ◌+◌, ◌≤◌, Ok, Some, List, ℕ, IfOk, IfErr, OnOk};
+ghost use Rattle.std.specs.Prelude.{◌≡◌, ◌+◌, ◌≤◌, Ok, Some, List, ℕ, IfOk, IfErr, OnOk, OnErr};
 ghost use Rattle.std.specs.Bool.{OnTrue};
 ghost use Rattle.plc_base.specs.Keeper.{Stores, OutsideStays, IsOldOrNew};
-ghost use Rattle.store_tables.specs.SlotTables.{IsTable, IsGapless};
+ghost use Rattle.store_tables.specs.SlotTables.{IsTable, IsGapless, read_into};
+ghost use Rattle.store_tables.specs.OpenFaults.{IsOpened, IsFault};
 ghost use Rattle.store_tables.specs.Numberings.{AllBelow};
 ghost use Rattle.store_tables.specs.AdmittedNumbers.{Admitted, AllEarlier};
 ghost use Rattle.broadcast_log.specs.OriginMarks.{marks, IsCovered, mark_of, room_for};
@@ -13,14 +14,17 @@ ghost use Rattle.plc_base.specs.declared.limits.TheConstants.{GREATEST_COUNTER};
 
 use crate::LogFault;
 use plc_base::{BadStore, Keeper, Short};
+use std::alloc::{AllocError, Global};
 use std::marker::Model;
-use store_tables::{Mark, MarkTable, Numbering};
+use store_tables::{Mark, MarkTable, Numbering, OpenFault};
 
 /// One origin: the number that was last admitted of it, and the mark that is stored, which is no lower.
 pub type OriginMark = Mark<0x0300, 32>;
 
 /// Numbers the broadcasts that a node sends, and hands each broadcast of another node up at most once, over restarts and
 /// losses of power: what it has given out and admitted is stored ahead, at the slots 6 and 0300 to 031F (hexadecimal).
+///
+/// `new` and `open` take the memory for 32 origins, some 450 octets, and no other call takes any.
 ///
 /// A contract sees the limit and the next number, and the list of the origins in the order of their slots. After `Store` the
 /// log may not be used until it is opened again.
@@ -41,32 +45,57 @@ impl Model for BroadcastLog {
 }
 
 impl BroadcastLog {
-    /// The log of an empty store: the first number is 0, and no origin is held.
-    pub fn new() -> BroadcastLog
-        ensures { result ≡ empty_log }
+    /// The log of an empty store: the first number is 0, and no origin is held. It fails only where there is no memory for 32 origins.
+    pub fn new(alloc: Global) -> Result<BroadcastLog, AllocError>
+        ensures { IfOk result (λ log. log ≡ empty_log) }
     {
-        BroadcastLog {
+        let marks = MarkTable::new(alloc)?;
+        Ok(BroadcastLog {
             numbering: Numbering::new(),
-            marks: MarkTable::new(),
-        }
+            marks,
+        })
+    }
+
+    /// Makes it the log of an empty store. Its memory stays.
+    pub fn clear(&mut self)
+        ensures { self.new ≡ empty_log }
+    {
+        self.numbering = Numbering::new();
+        self.marks.clear();
     }
 
     /// The log that the keeper's records give: the next number is the stored limit, 0 where none is stored, and the origins
     /// are those from slot 0300 on, up to the first empty slot, each mark the stored one.
     ///
-    /// BadStore exactly where the record at slot 6 has another length than 4 octets, or, after that, where one of the marks
-    /// has not 6 octets, has an address above FFFD, or is a second one of an address.
-    pub fn open<K: Keeper>(keeper: &K) -> Result<BroadcastLog, BadStore>
-        ensures log { result ≡ opened (K.store keeper.now).records }
-        ensures bad { IfErr result (λ bad. IsBad (K.store keeper.now).records bad.slot) }
+    /// Memory where there is none for 32 origins. BadStore exactly where the record at slot 6 has another length than 4 octets, or, after
+    /// that, where one of the marks has not 6 octets, has an address above FFFD, or is a second one of an address. After either no memory
+    /// is held.
+    pub fn open<K: Keeper>(alloc: Global, keeper: &K) -> Result<BroadcastLog, OpenFault>
+        ensures log { IsOpened result (opened (K.store keeper.now).records) }
+        ensures bad { IfErr result (IsFault (IsBad (K.store keeper.now).records)) }
         ensures kept { IsGapless marks (K.store keeper.now).records
             → IfOk result (λ log. AgreesWith log (K.store keeper.now).records) }
         // A log that was kept is opened again, at its limit and with each mark the stored one.
         ensures reopened { Reopens (K.store keeper.now).records result }
     {
         let numbering = Numbering::open(keeper)?;
-        let marks = MarkTable::open(keeper)?;
+        let marks = MarkTable::open(alloc, keeper)?;
         Ok(BroadcastLog { numbering, marks })
+    }
+
+    /// The same, into a log that there is already: it takes no memory. After an error it is the log of an empty store.
+    pub fn reload<K: Keeper>(&mut self, keeper: &K) -> Result<(), BadStore>
+        ensures log { read_into result self.new ≡ opened (K.store keeper.now).records }
+        ensures bad { IfErr result (λ bad. IsBad (K.store keeper.now).records bad.slot) }
+        ensures none { OnErr result (self.new ≡ empty_log) }
+        ensures kept { IsGapless marks (K.store keeper.now).records
+            → OnOk result (AgreesWith self.new (K.store keeper.now).records) }
+    {
+        self.clear();
+        let numbering = Numbering::open(keeper)?;
+        self.marks.reload(keeper)?;
+        self.numbering = numbering;
+        Ok(())
     }
 
     /// How many numbers are left: 4,294,967,295 minus the next one.
@@ -164,14 +193,5 @@ impl BroadcastLog {
                 .map_err(|_| LogFault::Store),
             Err(fault) => Err(fault),
         }
-    }
-}
-
-impl Default for BroadcastLog {
-    /// The log of an empty store.
-    fn default() -> BroadcastLog
-        ensures { result ≡ empty_log }
-    {
-        BroadcastLog::new()
     }
 }

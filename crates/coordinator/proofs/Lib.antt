@@ -20,3 +20,4 @@ pub mod LineRules
 pub mod HearingRules
 pub mod Rereading
 pub mod Beginnings
+pub mod OtherWords

@@ -1,11 +1,13 @@
 -- How a coordinator begins over what its keeper holds.
-use Rattle.std.specs.Prelude.{◌≡◌, ◌⊎◌, Some, None, Result, Ok, Err}
+use Rattle.std.specs.Prelude.{◌≡◌, ◌⊎◌, ⊤, Some, None, Result, Ok, Err}
 use Rattle.std.specs.FinMap.{get}
 use Rattle.plc_base.specs.Keeper.{Records, Store}
 use Rattle.plc_base.specs.declared.address.Eui.{Eui}
 use Rattle.plc_base.specs.declared.key.Key.{Key}
 use Rattle.group_keys.specs.declared.fault.RingFault.{RingFault}
 use Rattle.group_keys.specs.declared.fault.RingFault.TheVariants as rings
+use Rattle.group_keys.specs.KeyBook.{Book}
+use Rattle.plc_base.specs.declared.keeper.BadStore.{BadStore}
 use Rattle.group_keys.specs.KeyRing.{ring_at, ring_slot}
 use Rattle.node_rules.specs.Memory.{Memory, Coordinator}
 use Rattle.node_rules.specs.StoreReading.{memory_of, first_grant}
@@ -39,6 +41,12 @@ IsOpenFault store eui key faults.Memory left = left ≡ store
 IsOpenFault store eui key (faults.BadStore bad) left =
     (memory_of Coordinator store.records ≡ Err bad) × (left ≡ store)
 IsOpenFault store eui key faults.Store left = Begins store eui key (Err rings.Store) (halted_state left eui)
+
+-- the fault of the book says why: there was no memory, or one of its records has no reading
+abbrev pub IsBookFault : Result Book BadStore → OpenFault → Type 0
+IsBookFault read faults.Memory = ⊤
+IsBookFault read (faults.BadStore bad) = read ≡ Err bad
+IsBookFault read faults.Store = ⊥
 
 -- the records hold no ring, or one with the address 0000
 abbrev pub MayBegin : Records → Type 0

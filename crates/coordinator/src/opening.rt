@@ -17,7 +17,7 @@ use crate::coordinator::Coordinator;
 use crate::sessions::Sessions;
 use group_keys::{KeyBook, KeyRing, RingFault};
 use joining_base::RandomValues;
-use plc_base::{BadStore, Eui, Grant, Keeper, Key, KeyIndex, Short};
+use plc_base::{Eui, Grant, Keeper, Key, KeyIndex, Short};
 use plc_station::{OpenFault, Station};
 use std::alloc::Global;
 
@@ -55,9 +55,9 @@ impl<K: Keeper + Drop> Coordinator<K> {
             Ok(station) => station,
             Err(fault) => return Err(fault),
         };
-        let mut coordinator = match Coordinator::over(station) {
+        let mut coordinator = match Coordinator::over(alloc, station) {
             Ok(coordinator) => coordinator,
-            Err((bad, keeper)) => return Err((OpenFault::BadStore(bad), keeper)),
+            Err(fault) => return Err(fault),
         };
         let Ok(()) = coordinator.begin(key) else {
             return Err((OpenFault::Store, coordinator.station.into_keeper()));
@@ -65,24 +65,28 @@ impl<K: Keeper + Drop> Coordinator<K> {
         Ok(coordinator)
     }
 
-    // The coordinator over a station that was just opened. BadStore where the book has no reading.
-    fn over(mut station: Station<K>) -> Result<Coordinator<K>, (BadStore, K)>
+    // The coordinator over a station that was just opened. BadStore where the book has no reading, Memory where there is none for it.
+    fn over(alloc: Global, mut station: Station<K>) -> Result<Coordinator<K>, (OpenFault, K)>
         ensures station { IfOk result (λ c. c.station ≡ station) }
         ensures empty { IfOk result (λ c. (c.randoms ≡ []) × (c.sessions ≡ [])) }
         ensures read { IfOk result (λ c. slots.opened book.entries station.store.records ≡ Ok c.book) }
         ensures kept { slots.IsGapless book.entries station.store.records
             → IfOk result (λ c. book.AgreesWith c.book station.store.records) }
-        ensures bad { IfErr result (λ e. (slots.opened book.entries station.store.records ≡ Err e.0)
+        ensures bad { IfErr result (λ e. (opening.IsBookFault (slots.opened book.entries station.store.records) e.0)
             × (K.store e.1 ≡ station.store)) }
     {
-        match KeyBook::open(station.keeper_mut()) {
+        match KeyBook::open(alloc, station.keeper_mut()) {
             Ok(book) => Ok(Coordinator {
                 station,
                 book,
                 randoms: RandomValues::new(),
                 sessions: Sessions::new(),
             }),
-            Err(bad) => Err((bad, station.into_keeper())),
+            Err(store_tables::OpenFault::Memory) => Err((OpenFault::Memory, station.into_keeper())),
+            Err(store_tables::OpenFault::BadStore(bad)) => Err((
+                OpenFault::BadStore(bad),
+                station.into_keeper(),
+            )),
         }
     }
 

@@ -13,8 +13,8 @@
 //! - `open` gives what the records say; BadStore names one that has no reading (`bad`).
 //!
 //! What is stored is ahead, so most calls put nothing: after a new start the next counter is up to 1,024 ahead, and up to 63 counters of a
-//! sender are refused. No sender is ever forgotten. No memory is taken, and there is no `unsafe`. After a failed put the value is to be
-//! opened again.
+//! sender are refused. No sender is ever forgotten. The marks take their memory when they are opened, and none after that. There is no
+//! `unsafe`. After a failed put the value is to be opened again.
 //!
 //! For example, `let number = counter.take(&mut keeper)?` is for the next frame, and `marks.admit(&mut keeper, from, heard)?` for one that
 //! came, once its tag was found right.

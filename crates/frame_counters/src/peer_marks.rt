@@ -1,9 +1,10 @@
 //! The marks of the senders: the counter that was last admitted of each.
-ghost use Rattle.std.specs.Prelude.{◌≡◌, ◌≤◌, Ok, Some, None, List, is_ok, IfOk, IfErr, OnOk, OnErr, map, IsSorted, IsPermutation};
+ghost use Rattle.std.specs.Prelude.{◌≡◌, [], ◌≤◌, Ok, Some, None, List, is_ok, IfOk, IfErr, OnOk, OnErr, map, IsSorted, IsPermutation};
 ghost use Rattle.std.specs.Bool.{OnTrue};
 ghost use Rattle.std.specs.Ordering.{nat_cmp};
 ghost use Rattle.plc_base.specs.Keeper.{Stores, OutsideStays, IsOldOrNew};
-ghost use Rattle.store_tables.specs.SlotTables.{IsTable, IsGapless, IsReading, IsBad, Reopens, opened};
+ghost use Rattle.store_tables.specs.SlotTables.{IsTable, IsGapless, IsReading, IsBad, Reopens, ReopensInto, opened, read_into};
+ghost use Rattle.store_tables.specs.OpenFaults.{IsOpened, IsFault};
 ghost use Rattle.store_tables.specs.AdmittedNumbers.{Admitted, AllEarlier};
 ghost use Rattle.frame_counters.specs.Admitted.{Admits};
 ghost use Rattle.frame_counters.specs.PeerMarks.{Table, peers, AgreesWith, IsCovered, mark_of, room_for, keep_write, kept_after, admit_result, admit_write};
@@ -12,14 +13,17 @@ ghost use Rattle.frame_counters.specs.PeerMarks.{admit_after, is_stored};
 use crate::PeerFault;
 use arrayvec::ArrayVec;
 use plc_base::{BadStore, Failed, Keeper, Short};
+use std::alloc::Global;
 use std::marker::Model;
-use store_tables::{Mark, MarkTable};
+use store_tables::{Mark, MarkTable, OpenFault};
 
 /// One sender: the counter that was last admitted of it, and the mark that is stored, which is no lower.
 pub type Peer = Mark<0x0100, 64>;
 
 /// The counter that was last admitted of each sender. The stored marks are ahead of it, so that no counter is admitted
 /// twice, also over losses of power, and most frames cost no put (IEEE 802.15.4-2006, 7.5.8.2.3).
+///
+/// `open` takes the memory for 64 senders, some 900 octets, and no other call takes any.
 ///
 /// A contract sees the list of the senders in the order of their slots.
 #[derive(Drop, Debug)]
@@ -42,19 +46,31 @@ impl Model for PeerMarks {
 impl PeerMarks {
     /// The marks that the records from slot 0100 on give, up to the first empty slot. Each mark is the stored one.
     ///
-    /// BadStore exactly where one of these records has not 6 octets, has an address above FFFD, or is a second one of an
-    /// address.
-    pub fn open<K: Keeper>(keeper: &K) -> Result<PeerMarks, BadStore>
-        ensures table { result ≡ opened peers (K.store keeper.now).records }
+    /// Memory where there is none for 64 marks. BadStore exactly where one of these records has not 6 octets, has an address above FFFD,
+    /// or is a second one of an address. After either no memory is held.
+    pub fn open<K: Keeper>(alloc: Global, keeper: &K) -> Result<PeerMarks, OpenFault>
+        ensures table { IsOpened result (opened peers (K.store keeper.now).records) }
         ensures reading { IfOk result (λ table. IsReading peers table (K.store keeper.now).records) }
-        ensures bad { IfErr result (λ bad. IsBad peers (K.store keeper.now).records bad.slot) }
+        ensures bad { IfErr result (IsFault (IsBad peers (K.store keeper.now).records)) }
         ensures kept { IsGapless peers (K.store keeper.now).records
             → IfOk result (λ table. AgreesWith table (K.store keeper.now).records) }
         // Marks that were kept are opened again, each at its stored mark.
         ensures reopened { Reopens peers (K.store keeper.now).records result }
     {
-        let marks = MarkTable::open(keeper)?;
+        let marks = MarkTable::open(alloc, keeper)?;
         Ok(PeerMarks { marks })
+    }
+
+    /// The same, into marks that there are already: it takes no memory. After an error no sender is held.
+    pub fn reload<K: Keeper>(&mut self, keeper: &K) -> Result<(), BadStore>
+        ensures table { read_into result self.new ≡ opened peers (K.store keeper.now).records }
+        ensures reading { OnOk result (IsReading peers self.new (K.store keeper.now).records) }
+        ensures bad { IfErr result (λ bad. IsBad peers (K.store keeper.now).records bad.slot) }
+        ensures none { OnErr result (self.new ≡ []) }
+        ensures kept { IsGapless peers (K.store keeper.now).records → OnOk result (AgreesWith self.new (K.store keeper.now).records) }
+        ensures reopened { ReopensInto peers (K.store keeper.now).records result self.new }
+    {
+        self.marks.reload(keeper)
     }
 
     /// The mark of a sender, None exactly where it is not held.

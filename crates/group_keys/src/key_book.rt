@@ -1,8 +1,9 @@
 //! The coordinator's book of meters.
-ghost use Rattle.std.specs.Prelude.{◌≡◌, ◌+◌, ◌<◌, ◌≤◌, true, ℕ, Ok, Some, is_ok, map, IfOk, IfErr, OnOk, OnErr, OnSome};
+ghost use Rattle.std.specs.Prelude.{◌≡◌, [], ◌+◌, ◌<◌, ◌≤◌, true, ℕ, Ok, Some, is_ok, map, IfOk, IfErr, OnOk, OnErr, OnSome};
 ghost use Rattle.std.specs.Bool.{OnTrue};
 ghost use Rattle.std.specs.Option.{option_map, option_and_then};
 ghost use Rattle.plc_base.specs.Keeper.{Stores, OutsideStays, IsOldOrNew};
+ghost use Rattle.store_tables.specs.OpenFaults.{IsOpened, IsFault};
 ghost use Rattle.store_tables.specs.SlotTables.{IsTable, IsGapless, IsReading, IsBad, Reopens, ReopensInto, opened, read_into};
 ghost use Rattle.plc_base.specs.declared.address.Eui.{Eui};
 ghost use Rattle.group_keys.specs.KeyBook.{Book, entries, AgreesWith, AddressesStay, entry_for, holds, address_of, is_allowed, issued_at, has_room, place_for};
@@ -13,8 +14,9 @@ use crate::BookFault;
 use crate::fields::{HELD, flag_in, held_in, key_in, push_held};
 use byteorder::{BigEndian, ByteOrder};
 use plc_base::{BadStore, Eui, Failed, Grant, Keeper, Key, KeyIndex, Record, Short};
+use std::alloc::Global;
 use std::marker::Model;
-use store_tables::{SlotEntry, SlotTable};
+use store_tables::{OpenFault, SlotEntry, SlotTable};
 
 /// What the book has of one meter.
 #[derive(Clone, Copy, Debug, PartialEq, Eq)]
@@ -104,9 +106,10 @@ impl SlotEntry for BookEntry {
     }
 }
 
-/// The coordinator's book: one entry for each meter, the k-th with the address k for good. It is always stored.
+/// The coordinator's book: one entry for each meter, the k-th with the address k for good. It is always stored. `open` takes the memory
+/// for 999 meters, 61 octets for each, and no other call takes any.
 ///
-/// A contract sees the list of the entries in the order of their slots. A look-up goes over the entries one by one.
+/// A contract sees the list of the entries in the order of their slots. A look-up is a binary search.
 #[derive(Drop, Debug)]
 pub struct KeyBook {
     table: SlotTable<BookEntry, 999>,
@@ -134,25 +137,28 @@ fn address_at(place: usize) -> Short
 impl KeyBook {
     /// The book that the records from slot 1000 (hexadecimal) on give, up to the first empty slot.
     ///
-    /// BadStore exactly where one of these records has not 61 octets, a flag above 1, other octets than zeros where no key is
-    /// held, another address than its place in the book plus 1, or is a second one of an EUI.
-    pub fn open<K: Keeper>(keeper: &K) -> Result<KeyBook, BadStore>
-        ensures book { result ≡ opened entries (K.store keeper.now).records }
+    /// Memory where there is none for 999 meters. BadStore exactly where one of these records has not 61 octets, a flag above 1, other
+    /// octets than zeros where no key is held, another address than its place in the book plus 1, or is a second one of an EUI. After
+    /// either no memory is held.
+    pub fn open<K: Keeper>(alloc: Global, keeper: &K) -> Result<KeyBook, OpenFault>
+        ensures book { IsOpened result (opened entries (K.store keeper.now).records) }
         ensures reading { IfOk result (λ book. IsReading entries book (K.store keeper.now).records) }
-        ensures bad { IfErr result (λ bad. IsBad entries (K.store keeper.now).records bad.slot) }
+        ensures bad { IfErr result (IsFault (IsBad entries (K.store keeper.now).records)) }
         ensures kept { IsGapless entries (K.store keeper.now).records
             → IfOk result (λ book. AgreesWith book (K.store keeper.now).records) }
         // A book that was kept is opened again as it was.
         ensures reopened { Reopens entries (K.store keeper.now).records result }
     {
-        let table = SlotTable::open(keeper)?;
+        let table = SlotTable::open(alloc, keeper)?;
         Ok(KeyBook { table })
     }
 
-    /// The same, into a book that there is already, so that no book is made or copied.
+    /// The same, into a book that there is already: it takes no memory. After an error it holds no meter.
     pub fn reload<K: Keeper>(&mut self, keeper: &K) -> Result<(), BadStore>
         ensures book { read_into result self.new ≡ opened entries (K.store keeper.now).records }
         ensures reading { OnOk result (IsReading entries self.new (K.store keeper.now).records) }
+        ensures bad { IfErr result (λ bad. IsBad entries (K.store keeper.now).records bad.slot) }
+        ensures none { OnErr result (self.new ≡ []) }
         ensures kept { IsGapless entries (K.store keeper.now).records
             → OnOk result (AgreesWith self.new (K.store keeper.now).records) }
         ensures reopened { ReopensInto entries (K.store keeper.now).records result self.new }

@@ -13,8 +13,8 @@
 //!   (`either`), and other slots are as they were (`elsewhere`); the value may not be used again until it is opened again.
 //! - `open` gives what the records say; BadStore names one that has no reading (`bad`).
 //!
-//! 999 meters fit, and MetersFull comes exactly for a new one beyond; no entry is ever removed. No memory is taken, and there is no
-//! `unsafe`: a book has room for all its entries in place, of some 60 octets each. Keys lie in memory and in the store as they are: this
+//! 999 meters fit, and MetersFull comes exactly for a new one beyond; no entry is ever removed. A book takes the memory for all of them,
+//! 61 octets for each, when it is opened, and none after that. There is no `unsafe`. Keys lie in memory and in the store as they are: this
 //! crate neither hides nor erases them.
 //!
 //! For example, `let address = book.allow(&mut keeper, eui, &psk)?` enters a meter. `docs/CRATES.md` has more.

@@ -4,9 +4,10 @@ use Rattle.std.specs.Prelude.{IfSome, slice_get, slice_set}
 use Rattle.plc_base.specs.declared.keeper.BadStore.{BadStore}
 use Rattle.plc_base.specs.declared.out_frame.Out.{Out}
 use Rattle.neighbour_checks.specs.Neighbours.{nobody}
-use Rattle.broadcast_log.specs.Log.{Log, log_at_rest, opened}
+use Rattle.broadcast_log.specs.Log.{log_at_rest}
 use Rattle.broadcast_log.proofs.Reopening.{reopens}
 use Rattle.pan_discovery.specs.History.{ended}
+use Rattle.store_tables.specs.SlotTables.{read_into}
 use Rattle.node_rules.specs.Ciphers.{network}
 use Rattle.node_rules.specs.Memory.{Memory, Node}
 use Rattle.node_rules.specs.NodeSteps.{NodeStep, answering}
@@ -50,29 +51,34 @@ steps_beside takes w v h r bs s = record {
 
 -- # Restarts
 
-module _ {w : World} {number found : ℕ} (there : IsThere w number found) (kept : LogsKept w) (r : Result Log BadStore)
-    (is : IfSome (slice_get w.nodes found) (λ x. r ≡ opened x.store.records)) where
-  -- the log of a node is opened again
-  pub log_opened : (log : Log) × (r ≡ Ok log)
-  log_opened =
+-- what was read is read
+was_read : {A : Type 0} (result : Result (Unit {0}) BadStore) (new value : A) → read_into result new ≡ Ok value → result ≡ Ok tt
+was_read (Ok tt) new value e = refl
+was_read (Err bad) new value e = absurd (cc (e))
+
+module _ {w : World} {number found : ℕ} (there : IsThere w number found) (kept : LogsKept w) (result : Result (Unit {0}) BadStore) (new : Beside)
+    (is : IfSome (slice_get w.nodes found) (λ x. read_into result new ≡ restarted x.store.records)) where
+  left_there : read_into result new ≡ restarted there.node.store.records
+  left_there = holds_there there (λ (y : Node). read_into result new ≡ restarted y.store.records) is
+
+  -- the log of a node is read again
+  pub log_read : result ≡ Ok tt
+  log_read =
       let x = there.node in
       let at : slice_get w.nodes found ≡ Some x = ap (λ n. slice_get w.nodes n) there.same ∙ there.at in
       let some = halted_in (log_at w.beside found) x (logged_at w.beside w.nodes found x kept at) in
-      (log_at_rest some.value, holds_there there (λ (y : Node). r ≡ opened y.store.records) is ∙ reopens some.value x.store.records some.kept)
+      let left : Beside = record { checks = nobody; log = log_at_rest some.value; scan = ended } in
+      was_read result new left (left_there ∙ ap restarted_by (reopens some.value x.store.records some.kept))
 
   -- and nothing else is left beside the node
-  pub restarted_so : (log : Log) → r ≡ Ok log → restarted there.node.store.records ≡ Ok (record { checks = nobody; log = log; scan = ended })
-  restarted_so log e = ap restarted_by (sym (holds_there there (λ (y : Node). r ≡ opened y.store.records) is) ∙ e)
-
-  pub restart_is : (log : Log) → r ≡ Ok log
-      → restarts_by network w number there.node (restarted there.node.store.records)
+  pub restart_is : restarts_by network w number there.node (restarted there.node.store.records)
       ≡ (
-        record (node_outcome network w number (restarts there.node)).0
-            { beside = slice_set w.beside number (record { checks = nobody; log = log; scan = ended }) },
+        record (node_outcome network w number (restarts there.node)).0 { beside = slice_set w.beside number new },
         (node_outcome network w number (restarts there.node)).1,
       )
   unfolding world_after
-  restart_is log e = ap (restarts_by network w number there.node) (restarted_so log e)
+  restart_is =
+      ap (restarts_by network w number there.node) (sym left_there ∙ ap (λ (r : Result (Unit {0}) BadStore). read_into r new) log_read)
 
 -- # An event at which one node carried out a plan of its further rules
 

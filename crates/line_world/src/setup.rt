@@ -1,6 +1,5 @@
 //! The events that set up a line.
 ghost use Rattle.std.specs.Prelude.{◌≡◌, ◌<◌, ◌≤◌, ◌||◌, ◌++◌, ◌∷◌, [], true, false, not, length, IfSome, slice_get, vec_len, vec_capacity};
-ghost use Rattle.reach_rules.specs.ReachingNodes.{nothing_beside};
 ghost use Rattle.node_rules.specs.Calls as calls;
 ghost use Rattle.node_rules.specs.Ciphers.{network};
 ghost use Rattle.line_events.specs.declared.event.TheConstants.{MAX_EVENTS};
@@ -36,20 +35,23 @@ impl Line {
         if self.beside.reserve(1).is_err() {
             return Err(StepFault::Memory);
         }
+        let Ok(beside) = Beside::new(self.alloc) else {
+            return Err(StepFault::Memory);
+        };
         if self.nodes.make_coordinator(self.alloc, eui, key).is_err() {
             return Err(StepFault::Memory);
         }
-        self.hold_beside();
+        self.hold_beside(beside);
         self.set_up();
         Ok(self.happenings(Answer::Made))
     }
 
-    /// One node more holds what a new one holds beside its memory. Memory for it was reserved.
-    fn hold_beside(&mut self)
+    /// What the next node holds beside its memory. Room for it was reserved.
+    fn hold_beside(&mut self, beside: Beside)
         requires { vec_len self.old.beside < vec_capacity self.old.beside }
-        ensures { world_of self.new ≡ record (world_of self.old) { beside = self.old.beside.items ++ nothing_beside ∷ [] } }
+        ensures { world_of self.new ≡ record (world_of self.old) { beside = self.old.beside.items ++ beside ∷ [] } }
     {
-        self.beside.push(Beside::new()).unwrap();
+        self.beside.push(beside).unwrap();
     }
 
     /// Makes the next meter.
@@ -72,10 +74,13 @@ impl Line {
         if self.beside.reserve(1).is_err() {
             return Err(StepFault::Memory);
         }
+        let Ok(beside) = Beside::new(self.alloc) else {
+            return Err(StepFault::Memory);
+        };
         if self.nodes.make_meter(self.alloc, eui, psk).is_err() {
             return Err(StepFault::Memory);
         }
-        self.hold_beside();
+        self.hold_beside(beside);
         self.set_up();
         Ok(self.happenings(Answer::Made))
     }

@@ -7,8 +7,6 @@ ghost use Rattle.line_rules.specs.Answers as words;
 ghost use Rattle.line_rules.specs.Further as further;
 ghost use Rattle.line_rules.specs.Logs.{LogsKept};
 ghost use Rattle.line_rules.specs.Steps as rules;
-ghost use Rattle.neighbour_checks.specs.Neighbours.{nobody};
-ghost use Rattle.pan_discovery.specs.History.{ended};
 ghost use Rattle.reach_rules.specs.ReachingNodes.{tick_beside};
 ghost use Rattle.line_world.specs.Bounds.{IsBounded, NoneChecked};
 ghost use Rattle.line_world.specs.Lines.{world_of};
@@ -16,7 +14,6 @@ ghost use Rattle.line_world.specs.Steps.{Steps};
 
 use crate::line::Line;
 use crate::world::Buffers;
-use broadcast_log::BroadcastLog;
 use line_events::{Answer, Happenings, StepFault};
 use node_rules::ShownRef;
 
@@ -52,17 +49,6 @@ impl Line {
         }
     }
 
-    // Of what a node holds beside its memory the log alone is left, as its store gives it.
-    fn restart_beside(&mut self, node: usize, log: BroadcastLog)
-        requires there { node < length self.old.beside.items }
-        ensures { world_of self.new ≡ further.set_beside node (record { checks = nobody; log = log; scan = ended }) (world_of self.old) }
-    {
-        let beside = &mut self.beside[node];
-        beside.checks.clear();
-        beside.log = log;
-        beside.scan.clear();
-    }
-
     /// A node restarts.
     pub(crate) fn restart(&mut self, node: u32) -> Result<Happenings<'static>, StepFault>
         requires bounds { IsBounded (world_of self.old) }
@@ -73,10 +59,9 @@ impl Line {
             (further.restarts_further network (world_of self.old) node) }
     {
         let number = self.node(node)?;
-        let Ok(log) = self.nodes.open_log(number) else {
+        let Ok(()) = self.nodes.reload_beside(number, &mut self.beside[number]) else {
             unreachable!()
         };
-        self.restart_beside(number, log);
         let answer = self.nodes.restart(number);
         Ok(self.answered(answer))
     }

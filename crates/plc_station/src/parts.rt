@@ -1,10 +1,11 @@
 //! What a station holds of its store.
-ghost use Rattle.std.specs.Prelude.{◌≡◌, Ok, Err, MatchResult, IfOk};
+ghost use Rattle.std.specs.Prelude.{◌≡◌, Ok, Err, MatchResult, IfOk, OnOk};
 ghost use Rattle.store_tables.specs.SlotTables.{IsGapless};
 ghost use Rattle.frame_counters.specs.PeerMarks.{peers};
 ghost use Rattle.routing_set.specs.RoutingSet.{ranks};
 ghost use Rattle.node_rules.specs.StoreReading.{station_of};
 ghost use Rattle.node_rules.specs.Agreement.{AgreesWith};
+ghost use Rattle.plc_station.specs.OpenFaults.{IsOpeningFault};
 ghost use Rattle.plc_station.specs.StationReading.{station_in, no_bodies};
 
 use fragment_buffers::NextTag;
@@ -12,6 +13,8 @@ use frame_counters::{PeerMarks, SendCounter};
 use group_keys::KeyRing;
 use plc_base::{BadStore, Keeper};
 use routing_set::{OwnNumber, RoutingSet};
+use std::alloc::Global;
+use store_tables::OpenFault;
 
 /// The parts of a station that stand on its store.
 #[derive(Drop)]
@@ -25,12 +28,12 @@ pub struct Parts {
 }
 
 impl Parts {
-    /// What the records of a keeper give. BadStore where one of them has no reading.
+    /// What the records of a keeper give. BadStore where one of them has no reading, Memory where there is none for the tables.
     #[tactic(auto, unfolding(node_rules::specs::StoreReading::station_of))]
-    pub(crate) fn open<K: Keeper>(keeper: &K) -> Result<Parts, BadStore>
+    pub(crate) fn open<K: Keeper>(alloc: Global, keeper: &K) -> Result<Parts, OpenFault>
         ensures station { MatchResult result
             (λ p. station_of (K.store keeper.now).records ≡ Ok (station_in p no_bodies))
-            (λ bad. station_of (K.store keeper.now).records ≡ Err bad) }
+            (IsOpeningFault (station_of (K.store keeper.now).records)) }
         ensures agrees { IsGapless peers (K.store keeper.now).records → IsGapless ranks (K.store keeper.now).records
             → IfOk result (λ p. AgreesWith (station_in p no_bodies) (K.store keeper.now).records) }
     {
@@ -38,8 +41,8 @@ impl Parts {
         let counter = SendCounter::open(keeper)?;
         let own_number = OwnNumber::open(keeper)?;
         let next_tag = NextTag::open(keeper)?;
-        let routing = RoutingSet::open(keeper)?;
-        let marks = PeerMarks::open(keeper)?;
+        let routing = RoutingSet::open(alloc, keeper)?;
+        let marks = PeerMarks::open(alloc, keeper)?;
         Ok(Parts {
             ring,
             counter,
@@ -48,5 +51,23 @@ impl Parts {
             own_number,
             next_tag,
         })
+    }
+
+    /// The same, into parts that there are already, so that it takes no memory. After BadStore they may not be used until they are read
+    /// again.
+    #[tactic(auto, unfolding(node_rules::specs::StoreReading::station_of))]
+    pub(crate) fn reload<K: Keeper>(&mut self, keeper: &K) -> Result<(), BadStore>
+        ensures station { MatchResult result
+            (λ _. station_of (K.store keeper.now).records ≡ Ok (station_in self.new no_bodies))
+            (λ bad. station_of (K.store keeper.now).records ≡ Err bad) }
+        ensures agrees { IsGapless peers (K.store keeper.now).records → IsGapless ranks (K.store keeper.now).records
+            → OnOk result (AgreesWith (station_in self.new no_bodies) (K.store keeper.now).records) }
+    {
+        self.ring = KeyRing::open(keeper)?;
+        self.counter = SendCounter::open(keeper)?;
+        self.own_number = OwnNumber::open(keeper)?;
+        self.next_tag = NextTag::open(keeper)?;
+        self.routing.reload(keeper)?;
+        self.marks.reload(keeper)
     }
 }

@@ -90,8 +90,9 @@ impl<K: Keeper + Drop> Station<K> {
         let Ok(bodies) = Bodies::new(alloc) else {
             return Err((OpenFault::Memory, keeper));
         };
-        match Parts::open(&keeper) {
-            Err(bad) => Err((OpenFault::BadStore(bad), keeper)),
+        match Parts::open(alloc, &keeper) {
+            Err(store_tables::OpenFault::Memory) => Err((OpenFault::Memory, keeper)),
+            Err(store_tables::OpenFault::BadStore(bad)) => Err((OpenFault::BadStore(bad), keeper)),
             Ok(parts) => Ok(Station {
                 keeper,
                 eui,
@@ -158,7 +159,7 @@ impl<K: Keeper + Drop> Station<K> {
         self.halted = true;
         self.replied = None;
         self.bodies.clear();
-        self.parts = Parts::open(&self.keeper)?;
+        self.parts.reload(&self.keeper)?;
         self.halted = false;
         Ok(())
     }

@@ -122,6 +122,10 @@ routing_of None entries = Err (record { slot = floor_slot })
 routing_of (Some floors) (Err bad) = Err bad
 routing_of (Some floors) (Ok entries) = Ok (record { entries = entries; floors = floors })
 
+-- nothing is known of ways to other addresses
+abbrev pub empty_routing : Routing
+empty_routing = record { entries = []; floors = replicate 16 0 }
+
 -- what the records give: each rank with no valid route
 abbrev pub opened : Records → Result Routing BadStore
 opened records = routing_of (floors_in (get records floor_slot)) (slots.opened ranks records)

@@ -16,8 +16,9 @@
 //!   valid (`unrouted`).
 //! - `open` gives what the records say; BadStore names one that has no reading (`bad`).
 //!
-//! No memory is taken, and there is no `unsafe`. Times are the caller's, in seconds: a route that is not offered anew ends after 21,600.
-//! Nothing is said of whether a next hop still hears the node; that no loops form is a law of whole lines (`line_laws`).
+//! A set takes its memory when it is opened, and none after that. There is no `unsafe`. Times are the caller's, in seconds: a route that
+//! is not offered anew ends after 21,600. Nothing is said of whether a next hop still hears the node; that no loops form is a law of whole
+//! lines (`line_laws`).
 //!
 //! For example, `routing.offer(&mut keeper, dest, number, cost, next, now)?` takes a route reply, and `routing.route(dest)` is then
 //! `Some(next)`.

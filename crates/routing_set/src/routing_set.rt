@@ -5,14 +5,15 @@ ghost use Rattle.std.specs.Ordering.{nat_cmp};
 ghost use Rattle.std.specs.List.{list_all};
 ghost use Rattle.plc_base.specs.Keeper.{Records};
 ghost use Rattle.store_tables.specs.Writes.{Wrote};
-ghost use Rattle.store_tables.specs.SlotTables.{IsTable, IsGapless, IsReading};
+ghost use Rattle.store_tables.specs.SlotTables.{IsTable, IsGapless, IsReading, read_into};
+ghost use Rattle.store_tables.specs.OpenFaults.{IsOpened, IsFault};
 ghost use Rattle.routing_set.specs.Ranks.{beats, rank_by};
 ghost use Rattle.routing_set.specs.Endings.{takes};
 ghost use Rattle.routing_set.specs.FirstEnd.{first_end, IsStill};
 ghost use Rattle.routing_set.specs.RoutingSet.{Routing, ranks, AgreesWith, IsSomeOffered, IsBad, SameElsewhere, opened, at_rest, place_of, rank_of, route_of};
 ghost use Rattle.routing_set.specs.RoutingSet.{next_of, held, floor_of, is_better, is_full, is_fresh, first_to_go, offered, half_offered, offer_writes};
 ghost use Rattle.routing_set.specs.RoutingSet.{entered, half_entered, entry_writes, Keeps, writes_of, half_of, after_of, offer_result, offer_puts, offer_after};
-ghost use Rattle.routing_set.specs.RoutingSet.{is_stored, ended, without_next, without_next_to, expired};
+ghost use Rattle.routing_set.specs.RoutingSet.{is_stored, ended, without_next, without_next_to, expired, empty_routing};
 
 use crate::ending::Ending;
 use crate::entry::first_of;
@@ -20,14 +21,17 @@ use crate::floors::{FLOOR_SLOT, class_of, raise_floor, stored_floors};
 use crate::{OfferFault, Offered, Rank, Route, RoutingEntry};
 use arrayvec::ArrayVec;
 use plc_base::{BadStore, Failed, Keeper, Short};
+use std::alloc::Global;
 use std::marker::Model;
-use store_tables::SlotTable;
+use store_tables::{OpenFault, SlotTable};
 
 /// What a node knows of ways to other addresses: at most 64 ranks, which are stored, the valid routes, and 16 floors (the
 /// Routing Set of LOADng).
 ///
 /// The rank of an address only rises. A full table may forget one under a floor: an address with no kept rank has the rank
 /// (floor of its class, 0), where its class is the address modulo 16.
+///
+/// `open` takes the memory for 64 ranks, some 2,200 octets, and no other call takes any.
 ///
 /// A contract sees the entries in the order of their slots, and the floors.
 #[derive(Drop, Debug)]
@@ -56,29 +60,60 @@ impl RoutingSet {
     /// What the records at slot 5 and from slot 0200 (hexadecimal) on give, up to the first empty slot: the floors, 0 where
     /// slot 5 is empty, and the ranks, each with no valid route.
     ///
-    /// BadStore exactly where the record at slot 5 has not 32 octets, or one of the others has not 6 octets, an address above
-    /// FFFD, the number 0, or is a second one of an address.
-    pub fn open<K: Keeper>(keeper: &K) -> Result<RoutingSet, BadStore>
-        ensures routing { result ≡ opened (K.store keeper.now).records }
+    /// Memory where there is none for 64 ranks. BadStore exactly where the record at slot 5 has not 32 octets, or one of the others has
+    /// not 6 octets, an address above FFFD, the number 0, or is a second one of an address. After either no memory is held.
+    pub fn open<K: Keeper>(alloc: Global, keeper: &K) -> Result<RoutingSet, OpenFault>
+        ensures routing { IsOpened result (opened (K.store keeper.now).records) }
         ensures reading { IfOk result (λ routing. IsReading ranks routing.entries (K.store keeper.now).records) }
-        ensures bad { IfErr result (λ bad. IsBad (K.store keeper.now).records bad.slot) }
+        ensures bad { IfErr result (IsFault (IsBad (K.store keeper.now).records)) }
         ensures unrouted { IfOk result (λ routing. (dest : ℕ) → route_of routing dest ≡ None) }
         ensures kept { IsGapless ranks (K.store keeper.now).records
             → IfOk result (λ routing. AgreesWith routing (K.store keeper.now).records) }
         // What was kept is opened again, with no valid route.
         ensures reopened { (routing : Routing) → IsTable ranks routing.entries
             → AgreesWith routing (K.store keeper.now).records
-            → result ≡ Ok (at_rest routing) }
+            → IsOpened result (Ok (at_rest routing)) }
     {
         let Some(floors) = stored_floors(keeper) else {
-            return Err(BadStore { slot: FLOOR_SLOT });
+            return Err(OpenFault::BadStore(BadStore { slot: FLOOR_SLOT }));
         };
-        let table = SlotTable::open(keeper)?;
+        let table = SlotTable::open(alloc, keeper)?;
         Ok(RoutingSet {
             table,
             floors,
             next_end: u64::MAX,
         })
+    }
+
+    /// The same, into a set that there is already: it takes no memory. After an error it holds no rank, and each floor is 0.
+    pub fn reload<K: Keeper>(&mut self, keeper: &K) -> Result<(), BadStore>
+        ensures routing { read_into result self.new ≡ opened (K.store keeper.now).records }
+        ensures reading { OnOk result (IsReading ranks self.new.entries (K.store keeper.now).records) }
+        ensures bad { IfErr result (λ bad. IsBad (K.store keeper.now).records bad.slot) }
+        ensures none { OnErr result (self.new ≡ empty_routing) }
+        ensures unrouted { OnOk result ((dest : ℕ) → route_of self.new dest ≡ None) }
+        ensures kept { IsGapless ranks (K.store keeper.now).records
+            → OnOk result (AgreesWith self.new (K.store keeper.now).records) }
+        ensures reopened { (routing : Routing) → IsTable ranks routing.entries
+            → AgreesWith routing (K.store keeper.now).records
+            → read_into result self.new ≡ Ok (at_rest routing) }
+    {
+        self.clear();
+        let Some(floors) = stored_floors(keeper) else {
+            return Err(BadStore { slot: FLOOR_SLOT });
+        };
+        self.table.reload(keeper)?;
+        self.floors = floors;
+        Ok(())
+    }
+
+    // Forgets all ranks, routes and floors.
+    fn clear(&mut self)
+        ensures { self.new ≡ empty_routing }
+    {
+        self.table.clear();
+        self.floors = [0; 16];
+        self.next_end = u64::MAX;
     }
 
     /// The addresses with a kept rank, in ascending order: no two of them are one.

@@ -51,6 +51,12 @@ module _ (first count : ℕ) where
       by_record None entry e = absurd (cc (e))
       by_record (Some octets) entry e = let same = ap (λ (m : Entry). m.mark) (mark_in-rests first count octets entry e) in omega (arith, same)
 
+  -- so what was read again has none, also where it ended at a bad record
+  pub reload_covered : {E : Type 0} (r : Result (Unit {0}) E) (new : Marks) (records : Records) → OnOk r (IsReading (layout first count) new records)
+      → OnErr r (new ≡ []) → IsCovered first count new
+  reload_covered (Ok done) new records ok err = opened_covered new records ok
+  reload_covered (Err fault) new records ok err = subst (λ (t : Marks). IsCovered first count t) (sym err) (λ k d within. absurd (omega arith))
+
   -- # What keeping a number does
 
   -- an address that is looked up has the entry at its place

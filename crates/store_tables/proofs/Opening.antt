@@ -4,7 +4,7 @@ use Rattle.std.proofs.Common.{◌≡◌, ◌≢◌, ℕ, zero, suc, ◌+◌, ◌
 use Rattle.std.proofs.Common.{get_or, take, map, refl, sym, ap, subst, ◌∙◌, inl, inr, arith, length-append}
 use Rattle.std.specs.Prelude.{position, slice_get, is_some, ◌==◌, ◌⊎◌, IsSome}
 use Rattle.std.specs.Option.{option_map, option_map_or}
-use Rattle.std.specs.Result.{IfOk, OnOk, MatchResult}
+use Rattle.std.specs.Result.{IfOk, IfErr, OnOk, MatchResult}
 use Rattle.std.proofs.lemmas.Bool.{cases_eq, cases_lt}
 use Rattle.std.proofs.lemmas.Bool.Decides.{nat_tests}
 use Rattle.std.proofs.lemmas.Option.{slice_get_past, slice_get-get_or}
@@ -437,16 +437,22 @@ pub reloaded : {A : Type 0} (layout : Layout A) (records : Records) (r : Result 
     → ((e : A) → layout.key (layout.rest e) ≡ layout.key e) → read_into r t ≡ opened layout records
     → OnOk r (IsReading layout t records) × (IsGapless layout records → OnOk r (IsStored layout t records))
     × ((table : List A) → IsTable layout table → IsStored layout table records → (r ≡ Ok tt) × (t ≡ map layout.rest table))
+    × IfErr r (λ bad. IsBad layout records bad.slot)
 reloaded {A = A} layout records (Ok u) t rests keys e = (
   opened_reads layout records (Ok t) e,
   opened_kept layout records (Ok t) rests e,
   λ table h k. (refl, ok_is t (map layout.rest table) (e ∙ reopened layout records table keys h k)),
+  tt,
 )
   where
     ok_is : (a b : List A) → ◌≡◌ {A = Result (List A) BadStore} (Ok a) (Ok b) → a ≡ b
     ok_is a b same = cc
-reloaded {A = A} layout records (Err bad) t rests keys e =
-    (tt, λ gapless. tt, λ table h k. absurd (never (map layout.rest table) (e ∙ reopened layout records table keys h k)))
+reloaded {A = A} layout records (Err bad) t rests keys e = (
+  tt,
+  λ gapless. tt,
+  λ table h k. absurd (never (map layout.rest table) (e ∙ reopened layout records table keys h k)),
+  opened_reads layout records (Err bad) e,
+)
   where
     never : (b : List A) → ◌≡◌ {A = Result (List A) BadStore} (Err bad) (Ok b) → ⊥
     never b same = cc

@@ -30,6 +30,10 @@ slice_get-set_other (p ∷ table) zero (suc q) e h = refl
 slice_get-set_other (p ∷ table) (suc place) zero e h = refl
 slice_get-set_other (p ∷ table) (suc place) (suc q) e h = slice_get-set_other table place q e (λ k. h (ap suc k))
 
+-- what is read at a place is what any default finds there
+pub got_here : {A : Type 0} (table : List A) (place : ℕ) (got d : A) → place < length table → slice_get table place ≡ Some got → got ≡ get_or table place d
+got_here table place got d lt e = let there = slice_get-get_or table place d lt in cc
+
 pub slice_get-push : {A : Type 0} (table : List A) (e : A) → slice_get (table ++ e ∷ []) (length table) ≡ Some e
 slice_get-push [] e = refl
 slice_get-push (p ∷ table) e = slice_get-push table e

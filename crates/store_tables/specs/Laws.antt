@@ -1,5 +1,5 @@
 -- What holds of puts that a call makes one after another, whatever becomes of them; and of the keys of a table.
-use Rattle.std.specs.Prelude.{◌≡◌, ◌≢◌, ℕ, ◌+◌, Bool, true, false, List, [], ◌++◌, All, Option, Some, map, IsSorted, IsPermutation}
+use Rattle.std.specs.Prelude.{◌≡◌, ◌≢◌, ℕ, Bool, true, false, List, [], ◌++◌, All, Option, Some, map, IsSorted, IsPermutation}
 use Rattle.std.specs.Ordering.{nat_cmp}
 use Rattle.std.specs.FinMap.{get, insert}
 use Rattle.plc_base.specs.declared.keeper.Cut.{Cut}

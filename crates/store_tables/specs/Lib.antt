@@ -4,6 +4,7 @@ pub mod Laws
 pub mod NumberSlots
 pub mod Numberings
 pub mod SlotOrders
+pub mod OpenFaults
 pub mod SlotTables
 pub mod Marks
 pub mod AdmittedNumbers

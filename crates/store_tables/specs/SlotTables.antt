@@ -6,6 +6,8 @@ use Rattle.std.specs.FinMap.{get}
 use Rattle.plc_base.specs.declared.keeper.BadStore.{BadStore}
 use Rattle.plc_base.specs.Keeper.{Records, Write}
 use Rattle.store_tables.specs.SlotOrders.{IsOrder}
+use Rattle.store_tables.specs.declared.open_fault.OpenFault.{OpenFault}
+use Rattle.store_tables.specs.OpenFaults.{IsOpened}
 
 -- How a table of entries is stored.
 pub record Layout (A : Type 0) : Type 0 where
@@ -91,17 +93,17 @@ opened_from layout (suc left) place records table =
 abbrev pub opened : {A : Type 0} → Layout A → Records → Result (List A) BadStore
 opened layout records = opened_from layout layout.slots 0 records []
 
--- what was read into a table, or why it could not be
-abbrev pub read_into : {A : Type 0} → Result (Unit {0}) BadStore → List A → Result (List A) BadStore
-read_into (Ok _) table = Ok table
-read_into (Err bad) table = Err bad
+-- what was read into a value, or why it could not be
+abbrev pub read_into : {A : Type 0} → Result (Unit {0}) BadStore → A → Result A BadStore
+read_into (Ok _) value = Ok value
+read_into (Err bad) value = Err bad
 
--- a table that was stored is opened again, each entry at rest
-abbrev pub Reopens : {A : Type 0} → Layout A → Records → Result (List A) BadStore → Type 0
+-- a table that was stored is opened again, each entry at rest, unless there is no memory for it
+abbrev pub Reopens : {A : Type 0} → Layout A → Records → Result (List A) OpenFault → Type 0
 Reopens {A} layout records result =
-    (table : List A) → IsTable layout table → IsStored layout table records → result ≡ Ok (map layout.rest table)
+    (table : List A) → IsTable layout table → IsStored layout table records → IsOpened result (Ok (map layout.rest table))
 
--- so it is read into a table
+-- so it is read into a table that there is
 abbrev pub ReopensInto : {A : Type 0} → Layout A → Records → Result (Unit {0}) BadStore → List A → Type 0
 ReopensInto {A} layout records result new =
     (table : List A) → IsTable layout table → IsStored layout table records

@@ -13,7 +13,7 @@
 //!   of others are as they were (`elsewhere`). The value may not be used again until it is opened again.
 //! - What is true of puts in a row and of the sorted keys of a table is a law (`laws`).
 //!
-//! No memory is taken, and there is no `unsafe`.
+//! A table takes its memory when it is made ([`ReservedList`]), and none after that. There is no `unsafe`.
 //!
 //! For example, a driver over flash implements `Keeper` for its type. A counter that no loss of power sets back is then a
 //! `Numbering` at one of the slots: `open` reads it at the start, `left` says how many numbers there are still, and `reserve`
@@ -24,10 +24,14 @@ pub mod laws;
 mod marks;
 mod number_slot;
 mod numbering;
+mod open_fault;
+mod reserved_list;
 mod slot_order;
 mod slot_table;
 
 pub use marks::{Mark, MarkTable};
 pub use number_slot::NumberSlot;
 pub use numbering::Numbering;
+pub use open_fault::OpenFault;
+pub use reserved_list::ReservedList;
 pub use slot_table::{SlotEntry, SlotTable};

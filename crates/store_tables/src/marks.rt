@@ -1,12 +1,14 @@
 //! A table of marks by address: the number that was last admitted of each.
 ghost use Rattle.std.specs.Prelude.{◌≡◌, ◌≤◌, [], true, is_ok, IfOk, IfErr, OnOk, OnErr};
 ghost use Rattle.plc_base.specs.Keeper.{Stores, OutsideStays, IsOldOrNew};
-ghost use Rattle.store_tables.specs.SlotTables.{IsTable, IsGapless, IsReading, IsBad, Reopens, last_of, opened};
+ghost use Rattle.store_tables.specs.SlotTables.{IsTable, IsGapless, IsReading, IsBad, Reopens, ReopensInto, last_of, opened, read_into};
+ghost use Rattle.store_tables.specs.OpenFaults.{IsOpened, IsFault};
 ghost use Rattle.store_tables.specs.Marks.{layout, slots_of, AgreesWith, IsCovered, mark_ahead, mark_of, has_room, room_for, keep_write, kept_after};
 
-use crate::{SlotEntry, SlotTable};
+use crate::{OpenFault, SlotEntry, SlotTable};
 use byteorder::{BigEndian, ByteOrder};
 use plc_base::{BadStore, Failed, Keeper, Record, Short};
+use std::alloc::{AllocError, Global};
 use std::marker::Model;
 
 /// One address: the number that was last admitted of it, and the mark that is stored, which is no lower.
@@ -70,7 +72,7 @@ impl<const FIRST: u32, const SLOTS: usize> SlotEntry for Mark<FIRST, SLOTS> {
 }
 
 /// The number that was last admitted of each address. The stored marks are ahead of it, so that no number is admitted
-/// twice, even over losses of power, and most numbers cost no put.
+/// twice, even over losses of power, and most numbers cost no put. Its memory is that of a [`SlotTable`] of `SLOTS` entries of 12 octets.
 ///
 /// A contract sees the list of the entries in the order of their slots.
 #[derive(Drop, Debug)]
@@ -91,35 +93,56 @@ impl<const FIRST: u32, const SLOTS: usize> Model for MarkTable<FIRST, SLOTS> {
 }
 
 impl<const FIRST: u32, const SLOTS: usize> MarkTable<FIRST, SLOTS> {
-    /// No address is held. It may be called where `open` may be.
-    pub fn new() -> MarkTable<FIRST, SLOTS>
-        requires { SLOTS ≡ slots_of FIRST SLOTS }
-        ensures { result ≡ [] }
-    {
-        MarkTable {
-            table: SlotTable::new(),
-        }
-    }
-
-    /// The marks that the records from the first slot on give, up to the first empty slot. Each mark is the stored one.
+    /// No address is held, and there is memory for `SLOTS` of them. It fails only where there is none.
     ///
     /// It may be called where `SLOTS` slots for marks follow one another from `FIRST` on: those of the peers are 0100 to 013F
     /// and those of the broadcasts 0300 to 031F (hexadecimal).
-    ///
-    /// BadStore exactly where one of these records has not 6 octets, has an address above FFFD, or is a second one of an
-    /// address.
-    pub fn open<K: Keeper>(keeper: &K) -> Result<MarkTable<FIRST, SLOTS>, BadStore>
+    pub fn new(alloc: Global) -> Result<MarkTable<FIRST, SLOTS>, AllocError>
         requires { SLOTS ≡ slots_of FIRST SLOTS }
-        ensures table { result ≡ opened (layout FIRST SLOTS) (K.store keeper.now).records }
+        ensures { IfOk result (λ marks. marks ≡ []) }
+    {
+        let table = SlotTable::new(alloc)?;
+        Ok(MarkTable { table })
+    }
+
+    /// Forgets all addresses. The memory stays.
+    pub fn clear(&mut self)
+        ensures { self.new ≡ [] }
+    {
+        self.table.clear();
+    }
+
+    /// The marks that the records from the first slot on give, up to the first empty slot. Each mark is the stored one. It may be
+    /// called where `new` may be.
+    ///
+    /// Memory where there is none for `SLOTS` marks. BadStore exactly where one of these records has not 6 octets, has an address above
+    /// FFFD, or is a second one of an address. After either no memory is held.
+    pub fn open<K: Keeper>(alloc: Global, keeper: &K) -> Result<MarkTable<FIRST, SLOTS>, OpenFault>
+        requires { SLOTS ≡ slots_of FIRST SLOTS }
+        ensures table { IsOpened result (opened (layout FIRST SLOTS) (K.store keeper.now).records) }
         ensures reading { IfOk result (λ table. IsReading (layout FIRST SLOTS) table (K.store keeper.now).records) }
-        ensures bad { IfErr result (λ bad. IsBad (layout FIRST SLOTS) (K.store keeper.now).records bad.slot) }
+        ensures bad { IfErr result (IsFault (IsBad (layout FIRST SLOTS) (K.store keeper.now).records)) }
         ensures kept { IsGapless (layout FIRST SLOTS) (K.store keeper.now).records
             → IfOk result (λ table. AgreesWith FIRST SLOTS table (K.store keeper.now).records) }
         // Marks that were kept are opened again, each at its stored mark.
         ensures reopened { Reopens (layout FIRST SLOTS) (K.store keeper.now).records result }
     {
-        let table = SlotTable::open(keeper)?;
+        let table = SlotTable::open(alloc, keeper)?;
         Ok(MarkTable { table })
+    }
+
+    /// The same, into a table that there is already: it takes no memory. After an error it holds no address.
+    pub fn reload<K: Keeper>(&mut self, keeper: &K) -> Result<(), BadStore>
+        ensures table { read_into result self.new ≡ opened (layout FIRST SLOTS) (K.store keeper.now).records }
+        ensures reading { OnOk result (IsReading (layout FIRST SLOTS) self.new (K.store keeper.now).records) }
+        ensures bad { IfErr result (λ bad. IsBad (layout FIRST SLOTS) (K.store keeper.now).records bad.slot) }
+        ensures none { OnErr result (self.new ≡ []) }
+        ensures kept { IsGapless (layout FIRST SLOTS) (K.store keeper.now).records
+            → OnOk result (AgreesWith FIRST SLOTS self.new (K.store keeper.now).records) }
+        // Marks that were kept are opened again, each at its stored mark.
+        ensures reopened { ReopensInto (layout FIRST SLOTS) (K.store keeper.now).records result self.new }
+    {
+        self.table.reload(keeper)
     }
 
     /// The mark of an address, None exactly where it is not held.

@@ -1,10 +1,10 @@
 //! The order of a table's entries by their keys.
-ghost use Rattle.std.specs.Prelude.{◌≡◌, ◌<◌, [], length, slice_index};
+ghost use Rattle.std.specs.Prelude.{◌≡◌, ◌<◌, [], length, slice_index, IfOk};
 ghost use Rattle.store_tables.specs.SlotOrders.{IsRising, IsOrder, LacksOne, IsRank};
 ghost use Rattle.store_tables.specs.SlotTables.{IsTable, keys_of, place_of};
 
-use crate::SlotEntry;
-use arrayvec::ArrayVec;
+use crate::{ReservedList, SlotEntry};
+use std::alloc::{AllocError, Global};
 use std::marker::Model;
 
 /// The places of at most `N` entries in the order of their keys, so that an entry is found by a binary search. The entries themselves
@@ -13,7 +13,7 @@ use std::marker::Model;
 /// A contract sees the list of the places.
 #[derive(Drop, Debug)]
 pub struct SlotOrder<const N: usize> {
-    places: ArrayVec<u16, N>,
+    places: ReservedList<u16, N>,
 }
 
 impl<const N: usize> Model for SlotOrder<N> {
@@ -21,17 +21,16 @@ impl<const N: usize> Model for SlotOrder<N> {
 
     ghost Value = { List ℕ };
 
-    ghost view = { λ o. o.places.items };
+    ghost view = { λ o. o.places };
 }
 
 impl<const N: usize> SlotOrder<N> {
-    /// The order of no entries.
-    pub fn new() -> SlotOrder<N>
-        ensures { result ≡ [] }
+    /// The order of no entries, and memory for `N` places of 2 octets. It fails only where there is none.
+    pub fn new(alloc: Global) -> Result<SlotOrder<N>, AllocError>
+        ensures { IfOk result (λ o. o ≡ []) }
     {
-        SlotOrder {
-            places: ArrayVec::new(),
-        }
+        let places = ReservedList::new(alloc)?;
+        Ok(SlotOrder { places })
     }
 
     /// Forgets all places.
@@ -51,7 +50,7 @@ impl<const N: usize> SlotOrder<N> {
         if rank >= self.places.len() {
             return None;
         }
-        let place = self.places[rank];
+        let place = self.places.as_slice()[rank];
         if key_of(entries, place) != key {
             return None;
         }

@@ -5,10 +5,12 @@ ghost use Rattle.std.specs.Prelude.{ℕ};
 ghost use Rattle.plc_base.specs.Keeper.{IsSlot, Records, Puts, Stores, OutsideStays, IsOldOrNew};
 ghost use Rattle.store_tables.specs.SlotTables.{Layout, slot_of, IsTable, IsFree, IsStored, IsGapless, IsReading, IsBad, Reopens, ReopensInto, place_of};
 ghost use Rattle.store_tables.specs.SlotTables.{entry_of, entry_write, last_of, opened, read_into};
+ghost use Rattle.store_tables.specs.OpenFaults.{IsOpened, IsFault};
 
 use crate::slot_order::SlotOrder;
-use arrayvec::ArrayVec;
+use crate::{OpenFault, ReservedList};
 use plc_base::{BadStore, Failed, Keeper, Record};
+use std::alloc::{AllocError, Global};
 use std::marker::Model;
 
 /// An entry of a table that stands in a row of slots.
@@ -46,12 +48,13 @@ pub trait SlotEntry: Copy + Default {
     ghost keeps_key: { (entry : Self) → layout.key (layout.rest entry) ≡ layout.key entry };
 }
 
-/// At most `N` entries in the order of their slots, no two of them with one key. It takes no memory.
+/// At most `N` entries in the order of their slots, no two of them with one key. `new` and `open` reserve the memory for `N` entries and
+/// 2 octets more for each, and no other call takes any.
 ///
 /// A contract sees the list of the entries.
 #[derive(Drop, Debug)]
 pub struct SlotTable<E: SlotEntry, const N: usize> {
-    entries: ArrayVec<E, N>,
+    entries: ReservedList<E, N>,
     // The places by their keys.
     order: SlotOrder<N>,
 }
@@ -62,55 +65,69 @@ impl<E: SlotEntry, const N: usize> Model for SlotTable<E, N> {
 
     ghost Value = { List E };
 
-    ghost view = { λ t. t.entries.items };
+    ghost view = { λ t. t.entries };
 
-    ghost invariant = { λ t. IsTableOf E.layout N t.entries.items t.order };
+    ghost invariant = { λ t. IsTableOf E.layout N t.entries t.order };
 }
 
 impl<E: SlotEntry, const N: usize> SlotTable<E, N> {
-    /// No entry.
-    pub fn new() -> SlotTable<E, N>
+    /// No entry, and memory for `N` of them. It fails only where there is none.
+    pub fn new(alloc: Global) -> Result<SlotTable<E, N>, AllocError>
         requires { N ≡ E.layout.slots }
-        ensures { result ≡ [] }
+        ensures { IfOk result (λ table. table ≡ []) }
     {
-        SlotTable {
-            entries: ArrayVec::new(),
-            order: SlotOrder::new(),
-        }
+        let entries = ReservedList::new(alloc)?;
+        let order = SlotOrder::new(alloc)?;
+        Ok(SlotTable { entries, order })
     }
 
     /// The table that the keeper's records give, from the first slot to the first empty one.
     ///
-    /// BadStore comes exactly where one of these records has no reading or is a second one of a key.
-    pub fn open<K: Keeper>(keeper: &K) -> Result<SlotTable<E, N>, BadStore>
+    /// Memory where there is none for `N` entries. BadStore exactly where one of these records has no reading or is a second one of a key.
+    /// After either no memory is held.
+    pub fn open<K: Keeper>(alloc: Global, keeper: &K) -> Result<SlotTable<E, N>, OpenFault>
         requires { N ≡ E.layout.slots }
-        ensures table { result ≡ opened E.layout (K.store keeper.now).records }
+        ensures table { IsOpened result (opened E.layout (K.store keeper.now).records) }
         ensures reading { IfOk result (λ table. IsReading E.layout table (K.store keeper.now).records) }
-        ensures bad { IfErr result (λ bad. IsBad E.layout (K.store keeper.now).records bad.slot) }
+        ensures bad { IfErr result (IsFault (IsBad E.layout (K.store keeper.now).records)) }
         ensures kept { IsGapless E.layout (K.store keeper.now).records
             → IfOk result (λ table. IsStored E.layout table (K.store keeper.now).records) }
         // A table that was stored is opened again, each entry at rest.
         ensures reopened { Reopens E.layout (K.store keeper.now).records result }
     {
-        let mut table = SlotTable::new();
-        match table.read_all(keeper) {
-            Ok(()) => Ok(table),
-            Err(bad) => Err(bad),
-        }
+        let mut table = SlotTable::new(alloc)?;
+        table.reload(keeper)?;
+        Ok(table)
     }
 
-    /// The same, into a table that there is already, so that no table is made or copied. After an error it holds the entries before the
-    /// bad record.
+    /// The same, into a table that there is already: it takes no memory. After an error the table holds no entry.
     pub fn reload<K: Keeper>(&mut self, keeper: &K) -> Result<(), BadStore>
         ensures table { read_into result self.new ≡ opened E.layout (K.store keeper.now).records }
         ensures reading { OnOk result (IsReading E.layout self.new (K.store keeper.now).records) }
+        ensures bad { IfErr result (λ bad. IsBad E.layout (K.store keeper.now).records bad.slot) }
+        ensures none { OnErr result (self.new ≡ []) }
         ensures kept { IsGapless E.layout (K.store keeper.now).records
             → OnOk result (IsStored E.layout self.new (K.store keeper.now).records) }
         ensures reopened { ReopensInto E.layout (K.store keeper.now).records result self.new }
     {
+        // Shows the check what the table holds.
+        let _ = &self.entries;
+        self.clear();
+        match self.read_all(keeper) {
+            Ok(()) => Ok(()),
+            Err(bad) => {
+                self.clear();
+                Err(bad)
+            }
+        }
+    }
+
+    /// Forgets all entries. The memory stays.
+    pub fn clear(&mut self)
+        ensures { self.new ≡ [] }
+    {
         self.entries.clear();
         self.order.clear();
-        self.read_all(keeper)
     }
 
     /// The entries in the order of their slots.
@@ -133,14 +150,14 @@ impl<E: SlotEntry, const N: usize> SlotTable<E, N> {
     pub fn is_empty(&self) -> bool
         ensures { result ≡ (length self.now == 0) }
     {
-        self.entries.is_empty()
+        self.entries.len() == 0
     }
 
     /// Whether each slot has an entry.
     pub fn is_full(&self) -> bool
         ensures { result ≡ (length self.now == E.layout.slots) }
     {
-        self.entries.is_full()
+        self.entries.len() == N
     }
 
     /// The place of the entry with a key, by a binary search.
@@ -159,7 +176,7 @@ impl<E: SlotEntry, const N: usize> SlotTable<E, N> {
         requires { place < length self.now }
         ensures { slice_get self.now place ≡ Some result }
     {
-        self.entries[place]
+        self.entries.as_slice()[place]
     }
 
     /// The entry with a key, by a binary search.
@@ -230,7 +247,7 @@ impl<E: SlotEntry, const N: usize> SlotTable<E, N> {
         ensures table { self.new ≡ set self.old place entry }
         ensures kept { (records : Records) → IsStored E.layout self.old records → IsStored E.layout self.new records }
     {
-        overwrite(&mut self.entries, place, entry);
+        self.entries.set(place, entry);
     }
 
     // Reads the entries that the keeper's records give, where none is held yet.
@@ -273,22 +290,14 @@ impl<E: SlotEntry, const N: usize> SlotTable<E, N> {
         requires free { IsFree E.layout self.old place (E.layout.key entry) }
         ensures { self.new ≡ set self.old place entry }
     {
-        if self.entries[place].key() == entry.key() {
-            overwrite(&mut self.entries, place, entry);
+        if self.get(place).key() == entry.key() {
+            self.entries.set(place, entry);
             return;
         }
         let taken = self.order.remove(self.entries.as_slice(), place);
-        overwrite(&mut self.entries, place, entry);
+        self.entries.set(place, entry);
         self.order.insert(self.entries.as_slice(), taken);
     }
-}
-
-// Writes an entry over another one.
-fn overwrite<E: SlotEntry, const N: usize>(entries: &mut ArrayVec<E, N>, place: usize, entry: E)
-    requires { place < length entries.old.items }
-    ensures { entries.new.items ≡ set entries.old.items place entry }
-{
-    entries[place] = entry;
 }
 
 // Stores an entry at a place.

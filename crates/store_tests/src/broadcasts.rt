@@ -1,7 +1,8 @@
 //! Which records of broadcasts have a reading.
 use broadcast_log::BroadcastLog;
-use plc_base::{Keeper, MemKeeper, Record, Short};
+use plc_base::{BadStore, Keeper, MemKeeper, Record, Short};
 use std::test::Fail;
+use store_tables::OpenFault;
 
 // A record at the slot of the limit, and the next number that it gives, if it has a reading.
 const LIMITS: [(&[u8], Option<u32>); 5] = [
@@ -17,10 +18,10 @@ fn a_limit_has_four_octets(rt: HostRuntime) -> Result<(), Fail> {
     for (octets, want) in LIMITS {
         let mut keeper = MemKeeper::new(rt.alloc())?;
         assert!(rt; keeper.put(6, &Record::from_octets(octets)).is_ok());
-        let next = match BroadcastLog::open(&keeper) {
+        let next = match BroadcastLog::open(rt.alloc(), &keeper) {
             Ok(log) => Some(4_294_967_295 - log.number_left()),
-            Err(bad) => {
-                assert_eq!(rt; bad.slot, 6);
+            Err(fault) => {
+                assert_eq!(rt; fault, OpenFault::BadStore(BadStore { slot: 6 }));
                 None
             }
         };
@@ -46,14 +47,15 @@ fn an_origin_has_an_address_and_a_mark(rt: HostRuntime) -> Result<(), Fail> {
         let mut keeper = MemKeeper::new(rt.alloc())?;
         assert!(rt; keeper.put(0x0300, &Record::from_octets(first)).is_ok());
         assert!(rt; keeper.put(0x0301, &Record::from_octets(second)).is_ok());
-        let bad = match BroadcastLog::open(&keeper) {
+        let bad = match BroadcastLog::open(rt.alloc(), &keeper) {
             Ok(log) => {
                 assert_eq!(rt; log.origins().len(), 2);
                 let second = Short::new(2).ok_or("no address")?;
                 assert_eq!(rt; log.mark(second), Some(9));
                 None
             }
-            Err(bad) => Some(bad.slot),
+            Err(OpenFault::BadStore(bad)) => Some(bad.slot),
+            Err(OpenFault::Memory) => return Err("no memory".into()),
         };
         assert_eq!(rt; bad, want, "{first:?} {second:?}");
     }

@@ -2,6 +2,7 @@
 use frame_counters::{PeerMarks, SendCounter};
 use plc_base::{Keeper, MemKeeper, Record, Short};
 use std::test::Fail;
+use store_tables::OpenFault;
 
 // A record at the slot of the limit, and the next counter that it gives, if it has a reading.
 const LIMITS: [(&[u8], Option<u32>); 5] = [
@@ -47,14 +48,15 @@ fn a_peer_has_an_address_and_a_mark(rt: HostRuntime) -> Result<(), Fail> {
         let mut keeper = MemKeeper::new(rt.alloc())?;
         assert!(rt; keeper.put(0x0100, &Record::from_octets(first)).is_ok());
         assert!(rt; keeper.put(0x0101, &Record::from_octets(second)).is_ok());
-        let bad = match PeerMarks::open(&keeper) {
+        let bad = match PeerMarks::open(rt.alloc(), &keeper) {
             Ok(marks) => {
                 assert_eq!(rt; marks.senders().len(), 2);
                 let second = Short::new(2).ok_or("no address")?;
                 assert_eq!(rt; marks.mark(second), Some(9));
                 None
             }
-            Err(bad) => Some(bad.slot),
+            Err(OpenFault::BadStore(bad)) => Some(bad.slot),
+            Err(OpenFault::Memory) => return Err("no memory".into()),
         };
         assert_eq!(rt; bad, want, "{first:?} {second:?}");
     }
@@ -65,7 +67,7 @@ fn a_peer_has_an_address_and_a_mark(rt: HostRuntime) -> Result<(), Fail> {
 fn a_table_ends_at_the_first_empty_slot(rt: HostRuntime) -> Result<(), Fail> {
     let mut keeper = MemKeeper::new(rt.alloc())?;
     assert!(rt; keeper.put(0x0101, &Record::from_octets(&[7])).is_ok());
-    let marks = PeerMarks::open(&keeper)?;
+    let marks = PeerMarks::open(rt.alloc(), &keeper)?;
     assert_eq!(rt; marks.senders().len(), 0);
     Ok(())
 }

@@ -2,6 +2,7 @@
 use group_keys::{KeyBook, KeyRing};
 use plc_base::{Eui, Keeper, KeyIndex, MemKeeper, Record};
 use std::test::Fail;
+use store_tables::OpenFault;
 
 // The record of a ring: joined, address, active index, and the flags and first octets of the two keys.
 fn ring_octets(head: [u8; 4], first: [u8; 2], second: [u8; 2]) -> [u8; 38] {
@@ -100,7 +101,7 @@ fn an_entry_has_a_reading(rt: HostRuntime) -> Result<(), Fail> {
         let two = entry_octets(eui, address, allowed, first, second);
         assert!(rt; keeper.put(0x1000, &Record::from_octets(&one)).is_ok());
         assert!(rt; keeper.put(0x1001, &Record::from_octets(&two)).is_ok());
-        match KeyBook::open(&keeper) {
+        match KeyBook::open(rt.alloc(), &keeper) {
             Ok(book) => {
                 assert_eq!(rt; want, None);
                 let eight = Eui([0, 0, 0, 0, 0, 0, 0, 8]);
@@ -111,11 +112,12 @@ fn an_entry_has_a_reading(rt: HostRuntime) -> Result<(), Fail> {
                     second[0] == 1
                 );
             }
-            Err(bad) => assert_eq!(rt; Some(bad.slot), want),
+            Err(OpenFault::BadStore(bad)) => assert_eq!(rt; Some(bad.slot), want),
+            Err(OpenFault::Memory) => return Err("no memory".into()),
         }
     }
     let mut keeper = MemKeeper::new(rt.alloc())?;
     assert!(rt; keeper.put(0x1000, &Record::from_octets(&[0; 60])).is_ok());
-    assert!(rt; KeyBook::open(&keeper).is_err());
+    assert!(rt; KeyBook::open(rt.alloc(), &keeper).is_err());
     Ok(())
 }

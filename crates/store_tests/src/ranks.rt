@@ -1,8 +1,10 @@
 //! Which records of ranks, floors and own numbers have a reading.
-use plc_base::{Keeper, MemKeeper, Record, Short};
+use plc_base::{BadStore, Keeper, MemKeeper, Record, Short};
 use routing_set::{OwnNumber, RoutingSet};
+use std::alloc::Global;
 use std::process::Abort;
 use std::test::Fail;
+use store_tables::OpenFault;
 
 // A record at the slot of the own number's limit, and the last number that it gives, if it has a reading.
 const LIMITS: [(&[u8], Option<u16>); 5] = [
@@ -42,8 +44,8 @@ const RANKS: [(&[u8], &[u8], Option<u32>); 7] = [
 ];
 
 // The slot of the record that has no reading.
-fn bad_slot(rt: &impl Abort, keeper: &MemKeeper) -> Result<Option<u32>, Fail> {
-    match RoutingSet::open(keeper) {
+fn bad_slot(rt: &impl Abort, alloc: Global, keeper: &MemKeeper) -> Result<Option<u32>, Fail> {
+    match RoutingSet::open(alloc, keeper) {
         Ok(routes) => {
             let two = Short::new(2).ok_or("no address")?;
             assert_eq!(rt; routes.kept().len(), 2);
@@ -51,7 +53,8 @@ fn bad_slot(rt: &impl Abort, keeper: &MemKeeper) -> Result<Option<u32>, Fail> {
             assert_eq!(rt; routes.route(two), None);
             Ok(None)
         }
-        Err(bad) => Ok(Some(bad.slot)),
+        Err(OpenFault::BadStore(bad)) => Ok(Some(bad.slot)),
+        Err(OpenFault::Memory) => Err("no memory".into()),
     }
 }
 
@@ -61,7 +64,11 @@ fn a_rank_has_an_address_and_a_number(rt: HostRuntime) -> Result<(), Fail> {
         let mut keeper = MemKeeper::new(rt.alloc())?;
         assert!(rt; keeper.put(0x0200, &Record::from_octets(first)).is_ok());
         assert!(rt; keeper.put(0x0201, &Record::from_octets(second)).is_ok());
-        assert_eq!(rt; bad_slot(&rt, &keeper)?, want, "{first:?} {second:?}");
+        assert_eq!(rt;
+            bad_slot(&rt, rt.alloc(), &keeper)?,
+            want,
+            "{first:?} {second:?}"
+        );
     }
     Ok(())
 }
@@ -73,16 +80,16 @@ fn floors_have_thirty_two_octets(rt: HostRuntime) -> Result<(), Fail> {
     octets[30] = 1;
     let mut keeper = MemKeeper::new(rt.alloc())?;
     assert!(rt; keeper.put(5, &Record::from_octets(&octets)).is_ok());
-    let routes = RoutingSet::open(&keeper)?;
+    let routes = RoutingSet::open(rt.alloc(), &keeper)?;
     assert_eq!(rt; routes.floor(0), 0);
     assert_eq!(rt; routes.floor(1), 5);
     assert_eq!(rt; routes.floor(15), 256);
     let thirty_one = Short::new(31).ok_or("no address")?;
     assert_eq!(rt; routes.held(thirty_one).number, 256);
     assert!(rt; keeper.put(5, &Record::from_octets(&octets[1..])).is_ok());
-    match RoutingSet::open(&keeper) {
+    match RoutingSet::open(rt.alloc(), &keeper) {
         Ok(_) => assert!(rt; false),
-        Err(bad) => assert_eq!(rt; bad.slot, 5),
+        Err(fault) => assert_eq!(rt; fault, OpenFault::BadStore(BadStore { slot: 5 })),
     }
     Ok(())
 }

@@ -4,6 +4,7 @@ ghost use Rattle.std.specs.Prelude.{◌≤◌};
 use anyhow::Context;
 use group_keys::{BookEntry, KeyBook};
 use plc_base::{Eui, Keeper, Key, MemKeeper};
+use std::alloc::Global;
 use store_tables::SlotEntry;
 
 /// How many meters a book has room for.
@@ -42,8 +43,8 @@ fn store_entries(keeper: &mut MemKeeper, count: u32) -> u32
 }
 
 #[inline(never)]
-fn open(keeper: &MemKeeper) -> Option<KeyBook> {
-    KeyBook::open(keeper).ok()
+fn open(alloc: Global, keeper: &MemKeeper) -> Option<KeyBook> {
+    KeyBook::open(alloc, keeper).ok()
 }
 
 // Looks each of the first `count` meters up once, and answers how many are known.
@@ -63,7 +64,7 @@ fn look_up(book: &KeyBook, count: u32) -> u32 {
 pub fn run(rt: &HostRuntime, count: u32) -> anyhow::Result<()> {
     let mut keeper = MemKeeper::new(rt.alloc())?;
     let count = store_entries(&mut keeper, count.min(METERS));
-    let book = open(&keeper).context("the book has no reading")?;
+    let book = open(rt.alloc(), &keeper).context("the book has no reading")?;
     println!(rt; "book {} {}", book.entries().len(), look_up(&book, count))?;
     Ok(())
 }

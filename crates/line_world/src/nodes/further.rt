@@ -1,13 +1,14 @@
 //! What the nodes of a line do about acknowledgements, broadcasts, beacons and path requests.
 ghost use Rattle.std.specs.Prelude.{◌≡◌, ◌<◌, ◌≤◌, ◌+◌, length, Ok, Err, IfSome, IsSome, Some, None, if◌then◌else◌, is_some, not, slice_get};
 ghost use Rattle.std.specs.Option.{option_and_then, option_map};
-ghost use Rattle.broadcast_log.specs.Log as logs;
 ghost use Rattle.node_rules.specs.MemoryDrafts.{in_memory};
 ghost use Rattle.node_rules.specs.NodeSteps.{acts};
+ghost use Rattle.store_tables.specs.SlotTables.{read_into};
 ghost use Rattle.reach_rules.specs.Beacons.{cost_to_coordinator};
 ghost use Rattle.reach_rules.specs.Broadcasts as broadcast_rules;
 ghost use Rattle.reach_rules.specs.CheckedReplies.{acknowledges};
 ghost use Rattle.reach_rules.specs.PathAsking.{ask_path};
+ghost use Rattle.reach_rules.specs.ReachingNodes.{restarted};
 ghost use Rattle.line_world.specs.Reaching.{DidAfter, IsLogOf, Reached, ReachedCommand, ReachedFirst, ReportsCommand, TookAlone, TookCommand, TookFirst};
 ghost use Rattle.line_world.specs.Reaching.{command_of};
 ghost use Rattle.line_rules.specs.Further.{reaches};
@@ -23,7 +24,6 @@ use crate::nodes::line_coordinator::LineCoordinator;
 use crate::nodes::meters::Meters;
 use crate::nodes::station_broadcasts::broadcast_at;
 use crate::nodes::station_further::{acknowledge_at, ask_at, hear_command_at};
-use broadcast_log::BroadcastLog;
 use line_events::Answer;
 use node_rules::{LocalRefusal, Reply};
 use plc_base::{BadStore, FrameBuf, Out, Short};
@@ -74,12 +74,12 @@ impl LineCoordinator {
         own_cost(self.coordinator.station().halted())
     }
 
-    /// The log that its store gives.
-    pub fn open_log(&mut self) -> Result<BroadcastLog, BadStore>
-        ensures value { result ≡ logs.opened self.old.store.records }
+    /// Of what it holds beside its memory the log alone is left, as its store gives it.
+    pub fn reload_beside(&mut self, beside: &mut Beside) -> Result<(), BadStore>
+        ensures value { read_into result beside.new ≡ restarted self.old.store.records }
         ensures same { self.new ≡ self.old }
     {
-        BroadcastLog::open(self.coordinator.station().keeper_mut())
+        beside.reload(self.coordinator.station().keeper_mut())
     }
 
     /// It sends a datagram to all.
@@ -162,13 +162,13 @@ impl Meters {
         cost_of(self.meters[place].station().valid(coordinator()))
     }
 
-    /// The log that a meter's store gives.
-    pub fn open_log(&mut self, place: usize) -> Result<BroadcastLog, BadStore>
+    /// Of what a meter holds beside its memory the log alone is left, as its store gives it.
+    pub fn reload_beside(&mut self, place: usize, beside: &mut Beside) -> Result<(), BadStore>
         requires there { place < length self.old }
-        ensures value { IfSome (slice_get self.old place) (λ x. result ≡ logs.opened x.store.records) }
+        ensures value { IfSome (slice_get self.old place) (λ x. read_into result beside.new ≡ restarted x.store.records) }
         ensures same { self.new ≡ self.old }
     {
-        BroadcastLog::open(self.meters[place].station().keeper_mut())
+        beside.reload(self.meters[place].station().keeper_mut())
     }
 
     /// A meter sends a datagram to all.
@@ -286,19 +286,19 @@ impl Nodes {
         coordinator.cost_to_coordinator()
     }
 
-    /// The log of broadcasts that a node's store gives.
-    pub fn open_log(&mut self, number: usize) -> Result<BroadcastLog, BadStore>
+    /// Of what a node holds beside its memory the log of broadcasts alone is left, as its store gives it. It takes no memory.
+    pub fn reload_beside(&mut self, number: usize, beside: &mut Beside) -> Result<(), BadStore>
         requires there { number < length self.old }
-        ensures value { IfSome (slice_get self.old number) (λ x. result ≡ logs.opened x.store.records) }
+        ensures value { IfSome (slice_get self.old number) (λ x. read_into result beside.new ≡ restarted x.store.records) }
         ensures same { self.new ≡ self.old }
     {
         if number > 0 {
-            return self.meters.open_log(number - 1);
+            return self.meters.reload_beside(number - 1, beside);
         }
         let Some(coordinator) = &mut self.coordinator else {
-            return Ok(BroadcastLog::new());
+            return Ok(());
         };
-        coordinator.open_log()
+        coordinator.reload_beside(beside)
     }
 
     /// A node sends a datagram to all. `buffer` is overwritten, and what goes out is in `out`.

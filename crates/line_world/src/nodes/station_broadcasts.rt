@@ -59,7 +59,7 @@ fn take_number(station: &mut Station<MemKeeper>, log: &mut BroadcastLog) -> Opti
 {
     let Ok(number) = log.next(station.keeper_mut()) else {
         station.halt();
-        *log = BroadcastLog::new();
+        log.clear();
         return None;
     };
     Some(number)
@@ -211,7 +211,7 @@ fn keep_mark(
         .is_err()
     {
         station.halt();
-        *log = BroadcastLog::new();
+        log.clear();
         return false;
     }
     true

@@ -40,7 +40,7 @@ fn forget_if_halted(station: &Station<MemKeeper>, log: &mut BroadcastLog)
     ensures { log.new ≡ (if is_some station.now.memory then log.old else empty_log) }
 {
     if station.halted() {
-        *log = BroadcastLog::new();
+        log.clear();
     }
 }
 

@@ -15,9 +15,9 @@ mod on_a_board {
     use firmware::{Driver, Flash, Modem, Trouble};
     use plc_base::{Eui, Key, LinkCost, Rand, Short};
 
-    /// What a meter takes at its opening, and no more: a pool of 160 blocks and its table.
+    /// What a meter takes at its opening, and no more: a pool of 160 blocks and its table, 64 ranks with their routes, 64 marks.
     #[global_allocator]
-    static HEAP: Heap<1536> = Heap::new();
+    static HEAP: Heap<1920> = Heap::new();
 
     /// What happened.
     #[repr(C)]

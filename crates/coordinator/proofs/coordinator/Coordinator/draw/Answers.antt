@@ -5,7 +5,7 @@ use Rattle.node_rules.specs.Drafts.{empty_draft, with_ring}
 use Rattle.node_rules.specs.Coordinators.{orders}
 use Rattle.node_rules.specs.Carrying.{nothing}
 use Rattle.plc_station.proofs.Carrying.{at_some}
-use Rattle.plc_station.proofs.Commanding.{message_done, message_failed}
+use Rattle.coordinator.proofs.OtherWords.{done_as, failed_as}
 use Rattle.coordinator.specs.CoordinatorStates.{memory_in}
 use Rattle.coordinator.proofs.Storing.{on_parts, by_some, carried_by}
 use Rattle.coordinator.proofs.Parts.{part_runs, part_agrees, part_joined, part_home, part_book}
@@ -31,7 +31,7 @@ returns-in_default-clause-carries g c =
     carried_by _ _ _ _ _ _ (ring_plan (memory_in c.self.inside.randoms c.self.inside.sessions c.self.inside.book l)
     (with_key l.ring c.args.index c.args.key.now))
     (within_carried (memory_in c.self.inside.randoms c.self.inside.sessions c.self.inside.book) (λ a. a) c.self.inside.station _ _ _ nothing
-    (message_failed ringing_ends orders _ _ (with_ring (with_key l.ring c.args.index c.args.key.now) (empty_draft l)) _ tt nothing
+    (failed_as ringing_ends orders _ _ (with_ring (with_key l.ring c.args.index c.args.key.now) (empty_draft l)) _ tt nothing
     (at_some c.self.inside.station.memory _ l running c.in_default.ensures.carries)))))
 
 pub returns-clause-carries : goal.returns-clause-carries
@@ -40,7 +40,7 @@ returns-clause-carries g c =
     carried_by _ _ _ _ _ _ (ring_plan (memory_in c.self.inside.randoms c.self.inside.sessions c.self.inside.book l)
     (with_key l.ring c.args.index c.args.key.now))
     (within_carried (memory_in c.self.inside.randoms c.self.inside.sessions c.self.inside.book) (λ a. a) c.self.inside.station _ _ _ nothing
-    (message_done ringing_ends orders _ _ (with_ring (with_key l.ring c.args.index c.args.key.now) (empty_draft l)) _ tt nothing
+    (done_as ringing_ends orders _ _ (with_ring (with_key l.ring c.args.index c.args.key.now) (empty_draft l)) _ tt nothing
     (at_some c.self.inside.station.memory _ l running c.in-Ok.ensures.carries)))))
 
 pub returns-in_default-clause-holds : goal.returns-in_default-clause-holds

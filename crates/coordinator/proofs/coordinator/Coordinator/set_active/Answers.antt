@@ -6,7 +6,7 @@ use Rattle.node_rules.specs.Drafts.{empty_draft, with_ring}
 use Rattle.node_rules.specs.Coordinators.{orders}
 use Rattle.node_rules.specs.Carrying.{nothing}
 use Rattle.plc_station.proofs.Carrying.{at_some}
-use Rattle.plc_station.proofs.Commanding.{message_done, message_failed}
+use Rattle.coordinator.proofs.OtherWords.{done_as, failed_as}
 use Rattle.plc_station.proofs.Ending.{carried_by as station_by}
 use Rattle.coordinator.specs.CoordinatorStates.{memory_in}
 use Rattle.coordinator.proofs.Storing.{on_parts, by_some, carried_by}
@@ -31,7 +31,7 @@ returns-in_default-clause-carries g c =
     rw (← c.self.view_is) (on_parts c.self.inside.station.memory _ _ (λ l running.
     carried_by _ _ _ _ _ _ (ring_plan (memory_in c.self.inside.randoms c.self.inside.sessions c.self.inside.book l) (with_active l.ring c.args.index))
     (within_carried (memory_in c.self.inside.randoms c.self.inside.sessions c.self.inside.book) (λ a. a) c.self.inside.station _ _ _ nothing
-    (message_failed ringing_ends orders _ _ (with_ring (with_active l.ring c.args.index) (empty_draft l)) _ tt nothing
+    (failed_as ringing_ends orders _ _ (with_ring (with_active l.ring c.args.index) (empty_draft l)) _ tt nothing
     (station_by c.self.inside.station _ _ _ _ nothing (active_plan l c.args.index
     (at_some _ _ (memory_in c.self.inside.randoms c.self.inside.sessions c.self.inside.book l)
     (ap (option_map (memory_in c.self.inside.randoms c.self.inside.sessions c.self.inside.book)) running) (rw (← c.self.view_is) at c.requires.held)))
@@ -42,7 +42,7 @@ returns-clause-carries g c =
     rw (← c.self.view_is) (on_parts c.self.inside.station.memory _ _ (λ l running.
     carried_by _ _ _ _ _ _ (ring_plan (memory_in c.self.inside.randoms c.self.inside.sessions c.self.inside.book l) (with_active l.ring c.args.index))
     (within_carried (memory_in c.self.inside.randoms c.self.inside.sessions c.self.inside.book) (λ a. a) c.self.inside.station _ _ _ nothing
-    (message_done ringing_ends orders _ _ (with_ring (with_active l.ring c.args.index) (empty_draft l)) _ tt nothing
+    (done_as ringing_ends orders _ _ (with_ring (with_active l.ring c.args.index) (empty_draft l)) _ tt nothing
     (station_by c.self.inside.station _ _ _ _ nothing (active_plan l c.args.index
     (at_some _ _ (memory_in c.self.inside.randoms c.self.inside.sessions c.self.inside.book l)
     (ap (option_map (memory_in c.self.inside.randoms c.self.inside.sessions c.self.inside.book)) running) (rw (← c.self.view_is) at c.requires.held)))

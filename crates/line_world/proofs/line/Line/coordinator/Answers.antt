@@ -3,7 +3,6 @@ use Rattle.std.specs.Prelude.{is_ok}
 use Rattle.std.proofs.Common.{ap, ◌∙◌, refl, [], ◌∷◌, ◌++◌}
 use Rattle.line_events.specs.declared.event.StepFault.TheVariants as faults
 use Rattle.line_events.specs.declared.event.Answer.TheVariants as answers
-use Rattle.reach_rules.specs.ReachingNodes.{nothing_beside}
 use Rattle.line_rules.specs.Worlds.{World}
 use Rattle.line_rules.specs.Steps.{happenings, set_up}
 use Rattle.line_world.specs.declared.line.Line.{Line}
@@ -17,6 +16,12 @@ returns-then-has_begun c = refused faults.Setup refl _ _ _ c.requires.bounds (ha
 
 pub returns-then-is_err : goal.returns-then-is_err
 returns-then-is_err c =
+    let w = world_of c.args.self.now in
+    out_of_memory w _ _ c.requires.bounds (λ i. record w { beside = c.reserve.ensures.items i })
+    (ap is_ok (makes_first w c.args.eui c.args.key.now c.if-has_begun.ensures))
+
+pub returns-in_default : goal.returns-in_default
+returns-in_default c =
     let w = world_of c.args.self.now in
     out_of_memory w _ _ c.requires.bounds (λ i. record w { beside = c.reserve.ensures.items i })
     (ap is_ok (makes_first w c.args.eui c.args.key.now c.if-has_begun.ensures))
@@ -36,4 +41,4 @@ returns c =
     (c.happenings.ensures ∙ ap (λ (l : Line). happenings (world_of l) answers.Made) c.set_up.ensures
     ∙ ap (λ (v : World). happenings v answers.Made) c.hold_beside.ensures)
     (ap world_of c.set_up.ensures ∙ ap (λ (v : World). set_up v) c.hold_beside.ensures
-    ∙ (λ i. record (set_up w) { nodes = c.make_coordinator.new.self; beside = c.reserve.ensures.items i ++ nothing_beside ∷ [] }))
+    ∙ (λ i. record (set_up w) { nodes = c.make_coordinator.new.self; beside = c.reserve.ensures.items i ++ c.in-Ok.ensures i ∷ [] }))

@@ -3,7 +3,6 @@ use Rattle.std.specs.Prelude.{is_ok}
 use Rattle.std.proofs.Common.{◌<◌, ◌≤◌, length, ap, ◌∙◌, arith, refl, [], ◌∷◌, ◌++◌}
 use Rattle.line_events.specs.declared.event.StepFault.TheVariants as faults
 use Rattle.line_events.specs.declared.event.Answer.TheVariants as answers
-use Rattle.reach_rules.specs.ReachingNodes.{nothing_beside}
 use Rattle.line_rules.specs.Worlds.{World}
 use Rattle.line_rules.specs.Steps.{happenings, set_up}
 use Rattle.line_world.specs.declared.line.Line.{Line}
@@ -34,6 +33,13 @@ returns-then-is_err c =
     out_of_memory w _ _ c.requires.bounds (λ i. record w { beside = c.reserve.ensures.items i })
     (ap is_ok (makes_meter w c.args.eui c.args.psk c.if-not-takes_setup.ensures room c.if-has.ensures))
 
+pub returns-in_default : goal.returns-in_default
+returns-in_default c =
+    let w = world_of c.args.self.now in
+    let room : length w.nodes < 1000 = omega (arith, c.if-len-ge-MAX_NODES.false, c.len.ensures) in
+    out_of_memory w _ _ c.requires.bounds (λ i. record w { beside = c.reserve.ensures.items i })
+    (ap is_ok (makes_meter w c.args.eui c.args.psk c.if-not-takes_setup.ensures room c.if-has.ensures))
+
 pub returns-then-is_err-2 : goal.returns-then-is_err-2
 returns-then-is_err-2 c =
     let w = world_of c.args.self.now in
@@ -51,4 +57,4 @@ returns c =
     (c.happenings.ensures ∙ ap (λ (l : Line). happenings (world_of l) answers.Made) c.set_up.ensures
     ∙ ap (λ (v : World). happenings v answers.Made) c.hold_beside.ensures)
     (ap world_of c.set_up.ensures ∙ ap (λ (v : World). set_up v) c.hold_beside.ensures
-    ∙ (λ i. record (set_up w) { nodes = c.make_meter.new.self; beside = c.reserve.ensures.items i ++ nothing_beside ∷ [] }))
+    ∙ (λ i. record (set_up w) { nodes = c.make_meter.new.self; beside = c.reserve.ensures.items i ++ c.in-Ok.ensures i ∷ [] }))

@@ -15,8 +15,8 @@ pub returns-clause-agrees : goal.returns-clause-agrees
 returns-clause-agrees g c = λ m r.
     let same : c.args.self.now.store.records
     ≡ (g.K.Keeper.store c.self.inside.keeper).records = sym (ap (λ (s : State StationMemory). s.store.records) c.self.view_is) in
-    subst (λ (h : Held). AgreesWith (station_in c.in_ok-self-inside.field-0 h) (g.K.Keeper.store c.self.inside.keeper).records) (sym c.clear.ensures)
-    (c.in_ok-self-inside.ensures.agrees (subst (λ (k : Records). IsGapless peers k) same m) (subst (λ (k : Records). IsGapless ranks k) same r))
+    subst (λ (h : Held). AgreesWith (station_in c.reload.new.self h) (g.K.Keeper.store c.self.inside.keeper).records) (sym c.clear.ensures)
+    (c.in_ok-reload.ensures.agrees (subst (λ (k : Records). IsGapless peers k) same m) (subst (λ (k : Records). IsGapless ranks k) same r))
 
 pub returns-clause-again : goal.returns-clause-again
 returns-clause-again g c = λ running before.

@@ -11,10 +11,10 @@ returns-then-rank-len g c =
     let table = c.args.entries.now in
     let keys = keys_of layout table in
     let len = length-map table layout.key in
-    let places : length c.self.inside.places.items ≡ length c.args.self.now = ap length c.self.view_is in
+    let places : length c.self.inside.places ≡ length c.args.self.now = ap length c.self.view_is in
     sym (place_none layout table c.args.key
     (λ q lt. unranked keys c.args.self.now c.args.key c.rank-rank.result c.requires.order c.rank-rank.ensures
-    (λ within. absurd (omega (arith, c.len.ensures.value))) q (omega arith)))
+    (λ within. absurd (omega (arith, c.len.ensures))) q (omega arith)))
 
 pub returns-then-key_of-key : goal.returns-then-key_of-key
 returns-then-key_of-key g c =
@@ -22,7 +22,7 @@ returns-then-key_of-key g c =
     let table = c.args.entries.now in
     let keys = keys_of layout table in
     let len = length-map table layout.key in
-    let place = ap (λ (ps : List ℕ). slice_index ps c.rank-rank.result) (c.deref.ensures.0 ∙ c.self.view_is) in
+    let place = ap (λ (ps : List ℕ). slice_index ps c.rank-rank.result) (c.as_slice.ensures ∙ c.self.view_is) in
     sym (place_none layout table c.args.key
     (λ q lt. unranked keys c.args.self.now c.args.key c.rank-rank.result c.requires.order c.rank-rank.ensures
     (λ within same. c.if-key_of-key.true (c.key_of.ensures ∙ ap (slice_index keys) place ∙ same)) q (omega arith)))
@@ -33,8 +33,8 @@ returns g c =
     let table = c.args.entries.now in
     let keys = keys_of layout table in
     let len = length-map table layout.key in
-    let place = ap (λ (ps : List ℕ). slice_index ps c.rank-rank.result) (c.deref.ensures.0 ∙ c.self.view_is) in
-    let places : length c.self.inside.places.items ≡ length c.args.self.now = ap length c.self.view_is in
-    let inside = c.requires.order.rising.within c.rank-rank.result 0 (omega (arith, c.len.ensures.value)) in
+    let place = ap (λ (ps : List ℕ). slice_index ps c.rank-rank.result) (c.as_slice.ensures ∙ c.self.view_is) in
+    let places : length c.self.inside.places ≡ length c.args.self.now = ap length c.self.view_is in
+    let inside = c.requires.order.rising.within c.rank-rank.result 0 (omega (arith, c.len.ensures)) in
     ap (λ (p : ℕ). Some p) place ∙ sym (place_is layout table c.args.key (slice_index c.args.self.now c.rank-rank.result) c.requires.table (omega arith)
     (ap (slice_index keys) (sym place) ∙ sym c.key_of.ensures ∙ c.if-key_of-key.false))

@@ -13,7 +13,7 @@ returns g c =
     let keys = keys_of layout table in
     let len = length-map table layout.key in
     rw c.insert.ensures.items
-    (inserted keys c.self.inside.places.items c.args.place c.rank-rank.result
+    (inserted keys c.self.inside.places c.args.place c.rank-rank.result
     (subst (λ (ps : List ℕ). LacksOne keys ps c.args.place) (sym c.self.view_is) c.requires.lacks) (differ layout table c.requires.table)
     (omega (arith, c.requires.within))
     (subst (λ (ps : List ℕ). IsRank keys ps (slice_index keys c.args.place) c.rank-rank.result) (sym c.self.view_is)

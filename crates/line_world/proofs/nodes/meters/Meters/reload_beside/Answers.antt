@@ -1,22 +1,24 @@
--- The log that the store of a meter gives.
+-- What the store of a meter leaves beside its memory.
 use Rattle.std.proofs.Common.{◌≡◌, ap, ◌∙◌}
 use Rattle.std.proofs.lemmas.List.Elements.{All-set}
 use Rattle.plc_base.specs.Keeper.{Store}
-use Rattle.broadcast_log.specs.Log as logs
 use Rattle.node_rules.specs.Memory.{Node, StationMemory}
 use Rattle.node_rules.specs.States.{State}
+use Rattle.reach_rules.specs.ReachingNodes.{restarted}
+use Rattle.store_tables.specs.SlotTables.{read_into}
 use Rattle.line_world.specs.Soundness.{IsSoundMeter}
 use Rattle.line_world.proofs.LentReaches.{keeper_back}
 use Rattle.line_world.proofs.LentStations.{over}
 use Rattle.line_world.proofs.MeterActing.{sound_back, unchanged}
 use Rattle.line_world.proofs.Places.{found_at, same_at, sound_at}
-use Rattle.line_world.proofs.nodes.meters.Meters.open_log.Goals as goal
+use Rattle.line_world.proofs.nodes.meters.Meters.reload_beside.Goals as goal
 
 pub returns-clause-value : goal.returns-clause-value
 returns-clause-value c =
-    found_at c.self.inside.meters.items _ c.args.place c.index_mut.result.now (λ (n : Node). c.open.result ≡ logs.opened n.store.records) c.self.view_is
+    found_at c.self.inside.meters.items _ c.args.place c.index_mut.result.now
+    (λ (n : Node). read_into c.reload.result c.reload.new.self ≡ restarted n.store.records) c.self.view_is
     c.requires.there c.index_mut.ensures.value
-    (c.open.ensures.log ∙ ap (λ (s : Store). logs.opened s.records)
+    (c.reload.ensures ∙ ap (λ (s : Store). restarted s.records)
     (c.keeper_mut.ensures.value ∙ ap (λ (s : State StationMemory). s.store) c.station.ensures.value))
 
 pub returns-clause-same : goal.returns-clause-same

@@ -1,21 +1,21 @@
--- The log that the store of the coordinator gives.
+-- What the store of the coordinator leaves beside its memory.
 use Rattle.std.proofs.Common.{ap, ◌∙◌}
 use Rattle.plc_base.specs.Keeper.{Store}
-use Rattle.broadcast_log.specs.Log as logs
 use Rattle.coordinator.specs.CoordinatorStates.{CoordinatorState}
 use Rattle.node_rules.specs.Memory.{Node, StationMemory}
 use Rattle.node_rules.specs.States.{State}
+use Rattle.reach_rules.specs.ReachingNodes.{restarted}
 use Rattle.line_world.specs.Nodes.{of_coordinator}
 use Rattle.line_world.proofs.CoordinatorActing.{sound_back, unchanged}
 use Rattle.line_world.proofs.LentReaches.{keeper_back}
 use Rattle.line_world.proofs.LentStations.{over}
-use Rattle.line_world.proofs.nodes.line_coordinator.LineCoordinator.open_log.Goals as goal
+use Rattle.line_world.proofs.nodes.line_coordinator.LineCoordinator.reload_beside.Goals as goal
 
 pub returns-clause-value : goal.returns-clause-value
 returns-clause-value c =
-    c.open.ensures.log ∙ ap (λ (s : Store). logs.opened s.records)
+    c.reload.ensures ∙ ap (λ (s : Store). restarted s.records)
     (c.keeper_mut.ensures.value ∙ ap (λ (s : State StationMemory). s.store) c.station.ensures.value)
-    ∙ ap (λ (n : Node). logs.opened n.store.records) c.self.view_is
+    ∙ ap (λ (n : Node). restarted n.store.records) c.self.view_is
 
 pub returns-clause-same : goal.returns-clause-same
 returns-clause-same c =
