@@ -1,6 +1,6 @@
 -- What a run over the driver is as a replay.
 use Rattle.std.proofs.Common.{◌≡◌, ℕ, ◌+◌, ◌<◌, Bool, true, false, List, [], ◌∷◌, ◌++◌, nat_lt, if◌then◌else◌, Ok, Err, refl, sym, ◌∙◌, ap, subst, append_assoc}
-use Rattle.std.proofs.Common.{add-zero, arith}
+use Rattle.std.proofs.Common.{Option, add-zero, arith}
 use Rattle.std.proofs.lemmas.Bool.{ltb-true, ltb-false}
 use Rattle.std.proofs.lemmas.List.Elements.{All-nil, All-cons}
 use Rattle.script_lines.specs.Lines.{Content, Text, Long, TooMuch, Line, lines}
@@ -26,6 +26,7 @@ use Rattle.line_script.specs.Lines.{IsInRange}
 use Rattle.line_script.specs.Readings.{reading}
 use Rattle.line_script.proofs.Ranges.{reading_fits}
 use Rattle.line_replay.specs.Replay.{Taking, Skipped, Taken, Refused, step_taking, reading_taking, taking, Playing, entry_text, turn_by, turn_of, end_of}
+use Rattle.line_replay.specs.Replay.{BadLine, bad_by, first_bad_from, first_bad, EndsBy}
 use Rattle.line_replay.specs.Replay.{is_forged, outcome, report, entries_by, entries_from, entries, entries_text, last_by, last_from, last_text, forged_in}
 use Rattle.line_replay.specs.declared.status.Status.{Status}
 use Rattle.line_replay.specs.declared.status.Status.TheVariants as status
@@ -84,6 +85,24 @@ events_from (line ∷ ls) w = events_by w (taking w line.content) (λ next. entr
 -- the entries of a script are a run of the line
 pub entries_run : (octets : List ℕ) (ended : Bool) → IsLineRun network (entries octets ended)
 entries_run octets ended = record { events = events_from (lines octets ended) start; run = run_from (lines octets ended) start }
+
+-- ---- the first bad line
+
+ends_by : (ended : Bool) (w : World) (number : ℕ) (t : Taking) (more : World → Option BadLine) (rest : World → List ℕ)
+    → ((next : World) → EndsBy ended (more next) (rest next)) → EndsBy ended (bad_by w number t more) (last_by w number t rest)
+ends_by ended w number Skipped more rest all = all w
+ends_by ended w number (Taken x) more rest all = all x.after
+ends_by ended w number (Refused reason) more rest all = refl
+
+ends_from : (ls : List Line) (w : World) (ended : Bool) → EndsBy ended (first_bad_from w ls) (last_from w ls ended)
+ends_from [] w ended = (w, refl)
+ends_from (line ∷ ls) w ended =
+    ends_by ended w line.number (taking w line.content) (λ next. first_bad_from next ls) (λ next. last_from next ls ended)
+    (λ next. ends_from ls next ended)
+
+-- the last line of a report names the first bad line
+pub last_is : (octets : List ℕ) (ended : Bool) → EndsBy ended (first_bad octets ended) (last_text octets ended)
+last_is octets ended = ends_from (lines octets ended) start ended
 
 -- ---- the report by entries
 

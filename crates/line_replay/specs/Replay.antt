@@ -1,54 +1,17 @@
 -- What a script does, line by line, and its report.
-use Rattle.std.specs.Prelude.{ℕ, ◌+◌, ◌==◌, Bool, not, List, [], ◌∷◌, ◌++◌, codes, if◌then◌else◌, nat_eq, nat_lt, Ok, Err}
+use Rattle.std.specs.Prelude.{◌≡◌, ℕ, ◌+◌, ◌==◌, Bool, not, List, [], ◌∷◌, ◌++◌, Option, None, Some, codes, if◌then◌else◌, nat_eq, nat_lt}
 use Rattle.std.specs.List.{starts_with}
-use Rattle.script_lines.specs.Lines.{Content, Text, Long, TooMuch, Line, lines}
+use Rattle.script_lines.specs.Lines.{Content, TooMuch, Line, lines}
 use Rattle.script_lines.specs.Clauses.{IsStop}
 use Rattle.script_lines.specs.Outcomes.{Turn, Skips, Takes, Stops, Outcome, outcome as outcome_of}
-use Rattle.line_events.specs.declared.event.Event.{Event}
-use Rattle.line_events.specs.declared.event.StepFault.TheVariants as faults
-use Rattle.line_events.specs.declared.event.TheConstants.{MAX_EVENTS}
-use Rattle.node_rules.specs.Ciphers.{network}
 use Rattle.line_rules.specs.Worlds.{World, start}
-use Rattle.line_rules.specs.Steps.{Step}
-use Rattle.line_rules.specs.Further.{line_step}
 use Rattle.line_rules.specs.Runs.{Entry}
-use Rattle.line_script.specs.declared.reading.Reading.{Reading}
-use Rattle.line_script.specs.declared.reading.Reading.TheVariants.{Quiet, NoForm, Reads}
-use Rattle.line_script.specs.declared.report.Reason.{Reason}
-use Rattle.line_script.specs.declared.report.Reason.TheVariants as reasons
-use Rattle.line_script.specs.Readings.{reading}
 use Rattle.line_script.specs.Texts.{happened_text, bad_text, end_text}
+pub use Rattle.script_runs.specs.Takings.{Taking, Skipped, Taken, Refused, step_taking, event_taking, reading_taking}
+pub use Rattle.script_runs.specs.Takings.{entries_by, entries_from, entries}
+pub use Rattle.script_runs.specs.Takings.{BadLine, bad_by, first_bad_from, first_bad}
+unfoldable pub use Rattle.script_runs.specs.Takings.{taking}
 use Rattle.line_replay.specs.Texts.{sent_text, totals}
-
--- What a line does: nothing, or it is an event that is taken, or it is bad.
-pub data Taking : Type 0 where
-  Skipped : Taking
-  Taken : (entry : Entry) → Taking
-  Refused : (reason : Reason) → Taking
-
--- an event's step; that memory runs out is no step of the definition
-abbrev pub step_taking : World → Event → Step → Taking
-step_taking w event (Ok r) = Taken (record { number = w.events + 1; event = event; trace = r.1; after = r.0 })
-step_taking w event (Err faults.Setup) = Refused reasons.Setup
-step_taking w event (Err faults.Node) = Refused reasons.Node
-step_taking w event (Err faults.Flight) = Refused reasons.Flight
-step_taking w event (Err faults.Memory) = Skipped
-
--- an event, whose step is that of the network
-abbrev pub event_taking : World → Event → Taking
-event_taking w event =
-    if nat_lt w.events MAX_EVENTS then step_taking w event (line_step network w event) else Refused reasons.Events
-
-abbrev pub reading_taking : World → Reading → Taking
-reading_taking w Quiet = Skipped
-reading_taking w NoForm = Refused reasons.Form
-reading_taking w (Reads event) = event_taking w event
-
--- the reasons of a bad line, in their order
-unfoldable pub taking : World → Content → Taking
-taking w TooMuch = Refused reasons.Input
-taking w Long = Refused reasons.Long
-taking w (Text octets) = reading_taking w (reading octets)
 
 -- ---- the report
 
@@ -109,22 +72,6 @@ without_flights text = rest_without (not (is_fly text)) text
 abbrev pub is_forged : Playing → Bool
 is_forged p = nat_lt 0 p.world.forged
 
--- ---- the run
-
-abbrev pub entries_by : World → Taking → (World → List Entry) → List Entry
-entries_by w Skipped rest = rest w
-entries_by w (Taken entry) rest = entry ∷ rest entry.after
-entries_by w (Refused reason) rest = []
-
--- the entries of lines, up to the first bad one
-abbrev pub entries_from : World → List Line → List Entry
-entries_from w [] = []
-entries_from w (line ∷ lines) = entries_by w (taking w line.content) (λ next. entries_from next lines)
-
--- the run of a script
-abbrev pub entries : List ℕ → Bool → List Entry
-entries octets ended = entries_from start (lines octets ended)
-
 -- ---- the report by entries
 
 abbrev pub entries_text : Bool → List Entry → List ℕ
@@ -143,6 +90,11 @@ last_from w (line ∷ lines) ended = last_by w line.number (taking w line.conten
 
 abbrev pub last_text : List ℕ → Bool → List ℕ
 last_text octets ended = last_from start (lines octets ended) ended
+
+-- what the last line says, by the first bad line, where the input has ended or not
+abbrev pub EndsBy : Bool → Option BadLine → List ℕ → Type 0
+EndsBy ended None text = (w : World) × (text ≡ (if ended then end_text (totals w) else []))
+EndsBy ended (Some x) text = text ≡ bad_text x.number x.reason
 
 -- ---- forged events
 

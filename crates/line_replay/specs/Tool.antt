@@ -19,7 +19,7 @@ use Rattle.line_replay.specs.declared.tool.Command.TheVariants.{Replay, Show, Ve
 use Rattle.line_replay.specs.declared.status.Status.{Status}
 use Rattle.line_replay.specs.declared.status.Status.TheVariants as status
 use Rattle.line_replay.specs.Shown.{show_outcome}
-use Rattle.line_replay.specs.Replay.{is_forged, outcome, report, entries, entries_text, last_text, forged_in, without_flights}
+use Rattle.line_replay.specs.Replay.{is_forged, outcome, report, entries, entries_text, last_text, EndsBy, first_bad, forged_in, without_flights}
 
 -- a drill with so many meters: 1 to 60, as a line has a number
 abbrev pub drill_of : List ℕ → Option Command
@@ -90,6 +90,8 @@ pub record Replays (quiet : Bool) (source0 source1 : SourceState) (sink0 sink1 :
       → report quiet ran.drives.b e ≡ entries_text quiet (entries ran.drives.b e) ++ last_text ran.drives.b e
   -- the quiet report is the full one without its lines that begin with "fly "
   pub quieted : (e : Bool) → report true ran.drives.b e ≡ without_flights (report false ran.drives.b e)
+  -- the last line names the first bad line, where there is one
+  pub bad : (e : Bool) → EndsBy e (first_bad ran.drives.b e) (last_text ran.drives.b e)
   -- the entries are a run of the network: the step of each event gives the next world
   pub run : (e : Bool) → IsLineRun network (entries ran.drives.b e)
   -- all that the laws of every run say of it

@@ -27,6 +27,7 @@ mod reading;
 mod report;
 mod word;
 
+pub use answer::{answer_word, spaced_verdict};
 pub use event_line::push_line;
 pub use kind::EventKind;
 pub use laws::lines_are_read_back;

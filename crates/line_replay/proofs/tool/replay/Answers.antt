@@ -1,5 +1,5 @@
 use Rattle.std.proofs.Common.{sym, true}
-use Rattle.line_replay.proofs.Running.{entries_run, report_by_entries, names, ran_of, whole_exit, read_cause, write_cause}
+use Rattle.line_replay.proofs.Running.{entries_run, last_is, report_by_entries, names, ran_of, whole_exit, read_cause, write_cause}
 use Rattle.line_replay.proofs.Quieting.{report_quieted}
 use Rattle.line_replay.specs.Replay.{entries, is_forged, outcome}
 use Rattle.line_replay.proofs.tool.replay.Goals as goal
@@ -12,6 +12,7 @@ returns-clause-replays g c =
       ran = ran;
       by_entries = report_by_entries c.args.quiet ran.drives.b;
       quieted = λ e. report_quieted ran.drives.b e;
+      bad = last_is ran.drives.b;
       run = entries_run ran.drives.b;
       holds = λ e. c.every_network_run_is_right.ensures (entries ran.drives.b e) (entries_run ran.drives.b e);
       named = names c.args.quiet ran (c.every_network_run_is_right.ensures (entries ran.drives.b true) (entries_run ran.drives.b true)).counted;
