@@ -5,10 +5,11 @@ use Rattle.std.proofs.lemmas.List.{length-map}
 use Rattle.line_tale.specs.declared.told.TaleEvent.{TaleEvent}
 use Rattle.line_tale.specs.declared.told.TaleFlight.{TaleFlight}
 use Rattle.line_tale.specs.declared.act.Act.{Act}
-use Rattle.line_stories.specs.declared.story.Story.{Story}
-use Rattle.line_stories.specs.Kinds.{joins, readies}
+use Rattle.line_tale.specs.declared.story.Story.{Story}
+use Rattle.line_tale.specs.Kinds.{joins, readies}
+use Rattle.line_tale.specs.Tales.{made_by}
 use Rattle.line_stories.specs.Stories.{Stories, no_stories, settled_by, settled, next_event, with_line, line_number, unready, number_at, place_of, recorded}
-use Rattle.line_stories.specs.Stories.{event_by, event_seen, flight_seen, flights_seen, flights_of, told_seen}
+use Rattle.line_stories.specs.Stories.{event_by, event_seen, flight_seen, flights_seen, told_seen}
 use Rattle.line_stories.specs.Stories.{events_seen, ended, stories_of, ready_owners, last_owner}
 use Rattle.line_stories.specs.Laws.{EventsAreOwned}
 
@@ -55,11 +56,7 @@ flights_count (f ∷ fs) s = flights_count fs (flight_seen f s)
 -- an event and its flights
 one_more : (e : TaleEvent) (flights : List TaleFlight) (s : Stories) → seen (told_seen e flights s) ≡ seen s + 1
 unfolding told_seen
-one_more e flights s = flights_count (flights_of e flights) (event_seen e s) ∙ event_count e s
-
-pub counted : (e : TaleEvent) (flights : List TaleFlight) (s new : Stories) → new ≡ told_seen e flights s → (n : ℕ)
-    → length s.owners + length s.ready ≡ n → length new.owners + length new.ready ≡ n + 1
-counted e flights s new is n was = ap (λ (t : Stories). seen t) is ∙ (one_more e flights s ∙ ap (λ (k : ℕ). k + 1) was)
+one_more e flights s = flights_count (made_by e flights) (event_seen e s) ∙ event_count e s
 
 events_count : (flights : List TaleFlight) (es : List TaleEvent) (s : Stories) → seen (events_seen flights es s) ≡ seen s + length es
 events_count flights [] s = omega arith

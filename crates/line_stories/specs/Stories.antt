@@ -1,5 +1,5 @@
 -- Which story owns which event and which flight of a tale.
-use Rattle.std.specs.Prelude.{ℕ, ◌+◌, ◌-◌, ◌==◌, ◌||◌, Bool, true, false, not, List, [], ◌∷◌, ◌++◌, length, map, position, take, drop, slice_get, slice_set}
+use Rattle.std.specs.Prelude.{ℕ, ◌+◌, ◌-◌, ◌==◌, ◌||◌, Bool, true, false, not, List, [], ◌∷◌, ◌++◌, length, map, position, slice_get, slice_set}
 use Rattle.std.specs.Prelude.{Option, None, Some, if◌then◌else◌}
 use Rattle.frame_words.specs.declared.gist.FrameTarget.{FrameTarget}
 use Rattle.frame_words.specs.declared.gist.FrameTarget.TheVariants as targets
@@ -11,17 +11,17 @@ use Rattle.line_tale.specs.declared.act.Act.{Act}
 use Rattle.line_tale.specs.declared.act.Act.TheVariants as acts
 use Rattle.line_tale.specs.declared.told.TaleEvent.{TaleEvent}
 use Rattle.line_tale.specs.declared.told.TaleFlight.{TaleFlight}
-use Rattle.line_tale.specs.Tales.{numbered}
-use Rattle.line_stories.specs.declared.kind.StoryKind.{StoryKind}
-use Rattle.line_stories.specs.declared.kind.StoryKind.TheVariants as kinds
-use Rattle.line_stories.specs.declared.story.Story.{Story}
-use Rattle.line_stories.specs.declared.lot.Lot.{Lot}
-use Rattle.line_stories.specs.declared.lot.Fate.TheVariants as fates
+use Rattle.line_tale.specs.Tales.{made_by, numbered}
+use Rattle.line_tale.specs.declared.kind.StoryKind.{StoryKind}
+use Rattle.line_tale.specs.declared.kind.StoryKind.TheVariants as kinds
+use Rattle.line_tale.specs.declared.story.Story.{Story}
+use Rattle.line_tale.specs.declared.lot.Lot.{Lot}
+use Rattle.line_tale.specs.declared.lot.Fate.TheVariants as fates
 use Rattle.line_stories.specs.declared.place.Place.{Place}
 use Rattle.line_stories.specs.declared.place.Place.TheVariants.{At, New}
-use Rattle.line_stories.specs.Kinds.{begins, goes_on_with, is_line, is_setup, is_setup_kind, joins, keeps_joinings, makes_node, person_of, readies, sends}
-use Rattle.line_stories.specs.Lists.{changed_at}
-use Rattle.line_stories.specs.Marks.{came, lots_by, marked, new_story}
+use Rattle.line_tale.specs.Kinds.{begins, goes_on_with, is_line, is_setup, is_setup_kind, joins, keeps_joinings, makes_node, person_of, readies, sends}
+use Rattle.line_tale.specs.Lists.{changed_at}
+use Rattle.line_tale.specs.Marks.{came, lots_by, marked, new_story}
 
 -- # What is known while a tale is gone through
 
@@ -260,13 +260,9 @@ abbrev pub flights_seen : List TaleFlight → Stories → Stories
 flights_seen [] s = s
 flights_seen (f ∷ fs) s = flights_seen fs (flight_seen f s)
 
--- the flights that an event made
-abbrev pub flights_of : TaleEvent → List TaleFlight → List TaleFlight
-flights_of e flights = take e.flights (drop (e.first_flight - 1) flights)
-
 -- an event and its flights
 unfoldable pub told_seen : TaleEvent → List TaleFlight → Stories → Stories
-told_seen e flights s = flights_seen (flights_of e flights) (event_seen e s)
+told_seen e flights s = flights_seen (made_by e flights) (event_seen e s)
 
 abbrev pub events_seen : List TaleFlight → List TaleEvent → Stories → Stories
 events_seen flights [] s = s

@@ -15,26 +15,13 @@
 //! }
 //! ```
 //!
-//! `specs/Kinds.antt` says what events and answers are to a story, `specs/Marks.antt` what becomes of a story and a flight at an event, and
-//! `specs/Stories.antt` which story owns which event and which flight, `specs/Verdicts.antt` what became of each story, and
-//! `specs/Words.antt` how that is said.
+//! What an event says of a story, and the verdict of a story, stand in `line_tale`. `specs/Stories.antt` says which story owns which event and
+//! which flight.
 #![tactic(auto)]
 
-mod ends;
-mod kind;
 pub mod laws;
-mod lot;
 mod place;
 mod readiness;
-mod story;
 mod telling;
-mod verdict;
-mod words;
 
-pub use ends::{Ends, ends_of};
-pub use kind::StoryKind;
-pub use lot::{Fate, Lot};
-pub use story::Story;
-pub use telling::{Telling, stories_of};
-pub use verdict::{Verdict, is_good, verdict_of};
-pub use words::{push_end, push_node, push_verdict};
+pub use telling::{Telling, push_home, stories_of};

@@ -1,13 +1,12 @@
 //! Where an event goes: to a story that is there, or to a new one.
 ghost use Rattle.std.specs.Prelude.{◌≡◌, ◌-◌, IfOk, OnErr, OnOk, length, slice_get};
 ghost use Rattle.line_tale.specs.Tales.{numbered};
-ghost use Rattle.line_stories.specs.Kinds.{goes_on_with, is_setup};
+ghost use Rattle.line_tale.specs.Kinds.{goes_on_with, is_setup};
 ghost use Rattle.line_stories.specs.Stories as spec_stories;
 
-use crate::kind::{StoryKind, begins, goes_on_with, is_line, is_setup, is_setup_kind};
-use crate::lot::Lot;
-use crate::story::{Story, new_story};
-use line_tale::Act;
+use line_tale::{
+    Act, Lot, Story, StoryKind, begins, goes_on_with, is_line, is_setup, is_setup_kind, new_story,
+};
 use std::alloc::AllocError;
 
 /// The story of an event.

@@ -1,9 +1,9 @@
 //! What readies a joining: the lines `allow` and `rand` right before it.
-ghost use Rattle.std.specs.Prelude.{◌≡◌, ◌<◌, ◌^◌, ◌+◌, ◌++◌, IfOk, IfSome, OnOk, OnErr};
+ghost use Rattle.std.specs.Prelude.{◌≡◌, ◌<◌, ◌+◌, ◌++◌, IfOk, IfSome, OnOk, OnErr, length};
 ghost use Rattle.line_stories.specs.Stories as spec_stories;
 
 use crate::place::{line_place, take_place};
-use crate::story::Story;
+use line_tale::Story;
 use std::alloc::AllocError;
 
 /// Whether what readies a node readies the joining that comes next, if one comes.
@@ -18,21 +18,23 @@ pub fn is_readied(joined: Option<u32>, node: u32) -> bool
 
 /// The place of the first node of these whose joining does not come next.
 pub fn unready(joined: Option<u32>, ready: &[u32]) -> Option<usize>
-    ensures { result ≡ spec_stories.unready joined ready.now }
+    ensures value { result ≡ spec_stories.unready joined ready.now }
+    ensures bound { IfSome result (λ p. p < length ready.now) }
 {
     ready.iter().position(|node| !is_readied(joined, *node))
 }
 
 /// Makes a story on the line for what readies no joining, where there is such a thing and the newest story is none. Returns its number, 0
-/// where there is none. The first event of these has the number `first`.
+/// where there is none. The first event of these has the number `first`, and the one after them `next`.
 ///
 /// It fails only where memory runs out, and nothing changes then.
 pub fn take_line(
     stories: &mut Vec<Story>,
     place: Option<usize>,
     first: usize,
+    next: usize,
 ) -> Result<usize, AllocError>
-    requires { IfSome place (λ p. first + p < 2 ^ 63) }
+    requires { IfSome place (λ p. first + p < next) }
     ensures made { OnOk result (stories.new.items ≡ spec_stories.with_line place first stories.old.items) }
     ensures number { IfOk result (λ number. number ≡ spec_stories.line_number place stories.old.items) }
     ensures err { OnErr result (stories.new.items ≡ stories.old.items) }

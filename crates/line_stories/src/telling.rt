@@ -1,20 +1,19 @@
 //! The stories of a tale, while it is gone through.
-ghost use Rattle.std.specs.Prelude.{◌≡◌, ◌<◌, ◌≤◌, ◌+◌, ◌++◌, ◌∷◌, IfOk, OnErr, OnOk, length};
-ghost use Rattle.line_events.specs.declared.event.TheConstants.{MAX_EVENTS};
+ghost use Rattle.std.specs.Prelude.{◌≡◌, ◌++◌, ◌∷◌, IfOk, OnErr, OnOk, length};
 ghost use Rattle.line_tale.specs.Tales.{numbered};
-ghost use Rattle.line_stories.specs.Kinds as story_kinds;
-ghost use Rattle.line_stories.specs.Lists.{changed_at};
-ghost use Rattle.line_stories.specs.Marks as story_marks;
+ghost use Rattle.line_tale.specs.Kinds as story_kinds;
+ghost use Rattle.line_tale.specs.Lists.{changed_at};
+ghost use Rattle.line_tale.specs.Marks as story_marks;
 ghost use Rattle.line_stories.specs.Stories as spec_stories;
 
-use crate::kind::{joins, keeps_joinings, makes_node, person_of, readies, sends};
-use crate::lot::{Fate, Lot, change_lots};
 use crate::place::{place_of, take_place};
 use crate::readiness::{push_owners, take_line, unready};
-use crate::story::{Story, came, marked};
 use frame_words::{FrameTarget, Gist};
 use line_events::Answer;
-use line_tale::{Act, Tale, TaleEvent, TaleFlight};
+use line_tale::{
+    Act, Fate, Lot, Story, Tale, TaleEvent, TaleFlight, came, change_lots, joins, keeps_joinings,
+    made_by, makes_node, marked, person_of, readies, sends,
+};
 use std::alloc::{AllocError, Global};
 use std::marker::Model;
 
@@ -96,8 +95,10 @@ fn addressed(count: usize, node: u32, address: Option<u16>) -> Option<u32>
     None
 }
 
-// A node at the next address, where there is one.
-fn push_home(homes: &mut Vec<u32>, event: &TaleEvent) -> Result<(), AllocError>
+/// Adds a node at the next short address, where an event gives one.
+///
+/// It fails only where memory runs out, and nothing changes then.
+pub fn push_home(homes: &mut Vec<u32>, event: &TaleEvent) -> Result<(), AllocError>
     ensures { OnOk result (homes.new.items ≡ spec_stories.homes_with
         (spec_stories.newcomer (length homes.old.items) event.now.act event.now.answer event.now.address) homes.old.items) }
 {
@@ -272,7 +273,6 @@ impl Telling {
     // The events that readied something, and an event after them, get their stories.
     #[tactic(auto, unfolding(crate::specs::Stories::settled))]
     fn settle(&mut self, act: &Act) -> Result<(), AllocError>
-        requires { length self.old.owners + length self.old.ready < MAX_EVENTS }
         ensures { OnOk result (self.new ≡ spec_stories.settled act.now self.old) }
     {
         let joined = joins(act);
@@ -282,6 +282,7 @@ impl Telling {
             &mut self.stories,
             unready(joined, self.ready.as_slice()),
             first,
+            number,
         )?;
         let place = place_of(act, self.stories.as_slice(), self.lots.as_slice());
         let story = take_place(&mut self.stories, place, number, person_of(act))?;
@@ -323,12 +324,11 @@ impl Telling {
         push_home(&mut self.homes, event)
     }
 
-    /// Adds the next event of a tale. Fewer than 50,000 were added before.
+    /// Adds the next event of a tale.
     ///
     /// It fails only where memory runs out; what is left then is not said.
     #[tactic(auto, unfolding(crate::specs::Stories::event_seen))]
     pub fn push_event(&mut self, event: &TaleEvent) -> Result<(), AllocError>
-        requires { length self.old.owners + length self.old.ready < MAX_EVENTS }
         ensures { OnOk result (self.new ≡ spec_stories.event_seen event.now self.old) }
     {
         if let Some(node) = readies(&event.act) {
@@ -387,23 +387,23 @@ impl Telling {
     // An event and its flights, of all of the tale.
     #[tactic(auto, unfolding(crate::specs::Stories::told_seen))]
     fn push_told(&mut self, event: &TaleEvent, flights: &[TaleFlight]) -> Result<(), AllocError>
-        requires { length self.old.owners + length self.old.ready < MAX_EVENTS }
         ensures { OnOk result (self.new ≡ spec_stories.told_seen event.now flights.now self.old) }
     {
         self.push_event(event)?;
-        self.push_flights(flights_of(event, flights))
+        self.push_flights(made_by(event, flights))
     }
 
     // What readied something last, and no joining came.
     fn end(&mut self) -> Result<(), AllocError>
-        requires { length self.old.owners + length self.old.ready ≤ MAX_EVENTS }
         ensures { OnOk result (self.new ≡ spec_stories.ended self.old) }
     {
         let first = self.owners.len() + 1;
+        let number = self.owners.len() + self.ready.len() + 1;
         let line = take_line(
             &mut self.stories,
             unready(None, self.ready.as_slice()),
             first,
+            number,
         )?;
         push_owners(&mut self.owners, self.ready.as_slice(), None, 0, line)?;
         self.ready.clear();
@@ -411,24 +411,11 @@ impl Telling {
     }
 }
 
-// The flights that an event made.
-fn flights_of<'a>(event: &TaleEvent, flights: &'a [TaleFlight]) -> &'a [TaleFlight]
-    ensures { result.now ≡ spec_stories.flights_of event.now flights.now }
-{
-    let start = (event.first_flight as usize)
-        .saturating_sub(1)
-        .min(flights.len());
-    let rest = &flights[start..];
-    let count = (event.flights as usize).min(rest.len());
-    &rest[..count]
-}
-
-/// The stories of a tale, with the story of each event and each flight, and what became of each flight. The tale has at most 50,000 events.
+/// The stories of a tale, with the story of each event and each flight, and what became of each flight.
 ///
 /// It fails only where memory runs out.
 #[tactic(auto, unfolding(crate::specs::Stories::stories_of))]
 pub fn stories_of(alloc: Global, tale: &Tale) -> Result<Telling, AllocError>
-    requires { length tale.now.events.items ≤ MAX_EVENTS }
     ensures { IfOk result (λ telling. telling ≡ spec_stories.stories_of tale.now.events.items tale.now.flights.items) }
 {
     let mut telling = Telling::new(alloc);

@@ -1,2 +1,6 @@
 pub mod Acts
+pub mod Kinds
+pub mod Lists
+pub mod Marks
 pub mod Tales
+pub mod Verdicts

@@ -1,5 +1,5 @@
 -- The record of a run: each event with the line that asked for it and how it ended, and each flight with whom it is for and what it is about.
-use Rattle.std.specs.Prelude.{ℕ, ◌+◌, ◌-◌, ◌==◌, List, [], ◌∷◌, length, slice_get, Option, None, Some, if◌then◌else◌}
+use Rattle.std.specs.Prelude.{ℕ, ◌+◌, ◌-◌, ◌==◌, List, [], ◌∷◌, length, take, drop, slice_get, Option, None, Some, if◌then◌else◌}
 use Rattle.frame_words.specs.declared.gist.Gist.{Gist}
 use Rattle.frame_words.specs.declared.gist.Gist.TheVariants as gists
 use Rattle.frame_words.specs.declared.kind.PayloadKind.{PayloadKind}
@@ -64,3 +64,9 @@ flight_told from note octets payload device =
 -- what stands in a list under a number from 1
 abbrev pub numbered : {A : Type 0} → List A → ℕ → Option A
 numbered xs number = if number == 0 then None else slice_get xs (number - 1)
+
+-- # Events and their flights
+
+-- of the flights, or of what is kept of each, the part of those that an event made
+abbrev pub made_by : {A : Type 0} → TaleEvent → List A → List A
+made_by e xs = take e.flights (drop (e.first_flight - 1) xs)

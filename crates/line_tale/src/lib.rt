@@ -12,13 +12,30 @@
 //! }
 //! ```
 //!
-//! `specs/Acts.antt` says what is kept of an event, and `specs/Tales.antt` what a tale is.
+//! Beside it stands what there is of stories as values: of which kind an event is to a story, what an event says of a story and of a flight, and
+//! the verdict of a story. Which story owns what is found above (`line_stories`).
+//!
+//! `specs/Acts.antt` says what is kept of an event, `specs/Tales.antt` what a tale is, `specs/Kinds.antt` what events and answers are to a story,
+//! `specs/Marks.antt` what becomes of a story and a flight at an event, and `specs/Verdicts.antt` what became of each story.
 #![tactic(auto)]
 
 mod act;
+mod ends;
+mod kind;
+mod lot;
+mod story;
 mod tale;
 mod told;
+mod verdict;
 
 pub use act::{Act, act_of};
+pub use ends::{Ends, ends_of, or_number, went_on};
+pub use kind::{
+    StoryKind, actor_of, begins, goes_on_with, is_line, is_piece_held, is_setup, is_setup_kind,
+    joins, keeps_joinings, makes_node, person_of, readies, sends,
+};
+pub use lot::{Fate, Lot, change_lots};
+pub use story::{Story, came, marked, new_story};
 pub use tale::Tale;
-pub use told::{TaleEvent, TaleFlight, event_told, flight_told};
+pub use told::{TaleEvent, TaleFlight, event_told, flight_told, made_by};
+pub use verdict::{Verdict, is_good, verdict_of};

@@ -2,7 +2,7 @@
 ghost use Rattle.std.specs.Prelude.{◌≡◌, ◌≤◌, length};
 ghost use Rattle.std.specs.Option.{ForSome, option_copied};
 ghost use Rattle.plc_base.specs.declared.limits.TheConstants.{LONGEST_FRAME};
-ghost use Rattle.line_tale.specs.Tales.{address_of, event_told, flight_told, gist_of, kind_of, note_of};
+ghost use Rattle.line_tale.specs.Tales.{address_of, event_told, flight_told, gist_of, kind_of, made_by, note_of};
 
 use crate::act::{Act, act_of};
 use frame_words::{FrameTarget, Gist, PayloadKind, frame_target, payload_gist, payload_kind};
@@ -134,4 +134,16 @@ pub fn flight_told(
         gist: gist_of(payload),
         device,
     }
+}
+
+/// Of the flights of a run, or of what is kept of each, the part of those that an event made.
+pub fn made_by<'a, T>(event: &TaleEvent, items: &'a [T]) -> &'a [T]
+    ensures { result.now ≡ made_by event.now items.now }
+{
+    let start = (event.first_flight as usize)
+        .saturating_sub(1)
+        .min(items.len());
+    let rest = &items[start..];
+    let count = (event.flights as usize).min(rest.len());
+    &rest[..count]
 }

@@ -1,9 +1,7 @@
-ghost use Rattle.std.specs.Prelude.{◌≤◌, IfOk, length};
-
 use frame_words::{FrameTarget, Gist, PayloadKind};
 use line_events::Answer;
-use line_stories::{Fate, StoryKind, Telling, Verdict, ends_of, stories_of, verdict_of};
-use line_tale::{Act, Tale, TaleEvent, TaleFlight};
+use line_stories::{Telling, stories_of};
+use line_tale::{Act, Fate, StoryKind, Tale, TaleEvent, TaleFlight, Verdict, ends_of, verdict_of};
 use plc_base::Eui;
 use std::alloc::{AllocError, Global};
 use std::test::Fail;
@@ -62,9 +60,7 @@ fn flight(note: u32, target: FrameTarget, gist: Gist, device: Option<u32>) -> Ta
 
 // Node 1 sends to node 0, and the datagram comes up. Another datagram waits for a route, and nobody hears the request. Time passes. Then
 // node 1 joins anew, and what readies it stands right before.
-fn small(alloc: Global) -> Result<Tale, AllocError>
-    ensures { IfOk result (λ tale. length tale.events.items ≤ 50000) }
-{
+fn small(alloc: Global) -> Result<Tale, AllocError> {
     let mut tale = Tale::new(alloc);
     let sent = Act::Send {
         from: 1,

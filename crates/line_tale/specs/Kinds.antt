@@ -4,8 +4,8 @@ use Rattle.line_events.specs.declared.event.Answer.{Answer}
 use Rattle.line_events.specs.declared.event.Answer.TheVariants as answers
 use Rattle.line_tale.specs.declared.act.Act.{Act}
 use Rattle.line_tale.specs.declared.act.Act.TheVariants as acts
-use Rattle.line_stories.specs.declared.kind.StoryKind.{StoryKind}
-use Rattle.line_stories.specs.declared.kind.StoryKind.TheVariants as kinds
+use Rattle.line_tale.specs.declared.kind.StoryKind.{StoryKind}
+use Rattle.line_tale.specs.declared.kind.StoryKind.TheVariants as kinds
 
 -- lines of the setup have one story together
 abbrev pub is_setup : Act → Bool
@@ -63,12 +63,34 @@ goes_on_with (acts.Deliver flight node cost) = Some flight
 goes_on_with (acts.Lose flight) = Some flight
 goes_on_with _ = None
 
--- the node that an event has do what it was told
+-- the node that may obey at an event
 abbrev pub obeys_at : Act → Option ℕ
 obeys_at (acts.Deliver flight node cost) = Some node
 obeys_at (acts.Inject node cost octets) = Some node
 obeys_at (acts.Activate node index) = Some node
 obeys_at _ = None
+
+-- the node that an event is about: the one that does what it says, or hears the frame; the coordinator where it is about no other
+abbrev pub actor_of : Act → ℕ
+actor_of (acts.Depot node) = node
+actor_of (acts.Near a b) = a
+actor_of (acts.Counter node) = node
+actor_of (acts.Number node) = node
+actor_of (acts.Rand node) = node
+actor_of (acts.Join node agent) = node
+actor_of (acts.Leave node) = node
+actor_of (acts.Send from to octets) = from
+actor_of (acts.Deliver flight node cost) = node
+actor_of (acts.Inject node cost octets) = node
+actor_of (acts.Break node next) = node
+actor_of (acts.Restart node) = node
+actor_of (acts.Cut node nth keeps_new) = node
+actor_of (acts.Show node) = node
+actor_of (acts.Bcast node octets) = node
+actor_of (acts.Scan node) = node
+actor_of (acts.Choose node k) = node
+actor_of (acts.Path from to) = from
+actor_of _ = 0
 
 -- whether an event made a node
 abbrev pub makes_node : Act → Bool
@@ -115,11 +137,16 @@ abbrev pub is_reported : Answer → Bool
 is_reported answers.Reported = true
 is_reported _ = false
 
+-- whether a node holds a piece of a datagram now
+abbrev pub is_piece_held : Answer → Bool
+is_piece_held answers.Held = true
+is_piece_held _ = false
+
 abbrev pub is_declined : Answer → Bool
 is_declined answers.Declined = true
 is_declined _ = false
 
--- whether a meter did what it was told
+-- whether a meter obeyed
 abbrev pub is_heeded : Answer → Bool
 is_heeded answers.Activated = true
 is_heeded answers.Left = true

@@ -1,10 +1,10 @@
 //! A story, and what its events say of it.
 ghost use Rattle.std.specs.Prelude.{◌≡◌, ◌&&◌};
-ghost use Rattle.line_stories.specs.Kinds.{is_heeded, obeys_at};
-ghost use Rattle.line_stories.specs.Marks as story_marks;
+ghost use Rattle.line_tale.specs.Kinds.{is_heeded, obeys_at};
+ghost use Rattle.line_tale.specs.Marks as story_marks;
 
 use crate::kind::{StoryKind, is_declined, is_heeded, is_path, obeys_at};
-use line_tale::TaleEvent;
+use crate::told::TaleEvent;
 
 /// What somebody asked of the line, and what became of it. Events are meant by their numbers from 1.
 #[derive(Clone, Copy)]
@@ -13,10 +13,10 @@ pub struct Story {
     pub kind: StoryKind,
     /// The event that it begins with.
     pub first: usize,
-    /// The node that it is about: the one that sends, joins or is told, or to which octets come; 0 for others.
+    /// The node that it is about: the one that sends, joins or gets an order, or to which octets come; 0 for others.
     pub person: u32,
-    /// The event at which it reached its end: the datagram was handed up first, the joining was done last, the node first did what it was
-    /// told, the answer to the path request came first.
+    /// The event at which it reached its end: the datagram was handed up first, the joining was done last, the node first
+    /// obeyed, the answer to the path request came first.
     pub reached: Option<usize>,
     /// The last event at which the meter that joins took its grant.
     pub took: Option<usize>,
@@ -88,7 +88,7 @@ fn joining_marked(number: usize, event: &TaleEvent, story: &Story) -> Story
     }
 }
 
-// Whether the node of a story does what it was told.
+// Whether the node of a story obeys.
 fn is_obeyed(event: &TaleEvent, person: u32) -> bool
     ensures { result ≡ (is_heeded event.now.answer && story_marks.is_node (obeys_at event.now.act) person) }
 {

@@ -4,14 +4,14 @@ use Rattle.line_events.specs.declared.event.Answer.{Answer}
 use Rattle.line_tale.specs.declared.act.Act.{Act}
 use Rattle.line_tale.specs.declared.act.Act.TheVariants as acts
 use Rattle.line_tale.specs.declared.told.TaleEvent.{TaleEvent}
-use Rattle.line_stories.specs.declared.kind.StoryKind.{StoryKind}
-use Rattle.line_stories.specs.declared.kind.StoryKind.TheVariants as kinds
-use Rattle.line_stories.specs.declared.story.Story.{Story}
-use Rattle.line_stories.specs.declared.lot.Lot.{Lot}
-use Rattle.line_stories.specs.declared.lot.Fate.{Fate}
-use Rattle.line_stories.specs.declared.lot.Fate.TheVariants as fates
-use Rattle.line_stories.specs.Kinds.{takes_on, is_reported, is_declined, is_heeded, is_path, obeys_at}
-use Rattle.line_stories.specs.Lists.{changed_at}
+use Rattle.line_tale.specs.declared.kind.StoryKind.{StoryKind}
+use Rattle.line_tale.specs.declared.kind.StoryKind.TheVariants as kinds
+use Rattle.line_tale.specs.declared.story.Story.{Story}
+use Rattle.line_tale.specs.declared.lot.Lot.{Lot}
+use Rattle.line_tale.specs.declared.lot.Fate.{Fate}
+use Rattle.line_tale.specs.declared.lot.Fate.TheVariants as fates
+use Rattle.line_tale.specs.Kinds.{takes_on, is_reported, is_declined, is_heeded, is_path, obeys_at}
+use Rattle.line_tale.specs.Lists.{changed_at}
 
 -- # Stories
 

@@ -1,9 +1,9 @@
 //! The kinds of stories, and what events and answers are to them.
 ghost use Rattle.std.specs.Prelude.{◌≡◌};
-ghost use Rattle.line_stories.specs.Kinds as story_kinds;
+ghost use Rattle.line_tale.specs.Kinds as story_kinds;
 
+use crate::act::Act;
 use line_events::Answer;
-use line_tale::Act;
 
 /// What a story is about.
 #[derive(Clone, Copy, Debug, PartialEq, Eq)]
@@ -16,7 +16,7 @@ pub enum StoryKind {
     Joining,
     /// The coordinator gives a meter its keys anew.
     Renewal,
-    /// A node is told to seal with another key, or to leave.
+    /// A node gets the order to seal with another key, or to leave.
     Order,
     /// Octets that no node sent come to a node.
     Injection,
@@ -114,7 +114,34 @@ pub fn goes_on_with(act: &Act) -> Option<u32>
     }
 }
 
-/// The node that an event has do what it was told: that which hears a frame, or which is told by the script itself.
+/// The node that an event is about: the one that does what it says, or hears the frame. The coordinator where it is about no other.
+pub fn actor_of(act: &Act) -> u32
+    ensures { result ≡ story_kinds.actor_of act.now }
+{
+    match act {
+        Act::Depot { node } => *node,
+        Act::Near { a, .. } => *a,
+        Act::Counter { node } => *node,
+        Act::Number { node } => *node,
+        Act::Rand { node } => *node,
+        Act::Join { node, .. } => *node,
+        Act::Leave { node } => *node,
+        Act::Send { from, .. } => *from,
+        Act::Deliver { node, .. } => *node,
+        Act::Inject { node, .. } => *node,
+        Act::Break { node, .. } => *node,
+        Act::Restart { node } => *node,
+        Act::Cut { node, .. } => *node,
+        Act::Show { node } => *node,
+        Act::Bcast { node, .. } => *node,
+        Act::Scan { node } => *node,
+        Act::Choose { node, .. } => *node,
+        Act::Path { from, .. } => *from,
+        _ => 0,
+    }
+}
+
+/// The node that may obey at an event: the one that hears a frame, or to which the script itself gives the order.
 pub fn obeys_at(act: &Act) -> Option<u32>
     ensures { result ≡ story_kinds.obeys_at act.now }
 {
@@ -187,7 +214,7 @@ pub fn takes_on(answer: Answer) -> bool
     }
 }
 
-/// Whether a unit ended at a node, which told its origin so.
+/// Whether a unit ended at a node, which reported that to its origin.
 pub fn is_reported(answer: Answer) -> bool
     ensures { result ≡ story_kinds.is_reported answer }
 {
@@ -207,7 +234,7 @@ pub fn is_declined(answer: Answer) -> bool
     }
 }
 
-/// Whether a meter did what it was told: to seal with another key, or to leave.
+/// Whether a meter obeyed: it seals with another key, or left.
 pub fn is_heeded(answer: Answer) -> bool
     ensures { result ≡ story_kinds.is_heeded answer }
 {
@@ -256,6 +283,16 @@ pub fn is_setup_kind(kind: StoryKind) -> bool
 {
     match kind {
         StoryKind::Setup => true,
+        _ => false,
+    }
+}
+
+/// Whether a node holds a piece of a datagram now.
+pub fn is_piece_held(answer: Answer) -> bool
+    ensures { result ≡ story_kinds.is_piece_held answer }
+{
+    match answer {
+        Answer::Held => true,
         _ => false,
     }
 }

@@ -1,12 +1,12 @@
 //! What became of a story.
 ghost use Rattle.std.specs.Prelude.{◌≡◌, ◌&&◌};
-ghost use Rattle.line_stories.specs.Verdicts as spec_verdicts;
+ghost use Rattle.line_tale.specs.Verdicts as spec_verdicts;
 
 use crate::ends::Ends;
 use crate::kind::{StoryKind, is_reported, takes_on};
 use crate::story::Story;
+use crate::told::TaleEvent;
 use line_events::Answer;
-use line_tale::TaleEvent;
 
 /// What became of a story. Events and flights are meant by their numbers from 1; a flight 0 is none.
 #[derive(Clone, Copy, Debug, PartialEq, Eq)]
@@ -15,7 +15,7 @@ pub enum Verdict {
     Nothing,
     /// It was refused at once.
     NotBegun,
-    /// It reached its end: the datagram came, the joining is done, the node did what it was told, the way is known.
+    /// It reached its end: the datagram came, the joining is done, the node obeyed, the way is known.
     Reached { event: usize },
     /// The datagram was taken in and no flight carries it. This is the last flight that should have made a way for it.
     NeverLeft { last: usize },
@@ -23,7 +23,7 @@ pub enum Verdict {
     Ended { flight: usize },
     /// The meter was not let in.
     Declined { event: usize },
-    /// The meter took its grant, and the coordinator was not told. This is the last flight.
+    /// The meter took its grant, and the coordinator does not know it. This is the last flight.
     TookOnly { event: usize, last: usize },
     /// It is not done. This is the last flight.
     Loose { last: usize },

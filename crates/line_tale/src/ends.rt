@@ -1,7 +1,7 @@
 //! The ends of stories: their last flights, and the first with the datagram that did not go on.
 ghost use Rattle.std.specs.Prelude.{◌≡◌, IfOk, OnOk, drop, length, replicate};
-ghost use Rattle.line_stories.specs.Lists.{changed_at};
-ghost use Rattle.line_stories.specs.Verdicts as spec_verdicts;
+ghost use Rattle.line_tale.specs.Lists.{changed_at};
+ghost use Rattle.line_tale.specs.Verdicts as spec_verdicts;
 
 use crate::lot::{Fate, Lot};
 use std::alloc::{AllocError, Global};
@@ -17,8 +17,8 @@ pub struct Ends {
     pub broken: usize,
 }
 
-// Whether the node that a flight is for went on with it.
-fn went_on(fate: &Fate) -> bool
+/// Whether the node that a flight is for went on with it.
+pub fn went_on(fate: &Fate) -> bool
     ensures { result ≡ spec_verdicts.went_on fate.now }
 {
     match fate {
@@ -27,8 +27,8 @@ fn went_on(fate: &Fate) -> bool
     }
 }
 
-// The first number that is not 0.
-fn or_number(before: usize, number: usize) -> usize
+/// The first of two numbers that is not 0.
+pub fn or_number(before: usize, number: usize) -> usize
     ensures { result ≡ spec_verdicts.or_number before number }
 {
     if before == 0 {

@@ -3,17 +3,17 @@ use Rattle.std.specs.Prelude.{ℕ, ◌+◌, ◌-◌, ◌==◌, ◌&&◌, ◌||�
 use Rattle.line_events.specs.declared.event.Answer.{Answer}
 use Rattle.line_events.specs.declared.event.Answer.TheVariants as answers
 use Rattle.line_tale.specs.declared.told.TaleEvent.{TaleEvent}
-use Rattle.line_stories.specs.declared.kind.StoryKind.{StoryKind}
-use Rattle.line_stories.specs.declared.kind.StoryKind.TheVariants as kinds
-use Rattle.line_stories.specs.declared.story.Story.{Story}
-use Rattle.line_stories.specs.declared.lot.Lot.{Lot}
-use Rattle.line_stories.specs.declared.lot.Fate.{Fate}
-use Rattle.line_stories.specs.declared.lot.Fate.TheVariants as fates
-use Rattle.line_stories.specs.declared.ends.Ends.{Ends}
-use Rattle.line_stories.specs.declared.verdict.Verdict.{Verdict}
-use Rattle.line_stories.specs.declared.verdict.Verdict.TheVariants as verdicts
-use Rattle.line_stories.specs.Kinds.{takes_on, is_reported}
-use Rattle.line_stories.specs.Lists.{changed_at}
+use Rattle.line_tale.specs.declared.kind.StoryKind.{StoryKind}
+use Rattle.line_tale.specs.declared.kind.StoryKind.TheVariants as kinds
+use Rattle.line_tale.specs.declared.story.Story.{Story}
+use Rattle.line_tale.specs.declared.lot.Lot.{Lot}
+use Rattle.line_tale.specs.declared.lot.Fate.{Fate}
+use Rattle.line_tale.specs.declared.lot.Fate.TheVariants as fates
+use Rattle.line_tale.specs.declared.ends.Ends.{Ends}
+use Rattle.line_tale.specs.declared.verdict.Verdict.{Verdict}
+use Rattle.line_tale.specs.declared.verdict.Verdict.TheVariants as verdicts
+use Rattle.line_tale.specs.Kinds.{takes_on, is_reported}
+use Rattle.line_tale.specs.Lists.{changed_at}
 
 -- # The ends of a story: its last flight, and the first with its datagram that did not go on
 

@@ -1,6 +1,6 @@
 use Rattle.std.proofs.Common.{◌≡◌, ◌+◌, drop}
-use Rattle.line_stories.specs.Verdicts.{ends_from}
-use Rattle.line_stories.proofs.ends.add_flights.Given as goal
+use Rattle.line_tale.specs.Verdicts.{ends_from}
+use Rattle.line_tale.proofs.ends.add_flights.Given as goal
 
 -- what comes of the flights to come
 abbrev pub invariant-loop-i : goal.invariant-loop-i

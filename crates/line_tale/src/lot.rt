@@ -1,11 +1,11 @@
 //! What became of a flight.
 ghost use Rattle.std.specs.Prelude.{◌≡◌};
-ghost use Rattle.line_stories.specs.Lists.{changed_at};
-ghost use Rattle.line_stories.specs.Marks as story_marks;
+ghost use Rattle.line_tale.specs.Lists.{changed_at};
+ghost use Rattle.line_tale.specs.Marks as story_marks;
 
+use crate::act::Act;
 use crate::kind::{is_reported, takes_on};
 use line_events::Answer;
-use line_tale::Act;
 
 /// What became of a flight at the node that it is for; of one to all, or to no node of the run, at any node. Events are meant by their
 /// numbers from 1.
@@ -17,7 +17,7 @@ pub enum Fate {
     Lost { event: usize },
     /// It was refused there, at this event for the last time.
     Refused { event: usize },
-    /// Its unit ended there, and the origin was told, at this event for the last time.
+    /// Its unit ended there, and that was reported to the origin, at this event for the last time.
     Reported { event: usize },
     /// It was taken there, at this event first.
     WentOn { event: usize },

@@ -1,0 +1,38 @@
+-- Which payload a frame has: a plain one its body, a sealed one what a key opens.
+use Rattle.std.specs.Prelude.{ℕ, Bool, true, false, nat_le, List, length, take, Option, None, Some, if◌then◌else◌}
+use Rattle.plc_base.specs.declared.fields.Fault.{Fault}
+use Rattle.plc_base.specs.declared.key.Key.{Key}
+use Rattle.mac_frames.specs.declared.head.MacHead.{MacHead}
+use Rattle.mac_frames.specs.declared.head.MacHead.TheVariants.{Sealed, Up, Down}
+use Rattle.mac_frames.specs.declared.fault.FrameFaultKind.{FrameFaultKind}
+use Rattle.mac_frames.specs.Faults.{frame_fault}
+use Rattle.mac_frames.specs.Reading.{head_in, body_in}
+use Rattle.mac_frames.specs.Sealing.{opened_in}
+
+-- what a buffer holds, where that is a payload
+abbrev pub held : Bool → List ℕ → Option (List ℕ)
+held true octets = Some octets
+held false octets = None
+
+-- a body that is not sealed; none is longer than a frame
+abbrev pub bare : List ℕ → Option (List ℕ)
+bare body = if nat_le (length body) 400 then Some body else None
+
+-- a sealed body under a key, by the head and the octets of the header
+abbrev pub opened_with : Option Key → MacHead → List ℕ → List ℕ → Option (List ℕ)
+opened_with None head front body = None
+opened_with (Some key) head front body = opened_in key.0 head front body
+
+abbrev pub payload_by : MacHead → Option Key → List ℕ → List ℕ → Option (List ℕ)
+payload_by (Sealed ack seq pan to from counter index) key front body = opened_with key (Sealed ack seq pan to from counter index) front body
+payload_by (Up ack version seq pan to from) key front body = bare body
+payload_by (Down ack version seq pan to from) key front body = bare body
+
+-- by the fault of the octets, if they have one
+abbrev pub payload_unless : Option (Fault FrameFaultKind) → List ℕ → Option Key → Option (List ℕ)
+payload_unless None octets key = payload_by (head_in octets) key (take 15 octets) (body_in octets)
+payload_unless (Some fault) octets key = None
+
+-- the payload of a frame
+abbrev pub payload_of : List ℕ → Option Key → Option (List ℕ)
+payload_of octets key = payload_unless (frame_fault octets) octets key

@@ -1,0 +1,18 @@
+//! Sentences in plain English, put together from parts: words, numbers, nodes, addresses, octets.
+//!
+//! ```text
+//! let text = sentence(alloc, &[node(3), words(" is made in line "), number(12)])?;
+//! // "meter 3 is made in line 12"
+//! ```
+//!
+//! `specs/Parts.antt` says what the text of each part is, and that of a sentence: the texts of its parts, one after the other.
+#![tactic(auto)]
+
+mod part;
+mod who;
+
+pub use part::{
+    Part, Who, WordsRef, decimal_width, is_printable, node, number, octets, place, push_parts,
+    sentence, words,
+};
+pub use who::{device_of, node_with, who_at, who_of, who_with};
