@@ -1,11 +1,16 @@
 -- The nearer of the nearest so far and one more is the nearest of all.
-use Rattle.std.proofs.Common.{◌≡◌, ◌≤◌, ◌<◌, ℕ, ◌+◌, ◌⊎◌, inl, inr, List, ◌∷◌, take, length, get_or, sym, ap, ◌∙◌, subst, arith}
+use Rattle.std.proofs.Common.{◌≡◌, ◌≤◌, ◌<◌, ℕ, ◌+◌, ◌⊎◌, inl, inr, List, ◌∷◌, take, drop, length, get_or, sym, ap, ◌∙◌, subst, arith}
 use Rattle.std.specs.List.{All}
+use Rattle.std.specs.Prelude.{Bool, true, false, Option, None, Some, if◌then◌else◌, nat_le}
+use Rattle.std.proofs.lemmas.Bool.{le-leb, lt-leb}
+use Rattle.std.proofs.lemmas.List.{drop_more}
 use Rattle.std.proofs.lemmas.List.Elements.{All-cons, All-head, All-tail, All-more, All-weaker}
 use Rattle.line_script.specs.declared.kind.EventKind.{EventKind}
+use Rattle.line_script.specs.declared.kind.EventKind.TheVariants as kinds
 use Rattle.line_script.specs.Kinds.{kind_word}
 use Rattle.script_faults.specs.declared.nearest.Near.{Near}
-use Rattle.script_faults.specs.Nearest.{IsNearestAmong, distance}
+use Rattle.script_faults.specs.declared.nearest.TheConstants.{KINDS}
+use Rattle.script_faults.specs.Nearest.{IsNearestAmong, distance, reach, near_of, nearer, nearest_from, meant_by, meant}
 
 -- how many steps lead to the word of a kind, where they do
 abbrev IsAway : List ℕ → EventKind → Near → Type 0
@@ -39,3 +44,24 @@ nearer_of word first any kinds i best near nearest within among is below_best be
           (λ other far. omega (arith, far, below_best)) (first ∷ take i kinds) among.least)
           (omega (arith, away, below_near));
     }
+
+-- one more is looked at
+pub next_nearest : (word : List ℕ) (any : EventKind) (kinds : List EventKind) (i : ℕ) (best near nearest : Near) {whole : Near} → i < length kinds
+    → near ≡ near_of word (get_or kinds i any) → nearest ≡ nearer best near → nearest_from word best (drop i kinds) ≡ whole
+    → nearest_from word nearest (drop (i + 1) kinds) ≡ whole
+next_nearest word any kinds i best near nearest within is one from =
+    ap (λ n. nearest_from word n (drop (i + 1) kinds)) (one ∙ ap (nearer best) is)
+    ∙ sym (ap (nearest_from word best) (drop_more kinds i any within)) ∙ from
+
+-- the nearest is meant where it is near enough
+pub meant_near : (word : List ℕ) (near : Near) → near ≡ nearest_from word (near_of word kinds.Activate) KINDS → near.steps ≤ reach word
+    → Some near.kind ≡ meant word
+unfolding meant
+meant_near word near is within =
+    sym (ap (λ (b : Bool). if b then Some near.kind else None) (le-leb near.steps (reach word) within)) ∙ ap (meant_by word) is
+
+pub none_meant : (word : List ℕ) (near : Near) → near ≡ nearest_from word (near_of word kinds.Activate) KINDS → reach word < near.steps
+    → None ≡ meant word
+unfolding meant
+none_meant word near is far =
+    sym (ap (λ (b : Bool). if b then Some near.kind else None) (lt-leb near.steps (reach word) far)) ∙ ap (meant_by word) is

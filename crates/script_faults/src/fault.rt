@@ -1,5 +1,5 @@
 //! The fault of a line that has no reading.
-ghost use Rattle.std.specs.Prelude.{◌≡◌, ◌==◌, ◌<◌, ◌+◌, ◌^◌, IfSome, codes, is_some, length, not, position};
+ghost use Rattle.std.specs.Prelude.{◌≡◌, ◌<◌, ◌+◌, ◌^◌, IfSome, codes, is_some, length, not};
 ghost use Rattle.std.specs.Option.{option_map};
 ghost use Rattle.std.specs.Str.{bytes_eq};
 ghost use Rattle.line_script.specs.declared.word.TheConstants.{LINE_OCTETS};
@@ -11,6 +11,7 @@ ghost use Rattle.script_faults.specs.Places.{IsPlace};
 
 use crate::form::{Form, WordKind, form_of, is_word};
 use line_script::EventKind;
+use script_findings::space_at;
 
 /// Why a line has no reading.
 #[derive(Clone, Copy, Debug, PartialEq, Eq)]
@@ -44,13 +45,6 @@ fn split(octets: &[u8]) -> Option<(&[u8], &[u8])>
 {
     let at = space_at(octets)?;
     Some((&octets[..at], &octets[at + 1..]))
-}
-
-fn space_at(octets: &[u8]) -> Option<usize>
-    ensures at { result ≡ position (λ c. c == 32) octets.now }
-    ensures within { IfSome result (λ at. at < length octets.now) }
-{
-    octets.iter().position(|octet| *octet == b' ')
 }
 
 // A line that ends where a word is expected.

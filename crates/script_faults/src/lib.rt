@@ -7,6 +7,8 @@
 //! // EventKind::Send
 //! ```
 //!
+//! `line_finding` says in words what is wrong with a line, and `word_of_reason` why a line ends a run.
+//!
 //! `specs/Forms.antt` has the words of each kind of line and the fault of a line, `specs/Places.antt` says where a fault stands, and
 //! `specs/Nearest.antt` which word is meant.
 #![tactic(auto)]
@@ -14,7 +16,13 @@
 mod fault;
 mod form;
 mod nearest;
+mod reason;
+mod wording;
+mod wrong_lines;
+mod wrong_words;
 
 pub use fault::{Cause, Fault, fault_of};
 pub use form::{Form, WordKind, form_of};
 pub use nearest::nearest_kind;
+pub use reason::word_of_reason;
+pub use wrong_lines::line_finding;

@@ -1,14 +1,13 @@
 //! The word that was meant.
-ghost use Rattle.std.specs.Prelude.{◌≡◌, ◌≤◌, ◌∷◌, ◌⊎◌, All, IfOk, MatchOption};
-ghost use Rattle.line_script.specs.Kinds.{kind_word};
-ghost use Rattle.script_faults.specs.Nearest.{IsNearest, IsNearestAmong, NoneNear, distance};
+ghost use Rattle.std.specs.Prelude.{◌≡◌, ◌≤◌, ◌∷◌, ◌⊎◌, IfOk, MatchOption};
+ghost use Rattle.script_faults.specs.Nearest.{IsNearest, IsNearestAmong, NoneNear, meant, near_of, nearer, nearest_from};
 
 use line_script::EventKind;
 use std::alloc::{AllocError, Global};
 use strsim::osa_distance;
 
-// The kinds of lines, in the alphabetical order of their words: of two that are as near, the first is meant.
-const KINDS: [EventKind; 28] = [
+/// The kinds of lines, in the alphabetical order of their words: of two that are as near, the first is meant.
+pub const KINDS: [EventKind; 28] = [
     EventKind::Activate,
     EventKind::Allow,
     EventKind::Bcast,
@@ -50,7 +49,7 @@ pub struct Near {
 
 #[tactic(auto, unfolding(crate::specs::Nearest::distance))]
 fn distance_to(alloc: Global, word: &str, kind: EventKind) -> Result<Near, AllocError>
-    ensures { IfOk result (λ near. (near.kind ≡ kind) × (near.steps ≡ distance word.now (kind_word kind))) }
+    ensures { IfOk result (λ near. near ≡ near_of word.now kind) }
 {
     let steps = osa_distance(alloc, word, kind.word())?;
     Ok(Near { kind, steps })
@@ -60,6 +59,7 @@ fn distance_to(alloc: Global, word: &str, kind: EventKind) -> Result<Near, Alloc
 fn nearer(first: Near, second: Near) -> Near
     ensures least { (result.steps ≤ first.steps) × (result.steps ≤ second.steps) }
     ensures one { (result ≡ first) ⊎ (result ≡ second) }
+    ensures value { result ≡ nearer first second }
 {
     if second.steps < first.steps {
         second
@@ -75,7 +75,8 @@ fn nearest_among(
     first: EventKind,
     kinds: &[EventKind],
 ) -> Result<Near, AllocError>
-    ensures { IfOk result (λ near. IsNearestAmong word.now (first ∷ kinds.now) near) }
+    ensures among { IfOk result (λ near. IsNearestAmong word.now (first ∷ kinds.now) near) }
+    ensures value { IfOk result (λ near. near ≡ nearest_from word.now (near_of word.now first) kinds.now) }
 {
     let mut best = distance_to(alloc, word, first)?;
     for kind in kinds {
@@ -84,10 +85,12 @@ fn nearest_among(
     Ok(best)
 }
 
+#[tactic(auto, unfolding(crate::specs::Nearest::meant))]
 /// The kind whose word is nearest to a word in lower case, where it is near enough: one step away, or as many as a third of the
 /// word's octets. It fails only where memory runs out.
 pub fn nearest_kind(alloc: Global, word: &str) -> Result<Option<EventKind>, AllocError>
-    ensures { IfOk result (λ kind. MatchOption kind (NoneNear word.now) (IsNearest word.now)) }
+    ensures nearest { IfOk result (λ kind. MatchOption kind (NoneNear word.now) (IsNearest word.now)) }
+    ensures value { IfOk result (λ kind. kind ≡ meant word.now) }
 {
     let near = nearest_among(alloc, word, EventKind::Activate, &KINDS)?;
     if near.steps <= (word.len() / 3).max(1) {

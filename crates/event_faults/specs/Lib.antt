@@ -1,0 +1,2 @@
+pub mod EventFindings
+pub mod Runs

@@ -1,0 +1,4 @@
+pub mod Checks
+pub mod Running
+pub mod Stepping
+pub mod Turns

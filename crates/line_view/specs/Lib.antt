@@ -1,0 +1,4 @@
+pub mod Statuses
+pub mod Checking
+pub mod Checked
+pub mod Tool
