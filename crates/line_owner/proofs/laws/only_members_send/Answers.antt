@@ -1,0 +1,5 @@
+use Rattle.line_owner.proofs.Sending.{only_members_send}
+use Rattle.line_owner.proofs.laws.only_members_send.Goals as goal
+
+pub returns : goal.returns
+returns c = only_members_send

@@ -1,0 +1,5 @@
+pub mod Keys
+pub mod Values
+pub mod Faults
+pub mod Members
+pub mod TextPlaces

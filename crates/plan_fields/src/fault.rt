@@ -1,0 +1,201 @@
+//! Why a description is refused.
+ghost use Rattle.std.specs.Prelude.{◌≡◌};
+ghost use Rattle.plan_fields.specs.Faults.{section_word};
+
+use crate::keys::{Key, KeySet};
+use std::alloc::AllocError;
+use std::fmt;
+
+/// A place in a text, from line 1 and column 1 on. Columns count octets.
+#[derive(Clone, Copy, Debug, PartialEq, Eq)]
+pub struct TextPlace {
+    pub line: usize,
+    pub column: usize,
+}
+
+/// A table of a description.
+#[derive(Clone, Copy, Debug, PartialEq, Eq)]
+pub enum Section {
+    /// The keys outside all tables.
+    Top,
+    Place,
+    Air,
+    Joining,
+    Readings,
+    Rotation,
+    Care,
+    /// The nth table `[[at]]`, from 0 on.
+    At(usize),
+}
+
+impl Section {
+    /// The name of the table, empty for the keys outside all tables.
+    pub fn word(self) -> &'static str
+        ensures { result.now ≡ section_word self }
+    {
+        match self {
+            Section::Top => "",
+            Section::Place => "place",
+            Section::Air => "air",
+            Section::Joining => "joining",
+            Section::Readings => "readings",
+            Section::Rotation => "rotation",
+            Section::Care => "care",
+            Section::At(_) => "at",
+        }
+    }
+}
+
+/// What fits a key.
+#[derive(Clone, Copy, Debug, PartialEq, Eq)]
+pub enum Wanted {
+    /// A table.
+    Table,
+    /// An array of tables.
+    Tables,
+    /// A time of at most 400 days.
+    Time,
+    /// Per cent from 0 to 100 with at most two decimals.
+    Chance,
+    /// True or false.
+    Flag,
+    /// One of the words of the key.
+    Word,
+    /// A number up to this one.
+    UpTo(u64),
+    /// A number from 1 to this one.
+    FromOneTo(u64),
+    /// At most 998 flats in all.
+    Flats,
+    /// A number from 1 to 255, or `by loss`.
+    Cost,
+    /// Measured links.
+    Links,
+    /// One line of at most 200 octets.
+    Line,
+    /// Nodes of the line.
+    Nodes,
+    /// Two nodes of the line.
+    TwoNodes,
+}
+
+/// The value of a key does not fit it.
+#[derive(Clone, Copy, Debug, PartialEq, Eq)]
+pub struct WrongValue {
+    /// The table that has the key, or is to have it.
+    pub section: Section,
+    pub key: Key,
+    /// What fits.
+    pub wanted: Wanted,
+}
+
+/// A key that a table may not have.
+#[derive(Drop, Debug)]
+pub struct UnknownKey {
+    /// The table that has the key.
+    pub section: Section,
+    /// The key.
+    pub key: String,
+    /// Which keys the table may have.
+    pub known: KeySet,
+    /// The first of these with the fewest edits to the key.
+    pub nearest: Key,
+}
+
+/// What is wrong.
+#[derive(Drop, Debug)]
+pub enum Cause {
+    /// The text is no TOML. What is said is the reader's message.
+    Syntax(String),
+    Unknown(UnknownKey),
+    Wrong(WrongValue),
+}
+
+/// Why a description is refused.
+#[derive(Drop, Debug)]
+pub enum PlanFault {
+    /// Something is wrong at a place of the text.
+    At(TextPlace, Cause),
+    /// Memory ran out.
+    Memory,
+}
+
+impl From<AllocError> for PlanFault {
+    ghost use Rattle.plan_fields.specs.declared.fault.PlanFault.TheVariants.{Memory};
+
+    ghost from_gives = { λ _ fault. fault ≡ Memory };
+
+    fn from(_: AllocError) -> PlanFault {
+        PlanFault::Memory
+    }
+}
+
+// The words of a key, for its fault.
+fn words(key: Key) -> &'static str {
+    match key {
+        Key::Kind => "\"street\", \"grid\", \"tower\", \"scatter\" or \"matrix\"",
+        Key::Coordinator => "\"end\" or \"middle\"",
+        Key::Rate => "\"robo\", \"dbpsk\", \"dqpsk\" or \"d8psk\"",
+        Key::How => "\"air\" or \"depot\"",
+        Key::Way => "\"push\" or \"poll\"",
+        Key::Order => "\"coordinator last\", \"coordinator first\" or \"meter by meter\"",
+        Key::Leaves => "\"old\" or \"new\"",
+        _ => {
+            "\"power\", \"torn\", \"noise\", \"link\", \"kick\", \"rekey\", \"replay\", \"delay\" or \"false_joins\""
+        }
+    }
+}
+
+impl fmt::Display for WrongValue {
+    fn fmt<W: fmt::Write>(&self, f: &mut fmt::Formatter<W>) -> fmt::Result {
+        write!(f, "the value of {} has to be ", self.key.word())?;
+        match self.wanted {
+            Wanted::Table => f.write_str("a table"),
+            Wanted::Tables => f.write_str("tables [[at]]"),
+            Wanted::Time => f.write_str(
+                "a time of at most 400 days, as 90, \"90s\", \"5m\", \"2h\", \"1d\" or \"06:30\"",
+            ),
+            Wanted::Chance => f.write_str("per cent from 0 to 100 with at most two decimals"),
+            Wanted::Flag => f.write_str("true or false"),
+            Wanted::Word => f.write_str(words(self.key)),
+            Wanted::UpTo(most) => write!(f, "a number up to {most}"),
+            Wanted::FromOneTo(most) => write!(f, "a number from 1 to {most}"),
+            Wanted::Flats => f.write_str("such that there are at most 998 flats in all"),
+            Wanted::Cost => f.write_str("a number from 1 to 255, or \"by loss\""),
+            Wanted::Links => f.write_str(
+                "a list of [from, to, loss] or [from, to, loss, cost], ascending by from and to, with nodes up to 998",
+            ),
+            Wanted::Line => f.write_str("one line of at most 200 octets"),
+            Wanted::Nodes => f.write_str("a list of nodes of the line"),
+            Wanted::TwoNodes => f.write_str("a list of two nodes"),
+        }
+    }
+}
+
+impl fmt::Display for Cause {
+    fn fmt<W: fmt::Write>(&self, f: &mut fmt::Formatter<W>) -> fmt::Result {
+        match self {
+            Cause::Syntax(message) => write!(f, "{message}"),
+            Cause::Unknown(unknown) => write!(
+                f,
+                "no key is called {}; the nearest is {}",
+                unknown.key,
+                unknown.nearest.word()
+            ),
+            Cause::Wrong(wrong) => write!(f, "{wrong}"),
+        }
+    }
+}
+
+impl fmt::Display for PlanFault {
+    fn fmt<W: fmt::Write>(&self, f: &mut fmt::Formatter<W>) -> fmt::Result {
+        match self {
+            PlanFault::At(place, cause) => write!(
+                f,
+                "line {}, column {}: {cause}",
+                place.line, place.column
+            ),
+            PlanFault::Memory => f.write_str("out of memory"),
+        }
+    }
+}

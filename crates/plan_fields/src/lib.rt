@@ -1,0 +1,26 @@
+//! The tables of a description of a simulated line: keys, values of keys, what is wrong with one, and its place in the text.
+//!
+//! - [`Key`] and [`KeySet`] have the keys, and which of them a table may have (`specs/Keys.antt`).
+//! - [`Fields`] is a table with its name, or the defaults alone. Its calls read the value of a key: a number within a bound, a time, per cent, true or false.
+//!   A key that is not there has its default; a value that does not fit is a [`WrongValue`] (`specs/Faults.antt`).
+//! - `seconds_of` and `hundredths_of` read times and per cent from octets (`specs/Values.antt`). Times are whole seconds, chances ten-thousandths.
+//! - `place_of` is the line and the column of a key in the text of its table (`specs/TextPlaces.antt`).
+//!
+//! The readers of values take no memory.
+#![tactic(auto)]
+
+mod fault;
+mod fields;
+mod keys;
+#[cfg(test)]
+mod tests;
+mod text_places;
+mod values;
+
+pub use fault::{Cause, PlanFault, Section, TextPlace, UnknownKey, Wanted, WrongValue};
+pub use fields::Fields;
+pub use keys::{Key, KeySet};
+pub use text_places::{octet_place, place_of};
+pub use values::{
+    LONGEST, chance_in, hundredths_of, number_from_one_to, number_up_to, seconds_in, seconds_of,
+};

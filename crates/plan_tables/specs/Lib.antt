@@ -1,0 +1,5 @@
+pub mod Tables
+pub mod Links
+pub mod Places
+pub mod AirPlans
+pub mod Incidents
