@@ -6,7 +6,7 @@
 //! // there is no flight 3
 //! ```
 //!
-//! `specs/EventFindings.antt` says what is told of each, `specs/Runs.antt` what it takes of the run.
+//! `specs/EventFindings.antt` says what a finding says of each, `specs/Runs.antt` what it takes of the run.
 #![tactic(auto)]
 
 mod bad_event;

@@ -82,13 +82,13 @@ pub enum Command {
     Challenge(u32),
     /// A node seals with the key at an index from now on.
     Activate(u32, u8),
-    /// The same, where the owner tells of a refusal.
+    /// The same, where a refusal becomes a remark.
     Order(u32, u8),
     /// A node restarts.
     Restart(u32),
 }
 
-/// What the owner tells of.
+/// What the owner remarks.
 #[derive(Clone, Copy, Debug, PartialEq, Eq)]
 pub enum Saying {
     /// The last command was refused.
@@ -99,7 +99,7 @@ pub enum Saying {
     Unreached(u32, u64),
     /// A key was drawn for an index, or it was not.
     KeyDrawn(u8),
-    /// A meter was told to leave.
+    /// A meter got the message to leave.
     ToldToLeave(u32),
 }
 
@@ -144,7 +144,7 @@ pub enum Notice {
     Challenged,
     /// A meter answered a challenge: it spent a random value.
     Replied(u32),
-    /// A meter was told to leave.
+    /// A meter got the message to leave.
     ToldToLeave(u32),
     /// A write of a node's store failed.
     StoreFailed(u32),

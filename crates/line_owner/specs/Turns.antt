@@ -83,7 +83,7 @@ taken now (commands.Activate node index) o = rests o
 taken now (commands.Order node index) o = rests o
 taken now (commands.Restart node) o = rests o
 
--- the refusal of a message is told of where the owner sent it by itself
+-- the refusal of a message becomes a remark where the owner sent it by itself
 abbrev pub telling_refused_by : Kind → Message → Acts
 telling_refused_by Reading m = One (Say (sayings.Refused (commands.Tell m)))
 telling_refused_by Reply m = Nothing

@@ -38,7 +38,7 @@ pub(crate) fn next_try(tries: u64, most: u64) -> u64
 
 /// The owner of a line: whom it lets in, when meters are read, how the key is changed.
 ///
-/// A contract sees what it was told, what it knows of nodes and readings, and its draws (`specs/States.antt`).
+/// A contract sees its settings, what it knows of nodes and readings, and its draws (`specs/States.antt`).
 #[derive(Drop)]
 pub struct Owner {
     pub(crate) settings: Settings,

@@ -1,4 +1,4 @@
-//! What the owner is told.
+//! What the owner is made with.
 
 use plan_tables::{Care, Joining, Readings, Rotation};
 

@@ -184,7 +184,7 @@ impl Owner {
     }
 }
 
-// The owner tells of a refusal where it sent by itself.
+// A refusal becomes a remark where the owner sent by itself.
 fn refuse_message(message: Message) -> Acts
     ensures { result ≡ telling_refused message }
 {
