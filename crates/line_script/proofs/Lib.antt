@@ -1,5 +1,5 @@
 pub mod WordsRead
 pub mod RoundTrip
 pub mod Ranges
-mod HexDigits
+mod HexValues
 mod HexLanes

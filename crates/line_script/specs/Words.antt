@@ -63,11 +63,6 @@ eui word = do
 unfoldable pub sixteen_octets : List ℕ → Option (List ℕ)
 sixteen_octets word = if length word == 32 then result_ok (decode_of word) else None
 
--- some times the value of a digit; 256 where there is none
-abbrev pub scaled : ℕ → Option ℕ → ℕ
-scaled k None = 256
-scaled k (Some v) = v * k
-
 -- 1 to 2,048 octets
 unfoldable pub hex_octets : List ℕ → Option (List ℕ)
 hex_octets word = if nat_lt 0 (length word) && nat_le (length word) 4096 then result_ok (decode_of word) else None

@@ -19,7 +19,7 @@ const DIGITS: [u8; 16] = [
 
 // The high four bits of each octet.
 #[inline(always)]
-fn high(x: u8x16) -> u8x16
+pub(crate) fn high(x: u8x16) -> u8x16
     ensures { result ≡ map (λ b. b / 16) x }
 {
     x >> u8x16::splat(4)
@@ -27,7 +27,7 @@ fn high(x: u8x16) -> u8x16
 
 // The low four bits of each octet.
 #[inline(always)]
-fn low(x: u8x16) -> u8x16
+pub(crate) fn low(x: u8x16) -> u8x16
     ensures { result ≡ map (λ b. bit_and b 15) x }
 {
     x & u8x16::splat(15)
@@ -35,7 +35,7 @@ fn low(x: u8x16) -> u8x16
 
 // The entries of `table` at the places `at`.
 #[inline(always)]
-fn look(table: u8x16, at: u8x16) -> u8x16
+pub(crate) fn look(table: u8x16, at: u8x16) -> u8x16
     requires { Each1 (λ j. T (leb 128 j || ltb j 16)) at }
     ensures { result ≡ map (entry table) at }
 {

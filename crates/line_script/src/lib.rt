@@ -18,6 +18,7 @@
 #![tactic(auto)]
 
 mod answer;
+mod digit_values;
 mod digits;
 mod event_line;
 mod kind;

@@ -2,10 +2,10 @@
 ghost use Rattle.std.specs.Prelude.{◌≡◌, ◌==◌, ◌<◌, ◌≤◌, ◌/◌, ℕ, length, position, IfSome};
 ghost use Rattle.std.specs.Option.{option_map};
 ghost use Rattle.std.specs.Result.{result_ok};
-ghost use Rattle.hex.specs.Hex.{decode_of, hex_digit_value, pair_value};
-ghost use Rattle.line_script.specs.Words.{Field, field, digit_more, number_from, number, number_within, cost, eui, sixteen_octets, scaled, hex_octets};
+ghost use Rattle.line_script.specs.Words.{Field, field, digit_more, number_from, number, number_within, cost, eui, sixteen_octets, hex_octets};
 ghost use Rattle.line_script.specs.Words.{keeps_new};
 
+use crate::digit_values::decode;
 use plc_base::{Eui, LinkCost, OctetRef};
 
 /// The most octets that a line has in hexadecimal.
@@ -115,82 +115,6 @@ pub fn sixteen_octets(digits: &[u8]) -> Option<[u8; 16]>
     let mut octets = [0u8; 16];
     hex::decode_to_slice(digits, &mut octets).ok()?;
     Some(octets)
-}
-
-// 16 times the value of each octet as a digit in hexadecimal, 256 where it is none.
-const HIGH_VALUES: [u16; 256] = [
-    256, 256, 256, 256, 256, 256, 256, 256, 256, 256, 256, 256, 256, 256, 256, 256, 256, 256, 256,
-    256, 256, 256, 256, 256, 256, 256, 256, 256, 256, 256, 256, 256, 256, 256, 256, 256, 256, 256,
-    256, 256, 256, 256, 256, 256, 256, 256, 256, 256, 0, 16, 32, 48, 64, 80, 96, 112, 128, 144,
-    256, 256, 256, 256, 256, 256, 256, 160, 176, 192, 208, 224, 240, 256, 256, 256, 256, 256, 256,
-    256, 256, 256, 256, 256, 256, 256, 256, 256, 256, 256, 256, 256, 256, 256, 256, 256, 256, 256,
-    256, 160, 176, 192, 208, 224, 240, 256, 256, 256, 256, 256, 256, 256, 256, 256, 256, 256, 256,
-    256, 256, 256, 256, 256, 256, 256, 256, 256, 256, 256, 256, 256, 256, 256, 256, 256, 256, 256,
-    256, 256, 256, 256, 256, 256, 256, 256, 256, 256, 256, 256, 256, 256, 256, 256, 256, 256, 256,
-    256, 256, 256, 256, 256, 256, 256, 256, 256, 256, 256, 256, 256, 256, 256, 256, 256, 256, 256,
-    256, 256, 256, 256, 256, 256, 256, 256, 256, 256, 256, 256, 256, 256, 256, 256, 256, 256, 256,
-    256, 256, 256, 256, 256, 256, 256, 256, 256, 256, 256, 256, 256, 256, 256, 256, 256, 256, 256,
-    256, 256, 256, 256, 256, 256, 256, 256, 256, 256, 256, 256, 256, 256, 256, 256, 256, 256, 256,
-    256, 256, 256, 256, 256, 256, 256, 256, 256, 256, 256, 256, 256, 256, 256, 256, 256, 256, 256,
-    256, 256, 256, 256, 256, 256, 256, 256,
-];
-
-// The value of each octet as a digit in hexadecimal, 256 where it is none.
-const LOW_VALUES: [u16; 256] = [
-    256, 256, 256, 256, 256, 256, 256, 256, 256, 256, 256, 256, 256, 256, 256, 256, 256, 256, 256,
-    256, 256, 256, 256, 256, 256, 256, 256, 256, 256, 256, 256, 256, 256, 256, 256, 256, 256, 256,
-    256, 256, 256, 256, 256, 256, 256, 256, 256, 256, 0, 1, 2, 3, 4, 5, 6, 7, 8, 9, 256, 256, 256,
-    256, 256, 256, 256, 10, 11, 12, 13, 14, 15, 256, 256, 256, 256, 256, 256, 256, 256, 256, 256,
-    256, 256, 256, 256, 256, 256, 256, 256, 256, 256, 256, 256, 256, 256, 256, 256, 10, 11, 12, 13,
-    14, 15, 256, 256, 256, 256, 256, 256, 256, 256, 256, 256, 256, 256, 256, 256, 256, 256, 256,
-    256, 256, 256, 256, 256, 256, 256, 256, 256, 256, 256, 256, 256, 256, 256, 256, 256, 256, 256,
-    256, 256, 256, 256, 256, 256, 256, 256, 256, 256, 256, 256, 256, 256, 256, 256, 256, 256, 256,
-    256, 256, 256, 256, 256, 256, 256, 256, 256, 256, 256, 256, 256, 256, 256, 256, 256, 256, 256,
-    256, 256, 256, 256, 256, 256, 256, 256, 256, 256, 256, 256, 256, 256, 256, 256, 256, 256, 256,
-    256, 256, 256, 256, 256, 256, 256, 256, 256, 256, 256, 256, 256, 256, 256, 256, 256, 256, 256,
-    256, 256, 256, 256, 256, 256, 256, 256, 256, 256, 256, 256, 256, 256, 256, 256, 256, 256, 256,
-    256, 256, 256, 256, 256, 256, 256, 256, 256, 256, 256, 256, 256, 256, 256, 256, 256, 256, 256,
-    256, 256, 256,
-];
-
-#[inline(always)]
-fn high_value(octet: u8) -> u16
-    ensures { result ≡ scaled 16 (hex_digit_value octet) }
-{
-    HIGH_VALUES[octet as usize]
-}
-
-#[inline(always)]
-fn low_value(octet: u8) -> u16
-    ensures { result ≡ scaled 1 (hex_digit_value octet) }
-{
-    LOW_VALUES[octet as usize]
-}
-
-// The octet of two digits in hexadecimal, None where one is no digit.
-#[inline(always)]
-fn octet_of(high: u8, low: u8) -> Option<u8>
-    ensures { (place : ℕ) → result_ok (pair_value high low place) ≡ result }
-{
-    let octet = u32::from(high_value(high)) + u32::from(low_value(low));
-    if octet > 255 {
-        return None;
-    }
-    Some(octet as u8)
-}
-
-// The octets that digits in hexadecimal stand for. A datagram has so many digits that a table is worth it.
-fn decode<'a>(digits: &[u8], octets: &'a mut [u8]) -> Option<OctetRef<'a>>
-    requires { length octets.old ≡ length digits.now / 2 }
-    ensures { result ≡ result_ok (decode_of digits.now) }
-{
-    if digits.len() % 2 != 0 {
-        return None;
-    }
-    for place in 0..octets.len() {
-        octets[place] = octet_of(digits[2 * place], digits[2 * place + 1])?;
-    }
-    Some(OctetRef::new(octets))
 }
 
 /// The octets, 1 to 2,048, that digits in hexadecimal stand for. They are written to `space`.

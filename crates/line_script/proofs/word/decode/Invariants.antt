@@ -1,9 +1,0 @@
--- The octets so far and the digits that are left make the octets of all digits.
-use Rattle.std.proofs.Common.{◌≡◌, ◌*◌, take, drop}
-use Rattle.hex.specs.Hex.{decode_pairs}
-use Rattle.hex.proofs.Pairs.{prepend}
-use Rattle.line_script.proofs.word.decode.Given as goal
-
-abbrev pub invariant-loop-place : goal.invariant-loop-place
-invariant-loop-place l =
-    decode_pairs 0 l.digits ≡ prepend (take l.place l.octets) (decode_pairs (2 * l.place) (drop (2 * l.place) l.digits))
