@@ -36,13 +36,9 @@ use Rattle.line_rules.specs.Steps.{memory_by, restart_word, restarts, ticked}
 use Rattle.line_events.specs.declared.event.Answer.{Answer}
 use Rattle.line_world.specs.Nodes.{node_in, stored_in, of_coordinator}
 use Rattle.line_world.specs.NodeOutcomes.{Took}
-use Rattle.line_world.specs.Soundness.{NodeAgreesWith, IsSound}
+use Rattle.line_world.specs.Soundness.{NodeAgreesWith, IsSoundCoordinator}
 use Rattle.line_world.proofs.Acting.{took, known_after, tables_after, StayedHalted, Places, IsRestartWord}
 use Rattle.line_world.proofs.LentStations.{StationPlan, StationStayed, StationCarries, IsOwnPlan, lent, lent_took, lent_sound, node_says, same_home}
-
--- a coordinator that is sound
-abbrev pub IsSoundCoordinator : CoordinatorState → Type 0
-IsSoundCoordinator x = IsSound Coordinator (node_of x)
 
 -- # Agreement
 
@@ -72,15 +68,6 @@ pub sound_with : (y : CoordinatorState) → IsSome y.station.store.known_cut →
     → CoordinatorAgrees (node_of y)
     → IsSoundCoordinator y
 sound_with y known_cut tables home h = record { known_cut = known_cut; tables = tables; home = home; agrees = agrees_as y h }
-
--- its station does too
-pub station_agrees : (x : CoordinatorState) → IsSoundCoordinator x → Agrees x.station
-station_agrees x sound = by x.station.memory sound.agrees
-  where
-    by : (o : Option StationMemory) → IfSome (option_map (memory_in x.randoms x.sessions x.book) o) (λ m. NodeAgreesWith Coordinator m x.station.store.records)
-        → IfSome o (λ l. AgreesWith l x.station.store.records)
-    by None a = tt
-    by (Some l) a = a.station
 
 -- # What the coordinator does itself
 
@@ -148,41 +135,6 @@ with_its s x = record x { station = s }
 -- what it holds beside its station
 abbrev pub beside : CoordinatorState → Memory
 beside x = memory_in x.randoms x.sessions x.book blank_station
-
--- The station that was lent took the step of its rule.
-pub station_took : {A : Type 0} (x : CoordinatorState) (s t : State StationMemory) (halted : A) (q : StationPlan A) (answer : A) (out : Out) → s ≡ x.station
-    → IsSoundCoordinator x
-    → StationStayed s halted answer out t → StationCarries s q answer out t
-    → Took (acts (of_coordinator x) halted (lent q x.station.eui)) answer out (of_coordinator (with_its t x))
-station_took x s t halted q answer out same sound stayed carries =
-    lent_took Coordinator (beside x) x.station t halted q answer out sound.known_cut
-    (subst (λ (k : State StationMemory). StationStayed k halted answer out t) same stayed)
-    (subst (λ (k : State StationMemory). StationCarries k q answer out t) same carries)
-
--- Its coordinator is sound still.
-pub station_sound : {A : Type 0} (x : CoordinatorState) (s t : State StationMemory) (halted : A) (q : StationPlan A) (answer : A) (out : Out)
-    → IsOwnPlan q x.station.eui → s ≡ x.station
-    → IsSoundCoordinator x → StationStayed s halted answer out t → StationCarries s q answer out t → Agrees t → IsSoundCoordinator (with_its t x)
-station_sound x s t halted q answer out own same sound stayed carries agrees =
-    lent_sound Coordinator (beside x) x.station t halted q answer out own sound
-    (subst (λ (k : State StationMemory). StationStayed k halted answer out t) same stayed)
-    (subst (λ (k : State StationMemory). StationCarries k q answer out t) same carries) agrees
-
--- What its station says, it says.
-pub says : {A : Type 0} (x : CoordinatorState) (s : State StationMemory) (f : StationMemory → A) (none r : A) → s ≡ x.station
-    → r ≡ option_map_or f s.memory none
-    → r ≡ option_map_or (λ (m : Memory). f m.station) (of_coordinator x).memory none
-says x s f none r same h = node_says (beside x) x.station f none r (h ∙ ap (λ (k : State StationMemory). option_map_or f k.memory none) same)
-
-pub unchanged : (x : CoordinatorState) (s : State StationMemory) → s ≡ x.station → with_its s x ≡ x
-unchanged x s e = ap (λ k. with_its k x) e
-
-pub sound_back : (x : CoordinatorState) (s : State StationMemory) → s ≡ x.station → IsSoundCoordinator x → IsSoundCoordinator (with_its s x)
-sound_back x s same sound = subst (λ (z : CoordinatorState). IsSoundCoordinator z) (sym (unchanged x s same)) sound
-
--- a station that is lent agrees with its keeper
-pub lent_agrees : (x : CoordinatorState) (s : State StationMemory) → s ≡ x.station → IsSoundCoordinator x → Agrees s
-lent_agrees x s same sound = subst (λ (k : State StationMemory). Agrees k) (sym same) (station_agrees x sound)
 
 -- # Time
 

@@ -36,9 +36,10 @@ use Rattle.line_world.specs.declared.nodes.reception.Reception.{Reception}
 use Rattle.line_world.specs.NodeOutcomes.{Took}
 use Rattle.line_world.specs.Nodes.{of_coordinator, of_meter}
 use Rattle.line_world.specs.Receiving.{MayHear, CameTo, ReportsReception}
+use Rattle.line_world.specs.Soundness.{IsSoundCoordinator}
 use Rattle.line_world.proofs.AcceptingSteps.{meter_may_hear}
 use Rattle.line_world.proofs.Acting.{at, not_none}
-use Rattle.line_world.proofs.CoordinatorActing.{IsSoundCoordinator, with_its, own_took, ringless_sound}
+use Rattle.line_world.proofs.CoordinatorActing.{with_its, own_took, ringless_sound}
 use Rattle.line_world.proofs.ReportedReplies.{messages_unread, parts_of, there_is, reply_is}
 
 -- a meter with the station of the coordinator

@@ -26,8 +26,9 @@ use Rattle.coordinator.specs.CoordinatorAgreement.{CoordinatorAgreesWith, Coordi
 use Rattle.coordinator.specs.CoordinatorStates.{CoordinatorState, node_of}
 use Rattle.coordinator.specs.Opening.{Begins, MayBegin, read_state}
 use Rattle.line_world.specs.Nodes.{node_in, of_coordinator}
+use Rattle.line_world.specs.Soundness.{IsSoundCoordinator}
 use Rattle.line_world.proofs.Acting.{took, still_known}
-use Rattle.line_world.proofs.CoordinatorActing.{IsSoundCoordinator, sound_with}
+use Rattle.line_world.proofs.CoordinatorActing.{sound_with}
 
 -- what a coordinator that runs holds, its records hold without a gap, and the home
 gapless : (m : Memory) (records : Records) → CoordinatorAgreesWith m records → HasGaplessTables Coordinator records

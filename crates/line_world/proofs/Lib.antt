@@ -20,11 +20,11 @@ pub mod PathPlans
 pub mod Besides
 mod LentFurther
 mod LentReaches
-mod CoordinatorReaching
-mod MeterReaching
+mod LentNodes
 mod ReportedReplies
 mod UnaskedReplies
 mod NumberedNodes
+mod FirstNodes
 mod Comings
 mod Unchecked
 mod HeardCommands

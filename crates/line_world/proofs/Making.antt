@@ -1,6 +1,6 @@
 -- A meter that is made over an empty store.
-use Rattle.std.proofs.Common.{◌≡◌, List, [], ◌∷◌, ◌++◌, map, Some, None, Result, sym, ap, subst, ◌∙◌}
-use Rattle.std.specs.Prelude.{IsSome, All}
+use Rattle.std.proofs.Common.{◌≡◌, ◌<◌, List, [], ◌∷◌, ◌++◌, length, map, Option, Some, None, Result, sym, ap, subst, ◌∙◌, arith}
+use Rattle.std.specs.Prelude.{IsSome, IfNone, All}
 use Rattle.std.specs.Result.{result_ok}
 use Rattle.std.specs.FinMap.{empty}
 use Rattle.std.proofs.lemmas.List.{map_push}
@@ -19,8 +19,9 @@ use Rattle.node_rules.specs.StoreReading.{memory_of, remembering, blank_station}
 use Rattle.node_rules.proofs.Blank.{blank}
 use Rattle.line_rules.specs.Steps.{blank_node}
 use Rattle.meter_node.specs.MeterStates.{MeterState, node_of}
-use Rattle.line_world.specs.Nodes.{stored_in, of_meter}
-use Rattle.line_world.specs.Soundness.{IsSoundMeter}
+use Rattle.coordinator.specs.CoordinatorStates.{CoordinatorState}
+use Rattle.line_world.specs.Nodes.{stored_in, nodes_in, of_coordinator, of_meter}
+use Rattle.line_world.specs.Soundness.{AreSound, IsSoundMeter}
 use Rattle.line_world.proofs.MeterActing.{sound_meter}
 
 -- what an empty keeper holds
@@ -62,11 +63,38 @@ module _ (keeper : Store) (own : Eui) (key : Key) (y : MeterState) (o : Opened k
   node_made = λ i. record { role = Meter (o.psk i); eui = o.eui i; store = stored_in (store_is i); memory = memory_blank i }
 
 -- the list of the meters has one more
-pub one_more : (ms xs : List MeterState) (old : List Node) (y : MeterState) (n : Node) → map of_meter ms ≡ old → xs ≡ ms ++ y ∷ [] → of_meter y ≡ n
-    → map of_meter xs ≡ old ++ n ∷ []
-one_more ms xs old y n view is node =
-    ap (λ (k : List MeterState). map of_meter k) is ∙ map_push of_meter ms y ∙ ap (λ (k : List Node). k ++ of_meter y ∷ []) view
-    ∙ ap (λ (k : Node). old ++ k ∷ []) node
+one_more : (ms xs : List MeterState) (y : MeterState) (n : Node) → xs ≡ ms ++ y ∷ [] → of_meter y ≡ n → map of_meter xs ≡ map of_meter ms ++ n ∷ []
+one_more ms xs y n is node =
+    ap (λ (k : List MeterState). map of_meter k) is ∙ map_push of_meter ms y ∙ ap (λ (k : Node). map of_meter ms ++ k ∷ []) node
 
-pub all_sound : (ms xs : List MeterState) (y : MeterState) → All IsSoundMeter ms → xs ≡ ms ++ y ∷ [] → IsSoundMeter y → All IsSoundMeter xs
-all_sound ms xs y h is sound = subst (λ (k : List MeterState). All IsSoundMeter k) (sym is) (All-push IsSoundMeter ms y h sound)
+module _ (o : Option CoordinatorState) (ms xs : List MeterState) (old : List Node) (y : MeterState) (view : nodes_in o ms ≡ old) (begun : 0 < length old)
+    (is : xs ≡ ms ++ y ∷ []) where
+  some : 0 < length (nodes_in o ms)
+  some = subst (λ (k : List Node). 0 < length k) (sym view) begun
+
+  pub made_meter : (n : Node) → of_meter y ≡ n → nodes_in o xs ≡ old ++ n ∷ []
+  made_meter n node = by o some ∙ ap (λ (k : List Node). k ++ n ∷ []) view
+    where
+      by : (c : Option CoordinatorState) → 0 < length (nodes_in c ms) → nodes_in c xs ≡ nodes_in c ms ++ n ∷ []
+      by None h = absurd (omega (arith, h))
+      by (Some c) h = ap (λ (ns : List Node). of_coordinator c ∷ ns) (one_more ms xs y n is node)
+
+  pub made_sound : AreSound o ms → IsSoundMeter y → AreSound o xs
+  made_sound sound h = record {
+    coordinator = sound.coordinator;
+    meters = subst (λ (k : List MeterState). All IsSoundMeter k) (sym is) (All-push IsSoundMeter ms y sound.meters h);
+    begun = by o some;
+  }
+    where
+      by : (c : Option CoordinatorState) → 0 < length (nodes_in c ms) → IfNone c (xs ≡ [])
+      by None h = absurd (omega (arith, h))
+      by (Some c) h = tt
+
+-- the coordinator is the first node
+pub first_node : (o : Option CoordinatorState) (ms : List MeterState) (old : List Node) (y : CoordinatorState) (n : Node) → nodes_in o ms ≡ old → old ≡ []
+    → AreSound o ms → of_coordinator y ≡ n → nodes_in (Some y) ms ≡ n ∷ []
+first_node o ms old y n view none sound node = by o (view ∙ none) sound.begun
+  where
+    by : (c : Option CoordinatorState) → nodes_in c ms ≡ [] → IfNone c (ms ≡ []) → of_coordinator y ∷ map of_meter ms ≡ n ∷ []
+    by None e begun = λ i. node i ∷ map of_meter (begun i)
+    by (Some c) e begun = absurd (cc (e))

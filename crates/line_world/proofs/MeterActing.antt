@@ -76,30 +76,6 @@ meter_agrees x sound = by x.station.memory sound.agrees
     by None a = tt
     by (Some l) a = a.station
 
--- The station that was lent took the step of its rule.
-pub station_took : {A : Type 0} (x : MeterState) (s t : State StationMemory) (halted : A) (q : StationPlan A) (answer : A) (out : Out) → s ≡ x.station
-    → IsSoundMeter x
-    → StationStayed s halted answer out t → StationCarries s q answer out t
-    → Took (acts (of_meter x) halted (lent q x.station.eui)) answer out (of_meter (with_its t x))
-station_took x s t halted q answer out same sound stayed carries =
-    lent_took (Meter x.psk) (beside x) x.station t halted q answer out sound.known_cut
-    (subst (λ (k : State StationMemory). StationStayed k halted answer out t) same stayed)
-    (subst (λ (k : State StationMemory). StationCarries k q answer out t) same carries)
-
--- Its meter is sound still.
-pub station_sound : {A : Type 0} (x : MeterState) (s t : State StationMemory) (halted : A) (q : StationPlan A) (answer : A) (out : Out)
-    → IsOwnPlan q x.station.eui → s ≡ x.station
-    → IsSoundMeter x → StationStayed s halted answer out t → StationCarries s q answer out t → Agrees t → IsSoundMeter (with_its t x)
-station_sound x s t halted q answer out own same sound stayed carries agrees =
-    lent_sound (Meter x.psk) (beside x) x.station t halted q answer out own sound
-    (subst (λ (k : State StationMemory). StationStayed k halted answer out t) same stayed)
-    (subst (λ (k : State StationMemory). StationCarries k q answer out t) same carries) agrees
-
--- What its station says, it says.
-pub says : {A : Type 0} (x : MeterState) (s : State StationMemory) (f : StationMemory → A) (none r : A) → s ≡ x.station → r ≡ option_map_or f s.memory none
-    → r ≡ option_map_or (λ (m : Memory). f m.station) (of_meter x).memory none
-says x s f none r same h = node_says (beside x) x.station f none r (h ∙ ap (λ (k : State StationMemory). option_map_or f k.memory none) same)
-
 -- # What a meter does itself
 
 -- a meter that is not there to act stays as it is

@@ -24,9 +24,6 @@ use Rattle.node_rules.specs.Plans.{Plan, carry_out, finished, halted as cut_off,
 use Rattle.node_rules.specs.Replies.{reply_among, reply_sent, route_message}
 use Rattle.node_rules.proofs.OwnAnswers.{Own, ByAnswer, IsOwn, message_in_own}
 use Rattle.reach_rules.specs.CheckedReplies.{message_of}
-use Rattle.line_rules.specs.Answers as rules
-use Rattle.line_world.specs.declared.nodes.reception.Reception.{Reception}
-use Rattle.line_world.specs.Receiving.{ReportsReception}
 use Rattle.store_tables.specs.Writes.{Written, write}
 
 -- # A route message is not handed on
@@ -125,10 +122,3 @@ pub reply_is : {A : Type 0} (x : Node) (halted : A) (p : Memory → Plan Memory 
     → last ≡ reply_sent (p m) left → parts_of reported ≡ parts_of last → reported ≡ reply_among (acts x halted p).frames
 reply_is x halted p m left last reported there after is same =
     same_reply reported last same ∙ is ∙ ap (λ (o : Option Memory). reply_sent (p m) o) after ∙ acts_reply x halted p m there
-
--- what is told beside the reply
-pub reported_with_reply : (word reported : Reception) (replied : Option Reply) (r : rules.Reception) → reported ≡ record word { replied = replied }
-    → ReportsReception word r
-    → ReportsReception reported r
-reported_with_reply word reported replied r is t =
-    subst (λ (k : Reception). ReportsReception k r) (sym is) (record { answer = t.answer; up = t.up; took = t.took; done = t.done })

@@ -2,12 +2,14 @@
 use Rattle.std.proofs.Common.{◌≡◌, ◌≤◌, List, [], ◌∷◌, map, Option, Some, None, refl, sym, subst}
 use Rattle.std.specs.Prelude.{All, IfNone, IfSome}
 use Rattle.std.proofs.lemmas.List.Elements.{All-cons, All-map, All-nil}
-use Rattle.node_rules.specs.Memory.{Memory, Node, Role, Meter}
+use Rattle.node_rules.specs.Memory.{Memory, Node, Role, Coordinator, Meter}
 use Rattle.node_rules.specs.States.{State}
 use Rattle.node_rules.specs.Tables.{HasShortTables}
 use Rattle.meter_node.specs.MeterStates.{MeterState, node_of}
-use Rattle.line_world.specs.Nodes.{node_in, nodes_in, of_meter}
-use Rattle.line_world.specs.Soundness.{NodeAgreesWith, IsBelow, IsShort, IsSound, IsSoundMeter}
+use Rattle.coordinator.specs.CoordinatorStates.{CoordinatorState}
+use Rattle.coordinator.specs.CoordinatorStates as coordinators
+use Rattle.line_world.specs.Nodes.{node_in, nodes_in, of_coordinator, of_meter}
+use Rattle.line_world.specs.Soundness.{AreSound, NodeAgreesWith, IsBelow, IsShort, IsSound, IsSoundMeter}
 use Rattle.line_world.proofs.Acting.{short_tables}
 
 pub is_short : (role : Role) (s : State Memory) → IsSound role s → IsShort (node_in role s)
@@ -30,6 +32,9 @@ pub meters_are : (P : Node → Type 0) → ((m : MeterState) → IsSoundMeter m 
 meters_are P one ms sound = All-map P of_meter ms (λ i d within. one _ (sound i d within))
 
 -- of each node
-pub nodes_are : (P : Node → Type 0) (c : Option Node) (meters : List Node) → IfSome c P → All P meters → All P (nodes_in c meters)
-nodes_are P None meters h k = All-nil P
-nodes_are P (Some c) meters h k = All-cons P c meters h k
+pub nodes_are : (P : Node → Type 0) → ((role : Role) (s : State Memory) → IsSound role s → P (node_in role s)) → (o : Option CoordinatorState)
+    (ms : List MeterState) → AreSound o ms → All P (nodes_in o ms)
+nodes_are P one None ms sound = All-nil P
+nodes_are P one (Some c) ms sound =
+    All-cons P (of_coordinator c) (map of_meter ms) (one Coordinator (coordinators.node_of c) sound.coordinator)
+    (meters_are P (λ m h. one (Meter m.psk) (node_of m) h) ms sound.meters)

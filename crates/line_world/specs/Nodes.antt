@@ -1,5 +1,5 @@
 -- The nodes of a line, as the rules of the line see them.
-use Rattle.std.specs.Prelude.{Bool, List, [], ◌∷◌, Option, Some, None}
+use Rattle.std.specs.Prelude.{Bool, List, [], ◌∷◌, map, Option, Some, None}
 use Rattle.plc_base.specs.declared.address.Eui.{Eui}
 use Rattle.plc_base.specs.declared.keeper.Cut.{Cut}
 use Rattle.node_rules.specs.Accepting.{same_eui}
@@ -33,9 +33,9 @@ abbrev pub of_meter : MeterState → Node
 of_meter m = node_in (Meter m.psk) (meters.node_of m)
 
 -- the nodes by their numbers: the coordinator is node 0, and without one there is no node
-abbrev pub nodes_in : Option Node → List Node → List Node
-nodes_in None meters = []
-nodes_in (Some c) meters = c ∷ meters
+abbrev pub nodes_in : Option CoordinatorState → List MeterState → List Node
+nodes_in None ms = []
+nodes_in (Some c) ms = of_coordinator c ∷ map of_meter ms
 
 -- whether a meter has this EUI
 abbrev pub has_eui : Eui → MeterState → Bool

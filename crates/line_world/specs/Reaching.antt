@@ -166,13 +166,6 @@ pub record ReachedCommand (x : Node) (b : Beside) (c : NeighbourCommand) (old : 
   pub reached : Reached x b (Err (Known Store)) (λ y. hear_command in_memory y c) old number
       (reaches x b (Err (Known Store)) (λ y. hear_command in_memory y c)).answer before out new left
 
--- The coordinator did.
-pub record TookCommand (x : Node) (b : Beside) (c : NeighbourCommand) (reported : Commanded) (before out : Out) (node : Node)
-    (left : Beside) : Type 0 where
-  pub reports : ReportsCommand reported 0 (reaches x b (Err (Known Store)) (λ y. hear_command in_memory y c)).answer
-  pub took : TookAfter x b (Err (Known Store)) (λ y. hear_command in_memory y c)
-      (reaches x b (Err (Known Store)) (λ y. hear_command in_memory y c)).answer before out node left
-
 -- the log of a node that is not halted is what its store gives
 abbrev pub IsLogOf : Beside → Node → Type 0
 IsLogOf b x = IfSome x.memory (λ _. AgreesWith b.log x.store.records)

@@ -48,23 +48,15 @@ impl Line {
         self.events += 1;
     }
 
-    /// Counts an event of another kind than setup that was taken.
-    pub(crate) fn count_event(&mut self)
-        requires events { self.old.events < MAX_EVENTS }
-        ensures { self.new ≡ record self.old { events = self.old.events + 1; running = true } }
-    {
-        self.events += 1;
-        self.running = true;
-    }
-
-    /// Counts an event that changed nothing else, or nothing but nodes and the clock.
+    /// Counts an event of another kind than setup, which changed nothing else, or nothing but nodes and the clock.
     pub(crate) fn answered(&mut self, answer: Answer) -> Happenings<'static>
         requires events { self.old.events < MAX_EVENTS }
         requires flights { length self.old.flights.flights < u32.MAX }
         ensures line { self.new ≡ record self.old { events = self.old.events + 1; running = true } }
         ensures reported { result ≡ rules.happenings (world_of self.old) answer }
     {
-        self.count_event();
+        self.events += 1;
+        self.running = true;
         self.happenings(answer)
     }
 
@@ -144,7 +136,7 @@ impl Line {
     pub(crate) fn node(&self, number: u32) -> Result<usize, StepFault>
         ensures { result ≡ found (world_of self.now) number }
     {
-        if !self.has_begun() {
+        if self.nodes.is_empty() {
             return Err(StepFault::Setup);
         }
         let number = number as usize;
@@ -158,7 +150,7 @@ impl Line {
     pub(crate) fn meter_number(&self, node: u32) -> Result<usize, StepFault>
         ensures { result ≡ found_meter (world_of self.now) node }
     {
-        if !self.has_begun() {
+        if self.nodes.is_empty() {
             return Err(StepFault::Setup);
         }
         if node == 0 {

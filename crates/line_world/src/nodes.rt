@@ -3,19 +3,18 @@
 //!
 //! Each call of [`Nodes`] names a node, and takes the step that the rules of the nodes give for it, whichever writes of its
 //! keeper fail.
-ghost use Rattle.std.specs.Prelude.{◌≡◌, ◌≤◌, ◌<◌, ◌==◌, [], length, drop, position, IfSome, Some, slice_get};
+ghost use Rattle.std.specs.Prelude.{◌≡◌, ◌≤◌, ◌<◌, [], length, nat_lt, not, drop, position, IfSome, Some, slice_get};
 ghost use Rattle.std.specs.List.{list_any};
 ghost use Rattle.node_rules.specs.Memory as memory;
 ghost use Rattle.node_rules.specs.Accepting.{same_eui};
 ghost use Rattle.line_rules.specs.Steps.{psk_of};
+ghost use Rattle.line_world.specs.Nodes.{has_eui};
 
 mod command;
 mod creation;
 mod further;
 mod hearing;
 mod joining;
-mod line_coordinator;
-mod meters;
 mod node_receptions;
 mod ordering;
 mod reception;
@@ -27,10 +26,10 @@ mod station_steps;
 mod tables;
 mod time;
 
-use crate::nodes::line_coordinator::LineCoordinator;
-use crate::nodes::meters::Meters;
 pub(crate) use command::{CommandRef, command_on};
-use plc_base::{Eui, Key, Short};
+use coordinator::Coordinator;
+use meter_node::Meter;
+use plc_base::{Eui, Key, MemKeeper, Short};
 pub(crate) use reception::{HandedUp, Reception};
 use std::alloc::Global;
 use std::marker::Model;
@@ -41,24 +40,39 @@ use std::marker::Model;
 /// A contract sees the list of the nodes. Each node that is not halted agrees with its keeper.
 #[derive(Drop)]
 pub struct Nodes {
-    pub(crate) coordinator: Option<LineCoordinator>,
-    pub(crate) meters: Meters,
+    pub(crate) coordinator: Option<Coordinator<MemKeeper>>,
+    pub(crate) meters: Vec<Meter<MemKeeper>>,
 }
 
 impl Model for Nodes {
-    ghost use Rattle.std.specs.Prelude.{List, ◌≡◌, [], IfNone};
+    ghost use Rattle.std.specs.Prelude.{List};
     ghost use Rattle.node_rules.specs.Memory.{Node};
     ghost use Rattle.std.specs.Coded.{coded_list};
     ghost use Rattle.line_world.specs.NodeCodes.{node_code};
     ghost use Rattle.line_world.specs.Nodes.{nodes_in};
+    ghost use Rattle.line_world.specs.Soundness.{AreSound};
 
     ghost Value = { List Node };
 
     ghost coded = { coded_list node_code };
 
-    ghost view = { λ n. nodes_in n.coordinator n.meters };
+    ghost view = { λ n. nodes_in n.coordinator n.meters.items };
 
-    ghost invariant = { λ n. IfNone n.coordinator (n.meters ≡ []) };
+    ghost invariant = { λ n. AreSound n.coordinator n.meters.items };
+}
+
+// Whether a meter has an EUI.
+fn has_eui(meter: &Meter<MemKeeper>, eui: Eui) -> bool
+    ensures { result ≡ has_eui eui meter.now }
+{
+    meter.eui().number() == eui.number()
+}
+
+// The place of the first meter with an EUI.
+fn place_of(meters: &[Meter<MemKeeper>], eui: Eui) -> Option<usize>
+    ensures { result ≡ position (has_eui eui) meters.now }
+{
+    meters.iter().position(|meter| has_eui(meter, eui))
 }
 
 impl Nodes {
@@ -68,7 +82,7 @@ impl Nodes {
     {
         Nodes {
             coordinator: None,
-            meters: Meters::new(alloc),
+            meters: Vec::new(alloc),
         }
     }
 
@@ -84,7 +98,7 @@ impl Nodes {
 
     /// Whether there is no node.
     pub fn is_empty(&self) -> bool
-        ensures { result ≡ (length self.now == 0) }
+        ensures { result ≡ not (nat_lt 0 (length self.now)) }
     {
         self.coordinator.is_none()
     }
@@ -95,7 +109,7 @@ impl Nodes {
         ensures { IfSome (slice_get self.now number) (λ x. result ≡ memory.node_address x) }
     {
         if number > 0 {
-            return self.meters.address(number - 1);
+            return self.meters[number - 1].address();
         }
         let Some(coordinator) = &self.coordinator else {
             return None;
@@ -109,7 +123,7 @@ impl Nodes {
         requires there { number < length self.now }
         ensures { IfSome (slice_get self.now number) (λ x. result ≡ x.eui) }
     {
-        self.meters.eui(number - 1)
+        self.meters[number - 1].eui()
     }
 
     /// The pair key of a meter.
@@ -118,7 +132,7 @@ impl Nodes {
         requires there { number < length self.now }
         ensures { IfSome (slice_get self.now number) (λ x. psk_of x ≡ Some result) }
     {
-        self.meters.psk(number - 1)
+        self.meters[number - 1].psk()
     }
 
     /// The number of the first node with an EUI, None where no node has it.
@@ -131,8 +145,7 @@ impl Nodes {
         if coordinator.eui().number() == eui.number() {
             return Some(0);
         }
-        let _meters = self.meters.len();
-        let place = self.meters.position(eui)?;
+        let place = place_of(&self.meters, eui)?;
         Some(place + 1)
     }
 

@@ -1,11 +1,12 @@
 //! Nodes that are made.
 ghost use Rattle.std.specs.Prelude.{◌≡◌, ◌++◌, ◌∷◌, [], ◌<◌, length, OnOk, OnErr};
-ghost use Rattle.node_rules.specs.Memory.{Meter};
+ghost use Rattle.node_rules.specs.Memory as memory;
 ghost use Rattle.line_rules.specs.Steps.{blank_node, coordinator_node};
 
 use crate::nodes::Nodes;
-use crate::nodes::line_coordinator::LineCoordinator;
-use plc_base::{Eui, Key};
+use coordinator::Coordinator;
+use meter_node::Meter;
+use plc_base::{Eui, Key, MemKeeper};
 use std::alloc::{AllocError, Global};
 
 impl Nodes {
@@ -17,7 +18,10 @@ impl Nodes {
         ensures ok { OnOk result (self.new ≡ coordinator_node eui key.now ∷ []) }
         ensures err { OnErr result (self.new ≡ self.old) }
     {
-        let coordinator = LineCoordinator::new(alloc, eui, key)?;
+        let keeper = MemKeeper::new(alloc)?;
+        let Ok(coordinator) = Coordinator::open(alloc, keeper, eui, key) else {
+            return Err(AllocError);
+        };
         self.coordinator = Some(coordinator);
         Ok(())
     }
@@ -25,9 +29,14 @@ impl Nodes {
     /// Makes the next meter, with an empty store. It fails only where memory runs out, and the nodes are then as before.
     pub fn make_meter(&mut self, alloc: Global, eui: Eui, psk: Key) -> Result<(), AllocError>
         requires begun { 0 < length self.old }
-        ensures ok { OnOk result (self.new ≡ self.old ++ blank_node (Meter psk) eui ∷ []) }
+        ensures ok { OnOk result (self.new ≡ self.old ++ blank_node (memory.Meter psk) eui ∷ []) }
         ensures err { OnErr result (self.new ≡ self.old) }
     {
-        self.meters.make(alloc, eui, psk)
+        let keeper = MemKeeper::new(alloc)?;
+        let Ok(meter) = Meter::open(alloc, keeper, eui, psk) else {
+            return Err(AllocError);
+        };
+        self.meters.push(meter)?;
+        Ok(())
     }
 }

@@ -9,19 +9,13 @@ ghost use Rattle.reach_rules.specs.Broadcasts as broadcast_rules;
 ghost use Rattle.reach_rules.specs.CheckedReplies.{acknowledges};
 ghost use Rattle.reach_rules.specs.PathAsking.{ask_path};
 ghost use Rattle.reach_rules.specs.ReachingNodes.{restarted};
-ghost use Rattle.line_world.specs.Reaching.{DidAfter, IsLogOf, Reached, ReachedCommand, ReachedFirst, ReportsCommand, TookAlone, TookCommand, TookFirst};
+ghost use Rattle.line_world.specs.Reaching.{DidAfter, IsLogOf, ReachedCommand, ReachedFirst};
 ghost use Rattle.line_world.specs.Reaching.{command_of};
-ghost use Rattle.line_rules.specs.Further.{reaches};
-ghost use Rattle.node_rules.specs.declared.refusal.Dropped.TheVariants.{Store};
-ghost use Rattle.reach_rules.specs.declared.refusal.ReachDropped.TheVariants.{Known};
-ghost use Rattle.reach_rules.specs.Receiving.{hear_command};
 ghost use Rattle.plc_base.specs.declared.limits.TheConstants.{MOST_FRAMES};
 
 use crate::beside::Beside;
 use crate::nodes::Nodes;
 use crate::nodes::command::{CommandRef, Commanded};
-use crate::nodes::line_coordinator::LineCoordinator;
-use crate::nodes::meters::Meters;
 use crate::nodes::station_broadcasts::broadcast_at;
 use crate::nodes::station_further::{acknowledge_at, ask_at, hear_command_at};
 use line_events::Answer;
@@ -30,7 +24,7 @@ use plc_base::{BadStore, FrameBuf, Out, Short};
 use reach_rules::{AskRefusal, BroadcastRefusal};
 
 // The coordinator's address.
-fn coordinator() -> Short
+fn home() -> Short
     ensures { result ≡ 0 }
 {
     let Some(address) = Short::new(0) else {
@@ -57,203 +51,6 @@ fn own_cost(halted: bool) -> Option<u16>
     Some(0)
 }
 
-impl LineCoordinator {
-    /// Whether it is halted.
-    pub fn halted(&mut self) -> bool
-        ensures value { result ≡ not (is_some self.old.memory) }
-        ensures same { self.new ≡ self.old }
-    {
-        self.coordinator.station().halted()
-    }
-
-    /// The cost from it to itself, none where it is halted.
-    pub fn cost_to_coordinator(&mut self) -> Option<u16>
-        ensures value { result ≡ option_and_then (λ m. cost_to_coordinator self.old.role m.station) self.old.memory }
-        ensures same { self.new ≡ self.old }
-    {
-        own_cost(self.coordinator.station().halted())
-    }
-
-    /// Of what it holds beside its memory the log alone is left, as its store gives it.
-    pub fn reload_beside(&mut self, beside: &mut Beside) -> Result<(), BadStore>
-        ensures value { read_into result beside.new ≡ restarted self.old.store.records }
-        ensures same { self.new ≡ self.old }
-    {
-        beside.reload(self.coordinator.station().keeper_mut())
-    }
-
-    /// It sends a datagram to all.
-    pub fn broadcast(
-        &mut self,
-        beside: &mut Beside,
-        datagram: &[u8],
-        buffer: &mut FrameBuf,
-        out: &mut Out,
-    ) -> Result<(), BroadcastRefusal>
-        requires log { IsLogOf beside.old self.old }
-        ensures { TookFirst self.old beside.old (Err BroadcastRefusal.Halted)
-            (λ y. broadcast_rules.broadcast in_memory y datagram.now) result out.new self.new beside.new }
-    {
-        broadcast_at(self.coordinator.station(), beside, datagram, buffer, out)
-    }
-
-    /// It asks for the way to an address.
-    pub fn ask(
-        &mut self,
-        beside: &mut Beside,
-        target: Short,
-        buffer: &mut FrameBuf,
-        out: &mut Out,
-    ) -> Result<(), AskRefusal>
-        ensures { TookFirst self.old beside.old (Err AskRefusal.Halted)
-            (λ y. ask_path in_memory y target) result out.new self.new beside.new }
-    {
-        ask_at(self.coordinator.station(), beside, target, buffer, out)
-    }
-
-    /// It acknowledges a reply.
-    pub fn acknowledge(
-        &mut self,
-        reply: Reply,
-        buffer: &mut FrameBuf,
-        out: &mut Out,
-    ) -> Result<(), LocalRefusal>
-        requires number { 0 < reply.number }
-        requires joined { IfSome self.old.memory (λ m. IsSome m.station.ring) }
-        requires room { length out.old.frames < MOST_FRAMES }
-        ensures { TookAlone (acts self.old (Err LocalRefusal.Store) (λ m. acknowledges in_memory reply.to reply.number reply.origin m))
-            result out.old out.new self.new }
-    {
-        acknowledge_at(self.coordinator.station(), reply, buffer, out)
-    }
-
-    /// It hears a command for its neighbours.
-    pub fn hear_command<'a>(
-        &mut self,
-        beside: &mut Beside,
-        command: &CommandRef<'a>,
-        buffer: &mut FrameBuf,
-        out: &mut Out,
-    ) -> Commanded<'a>
-        requires log { IsLogOf beside.old self.old }
-        requires room { length out.old.frames < MOST_FRAMES }
-        ensures { TookCommand self.old beside.old (command_of command.now) result out.old out.new self.new beside.new }
-    {
-        hear_command_at(0, self.coordinator.station(), beside, command, buffer, out)
-    }
-}
-
-impl Meters {
-    /// Whether a meter is halted.
-    pub fn halted(&mut self, place: usize) -> bool
-        requires there { place < length self.old }
-        ensures value { IfSome (slice_get self.old place) (λ x. result ≡ not (is_some x.memory)) }
-        ensures same { self.new ≡ self.old }
-    {
-        self.meters[place].station().halted()
-    }
-
-    /// The cost of a meter's valid route to the coordinator.
-    pub fn cost_to_coordinator(&mut self, place: usize) -> Option<u16>
-        requires there { place < length self.old }
-        ensures value { IfSome (slice_get self.old place) (λ x. result ≡ option_and_then (λ m. cost_to_coordinator x.role m.station) x.memory) }
-        ensures same { self.new ≡ self.old }
-    {
-        cost_of(self.meters[place].station().valid(coordinator()))
-    }
-
-    /// Of what a meter holds beside its memory the log alone is left, as its store gives it.
-    pub fn reload_beside(&mut self, place: usize, beside: &mut Beside) -> Result<(), BadStore>
-        requires there { place < length self.old }
-        ensures value { IfSome (slice_get self.old place) (λ x. read_into result beside.new ≡ restarted x.store.records) }
-        ensures same { self.new ≡ self.old }
-    {
-        beside.reload(self.meters[place].station().keeper_mut())
-    }
-
-    /// A meter sends a datagram to all.
-    pub fn broadcast(
-        &mut self,
-        place: usize,
-        beside: &mut Beside,
-        datagram: &[u8],
-        buffer: &mut FrameBuf,
-        out: &mut Out,
-    ) -> Result<(), BroadcastRefusal>
-        requires there { place < length self.old }
-        requires log { IfSome (slice_get self.old place) (λ x. IsLogOf beside.old x) }
-        ensures { IfSome (slice_get self.old place) (λ x. ReachedFirst x beside.old (Err BroadcastRefusal.Halted)
-            (λ y. broadcast_rules.broadcast in_memory y datagram.now) self.old place result out.new self.new beside.new) }
-    {
-        broadcast_at(self.meters[place].station(), beside, datagram, buffer, out)
-    }
-
-    /// A meter asks for the way to an address.
-    pub fn ask(
-        &mut self,
-        place: usize,
-        beside: &mut Beside,
-        target: Short,
-        buffer: &mut FrameBuf,
-        out: &mut Out,
-    ) -> Result<(), AskRefusal>
-        requires there { place < length self.old }
-        ensures { IfSome (slice_get self.old place) (λ x. ReachedFirst x beside.old (Err AskRefusal.Halted)
-            (λ y. ask_path in_memory y target) self.old place result out.new self.new beside.new) }
-    {
-        ask_at(self.meters[place].station(), beside, target, buffer, out)
-    }
-
-    /// A meter acknowledges a reply.
-    pub fn acknowledge(
-        &mut self,
-        place: usize,
-        reply: Reply,
-        buffer: &mut FrameBuf,
-        out: &mut Out,
-    ) -> Result<(), LocalRefusal>
-        requires there { place < length self.old }
-        requires number { 0 < reply.number }
-        requires joined { IfSome (slice_get self.old place) (λ x. IfSome x.memory (λ m. IsSome m.station.ring)) }
-        requires room { length out.old.frames < MOST_FRAMES }
-        ensures { IfSome (slice_get self.old place) (λ x. DidAfter (acts x (Err LocalRefusal.Store)
-            (λ m. acknowledges in_memory reply.to reply.number reply.origin m)) self.old place result out.old out.new self.new) }
-    {
-        acknowledge_at(self.meters[place].station(), reply, buffer, out)
-    }
-
-    /// A meter hears a command for its neighbours. The node's number is one more than its place.
-    pub fn hear_command<'a>(
-        &mut self,
-        place: usize,
-        beside: &mut Beside,
-        command: &CommandRef<'a>,
-        buffer: &mut FrameBuf,
-        out: &mut Out,
-    ) -> Commanded<'a>
-        requires there { place < length self.old }
-        requires few { place < 999 }
-        requires log { IfSome (slice_get self.old place) (λ x. IsLogOf beside.old x) }
-        requires room { length out.old.frames < MOST_FRAMES }
-        ensures reports { IfSome (slice_get self.old place) (λ x. ReportsCommand result (place + 1) (reaches x beside.old (Err (Known Store))
-            (λ y. hear_command in_memory y (command_of command.now))).answer) }
-        ensures reached { IfSome (slice_get self.old place) (λ x. Reached x beside.old (Err (Known Store))
-            (λ y. hear_command in_memory y (command_of command.now)) self.old place
-            (reaches x beside.old (Err (Known Store)) (λ y. hear_command in_memory y (command_of command.now))).answer
-            out.old out.new self.new beside.new) }
-    {
-        let number = place as u16 + 1;
-        hear_command_at(
-            number,
-            self.meters[place].station(),
-            beside,
-            command,
-            buffer,
-            out,
-        )
-    }
-}
-
 impl Nodes {
     /// Whether a node is halted.
     pub fn halted(&mut self, number: usize) -> bool
@@ -262,12 +59,12 @@ impl Nodes {
         ensures same { self.new ≡ self.old }
     {
         if number > 0 {
-            return self.meters.halted(number - 1);
+            return self.meters[number - 1].station().halted();
         }
         let Some(coordinator) = &mut self.coordinator else {
             return true;
         };
-        coordinator.halted()
+        coordinator.station().halted()
     }
 
     /// The cost from a node to the coordinator: nothing from the coordinator itself, and from a meter that of its valid route. A halted node
@@ -278,12 +75,12 @@ impl Nodes {
         ensures same { self.new ≡ self.old }
     {
         if number > 0 {
-            return self.meters.cost_to_coordinator(number - 1);
+            return cost_of(self.meters[number - 1].station().valid(home()));
         }
         let Some(coordinator) = &mut self.coordinator else {
             return None;
         };
-        coordinator.cost_to_coordinator()
+        own_cost(coordinator.station().halted())
     }
 
     /// Of what a node holds beside its memory the log of broadcasts alone is left, as its store gives it. It takes no memory.
@@ -293,12 +90,12 @@ impl Nodes {
         ensures same { self.new ≡ self.old }
     {
         if number > 0 {
-            return self.meters.reload_beside(number - 1, beside);
+            return beside.reload(self.meters[number - 1].station().keeper_mut());
         }
         let Some(coordinator) = &mut self.coordinator else {
             return Ok(());
         };
-        coordinator.reload_beside(beside)
+        beside.reload(coordinator.station().keeper_mut())
     }
 
     /// A node sends a datagram to all. `buffer` is overwritten, and what goes out is in `out`.
@@ -316,14 +113,18 @@ impl Nodes {
             (λ y. broadcast_rules.broadcast in_memory y datagram.now) self.old number result out.new self.new beside.new) }
     {
         if number > 0 {
-            return self
-                .meters
-                .broadcast(number - 1, beside, datagram, buffer, out);
+            return broadcast_at(
+                self.meters[number - 1].station(),
+                beside,
+                datagram,
+                buffer,
+                out,
+            );
         }
         let Some(coordinator) = &mut self.coordinator else {
             return Err(BroadcastRefusal::Halted);
         };
-        coordinator.broadcast(beside, datagram, buffer, out)
+        broadcast_at(coordinator.station(), beside, datagram, buffer, out)
     }
 
     /// A node asks for the way to an address. `buffer` is overwritten, and what goes out is in `out`.
@@ -340,12 +141,18 @@ impl Nodes {
             (λ y. ask_path in_memory y target) self.old number result out.new self.new beside.new) }
     {
         if number > 0 {
-            return self.meters.ask(number - 1, beside, target, buffer, out);
+            return ask_at(
+                self.meters[number - 1].station(),
+                beside,
+                target,
+                buffer,
+                out,
+            );
         }
         let Some(coordinator) = &mut self.coordinator else {
             return Err(AskRefusal::Halted);
         };
-        coordinator.ask(beside, target, buffer, out)
+        ask_at(coordinator.station(), beside, target, buffer, out)
     }
 
     /// A node acknowledges a reply to the neighbour that sent it. `buffer` is overwritten, and what goes out comes after what `out` has.
@@ -364,12 +171,12 @@ impl Nodes {
             (λ m. acknowledges in_memory reply.to reply.number reply.origin m)) self.old number result out.old out.new self.new) }
     {
         if number > 0 {
-            return self.meters.acknowledge(number - 1, reply, buffer, out);
+            return acknowledge_at(self.meters[number - 1].station(), reply, buffer, out);
         }
         let Some(coordinator) = &mut self.coordinator else {
             return Err(LocalRefusal::Store);
         };
-        coordinator.acknowledge(reply, buffer, out)
+        acknowledge_at(coordinator.station(), reply, buffer, out)
     }
 
     /// A node hears a command for its neighbours. `buffer` is overwritten, and what goes out comes after what `out` has.
@@ -389,9 +196,14 @@ impl Nodes {
             self.new beside.new) }
     {
         if number > 0 {
-            return self
-                .meters
-                .hear_command(number - 1, beside, command, buffer, out);
+            return hear_command_at(
+                number as u16,
+                self.meters[number - 1].station(),
+                beside,
+                command,
+                buffer,
+                out,
+            );
         }
         let Some(coordinator) = &mut self.coordinator else {
             return Commanded {
@@ -400,6 +212,6 @@ impl Nodes {
                 path: None,
             };
         };
-        coordinator.hear_command(beside, command, buffer, out)
+        hear_command_at(0, coordinator.station(), beside, command, buffer, out)
     }
 }

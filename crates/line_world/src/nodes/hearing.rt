@@ -7,7 +7,9 @@ ghost use Rattle.line_rules.specs.Steps.{hearing_step};
 ghost use Rattle.line_world.specs.Receiving.{MayHear, Received};
 
 use crate::nodes::Nodes;
+use crate::nodes::node_receptions::{reception_of_coordinator, reception_of_meter};
 use crate::nodes::reception::Reception;
+use crate::nodes::station_further::reply_of;
 use line_events::Answer;
 use node_rules::Accepted;
 use plc_base::{DatagramBuf, LinkCost, Out};
@@ -33,9 +35,10 @@ impl Nodes {
             (λ x. result.replied ≡ reply_among (hearing_step network x got.now cost note now).frames) }
     {
         if number > 0 {
-            return self
-                .meters
-                .hear(number - 1, got, cost, note, now, datagram, out);
+            let meter = &mut self.meters[number - 1];
+            let heard = meter.hear(got, cost, note, now, datagram, out);
+            let replied = reply_of(meter.last_reply());
+            return reception_of_meter(&heard, replied);
         }
         let Some(coordinator) = &mut self.coordinator else {
             return Reception {
@@ -46,6 +49,8 @@ impl Nodes {
                 replied: None,
             };
         };
-        coordinator.hear(got, cost, note, now, datagram, out)
+        let heard = coordinator.hear(got, cost, note, now, datagram, out);
+        let replied = reply_of(coordinator.last_reply());
+        reception_of_coordinator(&heard, replied)
     }
 }

@@ -22,7 +22,7 @@ impl Nodes {
             self.old number result nothing self.new) }
     {
         if number > 0 {
-            return self.meters.give_random(number - 1, value);
+            return self.meters[number - 1].give_random(value);
         }
         let Some(coordinator) = &mut self.coordinator else {
             return Err(RandomFault::Halted);
@@ -37,7 +37,11 @@ impl Nodes {
         ensures { IfSome (slice_get self.old number) (λ x. Did
             (acts x (Ok tt) (λ m. meters.provision m grant.now)) self.old number result nothing self.new) }
     {
-        self.meters.provision(number - 1, grant)
+        let meter = &mut self.meters[number - 1];
+        if meter.station().halted() {
+            return Ok(());
+        }
+        meter.provision(grant)
     }
 
     /// A meter, which has a pair key, begins to join by an agent, at a time in seconds. What goes out is in `out`.
@@ -55,7 +59,7 @@ impl Nodes {
             (acts x (Err JoinRefusal.Halted) (λ m. meters.join (identity network x psk) m agent now))
             self.old number result out.new self.new)) }
     {
-        self.meters.join(number - 1, agent, now, out)
+        self.meters[number - 1].join(agent, now, out)
     }
 
     /// A meter leaves.
@@ -65,6 +69,6 @@ impl Nodes {
         ensures { IfSome (slice_get self.old number) (λ x. Did
             (acts x (Err LeaveRefusal.Halted) meters.leave) self.old number result nothing self.new) }
     {
-        self.meters.leave(number - 1)
+        self.meters[number - 1].leave()
     }
 }

@@ -5,19 +5,20 @@ ghost use Rattle.line_world.specs.Receiving.{ReportsReception};
 
 use crate::nodes::reception::{HandedUp, Reception};
 use line_events::Answer;
-use node_rules::{CoordinatorHeard, Dropped, Heard, MeterHeard};
+use node_rules::{CoordinatorHeard, Dropped, Heard, MeterHeard, Reply};
 use plc_base::OctetRef;
 
-// A word and nothing beside it.
-fn only(answer: Answer) -> Reception<'static>
-    ensures { ReportsReception result (rules.only answer) }
+// A word, the reply that the station sent last, and nothing beside them.
+fn only(answer: Answer, replied: Option<Reply>) -> Reception<'static>
+    ensures reports { ReportsReception result (rules.only answer) }
+    ensures replied { result.replied ≡ replied }
 {
     Reception {
         answer,
         up: None,
         took: false,
         done: None,
-        replied: None,
+        replied,
     }
 }
 
@@ -50,8 +51,9 @@ pub(crate) fn drop_word(reason: Dropped) -> Answer
 }
 
 // What a station made of a frame.
-fn reception_of_station<'a>(heard: &Heard<'a>) -> Reception<'a>
-    ensures { ReportsReception result (rules.station_reception heard.now) }
+fn reception_of_station<'a>(heard: &Heard<'a>, replied: Option<Reply>) -> Reception<'a>
+    ensures reports { ReportsReception result (rules.station_reception heard.now) }
+    ensures replied { result.replied ≡ replied }
 {
     match heard {
         Heard::Up { note, octets, .. } => Reception {
@@ -62,79 +64,87 @@ fn reception_of_station<'a>(heard: &Heard<'a>) -> Reception<'a>
             }),
             took: false,
             done: None,
-            replied: None,
+            replied,
         },
-        Heard::Held => only(Answer::Held),
-        Heard::Relayed => only(Answer::Relayed),
-        Heard::Answered => only(Answer::Answered),
-        Heard::Learned => only(Answer::Learned),
-        Heard::Broken => only(Answer::Broken),
-        Heard::Reported => only(Answer::Reported),
+        Heard::Held => only(Answer::Held, replied),
+        Heard::Relayed => only(Answer::Relayed, replied),
+        Heard::Answered => only(Answer::Answered, replied),
+        Heard::Learned => only(Answer::Learned, replied),
+        Heard::Broken => only(Answer::Broken, replied),
+        Heard::Reported => only(Answer::Reported, replied),
         // A node reads each joining command by itself, and no line of a script sends the commands 03, 04 and 05.
-        Heard::Joining { .. } => only(Answer::BadUnit),
-        Heard::Local { .. } => only(Answer::BadUnit),
+        Heard::Joining { .. } => only(Answer::BadUnit, replied),
+        Heard::Local { .. } => only(Answer::BadUnit, replied),
     }
 }
 
 // What a meter made of a frame that it did not drop.
-fn meter_words<'a>(heard: &MeterHeard<'a>) -> Reception<'a>
-    ensures { ReportsReception result (rules.meter_reception (Ok heard.now)) }
+fn meter_words<'a>(heard: &MeterHeard<'a>, replied: Option<Reply>) -> Reception<'a>
+    ensures reports { ReportsReception result (rules.meter_reception (Ok heard.now)) }
+    ensures replied { result.replied ≡ replied }
 {
     match heard {
-        MeterHeard::Station(heard) => reception_of_station(heard),
-        MeterHeard::Carried => only(Answer::Carried),
-        MeterHeard::Replied => only(Answer::Replied),
+        MeterHeard::Station(heard) => reception_of_station(heard, replied),
+        MeterHeard::Carried => only(Answer::Carried, replied),
+        MeterHeard::Replied => only(Answer::Replied, replied),
         MeterHeard::Took(_) => Reception {
             answer: Answer::Took,
             up: None,
             took: true,
             done: None,
-            replied: None,
+            replied,
         },
-        MeterHeard::Noted => only(Answer::Noted),
-        MeterHeard::Declined => only(Answer::Declined),
-        MeterHeard::Left => only(Answer::Left),
-        MeterHeard::Activated => only(Answer::Activated),
+        MeterHeard::Noted => only(Answer::Noted, replied),
+        MeterHeard::Declined => only(Answer::Declined, replied),
+        MeterHeard::Left => only(Answer::Left, replied),
+        MeterHeard::Activated => only(Answer::Activated, replied),
     }
 }
 
 // What a meter made of a frame.
-pub(crate) fn reception_of_meter<'a>(heard: &Result<MeterHeard<'a>, Dropped>) -> Reception<'a>
-    ensures { ReportsReception result (rules.meter_reception heard.now) }
+pub(crate) fn reception_of_meter<'a>(
+    heard: &Result<MeterHeard<'a>, Dropped>,
+    replied: Option<Reply>,
+) -> Reception<'a>
+    ensures reports { ReportsReception result (rules.meter_reception heard.now) }
+    ensures replied { result.replied ≡ replied }
 {
     match heard {
-        Ok(heard) => meter_words(heard),
-        Err(reason) => only(drop_word(*reason)),
+        Ok(heard) => meter_words(heard, replied),
+        Err(reason) => only(drop_word(*reason), replied),
     }
 }
 
 // What the coordinator made of a frame that it did not drop.
-fn coordinator_words<'a>(heard: &CoordinatorHeard<'a>) -> Reception<'a>
-    ensures { ReportsReception result (rules.coordinator_reception (Ok heard.now)) }
+fn coordinator_words<'a>(heard: &CoordinatorHeard<'a>, replied: Option<Reply>) -> Reception<'a>
+    ensures reports { ReportsReception result (rules.coordinator_reception (Ok heard.now)) }
+    ensures replied { result.replied ≡ replied }
 {
     match heard {
-        CoordinatorHeard::Station(heard) => reception_of_station(heard),
-        CoordinatorHeard::Challenged => only(Answer::Challenged),
-        CoordinatorHeard::Keyed { .. } => only(Answer::Keyed),
+        CoordinatorHeard::Station(heard) => reception_of_station(heard, replied),
+        CoordinatorHeard::Challenged => only(Answer::Challenged, replied),
+        CoordinatorHeard::Keyed { .. } => only(Answer::Keyed, replied),
         CoordinatorHeard::Done { eui, .. } => Reception {
             answer: Answer::Done,
             up: None,
             took: false,
             done: Some(*eui),
-            replied: None,
+            replied,
         },
-        CoordinatorHeard::Declined => only(Answer::Declined),
+        CoordinatorHeard::Declined => only(Answer::Declined, replied),
     }
 }
 
 // What the coordinator made of a frame.
 pub(crate) fn reception_of_coordinator<'a>(
     heard: &Result<CoordinatorHeard<'a>, Dropped>,
+    replied: Option<Reply>,
 ) -> Reception<'a>
-    ensures { ReportsReception result (rules.coordinator_reception heard.now) }
+    ensures reports { ReportsReception result (rules.coordinator_reception heard.now) }
+    ensures replied { result.replied ≡ replied }
 {
     match heard {
-        Ok(heard) => coordinator_words(heard),
-        Err(reason) => only(drop_word(*reason)),
+        Ok(heard) => coordinator_words(heard, replied),
+        Err(reason) => only(drop_word(*reason), replied),
     }
 }

@@ -1,6 +1,4 @@
 //! What a node makes of a frame, for the line.
-ghost use Rattle.std.specs.Prelude.{◌≡◌};
-
 use line_events::Answer;
 use node_rules::Reply;
 use plc_base::{Eui, OctetRef};
@@ -27,19 +25,4 @@ pub struct Reception<'a> {
     pub done: Option<Eui>,
     /// The reply that the node's station sent last, for a frame that carries a route message.
     pub replied: Option<Reply>,
-}
-
-impl<'a> Reception<'a> {
-    /// The same, with the reply that the station sent last.
-    pub fn with_reply(self, replied: Option<Reply>) -> Reception<'a>
-        ensures { result ≡ record self.entry { replied = replied } }
-    {
-        Reception {
-            answer: self.answer,
-            up: self.up,
-            took: self.took,
-            done: self.done,
-            replied,
-        }
-    }
 }

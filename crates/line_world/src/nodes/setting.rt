@@ -7,6 +7,7 @@ ghost use Rattle.line_rules.specs.Steps.{keeps_rank, ranks_full};
 ghost use Rattle.line_world.specs.NodeOutcomes.{Did};
 
 use crate::nodes::Nodes;
+use crate::nodes::station_steps::{has_rank, is_full, offer_near, set_counter, set_number};
 use node_rules::PresetFault;
 use plc_base::{LinkCost, Short};
 
@@ -19,12 +20,12 @@ impl Nodes {
             self.old number result nothing self.new) }
     {
         if number > 0 {
-            return self.meters.preset_counter(number - 1, value);
+            return set_counter(self.meters[number - 1].station(), value);
         }
         let Some(coordinator) = &mut self.coordinator else {
             return Ok(());
         };
-        coordinator.preset_counter(value)
+        set_counter(coordinator.station(), value)
     }
 
     /// Sets the last own number of a node.
@@ -36,12 +37,12 @@ impl Nodes {
             self.old number result nothing self.new) }
     {
         if number > 0 {
-            return self.meters.preset_number(number - 1, value);
+            return set_number(self.meters[number - 1].station(), value);
         }
         let Some(coordinator) = &mut self.coordinator else {
             return Ok(());
         };
-        coordinator.preset_number(value)
+        set_number(coordinator.station(), value)
     }
 
     /// Offers a neighbour over a link of this cost to a node, as a route by itself, at a time in seconds.
@@ -58,12 +59,12 @@ impl Nodes {
             self.old number result nothing self.new) }
     {
         if number > 0 {
-            return self.meters.preset_near(number - 1, to, cost, now);
+            return offer_near(self.meters[number - 1].station(), to, cost, now);
         }
         let Some(coordinator) = &mut self.coordinator else {
             return Ok(());
         };
-        coordinator.preset_near(to, cost, now)
+        offer_near(coordinator.station(), to, cost, now)
     }
 
     /// Whether a node keeps a rank of an address. A halted one keeps none.
@@ -73,12 +74,12 @@ impl Nodes {
         ensures same { self.new ≡ self.old }
     {
         if number > 0 {
-            return self.meters.keeps_rank(number - 1, dest);
+            return has_rank(self.meters[number - 1].station(), dest);
         }
         let Some(coordinator) = &mut self.coordinator else {
             return false;
         };
-        coordinator.keeps_rank(dest)
+        has_rank(coordinator.station(), dest)
     }
 
     /// Whether a node keeps 64 ranks. A halted one keeps none.
@@ -88,11 +89,11 @@ impl Nodes {
         ensures same { self.new ≡ self.old }
     {
         if number > 0 {
-            return self.meters.ranks_full(number - 1);
+            return is_full(self.meters[number - 1].station());
         }
         let Some(coordinator) = &mut self.coordinator else {
             return false;
         };
-        coordinator.ranks_full()
+        is_full(coordinator.station())
     }
 }

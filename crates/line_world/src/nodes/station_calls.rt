@@ -13,6 +13,7 @@ ghost use Rattle.line_world.specs.NodeOutcomes.{Did};
 ghost use Rattle.line_world.specs.Receiving.{MayHear};
 
 use crate::nodes::Nodes;
+use crate::nodes::station_steps::break_at;
 use line_events::Answer;
 use node_rules::{Accepted, FrameRefusal, SendRefusal, SentHow, Shown};
 use plc_base::{FrameBuf, Out, Short};
@@ -32,12 +33,12 @@ impl Nodes {
         ensures hears { IfOk result (λ got. IfSome (slice_get self.new number) (λ x. MayHear x got)) }
     {
         if number > 0 {
-            return self.meters.accept(number - 1, octets, payload);
+            return self.meters[number - 1].station().accept(octets, payload);
         }
         let Some(coordinator) = &mut self.coordinator else {
             return Err(FrameRefusal::Halted);
         };
-        coordinator.accept(octets, payload)
+        coordinator.station().accept(octets, payload)
     }
 
     /// A node sends a datagram to an address, under a number of the caller's, at a time in seconds. What goes out is in `out`.
@@ -56,12 +57,14 @@ impl Nodes {
             self.old number result out.new self.new) }
     {
         if number > 0 {
-            return self.meters.send(number - 1, to, datagram, note, now, out);
+            return self.meters[number - 1]
+                .station()
+                .send(to, datagram, note, now, out);
         }
         let Some(coordinator) = &mut self.coordinator else {
             return Err(SendRefusal::Halted);
         };
-        coordinator.send(to, datagram, note, now, out)
+        coordinator.station().send(to, datagram, note, now, out)
     }
 
     /// The link of a node to a neighbour broke.
@@ -72,12 +75,12 @@ impl Nodes {
             self.old number result nothing self.new) }
     {
         if number > 0 {
-            return self.meters.broke(number - 1, next);
+            return break_at(self.meters[number - 1].station(), next);
         }
         let Some(coordinator) = &mut self.coordinator else {
             return Answer::Halted;
         };
-        coordinator.broke(next)
+        break_at(coordinator.station(), next)
     }
 
     /// Fills in what is shown of a node.
@@ -87,12 +90,12 @@ impl Nodes {
         ensures same { self.new ≡ self.old }
     {
         if number > 0 {
-            self.meters.show(number - 1, out);
+            self.meters[number - 1].station().shown(out);
             return;
         }
         let Some(coordinator) = &mut self.coordinator else {
             return;
         };
-        coordinator.show(out);
+        coordinator.station().shown(out);
     }
 }

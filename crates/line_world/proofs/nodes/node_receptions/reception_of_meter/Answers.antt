@@ -5,9 +5,9 @@ use Rattle.line_events.specs.declared.event.Answer.{Answer}
 use Rattle.line_world.specs.Receiving.{ReportsReception}
 use Rattle.line_world.proofs.nodes.node_receptions.reception_of_meter.Goals as goal
 
-pub returns-in-Ok : goal.returns-in-Ok
-returns-in-Ok c = rw c.in-Ok.is c.meter_words.ensures
+pub returns-in-Ok-clause-reports : goal.returns-in-Ok-clause-reports
+returns-in-Ok-clause-reports c = rw c.in-Ok.is c.meter_words.ensures.reports
 
-pub returns-in-Err : goal.returns-in-Err
-returns-in-Err c =
-    rw c.in-Err.is (subst (λ (w : Answer). ReportsReception c.only.result (rules.only w)) c.drop_word.ensures c.only.ensures)
+pub returns-in-Err-clause-reports : goal.returns-in-Err-clause-reports
+returns-in-Err-clause-reports c =
+    rw c.in-Err.is (subst (λ (w : Answer). ReportsReception c.only.result (rules.only w)) c.drop_word.ensures c.only.ensures.reports)

@@ -1,26 +1,26 @@
 -- What a station made of a frame is told.
 use Rattle.line_world.proofs.nodes.node_receptions.reception_of_station.Goals as goal
 
-pub returns-in-Held : goal.returns-in-Held
-returns-in-Held c = rw c.in-Held.is c.only.ensures
+pub returns-in-Held-clause-reports : goal.returns-in-Held-clause-reports
+returns-in-Held-clause-reports c = rw c.in-Held.is c.only.ensures.reports
 
-pub returns-in-Relayed : goal.returns-in-Relayed
-returns-in-Relayed c = rw c.in-Relayed.is c.only-in-Relayed.ensures
+pub returns-in-Relayed-clause-reports : goal.returns-in-Relayed-clause-reports
+returns-in-Relayed-clause-reports c = rw c.in-Relayed.is c.only-in-Relayed.ensures.reports
 
-pub returns-in-Answered : goal.returns-in-Answered
-returns-in-Answered c = rw c.in-Answered.is c.only-in-Answered.ensures
+pub returns-in-Answered-clause-reports : goal.returns-in-Answered-clause-reports
+returns-in-Answered-clause-reports c = rw c.in-Answered.is c.only-in-Answered.ensures.reports
 
-pub returns-in-Learned : goal.returns-in-Learned
-returns-in-Learned c = rw c.in-Learned.is c.only-in-Learned.ensures
+pub returns-in-Learned-clause-reports : goal.returns-in-Learned-clause-reports
+returns-in-Learned-clause-reports c = rw c.in-Learned.is c.only-in-Learned.ensures.reports
 
-pub returns-in-Broken : goal.returns-in-Broken
-returns-in-Broken c = rw c.in-Broken.is c.only-in-Broken.ensures
+pub returns-in-Broken-clause-reports : goal.returns-in-Broken-clause-reports
+returns-in-Broken-clause-reports c = rw c.in-Broken.is c.only-in-Broken.ensures.reports
 
-pub returns-in-Reported : goal.returns-in-Reported
-returns-in-Reported c = rw c.in-Reported.is c.only-in-Reported.ensures
+pub returns-in-Reported-clause-reports : goal.returns-in-Reported-clause-reports
+returns-in-Reported-clause-reports c = rw c.in-Reported.is c.only-in-Reported.ensures.reports
 
-pub returns-in-Joining : goal.returns-in-Joining
-returns-in-Joining c = rw c.in-Joining.is c.only-in-Joining.ensures
+pub returns-in-Joining-clause-reports : goal.returns-in-Joining-clause-reports
+returns-in-Joining-clause-reports c = rw c.in-Joining.is c.only-in-Joining.ensures.reports
 
-pub returns-in-Local : goal.returns-in-Local
-returns-in-Local c = rw c.in-Local.is c.only-in-Local.ensures
+pub returns-in-Local-clause-reports : goal.returns-in-Local-clause-reports
+returns-in-Local-clause-reports c = rw c.in-Local.is c.only-in-Local.ensures.reports

@@ -1,0 +1,34 @@
+-- What the coordinator did.
+use Rattle.std.proofs.Common.{Err, refl}
+use Rattle.coordinator.specs.CoordinatorStates.{identity_of, node_of}
+use Rattle.node_rules.proofs.RingPuts.{coordinators_write_no_ring}
+use Rattle.node_rules.proofs.TablePlans.{coordinators_in_place}
+use Rattle.node_rules.specs.Carrying.{nothing}
+use Rattle.node_rules.specs.Coordinators as rules
+use Rattle.node_rules.specs.declared.refusal.CoordinatorRefusal.TheVariants as orders
+use Rattle.node_rules.specs.NodeSteps.{acts}
+use Rattle.line_world.proofs.Acting.{gives_nothing}
+use Rattle.line_world.proofs.CoordinatorActing.{holds, own_took, ringless_sound}
+use Rattle.line_world.proofs.NumberedNodes.{coordinator_at, its_did_at, its_sound, its_sound_with}
+use Rattle.line_world.proofs.nodes.Nodes.allow.Goals as goal
+
+pub allow-requires : goal.allow-requires
+allow-requires c =
+    let at = coordinator_at c.self.inside.coordinator c.self.inside.meters.items _ 0 c.in-Some.coordinator c.self.view_is c.self.invariant c.in-Some.is refl in
+    record { holds = holds c.in-Some.coordinator (its_sound at) }
+
+pub returns : goal.returns
+returns c =
+    let at = coordinator_at c.self.inside.coordinator c.self.inside.meters.items _ 0 c.in-Some.coordinator c.self.view_is c.self.invariant c.in-Some.is refl in
+    its_did_at at (λ n. acts n (Err orders.Halted) (λ m. rules.allow m c.args.eui c.args.psk.now)) c.allow.new.self c.allow.result nothing
+    (own_took c.in-Some.coordinator c.allow.new.self (Err orders.Halted) (λ m. rules.allow m c.args.eui c.args.psk.now) c.allow.result nothing (its_sound at)
+    (gives_nothing (node_of c.in-Some.coordinator).memory _ _ c.allow.ensures.halted) c.allow.ensures.carries)
+
+pub invariant_of-self-2 : goal.invariant_of-self-2
+invariant_of-self-2 c =
+    let at = coordinator_at c.self.inside.coordinator c.self.inside.meters.items _ 0 c.in-Some.coordinator c.self.view_is c.self.invariant c.in-Some.is refl in
+    its_sound_with at c.allow.new.self
+    (ringless_sound c.in-Some.coordinator c.allow.new.self (Err orders.Halted) (λ m. rules.allow m c.args.eui c.args.psk.now) c.allow.result nothing
+    (λ m short. (coordinators_in_place (identity_of c.in-Some.coordinator) m short).allows c.args.eui c.args.psk.now)
+    (λ m. (coordinators_write_no_ring (identity_of c.in-Some.coordinator) m).allows c.args.eui c.args.psk.now) (its_sound at)
+    (gives_nothing (node_of c.in-Some.coordinator).memory _ _ c.allow.ensures.halted) c.allow.ensures.carries c.allow.ensures.holds)

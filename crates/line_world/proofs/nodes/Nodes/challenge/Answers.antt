@@ -1,0 +1,35 @@
+-- What the coordinator did.
+use Rattle.std.proofs.Common.{Err, refl}
+use Rattle.coordinator.specs.CoordinatorStates.{identity_of}
+use Rattle.node_rules.proofs.RingPuts.{coordinators_write_no_ring}
+use Rattle.node_rules.proofs.TablePlans.{coordinators_in_place}
+use Rattle.node_rules.specs.Coordinators as rules
+use Rattle.node_rules.specs.declared.refusal.CoordinatorRefusal.TheVariants as orders
+use Rattle.node_rules.specs.NodeSteps.{acts}
+use Rattle.line_world.proofs.CoordinatorActing.{holds, own_took, ringless_sound}
+use Rattle.line_world.proofs.NumberedNodes.{coordinator_at, its_did_at, its_sound, its_sound_with}
+use Rattle.line_world.proofs.nodes.Nodes.challenge.Goals as goal
+
+pub challenge-requires : goal.challenge-requires
+challenge-requires c =
+    let at = coordinator_at c.self.inside.coordinator c.self.inside.meters.items _ 0 c.in-Some.coordinator c.self.view_is c.self.invariant c.in-Some.is refl in
+    record { holds = holds c.in-Some.coordinator (its_sound at) }
+
+pub returns : goal.returns
+returns c =
+    let at = coordinator_at c.self.inside.coordinator c.self.inside.meters.items _ 0 c.in-Some.coordinator c.self.view_is c.self.invariant c.in-Some.is refl in
+    its_did_at at (λ n. acts n (Err orders.Halted) (λ m. rules.challenge n.eui m c.args.eui c.args.now)) c.challenge.new.self c.challenge.result
+    c.challenge.new.out
+    (own_took c.in-Some.coordinator c.challenge.new.self (Err orders.Halted) (λ m. rules.challenge c.in-Some.coordinator.station.eui m c.args.eui c.args.now)
+    c.challenge.result c.challenge.new.out (its_sound at)
+    c.challenge.ensures.halted c.challenge.ensures.carries)
+
+pub invariant_of-self-2 : goal.invariant_of-self-2
+invariant_of-self-2 c =
+    let at = coordinator_at c.self.inside.coordinator c.self.inside.meters.items _ 0 c.in-Some.coordinator c.self.view_is c.self.invariant c.in-Some.is refl in
+    its_sound_with at c.challenge.new.self
+    (ringless_sound c.in-Some.coordinator c.challenge.new.self (Err orders.Halted)
+    (λ m. rules.challenge c.in-Some.coordinator.station.eui m c.args.eui c.args.now) c.challenge.result c.challenge.new.out
+    (λ m short. (coordinators_in_place (identity_of c.in-Some.coordinator) m short).challenges c.args.eui c.args.now)
+    (λ m. (coordinators_write_no_ring (identity_of c.in-Some.coordinator) m).challenges c.args.eui c.args.now) (its_sound at)
+    c.challenge.ensures.halted c.challenge.ensures.carries c.challenge.ensures.holds)

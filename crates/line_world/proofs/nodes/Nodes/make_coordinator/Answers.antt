@@ -1,0 +1,21 @@
+-- The coordinator is made.
+use Rattle.std.proofs.Common.{ap, ◌∙◌}
+use Rattle.line_world.proofs.CoordinatorOpening.{made, made_sound, may_begin, no_gaps}
+use Rattle.line_world.proofs.Making.{first_node}
+use Rattle.line_world.proofs.nodes.Nodes.make_coordinator.Goals as goal
+
+pub returns-clause-ok : goal.returns-clause-ok
+returns-clause-ok c =
+    first_node c.self.inside.coordinator c.self.inside.meters.items c.args.self.now c.in-Ok.coordinator _ c.self.view_is c.requires c.self.invariant
+    (made c.in_ok-keeper.keeper c.args.eui c.args.key.now c.in-Ok.coordinator c.in_ok-keeper.ensures c.in-Ok.ensures.opened)
+
+pub invariant_of-self : goal.invariant_of-self
+invariant_of-self c =
+    let gaps = no_gaps c.in_ok-keeper.keeper c.args.eui c.args.key.now c.in-Ok.coordinator c.in_ok-keeper.ensures in
+    let may = may_begin c.in_ok-keeper.keeper c.args.eui c.args.key.now c.in-Ok.coordinator c.in_ok-keeper.ensures in
+    record {
+      coordinator = made_sound c.in_ok-keeper.keeper c.args.eui c.args.key.now c.in-Ok.coordinator c.in_ok-keeper.ensures
+          c.in-Ok.ensures.opened c.in-Ok.ensures.running (c.in-Ok.ensures.holds gaps.marks gaps.ranks gaps.entries may);
+      meters = c.self.invariant.meters;
+      begun = tt;
+    }

@@ -1,0 +1,58 @@
+-- What the station of a node did, the node of its number did.
+use Rattle.std.proofs.Common.{Ok, Err, arith}
+use Rattle.node_rules.specs.Calls as calls
+use Rattle.node_rules.specs.Carrying.{nothing}
+use Rattle.line_world.proofs.LentStations.{near_own}
+use Rattle.line_world.proofs.Acting.{gives_nothing}
+use Rattle.line_world.proofs.LentNodes.{coordinator_lends, lent_agrees, meter_lends, station_did, station_sound}
+use Rattle.line_world.proofs.nodes.Nodes.preset_near.Goals as goal
+
+pub offer_near-requires : goal.offer_near-requires
+offer_near-requires c =
+    let its = meter_lends c.self.inside.coordinator c.self.inside.meters.items _ c.args.number c.index_mut.result.now c.station.result.now c.self.view_is
+    c.self.invariant
+    c.if-number-gt0.true c.requires.there c.index_mut.ensures.value c.station.ensures.value in
+    record { agrees = lent_agrees its }
+
+pub returns-then-number-gt0 : goal.returns-then-number-gt0
+returns-then-number-gt0 c =
+    let its = meter_lends c.self.inside.coordinator c.self.inside.meters.items _ c.args.number c.index_mut.result.now c.station.result.now c.self.view_is
+    c.self.invariant
+    c.if-number-gt0.true c.requires.there c.index_mut.ensures.value c.station.ensures.value in
+    station_did its (Ok tt) (λ _ l. calls.preset_near l c.args.to c.args.cost c.args.now) c.offer_near.new.station c.offer_near.result nothing
+    (gives_nothing c.station.result.now.memory _ _ c.offer_near.ensures.halted)
+    c.offer_near.ensures.carries
+
+pub invariant_of-self : goal.invariant_of-self
+invariant_of-self c =
+    let its = meter_lends c.self.inside.coordinator c.self.inside.meters.items _ c.args.number c.index_mut.result.now c.station.result.now c.self.view_is
+    c.self.invariant
+    c.if-number-gt0.true c.requires.there c.index_mut.ensures.value c.station.ensures.value in
+    station_sound its (Ok tt) (λ _ l. calls.preset_near l c.args.to c.args.cost c.args.now) c.offer_near.new.station c.offer_near.result nothing
+    (gives_nothing c.station.result.now.memory _ _ c.offer_near.ensures.halted)
+    c.offer_near.ensures.carries (near_own _ c.args.to c.args.cost c.args.now) c.offer_near.ensures.agrees
+
+pub offer_near-requires-2 : goal.offer_near-requires-2
+offer_near-requires-2 c =
+    let its = coordinator_lends c.self.inside.coordinator c.self.inside.meters.items _ c.args.number c.in-Some.coordinator c.station-2.result.now c.self.view_is
+    c.self.invariant c.in-Some.is
+    (omega (arith, c.if-number-gt0.false)) c.station-2.ensures.value in
+    record { agrees = lent_agrees its }
+
+pub returns : goal.returns
+returns c =
+    let its = coordinator_lends c.self.inside.coordinator c.self.inside.meters.items _ c.args.number c.in-Some.coordinator c.station-2.result.now c.self.view_is
+    c.self.invariant c.in-Some.is
+    (omega (arith, c.if-number-gt0.false)) c.station-2.ensures.value in
+    station_did its (Ok tt) (λ _ l. calls.preset_near l c.args.to c.args.cost c.args.now) c.offer_near-2.new.station c.offer_near-2.result nothing
+    (gives_nothing c.station-2.result.now.memory _ _ c.offer_near-2.ensures.halted)
+    c.offer_near-2.ensures.carries
+
+pub invariant_of-self-2 : goal.invariant_of-self-2
+invariant_of-self-2 c =
+    let its = coordinator_lends c.self.inside.coordinator c.self.inside.meters.items _ c.args.number c.in-Some.coordinator c.station-2.result.now c.self.view_is
+    c.self.invariant c.in-Some.is
+    (omega (arith, c.if-number-gt0.false)) c.station-2.ensures.value in
+    station_sound its (Ok tt) (λ _ l. calls.preset_near l c.args.to c.args.cost c.args.now) c.offer_near-2.new.station c.offer_near-2.result nothing
+    (gives_nothing c.station-2.result.now.memory _ _ c.offer_near-2.ensures.halted)
+    c.offer_near-2.ensures.carries (near_own _ c.args.to c.args.cost c.args.now) c.offer_near-2.ensures.agrees
