@@ -20,7 +20,7 @@ pub trait Modem {
 pub enum Trouble {
     /// The node refused it, and is as before.
     Refused,
-    /// A write to the flash failed: the node is halted. Look after the flash, and call `restart`.
+    /// A write to the flash failed: the node is halted. Open the flash again, and call `reopen`.
     Halted,
 }
 
@@ -107,8 +107,10 @@ impl Driver {
         self.meter.tick(now);
     }
 
-    /// Reads the flash again, after a write that failed.
-    pub fn restart(&mut self) -> Result<(), Trouble> {
+    /// Goes on after a write that failed, over the flash that was opened again: never over the object whose write failed, since what that one answers may
+    /// not be what the next opening finds. Random values are to be given again.
+    pub fn reopen(&mut self, flash: Flash) -> Result<(), Trouble> {
+        *self.meter.station().keeper_mut() = flash;
         self.meter.restart().map_err(|_| Trouble::Halted)
     }
 

@@ -60,9 +60,16 @@ mod on_a_board {
             2 => driver.send(&mut Board, Short::new(event.number).ok_or(Trouble::Refused)?, octets, event.now)?,
             3 => driver.give_random(Rand(octets.try_into().map_err(|_| Trouble::Refused)?))?,
             4 => driver.join(&mut Board, Short::new(event.number).ok_or(Trouble::Refused)?, event.now)?,
-            _ => driver.restart()?,
+            _ => reopen(driver)?,
         }
         Ok(())
+    }
+
+    /// Goes on after a write that failed. It is no part of `handle`, so that the flash is not on the stack of the other calls.
+    #[inline(never)]
+    fn reopen(driver: &mut Driver) -> Result<(), Trouble> {
+        // The stand-in has forgotten all by then, as after a loss of power; yours finds its records.
+        driver.reopen(Flash::new())
     }
 
     static mut DRIVER: MaybeUninit<Driver> = MaybeUninit::uninit();
