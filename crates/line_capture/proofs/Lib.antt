@@ -1,0 +1,11 @@
+pub mod Adding
+pub mod Arrivals
+pub mod Flights
+pub mod KeyLines
+pub mod Lists
+pub mod Options
+pub mod Rising
+pub mod Rooms
+pub mod Sentences
+pub mod Steps
+pub mod Walks

@@ -1,0 +1,5 @@
+use Rattle.line_capture.proofs.Rising.{times_rise_is}
+use Rattle.line_capture.proofs.laws.times_rise.Goals as goal
+
+pub returns : goal.returns
+returns c = times_rise_is
