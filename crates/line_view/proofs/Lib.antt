@@ -2,3 +2,8 @@ pub mod Checks
 pub mod Running
 pub mod Stepping
 pub mod Turns
+pub mod Explained
+pub mod ExplainRunning
+pub mod ExplainNames
+pub mod Looking
+pub mod Recorded

@@ -11,17 +11,17 @@ use Rattle.script_lines.proofs.Turned.{taken, written_stop, written_short}
 use Rattle.line_view.specs.Checking.{Checking, Look, after, look_text, end_of, turn_by, stop_by}
 use Rattle.line_view.specs.Checked.{Looked, LooksLast, bad_line}
 
-nothing_appended : (taken : Option (List ℕ)) → Appends taken taken []
+pub nothing_appended : (taken : Option (List ℕ)) → Appends taken taken []
 nothing_appended None = tt
 nothing_appended (Some xs) = grind (arith, common_steps)
 
-room_of : (plan : Option WritePlan) (n more : ℕ) → PlansRoomFor (n + more) plan → PlansRoomFor more plan
+pub room_of : (plan : Option WritePlan) (n more : ℕ) → PlansRoomFor (n + more) plan → PlansRoomFor more plan
 room_of None n more room = absurd room
 room_of (Some plan) n more room = let within = room.1 in (room.0, omega (arith, within))
 
 -- memory ran out before anything was written
-pub unwritten : (s : SinkState) (c0 c1 : Checking) (turn : Turn Checking) → Turned s s c0 c1 turn (Err reasons.Memory)
-unwritten s c0 c1 turn = record {
+pub unwritten : {M : Type 0} (s : SinkState) (m0 m1 : M) (turn : Turn M) → Turned s s m0 m1 turn (Err reasons.Memory)
+unwritten s m0 m1 turn = record {
   w = [];
   wrote = nothing_appended s.taken;
   turned = record { rest = turn_text turn; whole = refl };

@@ -1,3 +1,6 @@
+pub mod Explaining
+pub mod Recordings
+pub mod Sentences
 pub mod Statuses
 pub mod Checking
 pub mod Checked

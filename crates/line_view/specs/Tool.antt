@@ -1,5 +1,5 @@
 -- What the program's call says.
-use Rattle.std.specs.Prelude.{◌≡◌, ℕ, Bool, true, false, ◌&&◌, List, [], ◌∷◌, ◌++◌, length, String, Some, None, codes, is_some, string_bytes, bytes_eq}
+use Rattle.std.specs.Prelude.{◌≡◌, ℕ, Bool, true, false, List, [], ◌∷◌, ◌++◌, length, String, Some, None, codes, is_some, string_bytes, bytes_eq}
 use Rattle.std.specs.Prelude.{if◌then◌else◌}
 use Rattle.std.specs.declared.option.Option.{Option}
 use Rattle.std.specs.declared.alloc.Global.{Global}
@@ -11,22 +11,51 @@ use Rattle.script_lines.specs.Outcomes.{Outcome}
 use Rattle.script_lines.specs.Clauses.{Drives}
 use Rattle.script_runs.specs.Takings.{first_bad}
 use Rattle.line_view.specs.declared.tool.Command.{Command}
-use Rattle.line_view.specs.declared.tool.Command.TheVariants.{Check}
+use Rattle.line_view.specs.declared.tool.Command.TheVariants.{Check, Explain}
 use Rattle.line_view.specs.declared.status.Status.{Status}
 use Rattle.line_view.specs.declared.status.Status.TheVariants as status
 use Rattle.line_view.specs.Checking.{is_bad, outcome}
+use Rattle.line_script.specs.Words.{number_within}
+use Rattle.story_accounts.specs.declared.section.Chosen.{Chosen}
+use Rattle.story_accounts.specs.declared.section.Chosen.TheVariants as chosens
+use Rattle.line_view.specs.Explaining.{Explaining, explained, is_forged}
 use Rattle.line_view.specs.Checked.{faults, first_of, faults_text, closing}
 
 -- the command that words name, if they are of a form
+abbrev pub one_word : List ℕ → Option Command
+one_word word =
+    if bytes_eq word (codes "check") then Some (Check false)
+    else (if bytes_eq word (codes "explain") then Some (Explain chosens.Failed) else None)
+
+abbrev pub check_with : List ℕ → Option Command
+check_with option = if bytes_eq option (codes "--json") then Some (Check true) else None
+
+abbrev pub explain_with : List ℕ → Option Command
+explain_with option = if bytes_eq option (codes "--all") then Some (Explain chosens.All) else None
+
+abbrev pub two_words : List ℕ → List ℕ → Option Command
+two_words word option =
+    if bytes_eq word (codes "check") then check_with option else (if bytes_eq word (codes "explain") then explain_with option else None)
+
+-- the stories that a word and a number choose
+abbrev pub chosen_by : List ℕ → Option ℕ → Option Command
+chosen_by kind None = None
+chosen_by kind (Some number) =
+    if bytes_eq kind (codes "send") then Some (Explain (chosens.Send number))
+    else (if bytes_eq kind (codes "node") then Some (Explain (chosens.Node number)) else None)
+
+abbrev pub three_words : List ℕ → List ℕ → List ℕ → Option Command
+three_words word kind number = if bytes_eq word (codes "explain") then chosen_by kind (number_within 0 4294967295 number) else None
+
 abbrev pub command_of : List (String Global) → Option Command
 command_of [] = None
-command_of (word ∷ []) = if bytes_eq (string_bytes word) (codes "check") then Some (Check false) else None
-command_of (word ∷ option ∷ []) =
-    if bytes_eq (string_bytes word) (codes "check") && bytes_eq (string_bytes option) (codes "--json") then Some (Check true) else None
-command_of (word ∷ option ∷ other ∷ words) = None
+command_of (word ∷ []) = one_word (string_bytes word)
+command_of (word ∷ option ∷ []) = two_words (string_bytes word) (string_bytes option)
+command_of (word ∷ kind ∷ number ∷ []) = three_words (string_bytes word) (string_bytes kind) (string_bytes number)
+command_of (word ∷ kind ∷ number ∷ other ∷ words) = None
 
 abbrev pub usage_text : List ℕ
-usage_text = codes "usage: line_view check [--json]\n"
+usage_text = codes "usage: line_view check [--json] | explain [--all | send K | node N]\n"
 
 -- the status of a run over lines, in which a line is bad or not
 abbrev pub status_of : Exit → Bool → Status
@@ -37,6 +66,34 @@ status_of exits.Memory bad = status.Memory
 status_of exits.ReadFault bad = status.ReadFault
 status_of exits.WriteFault bad = status.WriteFault
 
+-- the status of an account, in which an event is forged or not
+abbrev pub explain_status : Exit → Bool → Status
+explain_status exits.Fine false = status.Fine
+explain_status exits.Fine true = status.Forged
+explain_status exits.BadScript forged = status.BadScript
+explain_status exits.Memory forged = status.Memory
+explain_status exits.ReadFault forged = status.ReadFault
+explain_status exits.WriteFault forged = status.WriteFault
+
+-- a status says of a script whether a line of it is bad
+abbrev pub Names : Status → Bool → Type 0
+Names status.Fine bad = bad ≡ false
+Names status.BadScript bad = bad ≡ true
+Names status.Forged bad = bad ≡ false
+Names status.ReadFault bad = Unit {0}
+Names status.WriteFault bad = Unit {0}
+Names status.Memory bad = Unit {0}
+Names status.Usage bad = Unit {0}
+
+-- What an account did: how the run ended, the last state where it came to the end of input, and the status of both.
+pub record Explains (chosen : Chosen) (source0 source1 : SourceState) (sink0 sink1 : SinkState) (result : Status) : Type 0 where
+  pub exit : Exit
+  pub last : Explaining
+  pub drives : Drives (explained chosen) last source0 source1 sink0 sink1 exit
+  pub status : result ≡ explain_status exit (is_forged last)
+  -- the status says whether a line of the script is bad
+  pub named : Names result (is_some (first_bad drives.b source1.ended))
+
 -- What reading lines did: how the run ended, the last state where it came to the end of input, and the status of both.
 pub record Ran {M : Type 0} (bad : M → Bool) (outcome : List ℕ → Bool → Outcome M) (source0 source1 : SourceState)
     (sink0 sink1 : SinkState) (result : Status) : Type 0 where
@@ -44,16 +101,6 @@ pub record Ran {M : Type 0} (bad : M → Bool) (outcome : List ℕ → Bool → 
   pub last : M
   pub drives : Drives outcome last source0 source1 sink0 sink1 exit
   pub status : result ≡ status_of exit (bad last)
-
--- a status says of a script whether a line of it is bad
-abbrev pub Names : Status → Bool → Type 0
-Names status.Fine bad = bad ≡ false
-Names status.BadScript bad = bad ≡ true
-Names status.Forged bad = Unit {0}
-Names status.ReadFault bad = Unit {0}
-Names status.WriteFault bad = Unit {0}
-Names status.Memory bad = Unit {0}
-Names status.Usage bad = Unit {0}
 
 -- What a check did, and what holds of it.
 pub record Checks (json : Bool) (source0 source1 : SourceState) (sink0 sink1 : SinkState) (result : Status) : Type 0 where

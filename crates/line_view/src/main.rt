@@ -1,9 +1,12 @@
-//! Tells what a script does on a line of nodes, to look at: what is wrong with the script.
+//! Tells what a script does on a line of nodes, to look at: what is wrong with the script, and what became of each datagram and each joining.
 #![tactic(auto)]
 
 mod check;
 mod checker;
+mod explain;
+mod recorder;
 mod status;
+mod teller;
 mod tool;
 
 use plc_base::{StdSink, StdSource};

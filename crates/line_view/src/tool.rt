@@ -2,13 +2,18 @@
 ghost use Rattle.std.specs.Prelude.{◌≡◌, ◌≤◌, Bool, Some, None};
 ghost use Rattle.std.specs.Io.KnownBytes.{IsAtEnd};
 ghost use Rattle.plc_base.specs.Streams.{SourceFaults, SourceRose, SinkRose};
-ghost use Rattle.line_view.specs.Tool.{Checks, WritesText, command_of, status_of, usage_text};
+ghost use Rattle.story_accounts.specs.declared.section.Chosen.{Chosen};
+ghost use Rattle.line_view.specs.Tool.{Checks, Explains, WritesText, check_with, chosen_by, command_of, explain_status, explain_with, one_word};
+ghost use Rattle.line_view.specs.Tool.{status_of, three_words, two_words, usage_text};
 
 use crate::check::Check;
+use crate::explain::Explain;
 use crate::status::Status;
+use line_script::number_within;
 use plc_base::{Sink, Source, write_all};
 use script_lines::{Exit, run};
 use std::alloc::Global;
+use story_accounts::Chosen;
 
 /// The commands that the program has.
 #[derive(Clone, Copy, Debug, PartialEq, Eq)]
@@ -18,6 +23,86 @@ pub enum Command {
         /// Whether they are objects of JSON.
         json: bool,
     },
+    /// `explain` with what is chosen: what became of each datagram and each joining.
+    Explain {
+        /// Which stories are accounted for.
+        chosen: Chosen,
+    },
+}
+
+fn one_word(word: &str) -> Option<Command>
+    ensures { result ≡ one_word word.now }
+{
+    if word == "check" {
+        return Some(Command::Check { json: false });
+    }
+    if word == "explain" {
+        return Some(Command::Explain {
+            chosen: Chosen::Failed,
+        });
+    }
+    None
+}
+
+fn check_with(option: &str) -> Option<Command>
+    ensures { result ≡ check_with option.now }
+{
+    if option == "--json" {
+        return Some(Command::Check { json: true });
+    }
+    None
+}
+
+fn explain_with(option: &str) -> Option<Command>
+    ensures { result ≡ explain_with option.now }
+{
+    if option == "--all" {
+        return Some(Command::Explain {
+            chosen: Chosen::All,
+        });
+    }
+    None
+}
+
+fn two_words(word: &str, option: &str) -> Option<Command>
+    ensures { result ≡ two_words word.now option.now }
+{
+    if word == "check" {
+        return check_with(option);
+    }
+    if word == "explain" {
+        return explain_with(option);
+    }
+    None
+}
+
+// The stories that a word and a number choose.
+fn chosen_by(kind: &str, number: Option<u32>) -> Option<Command>
+    ensures { result ≡ chosen_by kind.now number }
+{
+    let Some(number) = number else {
+        return None;
+    };
+    if kind == "send" {
+        return Some(Command::Explain {
+            chosen: Chosen::Send { send: number },
+        });
+    }
+    if kind == "node" {
+        return Some(Command::Explain {
+            chosen: Chosen::Node { node: number },
+        });
+    }
+    None
+}
+
+fn three_words(word: &str, kind: &str, number: &str) -> Option<Command>
+    ensures { result ≡ three_words word.now kind.now number.now }
+{
+    if word == "explain" {
+        return chosen_by(kind, number_within(0, u32::MAX, number.as_bytes()));
+    }
+    None
 }
 
 /// The command that words name, if they are of a form.
@@ -25,10 +110,9 @@ fn command_of(words: &[String]) -> Option<Command>
     ensures { result ≡ command_of words.now }
 {
     match words {
-        [word] if word.as_str() == "check" => Some(Command::Check { json: false }),
-        [word, option] if word.as_str() == "check" && option.as_str() == "--json" => {
-            Some(Command::Check { json: true })
-        }
+        [word] => one_word(word.as_str()),
+        [word, option] => two_words(word.as_str(), option.as_str()),
+        [word, kind, number] => three_words(word.as_str(), kind.as_str(), number.as_str()),
         _ => None,
     }
 }
@@ -61,6 +145,38 @@ fn check<S: Source, K: Sink>(alloc: Global, json: bool, source: &mut S, sink: &m
     status_of(exit, check.is_bad())
 }
 
+// The status of an account, in which an event is forged or not.
+fn explain_status(exit: Exit, forged: bool) -> Status
+    ensures { result ≡ explain_status exit forged }
+{
+    match exit {
+        Exit::Fine if forged => Status::Forged,
+        Exit::Fine => Status::Fine,
+        Exit::BadScript => Status::BadScript,
+        Exit::Memory => Status::Memory,
+        Exit::ReadFault => Status::ReadFault,
+        Exit::WriteFault => Status::WriteFault,
+    }
+}
+
+/// Reads a script from the source, and writes to the sink what became of the chosen stories.
+fn explain<S: Source, K: Sink>(
+    alloc: Global,
+    chosen: Chosen,
+    source: &mut S,
+    sink: &mut K,
+) -> Status
+    ensures explains { Explains chosen (S.state source.old) (S.state source.new) (K.state sink.old) (K.state sink.new) result }
+    ensures read { result ≡ Status.ReadFault → SourceRose (S.state source.old) (S.state source.new) }
+    ensures write { result ≡ Status.WriteFault → SinkRose (K.state sink.old) (K.state sink.new) }
+    ensures source { SourceFaults (S.state source.old) (S.state source.new) }
+    ensures sink { (K.state sink.old).faults ≤ (K.state sink.new).faults }
+{
+    let mut explain = Explain::new(alloc, chosen);
+    let exit = run(alloc, &mut explain, source, sink);
+    explain_status(exit, explain.is_forged())
+}
+
 /// Writes a text, and answers `done` where all of it was written.
 fn write_whole<K: Sink>(sink: &mut K, text: &[u8], done: Status) -> Status
     requires { done ≡ Status.Usage }
@@ -72,12 +188,12 @@ fn write_whole<K: Sink>(sink: &mut K, text: &[u8], done: Status) -> Status
     }
 }
 
-const USAGE: &[u8; 32] = b"usage: line_view check [--json]\n";
+const USAGE: &[u8; 68] = b"usage: line_view check [--json] | explain [--all | send K | node N]\n";
 
 /// All that the program does, with the words after its name.
 ///
-/// `check` reads a script and writes what is wrong with each of its lines, `check --json` the same as objects of JSON. Other words write
-/// the usage line, and read nothing.
+/// `check` reads a script and writes what is wrong with each of its lines, `check --json` the same as objects of JSON. `explain` writes what
+/// became of each datagram and each joining, with `send K` or `node N` of those alone. Other words write the usage line, and read nothing.
 ///
 /// Where no read of the source and no write of the sink is to fail, and the sink has room for the whole text, neither count of
 /// faults changes, so that neither fault comes.
@@ -90,6 +206,9 @@ pub fn run_view<S: Source, K: Sink>(
     // What was read and written, why this status came, and that the first fault is the line at which the run of the script ends.
     ensures checks { (json : Bool) → command_of words.now ≡ Some (Command.Check json)
         → Checks json (S.state source.old) (S.state source.new) (K.state sink.old) (K.state sink.new) result }
+    // What was read and written of an account, and why its status came.
+    ensures explains { (chosen : Chosen) → command_of words.now ≡ Some (Command.Explain chosen)
+        → Explains chosen (S.state source.old) (S.state source.new) (K.state sink.old) (K.state sink.new) result }
     // What ends Fine was read whole.
     ensures whole { (json : Bool) → command_of words.now ≡ Some (Command.Check json) → result ≡ Status.Fine
         → IsAtEnd ((S.state source.new).left) }
@@ -104,6 +223,7 @@ pub fn run_view<S: Source, K: Sink>(
 {
     match command_of(words) {
         Some(Command::Check { json }) => check(alloc, json, source, sink),
+        Some(Command::Explain { chosen }) => explain(alloc, chosen, source, sink),
         None => write_whole(sink, USAGE, Status::Usage),
     }
 }

@@ -1,0 +1,13 @@
+pub mod Asked
+pub mod Counters
+pub mod Flights
+pub mod Heards
+pub mod Joined
+pub mod Reasons
+pub mod Refused
+pub mod Replayed
+pub mod RouteEnds
+pub mod Scenes
+pub mod Taken
+pub mod Texts
+pub mod Watches

@@ -1,0 +1,160 @@
+//! What is kept of a node beside what it shows: when its routes ended, which flights came to it, and when it restarted.
+ghost use Rattle.std.specs.Prelude.{◌≡◌, [], IfOk, OnOk};
+ghost use Rattle.event_sentences.specs.RouteEnds as spec_ends;
+ghost use Rattle.event_sentences.specs.Watches as spec_watches;
+
+use crate::reasons::raised_the_mark;
+use crate::route_ends::RouteEnds;
+use line_tale::{Act, TaleEvent};
+use node_rules::ShownRoute;
+use std::alloc::{AllocError, Global};
+use std::collections::BTreeMap;
+use std::marker::Model;
+
+/// How a flight came to a node: by the numbers of events, 0 where there is none.
+#[derive(Clone, Copy)]
+pub struct Coming {
+    /// The event at which it came first.
+    pub first: usize,
+    /// The last event at which it was taken as far as its counter.
+    pub taken: usize,
+}
+
+/// How each flight came to a node that did. A contract sees the list of that, by the numbers of the flights.
+#[derive(Drop)]
+pub struct Comings {
+    events: BTreeMap<u32, Coming>,
+}
+
+impl Model for Comings {
+    ghost use Rattle.std.specs.Prelude.{List, ℕ};
+    ghost use Rattle.event_sentences.specs.declared.watch.Coming.{Coming};
+
+    ghost Value = { List (ℕ × Coming) };
+
+    ghost view = { λ c. c.events.entries };
+}
+
+// How a flight came that comes once more.
+fn come_again(event: usize, taken: bool, old: Coming) -> Coming
+    ensures { result ≡ spec_watches.come_again event taken old }
+{
+    Coming {
+        first: if old.first == 0 { event } else { old.first },
+        taken: if taken { event } else { old.taken },
+    }
+}
+
+impl Comings {
+    /// No flight came. It takes no memory.
+    pub fn new(alloc: Global) -> Comings
+        ensures { result ≡ [] }
+    {
+        Comings {
+            events: BTreeMap::new(alloc),
+        }
+    }
+
+    /// How a flight came.
+    pub fn of(&self, flight: u32) -> Coming
+        ensures { result ≡ spec_watches.coming_of flight self.now }
+    {
+        match self.events.get(&flight) {
+            Some(coming) => *coming,
+            None => Coming { first: 0, taken: 0 },
+        }
+    }
+
+    /// A flight comes at an event, and is taken as far as its counter or not. It fails only where memory runs out, and nothing changes then.
+    pub fn push(&mut self, flight: u32, event: usize, taken: bool) -> Result<(), AllocError>
+        ensures { OnOk result (self.new ≡ spec_watches.comings_with flight event taken self.old) }
+    {
+        let coming = come_again(event, taken, self.of(flight));
+        self.events.insert(flight, coming)?;
+        Ok(())
+    }
+}
+
+/// What is kept of a node.
+#[derive(Drop)]
+pub struct Watch {
+    routes: RouteEnds,
+    comings: Comings,
+    restarted: usize,
+}
+
+impl Model for Watch {
+    ghost use Rattle.event_sentences.specs.Watches.{Watched};
+
+    ghost Value = { Watched };
+
+    ghost view = { λ w. record { routes = w.routes; comings = w.comings; restarted = w.restarted } };
+}
+
+impl Watch {
+    /// Nothing happened to it so far. It takes no memory.
+    pub fn new(alloc: Global) -> Watch
+        ensures { result ≡ spec_watches.unwatched }
+    {
+        Watch {
+            routes: RouteEnds::new(alloc),
+            comings: Comings::new(alloc),
+            restarted: 0,
+        }
+    }
+
+    /// The routes after an event of this number, as they are shown then. Answers whether one of them ended.
+    ///
+    /// It fails only where memory runs out; what is left then is not said.
+    pub fn look(
+        &mut self,
+        alloc: Global,
+        event: usize,
+        shown: &[ShownRoute],
+    ) -> Result<bool, AllocError>
+        ensures ended { IfOk result (λ ended. ended ≡ spec_ends.has_ended (spec_ends.valid_dests shown.now) self.old.routes.valid) }
+        ensures watch { OnOk result (self.new ≡ spec_watches.looked event shown.now self.old) }
+    {
+        self.routes.look(alloc, event, shown)
+    }
+
+    /// An event of this number, which was one of the node, as far as later sentences go by it.
+    ///
+    /// It fails only where memory runs out, and nothing changes then.
+    pub fn note(&mut self, event: usize, told: &TaleEvent) -> Result<(), AllocError>
+        ensures { OnOk result (self.new ≡ spec_watches.noted told.now.act told.now.answer event self.old) }
+    {
+        match &told.act {
+            Act::Deliver { flight, .. } => {
+                self.comings
+                    .push(*flight, event, raised_the_mark(told.answer))
+            }
+            Act::Restart { .. } => {
+                self.restarted = event;
+                Ok(())
+            }
+            _ => Ok(()),
+        }
+    }
+
+    /// The event at which the route to an address ended, 0 where it is valid or never was.
+    pub fn ended(&self, dest: u16) -> usize
+        ensures { result ≡ spec_ends.end_of dest self.now.routes }
+    {
+        self.routes.ended(dest)
+    }
+
+    /// How a flight came to the node.
+    pub fn coming(&self, flight: u32) -> Coming
+        ensures { result ≡ spec_watches.coming_of flight self.now.comings }
+    {
+        self.comings.of(flight)
+    }
+
+    /// The event at which it restarted last, 0 where it never did.
+    pub fn restarted(&self) -> usize
+        ensures { result ≡ self.now.restarted }
+    {
+        self.restarted
+    }
+}

@@ -1,0 +1,124 @@
+-- What `explain` writes of a script.
+use Rattle.std.specs.Prelude.{◌≡◌, ℕ, Bool, nat_lt, List, [], ◌∷◌, ◌++◌, codes, length, Option, None, Some}
+use Rattle.script_lines.specs.Lines.{Content, TooMuch}
+use Rattle.script_lines.specs.Clauses.{IsStop}
+use Rattle.script_lines.specs.Outcomes.{Turn, Skips, Takes, Stops, Outcome, outcome as outcome_of}
+use Rattle.sentence_parts.specs.declared.part.Part.TheVariants.{Words, Number}
+use Rattle.sentence_parts.specs.Parts.{parts_text}
+use Rattle.line_script.specs.Texts.{reason_word}
+use Rattle.line_script.specs.declared.report.Reason.{Reason}
+use Rattle.line_tale.specs.declared.ends.Ends.{Ends}
+use Rattle.line_tale.specs.Verdicts.{ends_of}
+use Rattle.line_stories.specs.Stories.{Stories, stories_of}
+use Rattle.line_rules.specs.Worlds.{World, start}
+use Rattle.line_rules.specs.Runs.{Entry}
+use Rattle.script_runs.specs.Takings.{Taking, Skipped, Taken, Refused}
+unfoldable use Rattle.script_runs.specs.Takings.{taking}
+use Rattle.story_accounts.specs.declared.section.Chosen.{Chosen}
+use Rattle.story_accounts.specs.Accounts.{RunAccount}
+use Rattle.story_accounts.specs.Indexes.{Index, index_of}
+use Rattle.story_accounts.specs.Sections.{account_text}
+use Rattle.line_view.specs.declared.explain.BadLine.{BadLine}
+use Rattle.line_view.specs.Recordings.{Recording, no_recording, recorded}
+use Rattle.line_view.specs.Sentences.{Sentences, no_sentences, with_sentence}
+
+pub record Explaining : Type 0 where
+  pub chosen : Chosen
+  pub run : Recording
+  pub told : Sentences
+
+abbrev pub nothing_explained : Chosen → Explaining
+nothing_explained chosen = record { chosen = chosen; run = no_recording; told = no_sentences }
+
+-- # The text
+
+-- what was counted
+unfoldable pub counts_text : World → List ℕ
+counts_text w =
+    parts_text
+    (Words (codes "script: ") ∷ Number w.events ∷ Words (codes " events, ") ∷ Number (length w.flights) ∷ Words (codes " flights, ")
+    ∷ Number w.sends ∷ Words (codes " sends, ") ∷ Number w.ups ∷ Words (codes " handed up, ") ∷ Number w.forged ∷ Words (codes " forged\n") ∷ [])
+
+-- the bad line, if there is one
+unfoldable pub bad_text : BadLine → List ℕ
+bad_text bad =
+    parts_text
+    (Words (codes "The run ends at line ") ∷ Number bad.row ∷ Words (codes ", which is bad: ") ∷ Words (reason_word bad.reason)
+    ∷ Words (codes ". `line_view check` says why.\n") ∷ [])
+
+abbrev pub bad_line_text : Option BadLine → List ℕ
+bad_line_text None = []
+bad_line_text (Some bad) = bad_text bad
+
+-- a run with its stories, the sentences of its events, the ends of its stories and what is looked up of it
+abbrev pub run_account : Recording → Sentences → Stories → List Ends → Index → RunAccount
+run_account r told s ends index =
+    record {
+      events = r.events;
+      flights = r.flights;
+      stories = s.stories;
+      lots = s.lots;
+      ends = ends;
+      index = index;
+      homes = s.homes;
+      euis = r.euis;
+      sentences = told.sentences;
+    }
+
+-- what became of the chosen stories of a run
+abbrev pub account_over : Chosen → Recording → Sentences → Stories → List Ends → Index → List ℕ
+account_over chosen r told s ends index = account_text (run_account r told s ends index) chosen
+
+abbrev pub account_with : Chosen → Recording → Sentences → Stories → List ℕ
+account_with chosen r told s =
+    account_over chosen r told s (ends_of (length s.stories) s.lots)
+    (index_of (length s.stories) (length r.euis) r.events r.flights s.lots s.sent s.owners)
+
+abbrev pub account_of : Chosen → Recording → Sentences → List ℕ
+account_of chosen r told = account_with chosen r told (stories_of r.events r.flights)
+
+-- what was counted, the bad line, and what became of the chosen stories
+unfoldable pub explain_text : Explaining → Option BadLine → List ℕ
+explain_text m bad = counts_text m.run.world ++ (bad_line_text bad ++ account_of m.chosen m.run m.told)
+
+-- # Lines
+
+-- after an entry of the script, which stands in a line of this number
+abbrev pub after_entry : ℕ → Entry → Explaining → Explaining
+after_entry row entry m =
+    record m { run = recorded row entry m.run; told = with_sentence entry.event (recorded row entry m.run) m.told }
+
+-- the text where the run ends at a bad line
+abbrev pub refused_text : Explaining → ℕ → Reason → List ℕ
+refused_text m row reason = explain_text m (Some (record { row = row; reason = reason }))
+
+-- an event was taken, and has its sentence, or it was not taken, for a reason
+abbrev pub Stepped : ℕ → Explaining → Explaining → Taking → Option Reason → Type 0
+Stepped row m0 m1 Skipped reason = ⊥
+Stepped row m0 m1 (Taken entry) reason = (reason ≡ None) × (m1 ≡ after_entry row entry m0)
+Stepped row m0 m1 (Refused why) reason = (reason ≡ Some why) × (m1 ≡ m0)
+
+abbrev pub turn_by : Explaining → ℕ → Taking → Turn Explaining
+turn_by m row Skipped = Skips
+turn_by m row (Taken entry) = Takes (after_entry row entry m) []
+turn_by m row (Refused reason) = Stops (refused_text m row reason)
+
+-- what a line does: nothing is written before the end, or before a bad line
+abbrev pub turn_of : Explaining → ℕ → Content → Turn Explaining
+turn_of m row content = turn_by m row (taking m.run.world content)
+
+abbrev pub end_of : Explaining → List ℕ
+end_of m = explain_text m None
+
+-- the octet that is too much makes its line bad
+pub stops_at_too_much : (m : Explaining) (row : ℕ) → IsStop (turn_of m row TooMuch)
+unfolding taking
+stops_at_too_much m row = tt
+
+-- whether an event was forged
+abbrev pub is_forged : Explaining → Bool
+is_forged m = nat_lt 0 m.run.world.forged
+
+-- what a script does, where its input has ended or not
+abbrev pub explained : Chosen → List ℕ → Bool → Outcome Explaining
+explained chosen octets ended = outcome_of turn_of end_of (nothing_explained chosen) octets ended

@@ -1,0 +1,110 @@
+-- A run, recorded while it is made: the world, and the tale of what its events did.
+use Rattle.std.specs.Prelude.{◌≡◌, ℕ, ◌+◌, ◌-◌, zero, suc, List, [], ◌∷◌, ◌++◌, length, Option, None, Some}
+use Rattle.std.specs.Option.{option_and_then, option_map, unwrap_or}
+use Rattle.plc_base.specs.declared.address.Eui.{Eui}
+use Rattle.plc_base.specs.declared.key.Key.{Key}
+use Rattle.frame_words.specs.Gists.{frame_target}
+use Rattle.frame_details.specs.declared.detail.FlightMore.{FlightMore}
+use Rattle.frame_details.specs.Details.{more_of}
+use Rattle.frame_details.specs.Payloads.{payload_of}
+use Rattle.sentence_parts.specs.Whos.{device_of}
+use Rattle.line_events.specs.declared.event.Event.{Event}
+use Rattle.line_events.specs.declared.event.Event.TheVariants as events
+use Rattle.line_events.specs.declared.happenings.Happenings.{Happenings}
+use Rattle.line_script.specs.declared.report.Reason.{Reason}
+use Rattle.line_tale.specs.declared.told.TaleEvent.{TaleEvent}
+use Rattle.line_tale.specs.declared.told.TaleFlight.{TaleFlight}
+use Rattle.line_tale.specs.Tales.{event_told, flight_told}
+use Rattle.line_rules.specs.Runs.{Entry}
+use Rattle.line_rules.specs.Worlds.{Flight, World, flight_at, start}
+use Rattle.script_runs.specs.Takings.{Taking, Skipped, Taken, Refused}
+
+pub record Recording : Type 0 where
+  -- the world after the last event
+  pub world : World
+  -- the events and the flights, by their numbers from 1
+  pub events : List TaleEvent
+  pub flights : List TaleFlight
+  -- what the flights carry that no story goes by
+  pub more : List FlightMore
+  -- the EUI-64 of each node, by its number from 0
+  pub euis : List Eui
+
+abbrev pub no_recording : Recording
+no_recording = record { world = start; events = []; flights = []; more = []; euis = [] }
+
+-- # Flights
+
+-- the octets of the flight of a number, if there is one, and what else is kept of it
+abbrev pub octets_at : World → ℕ → Option (List ℕ)
+octets_at w number = option_map (λ (f : Flight). f.octets) (flight_at w number)
+
+abbrev pub sender_at : World → ℕ → ℕ
+sender_at w number = unwrap_or (option_map (λ (f : Flight). f.from) (flight_at w number)) 0
+
+abbrev pub note_at : World → ℕ → ℕ
+note_at w number = unwrap_or (option_map (λ (f : Flight). f.note) (flight_at w number)) 0
+
+abbrev pub key_at : World → ℕ → Option Key
+key_at w number = option_and_then (λ (f : Flight). f.key) (flight_at w number)
+
+abbrev pub with_payload : ℕ → ℕ → List ℕ → Option (List ℕ) → Recording → Recording
+with_payload from note octets payload r =
+    record r {
+      flights = r.flights ++ (flight_told from note octets payload (device_of (frame_target octets) payload r.euis) ∷ []);
+      more = r.more ++ (more_of octets payload ∷ []);
+    }
+
+abbrev pub with_octets : Option (List ℕ) → ℕ → ℕ → Option Key → Recording → Recording
+with_octets None from note key r = r
+with_octets (Some octets) from note key r = with_payload from note octets (payload_of octets key) r
+
+-- with the flight of a number, if there is one
+unfoldable pub flight_recorded : ℕ → Recording → Recording
+flight_recorded number r =
+    with_octets (octets_at r.world number) (sender_at r.world number) (note_at r.world number) (key_at r.world number) r
+
+-- with so many flights after the one of this number
+abbrev pub flights_recorded : ℕ → ℕ → Recording → Recording
+flights_recorded before zero r = r
+flights_recorded before (suc n) r = flight_recorded (before + n + 1) (flights_recorded before n r)
+
+-- # Events
+
+-- the EUI-64 of a node that an event makes
+abbrev pub made_eui : Event → Option Eui
+made_eui (events.Coordinator eui key) = Some eui
+made_eui (events.Meter eui psk) = Some eui
+made_eui _ = None
+
+abbrev pub with_eui : Option Eui → List Eui → List Eui
+with_eui None euis = euis
+with_eui (Some eui) euis = euis ++ (eui ∷ [])
+
+abbrev pub with_event : ℕ → Event → Happenings → Recording → Recording
+with_event row event happenings r =
+    record r {
+      events = r.events ++ (event_told row event happenings r.world.clock ∷ []);
+      euis = with_eui (made_eui event) r.euis;
+    }
+
+-- with an event that a line of this number asked for, which made the world what it is, and the flights after so many
+unfoldable pub event_recorded : ℕ → Event → Happenings → ℕ → Recording → Recording
+event_recorded row event happenings before r =
+    flights_recorded before (length r.world.flights - before) (with_event row event happenings r)
+
+abbrev pub in_world : World → Recording → Recording
+in_world w r = record r { world = w }
+
+-- with an entry of a script
+abbrev pub recorded : ℕ → Entry → Recording → Recording
+recorded row entry r =
+    event_recorded row entry.event entry.trace.happenings (length r.world.flights) (in_world entry.after r)
+
+-- # Lines
+
+-- an event was taken and recorded, or it was not, for a reason
+abbrev pub Recorded : ℕ → Event → Recording → Recording → Taking → Option Reason → Type 0
+Recorded row event old new Skipped reason = ⊥
+Recorded row event old new (Taken entry) reason = (reason ≡ None) × ((entry.event ≡ event) × (new ≡ recorded row entry old))
+Recorded row event old new (Refused why) reason = (reason ≡ Some why) × (new ≡ old)

@@ -1,0 +1,205 @@
+-- The sentences of a run, made while it goes on, and what they go by.
+use Rattle.std.specs.Prelude.{ℕ, ◌+◌, ◌==◌, ◌&&◌, zero, suc, Bool, true, false, not, List, [], ◌∷◌, ◌++◌, is_some, length, min, slice_get}
+use Rattle.std.specs.Prelude.{Option, None, Some, if◌then◌else◌}
+use Rattle.plc_base.specs.declared.address.Eui.{Eui}
+use Rattle.plc_base.specs.declared.key.Key.{Key}
+use Rattle.node_rules.specs.Memory.{Node}
+use Rattle.node_rules.specs.declared.shown.Shown.{Shown}
+use Rattle.node_rules.specs.declared.shown.ShownRoute.{ShownRoute}
+use Rattle.node_rules.specs.Showing.{nothing_shown, shown_of}
+use Rattle.line_events.specs.declared.event.Answer.{Answer}
+use Rattle.line_events.specs.declared.event.Answer.TheVariants as answers
+use Rattle.line_events.specs.declared.event.Event.{Event}
+use Rattle.line_events.specs.declared.event.Event.TheVariants as events
+use Rattle.line_rules.specs.Worlds.{World, node_at}
+use Rattle.frame_details.specs.declared.detail.FlightMore.{FlightMore}
+use Rattle.line_tale.specs.declared.act.Act.{Act}
+use Rattle.line_tale.specs.declared.act.Act.TheVariants as acts
+use Rattle.line_tale.specs.declared.told.TaleEvent.{TaleEvent}
+use Rattle.line_tale.specs.declared.told.TaleFlight.{TaleFlight}
+use Rattle.line_tale.specs.Kinds.{actor_of, makes_node}
+use Rattle.line_tale.specs.Lists.{changed_place}
+use Rattle.line_tale.specs.Tales.{made_by, numbered}
+use Rattle.line_stories.specs.Stories.{homes_with, newcomer}
+use Rattle.sentence_parts.specs.declared.part.Who.{Who}
+use Rattle.sentence_parts.specs.declared.part.Who.TheVariants as whos
+use Rattle.story_accounts.specs.Sections.{is_for_another}
+use Rattle.event_sentences.specs.declared.heard.DrawnKey.{DrawnKey}
+use Rattle.event_sentences.specs.declared.heard.Heard.{Heard}
+use Rattle.event_sentences.specs.Counters.{counters_with}
+use Rattle.event_sentences.specs.Heards.{heard_flight, heard_octets}
+use Rattle.event_sentences.specs.RouteEnds.{has_ended, valid_dests}
+use Rattle.event_sentences.specs.Scenes.{Scene}
+use Rattle.event_sentences.specs.Texts.{event_text}
+use Rattle.event_sentences.specs.Watches.{Watched, looked, noted, unwatched}
+use Rattle.line_view.specs.Recordings.{Recording, key_at, octets_at}
+
+pub record Sentences : Type 0 where
+  -- the sentence of each event; what came to a node that it is not for has no words
+  pub sentences : List (List ℕ)
+  -- the node of each short address
+  pub homes : List ℕ
+  -- the group keys that were drawn
+  pub keys : List DrawnKey
+  -- what is kept of each node
+  pub watches : List Watched
+  -- which flight was sealed with which counter
+  pub counters : List ((ℕ × ℕ) × ℕ)
+
+abbrev pub no_sentences : Sentences
+no_sentences = record { sentences = []; homes = []; keys = []; watches = []; counters = [] }
+
+-- # What an event says of addresses, nodes and keys
+
+-- a write that fails may have left the new key
+abbrev pub is_drawn : Answer → Bool
+is_drawn answers.Drawn = true
+is_drawn answers.Store = true
+is_drawn _ = false
+
+abbrev pub key_if : Bool → DrawnKey → List DrawnKey → List DrawnKey
+key_if true key keys = keys ++ (key ∷ [])
+key_if false key keys = keys
+
+abbrev pub keys_after : Event → Answer → List DrawnKey → List DrawnKey
+keys_after (events.Coordinator eui key) _ keys = key_if true (record { index = 0; key = key }) keys
+keys_after (events.Rekey index key) answer keys = key_if (is_drawn answer) (record { index = index; key = key }) keys
+keys_after _ _ keys = keys
+
+abbrev pub watches_with : Bool → List Watched → List Watched
+watches_with true watches = watches ++ (unwatched ∷ [])
+watches_with false watches = watches
+
+unfoldable pub learned : Event → TaleEvent → Sentences → Sentences
+learned event e s =
+    record s {
+      homes = homes_with (newcomer (length s.homes) e.act e.answer e.address) s.homes;
+      keys = keys_after event e.answer s.keys;
+      watches = watches_with (makes_node e.act) s.watches;
+    }
+
+-- # The frame that came
+
+abbrev pub flight_came : ℕ → Option (List ℕ) → Option Key → Option TaleFlight → Option FlightMore → List ℕ → List Eui → Option Heard
+flight_came number (Some octets) key (Some flight) (Some more) homes euis = Some (heard_flight number octets key flight more homes euis)
+flight_came number _ key _ _ homes euis = None
+
+-- the flight of a number, as it comes to a node
+unfoldable pub flight_heard : ℕ → Recording → List ℕ → Option Heard
+flight_heard number r homes =
+    flight_came number (octets_at r.world number) (key_at r.world number) (numbered r.flights number) (numbered r.more number) homes r.euis
+
+abbrev pub heard_by : Event → Recording → Sentences → Option Heard
+heard_by (events.Deliver flight node cost) r s = flight_heard flight r s.homes
+heard_by (events.Inject node cost octets) r s = Some (heard_octets octets s.keys s.homes r.euis)
+heard_by _ r s = None
+
+abbrev pub is_at : Who → ℕ → Bool
+is_at (whos.Node node) place = node == place
+is_at _ place = false
+
+-- whether a frame came to a node that it is not for
+abbrev pub is_hushed : Option Heard → TaleEvent → Bool
+is_hushed None e = false
+is_hushed (Some heard) e = is_for_another e.answer && not (is_at heard.to (actor_of e.act))
+
+-- # What is kept of nodes
+
+abbrev pub shown_by : Option Node → Shown
+shown_by None = nothing_shown
+shown_by (Some node) = shown_of node
+
+-- by the routes that a node shows
+abbrev pub looked_in : ℕ → List ShownRoute → ℕ → List Watched → List Watched
+looked_in event routes place watches = changed_place (slice_get watches place) place (looked event routes) watches
+
+-- after an event, by what a node shows then, if there is such a node
+unfoldable pub look_at : ℕ → World → ℕ → List Watched → List Watched
+look_at event w place watches =
+    if is_some (node_at w place) then looked_in event (shown_by (node_at w place)).routes place watches else watches
+
+-- by what each of so many nodes shows
+abbrev pub look_at_all : ℕ → World → ℕ → List Watched → List Watched
+look_at_all event w zero watches = watches
+look_at_all event w (suc place) watches = look_at event w place (look_at_all event w place watches)
+
+-- by what the nodes show that an event may have changed beside the one that it is about
+abbrev pub look_around : ℕ → Act → World → List Watched → List Watched
+look_around event (acts.Tick seconds) w watches = look_at_all event w (min (length watches) 1000) watches
+look_around event (acts.Near a b) w watches = look_at event w b watches
+look_around event _ w watches = watches
+
+-- whether a route that was valid is not any more, by those that a node shows
+abbrev pub ended_in : Option Watched → List ShownRoute → Bool
+ended_in None routes = false
+ended_in (Some watch) routes = has_ended (valid_dests routes) watch.routes.valid
+
+abbrev pub ended_at : World → ℕ → List Watched → Bool
+ended_at w place watches =
+    if is_some (node_at w place) then ended_in (slice_get watches place) (shown_by (node_at w place)).routes else false
+
+abbrev pub noted_at : ℕ → TaleEvent → List Watched → List Watched
+noted_at event e watches =
+    changed_place (slice_get watches (actor_of e.act)) (actor_of e.act) (noted e.act e.answer event) watches
+
+-- flights, of which the first has this number: those from a place on
+abbrev pub counters_from : ℕ → ℕ → List FlightMore → List ((ℕ × ℕ) × ℕ) → List ((ℕ × ℕ) × ℕ)
+counters_from first place [] counters = counters
+counters_from first place (more ∷ rest) counters = counters_from first (place + 1) rest (counters_with (first + place) more counters)
+
+-- # One event
+
+-- with the words of an event, which is noted
+unfoldable pub ending : List ℕ → ℕ → TaleEvent → Recording → Sentences → Sentences
+ending words event e r s =
+    record s {
+      sentences = s.sentences ++ (words ∷ []);
+      watches = noted_at event e s.watches;
+      counters = counters_from e.first_flight 0 (made_by e r.more) s.counters;
+    }
+
+abbrev pub with_looks : List Watched → Sentences → Sentences
+with_looks watches s = record s { watches = watches }
+
+-- what the sentence goes by: what the node shows that the event is about, and whether a route of it ended
+abbrev pub scene : TaleEvent → Option Heard → Shown → Bool → Recording → Sentences → Scene
+scene e heard shown ended r s =
+    record {
+      told = e;
+      flights = made_by e r.flights;
+      heard = heard;
+      node = actor_of e.act;
+      shown = shown;
+      watch = slice_get s.watches (actor_of e.act);
+      ended = ended;
+      counters = s.counters;
+      homes = s.homes;
+      euis = r.euis;
+    }
+
+-- the words of an event, after the look at its node, and whether a route of that ended
+abbrev pub words_of : TaleEvent → Option Heard → Bool → Recording → Sentences → List ℕ
+words_of e heard ended r s = event_text (scene e heard (shown_by (node_at r.world (actor_of e.act))) ended r s)
+
+abbrev pub told_with : ℕ → TaleEvent → Option Heard → Bool → Recording → Sentences → Sentences
+told_with event e heard ended r s = ending (words_of e heard ended r s) event e r s
+
+-- an event that has words, after the looks at other nodes
+unfoldable pub worded : ℕ → TaleEvent → Option Heard → List Watched → Recording → Sentences → Sentences
+worded event e heard watches r s =
+    told_with event e heard (ended_at r.world (actor_of e.act) watches) r (with_looks (look_at event r.world (actor_of e.act) watches) s)
+
+abbrev pub with_event : ℕ → TaleEvent → Option Heard → Recording → Sentences → Sentences
+with_event event e heard r s =
+    if is_hushed heard e then ending [] event e r s else worded event e heard (look_around event e.act r.world s.watches) r s
+
+unfoldable pub event_told : ℕ → Event → TaleEvent → Recording → Sentences → Sentences
+event_told number event e r s = with_event number e (heard_by event r (learned event e s)) r (learned event e s)
+
+abbrev pub with_last : Option TaleEvent → Event → Recording → Sentences → Sentences
+with_last None event r s = s
+with_last (Some e) event r s = event_told (length r.events) event e r s
+
+-- with the sentence of the event that a run took last
+unfoldable pub with_sentence : Event → Recording → Sentences → Sentences
+with_sentence event r s = with_last (numbered r.events (length r.events)) event r s

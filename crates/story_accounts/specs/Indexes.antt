@@ -1,0 +1,160 @@
+-- What is looked up of a run again and again, by stories and flights.
+use Rattle.std.specs.Prelude.{ℕ, ◌+◌, ◌-◌, ◌==◌, ◌&&◌, Bool, true, false, not, List, [], ◌∷◌, ◌++◌, length, replicate, take, drop, slice_get}
+use Rattle.std.specs.Prelude.{Option, None, Some, if◌then◌else◌}
+use Rattle.frame_words.specs.declared.gist.Gist.{Gist}
+use Rattle.frame_words.specs.declared.gist.Gist.TheVariants as gists
+use Rattle.line_tale.specs.declared.act.Act.{Act}
+use Rattle.line_tale.specs.declared.act.Act.TheVariants as acts
+use Rattle.line_tale.specs.declared.told.TaleEvent.{TaleEvent}
+use Rattle.line_tale.specs.declared.told.TaleFlight.{TaleFlight}
+use Rattle.line_tale.specs.declared.lot.Lot.{Lot}
+use Rattle.line_tale.specs.Lists.{changed_at}
+use Rattle.line_tale.specs.Tales.{made_by, numbered}
+use Rattle.line_tale.specs.Verdicts.{or_number, went_on}
+
+-- # Lists by number
+
+abbrev pub with_number : ℕ → List ℕ → List ℕ
+with_number n numbers = numbers ++ (n ∷ [])
+
+abbrev pub is_last : ℕ → Option ℕ → Bool
+is_last n None = false
+is_last n (Some m) = m == n
+
+-- the same where the number stands at the end already
+abbrev pub with_new_number : ℕ → List ℕ → List ℕ
+with_new_number n numbers = if is_last n (slice_get numbers (length numbers - 1)) then numbers else with_number n numbers
+
+abbrev pub nothing_by : ℕ → List (List ℕ)
+nothing_by count = replicate count []
+
+-- # Sends
+
+-- the first send of each story, 0 where it has none: the stories of the sends from the one after `place` on
+abbrev pub sends_from : ℕ → List ℕ → List ℕ → List ℕ
+sends_from place [] sends = sends
+sends_from place (story ∷ sent) sends = sends_from (place + 1) sent (changed_at story (λ send. or_number send (place + 1)) sends)
+
+abbrev pub sends_of : ℕ → List ℕ → List ℕ
+sends_of count sent = sends_from 0 sent (replicate count 0)
+
+-- # Flights that did not go on
+
+-- whether a flight carries a datagram, or a piece of it, and did not go on
+abbrev pub is_broken : Lot → Bool
+is_broken lot = lot.bears && not (went_on lot.fate)
+
+abbrev pub broken_with : ℕ → Lot → List (List ℕ) → List (List ℕ)
+broken_with n lot broken = if is_broken lot then changed_at lot.story (with_number n) broken else broken
+
+abbrev pub broken_from : ℕ → List Lot → List (List ℕ) → List (List ℕ)
+broken_from place [] broken = broken
+broken_from place (lot ∷ lots) broken = broken_from (place + 1) lots (broken_with (place + 1) lot broken)
+
+-- those of each story
+abbrev pub broken_of : ℕ → List Lot → List (List ℕ)
+broken_of count lots = broken_from 0 lots (nothing_by count)
+
+-- # Route requests
+
+-- whether a flight is a route request that its sender begins
+abbrev pub begins_request : Gist → Bool
+begins_request (gists.Seeks origin sought cost) = cost == 0
+begins_request _ = false
+
+abbrev pub requests_with : ℕ → TaleFlight → List (List ℕ) → List (List ℕ)
+requests_with n flight requests = if begins_request flight.gist then changed_at (flight.from + 1) (with_number n) requests else requests
+
+abbrev pub requests_from : ℕ → List TaleFlight → List (List ℕ) → List (List ℕ)
+requests_from place [] requests = requests
+requests_from place (flight ∷ flights) requests = requests_from (place + 1) flights (requests_with (place + 1) flight requests)
+
+-- the requests that each of so many nodes began
+abbrev pub requests_of : ℕ → List TaleFlight → List (List ℕ)
+requests_of nodes flights = requests_from 0 flights (nothing_by nodes)
+
+-- # Hearings
+
+-- the flight that comes to a node at an event, 0 where none does
+abbrev pub flight_heard : Act → ℕ
+flight_heard (acts.Deliver flight node cost) = flight
+flight_heard _ = 0
+
+abbrev pub hearings_from : ℕ → List TaleEvent → List (List ℕ) → List (List ℕ)
+hearings_from place [] hearings = hearings
+hearings_from place (e ∷ es) hearings =
+    hearings_from (place + 1) es (changed_at (flight_heard e.act) (with_number (place + 1)) hearings)
+
+-- the events at which each flight came to a node
+abbrev pub hearings_of : ℕ → List TaleEvent → List (List ℕ)
+hearings_of count events = hearings_from 0 events (nothing_by count)
+
+-- # Events of stories
+
+abbrev pub owner_with : ℕ → Option ℕ → List (List ℕ) → List (List ℕ)
+owner_with n None events = events
+owner_with n (Some story) events = changed_at story (with_new_number n) events
+
+abbrev pub makers_with : ℕ → List Lot → List (List ℕ) → List (List ℕ)
+makers_with n [] events = events
+makers_with n (lot ∷ lots) events = makers_with n lots (changed_at lot.story (with_new_number n) events)
+
+unfoldable pub event_with : ℕ → TaleEvent → List ℕ → List Lot → List (List ℕ) → List (List ℕ)
+event_with place e owners lots events = makers_with (place + 1) (made_by e lots) (owner_with (place + 1) (slice_get owners place) events)
+
+abbrev pub events_from : ℕ → List TaleEvent → List ℕ → List Lot → List (List ℕ) → List (List ℕ)
+events_from place [] owners lots events = events
+events_from place (e ∷ es) owners lots events = events_from (place + 1) es owners lots (event_with place e owners lots events)
+
+-- the events of each story: those that it owns, and those of others that made one of its flights
+abbrev pub events_of : ℕ → List TaleEvent → List ℕ → List Lot → List (List ℕ)
+events_of count es owners lots = events_from 0 es owners lots (nothing_by count)
+
+-- # All of it
+
+pub record Index : Type 0 where
+  -- the first send of each story, 0 where it has none
+  pub sends : List ℕ
+  -- the events of each story
+  pub events : List (List ℕ)
+  -- the flights of each story with its datagram, or a piece of it, that did not go on
+  pub broken : List (List ℕ)
+  -- the events at which each flight came to a node
+  pub hearings : List (List ℕ)
+  -- the route requests that each node began, where node 0 is the first
+  pub requests : List (List ℕ)
+
+-- that of a run with so many stories and nodes, by the stories of its sends and of its events
+unfoldable pub index_of : ℕ → ℕ → List TaleEvent → List TaleFlight → List Lot → List ℕ → List ℕ → Index
+index_of count nodes es flights lots sent owners =
+    record {
+      sends = sends_of count sent;
+      events = events_of count es owners lots;
+      broken = broken_of count lots;
+      hearings = hearings_of (length lots) es;
+      requests = requests_of nodes flights;
+    }
+
+abbrev pub number_or_0 : Option ℕ → ℕ
+number_or_0 None = 0
+number_or_0 (Some n) = n
+
+abbrev pub numbers_or_none : Option (List ℕ) → List ℕ
+numbers_or_none None = []
+numbers_or_none (Some numbers) = numbers
+
+abbrev pub send_at : Index → ℕ → ℕ
+send_at index story = number_or_0 (numbered index.sends story)
+
+abbrev pub events_at : Index → ℕ → List ℕ
+events_at index story = numbers_or_none (numbered index.events story)
+
+abbrev pub broken_at : Index → ℕ → List ℕ
+broken_at index story = numbers_or_none (numbered index.broken story)
+
+abbrev pub hearings_at : Index → ℕ → List ℕ
+hearings_at index flight = numbers_or_none (numbered index.hearings flight)
+
+-- those that a node began, by its number from 0
+abbrev pub requests_at : Index → ℕ → List ℕ
+requests_at index node = numbers_or_none (numbered index.requests (node + 1))

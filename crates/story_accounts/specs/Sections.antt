@@ -1,0 +1,447 @@
+-- The text of `explain`: what became of each story, section by section, and what was refused.
+use Rattle.std.specs.Prelude.{ℕ, ◌+◌, ◌-◌, ◌==◌, ◌&&◌, ◌||◌, Bool, true, false, not, List, [], ◌∷◌, ◌++◌, codes, length, position, replicate, slice_get, take}
+use Rattle.std.specs.Prelude.{Option, None, Some, if◌then◌else◌, decimal, nat_lt, nat_le}
+use Rattle.frame_words.specs.declared.gist.FrameTarget.{FrameTarget}
+use Rattle.line_events.specs.declared.event.Answer.{Answer}
+use Rattle.line_events.specs.declared.event.Answer.TheVariants as answers
+use Rattle.line_script.specs.AnswerWords.{answer_word}
+use Rattle.line_tale.specs.declared.told.TaleEvent.{TaleEvent}
+use Rattle.line_tale.specs.declared.told.TaleFlight.{TaleFlight}
+use Rattle.line_tale.specs.declared.kind.StoryKind.{StoryKind}
+use Rattle.line_tale.specs.declared.kind.StoryKind.TheVariants as kinds
+use Rattle.line_tale.specs.declared.story.Story.{Story}
+use Rattle.line_tale.specs.declared.lot.Lot.{Lot}
+use Rattle.line_tale.specs.declared.lot.Fate.{Fate}
+use Rattle.line_tale.specs.declared.lot.Fate.TheVariants as fates
+use Rattle.line_tale.specs.declared.verdict.Verdict.{Verdict}
+use Rattle.line_tale.specs.declared.verdict.Verdict.TheVariants as verdicts
+use Rattle.line_tale.specs.Tales.{numbered}
+use Rattle.line_tale.specs.Verdicts.{is_good}
+use Rattle.sentence_parts.specs.declared.part.Part.TheVariants.{Words, Number}
+use Rattle.sentence_parts.specs.Parts.{parts_text}
+use Rattle.story_accounts.specs.declared.section.Chosen.{Chosen}
+use Rattle.story_accounts.specs.declared.section.Chosen.TheVariants as chosens
+use Rattle.story_accounts.specs.declared.section.Section.{Section}
+use Rattle.story_accounts.specs.declared.section.Section.TheVariants as sections
+use Rattle.story_accounts.specs.Indexes.{events_at, number_or_0, send_at}
+use Rattle.story_accounts.specs.Accounts.{RunAccount, answer_at, first_of, is_ok, verdict_at, why}
+use Rattle.story_accounts.specs.Fates.{fate_text, is_mute, is_to_all, two_words}
+use Rattle.story_accounts.specs.Outcomes.{outcome_text}
+use Rattle.story_accounts.specs.Titles.{capital, title}
+use Rattle.story_accounts.specs.Groups.{WordGroup, joined, largest_first}
+
+-- # Sections
+
+abbrev pub is_datagrams : Section → Bool
+is_datagrams sections.Datagrams = true
+is_datagrams _ = false
+
+abbrev pub is_joinings : Section → Bool
+is_joinings sections.Joinings = true
+is_joinings _ = false
+
+abbrev pub is_orders : Section → Bool
+is_orders sections.Orders = true
+is_orders _ = false
+
+abbrev pub is_injections : Section → Bool
+is_injections sections.Injections = true
+is_injections _ = false
+
+abbrev pub is_broadcasts : Section → Bool
+is_broadcasts sections.Broadcasts = true
+is_broadcasts _ = false
+
+abbrev pub is_walks : Section → Bool
+is_walks sections.Walks = true
+is_walks _ = false
+
+-- whether stories of a kind are in a section
+abbrev pub section_kind : Section → StoryKind → Bool
+section_kind section kinds.Datagram = is_datagrams section
+section_kind section kinds.Joining = is_joinings section
+section_kind section kinds.Renewal = is_joinings section
+section_kind section kinds.Order = is_orders section
+section_kind section kinds.Injection = is_injections section
+section_kind section kinds.Broadcast = is_broadcasts section
+section_kind section kinds.Walk = is_walks section
+section_kind section _ = false
+
+abbrev pub section_title : Section → List ℕ
+section_title sections.Datagrams = codes "Datagrams"
+section_title sections.Joinings = codes "Joinings and keys"
+section_title sections.Orders = codes "Orders"
+section_title sections.Injections = codes "Injected octets"
+section_title sections.Broadcasts = codes "Broadcasts"
+section_title sections.Walks = codes "Path requests"
+
+-- what a good story of a section is called; of broadcasts nothing is asked
+abbrev pub good_word : Section → List ℕ
+good_word sections.Datagrams = codes " came"
+good_word sections.Joinings = codes " done"
+good_word sections.Orders = codes " heard"
+good_word sections.Injections = codes " refused"
+good_word sections.Broadcasts = []
+good_word sections.Walks = codes " answered"
+
+-- whether a story is one of those that are chosen
+abbrev pub is_chosen : Chosen → RunAccount → ℕ → Story → Bool
+is_chosen (chosens.Send send) a number story = (send_at a.index number == send) && not (send == 0)
+is_chosen (chosens.Node node) a number story = story.person == node
+is_chosen _ a number story = true
+
+-- the number, if something holds
+abbrev pub number_if : Bool → ℕ → List ℕ
+number_if true n = n ∷ []
+number_if false n = []
+
+abbrev pub is_in : RunAccount → Section → Chosen → ℕ → Story → Bool
+is_in a section chosen number story = section_kind section story.kind && is_chosen chosen a number story
+
+abbrev pub stories_from : RunAccount → Section → Chosen → ℕ → List Story → List ℕ
+stories_from a section chosen place [] = []
+stories_from a section chosen place (story ∷ stories) =
+    number_if (is_in a section chosen (place + 1) story) (place + 1)
+    ++ stories_from a section chosen (place + 1) stories
+
+-- the chosen stories of a section
+abbrev pub stories_in : RunAccount → Section → Chosen → List ℕ
+stories_in a section chosen = stories_from a section chosen 0 a.stories
+
+-- # Good and failed
+
+abbrev pub is_yes : Option Bool → Bool
+is_yes None = false
+is_yes (Some good) = good
+
+abbrev pub is_no : Option Bool → Bool
+is_no None = false
+is_no (Some good) = not good
+
+abbrev pub came_well : RunAccount → ℕ → Bool
+came_well a story = is_yes (is_good (verdict_at a story))
+
+abbrev pub failed : RunAccount → ℕ → Bool
+failed a story = is_no (is_good (verdict_at a story))
+
+abbrev pub good_among : RunAccount → List ℕ → List ℕ
+good_among a [] = []
+good_among a (n ∷ ns) = number_if (came_well a n) n ++ good_among a ns
+
+-- # Why stories failed
+
+abbrev pub is_for_another : Answer → Bool
+is_for_another answers.NotForMe = true
+is_for_another _ = false
+
+abbrev pub refusal_word : Option TaleEvent → List ℕ
+refusal_word None = []
+refusal_word (Some e) = if is_for_another e.answer then codes "the next node had left, or has another address" else answer_word e.answer
+
+abbrev pub refusal_at : RunAccount → ℕ → List ℕ
+refusal_at a event = refusal_word (numbered a.events event)
+
+abbrev pub missed_reason : Bool → List ℕ → List ℕ
+missed_reason true words = codes "the route request reached no node"
+missed_reason false words = words
+
+abbrev pub fate_reason : Fate → RunAccount → FrameTarget → List ℕ
+fate_reason fates.Missed a target = missed_reason (is_to_all target) (codes "a frame was never delivered")
+fate_reason (fates.Lost event) a target = missed_reason (is_to_all target) (codes "a frame was lost")
+fate_reason (fates.Refused event) a target = refusal_at a event
+fate_reason (fates.Reported event) a target = codes "Reported: a relay had no route"
+fate_reason (fates.WentOn event) a target = codes "nothing followed"
+
+abbrev pub reason_by : Option TaleFlight → Option Lot → RunAccount → List ℕ
+reason_by None lot a = codes "nothing went out"
+reason_by (Some flight) None a = codes "nothing went out"
+reason_by (Some flight) (Some lot) a = fate_reason lot.fate a flight.target
+
+-- why a flight did not go on, in a few words
+unfoldable pub flight_reason : RunAccount → ℕ → List ℕ
+flight_reason a flight = reason_by (numbered a.flights flight) (numbered a.lots flight) a
+
+abbrev pub is_unheard : Option Lot → Bool
+is_unheard None = false
+is_unheard (Some lot) = is_mute lot.fate
+
+abbrev pub unheard_at : RunAccount → ℕ → Bool
+unheard_at a flight = is_unheard (numbered a.lots flight)
+
+abbrev pub waited_words : Bool → List ℕ
+waited_words true = codes "waited for a route: "
+waited_words false = []
+
+abbrev pub verdict_reason : Verdict → RunAccount → ℕ → List ℕ
+verdict_reason verdicts.NotBegun a first = two_words (codes "refused at once: ") (answer_at a first)
+verdict_reason (verdicts.NeverLeft last) a first = two_words (waited_words (unheard_at a last)) (flight_reason a last)
+verdict_reason (verdicts.Ended flight) a first = flight_reason a flight
+verdict_reason (verdicts.Loose last) a first = flight_reason a last
+verdict_reason (verdicts.TookOnly event last) a first = flight_reason a last
+verdict_reason (verdicts.Declined event) a first = codes "the meter was not allowed"
+verdict_reason _ a first = codes "FORGED"
+
+-- why a story failed, in a few words
+unfoldable pub reason : RunAccount → ℕ → List ℕ
+reason a story = verdict_reason (verdict_at a story) a (first_of a story)
+
+abbrev pub joined_if : Bool → List ℕ → ℕ → List WordGroup → List WordGroup
+joined_if true word n groups = joined word n groups
+joined_if false word n groups = groups
+
+abbrev pub reasons_from : RunAccount → List ℕ → List WordGroup → List WordGroup
+reasons_from a [] groups = groups
+reasons_from a (n ∷ ns) groups = reasons_from a ns (joined_if (failed a n) (reason a n) n groups)
+
+-- # Columns
+
+abbrev pub blanks : ℕ → List ℕ
+blanks count = replicate count 32
+
+-- a number at the end of a field of some signs
+abbrev pub padded : ℕ → ℕ → List ℕ
+padded number width = blanks (width - length (decimal number)) ++ decimal number
+
+-- words at the start of a field of some octets
+abbrev pub widened : List ℕ → ℕ → List ℕ
+widened word width = word ++ blanks (width - length word)
+
+unfoldable pub reason_row : WordGroup → List ℕ
+reason_row group = codes "  " ++ (padded (length group.members) 4 ++ (codes " " ++ (group.word ++ codes "\n")))
+
+abbrev pub reason_rows : List WordGroup → List ℕ
+reason_rows [] = []
+reason_rows (group ∷ groups) = reason_row group ++ reason_rows groups
+
+-- how many stories failed for which reason, the most first
+unfoldable pub reasons_text : RunAccount → List ℕ → List ℕ
+reasons_text a stories = reason_rows (largest_first (reasons_from a stories []))
+
+-- # Stories
+
+-- what came to a node that it is not for has no words
+abbrev pub is_shown : RunAccount → ℕ → TaleEvent → Bool
+is_shown a event e = not (is_for_another e.answer) || not (length (why a event) == 0)
+
+abbrev pub refusal_mark : Answer → List ℕ
+refusal_mark answer = if is_ok answer then [] else parts_text (Words (codes " [") ∷ Words (answer_word answer) ∷ Words (codes "]") ∷ [])
+
+unfoldable pub event_line_by : ℕ → ℕ → List ℕ → List ℕ → List ℕ
+event_line_by event line why mark =
+    parts_text
+    (Words (codes "      event ") ∷ Number event ∷ Words (codes ", line ") ∷ Number line ∷ Words (codes ": ") ∷ Words why
+    ∷ Words (codes ".") ∷ Words mark ∷ Words (codes "\n") ∷ [])
+
+unfoldable pub event_line : RunAccount → ℕ → TaleEvent → List ℕ
+event_line a event e = event_line_by event e.line (why a event) (refusal_mark e.answer)
+
+abbrev pub event_by : Option TaleEvent → RunAccount → ℕ → List ℕ
+event_by None a event = []
+event_by (Some e) a event = if is_shown a event e then event_line a event e else []
+
+abbrev pub event_text : RunAccount → ℕ → List ℕ
+event_text a event = event_by (numbered a.events event) a event
+
+abbrev pub events_text : RunAccount → List ℕ → List ℕ
+events_text a [] = []
+events_text a (event ∷ events) = event_text a event ++ events_text a events
+
+abbrev pub verdict_line : List ℕ → List ℕ
+verdict_line outcome = if length outcome == 0 then [] else codes "    " ++ (capital outcome ++ codes ".\n")
+
+unfoldable pub story_head : RunAccount → ℕ → Story → List ℕ
+story_head a number story = codes "\n  " ++ (capital (title a number story) ++ (codes "\n" ++ verdict_line (outcome_text a number)))
+
+abbrev pub whole_events : Bool → RunAccount → ℕ → List ℕ
+whole_events true a number = events_text a (events_at a.index number)
+whole_events false a number = []
+
+-- a story: what it is about, its verdict, and, where it is whole, its events
+abbrev pub story_text : RunAccount → ℕ → Story → Bool → List ℕ
+story_text a number story whole = story_head a number story ++ whole_events whole a number
+
+-- whether good stories are told in short, or left out where there are many
+abbrev pub is_brief : Chosen → Bool
+is_brief chosens.Failed = true
+is_brief _ = false
+
+-- many stories are more than so many
+abbrev pub many : ℕ
+many = 20
+
+abbrev pub is_left_out : RunAccount → Chosen → ℕ → ℕ → Bool
+is_left_out a chosen count number = came_well a number && (is_brief chosen && nat_lt many count)
+
+abbrev pub is_whole : RunAccount → Chosen → ℕ → Bool
+is_whole a chosen number = not (came_well a number) || not (is_brief chosen)
+
+abbrev pub entry_by : Option Story → RunAccount → Chosen → ℕ → ℕ → List ℕ
+entry_by None a chosen count number = []
+entry_by (Some story) a chosen count number =
+    if is_left_out a chosen count number then [] else story_text a number story (is_whole a chosen number)
+
+unfoldable pub entry_text : RunAccount → Chosen → ℕ → ℕ → List ℕ
+entry_text a chosen count number = entry_by (numbered a.stories number) a chosen count number
+
+abbrev pub entries_text : RunAccount → Chosen → ℕ → List ℕ → List ℕ
+entries_text a chosen count [] = []
+entries_text a chosen count (number ∷ numbers) = entry_text a chosen count number ++ entries_text a chosen count numbers
+
+-- # Whole sections
+
+abbrev pub good_text : Section → ℕ → List ℕ
+good_text section count = if is_broadcasts section then [] else parts_text (Words (codes ", ") ∷ Number count ∷ Words (good_word section) ∷ [])
+
+abbrev pub head_by : List ℕ → ℕ → List ℕ → List ℕ
+head_by title count good =
+    parts_text (Words (codes "\n") ∷ Words title ∷ Words (codes ": ") ∷ Number count ∷ Words good ∷ Words (codes "\n") ∷ [])
+
+abbrev pub section_head : Section → ℕ → ℕ → List ℕ
+section_head section count good = head_by (section_title section) count (good_text section good)
+
+abbrev pub many_reasons : RunAccount → List ℕ → List ℕ
+many_reasons a stories = if nat_lt many (length stories) then reasons_text a stories else []
+
+-- a section with these stories
+unfoldable pub section_of : RunAccount → Section → Chosen → List ℕ → List ℕ
+section_of a section chosen stories =
+    section_head section (length stories) (length (good_among a stories))
+    ++ (many_reasons a stories ++ entries_text a chosen (length stories) stories)
+
+abbrev pub section_by : RunAccount → Section → Chosen → List ℕ → List ℕ
+section_by a section chosen stories = if length stories == 0 then [] else section_of a section chosen stories
+
+abbrev pub section_text : RunAccount → Section → Chosen → List ℕ
+section_text a section chosen = section_by a section chosen (stories_in a section chosen)
+
+abbrev pub sections_from : RunAccount → List Section → Chosen → List ℕ
+sections_from a [] chosen = []
+sections_from a (section ∷ rest) chosen = section_text a section chosen ++ sections_from a rest chosen
+
+-- # Refusals
+
+-- whether an event was refused, and not since its frame is for another node
+abbrev pub is_refusal : TaleEvent → Bool
+is_refusal e = not (is_ok e.answer) && not (is_for_another e.answer)
+
+abbrev pub refused_from : ℕ → List TaleEvent → List ℕ
+refused_from place [] = []
+refused_from place (e ∷ es) = number_if (is_refusal e) (place + 1) ++ refused_from (place + 1) es
+
+abbrev pub answers_from : RunAccount → List ℕ → List WordGroup → List WordGroup
+answers_from a [] groups = groups
+answers_from a (event ∷ events) groups = answers_from a events (joined (answer_at a event) event groups)
+
+abbrev pub line_by : Option TaleEvent → ℕ
+line_by None = 0
+line_by (Some e) = e.line
+
+abbrev pub line_at : RunAccount → ℕ → ℕ
+line_at a event = line_by (numbered a.events event)
+
+unfoldable pub first_text : RunAccount → ℕ → List ℕ
+first_text a event =
+    parts_text
+    (Words (codes " first at event ") ∷ Number event ∷ Words (codes ", line ") ∷ Number (line_at a event) ∷ Words (codes ": ")
+    ∷ Words (why a event) ∷ Words (codes "\n") ∷ [])
+
+unfoldable pub refusal_row : RunAccount → WordGroup → List ℕ
+refusal_row a group =
+    codes "  "
+    ++ (padded (length group.members) 5 ++ (codes " " ++ (widened group.word 12 ++ first_text a (number_or_0 (slice_get group.members 0)))))
+
+abbrev pub refusal_rows : RunAccount → List WordGroup → List ℕ
+refusal_rows a [] = []
+refusal_rows a (group ∷ groups) = refusal_row a group ++ refusal_rows a groups
+
+unfoldable pub refusals_head : ℕ → List ℕ
+refusals_head count = parts_text (Words (codes "\nRefusals: ") ∷ Number count ∷ Words (codes "\n") ∷ [])
+
+unfoldable pub refusals_of : RunAccount → List ℕ → List ℕ
+refusals_of a events =
+    refusals_head (length events)
+    ++ refusal_rows a (largest_first (answers_from a events []))
+
+abbrev pub refusals_by : RunAccount → List ℕ → List ℕ
+refusals_by a events = if length events == 0 then [] else refusals_of a events
+
+-- how often what was refused, the most first, with the first of each
+abbrev pub refusals_text : RunAccount → List ℕ
+refusals_text a = refusals_by a (refused_from 0 a.events)
+
+-- # Flights that never came
+
+abbrev pub mute_from : ℕ → List Lot → List ℕ
+mute_from place [] = []
+mute_from place (lot ∷ lots) = number_if (is_mute lot.fate) (place + 1) ++ mute_from (place + 1) lots
+
+abbrev pub is_maker : ℕ → TaleEvent → Bool
+is_maker flight e = nat_le e.first_flight flight && nat_lt (flight - e.first_flight) e.flights
+
+abbrev pub after_place : Option ℕ → ℕ
+after_place None = 0
+after_place (Some place) = place + 1
+
+-- the event that made a flight
+abbrev pub made_at : RunAccount → ℕ → ℕ
+made_at a flight = after_place (position (is_maker flight) a.events)
+
+unfoldable pub mute_row : RunAccount → ℕ → ℕ → List ℕ
+mute_row a flight event =
+    parts_text
+    (Words (codes "        flight ") ∷ Number flight ∷ Words (codes ", event ") ∷ Number event ∷ Words (codes ", line ") ∷ Number (line_at a event)
+    ∷ Words (codes ": ") ∷ Words (fate_text a flight) ∷ Words (codes "\n") ∷ [])
+
+abbrev pub mute_rows : RunAccount → List ℕ → List ℕ
+mute_rows a [] = []
+mute_rows a (flight ∷ flights) = mute_row a flight (made_at a flight) ++ mute_rows a flights
+
+unfoldable pub mute_head : ℕ → List ℕ
+mute_head count =
+    parts_text (Words (codes "\nFrames that never came to the node that they are for: ") ∷ Number count ∷ Words (codes "\n") ∷ [])
+
+unfoldable pub mute_of : RunAccount → List ℕ → List ℕ
+mute_of a flights =
+    mute_head (length flights)
+    ++ mute_rows a (take many flights)
+
+abbrev pub mute_by : RunAccount → List ℕ → List ℕ
+mute_by a flights = if length flights == 0 then [] else mute_of a flights
+
+-- the flights that never came to the node that they are for: how many there are, and the first of them
+abbrev pub mute_text : RunAccount → List ℕ
+mute_text a = mute_by a (mute_from 0 a.lots)
+
+-- # Forged events
+
+unfoldable pub forged_row : RunAccount → ℕ → TaleEvent → List ℕ
+forged_row a event e =
+    parts_text
+    (Words (codes "FORGED at event ") ∷ Number event ∷ Words (codes ", line ") ∷ Number e.line ∷ Words (codes ": ") ∷ Words (why a event)
+    ∷ Words (codes ". No node of this run had made that tag with that key.\n") ∷ [])
+
+abbrev pub forged_by : RunAccount → ℕ → TaleEvent → List ℕ
+forged_by a event e = if e.forged then forged_row a event e else []
+
+abbrev pub forged_from : RunAccount → ℕ → List TaleEvent → List ℕ
+forged_from a place [] = []
+forged_from a place (e ∷ es) = forged_by a (place + 1) e ++ forged_from a (place + 1) es
+
+-- # All
+
+-- whether only some stories are chosen, and what concerns the others is left out
+abbrev pub is_part : Chosen → Bool
+is_part (chosens.Send send) = true
+is_part (chosens.Node node) = true
+is_part _ = false
+
+abbrev pub rest_text : RunAccount → Chosen → List ℕ
+rest_text a chosen = if is_part chosen then [] else refusals_text a ++ mute_text a
+
+abbrev pub all_sections : List Section
+all_sections =
+    sections.Datagrams ∷ sections.Joinings ∷ sections.Orders ∷ sections.Injections ∷ sections.Broadcasts ∷ sections.Walks ∷ []
+
+-- what became of the chosen stories: the forged events, each section, and where all are chosen the refusals and the flights that never came
+unfoldable pub account_text : RunAccount → Chosen → List ℕ
+account_text a chosen = forged_from a 0 a.events ++ (sections_from a all_sections chosen ++ rest_text a chosen)

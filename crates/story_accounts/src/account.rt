@@ -1,0 +1,162 @@
+//! A run with its stories and its sentences.
+ghost use Rattle.std.specs.Prelude.{◌≡◌, IfOk, string_bytes};
+ghost use Rattle.line_tale.specs.Tales.{numbered};
+ghost use Rattle.sentence_parts.specs.Parts.{parts_text};
+ghost use Rattle.story_accounts.specs.Accounts as accounts;
+
+use crate::index::Index;
+use crate::numbers::numbered;
+use line_events::Answer;
+use line_script::{answer_word, spaced_verdict};
+use line_tale::{Ends, Lot, Story, Tale, TaleEvent, TaleFlight, Verdict, verdict_of};
+use plc_base::Eui;
+use sentence_parts::{Part, sentence};
+use std::alloc::{AllocError, Global};
+use std::marker::Model;
+
+/// A run with its stories and its sentences. Events, flights and stories have numbers from 1, nodes and addresses from 0.
+#[derive(Drop)]
+pub struct Account<'a> {
+    /// Where texts are made.
+    pub alloc: Global,
+    /// The run.
+    pub tale: &'a Tale,
+    /// Its stories.
+    pub stories: &'a [Story],
+    /// What became of each flight.
+    pub lots: &'a [Lot],
+    /// The ends of the stories.
+    pub ends: &'a [Ends],
+    /// What is looked up of it.
+    pub index: &'a Index,
+    /// The node of each short address.
+    pub homes: &'a [u32],
+    /// The EUI-64 of each node.
+    pub euis: &'a [Eui],
+    /// The sentence of each event.
+    pub sentences: &'a [String],
+}
+
+impl<'a> Model for Account<'a> {
+    ghost use Rattle.std.specs.Prelude.{map, string_bytes};
+    ghost use Rattle.story_accounts.specs.Accounts.{RunAccount};
+
+    ghost Value = { RunAccount };
+
+    ghost view = { λ a. record {
+      events = a.tale.now.events.items;
+      flights = a.tale.now.flights.items;
+      stories = a.stories.now;
+      lots = a.lots.now;
+      ends = a.ends.now;
+      index = a.index.now;
+      homes = a.homes.now;
+      euis = a.euis.now;
+      sentences = map string_bytes a.sentences.now;
+    } };
+}
+
+/// Whether an answer is ok.
+pub fn is_ok(answer: Answer) -> bool
+    ensures { result ≡ accounts.is_ok answer }
+{
+    spaced_verdict(answer) == " ok "
+}
+
+impl<'a> Account<'a> {
+    /// A text of its own.
+    pub fn say(&self, parts: &[Part<'_>]) -> Result<String, AllocError>
+        ensures { IfOk result (λ text. string_bytes text ≡ parts_text parts.now) }
+    {
+        sentence(self.alloc, parts)
+    }
+
+    /// The event of a number, if there is one.
+    pub fn event(&self, number: usize) -> Option<TaleEvent>
+        ensures { result ≡ numbered self.now.events number }
+    {
+        numbered(self.tale.events.as_slice(), number)
+    }
+
+    /// The flight of a number, if there is one.
+    pub fn flight(&self, number: usize) -> Option<TaleFlight>
+        ensures { result ≡ numbered self.now.flights number }
+    {
+        numbered(self.tale.flights.as_slice(), number)
+    }
+
+    /// The story of a number, if there is one.
+    pub fn story(&self, number: usize) -> Option<Story>
+        ensures { result ≡ numbered self.now.stories number }
+    {
+        numbered(self.stories, number)
+    }
+
+    /// What became of the flight of a number, if there is one.
+    pub fn lot(&self, number: usize) -> Option<Lot>
+        ensures { result ≡ numbered self.now.lots number }
+    {
+        numbered(self.lots, number)
+    }
+
+    /// The ends of a story.
+    pub fn ends_of(&self, story: usize) -> Ends
+        ensures { result ≡ accounts.ends_at self.now story }
+    {
+        match numbered(self.ends, story) {
+            Some(ends) => ends,
+            None => Ends {
+                last: 0,
+                bears: false,
+                broken: 0,
+            },
+        }
+    }
+
+    /// The sentence of an event, no words where there is none.
+    pub fn why(&self, event: usize) -> &'a str
+        ensures { result.now ≡ accounts.why self.now event }
+    {
+        if event == 0 {
+            return "";
+        }
+        match self.sentences.get(event - 1) {
+            Some(text) => text.as_str(),
+            None => "",
+        }
+    }
+
+    /// How an event ended, by its word.
+    pub fn answer_at(&self, event: usize) -> &'static str
+        ensures { result.now ≡ accounts.answer_at self.now event }
+    {
+        match self.event(event) {
+            Some(told) => answer_word(told.answer),
+            None => "",
+        }
+    }
+
+    /// The event that a story begins with, 0 where there is no such story.
+    pub fn first_of(&self, story: usize) -> usize
+        ensures { result ≡ accounts.first_of self.now story }
+    {
+        match self.story(story) {
+            Some(found) => found.first,
+            None => 0,
+        }
+    }
+
+    /// What became of a story.
+    #[tactic(auto, unfolding(crate::specs::Accounts::verdict_at))]
+    pub fn verdict(&self, story: usize) -> Verdict
+        ensures { result ≡ accounts.verdict_at self.now story }
+    {
+        let Some(found) = self.story(story) else {
+            return Verdict::Nothing;
+        };
+        match self.event(found.first) {
+            Some(event) => verdict_of(&found, &self.ends_of(story), &event),
+            None => Verdict::Nothing,
+        }
+    }
+}

@@ -1,0 +1,246 @@
+//! Why stories failed, and how often.
+ghost use Rattle.std.specs.Prelude.{◌≡◌, ◌++◌, ◌-◌, IfOk, OnOk, length, string_bytes};
+ghost use Rattle.story_accounts.specs.Sections as sections;
+
+use crate::account::Account;
+use crate::fates::{is_mute, is_to_all, two_words};
+use crate::groups::{Group, join, largest_first};
+use frame_words::FrameTarget;
+use itoa::Buffer;
+use line_events::Answer;
+use line_script::answer_word;
+use line_tale::{Fate, Verdict, is_good};
+use sentence_parts::decimal_width;
+use std::alloc::AllocError;
+
+fn is_yes(good: Option<bool>) -> bool
+    ensures { result ≡ sections.is_yes good }
+{
+    match good {
+        None => false,
+        Some(good) => good,
+    }
+}
+
+fn is_no(good: Option<bool>) -> bool
+    ensures { result ≡ sections.is_no good }
+{
+    match good {
+        None => false,
+        Some(good) => !good,
+    }
+}
+
+/// Whether a frame is for another node.
+pub fn is_for_another(answer: Answer) -> bool
+    ensures { result ≡ sections.is_for_another answer }
+{
+    match answer {
+        Answer::NotForMe => true,
+        _ => false,
+    }
+}
+
+fn missed_reason(to_all: bool, words: &'static str) -> &'static str
+    ensures { result.now ≡ sections.missed_reason to_all words.now }
+{
+    if to_all {
+        return "the route request reached no node";
+    }
+    words
+}
+
+fn waited_words(waited: bool) -> &'static str
+    ensures { result.now ≡ sections.waited_words waited }
+{
+    if waited {
+        return "waited for a route: ";
+    }
+    ""
+}
+
+/// Adds a number to a list, if something holds.
+pub fn push_if(list: &mut Vec<usize>, holds: bool, number: usize) -> Result<(), AllocError>
+    ensures { OnOk result (list.new.items ≡ list.old.items ++ sections.number_if holds number) }
+{
+    if holds {
+        list.push(number)?;
+    }
+    Ok(())
+}
+
+fn push_blanks(text: &mut String, count: usize) -> Result<(), AllocError>
+    ensures { OnOk result (string_bytes text.new ≡ string_bytes text.old ++ sections.blanks count) }
+{
+    for _ in 0..count {
+        text.push(' ')?;
+    }
+    Ok(())
+}
+
+/// Appends a number at the end of a field of so many signs.
+pub fn push_padded(text: &mut String, number: usize, width: usize) -> Result<(), AllocError>
+    ensures { OnOk result (string_bytes text.new ≡ string_bytes text.old ++ sections.padded number width) }
+{
+    push_blanks(text, width.saturating_sub(decimal_width(number)))?;
+    let mut digits = Buffer::new();
+    text.push_str(digits.format(number))
+}
+
+/// Appends words at the start of a field of so many octets.
+pub fn push_widened(text: &mut String, word: &str, width: usize) -> Result<(), AllocError>
+    ensures { OnOk result (string_bytes text.new ≡ string_bytes text.old ++ sections.widened word.now width) }
+{
+    text.push_str(word)?;
+    push_blanks(text, width.saturating_sub(word.len()))
+}
+
+#[tactic(auto, unfolding(crate::specs::Sections::reason_row))]
+fn push_reason_row(text: &mut String, group: &Group) -> Result<(), AllocError>
+    ensures { OnOk result (string_bytes text.new ≡ string_bytes text.old ++ sections.reason_row group.now) }
+{
+    text.push_str("  ")?;
+    push_padded(text, group.members().len(), 4)?;
+    text.push_str(" ")?;
+    text.push_str(group.word())?;
+    text.push_str("\n")
+}
+
+fn push_reason_rows(text: &mut String, groups: &[Group]) -> Result<(), AllocError>
+    ensures { OnOk result (string_bytes text.new ≡ string_bytes text.old ++ sections.reason_rows groups.now) }
+{
+    for group in groups {
+        push_reason_row(text, group)?;
+    }
+    Ok(())
+}
+
+impl<'a> Account<'a> {
+    /// Whether a story reached its end.
+    pub fn came_well(&self, story: usize) -> bool
+        ensures { result ≡ sections.came_well self.now story }
+    {
+        is_yes(is_good(&self.verdict(story)))
+    }
+
+    fn failed_to(&self, story: usize) -> bool
+        ensures { result ≡ sections.failed self.now story }
+    {
+        is_no(is_good(&self.verdict(story)))
+    }
+
+    fn refusal_word(&self, event: usize) -> &'static str
+        ensures { result.now ≡ sections.refusal_at self.now event }
+    {
+        let Some(told) = self.event(event) else {
+            return "";
+        };
+        if is_for_another(told.answer) {
+            return "the next node had left, or has another address";
+        }
+        answer_word(told.answer)
+    }
+
+    fn fate_reason(&self, fate: &Fate, target: &FrameTarget) -> &'static str
+        ensures { result.now ≡ sections.fate_reason fate.now self.now target.now }
+    {
+        match fate {
+            Fate::Missed => missed_reason(is_to_all(target), "a frame was never delivered"),
+            Fate::Lost { .. } => missed_reason(is_to_all(target), "a frame was lost"),
+            Fate::Refused { event } => self.refusal_word(*event),
+            Fate::Reported { .. } => "Reported: a relay had no route",
+            Fate::WentOn { .. } => "nothing followed",
+        }
+    }
+
+    #[tactic(auto, unfolding(crate::specs::Sections::flight_reason))]
+    fn flight_reason(&self, flight: usize) -> &'static str
+        ensures { result.now ≡ sections.flight_reason self.now flight }
+    {
+        let Some(told) = self.flight(flight) else {
+            return "nothing went out";
+        };
+        let Some(lot) = self.lot(flight) else {
+            return "nothing went out";
+        };
+        self.fate_reason(&lot.fate, &told.target)
+    }
+
+    fn is_unheard(&self, flight: usize) -> bool
+        ensures { result ≡ sections.unheard_at self.now flight }
+    {
+        match self.lot(flight) {
+            Some(lot) => is_mute(&lot.fate),
+            None => false,
+        }
+    }
+
+    fn verdict_reason(&self, verdict: &Verdict, first: usize) -> Result<String, AllocError>
+        ensures { IfOk result (λ text. string_bytes text ≡ sections.verdict_reason verdict.now self.now first) }
+    {
+        match verdict {
+            Verdict::NotBegun => two_words(self.alloc, "refused at once: ", self.answer_at(first)),
+            Verdict::NeverLeft { last } => two_words(
+                self.alloc,
+                waited_words(self.is_unheard(*last)),
+                self.flight_reason(*last),
+            ),
+            Verdict::Ended { flight } => String::from_str(self.alloc, self.flight_reason(*flight)),
+            Verdict::Loose { last } => String::from_str(self.alloc, self.flight_reason(*last)),
+            Verdict::TookOnly { last, .. } => {
+                String::from_str(self.alloc, self.flight_reason(*last))
+            }
+            Verdict::Declined { .. } => String::from_str(self.alloc, "the meter was not allowed"),
+            _ => String::from_str(self.alloc, "FORGED"),
+        }
+    }
+
+    #[tactic(auto, unfolding(crate::specs::Sections::reason))]
+    fn reason(&self, story: usize) -> Result<String, AllocError>
+        ensures { IfOk result (λ text. string_bytes text ≡ sections.reason self.now story) }
+    {
+        self.verdict_reason(&self.verdict(story), self.first_of(story))
+    }
+
+    // The reason of a story that failed is said once more.
+    fn join_reason(&self, groups: &mut Vec<Group>, story: usize) -> Result<(), AllocError>
+        ensures { OnOk result (groups.new.items
+            ≡ sections.joined_if (sections.failed self.now story) (sections.reason self.now story) story groups.old.items) }
+    {
+        if !self.failed_to(story) {
+            return Ok(());
+        }
+        join(groups, self.alloc, self.reason(story)?, story)
+    }
+
+    fn join_reasons(&self, groups: &mut Vec<Group>, stories: &[usize]) -> Result<(), AllocError>
+        ensures { OnOk result (groups.new.items ≡ sections.reasons_from self.now stories.now groups.old.items) }
+    {
+        for story in stories {
+            self.join_reason(groups, *story)?;
+        }
+        Ok(())
+    }
+
+    /// Appends how many of these stories failed for which reason, the most first.
+    #[tactic(auto, unfolding(crate::specs::Sections::reasons_text))]
+    pub fn push_reasons(&self, text: &mut String, stories: &[usize]) -> Result<(), AllocError>
+        ensures { OnOk result (string_bytes text.new ≡ string_bytes text.old ++ sections.reasons_text self.now stories.now) }
+    {
+        let mut groups = Vec::new(self.alloc);
+        self.join_reasons(&mut groups, stories)?;
+        let sorted = largest_first(self.alloc, groups)?;
+        push_reason_rows(text, sorted.as_slice())
+    }
+
+    /// Those of these stories that reached their ends.
+    pub fn good_among(&self, stories: &[usize]) -> Result<Vec<usize>, AllocError>
+        ensures { IfOk result (λ good. good.items ≡ sections.good_among self.now stories.now) }
+    {
+        let mut good = Vec::new(self.alloc);
+        for story in stories {
+            push_if(&mut good, self.came_well(*story), *story)?;
+        }
+        Ok(good)
+    }
+}
