@@ -1,0 +1,8 @@
+use Rattle.line_sim.specs.Tool.{Described, Bad}
+use Rattle.line_sim.proofs.tool.simulate.Goals as goal
+
+pub returns-in-Ok : goal.returns-in-Ok
+returns-in-Ok g c = λ run. Described c.in-Ok.plan c.in-Ok.ensures.plan (c.run_plan.ensures run)
+
+pub returns-in-Err-Bad : goal.returns-in-Err-Bad
+returns-in-Err-Bad g c = λ _. Bad _ c.write_text.ensures

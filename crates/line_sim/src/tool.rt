@@ -1,0 +1,152 @@
+//! All that the program does.
+ghost use Rattle.std.specs.Prelude.{◌≡◌, nat_eq, true};
+ghost use Rattle.line_sim.specs.Tool.{status_of, Writes, WritesRun, Ends, EndsPlan, Runs, asks_run, options_of};
+
+use crate::command::{Mode, command_of};
+use crate::recorder::Recorder;
+use crate::status::Status;
+use line_plan::Plan;
+use line_simulation::{Made, Simulation, has_attackers};
+use plan_options::{NoPlan, read_plan};
+use plc_base::{Sink, Source, write_all};
+use std::alloc::{AllocError, Global};
+
+const USAGE: &[u8; 61] = b"usage: line_sim run | measure [--seed N] [--set KEY=VALUE]..\n";
+
+const APART: &[u8; 84] =
+    b"bad description: in 1000 draws of the place no path led to every meter; raise reach\n";
+
+// Writes a text, and answers a status where all of it was written.
+fn write_text<K: Sink>(sink: &mut K, text: &[u8], done: Status) -> Status
+    ensures { Writes text.now done (K.state sink.old) (K.state sink.new) result }
+{
+    match write_all(sink, text) {
+        Ok(()) => done,
+        Err(_) => Status::WriteFault,
+    }
+}
+
+// How a run ended that went on to the end of its time, or did not.
+fn status_of(whole: bool, forged: u32) -> Status
+    ensures { result ≡ status_of whole forged }
+{
+    if forged > 0 {
+        return Status::Forged;
+    }
+    if whole {
+        Status::Fine
+    } else {
+        Status::LimitReached
+    }
+}
+
+// Writes the script of a run that went on to the end of its time, or did not.
+fn write_script<const INJECTS: usize, K: Sink>(
+    recorder: &Recorder<INJECTS>,
+    whole: bool,
+    sink: &mut K,
+) -> Status
+    ensures { WritesRun (nat_eq INJECTS 0) (K.state sink.old) (K.state sink.new) result }
+{
+    let done = status_of(whole, recorder.forged());
+    write_text(sink, recorder.script(), done)
+}
+
+// Writes the counts of a run that went on to the end of its time, or did not.
+fn write_summary<const INJECTS: usize, K: Sink>(
+    simulation: &mut Simulation<Recorder<INJECTS>>,
+    whole: bool,
+    sink: &mut K,
+) -> Status {
+    let done = status_of(whole, simulation.recording.forged());
+    match simulation.summary(whole) {
+        Ok(text) => write_text(sink, text.as_bytes(), done),
+        Err(AllocError) => Status::Memory,
+    }
+}
+
+// Runs a line, and writes what is asked for.
+fn run_line<const INJECTS: usize, K: Sink>(
+    mode: Mode,
+    mut simulation: Simulation<Recorder<INJECTS>>,
+    sink: &mut K,
+) -> Status
+    ensures { mode ≡ Mode.Run → Ends (nat_eq INJECTS 0) (K.state sink.old) (K.state sink.new) result }
+{
+    let Ok(whole) = simulation.run_whole() else {
+        return Status::Memory;
+    };
+    match mode {
+        Mode::Run => write_script(&simulation.recording, whole, sink),
+        Mode::Measure => write_summary(&mut simulation, whole, sink),
+    }
+}
+
+// Runs the line of a plan over a recorder, and writes what is asked for.
+fn run_over<const INJECTS: usize, K: Sink>(
+    alloc: Global,
+    mode: Mode,
+    plan: Plan,
+    recorder: Recorder<INJECTS>,
+    sink: &mut K,
+) -> Status
+    ensures { mode ≡ Mode.Run → Ends (nat_eq INJECTS 0) (K.state sink.old) (K.state sink.new) result }
+{
+    match Simulation::new(alloc, plan, recorder) {
+        Ok(Made::Simulation(simulation)) => run_line(mode, simulation, sink),
+        Ok(Made::Apart) => write_text(sink, APART, Status::BadDescription),
+        Err(AllocError) => Status::Memory,
+    }
+}
+
+/// Runs the line of a plan, and writes what is asked for. Where the plan has no attackers, no event injects octets.
+pub fn run_plan<K: Sink>(alloc: Global, mode: Mode, plan: Plan, sink: &mut K) -> Status
+    ensures { mode ≡ Mode.Run → EndsPlan plan (K.state sink.old) (K.state sink.new) result }
+{
+    if has_attackers(plan.incidents.incidents()) {
+        let recorder: Recorder<1> = Recorder::new(alloc);
+        return run_over(alloc, mode, plan, recorder, sink);
+    }
+    let recorder: Recorder<0> = Recorder::new(alloc);
+    run_over(alloc, mode, plan, recorder, sink)
+}
+
+// Reads a description with options, runs its line, and writes what is asked for.
+fn simulate<S: Source, K: Sink>(
+    alloc: Global,
+    mode: Mode,
+    options: &[String],
+    source: &mut S,
+    sink: &mut K,
+) -> Status
+    ensures { mode ≡ Mode.Run
+        → Runs options.now (S.state source.old) (S.state source.new) (K.state sink.old) (K.state sink.new) result }
+{
+    match read_plan(alloc, source, options) {
+        Ok(plan) => run_plan(alloc, mode, plan, sink),
+        Err(NoPlan::Bad(text)) => write_text(sink, text.as_bytes(), Status::BadDescription),
+        Err(NoPlan::Read) => Status::ReadFault,
+        Err(NoPlan::Memory) => Status::Memory,
+    }
+}
+
+/// All that the program does, with the words after its name.
+///
+/// `run` reads a description, runs its line, and writes the script of the run. `measure` writes the counts of the run instead. Other words write the usage
+/// line, and read nothing.
+pub fn run_tool<S: Source, K: Sink>(
+    alloc: Global,
+    words: &[String],
+    source: &mut S,
+    sink: &mut K,
+) -> Status
+    // What was written of a run of the description that was read: a script without a bad line, whose run ends in the world that the simulator had; and the
+    // status says whether an event of it is forged.
+    ensures runs { asks_run words.now ≡ true
+        → Runs (options_of words.now) (S.state source.old) (S.state source.new) (K.state sink.old) (K.state sink.new) result }
+{
+    match command_of(words) {
+        Some(command) => simulate(alloc, command.mode, command.options, source, sink),
+        None => write_text(sink, USAGE, Status::Usage),
+    }
+}

@@ -1,0 +1,80 @@
+//! What an event brought, as plain values.
+use line_events::{Answer, Happenings};
+use line_members::{Message, Outcome};
+
+/// A message of the owner's that came up.
+#[derive(Clone, Copy, Debug)]
+pub struct Came {
+    pub node: u32,
+    pub message: Message,
+}
+
+/// An address that the book gave to a node.
+#[derive(Clone, Copy, Debug)]
+pub struct Granted {
+    pub node: u32,
+    pub address: u16,
+}
+
+/// What an event brought.
+#[derive(Clone, Copy, Debug)]
+pub struct Facts {
+    pub answer: Answer,
+    pub came: Option<Came>,
+    pub granted: Option<Granted>,
+    pub took: Option<u32>,
+    pub done: Option<u32>,
+    pub first_flight: u32,
+    pub flights: u32,
+}
+
+fn came_in(happenings: &Happenings<'_>) -> Option<Came> {
+    match &happenings.up {
+        Some(up) => {
+            let message = Message::read(up.octets.octets())?;
+            Some(Came {
+                node: u32::from(up.node),
+                message,
+            })
+        }
+        None => None,
+    }
+}
+
+fn granted_in(happenings: &Happenings<'_>) -> Option<Granted> {
+    let admission = happenings.grant?;
+    Some(Granted {
+        node: u32::from(admission.node),
+        address: admission.address.number(),
+    })
+}
+
+fn node_of(node: Option<u16>) -> Option<u32> {
+    Some(u32::from(node?))
+}
+
+impl Facts {
+    /// Of what happened.
+    pub fn of(happenings: &Happenings<'_>) -> Facts {
+        Facts {
+            answer: happenings.answer,
+            came: came_in(happenings),
+            granted: granted_in(happenings),
+            took: node_of(happenings.took),
+            done: node_of(happenings.done),
+            first_flight: happenings.first_flight,
+            flights: u32::from(happenings.flights),
+        }
+    }
+
+    /// How a command of the owner's ended.
+    pub fn outcome(&self) -> Outcome {
+        if self.answer == Answer::Store {
+            return Outcome::StoreFailed;
+        }
+        if line_script::spaced_verdict(self.answer) == " ok " {
+            return Outcome::Taken;
+        }
+        Outcome::Refused
+    }
+}
