@@ -1,0 +1,9 @@
+pub mod Deferring
+pub mod Listing
+pub mod PutCounts
+pub mod HeardPuts
+pub mod SendPuts
+pub mod MemoryPuts
+pub mod MeterPuts
+pub mod OrderPuts
+pub mod FewPuts

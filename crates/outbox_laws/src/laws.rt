@@ -1,0 +1,44 @@
+//! Laws of puts that are stored after the call: each carried by a function that does nothing.
+ghost use Rattle.outbox_laws.specs.Deferring.{DeferringPuts, CutsWhileStoring, TheListIsThePuts, ListedPutsAreDeferred};
+ghost use Rattle.outbox_laws.specs.FewPuts.{HearingPutsFew, AMetersHearingPutsFew, ACoordinatorsHearingPutsFew, SendingPutsFew, JoiningPutsFew, OrdersPutFew};
+
+/// Puts may be stored after the call that made them. Where a call runs over a keeper in memory, and its owner stores the puts in order and
+/// then sends the frames, or stops at the first store that fails, the node does what it does over the store itself (`calls`). Where power
+/// fails meanwhile, the store has records that the call itself could have left, and no frame was sent (`cuts`).
+pub fn deferring_puts<M, A>()
+    ensures calls { DeferringPuts M A }
+    ensures cuts { CutsWhileStoring M A }
+{}
+
+/// The list of an outbox, after puts of which each was listed, is the list before them and then these puts.
+pub fn the_list_is_the_puts()
+    ensures { TheListIsThePuts }
+{}
+
+/// Where a call put what its plan says into an outbox with an empty list, it is enough to store the list.
+pub fn listed_puts_are_deferred<M, A>()
+    ensures { ListedPutsAreDeferred M A }
+{}
+
+/// A station that hears a frame makes at most four puts: the floors, a rank, the own number and the counter. So does a meter, and the
+/// coordinator.
+pub fn hearing_puts_few()
+    ensures stations { HearingPutsFew }
+    ensures meters { AMetersHearingPutsFew }
+    ensures coordinators { ACoordinatorsHearingPutsFew }
+{}
+
+/// A send of a datagram or a command makes at most four puts.
+pub fn sending_puts_few()
+    ensures { SendingPutsFew }
+{}
+
+/// A meter that joins, leaves, or is given a grant or a neighbour makes at most four puts.
+pub fn joining_puts_few()
+    ensures { JoiningPutsFew }
+{}
+
+/// An order of the operator makes at most four puts.
+pub fn orders_put_few()
+    ensures { OrdersPutFew }
+{}
