@@ -4,7 +4,8 @@ ghost use Rattle.flash_keeper.specs.Flash.{Bank, head_word, Reads, MayProgram, P
 
 use plc_base::Failed;
 
-/// The number of the layout of a store, the lowest 16 bits of the first word of a bank.
+/// The number of the layout of a store, the lowest 16 bits of the first word of a bank: of the words of its log, and of the records of a node
+/// in it. Code that reads either otherwise has another number, so it takes no store of older code for one of its own.
 pub const LAYOUT: u16 = 1;
 
 /// A word of which each bit is 1.
