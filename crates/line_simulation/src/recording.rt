@@ -7,7 +7,7 @@ use line_events::Event;
 pub enum RecordFault {
     /// The script has no room for it.
     Full,
-    /// The line does not take the event.
+    /// The line does not take the event, or its script cannot have it next.
     Refused,
     Memory,
 }
@@ -26,8 +26,8 @@ pub trait Recording: Drop {
     /// Steps the line by an event, writes its line, and answers what it brought.
     fn record(&mut self, event: &Event<'_>) -> Result<Facts, RecordFault>;
 
-    /// Writes a remark, one line.
-    fn remark(&mut self, remark: &str) -> Result<(), RecordFault>;
+    /// Writes a remark, one line, with its time in thousandths of a second, which is no earlier than that of the line before.
+    fn remark(&mut self, at: u64, remark: &str) -> Result<(), RecordFault>;
 
     /// The octets of a flight.
     fn flight(&self, flight: u32) -> Option<&[u8]>;

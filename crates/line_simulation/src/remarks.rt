@@ -153,17 +153,15 @@ impl fmt::Display for Remark {
 impl<R: Recording> Simulation<R> {
     /// Writes a remark with the time.
     pub fn remark(&mut self, remark: &Remark) -> Result<(), Stop> {
-        let seconds = self.now / 1_000_000;
-        let thousandths = self.now / 1_000 % 1_000;
-        let text = format!(in self.alloc; "{seconds}.{thousandths:03} {remark}")?;
-        self.recording.remark(text.as_str())?;
+        let text = format!(in self.alloc; "{remark}")?;
+        self.recording.remark(self.now / 1_000, text.as_str())?;
         Ok(())
     }
 
     /// Writes a remark with the time and a text.
     pub fn remark_title(&mut self, title: &str) -> Result<(), Stop> {
-        let text = format!(in self.alloc; "0.000 title {title}")?;
-        self.recording.remark(text.as_str())?;
+        let text = format!(in self.alloc; "title {title}")?;
+        self.recording.remark(self.now / 1_000, text.as_str())?;
         Ok(())
     }
 }

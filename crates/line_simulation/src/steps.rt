@@ -71,16 +71,9 @@ impl<R: Recording> Simulation<R> {
         Ok(())
     }
 
-    /// Takes up what an event brought, in the order of its report: what came up, an address, a grant, a joining that is done, and last the flights.
+    /// Takes up what an event brought: first the flights, so that the next frames of their sender wait behind them; then what came up, an address, a grant, and
+    /// a joining that is done.
     pub fn take_up(&mut self, facts: Facts, hops: u32) -> Result<(), Stop> {
-        let further = match facts.answer {
-            Answer::Relayed => hops.saturating_add(1),
-            _ => 1,
-        };
-        for nth in 0..facts.flights {
-            let flight = facts.first_flight.saturating_add(facts.flights - 1 - nth);
-            self.work.push(Work::Fly(flight, further))?;
-        }
         if let Some(node) = facts.done {
             self.work.push(Work::Notice(Notice::Done(node)))?;
         }
@@ -92,6 +85,14 @@ impl<R: Recording> Simulation<R> {
         }
         if let Some(came) = facts.came {
             self.work.push(Work::Came(came, hops))?;
+        }
+        let further = match facts.answer {
+            Answer::Relayed => hops.saturating_add(1),
+            _ => 1,
+        };
+        for nth in 0..facts.flights {
+            let flight = facts.first_flight.saturating_add(facts.flights - 1 - nth);
+            self.work.push(Work::Fly(flight, further))?;
         }
         Ok(())
     }
