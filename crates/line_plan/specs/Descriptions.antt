@@ -1,5 +1,5 @@
 -- The description that a text gives, and what is wrong with one that gives none.
-use Rattle.std.specs.Prelude.{◌≡◌, ℕ, ◌≤◌, List, length, take, Option, None, Some, Result, Ok, Err, string_bytes}
+use Rattle.std.specs.Prelude.{◌≡◌, ◌⊎◌, ℕ, ◌≤◌, List, length, take, None, Some, Result, Ok, Err, string_bytes}
 use Rattle.toml.specs.Data.{Members}
 use Rattle.toml.specs.Parse.{parse_document}
 use Rattle.plan_fields.specs.declared.fault.Section.TheVariants as sections
@@ -14,37 +14,58 @@ use Rattle.plan_fields.specs.Keys.{key_word, keys_of}
 use Rattle.plan_fields.specs.Faults.{TableAt}
 use Rattle.line_plan.specs.Plans.{plan_at}
 use Rattle.line_plan.specs.Unknowns.{UnknownAt, unknown_in, nearest_of}
-use Rattle.plan_fields.specs.TextPlaces.{place_of, octet_place}
+use Rattle.plan_fields.specs.TextPlaces.{text_start, place_of, octet_place}
 
 abbrev pub top_of : Members → TableAt
 top_of members = record { section = sections.Top; members = members }
 
--- the text is TOML with these members, all of which are known
-abbrev pub IsKnown : List ℕ → Members → Type 0
-IsKnown text members = (parse_document text ≡ Some members) × (unknown_in members ≡ None)
+-- # Members
 
--- the text gives the plan
-abbrev pub IsPlanOf : List ℕ → Plan → Type 0
-IsPlanOf text plan = (members : Members) × IsKnown text members × (plan_at (top_of members) ≡ Ok plan)
+-- all keys of the members are known, and their values are those of the plan
+abbrev pub IsPlanIn : Members → Plan → Type 0
+IsPlanIn members plan = (unknown_in members ≡ None) × (plan_at (top_of members) ≡ Ok plan)
 
 abbrev pub unknown_at_of : UnknownKey → UnknownAt
 unknown_at_of unknown = record { section = unknown.section; key = string_bytes unknown.key; known = unknown.known }
 
--- a place of the text, the nearest known key, and what is unknown
-abbrev pub IsUnknownAt : List ℕ → UnknownAt → PlanFault → Type 0
-IsUnknownAt text found Memory = ⊥
-IsUnknownAt text found (At place (Syntax message)) = ⊥
-IsUnknownAt text found (At place (Wrong wrong)) = ⊥
-IsUnknownAt text found (At place (Unknown unknown)) =
-    (unknown_at_of unknown ≡ found) × (unknown.nearest ≡ nearest_of (keys_of found.known) found.key) × (place ≡ place_of text found.section found.key)
+-- an unknown key, with the nearest of the known ones
+abbrev pub IsUnknownAt : UnknownAt → UnknownKey → Type 0
+IsUnknownAt found unknown = (unknown_at_of unknown ≡ found) × (unknown.nearest ≡ nearest_of (keys_of found.known) found.key)
+
+-- the first thing that is wrong with the members
+abbrev pub IsCauseIn : Members → Cause → Type 0
+IsCauseIn _ (Syntax _) = ⊥
+IsCauseIn members (Unknown unknown) = (found : UnknownAt) × (unknown_in members ≡ Some found) × IsUnknownAt found unknown
+IsCauseIn members (Wrong wrong) = (unknown_in members ≡ None) × (plan_at (top_of members) ≡ Err wrong)
+
+-- the plan that the members give, or the first thing that is wrong with them
+abbrev pub IsReadIn : Members → Result Plan Cause → Type 0
+IsReadIn members (Ok plan) = IsPlanIn members plan
+IsReadIn members (Err cause) = IsCauseIn members cause
+
+-- # A text
+
+-- the text is TOML, and its members give the plan
+abbrev pub IsPlanOf : List ℕ → Plan → Type 0
+IsPlanOf text plan = (members : Members) × (parse_document text ≡ Some members) × IsPlanIn members plan
+
+-- the place of the key that a cause is about
+abbrev pub cause_place : List ℕ → Cause → TextPlace
+cause_place text (Syntax message) = text_start
+cause_place text (Unknown unknown) = place_of text unknown.section (string_bytes unknown.key)
+cause_place text (Wrong wrong) = place_of text wrong.section (key_word wrong.key)
+
+-- the text is no TOML, and a reader stopped at this place
+abbrev pub IsSyntaxFault : List ℕ → TextPlace → Cause → Type 0
+IsSyntaxFault text place (Syntax message) = (parse_document text ≡ None) × ((octet : ℕ) × (octet ≤ length text) × (place ≡ octet_place (take octet text)))
+IsSyntaxFault text place (Unknown unknown) = ⊥
+IsSyntaxFault text place (Wrong wrong) = ⊥
+
+-- the text is TOML, and this is the first thing that is wrong with its members
+abbrev pub IsFaultWithin : List ℕ → TextPlace → Cause → Type 0
+IsFaultWithin text place cause = (members : Members) × (parse_document text ≡ Some members) × IsCauseIn members cause × (place ≡ cause_place text cause)
 
 -- the first thing that is wrong with the text, at its place
 abbrev pub IsFaultOf : List ℕ → PlanFault → Type 0
 IsFaultOf text Memory = Unit {0}
-IsFaultOf text (At place (Syntax message)) =
-    (parse_document text ≡ None) × ((octet : ℕ) × (octet ≤ length text) × (place ≡ octet_place (take octet text)))
-IsFaultOf text (At place (Unknown unknown)) =
-    (members : Members) × (found : UnknownAt) × (parse_document text ≡ Some members) × (unknown_in members ≡ Some found)
-    × IsUnknownAt text found (At place (Unknown unknown))
-IsFaultOf text (At place (Wrong wrong)) =
-    (members : Members) × IsKnown text members × (plan_at (top_of members) ≡ Err wrong) × (place ≡ place_of text wrong.section (key_word wrong.key))
+IsFaultOf text (At place cause) = IsSyntaxFault text place cause ⊎ IsFaultWithin text place cause

@@ -2,44 +2,42 @@
 ghost use Rattle.std.specs.Prelude.{◌≡◌, None, IfOk, IfErr};
 ghost use Rattle.toml.specs.Errors.{IsMemory};
 ghost use Rattle.toml.specs.Parse.{parse_document};
-ghost use Rattle.line_plan.specs.Descriptions.{IsPlanOf, IsFaultOf, IsUnknownAt};
-ghost use Rattle.plan_fields.specs.declared.fault.PlanFault.TheVariants.{At};
-ghost use Rattle.plan_fields.specs.declared.fault.Cause.TheVariants.{Wrong};
-ghost use Rattle.plan_fields.specs.Keys.{key_word};
-ghost use Rattle.plan_fields.specs.TextPlaces.{place_of};
+ghost use Rattle.toml.specs.View.{table_view};
+ghost use Rattle.line_plan.specs.Descriptions.{IsPlanOf, IsFaultOf, IsReadIn, IsUnknownAt, cause_place};
 ghost use Rattle.line_plan.specs.Unknowns.{unknown_view};
 
 use crate::plan::{Plan, plan_at};
 use crate::unknown::{Unknown, nearest_of, unknown_in};
 use plan_fields::{
-    Cause, Fields, PlanFault, Section, UnknownKey, WrongValue, octet_place, place_of,
+    Cause, Fields, PlanFault, Section, TextPlace, UnknownKey, octet_place, place_of,
 };
 use std::alloc::{AllocError, Global};
+use toml::Table;
 
-// The fault of a value that does not fit its key.
-fn wrong_value(text: &str, wrong: WrongValue) -> PlanFault
-    ensures { result ≡ At (place_of text.now wrong.section (key_word wrong.key)) (Wrong wrong) }
+// A key that its table may not have, with the nearest of those that it may.
+fn unknown_key(alloc: Global, unknown: &Unknown<'_>) -> Result<UnknownKey, AllocError>
+    ensures { IfOk result (λ key. IsUnknownAt (unknown_view unknown.now) key) }
 {
-    let place = place_of(text.as_bytes(), wrong.section, wrong.key.word().as_bytes());
-    PlanFault::At(place, Cause::Wrong(wrong))
-}
-
-// The fault of a key that its table may not have.
-fn unknown_key(alloc: Global, text: &str, unknown: &Unknown<'_>) -> Result<PlanFault, AllocError>
-    ensures { IfOk result (λ fault. IsUnknownAt text.now (unknown_view unknown.now) fault) }
-{
-    let place = place_of(text.as_bytes(), unknown.section, unknown.key.as_bytes());
     let nearest = nearest_of(alloc, unknown.known.keys(), unknown.key)?;
     let key = String::from_str(alloc, unknown.key)?;
-    Ok(PlanFault::At(
-        place,
-        Cause::Unknown(UnknownKey {
-            section: unknown.section,
-            key,
-            known: unknown.known,
-            nearest,
-        }),
-    ))
+    Ok(UnknownKey {
+        section: unknown.section,
+        key,
+        known: unknown.known,
+        nearest,
+    })
+}
+
+// The place of the key that a cause is about.
+fn cause_place(text: &str, cause: &Cause) -> TextPlace
+    ensures { result ≡ cause_place text.now cause.now }
+{
+    let octets = text.as_bytes();
+    match cause {
+        Cause::Syntax(_) => TextPlace { line: 1, column: 1 },
+        Cause::Unknown(unknown) => place_of(octets, unknown.section, unknown.key.as_bytes()),
+        Cause::Wrong(wrong) => place_of(octets, wrong.section, wrong.key.word().as_bytes()),
+    }
 }
 
 // The fault of a text that is no TOML.
@@ -65,6 +63,22 @@ fn syntax(alloc: Global, text: &str, error: &toml::de::Error) -> PlanFault
 }
 
 impl Plan {
+    /// The description that a table gives, with the defaults filled in.
+    ///
+    /// The first thing that is wrong is refused: a key that its table may not have, or a value that does not fit its key.
+    pub fn of_table(alloc: Global, table: &Table) -> Result<Result<Plan, Cause>, AllocError>
+        ensures { IfOk result (λ read. IsReadIn (table_view table.now) read) }
+    {
+        if let Some(unknown) = unknown_in(table) {
+            let unknown = unknown_key(alloc, &unknown)?;
+            return Ok(Err(Cause::Unknown(unknown)));
+        }
+        match plan_at(alloc, &Fields::of(Section::Top, table))? {
+            Ok(plan) => Ok(Ok(plan)),
+            Err(wrong) => Ok(Err(Cause::Wrong(wrong))),
+        }
+    }
+
     /// The description that a text gives.
     ///
     /// The first thing that is wrong is refused: that the text is no TOML, a key that its table may not have, or a value that does not fit its key.
@@ -76,12 +90,9 @@ impl Plan {
             Ok(table) => table,
             Err(error) => return Err(syntax(alloc, text, &error)),
         };
-        if let Some(unknown) = unknown_in(&table) {
-            return Err(unknown_key(alloc, text, &unknown)?);
-        }
-        match plan_at(alloc, &Fields::of(Section::Top, &table))? {
+        match Plan::of_table(alloc, &table)? {
             Ok(plan) => Ok(plan),
-            Err(wrong) => Err(wrong_value(text, wrong)),
+            Err(cause) => Err(PlanFault::At(cause_place(text, &cause), cause)),
         }
     }
 }

@@ -3,3 +3,4 @@ pub mod Values
 pub mod Faults
 pub mod Members
 pub mod TextPlaces
+pub mod Words

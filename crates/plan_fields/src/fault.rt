@@ -1,6 +1,7 @@
 //! Why a description is refused.
-ghost use Rattle.std.specs.Prelude.{◌≡◌};
+ghost use Rattle.std.specs.Prelude.{◌≡◌, Some};
 ghost use Rattle.plan_fields.specs.Faults.{section_word};
+ghost use Rattle.plan_fields.specs.Words.{words_of, wanted_text, wrong_text, unknown_text, place_text, cause_text, fault_text};
 
 use crate::keys::{Key, KeySet};
 use std::alloc::AllocError;
@@ -130,8 +131,10 @@ impl From<AllocError> for PlanFault {
     }
 }
 
-// The words of a key, for its fault.
-fn words(key: Key) -> &'static str {
+// The words that a key may have.
+fn words_of(key: Key) -> &'static str
+    ensures { result.now ≡ words_of key }
+{
     match key {
         Key::Kind => "\"street\", \"grid\", \"tower\", \"scatter\" or \"matrix\"",
         Key::Coordinator => "\"end\" or \"middle\"",
@@ -146,9 +149,17 @@ fn words(key: Key) -> &'static str {
     }
 }
 
-impl fmt::Display for WrongValue {
+// What fits a key, in words.
+#[derive(Clone, Copy)]
+struct WantedOf {
+    key: Key,
+    wanted: Wanted,
+}
+
+impl fmt::Display for WantedOf {
+    ghost output = { λ of. Some (wanted_text of.key of.wanted) };
+
     fn fmt<W: fmt::Write>(&self, f: &mut fmt::Formatter<W>) -> fmt::Result {
-        write!(f, "the value of {} has to be ", self.key.word())?;
         match self.wanted {
             Wanted::Table => f.write_str("a table"),
             Wanted::Tables => f.write_str("tables [[at]]"),
@@ -157,7 +168,7 @@ impl fmt::Display for WrongValue {
             ),
             Wanted::Chance => f.write_str("per cent from 0 to 100 with at most two decimals"),
             Wanted::Flag => f.write_str("true or false"),
-            Wanted::Word => f.write_str(words(self.key)),
+            Wanted::Word => f.write_str(words_of(self.key)),
             Wanted::UpTo(most) => write!(f, "a number up to {most}"),
             Wanted::FromOneTo(most) => write!(f, "a number from 1 to {most}"),
             Wanted::Flats => f.write_str("such that there are at most 998 flats in all"),
@@ -172,29 +183,56 @@ impl fmt::Display for WrongValue {
     }
 }
 
+impl fmt::Display for WrongValue {
+    ghost output = { λ wrong. Some (wrong_text wrong) };
+
+    fn fmt<W: fmt::Write>(&self, f: &mut fmt::Formatter<W>) -> fmt::Result {
+        let wanted = WantedOf {
+            key: self.key,
+            wanted: self.wanted,
+        };
+        write!(f, "the value of {} has to be {wanted}", self.key)
+    }
+}
+
+impl fmt::Display for UnknownKey {
+    ghost output = { λ unknown. Some (unknown_text unknown) };
+
+    fn fmt<W: fmt::Write>(&self, f: &mut fmt::Formatter<W>) -> fmt::Result {
+        write!(
+            f,
+            "no key is called {}; the nearest is {}",
+            self.key, self.nearest
+        )
+    }
+}
+
 impl fmt::Display for Cause {
+    ghost output = { λ cause. Some (cause_text cause) };
+
     fn fmt<W: fmt::Write>(&self, f: &mut fmt::Formatter<W>) -> fmt::Result {
         match self {
             Cause::Syntax(message) => write!(f, "{message}"),
-            Cause::Unknown(unknown) => write!(
-                f,
-                "no key is called {}; the nearest is {}",
-                unknown.key,
-                unknown.nearest.word()
-            ),
+            Cause::Unknown(unknown) => write!(f, "{unknown}"),
             Cause::Wrong(wrong) => write!(f, "{wrong}"),
         }
     }
 }
 
+impl fmt::Display for TextPlace {
+    ghost output = { λ place. Some (place_text place) };
+
+    fn fmt<W: fmt::Write>(&self, f: &mut fmt::Formatter<W>) -> fmt::Result {
+        write!(f, "line {}, column {}", self.line, self.column)
+    }
+}
+
 impl fmt::Display for PlanFault {
+    ghost output = { λ fault. Some (fault_text fault) };
+
     fn fmt<W: fmt::Write>(&self, f: &mut fmt::Formatter<W>) -> fmt::Result {
         match self {
-            PlanFault::At(place, cause) => write!(
-                f,
-                "line {}, column {}: {cause}",
-                place.line, place.column
-            ),
+            PlanFault::At(place, cause) => write!(f, "{place}: {cause}"),
             PlanFault::Memory => f.write_str("out of memory"),
         }
     }

@@ -2,6 +2,8 @@
 ghost use Rattle.std.specs.Prelude.{◌≡◌};
 ghost use Rattle.plan_fields.specs.Keys.{key_word, keys_of};
 
+use std::fmt;
+
 /// A key of a description. `docs/LINE-DESCRIPTION.md` says what each is.
 #[derive(Clone, Copy, Debug, PartialEq, Eq)]
 pub enum Key {
@@ -130,6 +132,16 @@ impl Key {
             Key::Count => "count",
             Key::Later => "later",
         }
+    }
+}
+
+impl fmt::Display for Key {
+    ghost use Rattle.std.specs.Prelude.{Some};
+
+    ghost output = { λ key. Some (key_word key) };
+
+    fn fmt<W: fmt::Write>(&self, f: &mut fmt::Formatter<W>) -> fmt::Result {
+        f.write_str(self.word())
     }
 }
 

@@ -1,7 +1,6 @@
 //! The description as it is read.
-ghost use Rattle.std.specs.Prelude.{◌≡◌, IfOk, IfErr, string_bytes};
-ghost use Rattle.plc_base.specs.Streams.{SourceRose};
-ghost use Rattle.plan_options.specs.Descriptions.{GivesText};
+ghost use Rattle.std.specs.Prelude.{IfOk, IfErr, string_bytes};
+ghost use Rattle.plan_options.specs.Descriptions.{GivesText, IsUnread};
 
 use plc_base::Source;
 use std::alloc::Global;
@@ -24,7 +23,7 @@ pub enum InputFault {
 // Reads all octets of a source.
 fn read_octets<S: Source>(alloc: Global, source: &mut S) -> Result<Vec<u8>, InputFault>
     ensures whole { IfOk result (λ octets. GivesText (S.state source.old) (S.state source.new) octets.items) }
-    ensures failed { IfErr result (λ fault. fault ≡ InputFault.Read → SourceRose (S.state source.old) (S.state source.new)) }
+    ensures refused { IfErr result (λ fault. IsUnread (S.state source.old) (S.state source.new) fault) }
 {
     let mut octets: Vec<u8> = Vec::new(alloc);
     let mut piece = [0_u8; 4096];
@@ -36,12 +35,12 @@ fn read_octets<S: Source>(alloc: Global, source: &mut S) -> Result<Vec<u8>, Inpu
         if count == 0 {
             return Ok(octets);
         }
-        if octets.len() > MAX_DESCRIPTION - 4096 {
-            return Err(InputFault::Long);
-        }
         let Ok(()) = octets.extend_from_slice(&piece[..count]) else {
             return Err(InputFault::Memory);
         };
+        if octets.len() > MAX_DESCRIPTION {
+            return Err(InputFault::Long);
+        }
     }
     Err(InputFault::Long)
 }
@@ -50,8 +49,8 @@ fn read_octets<S: Source>(alloc: Global, source: &mut S) -> Result<Vec<u8>, Inpu
 pub fn read_text<S: Source>(alloc: Global, source: &mut S) -> Result<String, InputFault>
     // The text is all that the source gave, and nothing is left of it.
     ensures whole { IfOk result (λ text. GivesText (S.state source.old) (S.state source.new) (string_bytes text)) }
-    // A fault of reading comes only where the source failed.
-    ensures failed { IfErr result (λ fault. fault ≡ InputFault.Read → SourceRose (S.state source.old) (S.state source.new)) }
+    // Each fault comes only for its reason.
+    ensures refused { IfErr result (λ fault. IsUnread (S.state source.old) (S.state source.new) fault) }
 {
     let octets = match read_octets(alloc, source) {
         Ok(octets) => octets,
