@@ -1,2 +1,4 @@
+mod Orders
+mod Remarks
 pub mod Scripts
 pub mod Writing

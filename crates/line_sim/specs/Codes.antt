@@ -3,7 +3,7 @@ use Rattle.std.specs.Prelude.{ℕ, List, refl}
 use Rattle.std.specs.Coded.{Coded, code_by, coded×, coded_ℕ, coded_list}
 use Rattle.line_rules.specs.Worlds.{World}
 use Rattle.line_world.specs.WorldCodes.{world_code}
-use Rattle.line_sim.specs.Scripts.{Recorded}
+use Rattle.line_sim.specs.Recorders.{Recorded}
 
 abbrev pub recorded_code : Coded Recorded
 recorded_code =

@@ -1,9 +1,10 @@
 -- The script of a run, and the world to which it leads.
-use Rattle.std.specs.Prelude.{◌≡◌, ◌≤◌, ℕ, ◌+◌, Bool, true, false, List, [], ◌∷◌, ◌++◌, length, map, All, Option, None, Some}
-use Rattle.script_lines.specs.Lines.{Content, Text, Long, TooMuch, Line, content_of, lines, NoFeed, NoFeeds, script}
+use Rattle.std.specs.Prelude.{◌≡◌, ℕ, Bool, true, false, List, [], ◌∷◌, ◌++◌, map, All, Option, None, Some}
+use Rattle.script_lines.specs.Lines.{Content, Text, Long, TooMuch, Line, lines}
 use Rattle.line_events.specs.declared.event.Event.{Event}
 use Rattle.line_events.specs.declared.event.Event.TheVariants as events
 use Rattle.line_rules.specs.Worlds.{World, start}
+use Rattle.line_rules.specs.Runs.{one_of}
 use Rattle.line_script.specs.declared.reading.Reading.{Reading}
 use Rattle.line_script.specs.declared.reading.Reading.TheVariants.{Quiet, NoForm, Reads}
 use Rattle.line_script.specs.Readings.{reading}
@@ -30,46 +31,43 @@ contents_of text = map (λ (l : Line). l.content) (lines text true)
 abbrev pub LeadsTo : List ℕ → World → Type 0
 LeadsTo text w = world_after start (contents_of text) ≡ Some w
 
+-- # What lines say
+
+abbrev pub read_event : Reading → Option Event
+read_event Quiet = None
+read_event NoForm = None
+read_event (Reads event) = Some event
+
+-- the event of a line, if it has one
+abbrev pub event_in : Content → Option Event
+event_in (Text octets) = read_event (reading octets)
+event_in Long = None
+event_in TooMuch = None
+
+abbrev pub said_by : {A : Type 0} → World → Taking → (World → List A) → List A
+said_by w Skipped rest = rest w
+said_by w (Taken entry) rest = rest entry.after
+said_by w (Refused reason) rest = []
+
+-- what lines say one after the other, each in the world to which those before it lead
+abbrev pub said : {A : Type 0} → (World → Content → Option A) → World → List Content → List A
+said one w [] = []
+said one w (content ∷ contents) = one_of (one w content) ++ said_by w (taking w content) (λ next. said one next contents)
+
 -- # Octets that nobody sent
 
 abbrev pub is_injection : Event → Bool
 is_injection (events.Inject node cost octets) = true
 is_injection _ = false
 
-abbrev pub says_injection : Reading → Bool
-says_injection Quiet = false
-says_injection NoForm = false
-says_injection (Reads event) = is_injection event
+abbrev pub is_injection_if : Option Event → Bool
+is_injection_if None = false
+is_injection_if (Some event) = is_injection event
 
 -- whether a line injects octets
 abbrev pub injects : Content → Bool
-injects (Text octets) = says_injection (reading octets)
-injects Long = false
-injects TooMuch = false
+injects content = is_injection_if (event_in content)
 
 -- no line of the text injects octets
 abbrev pub InjectsNothing : List ℕ → Type 0
 InjectsNothing text = All (λ content. injects content ≡ false) (contents_of text)
-
--- # What a recorder keeps
-
--- A text of whole lines, each with a line feed, which leads to a world. Octets may be injected or not.
-pub record IsScriptOf (may_inject : Bool) (text : List ℕ) (w : World) : Type 0 where
-  pub whole : List (List ℕ)
-  pub feeds : NoFeeds whole
-  pub spelled : text ≡ script whole []
-  pub fits : length text ≤ 67108864
-  pub leads : world_after start (map content_of whole) ≡ Some w
-  pub quiet : may_inject ≡ false → All (λ content. injects content ≡ false) (map content_of whole)
-
--- What a recorder is to its callers.
-pub record Recorded : Type 0 where
-  pub script : List ℕ
-  pub world : World
-
--- A line, with its line feed, is appended to a text.
-pub record AppendsLine (old line new : List ℕ) : Type 0 where
-  pub feed : NoFeed line
-  pub short : length line ≤ 4096
-  pub appended : new ≡ old ++ (line ++ 10 ∷ [])
-  pub fits : length new ≤ 67108864

@@ -1,14 +1,19 @@
 -- What the program's call says.
 use Rattle.std.specs.Prelude.{◌≡◌, ◌≤◌, ◌⊎◌, ℕ, Bool, true, false, not, List, [], ◌∷◌, length, String, codes, string_bytes, bytes_eq}
-use Rattle.std.specs.Prelude.{if◌then◌else◌, nat_lt, Option, Some, None}
+use Rattle.std.specs.Prelude.{if◌then◌else◌, nat_lt, Option, Some, None, All, AllPairs}
+use Rattle.std.specs.Option.{option_and_then}
 use Rattle.std.specs.declared.alloc.Global.{Global}
 use Rattle.std.specs.Io.KnownBytes.{Appends}
 use Rattle.plc_base.specs.Streams.{SourceState, SinkState, SourceRose, SinkRose, IsPrefixOf}
 use Rattle.line_plan.specs.declared.plan.Plan.{Plan}
-use Rattle.plan_options.specs.Descriptions.{IsDescribed}
+use Rattle.plan_options.specs.Options.{are_options}
+use Rattle.plan_options.specs.Descriptions.{IsDescribed, IsBad}
 use Rattle.line_rules.specs.Worlds.{World}
 use Rattle.line_simulation.specs.Attackers.{has_attackers}
+use Rattle.line_sim.specs.Arrivals.{IsCausal, InOrder, arrivals}
 use Rattle.line_sim.specs.Scripts.{LeadsTo, InjectsNothing}
+use Rattle.line_sim.specs.Times.{IsUpTo, times}
+use Rattle.line_sim.specs.declared.command.Command.{Command}
 use Rattle.line_sim.specs.declared.command.Mode.{Mode}
 use Rattle.line_sim.specs.declared.command.Mode.TheVariants as modes
 use Rattle.line_sim.specs.declared.status.Status.{Status}
@@ -17,11 +22,15 @@ use Rattle.line_sim.specs.declared.status.Status.TheVariants as status
 -- # The script of a run
 
 -- A script whose replay has no bad line, and ends in the world that the simulator had. It has at most 67,108,864 octets, and lines of at most 4,096. Where it
--- is a quiet one, no line injects octets.
+-- is a quiet one, no line injects octets. A flight comes to a node after a line that sent it, never to its sender, and not after a later flight of that sender.
+-- No remark and no event is at an earlier time than one before it.
 pub record IsRun (quiet : Bool) (script : List ℕ) (w : World) : Type 0 where
   pub leads : LeadsTo script w
   pub fits : length script ≤ 67108864
   pub silent : quiet ≡ true → InjectsNothing script
+  pub causal : All IsCausal (arrivals script)
+  pub in_order : AllPairs InOrder (arrivals script)
+  pub clock : AllPairs IsUpTo (times script)
 
 -- How a run ended that went on to the end of its time, or did not, with so many forged events.
 abbrev pub status_of : Bool → ℕ → Status
@@ -29,20 +38,24 @@ status_of whole forged = if nat_lt 0 forged then status.Forged else (if whole th
 
 -- # The words
 
--- whether the words ask for a script
-abbrev pub asks_run : List (String Global) → Bool
-asks_run [] = false
-asks_run (word ∷ words) = bytes_eq (string_bytes word) (codes "run")
-
 -- what is written, by the first word
 abbrev pub mode_named : List ℕ → Option Mode
 mode_named word =
     if bytes_eq word (codes "run") then Some modes.Run else (if bytes_eq word (codes "measure") then Some modes.Measure else None)
 
--- the words after the first
-abbrev pub options_of : List (String Global) → List (String Global)
-options_of [] = []
-options_of (word ∷ words) = words
+-- What words ask for.
+pub record Asked : Type 0 where
+  pub mode : Mode
+  pub options : List (String Global)
+
+-- what words ask for: `run` or `measure`, and then options; None where they are of another form
+abbrev pub asked_by : List (String Global) → Option Asked
+asked_by [] = None
+asked_by (word ∷ words) =
+    option_and_then (λ mode. if are_options words then Some (record { mode = mode; options = words }) else None) (mode_named (string_bytes word))
+
+abbrev pub asked_of : Command → Asked
+asked_of command = record { mode = command.mode; options = command.options.now }
 
 abbrev pub usage_text : List ℕ
 usage_text = codes "usage: line_sim run | measure [--seed N] [--set KEY=VALUE]..\n"
@@ -82,11 +95,20 @@ pub data Runs (options : List (String Global)) (source0 source1 : SourceState) (
   -- the text that the source gave is a description, and with the options it gives the plan that was run
   Described : (plan : Plan) → IsDescribed source0 source1 options plan → EndsPlan plan sink0 sink1 result
       → Runs options source0 source1 sink0 sink1 result
-  -- the description is bad, and a line was written that says what is wrong
-  Bad : (line : List ℕ) → Writes line status.BadDescription sink0 sink1 result → Runs options source0 source1 sink0 sink1 result
+  -- the description or an option is bad, and the line that says what is wrong was written, with the status of a bad description
+  Bad : (line : List ℕ) → IsBad source0 source1 options line → Writes line status.BadDescription sink0 sink1 result
+      → Runs options source0 source1 sink0 sink1 result
   -- the source failed, and nothing was written
   NotRead : result ≡ status.ReadFault → SourceRose source0 source1 → sink1 ≡ sink0 → Runs options source0 source1 sink0 sink1 result
   -- there was not enough memory, and nothing was written
   NoMemory : result ≡ status.Memory → sink1 ≡ sink0 → Runs options source0 source1 sink0 sink1 result
-  -- the options are of no form, and nothing was read
-  Usage : Writes usage_text status.Usage sink0 sink1 result → source1 ≡ source0 → Runs options source0 source1 sink0 sink1 result
+
+-- The usage line was written, and nothing was read.
+pub record WritesUsage (source0 source1 : SourceState) (sink0 sink1 : SinkState) (result : Status) : Type 0 where
+  pub written : Writes usage_text status.Usage sink0 sink1 result
+  pub unread : source1 ≡ source0
+
+-- What became of a call, by what its words ask for: a script, or the usage line where they ask for nothing. Of counts nothing is said.
+abbrev pub Answers : Option Asked → SourceState → SourceState → SinkState → SinkState → Status → Type 0
+Answers None source0 source1 sink0 sink1 result = WritesUsage source0 source1 sink0 sink1 result
+Answers (Some asked) source0 source1 sink0 sink1 result = asked.mode ≡ modes.Run → Runs asked.options source0 source1 sink0 sink1 result

@@ -1,6 +1,6 @@
 //! What the words after the program's name ask for.
-ghost use Rattle.std.specs.Prelude.{◌≡◌, true, IfSome};
-ghost use Rattle.line_sim.specs.Tool.{asks_run, mode_named, options_of};
+ghost use Rattle.std.specs.Prelude.{◌≡◌, option_map};
+ghost use Rattle.line_sim.specs.Tool.{mode_named, asked_by, asked_of};
 
 use plan_options::are_options;
 
@@ -32,8 +32,7 @@ fn mode_named(word: &str) -> Option<Mode>
 
 /// The command of these words, if they are of its form.
 pub fn command_of(words: &[String]) -> Option<Command<'_>>
-    ensures mode { asks_run words.now ≡ true → IfSome result (λ command. command.mode ≡ Mode.Run) }
-    ensures options { IfSome result (λ command. command.options.now ≡ options_of words.now) }
+    ensures { option_map asked_of result ≡ asked_by words.now }
 {
     match words {
         [] => None,

@@ -5,6 +5,7 @@
 #![tactic(auto)]
 
 mod command;
+mod order;
 mod recorder;
 mod status;
 mod tool;

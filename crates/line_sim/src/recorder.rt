@@ -1,18 +1,22 @@
 //! The script of a run, and the world that the run has made.
-ghost use Rattle.std.specs.Prelude.{◌≡◌, ◌<◌, ◌≤◌, ◌^◌, ◌++◌, [], codes, false, All, IsTrue, OnOk, OnErr, length};
+ghost use Rattle.std.specs.Prelude.{◌≡◌, ◌<◌, ◌≤◌, ◌^◌, ◌++◌, [], string_bytes, false, All, AllPairs, IsTrue, OnOk, OnErr, length};
 ghost use Rattle.line_events.specs.Events.{IsEvent, IsNumber, IsCost, IsEui, IsKey, AreOctets, IsLineOctets};
 ghost use Rattle.line_rules.specs.Worlds.{start};
 ghost use Rattle.line_script.specs.Lines.{line_of};
 ghost use Rattle.script_lines.specs.Lines.{NoFeed};
-ghost use Rattle.line_sim.specs.Scripts.{AppendsLine, LeadsTo, InjectsNothing, is_injection};
+ghost use Rattle.line_sim.specs.Arrivals.{IsCausal, InOrder, arrivals};
+ghost use Rattle.line_sim.specs.Recorders.{AppendsLine};
+ghost use Rattle.line_sim.specs.Scripts.{LeadsTo, InjectsNothing, is_injection};
+ghost use Rattle.line_sim.specs.Times.{IsUpTo, times, remark_line};
 
+use crate::order::Order;
 use line_events::{Event, MAX_EVENTS, StepFault};
 use line_script::{lines_are_read_back, push_line};
 use line_simulation::{Counted, Facts, RecordFault, Recording};
 use line_world::{Buffers, World};
 use plc_base::{Eui, Key, KeyIndex, LinkCost, Rand};
 use script_lines::lines_of_a_script;
-use std::alloc::Global;
+use std::alloc::{AllocError, Global};
 use std::marker::Model;
 
 /// A script has at most so many octets.
@@ -29,6 +33,7 @@ pub const MAX_LINE: usize = 4_096;
 pub struct Recorder<const INJECTS: usize> {
     script: Vec<u8>,
     world: World,
+    order: Order,
     buffers: Buffers,
     // The line that is to come.
     line: String,
@@ -37,7 +42,7 @@ pub struct Recorder<const INJECTS: usize> {
 impl<const INJECTS: usize> Model for Recorder<INJECTS> {
     ghost use Rattle.std.specs.Prelude.{nat_lt};
     ghost use Rattle.line_sim.specs.Codes.{recorded_code};
-    ghost use Rattle.line_sim.specs.Scripts.{Recorded, IsScriptOf};
+    ghost use Rattle.line_sim.specs.Recorders.{Recorded, IsScriptOf};
 
     ghost Value = { Recorded };
 
@@ -45,7 +50,7 @@ impl<const INJECTS: usize> Model for Recorder<INJECTS> {
 
     ghost view = { λ r. record { script = r.script.items; world = r.world } };
 
-    ghost invariant = { λ r. IsScriptOf (nat_lt 0 INJECTS) r.script.items r.world };
+    ghost invariant = { λ r. IsScriptOf (nat_lt 0 INJECTS) r.script.items r.world r.order };
 }
 
 impl<const INJECTS: usize> Recorder<INJECTS> {
@@ -56,16 +61,21 @@ impl<const INJECTS: usize> Recorder<INJECTS> {
         Recorder {
             script: Vec::new(alloc),
             world: World::new(alloc),
+            order: Order::new(alloc),
             buffers: Buffers::new(),
             line: String::new(alloc),
         }
     }
 
-    /// The script so far. A replay of it has no bad line and ends in the world; where no octets may be injected, no line injects some.
+    /// The script so far. A replay of it has no bad line and ends in the world; where no octets may be injected, no line injects some. Flights come to nodes
+    /// after they were sent and in their order, and no line is at an earlier time than those before it.
     pub fn script(&self) -> &[u8]
         ensures value { result.now ≡ self.now.script }
         ensures leads { LeadsTo self.now.script self.now.world }
         ensures quiet { INJECTS ≡ 0 → InjectsNothing self.now.script }
+        ensures causal { All IsCausal (arrivals self.now.script) }
+        ensures in_order { AllPairs InOrder (arrivals self.now.script) }
+        ensures clock { AllPairs IsUpTo (times self.now.script) }
         ensures fits { length self.now.script ≤ 67108864 }
     {
         lines_of_a_script();
@@ -88,6 +98,7 @@ impl<const INJECTS: usize> Recording for Recorder<INJECTS> {
         if !may_take(INJECTS > 0, event) {
             return Err(RecordFault::Refused);
         }
+        self.order.take(&self.world, event)?;
         lines_are_read_back();
         let before = self.script.len();
         append_event(&mut self.script, &mut self.line, event)?;
@@ -100,8 +111,11 @@ impl<const INJECTS: usize> Recording for Recorder<INJECTS> {
         }
     }
 
-    fn remark(&mut self, remark: &str) -> Result<(), RecordFault> {
-        append_remark(&mut self.script, &mut self.line, remark)
+    fn remark(&mut self, at: u64, remark: &str) -> Result<(), RecordFault> {
+        if !self.order.take_remark(at) {
+            return Err(RecordFault::Refused);
+        }
+        append_remark(&mut self.script, &mut self.line, at, remark)
     }
 
     fn flight(&self, flight: u32) -> Option<&[u8]> {
@@ -184,17 +198,36 @@ fn append_event(
     append(script, &octets[..octets.len() - 1])
 }
 
-// Appends a remark to a script.
-fn append_remark(script: &mut Vec<u8>, line: &mut String, remark: &str) -> Result<(), RecordFault>
+// Appends the line of a remark at a time in thousandths of a second, without its line feed.
+fn push_remark(line: &mut String, at: u64, remark: &str) -> Result<(), AllocError>
+    ensures { OnOk result (string_bytes line.new ≡ string_bytes line.old ++ remark_line at remark.now) }
+{
+    let seconds = at / 1_000;
+    let tenths = at / 100 % 10;
+    let hundredths = at / 10 % 10;
+    let thousandths = at % 10;
+    match write!(
+        line,
+        "#@ {seconds}.{tenths}{hundredths}{thousandths} {remark}"
+    ) {
+        Ok(()) => Ok(()),
+        Err(_) => Err(AllocError),
+    }
+}
+
+// Appends a remark to a script, at a time in thousandths of a second.
+fn append_remark(
+    script: &mut Vec<u8>,
+    line: &mut String,
+    at: u64,
+    remark: &str,
+) -> Result<(), RecordFault>
     requires { length script.old.items ≤ 67108864 }
-    ensures ok { OnOk result (AppendsLine script.old.items (codes "#@ " ++ remark.now) script.new.items) }
+    ensures ok { OnOk result (AppendsLine script.old.items (remark_line at remark.now) script.new.items) }
     ensures err { OnErr result (script.new.items ≡ script.old.items) }
 {
     line.clear();
-    if line.push_str("#@ ").is_err() {
-        return Err(RecordFault::Memory);
-    }
-    if line.push_str(remark).is_err() {
+    if push_remark(line, at, remark).is_err() {
         return Err(RecordFault::Memory);
     }
     append(script, line.as_bytes())

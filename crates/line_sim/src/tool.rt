@@ -1,6 +1,6 @@
 //! All that the program does.
-ghost use Rattle.std.specs.Prelude.{◌≡◌, nat_eq, true};
-ghost use Rattle.line_sim.specs.Tool.{status_of, Writes, WritesRun, Ends, EndsPlan, Runs, asks_run, options_of};
+ghost use Rattle.std.specs.Prelude.{◌≡◌, nat_eq};
+ghost use Rattle.line_sim.specs.Tool.{status_of, Writes, WritesRun, Ends, EndsPlan, Runs, Answers, asked_by};
 
 use crate::command::{Mode, command_of};
 use crate::recorder::Recorder;
@@ -140,10 +140,9 @@ pub fn run_tool<S: Source, K: Sink>(
     source: &mut S,
     sink: &mut K,
 ) -> Status
-    // What was written of a run of the description that was read: a script without a bad line, whose run ends in the world that the simulator had; and the
-    // status says whether an event of it is forged.
-    ensures runs { asks_run words.now ≡ true
-        → Runs (options_of words.now) (S.state source.old) (S.state source.new) (K.state sink.old) (K.state sink.new) result }
+    // For `run` and options: the script was written of a run of the plan that the description gives with the options, or a line that says why there is none.
+    // For other words, the usage line.
+    ensures runs { Answers (asked_by words.now) (S.state source.old) (S.state source.new) (K.state sink.old) (K.state sink.new) result }
 {
     match command_of(words) {
         Some(command) => simulate(alloc, command.mode, command.options, source, sink),

@@ -5,4 +5,6 @@ pub returns-in-Ok : goal.returns-in-Ok
 returns-in-Ok g c = λ run. Described c.in-Ok.plan c.in-Ok.ensures.plan (c.run_plan.ensures run)
 
 pub returns-in-Err-Bad : goal.returns-in-Err-Bad
-returns-in-Err-Bad g c = λ _. Bad _ c.write_text.ensures
+returns-in-Err-Bad g c =
+    λ _. Bad _ (rw c.in-Err-Bad.field-0-is at c.in-Err-Bad.ensures.refused)
+    (rw c.in-Err-Bad.field-0-is at (rw c.as_bytes.ensures.value at c.write_text.ensures))
