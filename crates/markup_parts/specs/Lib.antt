@@ -1,0 +1,3 @@
+pub mod Pieces
+pub mod Markups
+pub mod Laws
