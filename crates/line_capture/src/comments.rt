@@ -14,7 +14,7 @@ use line_tale::TaleEvent;
 use sentence_parts::{number, words};
 use std::alloc::AllocError;
 
-// So many arrivals of a flight are told one by one.
+// The most arrivals of a flight that a comment names one by one.
 const MOST_TOLD: usize = 40;
 
 // `ok` or `no`, and a space.

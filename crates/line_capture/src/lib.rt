@@ -26,4 +26,4 @@ pub use file::capture_file;
 pub use keys::{DrawnKeys, keys_text};
 pub use place::Place;
 pub use recording::Recording;
-pub use senders::{addresses_text, frame_sender};
+pub use senders::{ADDRESSES, addresses_text, frame_sender};

@@ -9,8 +9,8 @@ use plc_base::OctetRef;
 use sentence_parts::{Part, push_parts, words};
 use std::alloc::{AllocError, Global};
 
-// A short address has 16 bits.
-const ADDRESSES: usize = 65_536;
+/// There are so many short addresses, of 16 bits each.
+pub const ADDRESSES: usize = 65_536;
 
 fn head_sender(head: &MacHead) -> Option<u16>
     ensures { result ≡ profiles.head_sender head.now }

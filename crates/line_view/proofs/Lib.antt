@@ -2,8 +2,11 @@ pub mod Checks
 pub mod Running
 pub mod Stepping
 pub mod Turns
+pub mod AccountRunning
+pub mod BadBound
+pub mod Captured
 pub mod Explained
-pub mod ExplainRunning
-pub mod ExplainNames
 pub mod Looking
+pub mod Machines
 pub mod Recorded
+pub mod StatusNames

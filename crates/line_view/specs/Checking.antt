@@ -60,7 +60,7 @@ checking json =
 
 -- # What is seen of a line
 
--- What a line is: nothing to be told, an event that is taken, or it is bad.
+-- What a line is: nothing to be written of, an event that is taken, or bad.
 pub data Look : Type 0 where
   Nothing : Look
   Keeps : (entry : Entry) → Look
@@ -235,7 +235,7 @@ end_of c = if c.json then [] else (if nat_lt 0 c.bad then bad_end c else fine_en
 abbrev pub turn_by : ℕ → List ℕ → Look → Checking → Turn Checking
 turn_by number line look c = Takes (after number line look c) (look_text number line look c)
 
--- the octet that is too much is told, and the last lines follow
+-- the octet that is too much is named, and the last lines follow
 abbrev pub stop_by : ℕ → Look → Checking → Turn Checking
 stop_by number look c = Stops (look_text number [] look c ++ end_of (after number [] look c))
 

@@ -2,24 +2,24 @@
 use Rattle.std.specs.Prelude.{◌≡◌, ℕ, Bool, nat_lt, List, [], ◌∷◌, ◌++◌, codes, length, Option, None, Some}
 use Rattle.script_lines.specs.Lines.{Content, TooMuch}
 use Rattle.script_lines.specs.Clauses.{IsStop}
-use Rattle.script_lines.specs.Outcomes.{Turn, Skips, Takes, Stops, Outcome, outcome as outcome_of}
+use Rattle.script_lines.specs.Outcomes.{Turn, Outcome, outcome as outcome_of}
 use Rattle.sentence_parts.specs.declared.part.Part.TheVariants.{Words, Number}
 use Rattle.sentence_parts.specs.Parts.{parts_text}
-use Rattle.line_script.specs.Texts.{reason_word}
 use Rattle.line_script.specs.declared.report.Reason.{Reason}
 use Rattle.line_tale.specs.declared.ends.Ends.{Ends}
 use Rattle.line_tale.specs.Verdicts.{ends_of}
 use Rattle.line_stories.specs.Stories.{Stories, stories_of}
 use Rattle.line_rules.specs.Worlds.{World, start}
 use Rattle.line_rules.specs.Runs.{Entry}
-use Rattle.script_runs.specs.Takings.{Taking, Skipped, Taken, Refused}
-unfoldable use Rattle.script_runs.specs.Takings.{taking}
+use Rattle.script_runs.specs.Takings.{Taking}
 use Rattle.story_accounts.specs.declared.section.Chosen.{Chosen}
 use Rattle.story_accounts.specs.Accounts.{RunAccount}
 use Rattle.story_accounts.specs.Indexes.{Index, index_of}
 use Rattle.story_accounts.specs.Sections.{account_text}
-use Rattle.line_view.specs.declared.explain.BadLine.{BadLine}
+use Rattle.line_view.specs.declared.bad_line.BadLine.{BadLine}
+use Rattle.line_view.specs.BadLines.{bad_text}
 use Rattle.line_view.specs.Recordings.{Recording, no_recording, recorded}
+use Rattle.line_view.specs.Recordings as recordings
 use Rattle.line_view.specs.Sentences.{Sentences, no_sentences, with_sentence}
 
 pub record Explaining : Type 0 where
@@ -40,15 +40,9 @@ counts_text w =
     ∷ Number w.sends ∷ Words (codes " sends, ") ∷ Number w.ups ∷ Words (codes " handed up, ") ∷ Number w.forged ∷ Words (codes " forged\n") ∷ [])
 
 -- the bad line, if there is one
-unfoldable pub bad_text : BadLine → List ℕ
-bad_text bad =
-    parts_text
-    (Words (codes "The run ends at line ") ∷ Number bad.row ∷ Words (codes ", which is bad: ") ∷ Words (reason_word bad.reason)
-    ∷ Words (codes ". `line_view check` says why.\n") ∷ [])
-
 abbrev pub bad_line_text : Option BadLine → List ℕ
 bad_line_text None = []
-bad_line_text (Some bad) = bad_text bad
+bad_line_text (Some bad) = bad_text bad ++ codes "\n"
 
 -- a run with its stories, the sentences of its events, the ends of its stories and what is looked up of it
 abbrev pub run_account : Recording → Sentences → Stories → List Ends → Index → RunAccount
@@ -94,26 +88,21 @@ refused_text m row reason = explain_text m (Some (record { row = row; reason = r
 
 -- an event was taken, and has its sentence, or it was not taken, for a reason
 abbrev pub Stepped : ℕ → Explaining → Explaining → Taking → Option Reason → Type 0
-Stepped row m0 m1 Skipped reason = ⊥
-Stepped row m0 m1 (Taken entry) reason = (reason ≡ None) × (m1 ≡ after_entry row entry m0)
-Stepped row m0 m1 (Refused why) reason = (reason ≡ Some why) × (m1 ≡ m0)
+Stepped row m0 m1 taking reason = recordings.Stepped after_entry row m0 m1 taking reason
 
 abbrev pub turn_by : Explaining → ℕ → Taking → Turn Explaining
-turn_by m row Skipped = Skips
-turn_by m row (Taken entry) = Takes (after_entry row entry m) []
-turn_by m row (Refused reason) = Stops (refused_text m row reason)
+turn_by m row taking = recordings.turn_by after_entry refused_text m row taking
 
 -- what a line does: nothing is written before the end, or before a bad line
 abbrev pub turn_of : Explaining → ℕ → Content → Turn Explaining
-turn_of m row content = turn_by m row (taking m.run.world content)
+turn_of m row content = recordings.turn_of (λ (m : Explaining). m.run.world) after_entry refused_text m row content
 
 abbrev pub end_of : Explaining → List ℕ
 end_of m = explain_text m None
 
 -- the octet that is too much makes its line bad
 pub stops_at_too_much : (m : Explaining) (row : ℕ) → IsStop (turn_of m row TooMuch)
-unfolding taking
-stops_at_too_much m row = tt
+stops_at_too_much m row = recordings.stops_at_too_much (λ (m : Explaining). m.run.world) after_entry refused_text m row
 
 -- whether an event was forged
 abbrev pub is_forged : Explaining → Bool

@@ -1,7 +1,9 @@
+pub mod BadLines
 pub mod Explaining
 pub mod Recordings
 pub mod Sentences
 pub mod Statuses
 pub mod Checking
+pub mod Capturing
 pub mod Checked
 pub mod Tool

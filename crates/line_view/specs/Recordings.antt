@@ -1,5 +1,5 @@
 -- A run, recorded while it is made: the world, and the tale of what its events did.
-use Rattle.std.specs.Prelude.{◌≡◌, ℕ, ◌+◌, ◌-◌, zero, suc, List, [], ◌∷◌, ◌++◌, length, Option, None, Some}
+use Rattle.std.specs.Prelude.{◌≡◌, ℕ, Bool, true, false, ◌+◌, ◌-◌, zero, suc, List, [], ◌∷◌, ◌++◌, length, Option, None, Some}
 use Rattle.std.specs.Option.{option_and_then, option_map, unwrap_or}
 use Rattle.plc_base.specs.declared.address.Eui.{Eui}
 use Rattle.plc_base.specs.declared.key.Key.{Key}
@@ -8,6 +8,8 @@ use Rattle.frame_details.specs.declared.detail.FlightMore.{FlightMore}
 use Rattle.frame_details.specs.Details.{more_of}
 use Rattle.frame_details.specs.Payloads.{payload_of}
 use Rattle.sentence_parts.specs.Whos.{device_of}
+use Rattle.line_events.specs.declared.event.Answer.{Answer}
+use Rattle.line_events.specs.declared.event.Answer.TheVariants as answers
 use Rattle.line_events.specs.declared.event.Event.{Event}
 use Rattle.line_events.specs.declared.event.Event.TheVariants as events
 use Rattle.line_events.specs.declared.happenings.Happenings.{Happenings}
@@ -17,7 +19,11 @@ use Rattle.line_tale.specs.declared.told.TaleFlight.{TaleFlight}
 use Rattle.line_tale.specs.Tales.{event_told, flight_told}
 use Rattle.line_rules.specs.Runs.{Entry}
 use Rattle.line_rules.specs.Worlds.{Flight, World, flight_at, start}
+use Rattle.script_lines.specs.Lines.{Content, TooMuch}
+use Rattle.script_lines.specs.Clauses.{IsStop}
+use Rattle.script_lines.specs.Outcomes.{Turn, Skips, Takes, Stops}
 use Rattle.script_runs.specs.Takings.{Taking, Skipped, Taken, Refused}
+unfoldable use Rattle.script_runs.specs.Takings.{taking}
 
 pub record Recording : Type 0 where
   -- the world after the last event
@@ -81,6 +87,12 @@ abbrev pub with_eui : Option Eui → List Eui → List Eui
 with_eui None euis = euis
 with_eui (Some eui) euis = euis ++ (eui ∷ [])
 
+-- whether an answer says that a group key is drawn, or may be: a write that fails may have left it
+abbrev pub is_drawn : Answer → Bool
+is_drawn answers.Drawn = true
+is_drawn answers.Store = true
+is_drawn _ = false
+
 abbrev pub with_event : ℕ → Event → Happenings → Recording → Recording
 with_event row event happenings r =
     record r {
@@ -108,3 +120,27 @@ abbrev pub Recorded : ℕ → Event → Recording → Recording → Taking → O
 Recorded row event old new Skipped reason = ⊥
 Recorded row event old new (Taken entry) reason = (reason ≡ None) × ((entry.event ≡ event) × (new ≡ recorded row entry old))
 Recorded row event old new (Refused why) reason = (reason ≡ Some why) × (new ≡ old)
+
+-- # Machines that record a run, and write at its end
+
+-- by what an entry makes of it: an event was taken, or it was not, for a reason
+abbrev pub Stepped : {M : Type 0} → (ℕ → Entry → M → M) → ℕ → M → M → Taking → Option Reason → Type 0
+Stepped after row m0 m1 Skipped reason = ⊥
+Stepped after row m0 m1 (Taken entry) reason = (reason ≡ None) × (m1 ≡ after row entry m0)
+Stepped after row m0 m1 (Refused why) reason = (reason ≡ Some why) × (m1 ≡ m0)
+
+-- and by the text at a bad line: nothing is written before the end, or before a bad line
+abbrev pub turn_by : {M : Type 0} → (ℕ → Entry → M → M) → (M → ℕ → Reason → List ℕ) → M → ℕ → Taking → Turn M
+turn_by after refused m row Skipped = Skips
+turn_by after refused m row (Taken entry) = Takes (after row entry m) []
+turn_by after refused m row (Refused reason) = Stops (refused m row reason)
+
+-- and by its world: what a line does
+abbrev pub turn_of : {M : Type 0} → (M → World) → (ℕ → Entry → M → M) → (M → ℕ → Reason → List ℕ) → M → ℕ → Content → Turn M
+turn_of world after refused m row content = turn_by after refused m row (taking (world m) content)
+
+-- the octet that is too much makes its line bad
+pub stops_at_too_much : {M : Type 0} (world : M → World) (after : ℕ → Entry → M → M) (refused : M → ℕ → Reason → List ℕ) (m : M) (row : ℕ)
+    → IsStop (turn_of world after refused m row TooMuch)
+unfolding taking
+stops_at_too_much world after refused m row = tt

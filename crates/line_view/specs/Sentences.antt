@@ -8,7 +8,6 @@ use Rattle.node_rules.specs.declared.shown.Shown.{Shown}
 use Rattle.node_rules.specs.declared.shown.ShownRoute.{ShownRoute}
 use Rattle.node_rules.specs.Showing.{nothing_shown, shown_of}
 use Rattle.line_events.specs.declared.event.Answer.{Answer}
-use Rattle.line_events.specs.declared.event.Answer.TheVariants as answers
 use Rattle.line_events.specs.declared.event.Event.{Event}
 use Rattle.line_events.specs.declared.event.Event.TheVariants as events
 use Rattle.line_rules.specs.Worlds.{World, node_at}
@@ -32,7 +31,7 @@ use Rattle.event_sentences.specs.RouteEnds.{has_ended, valid_dests}
 use Rattle.event_sentences.specs.Scenes.{Scene}
 use Rattle.event_sentences.specs.Texts.{event_text}
 use Rattle.event_sentences.specs.Watches.{Watched, looked, noted, unwatched}
-use Rattle.line_view.specs.Recordings.{Recording, key_at, octets_at}
+use Rattle.line_view.specs.Recordings.{Recording, is_drawn, key_at, octets_at}
 
 pub record Sentences : Type 0 where
   -- the sentence of each event; what came to a node that it is not for has no words
@@ -50,12 +49,6 @@ abbrev pub no_sentences : Sentences
 no_sentences = record { sentences = []; homes = []; keys = []; watches = []; counters = [] }
 
 -- # What an event says of addresses, nodes and keys
-
--- a write that fails may have left the new key
-abbrev pub is_drawn : Answer → Bool
-is_drawn answers.Drawn = true
-is_drawn answers.Store = true
-is_drawn _ = false
 
 abbrev pub key_if : Bool → DrawnKey → List DrawnKey → List DrawnKey
 key_if true key keys = keys ++ (key ∷ [])

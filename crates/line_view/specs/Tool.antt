@@ -11,21 +11,31 @@ use Rattle.script_lines.specs.Outcomes.{Outcome}
 use Rattle.script_lines.specs.Clauses.{Drives}
 use Rattle.script_runs.specs.Takings.{first_bad}
 use Rattle.line_view.specs.declared.tool.Command.{Command}
-use Rattle.line_view.specs.declared.tool.Command.TheVariants.{Check, Explain}
+use Rattle.line_view.specs.declared.tool.Command.TheVariants.{Capture, Check, Explain}
 use Rattle.line_view.specs.declared.status.Status.{Status}
 use Rattle.line_view.specs.declared.status.Status.TheVariants as status
 use Rattle.line_view.specs.Checking.{is_bad, outcome}
 use Rattle.line_script.specs.Words.{number_within}
 use Rattle.story_accounts.specs.declared.section.Chosen.{Chosen}
 use Rattle.story_accounts.specs.declared.section.Chosen.TheVariants as chosens
-use Rattle.line_view.specs.Explaining.{Explaining, explained, is_forged}
+use Rattle.line_view.specs.Explaining.{explained, is_forged}
+use Rattle.line_view.specs.declared.capture.Wanted.{Wanted}
+use Rattle.line_view.specs.declared.capture.Wanted.TheVariants as wants
+use Rattle.line_view.specs.Capturing.{captured, shows_forged}
 use Rattle.line_view.specs.Checked.{faults, first_of, faults_text, closing}
+
+-- what Wireshark reads, if a word asks for that
+abbrev pub wanted_word : List ℕ → Option Command
+wanted_word word =
+    if bytes_eq word (codes "capture") then Some (Capture (wants.Frames false))
+    else (if bytes_eq word (codes "keys") then Some (Capture wants.Keys)
+    else (if bytes_eq word (codes "addresses") then Some (Capture wants.Addresses) else None))
 
 -- the command that words name, if they are of a form
 abbrev pub one_word : List ℕ → Option Command
 one_word word =
     if bytes_eq word (codes "check") then Some (Check false)
-    else (if bytes_eq word (codes "explain") then Some (Explain chosens.Failed) else None)
+    else (if bytes_eq word (codes "explain") then Some (Explain chosens.Failed) else wanted_word word)
 
 abbrev pub check_with : List ℕ → Option Command
 check_with option = if bytes_eq option (codes "--json") then Some (Check true) else None
@@ -33,9 +43,14 @@ check_with option = if bytes_eq option (codes "--json") then Some (Check true) e
 abbrev pub explain_with : List ℕ → Option Command
 explain_with option = if bytes_eq option (codes "--all") then Some (Explain chosens.All) else None
 
+abbrev pub capture_with : List ℕ → Option Command
+capture_with option = if bytes_eq option (codes "--heard") then Some (Capture (wants.Frames true)) else None
+
 abbrev pub two_words : List ℕ → List ℕ → Option Command
 two_words word option =
-    if bytes_eq word (codes "check") then check_with option else (if bytes_eq word (codes "explain") then explain_with option else None)
+    if bytes_eq word (codes "check") then check_with option
+    else (if bytes_eq word (codes "explain") then explain_with option
+    else (if bytes_eq word (codes "capture") then capture_with option else None))
 
 -- the stories that a word and a number choose
 abbrev pub chosen_by : List ℕ → Option ℕ → Option Command
@@ -55,7 +70,7 @@ command_of (word ∷ kind ∷ number ∷ []) = three_words (string_bytes word) (
 command_of (word ∷ kind ∷ number ∷ other ∷ words) = None
 
 abbrev pub usage_text : List ℕ
-usage_text = codes "usage: line_view check [--json] | explain [--all | send K | node N]\n"
+usage_text = codes "usage: line_view check [--json] | explain [--all | send K | node N] | capture [--heard] | keys | addresses\n"
 
 -- the status of a run over lines, in which a line is bad or not
 abbrev pub status_of : Exit → Bool → Status
@@ -67,13 +82,13 @@ status_of exits.ReadFault bad = status.ReadFault
 status_of exits.WriteFault bad = status.WriteFault
 
 -- the status of an account, in which an event is forged or not
-abbrev pub explain_status : Exit → Bool → Status
-explain_status exits.Fine false = status.Fine
-explain_status exits.Fine true = status.Forged
-explain_status exits.BadScript forged = status.BadScript
-explain_status exits.Memory forged = status.Memory
-explain_status exits.ReadFault forged = status.ReadFault
-explain_status exits.WriteFault forged = status.WriteFault
+abbrev pub account_status : Exit → Bool → Status
+account_status exits.Fine false = status.Fine
+account_status exits.Fine true = status.Forged
+account_status exits.BadScript forged = status.BadScript
+account_status exits.Memory forged = status.Memory
+account_status exits.ReadFault forged = status.ReadFault
+account_status exits.WriteFault forged = status.WriteFault
 
 -- a status says of a script whether a line of it is bad
 abbrev pub Names : Status → Bool → Type 0
@@ -85,14 +100,23 @@ Names status.WriteFault bad = Unit {0}
 Names status.Memory bad = Unit {0}
 Names status.Usage bad = Unit {0}
 
--- What an account did: how the run ended, the last state where it came to the end of input, and the status of both.
-pub record Explains (chosen : Chosen) (source0 source1 : SourceState) (sink0 sink1 : SinkState) (result : Status) : Type 0 where
+-- What an account of a run did: how the run ended, the last state where it came to the end of input, and the status of both.
+pub record Accounts {M : Type 0} (forged : M → Bool) (outcome : List ℕ → Bool → Outcome M) (source0 source1 : SourceState)
+    (sink0 sink1 : SinkState) (result : Status) : Type 0 where
   pub exit : Exit
-  pub last : Explaining
-  pub drives : Drives (explained chosen) last source0 source1 sink0 sink1 exit
-  pub status : result ≡ explain_status exit (is_forged last)
+  pub last : M
+  pub drives : Drives outcome last source0 source1 sink0 sink1 exit
+  pub status : result ≡ account_status exit (forged last)
   -- the status says whether a line of the script is bad
   pub named : Names result (is_some (first_bad drives.b source1.ended))
+
+-- what was said of the chosen stories
+abbrev pub Explains : Chosen → SourceState → SourceState → SinkState → SinkState → Status → Type 0
+Explains chosen source0 source1 sink0 sink1 result = Accounts is_forged (explained chosen) source0 source1 sink0 sink1 result
+
+-- what was written for Wireshark
+abbrev pub Captures : Wanted → SourceState → SourceState → SinkState → SinkState → Status → Type 0
+Captures wanted source0 source1 sink0 sink1 result = Accounts shows_forged (captured wanted) source0 source1 sink0 sink1 result
 
 -- What reading lines did: how the run ended, the last state where it came to the end of input, and the status of both.
 pub record Ran {M : Type 0} (bad : M → Bool) (outcome : List ℕ → Bool → Outcome M) (source0 source1 : SourceState)
@@ -107,7 +131,7 @@ pub record Checks (json : Bool) (source0 source1 : SourceState) (sink0 sink1 : S
   pub ran : Ran is_bad (outcome json) source0 source1 sink0 sink1 result
   -- the first fault is the line, and the reason, at which the run of the script ends; there is none exactly where no line of it is bad
   pub finds : (e : Bool) → first_of (faults json ran.drives.b e) ≡ first_bad ran.drives.b e
-  -- what is written is what is told of each fault, and then the last lines
+  -- what is written is the text of each fault, and then the last lines
   pub text : (e : Bool) → (outcome json ran.drives.b e).text ≡ faults_text json 0 (faults json ran.drives.b e) ++ closing json ran.drives.b e
   -- the status says whether a line is bad
   pub named : Names result (is_some (first_bad ran.drives.b source1.ended))

@@ -19,7 +19,7 @@ pub struct Check {
     checker: Checker,
     // Where the octets are that a line holds in hexadecimal.
     octets: [u8; LINE_OCTETS],
-    // What is told of the last line.
+    // What is written of the last line.
     text: String,
 }
 

@@ -1,4 +1,4 @@
-//! What `check` keeps of a script, and what it tells of a line.
+//! What `check` keeps of a script, and what it writes of a line.
 ghost use Rattle.std.specs.Prelude.{◌≡◌, ◌==◌, ◌<◌, ◌^◌, ◌++◌, ◌∷◌, [], IfOk, OnOk, codes, if◌then◌else◌, length, string_bytes};
 ghost use Rattle.line_events.specs.Events.{IsEvent};
 ghost use Rattle.line_script.specs.declared.word.TheConstants.{LINE_OCTETS};
@@ -20,14 +20,14 @@ use sentence_parts::{number, push_parts, words};
 use std::alloc::{AllocError, Global};
 use std::marker::Model;
 
-// So many faults are told in the form for people.
+// The most faults that the form for people has.
 const MOST_TOLD: u32 = 20;
 
 /// Where a check stands. A contract sees all but the buffers.
 #[derive(Drop)]
 pub struct Checker {
     alloc: Global,
-    // Whether faults are told as objects of JSON.
+    // Whether faults are written as objects of JSON.
     json: bool,
     // The world up to the first bad line, its nodes and its events.
     world: World,
@@ -124,7 +124,7 @@ fn push_people(
     push_finding(text, alloc, word, row, line, found)
 }
 
-// Appends what is told of a bad line after so many others.
+// Appends what is written of a bad line after so many others.
 #[tactic(auto, unfolding(crate::specs::Checking::bad_text))]
 fn push_bad(
     text: &mut String,
@@ -280,7 +280,7 @@ impl Checker {
         self.bad = self.bad.saturating_add(1);
     }
 
-    // Tells what is wrong with a line.
+    // Appends what is wrong with a line.
     fn tell(
         &mut self,
         text: &mut String,
@@ -444,7 +444,7 @@ impl Checker {
         }
     }
 
-    /// Looks at a line of this number, and appends what is told of it. It fails only where memory runs out; the checker is not used again
+    /// Looks at a line of this number, and appends what is written of it. It fails only where memory runs out; the checker is not used again
     /// then.
     ///
     /// `octets` is written to in passing.

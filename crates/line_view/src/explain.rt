@@ -5,6 +5,7 @@ ghost use Rattle.script_lines.specs.Clauses.{StopsWith, Turned};
 ghost use Rattle.script_runs.specs.Takings.{event_taking};
 ghost use Rattle.line_view.specs.Explaining as explaining;
 
+use crate::bad_line::{BadLine, push_bad};
 use crate::recorder::Recorder;
 use crate::teller::Teller;
 use line_events::Event;
@@ -13,46 +14,21 @@ use line_stories::{Telling, stories_of};
 use line_tale::{Ends, ends_of};
 use line_world::Buffers;
 use plc_base::Sink;
-use script_faults::word_of_reason;
 use script_lines::{LineKind, LineMachine, StopReason, stop, write_text};
 use sentence_parts::{number, push_parts, words};
 use std::alloc::{AllocError, Global};
 use std::marker::Model;
 use story_accounts::{Account, Chosen, Index};
 
-/// A bad line: its number, and why it is bad.
-#[derive(Clone, Copy)]
-pub struct BadLine {
-    /// Its number, from 1.
-    pub row: u32,
-    /// Why it is bad.
-    pub reason: Reason,
-}
-
-#[tactic(auto, unfolding(crate::specs::Explaining::bad_text))]
-fn push_bad(text: &mut String, alloc: Global, bad: BadLine) -> Result<(), AllocError>
-    ensures { OnOk result (string_bytes text.new ≡ string_bytes text.old ++ explaining.bad_text bad) }
-{
-    let reason = word_of_reason(bad.reason);
-    push_parts(
-        text,
-        alloc,
-        &[
-            words("The run ends at line "),
-            number(bad.row as usize),
-            words(", which is bad: "),
-            words(reason),
-            words(". `line_view check` says why.\n"),
-        ],
-    )
-}
-
 fn push_bad_line(text: &mut String, alloc: Global, bad: Option<BadLine>) -> Result<(), AllocError>
     ensures { OnOk result (string_bytes text.new ≡ string_bytes text.old ++ explaining.bad_line_text bad) }
 {
     match bad {
         None => Ok(()),
-        Some(bad) => push_bad(text, alloc, bad),
+        Some(bad) => {
+            push_bad(text, alloc, bad)?;
+            text.push_str("\n")
+        }
     }
 }
 

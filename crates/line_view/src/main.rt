@@ -1,6 +1,9 @@
-//! Tells what a script does on a line of nodes, to look at: what is wrong with the script, and what became of each datagram and each joining.
+//! Tells what a script does on a line of nodes, to look at: what is wrong with the script, what became of each datagram and each joining, and the
+//! frames for Wireshark.
 #![tactic(auto)]
 
+mod bad_line;
+mod capture;
 mod check;
 mod checker;
 mod explain;

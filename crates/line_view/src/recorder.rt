@@ -9,7 +9,7 @@ ghost use Rattle.line_view.specs.Recordings as recordings;
 
 use frame_details::{FlightMore, more_of, open_octets};
 use frame_words::frame_target;
-use line_events::{Event, Happenings, MAX_EVENTS, StepFault};
+use line_events::{Answer, Event, Happenings, MAX_EVENTS, StepFault};
 use line_script::Reason;
 use line_tale::Tale;
 use line_world::{Buffers, World};
@@ -70,6 +70,17 @@ fn push_eui(euis: &mut Vec<Eui>, made: Option<Eui>) -> Result<(), AllocError>
     };
     euis.push(eui)?;
     Ok(())
+}
+
+/// Whether an answer says that a group key is drawn, or may be: a write that fails may have left it.
+pub fn is_drawn(answer: Answer) -> bool
+    ensures { result ≡ recordings.is_drawn answer }
+{
+    match answer {
+        Answer::Drawn => true,
+        Answer::Store => true,
+        _ => false,
+    }
 }
 
 // The payload of a frame, where the buffer holds it.

@@ -12,7 +12,7 @@ pub enum Status {
     Usage,
     /// 3: there was not enough memory.
     Memory,
-    /// 4: the source failed, and the report of all lines before was written.
+    /// 4: the source failed. `check` wrote what it found in the lines before it, the others nothing.
     ReadFault,
     /// 5: the sink failed.
     WriteFault,

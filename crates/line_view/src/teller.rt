@@ -5,7 +5,7 @@ ghost use Rattle.event_sentences.specs.Texts.{event_text};
 ghost use Rattle.line_rules.specs.Worlds.{node_at};
 ghost use Rattle.line_view.specs.Sentences as spec_sentences;
 
-use crate::recorder::Recorder;
+use crate::recorder::{Recorder, is_drawn};
 use event_sentences::{Counters, DrawnKey, Heard, Moment, Watch, heard_flight, heard_octets};
 use frame_details::FlightMore;
 use line_events::{Answer, Event};
@@ -67,17 +67,6 @@ fn nothing_shown() -> Shown
         routes: ShownRoutes::new(),
         floors: [0; 16],
         peers: ShownPeers::new(),
-    }
-}
-
-fn is_drawn(answer: Answer) -> bool
-    ensures { result ≡ spec_sentences.is_drawn answer }
-{
-    match answer {
-        Answer::Drawn => true,
-        // A write that fails may have left the new key.
-        Answer::Store => true,
-        _ => false,
     }
 }
 

@@ -3,9 +3,11 @@ ghost use Rattle.std.specs.Prelude.{◌≡◌, ◌≤◌, Bool, Some, None};
 ghost use Rattle.std.specs.Io.KnownBytes.{IsAtEnd};
 ghost use Rattle.plc_base.specs.Streams.{SourceFaults, SourceRose, SinkRose};
 ghost use Rattle.story_accounts.specs.declared.section.Chosen.{Chosen};
-ghost use Rattle.line_view.specs.Tool.{Checks, Explains, WritesText, check_with, chosen_by, command_of, explain_status, explain_with, one_word};
-ghost use Rattle.line_view.specs.Tool.{status_of, three_words, two_words, usage_text};
+ghost use Rattle.line_view.specs.declared.capture.Wanted.{Wanted};
+ghost use Rattle.line_view.specs.Tool.{Captures, Checks, Explains, WritesText, capture_with, check_with, chosen_by, command_of, account_status};
+ghost use Rattle.line_view.specs.Tool.{explain_with, one_word, status_of, three_words, two_words, usage_text, wanted_word};
 
+use crate::capture::{Capture, Wanted};
 use crate::check::Check;
 use crate::explain::Explain;
 use crate::status::Status;
@@ -28,6 +30,33 @@ pub enum Command {
         /// Which stories are accounted for.
         chosen: Chosen,
     },
+    /// `capture`, `capture --heard`, `keys` and `addresses`: what Wireshark reads of a run.
+    Capture {
+        /// What of it is written.
+        wanted: Wanted,
+    },
+}
+
+// What Wireshark reads, if a word asks for that.
+fn wanted_word(word: &str) -> Option<Command>
+    ensures { result ≡ wanted_word word.now }
+{
+    if word == "capture" {
+        return Some(Command::Capture {
+            wanted: Wanted::Frames { heard: false },
+        });
+    }
+    if word == "keys" {
+        return Some(Command::Capture {
+            wanted: Wanted::Keys,
+        });
+    }
+    if word == "addresses" {
+        return Some(Command::Capture {
+            wanted: Wanted::Addresses,
+        });
+    }
+    None
 }
 
 fn one_word(word: &str) -> Option<Command>
@@ -41,7 +70,7 @@ fn one_word(word: &str) -> Option<Command>
             chosen: Chosen::Failed,
         });
     }
-    None
+    wanted_word(word)
 }
 
 fn check_with(option: &str) -> Option<Command>
@@ -64,6 +93,17 @@ fn explain_with(option: &str) -> Option<Command>
     None
 }
 
+fn capture_with(option: &str) -> Option<Command>
+    ensures { result ≡ capture_with option.now }
+{
+    if option == "--heard" {
+        return Some(Command::Capture {
+            wanted: Wanted::Frames { heard: true },
+        });
+    }
+    None
+}
+
 fn two_words(word: &str, option: &str) -> Option<Command>
     ensures { result ≡ two_words word.now option.now }
 {
@@ -72,6 +112,9 @@ fn two_words(word: &str, option: &str) -> Option<Command>
     }
     if word == "explain" {
         return explain_with(option);
+    }
+    if word == "capture" {
+        return capture_with(option);
     }
     None
 }
@@ -146,8 +189,8 @@ fn check<S: Source, K: Sink>(alloc: Global, json: bool, source: &mut S, sink: &m
 }
 
 // The status of an account, in which an event is forged or not.
-fn explain_status(exit: Exit, forged: bool) -> Status
-    ensures { result ≡ explain_status exit forged }
+fn account_status(exit: Exit, forged: bool) -> Status
+    ensures { result ≡ account_status exit forged }
 {
     match exit {
         Exit::Fine if forged => Status::Forged,
@@ -174,7 +217,25 @@ fn explain<S: Source, K: Sink>(
 {
     let mut explain = Explain::new(alloc, chosen);
     let exit = run(alloc, &mut explain, source, sink);
-    explain_status(exit, explain.is_forged())
+    account_status(exit, explain.is_forged())
+}
+
+/// Reads a script from the source, and writes to the sink what Wireshark reads of its run.
+fn capture<S: Source, K: Sink>(
+    alloc: Global,
+    wanted: Wanted,
+    source: &mut S,
+    sink: &mut K,
+) -> Status
+    ensures captures { Captures wanted (S.state source.old) (S.state source.new) (K.state sink.old) (K.state sink.new) result }
+    ensures read { result ≡ Status.ReadFault → SourceRose (S.state source.old) (S.state source.new) }
+    ensures write { result ≡ Status.WriteFault → SinkRose (K.state sink.old) (K.state sink.new) }
+    ensures source { SourceFaults (S.state source.old) (S.state source.new) }
+    ensures sink { (K.state sink.old).faults ≤ (K.state sink.new).faults }
+{
+    let mut capture = Capture::new(alloc, wanted);
+    let exit = run(alloc, &mut capture, source, sink);
+    account_status(exit, capture.shows_forged())
 }
 
 /// Writes a text, and answers `done` where all of it was written.
@@ -188,12 +249,15 @@ fn write_whole<K: Sink>(sink: &mut K, text: &[u8], done: Status) -> Status
     }
 }
 
-const USAGE: &[u8; 68] = b"usage: line_view check [--json] | explain [--all | send K | node N]\n";
+const USAGE: &[u8; 107] =
+    b"usage: line_view check [--json] | explain [--all | send K | node N] | capture [--heard] | keys | addresses\n";
 
 /// All that the program does, with the words after its name.
 ///
 /// `check` reads a script and writes what is wrong with each of its lines, `check --json` the same as objects of JSON. `explain` writes what
-/// became of each datagram and each joining, with `send K` or `node N` of those alone. Other words write the usage line, and read nothing.
+/// became of each datagram and each joining, with `send K` or `node N` of those alone. `capture` writes the frames as a capture, with `--heard`
+/// each arrival too, `keys` the keys and `addresses` the short addresses of a run, as Wireshark reads them. Other words write the usage line, and
+/// read nothing.
 ///
 /// Where no read of the source and no write of the sink is to fail, and the sink has room for the whole text, neither count of
 /// faults changes, so that neither fault comes.
@@ -209,6 +273,9 @@ pub fn run_view<S: Source, K: Sink>(
     // What was read and written of an account, and why its status came.
     ensures explains { (chosen : Chosen) → command_of words.now ≡ Some (Command.Explain chosen)
         → Explains chosen (S.state source.old) (S.state source.new) (K.state sink.old) (K.state sink.new) result }
+    // What was read, and written for Wireshark, and why its status came.
+    ensures captures { (wanted : Wanted) → command_of words.now ≡ Some (Command.Capture wanted)
+        → Captures wanted (S.state source.old) (S.state source.new) (K.state sink.old) (K.state sink.new) result }
     // What ends Fine was read whole.
     ensures whole { (json : Bool) → command_of words.now ≡ Some (Command.Check json) → result ≡ Status.Fine
         → IsAtEnd ((S.state source.new).left) }
@@ -224,6 +291,7 @@ pub fn run_view<S: Source, K: Sink>(
     match command_of(words) {
         Some(Command::Check { json }) => check(alloc, json, source, sink),
         Some(Command::Explain { chosen }) => explain(alloc, chosen, source, sink),
+        Some(Command::Capture { wanted }) => capture(alloc, wanted, source, sink),
         None => write_whole(sink, USAGE, Status::Usage),
     }
 }

@@ -1,0 +1,91 @@
+-- The status of an account of a run says whether a line is bad: the account ends where the run of the script does.
+use Rattle.std.proofs.Common.{◌≡◌, ℕ, Bool, true, false, List, [], ◌∷◌, Option, sym, ap, ◌∙◌, refl, subst}
+use Rattle.std.specs.Prelude.{is_some}
+use Rattle.plc_base.specs.Streams.{SourceState, SinkState}
+use Rattle.script_lines.specs.declared.machine.Exit.{Exit}
+use Rattle.script_lines.specs.declared.machine.Exit.TheVariants as exits
+use Rattle.script_lines.specs.declared.window.TheConstants.{WINDOW}
+use Rattle.script_lines.specs.Lines.{Line, lines}
+use Rattle.script_lines.specs.Outcomes.{Bad, Ended, Outcome, outcome as outcome_of, outcome_turn, outcome_from, StopsShortOf}
+use Rattle.script_lines.specs.Clauses.{Comes}
+use Rattle.line_script.specs.declared.report.Reason.{Reason}
+use Rattle.line_rules.specs.Worlds.{World, start}
+use Rattle.line_rules.specs.Runs.{Entry}
+use Rattle.script_runs.specs.Takings.{Taking, Skipped, Taken, Refused, taking, BadLine, bad_by, first_bad_from, first_bad}
+use Rattle.line_view.specs.declared.status.Status.{Status}
+use Rattle.line_view.specs.Recordings.{turn_by, turn_of}
+use Rattle.line_view.specs.Tool.{Names, account_status}
+
+-- a machine that has a world, which an entry makes what it makes of the world
+module _ {M : Type 0} (world : M → World) (after : ℕ → Entry → M → M) (refused : M → ℕ → Reason → List ℕ) (end_text : M → List ℕ)
+    (keeps : (row : ℕ) (entry : Entry) (m : M) → world (after row entry m) ≡ entry.after) where
+  -- # The end of a script
+
+  not_ended : (number : ℕ) (behind : List ℕ) (last : M) → Bad number behind ≡ Ended last → ⊥
+  not_ended number behind last is = cc
+
+  fine_by : (last m : M) (line : Line) (t : Taking) (rest : M → Outcome M) (more : World → Option BadLine)
+      → ((next : M) → (rest next).ending ≡ Ended last → is_some (more (world next)) ≡ false)
+      → (outcome_turn m line (turn_by after refused m line.number t) rest).ending ≡ Ended last → is_some (bad_by (world m) line.number t more) ≡ false
+  fine_by last m line Skipped rest more all ends = all m ends
+  fine_by last m line (Taken entry) rest more all ends =
+      sym (ap (λ (w : World). is_some (more w)) (keeps line.number entry m)) ∙ all (after line.number entry m) ends
+  fine_by last m line (Refused reason) rest more all ends = absurd (not_ended line.number line.behind last ends)
+
+  fine_from : (last : M) (ls : List Line) (m : M) → (outcome_from (turn_of world after refused) end_text m ls true).ending ≡ Ended last
+      → is_some (first_bad_from (world m) ls) ≡ false
+  unfolding outcome_from
+  fine_from last [] m ends = refl
+  fine_from last (line ∷ ls) m ends =
+      fine_by last m line (taking (world m) line.content) (λ next. outcome_from (turn_of world after refused) end_text next ls true)
+      (λ w. first_bad_from w ls) (fine_from last ls) ends
+
+  stopped_by : (ahead : ℕ) (m : M) (line : Line) (t : Taking) (rest : M → Outcome M) (more : World → Option BadLine)
+      → ((next : M) → StopsShortOf ahead (rest next).ending → is_some (more (world next)) ≡ true)
+      → StopsShortOf ahead (outcome_turn m line (turn_by after refused m line.number t) rest).ending
+      → is_some (bad_by (world m) line.number t more) ≡ true
+  stopped_by ahead m line Skipped rest more all stops = all m stops
+  stopped_by ahead m line (Taken entry) rest more all stops =
+      sym (ap (λ (w : World). is_some (more w)) (keeps line.number entry m)) ∙ all (after line.number entry m) stops
+  stopped_by ahead m line (Refused reason) rest more all stops = refl
+
+  stopped_from : (ahead : ℕ) (ls : List Line) (m : M) (ended : Bool)
+      → StopsShortOf ahead (outcome_from (turn_of world after refused) end_text m ls ended).ending → is_some (first_bad_from (world m) ls) ≡ true
+  unfolding outcome_from
+  stopped_from ahead [] m true stops = absurd stops
+  stopped_from ahead [] m false stops = absurd stops
+  stopped_from ahead (line ∷ ls) m ended stops =
+      stopped_by ahead m line (taking (world m) line.content) (λ next. outcome_from (turn_of world after refused) end_text next ls ended)
+      (λ w. first_bad_from w ls) (λ next. stopped_from ahead ls next ended) stops
+
+  -- # The status
+
+  abbrev outcome_by : M → List ℕ → Bool → Outcome M
+  outcome_by first octets ended = outcome_of (turn_of world after refused) end_text first octets ended
+
+  at_end : (source1 : SourceState) (b : List ℕ) → source1.ended ≡ true → is_some (first_bad b source1.ended) ≡ is_some (first_bad b true)
+  at_end source1 b ended = ap (λ e. is_some (first_bad b e)) ended
+
+  from_start : (first : M) → world first ≡ start → (b : List ℕ) (e : Bool) → is_some (first_bad b e) ≡ is_some (first_bad_from (world first) (lines b e))
+  from_start first begins b e = ap (λ (w : World). is_some (first_bad_from w (lines b e))) (sym begins)
+
+  named_by : (first : M) → world first ≡ start → (source0 source1 : SourceState) (sink0 sink1 : SinkState) (b w : List ℕ) (last : M) (exit : Exit)
+      (forged : Bool) → Comes (outcome_by first) last source0 source1 sink0 sink1 b w exit
+      → Names (account_status exit forged) (is_some (first_bad b source1.ended))
+  named_by first begins source0 source1 sink0 sink1 b w last exits.Fine false comes =
+      at_end source1 b comes.0 ∙ from_start first begins b true ∙ fine_from last (lines b true) first comes.1
+  named_by first begins source0 source1 sink0 sink1 b w last exits.Fine true comes =
+      at_end source1 b comes.0 ∙ from_start first begins b true ∙ fine_from last (lines b true) first comes.1
+  named_by first begins source0 source1 sink0 sink1 b w last exits.BadScript forged comes =
+      from_start first begins b source1.ended ∙ stopped_from WINDOW (lines b source1.ended) first source1.ended comes.0
+  named_by first begins source0 source1 sink0 sink1 b w last exits.ReadFault forged comes = tt
+  named_by first begins source0 source1 sink0 sink1 b w last exits.WriteFault forged comes = tt
+  named_by first begins source0 source1 sink0 sink1 b w last exits.Memory forged comes = tt
+
+  -- the status of an account says whether a line is bad
+  pub status_names : (first : M) → world first ≡ start → (source0 source1 : SourceState) (sink0 sink1 : SinkState) (b w : List ℕ) (last : M) (exit : Exit)
+      (forged : Bool) (s : Status) → Comes (outcome_by first) last source0 source1 sink0 sink1 b w exit → s ≡ account_status exit forged
+      → Names s (is_some (first_bad b source1.ended))
+  status_names first begins source0 source1 sink0 sink1 b w last exit forged s comes is =
+      subst (λ (x : Status). Names x (is_some (first_bad b source1.ended))) (sym is)
+      (named_by first begins source0 source1 sink0 sink1 b w last exit forged comes)

@@ -1,7 +1,0 @@
-use Rattle.line_view.proofs.explain.push_bad.Goals as goal
-
-pub returns : goal.returns
-unfolding Rattle.line_view.specs.Explaining.bad_text
-returns c =
-    rw (c.words.ensures, c.number.ensures, c.words-2.ensures, c.words-3.ensures, c.words-4.ensures, c.word_of_reason-reason.ensures)
-    at c.push_parts.ensures

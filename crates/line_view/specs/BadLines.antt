@@ -1,0 +1,13 @@
+-- The line at which a run ends because it is bad.
+use Rattle.std.specs.Prelude.{List, [], ◌∷◌, codes, ℕ}
+use Rattle.sentence_parts.specs.declared.part.Part.TheVariants.{Words, Number}
+use Rattle.sentence_parts.specs.Parts.{parts_text}
+use Rattle.line_script.specs.Texts.{reason_word}
+use Rattle.line_view.specs.declared.bad_line.BadLine.{BadLine}
+
+-- that a run ends there, and why the line is bad
+unfoldable pub bad_text : BadLine → List ℕ
+bad_text bad =
+    parts_text
+    (Words (codes "The run ends at line ") ∷ Number bad.row ∷ Words (codes ", which is bad: ") ∷ Words (reason_word bad.reason)
+    ∷ Words (codes ". `line_view check` says why.") ∷ [])

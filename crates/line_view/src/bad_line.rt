@@ -1,0 +1,37 @@
+//! The line at which a run ends because it is bad.
+ghost use Rattle.std.specs.Prelude.{◌≡◌, ◌++◌, ◌≤◌, OnOk, length, string_bytes};
+ghost use Rattle.line_view.specs.BadLines.{bad_text};
+
+use line_script::Reason;
+use script_faults::word_of_reason;
+use sentence_parts::{number, push_parts, words};
+use std::alloc::{AllocError, Global};
+
+/// A bad line: its number, and why it is bad.
+#[derive(Clone, Copy)]
+pub struct BadLine {
+    /// Its number, from 1.
+    pub row: u32,
+    /// Why it is bad.
+    pub reason: Reason,
+}
+
+/// Appends that the run ends at a bad line, and why that is bad. It fails only where memory runs out.
+#[tactic(auto, unfolding(crate::specs::BadLines::bad_text))]
+pub fn push_bad(text: &mut String, alloc: Global, bad: BadLine) -> Result<(), AllocError>
+    ensures text { OnOk result (string_bytes text.new ≡ string_bytes text.old ++ bad_text bad) }
+    ensures bound { length (bad_text bad) ≤ 2000 }
+{
+    let reason = word_of_reason(bad.reason);
+    push_parts(
+        text,
+        alloc,
+        &[
+            words("The run ends at line "),
+            number(bad.row as usize),
+            words(", which is bad: "),
+            words(reason),
+            words(". `line_view check` says why."),
+        ],
+    )
+}

@@ -1,0 +1,432 @@
+//! `capture`, `keys` and `addresses`: a run for Wireshark.
+ghost use Rattle.std.specs.Prelude.{◌≡◌, ◌++◌, ◌∷◌, ◌≤◌, All, IfOk, List, OnOk, [], length, Some, option_to_list, string_bytes, true, ℕ};
+ghost use Rattle.std.specs.Option.{option_copied};
+ghost use Rattle.line_events.specs.Events.{IsEvent};
+ghost use Rattle.script_lines.specs.Clauses.{IsWritten, StopsWith, Turned};
+ghost use Rattle.script_runs.specs.Takings.{event_taking};
+ghost use Rattle.line_capture.specs.Captures.{IsFrame, run_of};
+ghost use Rattle.line_capture.specs.Places.{AreEvents, HasAct, IsAct};
+ghost use Rattle.line_tale.specs.Tales.{numbered};
+ghost use Rattle.line_tale.specs.declared.told.TaleEvent.{TaleEvent};
+ghost use Rattle.line_view.specs.Capturing as capturing;
+
+use crate::bad_line::{BadLine, push_bad};
+use crate::recorder::{Recorder, is_drawn};
+use line_capture::{DrawnKeys, Recording, addresses_text, capture_file, keys_text};
+use line_events::{Answer, Event, MAX_EVENTS};
+use line_script::{LINE_OCTETS, Reading, Reason, Totals, read_line};
+use line_tale::{Act, TaleEvent};
+use line_world::{Buffers, World};
+use octet_log::OctetLog;
+use plc_base::{Key, KeyIndex, OctetRef, Sink, write_all};
+use script_lines::{LineKind, LineMachine, StopReason};
+use std::alloc::{AllocError, Global};
+use std::marker::Model;
+
+// The octets of a line. A frame has fewer.
+const LONGEST: usize = 2048;
+
+/// What of a run is written.
+#[derive(Clone, Copy, Debug, PartialEq, Eq)]
+pub enum Wanted {
+    /// The frames, as a capture.
+    Frames {
+        /// Whether what is heard is written too.
+        heard: bool,
+    },
+    /// The keys that were drawn.
+    Keys,
+    /// The short addresses of all that sent a frame.
+    Addresses,
+}
+
+fn totals_of(world: &World) -> Totals
+    ensures { result ≡ capturing.totals_of world.now }
+{
+    let counts = world.counts();
+    Totals {
+        events: counts.events,
+        flights: counts.flights,
+        sends: counts.sends,
+        ups: counts.ups,
+        forged: counts.forged,
+    }
+}
+
+// Adds octets, if they are there. Octets that are longer than a line are as if memory ran out: no run has them.
+fn push_frame<'a>(list: &mut Vec<OctetRef<'a>>, octets: Option<&'a [u8]>) -> Result<(), AllocError>
+    ensures octets { OnOk result (list.new.items ≡ list.old.items ++ option_to_list (option_copied octets.entry)) }
+    ensures frames { OnOk result (All IsFrame list.old.items → All IsFrame list.new.items) }
+{
+    let Some(octets) = octets else {
+        return Ok(());
+    };
+    if octets.len() > LONGEST {
+        return Err(AllocError);
+    }
+    list.push(OctetRef::new(octets))?;
+    Ok(())
+}
+
+// The octets of the flights, by their numbers from 1.
+fn flown<'a>(alloc: Global, world: &'a World) -> Result<Vec<OctetRef<'a>>, AllocError>
+    ensures octets { IfOk result (λ list. list.items ≡ capturing.octets_of world.now) }
+    ensures frames { IfOk result (λ list. All IsFrame list.items) }
+{
+    let mut list = Vec::new(alloc);
+    for i in 0..world.counts().flights {
+        push_frame(&mut list, world.flight(i + 1))?;
+    }
+    Ok(list)
+}
+
+fn strings_of<'a>(alloc: Global, log: &'a OctetLog) -> Result<Vec<OctetRef<'a>>, AllocError>
+    ensures octets { IfOk result (λ list. list.items ≡ log.now.strings) }
+    ensures frames { IfOk result (λ list. All IsFrame list.items) }
+{
+    let mut list = Vec::new(alloc);
+    for place in 0..log.len() {
+        push_frame(&mut list, log.get(place))?;
+    }
+    Ok(list)
+}
+
+fn keep_octets(log: &mut OctetLog, octets: &[u8]) -> Result<(), AllocError>
+    ensures { OnOk result (log.new.strings ≡ log.old.strings ++ (octets.now ∷ [])) }
+{
+    if log.len() >= u32::MAX as usize {
+        return Err(AllocError);
+    }
+    log.reserve(1, octets.len())?;
+    log.push(octets);
+    Ok(())
+}
+
+// Keeps the octets of an event that no node sent, if it brings some.
+fn keep_injected(log: &mut OctetLog, event: &Event<'_>) -> Result<(), AllocError>
+    ensures { OnOk result (log.new.strings ≡ capturing.injected_with event.now log.old.strings) }
+{
+    match event {
+        Event::Inject { octets, .. } => keep_octets(log, octets.octets()),
+        _ => Ok(()),
+    }
+}
+
+fn is_act(act: &Act) -> bool
+    ensures { result ≡ true → IsAct act.now }
+{
+    match act {
+        Act::Tick { seconds } => *seconds >= 1 && *seconds <= 86_400,
+        _ => true,
+    }
+}
+
+fn are_acts(events: &[TaleEvent]) -> bool
+    ensures { result ≡ true → All HasAct events.now }
+{
+    for told in events {
+        if !is_act(&told.act) {
+            return false;
+        }
+    }
+    true
+}
+
+// Whether events are in the ranges of a script. Those of a run are.
+fn are_events(events: &[TaleEvent]) -> bool
+    ensures { result ≡ true → AreEvents events.now }
+{
+    events.len() <= MAX_EVENTS as usize && are_acts(events)
+}
+
+fn draw_key(keys: &mut DrawnKeys, index: KeyIndex, key: &Key) -> Result<(), AllocError>
+    ensures { OnOk result (keys.new ≡ capturing.with_key (index ∷ key.now.0) keys.old) }
+{
+    keys.draw(index, key)?;
+    Ok(())
+}
+
+fn draw_key_if(
+    keys: &mut DrawnKeys,
+    holds: bool,
+    index: KeyIndex,
+    key: &Key,
+) -> Result<(), AllocError>
+    ensures { OnOk result (keys.new ≡ capturing.key_if holds (index ∷ key.now.0) keys.old) }
+{
+    if !holds {
+        return Ok(());
+    }
+    draw_key(keys, index, key)
+}
+
+// Keeps the key that an event draws, which was answered so.
+fn keep_key(keys: &mut DrawnKeys, event: &Event<'_>, answer: Answer) -> Result<(), AllocError>
+    ensures { OnOk result (keys.new ≡ capturing.keys_with event.now answer keys.old) }
+{
+    match event {
+        Event::Coordinator { key, .. } => draw_key(keys, KeyIndex::first(), key),
+        Event::Rekey { index, key } => draw_key_if(keys, is_drawn(answer), *index, key),
+        _ => Ok(()),
+    }
+}
+
+// Keeps the key that the last event of a run drew, which this is.
+fn keep_drawn(keys: &mut DrawnKeys, run: &Recorder, event: &Event<'_>) -> Result<(), AllocError>
+    ensures { OnOk result ((told : TaleEvent) → numbered run.now.events (length run.now.events) ≡ Some told
+        → keys.new ≡ capturing.keys_with event.now told.answer keys.old) }
+{
+    let Some(told) = run.tale.event(run.tale.events.len()) else {
+        return Ok(());
+    };
+    keep_key(keys, event, told.answer)
+}
+
+// Writes octets, if there was memory for them. Never `BadLine`.
+fn write_octets<K: Sink>(sink: &mut K, made: Result<Vec<u8>, AllocError>) -> Result<(), StopReason>
+    ensures { (t : List ℕ) → IfOk made (λ octets. octets.items ≡ t)
+        → IsWritten (K.state sink.old) (K.state sink.new) t result }
+{
+    match made {
+        Err(_) => Err(StopReason::Memory),
+        Ok(octets) => match write_all(sink, octets.as_slice()) {
+            Ok(()) => Ok(()),
+            Err(_) => Err(StopReason::WriteFault),
+        },
+    }
+}
+
+// Writes octets at a bad line, at which the run stops.
+fn stop_with<K: Sink>(sink: &mut K, made: Result<Vec<u8>, AllocError>) -> Result<(), StopReason>
+    ensures { (t : List ℕ) → IfOk made (λ octets. octets.items ≡ t)
+        → StopsWith (K.state sink.old) (K.state sink.new) t result }
+{
+    match write_octets(sink, made) {
+        Ok(()) => Err(StopReason::BadLine),
+        Err(reason) => Err(reason),
+    }
+}
+
+/// A run, and what of it the tale does not have: the octets that no node sent, and the keys.
+#[derive(Drop)]
+struct Capturer {
+    alloc: Global,
+    wanted: Wanted,
+    run: Recorder,
+    injected: OctetLog,
+    keys: DrawnKeys,
+    // What the last event handed up.
+    space: Buffers,
+}
+
+impl Model for Capturer {
+    ghost use Rattle.std.specs.Coded.{codes};
+    ghost use Rattle.line_world.specs.WorldCodes.{world_code};
+    ghost use Rattle.line_view.specs.Capturing.{Capturing};
+
+    ghost Value = { Capturing };
+
+    ghost coded = { Prim.hlevel (codes, world_code) };
+
+    ghost view = { λ c. record { wanted = c.wanted; run = c.run; injected = c.injected.strings; keys = c.keys } };
+}
+
+impl Capturer {
+    // What a capture shows of the run, with the octets of its flights and those that no node sent.
+    fn recording<'a>(
+        &'a self,
+        octets: &'a [OctetRef<'a>],
+        injected: &'a [OctetRef<'a>],
+    ) -> Recording<'a>
+        ensures run { run_of result ≡ record { events = self.now.run.events; flights = self.now.run.flights; octets = octets.now; injected = injected.now } }
+        ensures totals { result.totals ≡ capturing.totals_of self.now.run.world }
+        ensures euis { result.euis.now ≡ self.now.run.euis }
+    {
+        Recording {
+            totals: totals_of(&self.run.world),
+            euis: self.run.euis.as_slice(),
+            tale: &self.run.tale,
+            octets,
+            injected,
+        }
+    }
+
+    // The capture of the run, with a remark where it is not empty.
+    fn frames(&self, heard: bool, remark: &str) -> Result<Vec<u8>, AllocError>
+        requires { length remark.now ≤ 2000 }
+        ensures { IfOk result (λ octets. octets.items
+            ≡ capturing.output_by (Wanted.Frames heard) self.now remark.now) }
+    {
+        let octets = flown(self.alloc, &self.run.world)?;
+        let injected = strings_of(self.alloc, &self.injected)?;
+        if !are_events(self.run.tale.events.as_slice()) {
+            return Err(AllocError);
+        }
+        let recording = self.recording(octets.as_slice(), injected.as_slice());
+        let file = capture_file(self.alloc, heard, &recording, remark)?;
+        Ok(file)
+    }
+
+    // The addresses of all that sent a frame.
+    fn addresses(&self) -> Result<Vec<u8>, AllocError>
+        ensures { IfOk result (λ octets. octets.items ≡ capturing.output_by Wanted.Addresses self.now []) }
+    {
+        let octets = flown(self.alloc, &self.run.world)?;
+        let injected = strings_of(self.alloc, &self.injected)?;
+        let recording = self.recording(octets.as_slice(), injected.as_slice());
+        let text = addresses_text(self.alloc, &recording)?;
+        Ok(text.into_bytes())
+    }
+
+    fn keys(&self) -> Result<Vec<u8>, AllocError>
+        ensures { IfOk result (λ octets. octets.items ≡ capturing.output_by Wanted.Keys self.now []) }
+    {
+        let text = keys_text(self.alloc, &self.keys)?;
+        Ok(text.into_bytes())
+    }
+
+    // What is written, with a remark where it is not empty.
+    #[tactic(auto, unfolding(crate::specs::Capturing::output_of))]
+    fn output(&self, remark: &str) -> Result<Vec<u8>, AllocError>
+        requires { length remark.now ≤ 2000 }
+        ensures { IfOk result (λ octets. octets.items ≡ capturing.output_of self.now remark.now) }
+    {
+        match self.wanted {
+            Wanted::Frames { heard } => self.frames(heard, remark),
+            Wanted::Keys => self.keys(),
+            Wanted::Addresses => self.addresses(),
+        }
+    }
+
+    // What is written at a bad line.
+    fn bad_output(&self, row: u32, reason: Reason) -> Result<Vec<u8>, AllocError>
+        ensures { IfOk result (λ octets. octets.items ≡ capturing.refused_text self.now row reason) }
+    {
+        let mut remark = String::new(self.alloc);
+        push_bad(&mut remark, self.alloc, BadLine { row, reason })?;
+        self.output(remark.as_str())
+    }
+
+    // Writes what there is, at a bad line.
+    fn refuse<K: Sink>(&self, row: u32, reason: Reason, sink: &mut K) -> Result<(), StopReason>
+        ensures { StopsWith (K.state sink.old) (K.state sink.new) (capturing.refused_text self.now row reason) result }
+    {
+        stop_with(sink, self.bad_output(row, reason))
+    }
+
+    // Takes an event that a line of this number asks for, and keeps what it adds, or answers why the line is bad.
+    fn step(&mut self, row: u32, event: &Event<'_>) -> Result<Option<Reason>, AllocError>
+        requires { IsEvent event.now }
+        ensures { IfOk result (capturing.Stepped row self.old self.new (event_taking self.old.run.world event.now)) }
+    {
+        let refusal = self.run.step(row, event, &mut self.space)?;
+        if refusal.is_some() {
+            return Ok(refusal);
+        }
+        keep_injected(&mut self.injected, event)?;
+        keep_drawn(&mut self.keys, &self.run, event)?;
+        Ok(None)
+    }
+
+    // The turn of a line of this number that asks for an event.
+    fn take_event<K: Sink>(
+        &mut self,
+        row: u32,
+        event: &Event<'_>,
+        sink: &mut K,
+    ) -> Result<(), StopReason>
+        requires { IsEvent event.now }
+        ensures { Turned (K.state sink.old) (K.state sink.new) self.old self.new
+            (capturing.turn_by self.old row (event_taking self.old.run.world event.now)) result }
+    {
+        let Ok(refusal) = self.step(row, event) else {
+            return Err(StopReason::Memory);
+        };
+        let Some(reason) = refusal else {
+            return Ok(());
+        };
+        self.refuse(row, reason, sink)
+    }
+}
+
+/// Takes the lines of a script, and writes at its end what Wireshark reads of the run. A contract sees the run, what is kept beside it, and what
+/// is wanted.
+#[derive(Drop)]
+pub struct Capture {
+    capturer: Capturer,
+    // Where the octets are that a line holds in hexadecimal.
+    octets: [u8; LINE_OCTETS],
+}
+
+impl Model for Capture {
+    ghost use Rattle.std.specs.Coded.{codes};
+    ghost use Rattle.line_world.specs.WorldCodes.{world_code};
+    ghost use Rattle.line_view.specs.Capturing.{Capturing};
+
+    ghost Value = { Capturing };
+
+    ghost coded = { Prim.hlevel (codes, world_code) };
+
+    ghost view = { λ c. c.capturer };
+}
+
+impl Capture {
+    /// No line so far.
+    pub fn new(alloc: Global, wanted: Wanted) -> Capture
+        ensures { result ≡ capturing.nothing_captured wanted }
+    {
+        Capture {
+            capturer: Capturer {
+                alloc,
+                wanted,
+                run: Recorder::new(alloc),
+                injected: OctetLog::new(alloc),
+                keys: DrawnKeys::new(alloc),
+                space: Buffers::new(),
+            },
+            octets: [0; LINE_OCTETS],
+        }
+    }
+
+    /// Whether the frames are written, and an event was forged.
+    pub fn shows_forged(&self) -> bool
+        ensures { result ≡ capturing.shows_forged self.now }
+    {
+        match self.capturer.wanted {
+            Wanted::Frames { .. } => self.capturer.run.world.counts().forged > 0,
+            Wanted::Keys => false,
+            Wanted::Addresses => false,
+        }
+    }
+}
+
+impl LineMachine for Capture {
+    ghost turn = { capturing.turn_of };
+
+    ghost end_text = { capturing.end_of };
+
+    ghost stops = { capturing.stops_at_too_much };
+
+    #[tactic(auto, unfolding(script_runs::specs::Takings::taking), using(script_lines::proofs::Turned::stopped))]
+    fn take<K: Sink>(
+        &mut self,
+        number: u32,
+        kind: LineKind,
+        line: &[u8],
+        sink: &mut K,
+    ) -> Result<(), StopReason> {
+        match kind {
+            LineKind::TooMuch => self.capturer.refuse(number, Reason::Input, sink),
+            LineKind::Long => self.capturer.refuse(number, Reason::Long, sink),
+            LineKind::Text => match read_line(line, &mut self.octets) {
+                Reading::Quiet => Ok(()),
+                Reading::NoForm => self.capturer.refuse(number, Reason::Form, sink),
+                Reading::Reads(event) => self.capturer.take_event(number, &event, sink),
+            },
+        }
+    }
+
+    fn finish<K: Sink>(&self, sink: &mut K) -> Result<(), StopReason> {
+        write_octets(sink, self.capturer.output(""))
+    }
+}
