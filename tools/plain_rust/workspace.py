@@ -12,6 +12,7 @@ LIBRARIES = {
     "memchr": 'memchr = { version = "2", default-features = false }',
     "itoa": 'itoa = { version = "1", default-features = false }',
     "hex": 'hex = { package = "rattle_hex", path = "../../shims/hex" }',
+    "strsim": 'strsim = { package = "rattle_strsim", path = "../../shims/strsim" }',
     "circular_buffer": 'circular_buffer = { package = "rattle_ring", path = "../../shims/circular_buffer" }',
 }
 # What the example of a firmware is made from.
@@ -36,14 +37,15 @@ codegen-units = 1
 
 
 def read_crates(repository):
-    """What each crate of the repository stands on, by crates.txt."""
+    """What each crate of the repository stands on, by crates.txt. A static library has no place in Rust, so it is none of them."""
     stands_on = {}
     with open(os.path.join(repository, "crates.txt"), encoding="utf-8") as lines:
         for line in lines:
             line = line.split("#")[0].strip()
             if line:
                 name, _, rest = line.partition(":")
-                stands_on[name.split()[0]] = rest.split()
+                if name.split()[1:] != ["staticlib"]:
+                    stands_on[name.strip()] = rest.split()
     return stands_on
 
 

@@ -8,6 +8,7 @@ extern crate std as host;
 pub use core::*;
 
 pub mod alloc;
+pub mod collections;
 #[cfg(feature = "std")]
 mod hosted;
 mod macros;

@@ -30,6 +30,22 @@ impl<const N: usize> Simd<u8, N> {
         Simd(at.map(|it| if it < N { self.0[it] } else { other.0[it - N] }))
     }
 
+    /// The octets at these places. A place from N on stops.
+    #[inline(always)]
+    pub fn swizzle<const M: usize>(self, at: [usize; M]) -> Simd<u8, M> {
+        Simd(at.map(|it| self.0[it]))
+    }
+
+    /// Where `self` is at least `other`.
+    #[inline(always)]
+    pub fn simd_ge(self, other: Simd<u8, N>) -> Mask<N> {
+        let mut at_least = [0; N];
+        for ((to, a), b) in at_least.iter_mut().zip(self.0).zip(other.0) {
+            *to = u8::from(a >= b);
+        }
+        Mask(at_least)
+    }
+
     /// Where the two differ.
     #[inline(always)]
     pub fn simd_ne(self, other: Simd<u8, N>) -> Mask<N> {
@@ -58,7 +74,7 @@ impl<const N: usize> Mask<N> {
 }
 
 macro_rules! lanes {
-    ($name:ident, $call:ident, $op:tt) => {
+    ($name:ident, $call:ident, $by:expr) => {
         impl<const N: usize> core::ops::$name for Simd<u8, N> {
             type Output = Simd<u8, N>;
 
@@ -66,7 +82,7 @@ macro_rules! lanes {
             fn $call(self, other: Simd<u8, N>) -> Simd<u8, N> {
                 let mut all = self.0;
                 for (to, octet) in all.iter_mut().zip(other.0) {
-                    *to = *to $op octet;
+                    *to = $by(*to, octet);
                 }
                 Simd(all)
             }
@@ -74,9 +90,13 @@ macro_rules! lanes {
     };
 }
 
-lanes!(BitXor, bitxor, ^);
-lanes!(BitAnd, bitand, &);
-lanes!(Shr, shr, >>);
+// A sum is cut to an octet, and a shift by 8 or more is one by its lowest three bits, as `std::simd` has it without checks.
+lanes!(BitXor, bitxor, |a: u8, b: u8| a ^ b);
+lanes!(BitAnd, bitand, |a: u8, b: u8| a & b);
+lanes!(BitOr, bitor, |a: u8, b: u8| a | b);
+lanes!(Add, add, u8::wrapping_add);
+lanes!(Shl, shl, |a: u8, b: u8| a.wrapping_shl(u32::from(b)));
+lanes!(Shr, shr, |a: u8, b: u8| a.wrapping_shr(u32::from(b)));
 
 impl Simd<u8, 16> {
     /// The octets of `self` at the places `at`; 0 at a place above 15.
@@ -187,6 +207,25 @@ mod tests {
             let backward = Simd(a).shuffle(Simd(b), core::array::from_fn::<_, 32, _>(|i| 31 - i));
             let wanted: [u8; 32] = core::array::from_fn(|i| if i < 16 { b[15 - i] } else { a[31 - i] });
             assert_eq!(backward.to_array(), wanted);
+        }
+    }
+
+    #[test]
+    fn a_swizzle_takes_the_octets_in_any_order() {
+        for seed in 0..512 {
+            let table = drawn(seed);
+            let wanted: [u8; 8] = core::array::from_fn(|i| table[15 - 2 * i]);
+            assert_eq!(Simd(table).swizzle(core::array::from_fn::<_, 8, _>(|i| 15 - 2 * i)).to_array(), wanted);
+        }
+    }
+
+    #[test]
+    fn a_bitmask_has_a_bit_for_each_octet_that_is_at_least_the_other() {
+        for seed in 0..512 {
+            let (a, b) = (drawn(seed), drawn(seed + 512));
+            let wanted = (0..16).filter(|i| a[*i] >= b[*i]).map(|i| 1 << i).sum::<u64>();
+            assert_eq!(Simd(a).simd_ge(Simd(b)).to_bitmask(), wanted);
+            assert_eq!(Simd(a).simd_ge(Simd(a)).to_bitmask(), 0xffff);
         }
     }
 
