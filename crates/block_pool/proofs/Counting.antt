@@ -9,7 +9,7 @@ use Rattle.block_pool.specs.Table.{slot_at, blocks_in, state_of, IsPool}
 use Rattle.block_pool.specs.declared.pool.Slot.{Slot}
 use Rattle.block_pool.specs.declared.pool.Pool.TheInside.{Inside}
 use Rattle.block_pool.proofs.Callers.{is_chain_if_long}
-use Rattle.block_pool.proofs.Contents.{get-chains, contents_none, contents_some, length-octets, found}
+use Rattle.block_pool.proofs.Contents.{get-chains, contents_none, contents_some, length-octets, found, past}
 
 -- the octets of a chain are those of its slot
 octets_long : (p : Inside) (k : ℕ) → length (chain_octets (state_of p) k) ≡ (slot_at p.table.items k).octets
@@ -30,19 +30,6 @@ sum_range g (s ∷ t) a h =
     sum_by-cons g a (range_with_len (a + 1) (length t)) ∙ ap (λ n. n + sum_by g (range_with_len (a + 1) (length t))) first ∙ ap (λ n. blocks_in s + n) more
     ∙ sym (sum_by-cons blocks_in s t)
 
-pub has_blocks : (p : Inside) → IsPool p → HasBlocks (state_of p) (length p.table.items)
-has_blocks p pool =
-    let chains : chain_blocks (state_of p) (length p.table.items) ≡ sum_by blocks_in p.table.items
-    = sum_range (λ c. div_ceil (length (chain_octets (state_of p) c)) 64) p.table.items 0
-    (λ k lt. let e : 0 + k ≡ k = omega arith in ap (λ c. div_ceil (length (chain_octets (state_of p) c)) 64) e ∙ ap (λ n. div_ceil n 64) (octets_long p k)) in
-    record {
-      total = ap (λ n. p.free.linked + p.free.fresh + n) chains ∙ pool.total;
-      numbers = λ c is. (found p (state_of p) c c refl refl is).within;
-    }
-
-pub has_so_many : (p : Inside) (blocks : ℕ) → IsPool p → length p.table.items ≡ blocks → HasBlocks (state_of p) blocks
-has_so_many p blocks pool long = subst (HasBlocks (state_of p)) long (has_blocks p pool)
-
 sum_two : (g : ℕ → ℕ) (n d a : ℕ) → sum_by g (range_with_len a (n + d)) ≡ sum_by g (range_with_len a n) + sum_by g (range_with_len (a + n) d)
 sum_two g zero d a =
     let start : a ≡ a + 0 = omega arith in let all : 0 + d ≡ d = omega arith in
@@ -58,6 +45,25 @@ sum_of_none : (g : ℕ → ℕ) (d a : ℕ) → ((k : ℕ) → a ≤ k → g k �
 sum_of_none g zero a none = refl
 sum_of_none g (suc d) a none =
     omega (arith, sum_by-cons g a (range_with_len (a + 1) d), none a (omega arith), sum_of_none g d (a + 1) (λ k le. none k (omega arith)))
+
+pub has_blocks : (p : Inside) → IsPool p → HasBlocks (state_of p) p.count
+has_blocks p pool =
+    let g : ℕ → ℕ = λ c. div_ceil (length (chain_octets (state_of p) c)) 64 in
+    let t : List Slot = p.table.items in let more : ℕ = p.count - length t in
+    let all : length t + more ≡ p.count = let le = pool.within in omega arith in
+    let slots : chain_blocks (state_of p) (length t) ≡ sum_by blocks_in t
+    = sum_range g t 0 (λ k lt. let e : 0 + k ≡ k = omega arith in ap g e ∙ ap (λ n. div_ceil n 64) (octets_long p k)) in
+    let rest : sum_by g (range_with_len (0 + length t) more) ≡ 0
+    = sum_of_none g more (0 + length t) (λ k le. ap (λ n. div_ceil n 64) (octets_long p k ∙ past t k (omega arith))) in
+    let chains : chain_blocks (state_of p) p.count ≡ sum_by blocks_in t
+    = ap (chain_blocks (state_of p)) (sym all) ∙ sum_two g (length t) more 0 ∙ omega (arith, slots, rest) in
+    record {
+      total = ap (λ n. p.free.linked + p.free.fresh + n) chains ∙ pool.total;
+      numbers = λ c is. let lt = (found p (state_of p) c c refl refl is).within in let le = pool.within in omega arith;
+    }
+
+pub has_so_many : (p : Inside) (blocks : ℕ) → IsPool p → p.count ≡ blocks → HasBlocks (state_of p) blocks
+has_so_many p blocks pool same = subst (HasBlocks (state_of p)) same (has_blocks p pool)
 
 no_blocks : (p : PoolState) (n c : ℕ) → ((d : ℕ) → IsChain p d → d < n) → n ≤ c → div_ceil (length (chain_octets p c)) 64 ≡ 0
 no_blocks p n c numbers le = elim (cases_lt 0 (length (chain_octets p c))) [
@@ -79,8 +85,8 @@ at_most p n m has other = elim (cases_lt n m) [
 one_count : (p : PoolState) (n m : ℕ) → HasBlocks p n → HasBlocks p m → n ≡ m
 one_count p n m has other = omega (arith, at_most p n m has other, at_most p m n other has)
 
-pub same_blocks : (p q : Inside) (old : PoolState) → state_of p ≡ old → IsPool p → IsPool q → length q.table.items ≡ length p.table.items
+pub same_blocks : (p q : Inside) (old : PoolState) → state_of p ≡ old → IsPool p → IsPool q → q.count ≡ p.count
     → SameBlocks old (state_of q)
-same_blocks p q old e pool pool' long blocks has =
-    let count : length p.table.items ≡ blocks = one_count (state_of p) _ _ (has_blocks p pool) (subst (λ (st : PoolState). HasBlocks st blocks) (sym e) has) in
-    subst (HasBlocks (state_of q)) (long ∙ count) (has_blocks q pool')
+same_blocks p q old e pool pool' same blocks has =
+    let count : p.count ≡ blocks = one_count (state_of p) _ _ (has_blocks p pool) (subst (λ (st : PoolState). HasBlocks st blocks) (sym e) has) in
+    subst (HasBlocks (state_of q)) (same ∙ count) (has_blocks q pool')

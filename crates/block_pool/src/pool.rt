@@ -7,7 +7,7 @@ ghost use Rattle.block_pool.specs.Pool.{IsChain, HasBlocks, HasChain, OthersStay
 use crate::blocks::BLOCK;
 use crate::cells::Place;
 use crate::free_blocks::{FreeBlocks, link_fresh};
-use crate::numbers::{slot_of, unused_number};
+use crate::numbers::{set_slot, slot_of, unused_number};
 use crate::region::{Block, Blocks};
 use std::alloc::{AllocError, Global};
 use std::marker::Model;
@@ -46,6 +46,8 @@ pub struct Slot {
 #[derive(Drop)]
 pub struct Pool {
     blocks: Blocks,
+    count: u16,
+    // A slot is written first when a chain has its number. The memory for one slot a block was reserved.
     table: Vec<Slot>,
     free: FreeBlocks,
 }
@@ -72,13 +74,10 @@ impl Pool {
         ensures blocks { IfOk result (λ p. HasBlocks p blocks) }
     {
         let region = Blocks::new(alloc, blocks)?;
-        let unused = Slot {
-            first: Place::none(),
-            octets: 0,
-        };
-        let table = Vec::from_elem(alloc, unused, blocks as usize)?;
+        let table = Vec::with_capacity(alloc, blocks as usize)?;
         Ok(Pool {
             blocks: region,
+            count: blocks,
             table,
             free: FreeBlocks {
                 first: Place::none(),
@@ -99,7 +98,7 @@ impl Pool {
     pub fn blocks(&self) -> u16
         ensures { HasBlocks self.now result }
     {
-        self.table.len() as u16
+        self.count
     }
 
     /// A new chain of so many zeros, 1 to 1,280.
@@ -129,7 +128,7 @@ impl Pool {
             linked: free.linked - needed,
             fresh: free.fresh,
         };
-        self.table[number as usize] = Slot { first, octets };
+        set_slot(&mut self.table, number, Slot { first, octets });
         Ok(Chain { number })
     }
 
