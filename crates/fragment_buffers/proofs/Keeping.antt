@@ -1,11 +1,11 @@
 -- What a pool owes to the entries, over the calls that change both.
-use Rattle.std.proofs.Common.{◌≡◌, ℕ, zero, suc, ◌+◌, ◌<◌, ◌⊎◌, inl, inr, List, [], ◌∷◌, ◌++◌, length, map, get_or, set, take, drop, nat_lt, if◌then◌else◌}
+use Rattle.std.proofs.Common.{◌≡◌, ℕ, suc, ◌+◌, ◌<◌, ◌≤◌, ◌⊎◌, inl, inr, List, [], ◌∷◌, ◌++◌, length, map, get_or, set, take, drop, nat_lt, if◌then◌else◌}
 use Rattle.std.proofs.Common.{refl, sym, ap, subst, ◌∙◌, arith, length-append, length-set}
 use Rattle.std.proofs.lemmas.Bool.{cases_lt, cases_eq}
 use Rattle.std.proofs.lemmas.List.{get_or_append_left, get_or_push, get_or-set_same, get_or-set_other, map-append, length-map, get_or-map, same_lists}
 use Rattle.std.proofs.lemmas.List.Sums.{sum_by_push, sum_by-remove, sum_by-set, sum_by-cons}
 use Rattle.std.proofs.lemmas.List.Edits.{get_or-remove_below, get_or-remove_above, length-remove}
-use Rattle.std.proofs.lemmas.List.Elements.{All-from_get_or, All-set, All-append, All-take, All-drop}
+use Rattle.std.proofs.lemmas.List.Elements.{All-from_get_or, All-set, All-push, All-append, All-take, All-drop}
 use Rattle.std.specs.List.{remove, All, take-map, drop-map}
 use Rattle.block_pool.specs.Pool.{PoolState, IsChain, chain_octets}
 use Rattle.block_pool.proofs.Callers.{is_chain_if_long}
@@ -13,7 +13,8 @@ use Rattle.fragment_buffers.specs.Reassembly.{Reassembly}
 use Rattle.fragment_buffers.specs.Taking.{blocks, blocks_held}
 use Rattle.fragment_buffers.specs.Entries.{Entry, no_entry, entry_at, blocks_used, piece_in, reassembly_in, reassemblies_in, Keeps, Moves, IsBounded}
 use Rattle.fragment_buffers.proofs.Octets.{map_same}
-use Rattle.fragment_buffers.proofs.Writing.{Stays}
+pub use Rattle.fragment_buffers.specs.Steps.{Begins, Changes}
+use Rattle.fragment_buffers.specs.Steps.{Stays}
 
 -- each entry is of a datagram with octets
 abbrev pub AreSome : List Entry → Type 0
@@ -53,13 +54,6 @@ entry_last es e i last = ap (entry_at (es ++ e ∷ [])) last ∙ get_or_push es 
 
 before_or_last : (es : List Entry) (e : Entry) (i : ℕ) → i < length (es ++ e ∷ []) → (i < length es) ⊎ (i ≡ length es)
 before_or_last es e i lt = elim (cases_lt i (length es)) [ inl less ↦ inl less | inr more ↦ inr (omega (arith, length-append es (e ∷ []))) ]
-
--- an entry e begins: p is the pool before, q after it
-pub record Begins (p q : PoolState) (e : Entry) : Type 0 where
-  pub new : IsChain p e.chain → ⊥
-  pub long : length (chain_octets q e.chain) ≡ e.size
-  pub free : q.free + blocks e.size ≡ p.free
-  pub others : (c : ℕ) → IsChain p c → Stays p q c
 
 pub gathered_push : (p q : PoolState) (es : List Entry) (e : Entry) → Keeps p es → AreSome es → Begins p q e
     → reassemblies_in q (es ++ e ∷ []) ≡ reassemblies_in p es ++ reassembly_in q e ∷ []
@@ -111,15 +105,6 @@ moves_push p q es e b = record {
 }
 
 -- # An entry changed
-
--- the entry of a chain becomes e
-pub record Changes (p q : PoolState) (es : List Entry) (i : ℕ) (e : Entry) : Type 0 where
-  pub there : i < length es
-  pub chain : e.chain ≡ (entry_at es i).chain
-  pub size_is : e.size ≡ (entry_at es i).size
-  pub long : length (chain_octets q e.chain) ≡ e.size
-  pub free : q.free ≡ p.free
-  pub others : (c : ℕ) → (c ≡ (entry_at es i).chain → ⊥) → IsChain p c → Stays p q c
 
 entry_set : (es : List Entry) (i : ℕ) (e : Entry) (j : ℕ) → i < length es
     → ((j ≡ i) × (entry_at (set es i e) j ≡ e)) ⊎ ((j ≡ i → ⊥) × (entry_at (set es i e) j ≡ entry_at es j))
@@ -278,6 +263,13 @@ bounded_remove es i lt b = record {
       (All-drop (λ (e : Entry). 0 < e.size) (suc i) es b.some);
 }
 
+pub bounded_push : (es : List Entry) (e : Entry) → length es < 8 → blocks_used es + blocks e.size ≤ 80 → 0 < e.size → IsBounded es → IsBounded (es ++ e ∷ [])
+bounded_push es e few room some b = record {
+  count = omega (arith, length-append es (e ∷ []), few);
+  blocks = omega (arith, sum_by_push (λ (e : Entry). blocks e.size) es e, room);
+  some = All-push (λ (e : Entry). 0 < e.size) es e b.some some;
+}
+
 pub bounded_set : (es : List Entry) (i : ℕ) (e : Entry) → i < length es → e.size ≡ (entry_at es i).size → 0 < e.size → IsBounded es → IsBounded (set es i e)
 bounded_set es i e lt size some b = record {
   count = omega (arith, length-set es i e, b.count);
@@ -293,11 +285,3 @@ bounded_after es fs i is lt b = subst IsBounded (sym is) (bounded_remove es i lt
 
 pub used_after : (es fs : List Entry) (i : ℕ) → fs ≡ remove es i → i < length es → blocks_used fs + blocks (entry_at es i).size ≡ blocks_used es
 used_after es fs i is lt = ap (λ gs. blocks_used gs + blocks (entry_at es i).size) is ∙ sum_by-remove (λ (e : Entry). blocks e.size) es i no_entry lt
-
--- an entry that was read at its place
-pub read_entry : (es fs : List Entry) (i : ℕ) (e : Entry) → e ≡ get_or es i e → es ≡ fs → i < length fs → e ≡ entry_at fs i
-read_entry es fs i e is same lt = is ∙ ap (λ gs. get_or gs i e) same ∙ get_or_any fs i e no_entry lt where
-  get_or_any : (xs : List Entry) (i : ℕ) (d d' : Entry) → i < length xs → get_or xs i d ≡ get_or xs i d'
-  get_or_any [] i d d' lt = absurd (omega arith)
-  get_or_any (x ∷ xs) zero d d' lt = refl
-  get_or_any (x ∷ xs) (suc i) d d' lt = get_or_any xs i d d' (omega arith)

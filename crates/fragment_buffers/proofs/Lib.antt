@@ -3,8 +3,11 @@ pub mod Cuts
 pub mod Expiring
 pub mod FirstEnds
 pub mod Octets
+pub mod OneList
 pub mod PiecesHeld
+pub mod Growing
 pub mod Keeping
+pub mod Names
 pub mod Naming
 pub mod Places
 pub mod RoundTrip

@@ -7,12 +7,14 @@ use Rattle.std.proofs.lemmas.List.{length-map, get_or-map}
 use Rattle.std.proofs.lemmas.List.Elements.{All-head, All-tail, All-push}
 use Rattle.std.proofs.lemmas.List.Quantifiers.{all_pairs_push}
 use Rattle.std.proofs.lemmas.List.Folds.{Any-from_list_any}
+use Rattle.std.proofs.lemmas.List.Sums.{sum_by-cons}
 use Rattle.std.proofs.lemmas.Map.Steps.{length-le_from_distinct_below}
 use Rattle.std.proofs.lemmas.Map.Made.{IsDistinct-from_AllPairs}
-use Rattle.std.specs.List.{list_any, All, AllPairs}
+use Rattle.std.specs.List.{list_any, All, AllPairs, sum_by}
 use Rattle.mesh_header.specs.Pieces.{Placed, IsPiece}
 use Rattle.fragment_buffers.specs.declared.piece_span.PieceSpan.{PieceSpan}
-use Rattle.fragment_buffers.specs.Entries.{Entry, IsEntry, IsPlace, IsCovered, place_of, meet, covers}
+use Rattle.fragment_buffers.specs.Taking.{blocks}
+use Rattle.fragment_buffers.specs.Entries.{Entry, IsEntry, IsPlace, AreCovering, place_of, meet, covers, blocks_used}
 
 pub piece_place : (piece : Placed) → IsPiece piece → IsPlace piece.size (place_of piece)
 piece_place piece rule = record { some = rule.some; within = rule.within; eighths = rule.eighths }
@@ -44,9 +46,9 @@ pub apart_push : (ps : List PieceSpan) (p : PieceSpan) → AllPairs (λ p q. mee
     → AllPairs (λ p q. meet p q ≡ false) (ps ++ p ∷ [])
 apart_push ps p apart none = all_pairs_push (λ p q. meet p q ≡ false) ps p apart (λ k d lt. meet_flips p (get_or ps k d) (none_passes (meet p) ps none k d lt))
 
--- all places of pieces begin at units of their own
-at_most : (size : ℕ) (ps : List PieceSpan) → size ≤ 1280 → All (IsPlace size) ps → AllPairs (λ p q. meet p q ≡ false) ps → length ps ≤ 160
-at_most size ps le places apart =
+-- all places of pieces begin at units of their own, of which a datagram has at most n
+at_most : (size n : ℕ) (ps : List PieceSpan) → size ≤ n * 8 → All (IsPlace size) ps → AllPairs (λ p q. meet p q ≡ false) ps → length ps ≤ n
+at_most size n ps le places apart =
     let offsets : List ℕ = map (λ p. p.offset) ps in
     let long : length offsets ≡ length ps = length-map ps (λ p. p.offset) in
     let differ : AllPairs (λ x y. x ≢ y) offsets = λ i j d lt lj.
@@ -56,19 +58,45 @@ at_most size ps le places apart =
     (apart i j _ lt (omega (arith, long))) in
     λ e. ne (sym (get_or-map (λ p. p.offset) ps i (record { offset = d; length = 0 }) d (omega (arith, long))) ∙ e
     ∙ get_or-map (λ p. p.offset) ps j (record { offset = d; length = 0 }) d (omega (arith, long))) in
-    let below : (q : ℕ) → list_any (eqb q) offsets ≡ true → q < 160 = λ q found.
+    let below : (q : ℕ) → list_any (eqb q) offsets ≡ true → q < n = λ q found.
     let any = Any-from_list_any (eqb q) offsets found in
     let p : PieceSpan = get_or ps any.0 (record { offset = any.1; length = 0 }) in
     let is : p.offset ≡ get_or offsets any.0 any.1 = sym
     (get_or-map (λ p. p.offset) ps any.0 (record { offset = any.1; length = 0 }) any.1 (omega (arith, long, any.2))) in
     let place : IsPlace size p = places any.0 _ (omega (arith, long, any.2)) in
-    omega (arith, is, any.3, eqb-true q any.1 any.4, place.some, place.within) in
-    omega (arith, long, length-le_from_distinct_below offsets 160 (IsDistinct-from_AllPairs Decides-eqb offsets differ) below)
+    omega (arith, le, is, any.3, eqb-true q any.1 any.4, place.some, place.within) in
+    omega (arith, long, length-le_from_distinct_below offsets n (IsDistinct-from_AllPairs Decides-eqb offsets differ) below)
 
-pub room_for_one : (size : ℕ) (ps : List PieceSpan) (p : PieceSpan) → size ≤ 1280 → All (IsPlace size) ps → AllPairs (λ p q. meet p q ≡ false) ps
-    → IsPlace size p → list_any (meet p) ps ≡ false → length ps < 160
-room_for_one size ps p le places apart place none =
-    omega (arith, length-append ps (p ∷ []), at_most size (ps ++ p ∷ []) le (All-push (IsPlace size) ps p places place) (apart_push ps p apart none))
+pub room_for_one : (size n : ℕ) (ps : List PieceSpan) (p : PieceSpan) → size ≤ n * 8 → All (IsPlace size) ps → AllPairs (λ p q. meet p q ≡ false) ps
+    → IsPlace size p → list_any (meet p) ps ≡ false → length ps < n
+room_for_one size n ps p le places apart place none =
+    omega (arith, length-append ps (p ∷ []), at_most size n (ps ++ p ∷ []) le (All-push (IsPlace size) ps p places place) (apart_push ps p apart none))
+
+-- the pieces of a datagram are no more than the units of its blocks
+few_pieces : (e : Entry) → IsEntry e → length e.places ≤ 8 * blocks e.size
+few_pieces e rule = at_most e.size (8 * blocks e.size) e.places (omega arith) rule.places rule.apart
+
+pub one_more : (e : Entry) (p : PieceSpan) → IsEntry e → IsPlace e.size p → list_any (meet p) e.places ≡ false → length e.places < 8 * blocks e.size
+one_more e p rule place none = room_for_one e.size (8 * blocks e.size) e.places p (omega arith) rule.places rule.apart place none
+
+-- those of all entries, where one has room for one more
+all_few : (es : List Entry) → All IsEntry es → sum_by (λ (e : Entry). length e.places) es ≤ 8 * blocks_used es
+all_few [] rules = omega arith
+all_few (e ∷ es) rules =
+    let here = few_pieces e (All-head IsEntry e es rules) in
+    let rest = all_few es (All-tail IsEntry e es rules) in
+    omega (arith, here, rest, sum_by-cons (λ (e : Entry). length e.places) e es, sum_by-cons (λ (e : Entry). blocks e.size) e es)
+
+pub room_in_all : (es : List Entry) (i : ℕ) (d : Entry) → All IsEntry es → i < length es → length (get_or es i d).places < 8 * blocks (get_or es i d).size
+    → sum_by (λ (e : Entry). length e.places) es < 8 * blocks_used es
+room_in_all [] i d rules lt more = absurd (omega arith)
+room_in_all (e ∷ es) zero d rules lt more =
+    let rest = all_few es (All-tail IsEntry e es rules) in
+    omega (arith, more, rest, sum_by-cons (λ (e : Entry). length e.places) e es, sum_by-cons (λ (e : Entry). blocks e.size) e es)
+room_in_all (e ∷ es) (suc i) d rules lt more =
+    let here = few_pieces e (All-head IsEntry e es rules) in
+    let rest = room_in_all es i d (All-tail IsEntry e es rules) (omega arith) more in
+    omega (arith, here, rest, sum_by-cons (λ (e : Entry). length e.places) e es, sum_by-cons (λ (e : Entry). blocks e.size) e es)
 
 -- # Units of 8 octets
 
@@ -94,7 +122,8 @@ any_weaker t u (x ∷ xs) all h = elim (or_cases (t x) (list_any t xs) h) [
 ]
 
 -- where each unit begins in a piece, each position lies in one
-pub covered_by_units : (e : Entry) (n : ℕ) → IsEntry e → e.size ≤ n * 8 → ((k : ℕ) → k < n → list_any (covers (k * 8)) e.places ≡ true) → IsCovered e
-covered_by_units e n rule long units = λ i lt.
-    any_weaker (covers (i / 8 * 8)) (covers i) e.places (λ k d lk. covers_rest e.size i (get_or e.places k d) (rule.places k d lk) lt)
+pub covered_by_units : (size n : ℕ) (ps : List PieceSpan) → All (IsPlace size) ps → size ≤ n * 8
+    → ((k : ℕ) → k < n → list_any (covers (k * 8)) ps ≡ true) → AreCovering size ps
+covered_by_units size n ps places long units = λ i lt.
+    any_weaker (covers (i / 8 * 8)) (covers i) ps (λ k d lk. covers_rest size i (get_or ps k d) (places k d lk) lt)
     (units (i / 8) (omega arith))

@@ -1,5 +1,5 @@
 -- What writing a piece into a chain makes of an entry.
-use Rattle.std.proofs.Common.{◌≡◌, ℕ, ◌*◌, ◌<◌, true, false, List, [], ◌∷◌, ◌++◌, length, map, is_some, refl, sym, ap, subst, ◌∙◌, arith}
+use Rattle.std.proofs.Common.{◌≡◌, ℕ, ◌*◌, true, false, List, [], ◌∷◌, ◌++◌, length, map, is_some, refl, sym, ap, subst, ◌∙◌, arith}
 use Rattle.std.proofs.lemmas.List.Elements.{All-nil, All-push}
 use Rattle.std.proofs.lemmas.Bool.{cond-true, cond-false}
 use Rattle.std.specs.List.{list_any, All}
@@ -13,7 +13,8 @@ use Rattle.fragment_buffers.specs.declared.piece_span.PieceSpan.{PieceSpan}
 use Rattle.fragment_buffers.specs.Reassembly.{PlacedPiece, Reassembly, begun, placed, overlaps}
 use Rattle.fragment_buffers.specs.Taking.{grown}
 use Rattle.fragment_buffers.specs.Entries.{Entry, IsEntry, IsPlace, place_of, meet, piece_in, reassembly_in}
-use Rattle.fragment_buffers.proofs.Places.{piece_place, apart_push, room_for_one}
+pub use Rattle.fragment_buffers.specs.Steps.{Stays}
+use Rattle.fragment_buffers.proofs.Places.{piece_place, apart_push}
 use Rattle.fragment_buffers.proofs.PiecesHeld.{overlaps_in, written_in}
 
 -- a piece is written into the chain of e, which is then f: p is the pool before, q after it
@@ -29,18 +30,16 @@ pub record Fits (p : PoolState) (e : Entry) (piece : Placed) : Type 0 where
   pub entry : IsEntry e
   pub none : list_any (meet (place_of piece)) e.places ≡ false
 
-pub room_for_write : (e : Entry) (piece : Placed) → IsEntry e → IsPiece piece → e.size ≡ piece.size → list_any (meet (place_of piece)) e.places ≡ false
-    → length e.places < 160
-room_for_write e piece rule is size none = room_for_one e.size e.places (place_of piece) rule.size rule.places rule.apart
-    (subst (λ n. IsPlace n (place_of piece)) (sym size) (piece_place piece is)) none
-
-pub entry_written : (e : Entry) (piece : Placed) → IsEntry e → IsPiece piece → e.size ≡ piece.size → list_any (meet (place_of piece)) e.places ≡ false
-    → IsEntry (record e { places = e.places ++ place_of piece ∷ [] })
-entry_written e piece rule is size none = record {
+pub entry_written : (e : Entry) (p : PieceSpan) → IsEntry e → IsPlace e.size p → list_any (meet p) e.places ≡ false
+    → IsEntry (record e { places = e.places ++ p ∷ [] })
+entry_written e p rule place none = record {
   size = rule.size;
-  places = All-push (IsPlace e.size) e.places (place_of piece) rule.places (subst (λ n. IsPlace n (place_of piece)) (sym size) (piece_place piece is));
-  apart = apart_push e.places (place_of piece) rule.apart none;
+  places = All-push (IsPlace e.size) e.places p rule.places place;
+  apart = apart_push e.places p rule.apart none;
 }
+
+pub place_fits : (e : Entry) (piece : Placed) → IsPiece piece → e.size ≡ piece.size → IsPlace e.size (place_of piece)
+place_fits e piece is size = subst (λ n. IsPlace n (place_of piece)) (sym size) (piece_place piece is)
 
 -- an entry with these pieces
 abbrev with_pieces : Entry → List PlacedPiece → Reassembly
@@ -62,10 +61,6 @@ long_written p q e f piece fits w =
     ∙ length-overwrite (chain_octets p e.chain) (piece.offset * 8) piece.octets (omega (arith, fits.rule.within, fits.long, fits.size_is))
     ∙ fits.long ∙ sym (ap (λ g. g.size) w.places)
 
--- a chain and its octets stay
-abbrev pub Stays : PoolState → PoolState → ℕ → Type 0
-Stays p q c = IsChain q c × (chain_octets q c ≡ chain_octets p c)
-
 pub stays-insert : (p q : PoolState) (c d : ℕ) (os : List ℕ) → q.chains ≡ insert p.chains c os → (d ≡ c → ⊥) → IsChain p d → Stays p q d
 stays-insert p q c d os e ne is = (ap is_some (ap (λ m. get m d) e ∙ get-insert_other p.chains c d os ne) ∙ is, chain_octets-insert_other p q c d os e ne)
 
@@ -79,7 +74,7 @@ pub data Before (e e' : Entry) (piece : Placed) (note now : ℕ) : Type 0 where
   anew : list_any (meet (place_of piece)) e.places ≡ true → e' ≡ record e { note = note; since = now; places = [] } → Before e e' piece note now
   same : list_any (meet (place_of piece)) e.places ≡ false → e' ≡ e → Before e e' piece note now
 
-empty_entry : (e : Entry) (note now : ℕ) → IsEntry e → IsEntry (record e { note = note; since = now; places = [] })
+pub empty_entry : (e : Entry) (note now : ℕ) → IsEntry e → IsEntry (record e { note = note; since = now; places = [] })
 empty_entry e note now rule = record { size = rule.size; places = All-nil (IsPlace e.size); apart = λ i j d li lj. absurd (omega arith) }
 
 pub before_fits : (p : PoolState) (e e' : Entry) (piece : Placed) (note now : ℕ) → Before e e' piece note now → IsEntry e → IsPiece piece → e.size ≡ piece.size
@@ -140,15 +135,3 @@ pub gathered_begun : (p q : PoolState) (f : Entry) (piece : Placed) (origin note
     → Writes p q (entry_begun origin piece note now chain []) f piece → reassembly_in q f ≡ begun origin piece note now
 gathered_begun p q f piece origin note now chain rule long w =
     gathered_written p q (entry_begun origin piece note now chain []) f piece (begun_fits p piece origin note now chain rule long) w
-
-abbrev entry_of_parts : (origin note now chain size tag : ℕ) → List PieceSpan → Placed → Entry
-entry_of_parts origin note now chain size tag ps piece =
-    record { origin = origin; size = size; tag = tag; note = note; since = now; chain = chain; places = ps ++ place_of piece ∷ [] }
-
--- an entry whose parts were read one by one
-pub same_parts : (e : Entry) (origin note now chain size tag : ℕ) (ps : List PieceSpan) (piece : Placed)
-    → e ≡ entry_of_parts origin note now chain size tag ps piece → size ≡ piece.size → tag ≡ piece.tag → ps ≡ []
-    → e ≡ entry_of_parts origin note now chain piece.size piece.tag [] piece
-same_parts e origin note now chain size tag ps piece is is_size is_tag none =
-    is ∙ ap (λ n. entry_of_parts origin note now chain n tag ps piece) is_size ∙ ap (λ t. entry_of_parts origin note now chain piece.size t ps piece) is_tag
-    ∙ ap (λ qs. entry_of_parts origin note now chain piece.size piece.tag qs piece) none

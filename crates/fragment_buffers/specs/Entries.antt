@@ -107,12 +107,18 @@ meet p q = nat_lt (q.offset * 8) (p.offset * 8 + p.length) && nat_lt (p.offset *
 abbrev pub covers : ℕ → PieceSpan → Bool
 covers i p = nat_le (p.offset * 8) i && nat_lt i (p.offset * 8 + p.length)
 
--- every position of the datagram lies in a piece, or one does not
+-- every position of a datagram of this size lies in a piece, or one does not
+abbrev pub AreCovering : ℕ → List PieceSpan → Type 0
+AreCovering size places = (i : ℕ) → i < size → list_any (covers i) places ≡ true
+
+abbrev pub LeaveGap : ℕ → List PieceSpan → Type 0
+LeaveGap size places = (i : ℕ) × (i < size) × (list_any (covers i) places ≡ false)
+
 abbrev pub IsCovered : Entry → Type 0
-IsCovered e = (i : ℕ) → i < e.size → list_any (covers i) e.places ≡ true
+IsCovered e = AreCovering e.size e.places
 
 abbrev pub HasGap : Entry → Type 0
-HasGap e = (i : ℕ) × (i < e.size) × (list_any (covers i) e.places ≡ false)
+HasGap e = LeaveGap e.size e.places
 
 -- the place of a piece in a datagram of this size
 pub record IsPlace (size : ℕ) (p : PieceSpan) : Type 0 where

@@ -1,5 +1,5 @@
 pub mod Answers
-pub mod Buffer
+pub mod Buffers
 pub mod Fragmentation
 pub mod Entries
 pub mod FirstEnd
@@ -8,5 +8,6 @@ pub mod Laws
 pub mod Loads
 pub mod NextTag
 pub mod Reassembly
+pub mod Steps
 pub mod Taking
 pub mod Waiting

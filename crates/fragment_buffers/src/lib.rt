@@ -3,8 +3,8 @@
 //! - [`pieces`] says how many units carry a datagram, and [`piece_at`] gives its k-th piece: 368 octets, and the last one what is left.
 //! - [`NextTag`] is the tag that names the pieces of the next datagram: `open`, `take` before a datagram is sent, and the tag after it is
 //!   stored at slot 4 first.
-//! - [`Reassembly`] gathers: `take` for each piece that comes, which answers when a datagram is whole ([`Taken`]), `expire` at a time in seconds,
-//!   `clear`. The octets stand in chains of a pool (`block_pool`), which each call is lent.
+//! - [`Reassembly`] gathers: `empty` takes its memory, `take` for each piece that comes, which answers when a datagram is whole ([`Taken`]),
+//!   `expire` at a time in seconds, `clear`. The octets stand in chains of a pool (`block_pool`), which each call is lent.
 //!
 //! What its calls promise, by the names of their clauses:
 //!
@@ -16,12 +16,13 @@
 //!   ([`the_pieces_of_a_datagram_come_together`], [`placed_pieces_never_overlap`], [`other_chains_keep_reassemblies`]).
 //! - A tag is stored before it is used, so it is new also after a loss of power (`tag`, `store`, `kept`).
 //!
-//! It holds 8 reassemblies of 60 seconds each, and takes no memory but blocks of the pool; there is no `unsafe`. A piece that overlaps
+//! It holds 8 reassemblies of 60 seconds each. Opening takes memory for the places of their pieces, 2,560 octets, and no other call takes any
+//! but blocks of the pool; there is no `unsafe`. A piece that overlaps
 //! another one begins its reassembly anew. Times are the caller's, in seconds. `specs/Loads.antt` says which units a datagram or a command
 //! goes out as, and `specs/Waiting.antt` what waits for a route; the crates above carry that out.
 #![tactic(auto)]
 
-mod buffer;
+mod buffers;
 mod fragmentation;
 mod laws;
 mod next_tag;

@@ -1,6 +1,8 @@
 //! Where a piece stands.
-ghost use Rattle.std.specs.Prelude.{◌≡◌, ◌*◌, ◌+◌, ◌<◌, ◌≤◌, ◌^◌};
-ghost use Rattle.fragment_buffers.specs.Entries.{place_of};
+ghost use Rattle.std.specs.Prelude.{◌≡◌, ℕ, ◌*◌, ◌+◌, ◌<◌, ◌≤◌, ◌^◌, true, false};
+ghost use Rattle.std.specs.Bool.{MatchBool};
+ghost use Rattle.std.specs.List.{All, list_any};
+ghost use Rattle.fragment_buffers.specs.Entries.{IsPlace, place_of, same_place, meet, covers, AreCovering, LeaveGap};
 
 use mesh_header::Piece;
 
@@ -36,4 +38,49 @@ impl PieceSpan {
     {
         u32::from(self.start()) + u32::from(self.length)
     }
+}
+
+/// Whether one of the places is that of this piece, with its length.
+pub(crate) fn has_place(places: &[PieceSpan], piece: &Piece<'_>) -> bool
+    ensures { result ≡ list_any (same_place (place_of piece.now)) places.now }
+{
+    let new = PieceSpan::of(piece);
+    places.iter().any(|held| held.offset == new.offset && held.length == new.length)
+}
+
+/// Whether an octet of the piece stands at one of the places.
+pub(crate) fn overlap(places: &[PieceSpan], piece: &Piece<'_>) -> bool
+    ensures { result ≡ list_any (meet (place_of piece.now)) places.now }
+{
+    let new = PieceSpan::of(piece);
+    let start = u32::from(new.start());
+    let end = new.end();
+    places
+        .iter()
+        .any(|held| u32::from(held.start()) < end && start < held.end())
+}
+
+/// Whether a unit of 8 octets begins in one of the places.
+fn cover(places: &[PieceSpan], unit: u16) -> bool
+    requires { unit < 160 }
+    ensures { result ≡ list_any (covers (unit * 8)) places.now }
+{
+    let at = u32::from(unit) * 8;
+    places
+        .iter()
+        .any(|held| u32::from(held.start()) <= at && at < held.end())
+}
+
+/// Whether every position of a datagram of this size lies in one of the places.
+pub(crate) fn cover_all(places: &[PieceSpan], size: u16) -> bool
+    requires size { size ≤ 1280 }
+    requires places { All (IsPlace size) places.now }
+    ensures { MatchBool result (AreCovering size places.now) (LeaveGap size places.now) }
+{
+    for unit in 0..size.div_ceil(8) {
+        if !cover(places, unit) {
+            return false;
+        }
+    }
+    true
 }

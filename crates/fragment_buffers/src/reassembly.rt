@@ -1,5 +1,5 @@
 //! The reassemblies of a node.
-ghost use Rattle.std.specs.Prelude.{◌≡◌, ℕ, ◌+◌, ◌<◌, ◌≤◌, ◌↔◌, ◌⊎◌, [], ◌∷◌, ◌++◌, length, false, IsErr, OnErr, IfSome, IfNone, slice_set};
+ghost use Rattle.std.specs.Prelude.{◌≡◌, ℕ, ◌+◌, ◌<◌, ◌≤◌, ◌↔◌, ◌⊎◌, [], ◌∷◌, ◌++◌, length, IsErr, OnErr, IfOk, slice_set};
 ghost use Rattle.std.specs.List.{remove};
 ghost use Rattle.block_pool.specs.Pool.{PoolState, IsChain, chain_octets};
 ghost use Rattle.mesh_header.specs.Pieces.{IsPiece};
@@ -7,18 +7,15 @@ ghost use Rattle.fragment_buffers.specs.Reassembly.{begun, placed};
 ghost use Rattle.fragment_buffers.specs.Taking.{taken, unexpired, blocks, grown};
 ghost use Rattle.fragment_buffers.specs.FirstEnd.{first_end, IsStill};
 ghost use Rattle.fragment_buffers.specs.Entries.{entry_at, blocks_used, reassembly_in, reassemblies_in, Keeps, Moves, IsBounded, IsOther};
-ghost use Rattle.fragment_buffers.specs.Answers.{answer_of, taken_of, octets_of, has_name, joined_at, settled_at, NoneIsNamed};
+ghost use Rattle.fragment_buffers.specs.Answers.{answer_of, taken_of, octets_of, joined_at, settled_at, NoneIsNamed};
 
-use crate::buffer::Buffer;
-use arrayvec::ArrayVec;
+use crate::buffers::{Buffers, REASSEMBLIES};
 use block_pool::Pool;
 use mesh_header::Piece;
 use plc_base::{DatagramBuf, Short};
+use std::alloc::{AllocError, Global};
 use std::marker::Model;
 use thiserror::Error;
-
-/// The most reassemblies at a time.
-const REASSEMBLIES: usize = 8;
 
 /// The most blocks that they hold.
 const BLOCKS: u16 = 80;
@@ -51,7 +48,7 @@ pub struct BufferFull;
 /// pool's and as long as its datagram, their numbers differ, and the pool has the blocks that are left of 80.
 #[derive(Drop)]
 pub struct Reassembly {
-    buffers: ArrayVec<Buffer, REASSEMBLIES>,
+    buffers: Buffers,
     blocks: u16,
 }
 
@@ -71,14 +68,12 @@ impl Model for Reassembly {
 }
 
 impl Reassembly {
-    /// No reassemblies.
-    pub fn empty() -> Reassembly
-        ensures { result ≡ [] }
+    /// No reassemblies. It takes the memory for the places of all pieces that may come, and fails only where there is none.
+    pub fn empty(alloc: Global) -> Result<Reassembly, AllocError>
+        ensures { IfOk result (λ r. r ≡ []) }
     {
-        Reassembly {
-            buffers: ArrayVec::new(),
-            blocks: 0,
-        }
+        let buffers = Buffers::new(alloc)?;
+        Ok(Reassembly { buffers, blocks: 0 })
     }
 
     /// Takes a piece in that came from an origin, under a note, at a time in seconds (RFC 4944, 5.3).
@@ -111,7 +106,7 @@ impl Reassembly {
         ensures bounded { IsBounded self.new }
     {
         out.clear();
-        match self.place_of(origin, piece.size(), piece.tag()) {
+        match self.buffers.place_of(origin, piece.size(), piece.tag()) {
             Some(index) => Ok(self.join(pool, index, piece, note, now, out)),
             None => self.begin(pool, origin, piece, note, now, out),
         }
@@ -127,7 +122,7 @@ impl Reassembly {
     {
         let mut index = 0;
         while index < self.buffers.len() {
-            if self.buffers[index].has_expired(now) {
+            if self.buffers.has_expired(index, now) {
                 self.end(pool, index);
             } else {
                 index += 1;
@@ -135,24 +130,12 @@ impl Reassembly {
         }
     }
 
-    // When the first reassembly expires, 2^64 - 1 where none is there.
-    #[tactic(auto, unfolding(crate::specs::FirstEnd::first_end))]
-    fn first_end(&self) -> u64
-        ensures { result ≡ first_end self.now }
-    {
-        let mut end = u64::MAX;
-        for buffer in self.buffers.iter() {
-            end = buffer.end_by(end);
-        }
-        end
-    }
-
     /// When the first reassembly expires, in seconds: before that, none does. It is 2^64 - 1 where none is there.
     pub fn next_end(&self) -> u64
         ensures value { result ≡ first_end self.now }
         ensures still { (pool : PoolState) → IsStill result (reassemblies_in pool self.now) }
     {
-        self.first_end()
+        self.buffers.first_end()
     }
 
     /// Drops all reassemblies, and gives their chains back.
@@ -162,26 +145,9 @@ impl Reassembly {
         ensures keeps { Keeps pool.new self.new }
         ensures moves { Moves pool.old pool.new self.old self.new }
     {
-        while !self.buffers.is_empty() {
+        while self.buffers.len() > 0 {
             self.end(pool, 0);
         }
-    }
-
-    /// The first reassembly of this name.
-    fn place_of(&self, origin: Short, size: u16, tag: u16) -> Option<usize>
-        ensures none { IfNone result ((k : ℕ) → k < length self.now
-            → has_name origin size tag (entry_at self.now k) ≡ false) }
-        ensures there { IfSome result (λ i. i < length self.now) }
-        ensures named { IfSome result (λ i. (origin ≡ (entry_at self.now i).origin)
-            × (size ≡ (entry_at self.now i).size) × (tag ≡ (entry_at self.now i).tag)) }
-        ensures first { IfSome result (λ i. (k : ℕ) → k < i → has_name origin size tag (entry_at self.now k) ≡ false) }
-    {
-        for (index, buffer) in self.buffers.iter().enumerate() {
-            if buffer.is_named(origin, size, tag) {
-                return Some(index);
-            }
-        }
-        None
     }
 
     /// Begins a reassembly with a piece of a name that is not there.
@@ -226,8 +192,7 @@ impl Reassembly {
         ensures moves { Moves pool.old pool.new self.old self.new }
     {
         self.blocks += piece.size().div_ceil(64);
-        self.buffers
-            .push(Buffer::begin(pool, origin, piece, note, now));
+        self.buffers.begin(pool, origin, piece, note, now);
     }
 
     /// Takes a piece into the reassembly of its name.
@@ -253,7 +218,7 @@ impl Reassembly {
         ensures moves { Moves pool.old pool.new self.old self.new }
         ensures bounded { IsBounded self.new }
     {
-        if self.buffers[index].repeats(piece) {
+        if self.buffers.repeats(index, piece) {
             return Taken::Held;
         }
         self.grow(pool, index, piece, note, now);
@@ -274,7 +239,7 @@ impl Reassembly {
         ensures keeps { Keeps pool.new self.new }
         ensures moves { Moves pool.old pool.new self.old self.new }
     {
-        self.buffers[index].grow(pool, piece, note, now);
+        self.buffers.grow(index, pool, piece, note, now);
     }
 
     /// Hands a reassembly up, if it is whole.
@@ -289,11 +254,11 @@ impl Reassembly {
         ensures moves { Moves pool.old pool.new self.old self.new }
         ensures bounded { IsBounded self.new }
     {
-        if !self.buffers[index].is_whole() {
+        if !self.buffers.is_whole(index) {
             return Taken::Held;
         }
-        let note = self.buffers[index].note();
-        self.buffers[index].read(pool, out);
+        let note = self.buffers.note(index);
+        self.buffers.read(index, pool, out);
         self.end(pool, index);
         Taken::Whole { note }
     }
@@ -308,8 +273,7 @@ impl Reassembly {
         ensures moves { Moves pool.old pool.new self.old self.new }
         ensures bounded { IsBounded self.new }
     {
-        let buffer = self.buffers.remove(index);
-        self.blocks -= buffer.size().div_ceil(64);
-        buffer.give_back(pool);
+        self.blocks -= self.buffers.size(index).div_ceil(64);
+        self.buffers.end(index, pool);
     }
 }

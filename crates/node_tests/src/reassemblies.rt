@@ -20,7 +20,7 @@ struct Node {
 impl Node {
     fn new(alloc: Global) -> Result<Node, Fail> {
         Ok(Node {
-            held: Reassembly::empty(),
+            held: Reassembly::empty(alloc)?,
             pool: Pool::new(alloc, 80)?,
             out: DatagramBuf::new(),
         })

@@ -130,16 +130,17 @@ fn first_end(waiting: &ArrayVec<Waiting, 8>, time: u64) -> u64
 }
 
 impl Bodies {
-    /// No datagram and no body, over a pool of 160 blocks, which is all the memory that they ever take.
+    /// No datagram and no body, over a pool of 160 blocks. It takes all the memory that they ever take.
     ///
-    /// AllocError only where there is no memory for the pool.
+    /// AllocError only where there is none.
     pub fn new(alloc: Global) -> Result<Bodies, AllocError>
         ensures { IfOk result (λ b. b ≡ record { reassemblies = []; waiting = [] }) }
     {
         let pool = Pool::new(alloc, BLOCKS)?;
+        let reassembly = Reassembly::empty(alloc)?;
         Ok(Bodies {
             pool,
-            reassembly: Reassembly::empty(),
+            reassembly,
             waiting: ArrayVec::new(),
             blocks: 0,
             next_end: u64::MAX,

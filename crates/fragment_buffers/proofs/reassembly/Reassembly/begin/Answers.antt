@@ -16,7 +16,7 @@ refused c =
     let used = ap (λ es. blocks_used es) c.self.view_is in
     full_gathered c.args.pool.now c.args.self.now c.args.origin c.args.piece.now c.args.note c.args.now c.requires.none
     (elim c.then-index-ge-REASSEMBLIES.branch [
-      | then-index-ge-REASSEMBLIES-via-then-index-ge-REASSEMBLIES w ↦ inl (omega (arith, long, c.len-index.ensures.value, w.if-index-ge-REASSEMBLIES.true))
+      | then-index-ge-REASSEMBLIES-via-then-index-ge-REASSEMBLIES w ↦ inl (omega (arith, long, c.len-index.ensures, w.if-index-ge-REASSEMBLIES.true))
       | then-index-ge-REASSEMBLIES-via-else-index-ge-REASSEMBLIES+then-self-div_ceil-gt-BLOCKS w ↦
           inr (omega (arith, used, c.self.invariant.blocks, w.if-self-div_ceil-gt-BLOCKS.true, w.div_ceil.ensures, ap (λ n. blocks n) w.size.ensures.value))
     ])
@@ -37,8 +37,8 @@ begun_is c =
     let used = ap (λ es. blocks_used es) c.self.view_is in
     new_gathered c.args.pool.now c.push.new.pool c.args.self.now c.push.new.self c.args.origin c.args.piece.now c.args.note c.args.now c.len-index.result
     c.requires.none
-    (omega (arith, long, c.len-index.ensures.value, c.if-index-ge-REASSEMBLIES.false)) (omega (arith, used, c.self.invariant.blocks)) c.push.ensures.gathered
-    (c.len-index.ensures.value ∙ long)
+    (omega (arith, long, c.len-index.ensures, c.if-index-ge-REASSEMBLIES.false)) (omega (arith, used, c.self.invariant.blocks)) c.push.ensures.gathered
+    (c.len-index.ensures ∙ long)
 
 pub returns-clause-answer : goal.returns-clause-answer
 returns-clause-answer c =

@@ -3,20 +3,23 @@ use Rattle.std.proofs.lemmas.Bool.{cases_lt, false≢true}
 use Rattle.std.proofs.lemmas.List.Edits.{length-remove}
 use Rattle.fragment_buffers.specs.Reassembly.{Reassembly}
 use Rattle.fragment_buffers.specs.Answers.{nothing}
-use Rattle.fragment_buffers.specs.Entries.{Entry, reassemblies_in}
+use Rattle.fragment_buffers.specs.Entries.{entry_at, reassemblies_in}
 use Rattle.fragment_buffers.proofs.Naming.{length-gathered}
-use Rattle.fragment_buffers.proofs.Keeping.{read_entry, gathered_at, moves_both}
+use Rattle.fragment_buffers.proofs.Keeping.{gathered_at, moves_both}
 use Rattle.fragment_buffers.proofs.Expiring.{kept_so_far, expired_at, unexpired_at, all_kept}
 use Rattle.fragment_buffers.proofs.reassembly.Reassembly.expire.Goals as goal
+
+pub has_expired-requires : goal.has_expired-requires
+has_expired-requires c = omega (arith, c.len.ensures, c.loop-index-test.true)
 
 pub loop-index-preserved-then-has_expired : goal.loop-index-preserved-then-has_expired
 loop-index-preserved-then-has_expired c =
     let es = c.loop-index.self in
     let held = reassemblies_in c.loop-index.pool es in
     let long = length-gathered c.loop-index.pool es in
-    let lt : c.loop-index.index < length es = omega (arith, ap length c.self.view_is, c.len.ensures.value, c.loop-index-test.true) in
-    let entry = read_entry _ es c.loop-index.index c.index-deref-index.result c.index-deref-index.is (c.deref.ensures.0 ∙ c.self.view_is) lt in
-    let since = ap (λ (e : Entry). e.since) entry ∙ sym (ap (λ (r : Reassembly). r.since) (gathered_at c.loop-index.pool es c.loop-index.index nothing lt)) in
+    let lt : c.loop-index.index < length es = omega (arith, ap length c.self.view_is, c.len.ensures, c.loop-index-test.true) in
+    let since = ap (λ l. (entry_at l c.loop-index.index).since) c.self.view_is
+    ∙ sym (ap (λ (r : Reassembly). r.since) (gathered_at c.loop-index.pool es c.loop-index.index nothing lt)) in
     record {
       keeps = c.end.ensures.keeps;
       moves = moves_both c.args.pool.now c.loop-index.pool c.end.new.pool c.args.self.now es c.end.new.self c.loop-index.invariant.moves c.end.ensures.moves;
@@ -32,10 +35,11 @@ loop-index-preserved c =
     let es = c.loop-index.self in
     let held = reassemblies_in c.loop-index.pool es in
     let long = length-gathered c.loop-index.pool es in
-    let lt : c.loop-index.index < length es = omega (arith, ap length c.self.view_is, c.len.ensures.value, c.loop-index-test.true) in
-    let entry = read_entry _ es c.loop-index.index c.index-deref-index.result c.index-deref-index.is (c.deref.ensures.0 ∙ c.self.view_is) lt in
-    let since = ap (λ (e : Entry). e.since) entry ∙ sym (ap (λ (r : Reassembly). r.since) (gathered_at c.loop-index.pool es c.loop-index.index nothing lt)) in
-    let young : c.args.now < c.index-deref-index.result.since + 60 = elim (cases_lt c.args.now (c.index-deref-index.result.since + 60)) [
+    let lt : c.loop-index.index < length es = omega (arith, ap length c.self.view_is, c.len.ensures, c.loop-index-test.true) in
+    let since = ap (λ l. (entry_at l c.loop-index.index).since) c.self.view_is
+    ∙ sym (ap (λ (r : Reassembly). r.since) (gathered_at c.loop-index.pool es c.loop-index.index nothing lt)) in
+    let young : c.args.now < (entry_at c.self.inside.buffers c.loop-index.index).since
+    + 60 = elim (cases_lt c.args.now ((entry_at c.self.inside.buffers c.loop-index.index).since + 60)) [
       | inl less ↦ less
       | inr more ↦ absurd (false≢true (c.if-has_expired.ensures.1 more))
     ] in
@@ -50,4 +54,4 @@ pub returns-clause-gathered : goal.returns-clause-gathered
 returns-clause-gathered c =
     let long = length-gathered c.loop-index.pool c.loop-index.self in
     sym (c.loop-index.invariant.gathered ∙ all_kept (reassemblies_in c.loop-index.pool c.loop-index.self) c.loop-index.index c.args.now
-    (omega (arith, long, ap length c.self.view_is, c.len.ensures.value, c.loop-index-test.false)))
+    (omega (arith, long, ap length c.self.view_is, c.len.ensures, c.loop-index-test.false)))

@@ -1,17 +1,19 @@
-use Rattle.std.proofs.Common.{◌≡◌, sym, ap, subst, ◌∙◌}
+use Rattle.std.proofs.Common.{◌≡◌, length, sym, ap, subst, ◌∙◌, arith}
 use Rattle.std.specs.List.{list_any}
 use Rattle.fragment_buffers.specs.Taking.{Taking, Held}
 use Rattle.fragment_buffers.specs.Answers.{taken_of, octets_of, settled_at, joined_at}
-use Rattle.fragment_buffers.specs.Entries.{Entry, IsEntry, reassemblies_in, same_place, place_of}
-use Rattle.fragment_buffers.proofs.Keeping.{read_entry, moves_both}
+use Rattle.fragment_buffers.specs.Entries.{Entry, IsEntry, entry_at, reassemblies_in, same_place, place_of}
+use Rattle.fragment_buffers.proofs.Keeping.{moves_both}
 use Rattle.fragment_buffers.proofs.Settling.{joined_repeat, joined_grown}
 use Rattle.fragment_buffers.proofs.reassembly.Reassembly.join.Goals as goal
+
+pub repeats-requires : goal.repeats-requires
+repeats-requires c = omega (arith, ap length c.self.view_is, c.requires.there)
 
 repeat : (c : goal.Then-repeats) → joined_at (reassemblies_in c.args.pool.now c.args.self.now) c.args.index c.args.piece.now c.args.note c.args.now
     ≡ record { held = reassemblies_in c.args.pool.now c.args.self.now; outcome = Held }
 repeat c =
-    let entry = read_entry _ c.args.self.now c.args.index c.index-deref-index.result c.index-deref-index.is (c.deref.ensures.0 ∙ c.self.view_is)
-    c.requires.there in
+    let entry = ap (λ es. entry_at es c.args.index) c.self.view_is in
     joined_repeat c.args.pool.now c.args.self.now c.args.index c.args.piece.now c.args.note c.args.now c.requires.there
     (subst IsEntry entry c.repeats.ensures.rule) (c.requires.keeps.lengths c.args.index c.requires.there)
     (ap (λ (e : Entry). list_any (same_place (place_of c.args.piece.now)) e.places) (sym entry) ∙ sym c.repeats.ensures.value ∙ c.if-repeats.true)
@@ -28,8 +30,7 @@ returns-then-repeats-clause-gathered c = sym (ap (λ (t : Taking). t.held) (repe
 grown_is : (c : goal.After-settle) → joined_at (reassemblies_in c.args.pool.now c.args.self.now) c.args.index c.args.piece.now c.args.note c.args.now
     ≡ settled_at (reassemblies_in c.grow.new.pool c.grow.new.self) c.args.index
 grown_is c =
-    let entry = read_entry _ c.args.self.now c.args.index c.index-deref-index.result c.index-deref-index.is (c.deref.ensures.0 ∙ c.self.view_is)
-    c.requires.there in
+    let entry = ap (λ es. entry_at es c.args.index) c.self.view_is in
     joined_grown c.args.pool.now c.args.self.now c.args.index c.args.piece.now c.args.note c.args.now c.requires.there
     (subst IsEntry entry c.repeats.ensures.rule) (c.requires.keeps.lengths c.args.index c.requires.there)
     (ap (λ (e : Entry). list_any (same_place (place_of c.args.piece.now)) e.places) (sym entry) ∙ sym c.repeats.ensures.value ∙ c.if-repeats.false)

@@ -1,7 +1,0 @@
-use Rattle.std.proofs.Common.{◌≡◌, take}
-use Rattle.std.specs.Prelude.{fold}
-use Rattle.fragment_buffers.specs.FirstEnd.{end_by}
-use Rattle.fragment_buffers.proofs.reassembly.Reassembly.first_end.Given as goal
-
-abbrev pub invariant-loop-buffer : goal.invariant-loop-buffer
-invariant-loop-buffer l = l.end ≡ fold end_by 18446744073709551615 (take l.buffer-index l.buffer-items)
