@@ -1,7 +1,7 @@
 -- Places of pieces: how many there can be, and what writing one makes of the pieces.
-use Rattle.std.proofs.Common.{◌≡◌, ◌≢◌, ℕ, zero, suc, ◌+◌, ◌*◌, ◌/◌, ◌%◌, ◌<◌, ◌≤◌, ◌⊎◌, inl, inr, Bool, true, false, ◌&&◌, nat_lt, eqb, List, [], ◌∷◌, ◌++◌}
+use Rattle.std.proofs.Common.{◌≡◌, ◌≢◌, ℕ, zero, suc, ◌+◌, ◌*◌, ◌<◌, ◌≤◌, ◌⊎◌, inl, inr, Bool, true, false, ◌&&◌, nat_lt, eqb, List, [], ◌∷◌, ◌++◌}
 use Rattle.std.proofs.Common.{length, map, get_or, sym, ◌∙◌, arith, length-append}
-use Rattle.std.proofs.lemmas.Bool.{cases_lt, or_parts, eqb-true, ltb-true, leb-true, and_parts, and_from, or_cases, or_left, or_right, lt-ltb, le-leb}
+use Rattle.std.proofs.lemmas.Bool.{or_parts, eqb-true}
 use Rattle.std.proofs.lemmas.Bool.Decides.{nat_tests, Decides-eqb}
 use Rattle.std.proofs.lemmas.List.{length-map, get_or-map}
 use Rattle.std.proofs.lemmas.List.Elements.{All-head, All-tail, All-push}
@@ -14,7 +14,7 @@ use Rattle.std.specs.List.{list_any, All, AllPairs, sum_by}
 use Rattle.mesh_header.specs.Pieces.{Placed, IsPiece}
 use Rattle.fragment_buffers.specs.declared.piece_span.PieceSpan.{PieceSpan}
 use Rattle.fragment_buffers.specs.Taking.{blocks}
-use Rattle.fragment_buffers.specs.Entries.{Entry, IsEntry, IsPlace, AreCovering, place_of, meet, covers, blocks_used}
+use Rattle.fragment_buffers.specs.Entries.{Entry, IsEntry, IsPlace, place_of, meet, blocks_used}
 
 pub piece_place : (piece : Placed) → IsPiece piece → IsPlace piece.size (place_of piece)
 piece_place piece rule = record { some = rule.some; within = rule.within; eighths = rule.eighths }
@@ -97,33 +97,3 @@ room_in_all (e ∷ es) (suc i) d rules lt more =
     let here = few_pieces e (All-head IsEntry e es rules) in
     let rest = room_in_all es i d (All-tail IsEntry e es rules) (omega arith) more in
     omega (arith, here, rest, sum_by-cons (λ (e : Entry). length e.places) e es, sum_by-cons (λ (e : Entry). blocks e.size) e es)
-
--- # Units of 8 octets
-
-covers_rest : (size i : ℕ) (p : PieceSpan) → IsPlace size p → i < size → covers (i / 8 * 8) p ≡ true → covers i p ≡ true
-covers_rest size i p place lt h =
-    let parts = and_parts _ _ h in
-    let from : p.offset * 8 ≤ i / 8 * 8 = leb-true _ _ parts.0 in
-    let to : i / 8 * 8 < p.offset * 8 + p.length = ltb-true _ _ parts.1 in
-    let unit : i / 8 * 8 ≤ i = omega arith in
-    let end : i < p.offset * 8 + p.length = elim (cases_lt (p.offset * 8 + p.length) size) [
-      | inl less ↦
-          let whole : p.length % 8 ≡ 0 = place.eighths less in
-          omega arith
-      | inr more ↦ omega arith
-    ] in
-    and_from _ _ (le-leb (p.offset * 8) i (omega arith)) (lt-ltb i (p.offset * 8 + p.length) end)
-
-any_weaker : {X : Type 0} (t u : X → Bool) (xs : List X) → All (λ x. t x ≡ true → u x ≡ true) xs → list_any t xs ≡ true → list_any u xs ≡ true
-any_weaker t u [] all h = h
-any_weaker t u (x ∷ xs) all h = elim (or_cases (t x) (list_any t xs) h) [
-  | inl here ↦ or_left (u x) (list_any u xs) (All-head (λ x. t x ≡ true → u x ≡ true) x xs all here)
-  | inr later ↦ or_right (u x) (list_any u xs) (any_weaker t u xs (All-tail (λ x. t x ≡ true → u x ≡ true) x xs all) later)
-]
-
--- where each unit begins in a piece, each position lies in one
-pub covered_by_units : (size n : ℕ) (ps : List PieceSpan) → All (IsPlace size) ps → size ≤ n * 8
-    → ((k : ℕ) → k < n → list_any (covers (k * 8)) ps ≡ true) → AreCovering size ps
-covered_by_units size n ps places long units = λ i lt.
-    any_weaker (covers (i / 8 * 8)) (covers i) ps (λ k d lk. covers_rest size i (get_or ps k d) (places k d lk) lt)
-    (units (i / 8) (omega arith))

@@ -1,8 +1,8 @@
 //! Where a piece stands.
-ghost use Rattle.std.specs.Prelude.{◌≡◌, ℕ, ◌*◌, ◌+◌, ◌<◌, ◌≤◌, ◌^◌, true, false};
+ghost use Rattle.std.specs.Prelude.{◌≡◌, ℕ, ◌*◌, ◌+◌, ◌<◌, ◌≤◌, true, false, IfSome, IfNone};
 ghost use Rattle.std.specs.Bool.{MatchBool};
-ghost use Rattle.std.specs.List.{All, list_any};
-ghost use Rattle.fragment_buffers.specs.Entries.{IsPlace, place_of, same_place, meet, covers, AreCovering, LeaveGap};
+ghost use Rattle.std.specs.List.{list_any};
+ghost use Rattle.fragment_buffers.specs.Entries.{place_of, same_place, meet, covers, AreCovering, LeaveGap};
 
 use mesh_header::Piece;
 
@@ -38,6 +38,13 @@ impl PieceSpan {
     {
         u32::from(self.start()) + u32::from(self.length)
     }
+
+    // Whether a position lies in it.
+    fn covers(self, at: u32) -> bool
+        ensures { result ≡ covers at self }
+    {
+        u32::from(self.start()) <= at && at < self.end()
+    }
 }
 
 /// Whether one of the places is that of this piece, with its length.
@@ -60,27 +67,30 @@ pub(crate) fn overlap(places: &[PieceSpan], piece: &Piece<'_>) -> bool
         .any(|held| u32::from(held.start()) < end && start < held.end())
 }
 
-/// Whether a unit of 8 octets begins in one of the places.
-fn cover(places: &[PieceSpan], unit: u16) -> bool
-    requires { unit < 160 }
-    ensures { result ≡ list_any (covers (unit * 8)) places.now }
+// Where the first of the places that have a position ends.
+fn end_at(places: &[PieceSpan], at: u32) -> Option<u32>
+    ensures none { IfNone result (list_any (covers at) places.now ≡ false) }
+    ensures later { IfSome result (λ end. at < end) }
+    ensures covered { IfSome result (λ end. (i : ℕ) → at ≤ i → i < end → list_any (covers i) places.now ≡ true) }
 {
-    let at = u32::from(unit) * 8;
-    places
-        .iter()
-        .any(|held| u32::from(held.start()) <= at && at < held.end())
+    for held in places.iter() {
+        if held.covers(at) {
+            return Some(held.end());
+        }
+    }
+    None
 }
 
-/// Whether every position of a datagram of this size lies in one of the places.
+/// Whether every position of a datagram of this size lies in one of the places. Each is passed at once, so it takes no more steps than there are.
 pub(crate) fn cover_all(places: &[PieceSpan], size: u16) -> bool
-    requires size { size ≤ 1280 }
-    requires places { All (IsPlace size) places.now }
     ensures { MatchBool result (AreCovering size places.now) (LeaveGap size places.now) }
 {
-    for unit in 0..size.div_ceil(8) {
-        if !cover(places, unit) {
+    let mut at = 0;
+    while at < u32::from(size) {
+        let Some(end) = end_at(places, at) else {
             return false;
-        }
+        };
+        at = end;
     }
     true
 }

@@ -1,8 +1,7 @@
 use Rattle.std.proofs.Common.{List, ℕ, sym, ap, subst₂, arith}
 use Rattle.std.specs.Bool.{MatchBool}
-use Rattle.std.specs.List.{All}
 use Rattle.fragment_buffers.specs.declared.piece_span.PieceSpan.{PieceSpan}
-use Rattle.fragment_buffers.specs.Entries.{Entry, IsPlace, AreCovering, LeaveGap}
+use Rattle.fragment_buffers.specs.Entries.{Entry, AreCovering, LeaveGap}
 use Rattle.fragment_buffers.proofs.OneList.{there, read}
 use Rattle.fragment_buffers.proofs.buffers.Buffers.is_whole.Goals as goal
 
@@ -13,18 +12,6 @@ index-requires c = omega (
   there c.self.inside.buffers.items c.self.inside.places c.args.self.now c.args.index c.self.view_is
       c.requires,
 )
-
-pub cover_all-requires-clause-size : goal.cover_all-requires-clause-size
-cover_all-requires-clause-size c =
-    let size = ap (λ (e : Entry). e.size) (read c.self.inside.buffers.items c.self.inside.places c.args.self.now c.args.index c.self.view_is c.requires
-    c.index.result.now c.self.invariant.all c.index.ensures) in
-    omega (arith, size, c.places_of.ensures.rule.size)
-
-pub cover_all-requires-clause-places : goal.cover_all-requires-clause-places
-cover_all-requires-clause-places c =
-    let size = ap (λ (e : Entry). e.size) (read c.self.inside.buffers.items c.self.inside.places c.args.self.now c.args.index c.self.view_is c.requires
-    c.index.result.now c.self.invariant.all c.index.ensures) in
-    subst₂ (λ (n : ℕ) (ps : List PieceSpan). All (IsPlace n) ps) size (sym c.places_of.ensures.value) c.places_of.ensures.rule.places
 
 pub returns-clause-value : goal.returns-clause-value
 returns-clause-value c =
