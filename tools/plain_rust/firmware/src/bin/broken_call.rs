@@ -13,7 +13,7 @@ use rattle_std::alloc::Global;
 // A coordinator takes about 76 KB, most of it for its book.
 #[cfg(target_os = "none")]
 #[global_allocator]
-static HEAP: bare::Heap<9728> = bare::Heap::new();
+static HEAP: bare::Heap<10072> = bare::Heap::new();
 
 fn run() {
     if let Ok(mut coordinator) = Coordinator::open(Global, Flash::new(), Eui([1; 8]), &Key([2; 16])) {
