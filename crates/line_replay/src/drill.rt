@@ -343,9 +343,10 @@ impl Drill {
 fn drilled(alloc: Global, meters: u8) -> Result<World, AllocError>
     ensures { IfOk result (λ world. world ≡ drilled meters) }
 {
+    let world = World::new(alloc)?;
     let mut drill = Drill {
         alloc,
-        world: World::new(alloc),
+        world,
         buffers: Buffers::new(),
         drained: 0,
     };

@@ -1,5 +1,5 @@
 //! A world that takes the lines of a script and reports what they do.
-ghost use Rattle.std.specs.Prelude.{◌≡◌, ◌++◌, OnOk, string_bytes};
+ghost use Rattle.std.specs.Prelude.{◌≡◌, ◌++◌, IfOk, OnOk, string_bytes};
 ghost use Rattle.script_lines.specs.Clauses.{Turned};
 ghost use Rattle.line_events.specs.Events.{IsEvent};
 ghost use Rattle.line_rules.specs.Worlds.{start};
@@ -116,21 +116,22 @@ impl Model for Replay {
 }
 
 impl Replay {
-    /// The world before the first line.
-    pub fn new(alloc: Global, quiet: bool) -> Replay
-        ensures { result ≡ record { quiet = quiet; world = start } }
+    /// The world before the first line. It fails only where there is no memory for it.
+    pub fn new(alloc: Global, quiet: bool) -> Result<Replay, AllocError>
+        ensures { IfOk result (λ replay. replay ≡ record { quiet = quiet; world = start }) }
     {
-        Replay {
+        let world = World::new(alloc)?;
+        Ok(Replay {
             alloc,
             player: Player {
                 alloc,
                 quiet,
-                world: World::new(alloc),
+                world,
                 buffers: Buffers::new(),
                 text: String::new(alloc),
             },
             buffers: [0; LINE_OCTETS],
-        }
+        })
     }
 
     /// Whether an event was forged.

@@ -14,7 +14,7 @@ use crate::status::Status;
 use line_laws::every_network_run_is_right;
 use line_script::number_within;
 use plc_base::{Sink, Source, write_all};
-use script_lines::{Exit, run};
+use script_lines::{Exit, a_run_may_end_without_memory, run};
 use standard_vectors::vectors_text;
 use std::alloc::{AllocError, Global};
 
@@ -43,7 +43,10 @@ fn replay<S: Source, K: Sink>(alloc: Global, quiet: bool, source: &mut S, sink: 
     ensures sink { (K.state sink.old).faults ≤ (K.state sink.new).faults }
 {
     every_network_run_is_right();
-    let mut replay = Replay::new(alloc, quiet);
+    let Ok(mut replay) = Replay::new(alloc, quiet) else {
+        a_run_may_end_without_memory::<Replay>();
+        return Status::Memory;
+    };
     let exit = run(alloc, &mut replay, source, sink);
     status_of(exit, replay.is_forged())
 }

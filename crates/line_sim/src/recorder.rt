@@ -1,5 +1,5 @@
 //! The script of a run, and the world that the run has made.
-ghost use Rattle.std.specs.Prelude.{◌≡◌, ◌<◌, ◌≤◌, ◌^◌, ◌++◌, [], string_bytes, false, All, AllPairs, IsTrue, OnOk, OnErr, length};
+ghost use Rattle.std.specs.Prelude.{◌≡◌, ◌<◌, ◌≤◌, ◌^◌, ◌++◌, [], string_bytes, false, All, AllPairs, IsTrue, IfOk, OnOk, OnErr, length};
 ghost use Rattle.line_events.specs.Events.{IsEvent, IsNumber, IsCost, IsEui, IsKey, AreOctets, IsLineOctets};
 ghost use Rattle.line_rules.specs.Worlds.{start};
 ghost use Rattle.line_script.specs.Lines.{line_of};
@@ -54,17 +54,18 @@ impl<const INJECTS: usize> Model for Recorder<INJECTS> {
 }
 
 impl<const INJECTS: usize> Recorder<INJECTS> {
-    /// A world without a node, and an empty script.
-    pub fn new(alloc: Global) -> Recorder<INJECTS>
-        ensures { result ≡ record { script = []; world = start } }
+    /// A world without a node, and an empty script. It fails only where there is no memory for it.
+    pub fn new(alloc: Global) -> Result<Recorder<INJECTS>, AllocError>
+        ensures { IfOk result (λ recorder. recorder ≡ record { script = []; world = start }) }
     {
-        Recorder {
+        let world = World::new(alloc)?;
+        Ok(Recorder {
             script: Vec::new(alloc),
-            world: World::new(alloc),
+            world,
             order: Order::new(alloc),
             buffers: Buffers::new(),
             line: String::new(alloc),
-        }
+        })
     }
 
     /// The script so far. A replay of it has no bad line and ends in the world; where no octets may be injected, no line injects some. Flights come to nodes

@@ -82,16 +82,19 @@ fn run_line<const INJECTS: usize, K: Sink>(
     }
 }
 
-// Runs the line of a plan over a recorder, and writes what is asked for.
+// Runs the line of a plan over a recorder, which records injections or not, and writes what is asked for.
 fn run_over<const INJECTS: usize, K: Sink>(
     alloc: Global,
     mode: Mode,
     plan: Plan,
-    recorder: Recorder<INJECTS>,
     sink: &mut K,
 ) -> Status
     ensures { mode ≡ Mode.Run → Ends (nat_eq INJECTS 0) (K.state sink.old) (K.state sink.new) result }
 {
+    let recorder: Recorder<INJECTS> = match Recorder::new(alloc) {
+        Ok(recorder) => recorder,
+        Err(AllocError) => return Status::Memory,
+    };
     match Simulation::new(alloc, plan, recorder) {
         Ok(Made::Simulation(simulation)) => run_line(mode, simulation, sink),
         Ok(Made::Apart) => write_text(sink, APART, Status::BadDescription),
@@ -104,11 +107,9 @@ pub fn run_plan<K: Sink>(alloc: Global, mode: Mode, plan: Plan, sink: &mut K) ->
     ensures { mode ≡ Mode.Run → EndsPlan plan (K.state sink.old) (K.state sink.new) result }
 {
     if has_attackers(plan.incidents.incidents()) {
-        let recorder: Recorder<1> = Recorder::new(alloc);
-        return run_over(alloc, mode, plan, recorder, sink);
+        return run_over::<1, K>(alloc, mode, plan, sink);
     }
-    let recorder: Recorder<0> = Recorder::new(alloc);
-    run_over(alloc, mode, plan, recorder, sink)
+    run_over::<0, K>(alloc, mode, plan, sink)
 }
 
 // Reads a description with options, runs its line, and writes what is asked for.

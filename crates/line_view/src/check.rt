@@ -46,16 +46,17 @@ fn bad_line(written: Result<(), StopReason>) -> Result<(), StopReason>
 }
 
 impl Check {
-    /// No line so far. It takes no memory.
-    pub fn new(alloc: Global, json: bool) -> Check
-        ensures { result ≡ checking json }
+    /// No line so far. It fails only where there is no memory for it.
+    pub fn new(alloc: Global, json: bool) -> Result<Check, AllocError>
+        ensures { IfOk result (λ check. check ≡ checking json) }
     {
-        Check {
+        let checker = Checker::new(alloc, json)?;
+        Ok(Check {
             alloc,
-            checker: Checker::new(alloc, json),
+            checker,
             octets: [0; LINE_OCTETS],
             text: String::new(alloc),
-        }
+        })
     }
 
     /// Whether a line is bad.

@@ -242,14 +242,15 @@ fn push_first(
 }
 
 impl Checker {
-    /// No line so far. It takes no memory.
-    pub fn new(alloc: Global, json: bool) -> Checker
-        ensures { result ≡ spec_checking.checking json }
+    /// No line so far. It fails only where there is no memory for it.
+    pub fn new(alloc: Global, json: bool) -> Result<Checker, AllocError>
+        ensures { IfOk result (λ checker. checker ≡ spec_checking.checking json) }
     {
-        Checker {
+        let world = World::new(alloc)?;
+        Ok(Checker {
             alloc,
             json,
-            world: World::new(alloc),
+            world,
             made: Vec::new(alloc),
             events: Vec::new(alloc),
             other: FirstOther::new(alloc),
@@ -258,7 +259,7 @@ impl Checker {
             first: 0,
             reason: Reason::Form,
             space: Buffers::new(),
-        }
+        })
     }
 
     /// Whether a line is bad.

@@ -238,20 +238,21 @@ impl Model for Explain {
 }
 
 impl Explain {
-    /// No line so far.
-    pub fn new(alloc: Global, chosen: Chosen) -> Explain
-        ensures { result ≡ explaining.nothing_explained chosen }
+    /// No line so far. It fails only where there is no memory for it.
+    pub fn new(alloc: Global, chosen: Chosen) -> Result<Explain, AllocError>
+        ensures { IfOk result (λ explain. explain ≡ explaining.nothing_explained chosen) }
     {
-        Explain {
+        let run = Recorder::new(alloc)?;
+        Ok(Explain {
             explainer: Explainer {
                 alloc,
                 chosen,
-                run: Recorder::new(alloc),
+                run,
                 teller: Teller::new(alloc),
                 space: Buffers::new(),
             },
             octets: [0; LINE_OCTETS],
-        }
+        })
     }
 
     /// Whether an event was forged.

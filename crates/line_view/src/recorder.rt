@@ -95,17 +95,18 @@ fn payload_in(is_open: bool, opened: &FrameBuf) -> Option<&[u8]>
 }
 
 impl Recorder {
-    /// The run of no event. It takes no memory.
-    pub fn new(alloc: Global) -> Recorder
-        ensures { result ≡ recordings.no_recording }
+    /// The run of no event. It fails only where there is no memory for it.
+    pub fn new(alloc: Global) -> Result<Recorder, AllocError>
+        ensures { IfOk result (λ recorder. recorder ≡ recordings.no_recording) }
     {
-        Recorder {
-            world: World::new(alloc),
+        let world = World::new(alloc)?;
+        Ok(Recorder {
+            world,
             tale: Tale::new(alloc),
             more: Vec::new(alloc),
             euis: Vec::new(alloc),
             opened: FrameBuf::new(),
-        }
+        })
     }
 
     /// Whether an event was forged.

@@ -13,7 +13,7 @@ use crate::explain::Explain;
 use crate::status::Status;
 use line_script::number_within;
 use plc_base::{Sink, Source, write_all};
-use script_lines::{Exit, run};
+use script_lines::{Exit, a_run_may_end_without_memory, run};
 use std::alloc::Global;
 use story_accounts::Chosen;
 
@@ -183,7 +183,10 @@ fn check<S: Source, K: Sink>(alloc: Global, json: bool, source: &mut S, sink: &m
     ensures source { SourceFaults (S.state source.old) (S.state source.new) }
     ensures sink { (K.state sink.old).faults ≤ (K.state sink.new).faults }
 {
-    let mut check = Check::new(alloc, json);
+    let Ok(mut check) = Check::new(alloc, json) else {
+        a_run_may_end_without_memory::<Check>();
+        return Status::Memory;
+    };
     let exit = run(alloc, &mut check, source, sink);
     status_of(exit, check.is_bad())
 }
@@ -215,7 +218,10 @@ fn explain<S: Source, K: Sink>(
     ensures source { SourceFaults (S.state source.old) (S.state source.new) }
     ensures sink { (K.state sink.old).faults ≤ (K.state sink.new).faults }
 {
-    let mut explain = Explain::new(alloc, chosen);
+    let Ok(mut explain) = Explain::new(alloc, chosen) else {
+        a_run_may_end_without_memory::<Explain>();
+        return Status::Memory;
+    };
     let exit = run(alloc, &mut explain, source, sink);
     account_status(exit, explain.is_forged())
 }

@@ -9,7 +9,7 @@ use line_events::{Event, Happenings, StepFault};
 use line_flights::{Flights, MadeTags};
 use node_rules::{Shown, ShownPeers, ShownRoutes};
 use plc_base::{DatagramBuf, FrameBuf, Key, Out};
-use std::alloc::Global;
+use std::alloc::{AllocError, Global};
 use std::marker::Model;
 
 /// What was counted so far.
@@ -95,7 +95,7 @@ impl Model for World {
 }
 
 impl World {
-    ghost use Rattle.std.specs.Prelude.{IfSome, is_some};
+    ghost use Rattle.std.specs.Prelude.{IfOk, IfSome, is_some};
     ghost use Rattle.std.specs.Option.{option_and_then, option_copied, option_map};
     ghost use Rattle.node_rules.specs.Ciphers.{network};
     ghost use Rattle.node_rules.specs.Showing.{shown_of};
@@ -104,11 +104,12 @@ impl World {
     ghost use Rattle.line_rules.specs.Further.{line_step};
     ghost use Rattle.line_world.specs.Steps.{Gives, HasMemory, takes_memory};
 
-    /// A world with no node. It takes no memory.
-    pub fn new(alloc: Global) -> World
-        ensures { result ≡ start }
+    /// A world with no node, and memory for what one step of a node gives out. It fails only where there is none.
+    pub fn new(alloc: Global) -> Result<World, AllocError>
+        ensures { IfOk result (λ world. world ≡ start) }
     {
-        World {
+        let out = Out::new(alloc)?;
+        Ok(World {
             line: Line {
                 alloc,
                 clock: 0,
@@ -124,9 +125,9 @@ impl World {
                 checks_on: false,
                 beside: Vec::new(alloc),
                 body: FrameBuf::new(),
-                out: Out::new(),
+                out,
             },
-        }
+        })
     }
 
     /// What was counted so far.

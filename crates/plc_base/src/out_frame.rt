@@ -1,9 +1,9 @@
 //! The frames that a node sends.
-ghost use Rattle.std.specs.Prelude.{◌≡◌, ◌<◌, ◌≤◌, ◌==◌, ◌++◌, ◌∷◌, [], length, None, IsSome, IfSome, slice_index_or, slice_set};
+ghost use Rattle.std.specs.Prelude.{◌≡◌, ◌<◌, ◌≤◌, ◌==◌, ◌++◌, ◌∷◌, [], length, None, IsSome, IfSome, slice_index_or, slice_set, IfOk};
 ghost use Rattle.plc_base.specs.declared.limits.TheConstants.{MOST_FRAMES};
 
 use crate::{FrameBuf, Key, MOST_FRAMES, TagList};
-use arrayvec::ArrayVec;
+use std::alloc::{AllocError, Global};
 use std::fmt;
 use std::marker::Model;
 
@@ -42,11 +42,11 @@ impl OutFrame {
     }
 }
 
-/// The frames of one step, at most 24. A contract sees the list of them.
+/// The frames of one step, at most 24, whose memory is taken by `new`. A contract sees the list of them.
 #[derive(Drop)]
 pub struct OutFrames {
     // All 24, whether in use or not, so that a frame is neither made nor moved to be appended.
-    places: ArrayVec<OutFrame, MOST_FRAMES>,
+    places: Vec<OutFrame>,
     used: usize,
 }
 
@@ -62,19 +62,28 @@ impl Model for OutFrames {
     ghost invariant = { λ f. (f.used ≤ MOST_FRAMES) × (length f.places.items ≡ MOST_FRAMES) };
 }
 
+// So many blanks as a step has frames.
+fn blanks(alloc: Global) -> Result<Vec<OutFrame>, AllocError>
+    ensures { IfOk result (λ frames. length frames.items ≡ MOST_FRAMES) }
+{
+    let mut frames = Vec::with_capacity(alloc, MOST_FRAMES)?;
+    for _ in 0..MOST_FRAMES {
+        frames.push(OutFrame::default())?;
+    }
+    Ok(frames)
+}
+
 impl OutFrames {
     ghost use Rattle.std.specs.Borrow.{LendsIf, sem};
     ghost use Rattle.plc_base.specs.contracts.out_frame.OutFrames.{the_row};
     ghost use Rattle.plc_base.specs.contracts.out_frame.OutFrame.{the_row as frame_row};
 
-    /// No frame.
-    pub fn new() -> OutFrames
-        ensures { result ≡ [] }
+    /// No frame, and memory for 24. It fails only where there is none.
+    pub fn new(alloc: Global) -> Result<OutFrames, AllocError>
+        ensures { IfOk result (λ frames. frames ≡ []) }
     {
-        OutFrames {
-            places: ArrayVec::from(std::array::from_fn(|_| OutFrame::default())),
-            used: 0,
-        }
+        let places = blanks(alloc)?;
+        Ok(OutFrames { places, used: 0 })
     }
 
     /// The frames, in the order in which they were pushed.
@@ -159,7 +168,7 @@ impl fmt::Debug for OutFrames {
 
 /// What one step gives out: frames, and the tags that it made and checked.
 ///
-/// It has room for all 24 frames from the start, about 10,000 octets, so make one and reuse it.
+/// `new` takes memory for 24 frames, 10,368 octets, and no other call takes any, so make one and reuse it.
 #[derive(Debug, Drop)]
 pub struct Out {
     /// The frames, in the order in which they are sent.
@@ -169,14 +178,15 @@ pub struct Out {
 }
 
 impl Out {
-    /// Nothing.
-    pub fn new() -> Out
-        ensures { result ≡ record { frames = []; tags = record { made = []; opened = [] } } }
+    /// Nothing, and memory for the frames. It fails only where there is none.
+    pub fn new(alloc: Global) -> Result<Out, AllocError>
+        ensures { IfOk result (λ out. out ≡ record { frames = []; tags = record { made = []; opened = [] } }) }
     {
-        Out {
-            frames: OutFrames::new(),
+        let frames = OutFrames::new(alloc)?;
+        Ok(Out {
+            frames,
             tags: TagList::new(),
-        }
+        })
     }
 
     /// Drops all frames and tags.
@@ -185,14 +195,5 @@ impl Out {
     {
         self.frames.clear();
         self.tags.clear();
-    }
-}
-
-impl Default for Out {
-    /// Nothing.
-    fn default() -> Out
-        ensures { result ≡ record { frames = []; tags = record { made = []; opened = [] } } }
-    {
-        Out::new()
     }
 }

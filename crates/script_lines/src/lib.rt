@@ -15,6 +15,6 @@ mod window;
 
 pub use input::{LineKind, MAX_INPUT};
 pub use laws::lines_of_a_script;
-pub use machine::{Exit, LineMachine, run};
+pub use machine::{Exit, LineMachine, a_run_may_end_without_memory, run};
 pub use text_output::{StopReason, stop, write_made, write_text};
 pub use window::{MAX_LINE, WINDOW};

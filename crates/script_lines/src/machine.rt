@@ -5,6 +5,7 @@ ghost use Rattle.script_lines.specs.Lines.{Content, TooMuch};
 ghost use Rattle.script_lines.specs.Next.{content_found};
 ghost use Rattle.script_lines.specs.Outcomes.{Turn, outcome};
 ghost use Rattle.script_lines.specs.Clauses.{IsWritten, Turned, IsStop, Drives};
+ghost use Rattle.plc_base.specs.Streams.{SourceState, SinkState};
 
 use crate::input::{Input, LineKind};
 use crate::text_output::StopReason;
@@ -139,3 +140,9 @@ pub fn run<M: LineMachine, S: Source, K: Sink>(
     };
     follow(&mut input, machine, source, sink)
 }
+
+/// A run may end without memory before anything is read: its text is then the empty prefix. For who has no memory for the machine itself.
+pub fn a_run_may_end_without_memory<M: LineMachine>()
+    ensures { (machine : M) (source : SourceState) (sink : SinkState)
+        → Drives (outcome M.turn M.end_text machine) machine source source sink sink Exit.Memory }
+{}

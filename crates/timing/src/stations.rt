@@ -44,10 +44,8 @@ impl Node {
         let Ok(station) = Station::open(alloc, keeper, Eui([0, 0, 0, 0, 0, 0, 0, number])) else {
             bail!("not opened");
         };
-        let mut node = Node {
-            station,
-            out: Out::new(),
-        };
+        let out = Out::new(alloc)?;
+        let mut node = Node { station, out };
         let grant = Grant {
             address,
             active: KeyIndex::first(),

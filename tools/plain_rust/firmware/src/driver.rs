@@ -35,8 +35,9 @@ pub struct Driver {
 impl Driver {
     /// Opens the meter, once after power comes: it reads the flash.
     pub fn open(flash: Flash, eui: Eui, psk: Key) -> Result<Driver, OpenFault> {
+        let out = Out::new(Global).map_err(|_| OpenFault::Memory)?;
         let meter = Meter::open(Global, flash, eui, psk).map_err(|(fault, _)| fault)?;
-        Ok(Driver { meter, out: Out::new(), payload: FrameBuf::new(), datagram: DatagramBuf::new() })
+        Ok(Driver { meter, out, payload: FrameBuf::new(), datagram: DatagramBuf::new() })
     }
 
     /// Takes the grant that a workshop gives, in place of joining over the air.

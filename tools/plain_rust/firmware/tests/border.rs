@@ -60,8 +60,12 @@ fn cost() -> LinkCost {
     LinkCost::new(1).unwrap()
 }
 
+fn out() -> Out {
+    Out::new(Global).ok().unwrap()
+}
+
 fn full() -> Out {
-    let mut out = Out::new();
+    let mut out = out();
     for _ in 0..MOST_FRAMES {
         out.frames.push_blank();
     }
@@ -77,7 +81,7 @@ struct Lent {
 
 impl Lent {
     fn new(count: usize) -> Lent {
-        Lent { payload: FrameBuf::from_octets(&vec![1; count]), datagram: DatagramBuf::new(), out: Out::new() }
+        Lent { payload: FrameBuf::from_octets(&vec![1; count]), datagram: DatagramBuf::new(), out: out() }
     }
 }
 
@@ -106,7 +110,7 @@ fn coordinator_hears(mut node: Coordinator<Flash>, count: usize) {
 #[test]
 fn a_halted_node_stops() {
     stops("plc_station: hear: ready", || station_hears(halted().station(), 1));
-    stops("plc_station: send_local: ready", || halted().station().send_local(3, None, &[1], &mut Out::new()));
+    stops("plc_station: send_local: ready", || halted().station().send_local(3, None, &[1], &mut out()));
     stops("plc_station: preset_counter: ready", || halted().station().preset_counter(1));
     stops("plc_station: preset_number: ready", || halted().station().preset_number(1));
     stops("plc_station: preset_near: ready", || halted().station().preset_near(address(1), cost(), 0));
@@ -125,7 +129,7 @@ fn a_halted_node_stops() {
 
 #[test]
 fn a_node_without_an_address_stops() {
-    stops("plc_station: send_local: joined", || meter().station().send_local(3, None, &[1], &mut Out::new()));
+    stops("plc_station: send_local: joined", || meter().station().send_local(3, None, &[1], &mut out()));
     stops("plc_station: put_key: joined", || meter().station().put_key(KeyIndex::first(), &key()));
     stops("meter_node: hear: came", || meter_hears(meter(), Path::Up { from: Eui([3; 8]) }, 1));
 }
@@ -133,15 +137,15 @@ fn a_node_without_an_address_stops() {
 #[test]
 fn a_coordinator_that_has_not_address_0000_stops() {
     stops("coordinator: hear: ready", || coordinator_hears(homeless(), 1));
-    stops("coordinator: challenge: holds", || homeless().challenge(Eui([2; 8]), 0, &mut Out::new()));
+    stops("coordinator: challenge: holds", || homeless().challenge(Eui([2; 8]), 0, &mut out()));
     stops("coordinator: tick: holds", || homeless().tick(0));
     stops("coordinator: allow: holds", || homeless().allow(Eui([2; 8]), &key()));
     stops("coordinator: depot: holds", || homeless().depot(Eui([2; 8]), &key()));
     stops("coordinator: rekey: holds", || homeless().rekey(KeyIndex::first(), &key()));
     stops("coordinator: activate_self: holds", || homeless().activate_self(KeyIndex::first()));
-    stops("coordinator: kick: holds", || homeless().kick(Eui([2; 8]), &mut Out::new()));
+    stops("coordinator: kick: holds", || homeless().kick(Eui([2; 8]), &mut out()));
     stops("coordinator: give_random: holds", || homeless().give_random(Rand([1; 16])));
-    stops("coordinator: activate: holds", || homeless().activate(Eui([2; 8]), KeyIndex::first(), 0, &mut Out::new()));
+    stops("coordinator: activate: holds", || homeless().activate(Eui([2; 8]), KeyIndex::first(), 0, &mut out()));
 }
 
 #[test]
@@ -159,13 +163,13 @@ fn a_size_or_a_number_out_of_bounds_stops() {
     stops("plc_station: hear: fits", || station_hears(joined().station(), 382));
     stops("meter_node: hear: fits", || meter_hears(joined(), sealed(), 382));
     stops("coordinator: hear: fits", || coordinator_hears(coordinator(), 382));
-    stops("plc_station: send_command: some", || joined().station().send_command(address(0), &[], 0, &mut Out::new()));
-    stops("plc_station: send_command: fits", || joined().station().send_command(address(0), &[1; 375], 0, &mut Out::new()));
+    stops("plc_station: send_command: some", || joined().station().send_command(address(0), &[], 0, &mut out()));
+    stops("plc_station: send_command: fits", || joined().station().send_command(address(0), &[1; 375], 0, &mut out()));
     stops("plc_station: room: fits", || joined().station().room(address(0), 375));
-    stops("plc_station: send_local: code", || joined().station().send_local(2, None, &[1], &mut Out::new()));
-    stops("plc_station: send_local: last_code", || joined().station().send_local(6, None, &[1], &mut Out::new()));
-    stops("plc_station: send_local: some", || joined().station().send_local(3, None, &[], &mut Out::new()));
-    stops("plc_station: send_local: fits", || joined().station().send_local(3, None, &[1; 380], &mut Out::new()));
+    stops("plc_station: send_local: code", || joined().station().send_local(2, None, &[1], &mut out()));
+    stops("plc_station: send_local: last_code", || joined().station().send_local(6, None, &[1], &mut out()));
+    stops("plc_station: send_local: some", || joined().station().send_local(3, None, &[], &mut out()));
+    stops("plc_station: send_local: fits", || joined().station().send_local(3, None, &[1; 380], &mut out()));
     stops("plc_station: send_local: room", || joined().station().send_local(3, None, &[1], &mut full()));
     stops("plc_station: preset_number: value", || joined().station().preset_number(0));
 }
@@ -179,7 +183,7 @@ fn what_a_clause_just_allows_does_not_stop() {
     coordinator_hears(coordinator(), 381);
     let mut node = joined();
     let station = node.station();
-    let mut out = Out::new();
+    let mut out = out();
     assert!(station.send_local(3, None, &[1], &mut out).is_ok());
     assert!(station.send_local(5, None, &[1; 379], &mut out).is_ok());
     station.preset_number(1).unwrap();
@@ -192,6 +196,6 @@ fn what_a_clause_just_allows_does_not_stop() {
         let _ = joined().station().activate(index);
         let _ = coordinator().rekey(index, &key());
         let _ = coordinator().activate_self(index);
-        let _ = coordinator().activate(Eui([2; 8]), index, 0, &mut Out::new());
+        let _ = coordinator().activate(Eui([2; 8]), index, 0, &mut out());
     }
 }

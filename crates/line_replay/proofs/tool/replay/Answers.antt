@@ -1,22 +1,24 @@
-use Rattle.std.proofs.Common.{sym, true}
-use Rattle.line_replay.proofs.Running.{entries_run, last_is, report_by_entries, names, ran_of, whole_exit, read_cause, write_cause}
-use Rattle.line_replay.proofs.Quieting.{report_quieted}
-use Rattle.line_replay.specs.Replay.{entries, is_forged, outcome}
+use Rattle.std.proofs.Common.{ℕ, Bool, List, false, refl, sym}
+use Rattle.line_laws.specs.Network.{IsRight}
+use Rattle.line_rules.specs.Worlds.{start}
+use Rattle.script_lines.specs.declared.machine.Exit.TheVariants as exits
+use Rattle.line_replay.proofs.Running.{entries_run, ran_of, whole_exit, read_cause, write_cause}
+use Rattle.line_replay.proofs.Replayed.{replays_of}
+use Rattle.line_replay.specs.Replay.{Playing, entries, is_forged, outcome}
+use Rattle.line_replay.specs.declared.status.Status.TheVariants as status
 use Rattle.line_replay.proofs.tool.replay.Goals as goal
+
+pub returns-in_default-clause-replays : goal.returns-in_default-clause-replays
+returns-in_default-clause-replays g c =
+    let first : Playing = record { quiet = c.args.quiet; world = start } in
+    replays_of c.args.quiet (ran_of is_forged (outcome c.args.quiet) exits.Memory first false status.Memory refl refl
+    (c.a_run_may_end_without_memory.ensures first _ _)) (λ b e. c.every_network_run_is_right.ensures (entries b e) (entries_run b e))
 
 pub returns-clause-replays : goal.returns-clause-replays
 returns-clause-replays g c =
     let ran = ran_of is_forged (outcome c.args.quiet) c.run-exit.result c.run-exit.new.machine c.is_forged.result c.status_of.result c.status_of.ensures
-    (sym c.is_forged.ensures) (rw c.new-replay.ensures at c.run-exit.ensures.drives) in
-    record {
-      ran = ran;
-      by_entries = report_by_entries c.args.quiet ran.drives.b;
-      quieted = λ e. report_quieted ran.drives.b e;
-      bad = last_is ran.drives.b;
-      run = entries_run ran.drives.b;
-      holds = λ e. c.every_network_run_is_right.ensures (entries ran.drives.b e) (entries_run ran.drives.b e);
-      named = names c.args.quiet ran (c.every_network_run_is_right.ensures (entries ran.drives.b true) (entries_run ran.drives.b true)).counted;
-    }
+    (sym c.is_forged.ensures) (rw c.in-Ok.ensures at c.run-exit.ensures.drives) in
+    replays_of c.args.quiet ran (λ b e. c.every_network_run_is_right.ensures (entries b e) (entries_run b e))
 
 pub returns-clause-whole : goal.returns-clause-whole
 returns-clause-whole g c = λ whole. c.run-exit.ensures.whole (whole_exit c.run-exit.result c.is_forged.result c.status_of.result c.status_of.ensures whole)
@@ -24,13 +26,13 @@ returns-clause-whole g c = λ whole. c.run-exit.ensures.whole (whole_exit c.run-
 pub returns-clause-read : goal.returns-clause-read
 returns-clause-read g c =
     let ran = ran_of is_forged (outcome c.args.quiet) c.run-exit.result c.run-exit.new.machine c.is_forged.result c.status_of.result c.status_of.ensures
-    (sym c.is_forged.ensures) (rw c.new-replay.ensures at c.run-exit.ensures.drives) in
+    (sym c.is_forged.ensures) (rw c.in-Ok.ensures at c.run-exit.ensures.drives) in
     λ is. read_cause ran is
 
 pub returns-clause-write : goal.returns-clause-write
 returns-clause-write g c =
     let ran = ran_of is_forged (outcome c.args.quiet) c.run-exit.result c.run-exit.new.machine c.is_forged.result c.status_of.result c.status_of.ensures
-    (sym c.is_forged.ensures) (rw c.new-replay.ensures at c.run-exit.ensures.drives) in
+    (sym c.is_forged.ensures) (rw c.in-Ok.ensures at c.run-exit.ensures.drives) in
     λ is. write_cause ran is
 
 pub returns-clause-source : goal.returns-clause-source

@@ -1,13 +1,26 @@
-use Rattle.std.proofs.Common.{sym}
+use Rattle.std.proofs.Common.{false, refl, sym}
+use Rattle.script_lines.specs.declared.machine.Exit.TheVariants as exits
 use Rattle.line_view.proofs.Checks.{finds, text_is}
 use Rattle.line_view.proofs.Running.{names, ran_of, fine_exit, read_cause, write_cause}
-use Rattle.line_view.specs.Checking.{is_bad, outcome}
+use Rattle.line_view.specs.Checking.{checking, is_bad, outcome}
+use Rattle.line_view.specs.declared.status.Status.TheVariants as status
 use Rattle.line_view.proofs.tool.check.Goals as goal
+
+pub returns-in_default-clause-checks : goal.returns-in_default-clause-checks
+returns-in_default-clause-checks g c =
+    let ran = ran_of is_bad (outcome c.args.json) exits.Memory (checking c.args.json) false status.Memory refl refl
+    (c.a_run_may_end_without_memory.ensures (checking c.args.json) _ _) in
+    record {
+      ran = ran;
+      finds = finds c.args.json ran.drives.b;
+      text = text_is c.args.json ran.drives.b;
+      named = names c.args.json ran;
+    }
 
 pub returns-clause-checks : goal.returns-clause-checks
 returns-clause-checks g c =
     let ran = ran_of is_bad (outcome c.args.json) c.run-exit.result c.run-exit.new.machine c.is_bad.result c.status_of.result c.status_of.ensures
-    (sym c.is_bad.ensures) (rw c.new-check.ensures at c.run-exit.ensures.drives) in
+    (sym c.is_bad.ensures) (rw c.in-Ok.ensures at c.run-exit.ensures.drives) in
     record {
       ran = ran;
       finds = finds c.args.json ran.drives.b;
@@ -21,13 +34,13 @@ returns-clause-whole g c = λ fine. c.run-exit.ensures.whole (fine_exit c.run-ex
 pub returns-clause-read : goal.returns-clause-read
 returns-clause-read g c =
     let ran = ran_of is_bad (outcome c.args.json) c.run-exit.result c.run-exit.new.machine c.is_bad.result c.status_of.result c.status_of.ensures
-    (sym c.is_bad.ensures) (rw c.new-check.ensures at c.run-exit.ensures.drives) in
+    (sym c.is_bad.ensures) (rw c.in-Ok.ensures at c.run-exit.ensures.drives) in
     λ is. read_cause ran is
 
 pub returns-clause-write : goal.returns-clause-write
 returns-clause-write g c =
     let ran = ran_of is_bad (outcome c.args.json) c.run-exit.result c.run-exit.new.machine c.is_bad.result c.status_of.result c.status_of.ensures
-    (sym c.is_bad.ensures) (rw c.new-check.ensures at c.run-exit.ensures.drives) in
+    (sym c.is_bad.ensures) (rw c.in-Ok.ensures at c.run-exit.ensures.drives) in
     λ is. write_cause ran is
 
 pub returns-clause-source : goal.returns-clause-source

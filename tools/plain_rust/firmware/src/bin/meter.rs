@@ -17,7 +17,7 @@ mod on_a_board {
 
     /// What a meter takes at its opening, and no more: a pool of 160 blocks and its table, 64 ranks with their routes, 64 marks.
     #[global_allocator]
-    static HEAP: Heap<2264> = Heap::new();
+    static HEAP: Heap<3552> = Heap::new();
 
     /// What happened.
     #[repr(C)]

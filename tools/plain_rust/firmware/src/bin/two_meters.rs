@@ -16,7 +16,7 @@ use rattle_std::alloc::Global;
 // Three nodes take about 15 KB each, and the coordinator 60 KB more for its book.
 #[cfg(target_os = "none")]
 #[global_allocator]
-static HEAP: bare::Heap<14600> = bare::Heap::new();
+static HEAP: bare::Heap<17176> = bare::Heap::new();
 
 #[cfg(not(target_os = "none"))]
 fn print(text: &str) {
