@@ -45,7 +45,7 @@ impl<B: FlashBank + Drop> Model for FlashKeeper<B> {
     ghost coded = { flash_store_code };
 
     ghost view = { λ k. record {
-      store = record { records = upto (B.bank k.pair.live).words k.pair.next; faults = k.faults; known_cut = None };
+      store = record { records = upto (B.bank k.pair.live).words k.pair.next; faults = k.faults; known_cut = None; listed = None };
       left = upto (B.bank k.pair.live).words (k.pair.next + 1);
     } };
 
@@ -57,7 +57,8 @@ impl<B: FlashBank + Drop> FlashKeeper<B> {
     /// fails only where a program or an erase failed, and gives the banks back, to be formatted again.
     #[tactic(auto, using(crate::proofs::KeeperLemmas::kept_of_ready, crate::proofs::KeeperLemmas::kept_of_left, crate::proofs::KeeperLemmas::nothing_else))]
     pub fn format(first: B, second: B) -> Result<FlashKeeper<B>, (B, B)>
-        ensures { IfOk result (λ keeper. keeper ≡ record { store = record { records = map.empty; faults = 0; known_cut = None }; left = map.empty }) }
+        ensures { IfOk result (λ keeper. keeper
+            ≡ record { store = record { records = map.empty; faults = 0; known_cut = None; listed = None }; left = map.empty }) }
     {
         let mut pair = Pair {
             live: first,
@@ -146,6 +147,7 @@ impl<B: FlashBank + Drop> FlashKeeper<B> {
         ensures err { OnErr result (self.new.store.records ≡ self.old.store.records) }
         ensures faults { self.new.store.faults ≡ self.old.store.faults }
         ensures known_cut { self.new.store.known_cut ≡ self.old.store.known_cut }
+        ensures listed { self.new.store.listed ≡ self.old.store.listed }
         ensures left { IsLeftBy self.old slot octets.now (is_ok result) self.new }
     {
         if self.failed {

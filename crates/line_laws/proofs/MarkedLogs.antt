@@ -134,7 +134,7 @@ module _ (ups : List BroadcastUp) (n : ℕ) where
   }
 
 store : Records → Store
-store r = record { records = r; faults = 0; known_cut = None }
+store r = record { records = r; faults = 0; known_cut = None; listed = None }
 
 -- # Writes
 
@@ -150,7 +150,16 @@ module _ (ups : List BroadcastUp) (n : ℕ) where
 
   put_true : (r : Records) (w : Write) → Puts (store r) w.slot w.octets true (store (insert r w.slot w.octets))
   unfolding store
-  put_true r w = record { stored = refl; old_or_new = inr refl; faults = zero-le; rose = tt; known_cut = refl; known_cut_ok = tt; known_cut_records = tt }
+  put_true r w = record {
+    stored = refl;
+    old_or_new = inr refl;
+    faults = zero-le;
+    rose = tt;
+    known_cut = refl;
+    known_cut_ok = tt;
+    known_cut_records = tt;
+    listed = refl;
+  }
 
   number_leads : (log : Log) → is_spent log.numbering ≡ false → PutsLead (Kept ups n) (log, None) (puts_of (number_put log.numbering)) (numbered_log log, None)
   unfolding store

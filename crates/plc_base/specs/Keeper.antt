@@ -1,5 +1,5 @@
 -- What a keeper holds, what a put does to it, and what a loss of power makes of a put.
-use Rattle.std.specs.Prelude.{◌≡◌, ◌⊎◌, ℕ, ◌-◌, ◌<◌, ◌≤◌, Bool, true, ◌||◌, nat_lt, if◌then◌else◌, List, Option, Some, None, IfSome, refl}
+use Rattle.std.specs.Prelude.{◌≡◌, ◌⊎◌, ℕ, ◌-◌, ◌<◌, ◌≤◌, Bool, true, ◌||◌, nat_lt, if◌then◌else◌, List, [], ◌∷◌, ◌++◌, Option, Some, None, IfSome, refl}
 use Rattle.std.specs.Bool.{OnTrue, OnFalse}
 use Rattle.std.specs.Option.{option_map}
 use Rattle.std.specs.Ordering.{nat_cmp}
@@ -12,6 +12,11 @@ use Rattle.plc_base.specs.Causes.{Rose}
 abbrev pub Records : Type 0
 Records = FinMap nat_cmp (List ℕ)
 
+-- A put that a call makes.
+pub record Write : Type 0 where
+  pub slot : ℕ
+  pub octets : List ℕ
+
 -- What a keeper holds.
 pub record Store : Type 0 where
   pub records : Records
@@ -19,6 +24,8 @@ pub record Store : Type 0 where
   pub faults : ℕ
   -- None where it is not known, and else the cut that is to come, if there is one
   pub known_cut : Option (Option Cut)
+  -- None where it lists no puts, and else the puts since the list was last cleared, in order
+  pub listed : Option (List Write)
 
 -- The slots: 1 the ring, 2 the limit of the send counter, 3 that of the own number, 4 the next datagram tag, 5 the floors,
 -- 6 the limit of the broadcast number; the peers' marks; the ranks; the broadcast marks; the book.
@@ -49,6 +56,10 @@ writes (Some cut) = nat_lt 1 cut.nth || cut.keeps_new
 abbrev pub records_after : Option Cut → Records → ℕ → List ℕ → Records
 records_after cut records slot octets = if writes cut then insert records slot octets else records
 
+-- the puts that are listed after one more, which is listed where it succeeds
+abbrev pub listed_after : Bool → Write → List Write → List Write
+listed_after ok write listed = if ok then listed ++ write ∷ [] else listed
+
 -- A put of these octets, which succeeds or not.
 pub record Puts (old : Store) (slot : ℕ) (octets : List ℕ) (ok : Bool) (new : Store) : Type 0 where
   pub stored : OnTrue ok (new.records ≡ insert old.records slot octets)
@@ -59,24 +70,25 @@ pub record Puts (old : Store) (slot : ℕ) (octets : List ℕ) (ok : Bool) (new 
   pub known_cut : new.known_cut ≡ option_map cut_after old.known_cut
   pub known_cut_ok : IfSome old.known_cut (λ cut. ok ≡ succeeds cut)
   pub known_cut_records : IfSome old.known_cut (λ cut. new.records ≡ records_after cut old.records slot octets)
+  pub listed : new.listed ≡ option_map (listed_after ok (record { slot = slot; octets = octets })) old.listed
 
 -- a store is kept as the tuple of its fields
 abbrev pub store_code : Coded Store
 store_code =
-    code_by (Records × (ℕ × Option (Option Cut)))
-    (coded× (code coded_ℕ (coded_list coded_ℕ)) (coded× coded_ℕ (coded_option (coded_option cut_code))))
-    (λ s. (s.records, (s.faults, s.known_cut)))
-    (λ p. record { records = p.0; faults = p.1.0; known_cut = p.1.1 })
+    code_by (Records × (ℕ × (Option (Option Cut) × Option (List Write))))
+    (coded× (code coded_ℕ (coded_list coded_ℕ))
+    (coded× coded_ℕ (coded× (coded_option (coded_option cut_code)) (coded_option (coded_list write_code)))))
+    (λ s. (s.records, (s.faults, (s.known_cut, s.listed))))
+    (λ p. record { records = p.0; faults = p.1.0; known_cut = p.1.1.0; listed = p.1.1.1 })
     (λ _. refl)
   where
+    write_code : Coded Write
+    write_code = code_by (ℕ × List ℕ) (coded× coded_ℕ (coded_list coded_ℕ)) (λ w. (w.slot, w.octets))
+        (λ p. record { slot = p.0; octets = p.1 }) (λ _. refl)
+
     cut_code : Coded Cut
     cut_code = code_by (ℕ × Bool) (coded× coded_ℕ coded_bool) (λ c. (c.nth, c.keeps_new))
         (λ p. record { nth = p.0; keeps_new = p.1 }) (λ _. refl)
-
--- A put that a call makes.
-pub record Write : Type 0 where
-  pub slot : ℕ
-  pub octets : List ℕ
 
 -- The puts of a call that makes at most one; done says that none failed.
 abbrev pub Stores : Store → Option Write → Bool → Store → Type 0

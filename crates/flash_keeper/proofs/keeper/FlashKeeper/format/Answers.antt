@@ -6,4 +6,4 @@ pub returns : goal.returns
 returns g c =
     let e = c.in-Ok.ensures.records in
     let l = nothing_else _ _ _ _ c.in-Ok.ensures.ready ∙ e in
-    λ i. record { store = record { records = e i; faults = 0; known_cut = None }; left = l i }
+    λ i. record { store = record { records = e i; faults = 0; known_cut = None; listed = None }; left = l i }
