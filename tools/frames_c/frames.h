@@ -1,6 +1,6 @@
 /* MAC frames of IEEE 802.15.4-2006 as G3-PLC uses them, sealed with CCM*: the calls of libframes_c.a, which the crate frames_c makes.
  *
- * Each call stands alone: it keeps nothing, takes no memory (about 2 KB of stack) and may be called from any thread. It returns FRAMES_OK, or why it
+ * Each call stands alone: it keeps nothing, takes no memory and may be called from any thread. It returns FRAMES_OK, or why it
  * did nothing. A refused call changes none of its buffers; a call writes no octet of a buffer beyond the length that it gives.
  *
  * Each pointer goes with the number of octets behind it. It is never null, also where that number is 0, and no buffer that a call writes overlaps

@@ -9,7 +9,7 @@
 //!
 //! What its calls promise, by the names of their clauses:
 //!
-//! - The number is that of the first reason in the order of the definition, and 0 exactly where there is none (`status`).
+//! - A call that refuses answers the first reason in the order of its definition. It answers 0 exactly where none holds (`status`).
 //! - What is sealed is the sealed frame of the definition (`sealed`), and what opens was sealed so (`opened`); the head is the one that the octets
 //!   spell (`read`).
 //! - Nothing else is written (`rest`, `refused`).

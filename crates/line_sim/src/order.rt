@@ -19,8 +19,8 @@ pub struct Delivery {
 
 /// What the lines of a script so far ask of the next one.
 ///
-/// The air keeps the frames of a node in their order and brings none back to its sender, and the calendar of a simulation never goes back. So nothing that a
-/// simulation does is refused here. It is asked all the same, since the proof of a script's order rests on it.
+/// The air keeps the frames of a node in their order and brings none back to its sender, and the calendar of a simulation never goes back, so a simulation
+/// should never be refused here. That is tested and not proved: the proof of a script's order rests on asking.
 #[derive(Drop)]
 pub struct Order {
     // The flight that came last, by its sender and the node that it came to.
