@@ -13,7 +13,6 @@ LIBRARIES = {
     "itoa": 'itoa = { version = "1", default-features = false }',
     "hex": 'hex = { package = "rattle_hex", path = "../../shims/hex" }',
     "strsim": 'strsim = { package = "rattle_strsim", path = "../../shims/strsim" }',
-    "circular_buffer": 'circular_buffer = { package = "rattle_ring", path = "../../shims/circular_buffer" }',
 }
 # What the example of a firmware is made from.
 FIRMWARE = {"meter_node", "coordinator"}

@@ -3,11 +3,11 @@ use Rattle.std.proofs.Common.{◌≡◌, ◌≢◌, inl, inr, ℕ, suc, ◌+◌,
 use Rattle.std.proofs.Common.{nat_lt, nat_le, min, slice_range, zero, length-take, length-drop, get_or-take, get_or-drop, take-append-drop, add-zero, add-one}
 use Rattle.std.proofs.Common.{None, Some, Ok, Err, IsTrue, refl, sym, ◌∙◌, ap, subst, arith, append_assoc, length-append}
 use Rattle.std.proofs.lemmas.Bool.{both_ways, cases_lt, lt-ltb, le-ltb, lt-leb, eq-eqb, ne_eqb, eqb-true}
-use Rattle.std.proofs.lemmas.List.{append-nil, nil_from_length, take_all, take-append-le, get_or-append-add}
+use Rattle.std.proofs.lemmas.List.{append-nil, nil_from_length, take_all, take-append-le}
 use Rattle.std.proofs.KnownBytes.{Consumes-nil, Consumes-trans, Consumes-kept}
 use Rattle.std.specs.declared.option.Option.{Option}
 use Rattle.std.specs.Io.KnownBytes.{Consumes, Keeps}
-use Rattle.std.proofs.Math.Seq.{drop-cons, take-append-add}
+use Rattle.std.proofs.Math.Seq.{drop-cons}
 use Rattle.memchr.specs.Find.{NoneBefore, Nowhere, Passes, is_byte}
 use Rattle.plc_base.specs.declared.streams.Failed.{Failed}
 use Rattle.plc_base.specs.Streams.{SourceState}
@@ -61,15 +61,11 @@ stretched seen count part (x ∷ xs) cs e none room =
 
 -- ---- octets that are no line feeds
 
-pub clear_from : (xs : List ℕ) → ((k : ℕ) → k < length xs → get_or xs k 0 ≡ 10 → ⊥) → NoFeed xs
+clear_from : (xs : List ℕ) → ((k : ℕ) → k < length xs → get_or xs k 0 ≡ 10 → ⊥) → NoFeed xs
 clear_from [] none = tt
 clear_from (x ∷ xs) none = (none 0 (omega arith), clear_from xs (λ k h. none (suc k) (omega (arith, h))))
 
-pub clear_both : (xs ys : List ℕ) → NoFeed xs → NoFeed ys → NoFeed (xs ++ ys)
-clear_both [] ys a b = b
-clear_both (x ∷ xs) ys a b = (a.0, clear_both xs ys a.1 b)
-
-pub clear_at : (xs : List ℕ) (k : ℕ) → NoFeed xs → k < length xs → get_or xs k 0 ≡ 10 → ⊥
+clear_at : (xs : List ℕ) (k : ℕ) → NoFeed xs → k < length xs → get_or xs k 0 ≡ 10 → ⊥
 clear_at [] k none h e = omega (arith, h)
 clear_at (x ∷ xs) zero none h e = none.0 e
 clear_at (x ∷ xs) (suc k) none h e = clear_at xs k none.1 (omega (arith, h)) e
@@ -110,42 +106,6 @@ pub no_feed_found : (w : List ℕ) (clear stop : ℕ) → stop ≤ length w → 
     → Nowhere (Passes (is_byte 10) (slice_range w clear stop)) 0 (length (slice_range w clear stop)) → FeedIs w stop None
 no_feed_found w clear stop within low none never =
     clear_to w clear stop stop low (omega arith) within none (λ k low' h. never k low' (omega (arith, h, part_length w clear stop within)))
-
--- ---- the same in two slices
-
-clear_parts : (xs ys : List ℕ) → NoFeed (xs ++ ys) → NoFeed xs × NoFeed ys
-clear_parts [] ys none = (tt, none)
-clear_parts (x ∷ xs) ys none = let rest = clear_parts xs ys none.1 in ((none.0, rest.0), rest.1)
-
-take_both : (n : ℕ) (xs ys : List ℕ) → take n (xs ++ ys) ≡ take (min n (length xs)) xs ++ take (n - length xs) ys
-take_both n xs ys = elim (cases_lt n (length xs)) [
-  | inl few ↦
-      let first : min n (length xs) ≡ n = omega (arith, few) in
-      let none : n - length xs ≡ 0 = omega (arith, few) in
-      rw (first, none) (take-append-le n xs ys (omega (arith, few)) ∙ sym (append-nil (take n xs)))
-  | inr many ↦
-      let first : min n (length xs) ≡ length xs = omega (arith, many) in
-      let whole : length xs + (n - length xs) ≡ n = omega (arith, many) in
-      ap (λ k. take k (xs ++ ys)) (sym whole) ∙ take-append-add xs ys (n - length xs)
-      ∙ rw first (ap (λ (l : List ℕ). l ++ take (n - length xs) ys) (sym (take_all (length xs) xs (omega arith))))
-]
-
-pub clear_slices : (n : ℕ) (xs ys : List ℕ) → NoFeed (take n (xs ++ ys)) → NoFeed (take (min n (length xs)) xs) × NoFeed (take (n - length xs) ys)
-clear_slices n xs ys none = clear_parts (take (min n (length xs)) xs) (take (n - length xs) ys) (subst NoFeed (take_both n xs ys) none)
-
-pub clear_whole : (n : ℕ) (xs ys : List ℕ) → NoFeed (take (min n (length xs)) xs) → NoFeed (take (n - length xs) ys) → NoFeed (take n (xs ++ ys))
-clear_whole n xs ys a b = subst NoFeed (sym (take_both n xs ys)) (clear_both (take (min n (length xs)) xs) (take (n - length xs) ys) a b)
-
-pub found_in_back : (xs ys : List ℕ) (stop room at : ℕ) → stop ≤ room → stop ≤ length (xs ++ ys) → FeedIs xs (min stop (length xs)) None
-    → FeedIs ys (stop - length xs) (Some at) → FoundIs (xs ++ ys) room (Feed (length xs + at))
-found_in_back xs ys stop room at fits within none found =
-    let past : min stop (length xs) ≡ length xs = omega (arith, found.0) in (
-      omega (arith, found.0, fits),
-      omega (arith, found.0, within),
-      get_or-append-add xs ys at 0 ∙ found.1,
-      subst NoFeed (sym (take-append-add xs ys at))
-          (clear_both xs (take at ys) (subst NoFeed (take_all (min stop (length xs)) xs (omega (arith, past))) none) found.2),
-    )
 
 -- a list at a place
 pub parted : (w : List ℕ) (n : ℕ) → n < length w → w ≡ take n w ++ (get_or w n 0 ∷ drop (n + 1) w)

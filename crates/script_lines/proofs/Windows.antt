@@ -1,32 +1,60 @@
 -- The octets that a reader of lines holds.
-use Rattle.std.proofs.Common.{◌≡◌, ℕ, ◌≤◌, List, ◌++◌, length, take, drop, length-take, length-append, append_assoc, ◌∙◌, ap, arith}
-use Rattle.std.proofs.lemmas.List.{take-take, take-append-le}
-use Rattle.std.specs.Io.KnownBytes.{Consumes}
-use Rattle.plc_base.specs.Streams.{SourceState}
-use Rattle.script_lines.specs.Next.{Given}
+use Rattle.std.proofs.Common.{◌≡◌, ℕ, ◌+◌, ◌-◌, ◌≤◌, List, ◌++◌, length, take, drop, slice_range, length-take, length-drop}
+use Rattle.std.proofs.Common.{Result, Ok, Err, sym, ◌∙◌, ap, arith}
+use Rattle.std.proofs.lemmas.List.{append-nil, drop-append-le, drop-drop, drop-take, take-append-le, take-take}
+use Rattle.std.proofs.Math.Seq.{take-append-add}
+use Rattle.plc_base.specs.declared.streams.Failed.{Failed}
+use Rattle.std.specs.Io.{ReadsAtMost}
+use Rattle.plc_base.specs.Streams.{SourceState, Reads}
+use Rattle.plc_base.proofs.SourceLemmas.{one_read, ends_there}
+use Rattle.script_lines.specs.Next.{Fills, count_read}
 
--- the front of a buffer whose front was written
-front_of : (n len : ℕ) (buf post rest : List ℕ) → n ≤ len → n ≤ length buf → take n (take len ((buf ++ post) ++ rest)) ≡ take n buf
-front_of n len buf post rest room fits =
-    take-take n len ((buf ++ post) ++ rest) room ∙ ap (take n) (append_assoc buf post rest) ∙ take-append-le n buf (post ++ rest) fits
+-- the first octets of a range
+pub range_front : (xs : List ℕ) (first end n : ℕ) → n ≤ end - first → slice_range xs first (first + n) ≡ take n (slice_range xs first end)
+range_front xs first end n within =
+    let count : first + n - first ≡ n = omega arith in
+    ap (λ k. take k (drop first xs)) count ∙ sym (take-take n (end - first) (drop first xs) within)
 
-pub taken_out : (n r len : ℕ) (items dst old post rest : List ℕ) → r ≡ n → n ≤ length items → n ≤ len → dst ≡ take r items ++ drop r old
-    → take n (take len ((dst ++ post) ++ rest)) ≡ take n items
-taken_out n r len items dst old post rest r_is some room dst_is =
-    front_of n len dst post rest room
-    (omega (arith, r_is, some, ap (λ (l : List ℕ). length l) dst_is, length-append (take r items) (drop r old), length-take r items))
-    ∙ ap (take n) dst_is
-    ∙ ap (λ k. take n (take k items ++ drop k old)) r_is
-    ∙ take-append-le n (take n items) (drop n old) (omega (arith, some, length-take n items))
-    ∙ take-take n n items (omega arith)
+-- and what is left after them
+pub range_rest : (xs : List ℕ) (first end used : ℕ) → used ≤ end - first → slice_range xs (first + used) end ≡ drop used (slice_range xs first end)
+range_rest xs first end used within =
+    let left : ℕ = end - (first + used) in
+    let sum : end - first ≡ used + left = omega (arith, within) in
+    sym (ap (λ n. drop used (take n (drop first xs))) sum ∙ drop-take used left (drop first xs) ∙ ap (take left) (drop-drop used first xs))
 
-pub given_behind : {source0 source1 : SourceState} (items buf post rest chunk new : List ℕ) (len n r : ℕ) → n ≤ len → n ≤ length buf
-    → Consumes source0.left source1.left (take n buf) → chunk ≡ take len ((buf ++ post) ++ rest) → r ≡ n
-    → new ≡ items ++ take r (take n chunk) → Given source0 source1 items new n
-given_behind items buf post rest chunk new len n r room fits gave chunk_is r_is new_is = record {
-  octets = take n buf;
-  gave = gave;
-  grown = new_is ∙ ap (λ k. items ++ take k (take n chunk)) r_is
-      ∙ ap (λ (l : List ℕ). items ++ l) (take-take n n chunk (omega arith) ∙ ap (take n) chunk_is ∙ front_of n len buf post rest room fits);
-  counted = omega (arith, length-take n buf, fits);
+-- a range that grew by the first octets of what was written behind it
+range_grown : (xs buf rest : List ℕ) (first end n : ℕ) → first ≤ end → end ≤ length xs → n ≤ length buf
+    → slice_range (take end xs ++ (buf ++ rest)) first (end + n) ≡ slice_range xs first end ++ take n buf
+range_grown xs buf rest first end n order within fits =
+    let range : List ℕ = slice_range xs first end in
+    let long : length range ≡ end - first = omega (arith, length-take (end - first) (drop first xs), length-drop first xs, within) in
+    let sum : end + n - first ≡ length range + n = omega (arith, long, order) in
+    let whole : first + (end - first) ≡ end = omega (arith, order) in
+    let front : drop first (take end xs) ≡ range = ap (λ k. drop first (take k xs)) (sym whole) ∙ drop-take first (end - first) xs in
+    ap (λ k. take k (drop first (take end xs ++ (buf ++ rest)))) sum
+    ∙ ap (take (length range + n)) (drop-append-le first (take end xs) (buf ++ rest) (omega (arith, length-take end xs, order, within)))
+    ∙ ap (λ (l : List ℕ). take (length range + n) (l ++ (buf ++ rest))) front
+    ∙ take-append-add range (buf ++ rest) n
+    ∙ ap (λ (l : List ℕ). range ++ l) (take-append-le n buf rest fits)
+
+-- a read behind a range
+pub read_fills : {source0 source1 : SourceState} (xs buf rest : List ℕ) (first end : ℕ) (r : Result ℕ Failed) → first ≤ end → end ≤ length xs
+    → ReadsAtMost r buf → Reads source0 source1 r buf
+    → Fills source0 source1 (slice_range xs first end) (slice_range (take end xs ++ (buf ++ rest)) first (end + count_read r)) r
+read_fills xs buf rest first end (Ok n) order within bound read = record {
+  given = record {
+    octets = take n buf;
+    gave = read.bytes.0;
+    grown = range_grown xs buf rest first end n order within bound.0;
+    counted = omega (arith, length-take n buf, bound.0);
+  };
+  over = ends_there n read;
+  kept = tt;
+  faults = one_read read;
+}
+read_fills xs buf rest first end (Err e) order within bound read = record {
+  given = tt;
+  over = tt;
+  kept = (range_grown xs buf rest first end 0 order within (omega arith) ∙ append-nil (slice_range xs first end), read.bytes);
+  faults = one_read read;
 }

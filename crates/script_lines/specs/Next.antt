@@ -1,6 +1,6 @@
 -- What a reader of lines takes from its source.
 use Rattle.std.specs.Prelude.{◌≡◌, ◌⊎◌, ℕ, ◌+◌, ◌<◌, ◌≤◌, Bool, false, List, [], ◌∷◌, ◌++◌, length, take, slice_index, if◌then◌else◌, nat_lt, nat_le, true}
-use Rattle.std.specs.Prelude.{Result, None, Some, IsTrue, OnErr, IfOk}
+use Rattle.std.specs.Prelude.{Result, Ok, Err, None, Some, IsTrue, OnErr, IfOk}
 use Rattle.std.specs.declared.option.Option.{Option}
 use Rattle.std.specs.Io.KnownBytes.{Consumes, Keeps, IsAtEnd}
 use Rattle.plc_base.specs.declared.streams.Failed.{Failed}
@@ -37,6 +37,11 @@ abbrev pub content_found : List ℕ → LineKind → Content
 content_found octets kinds.Text = Text octets
 content_found octets kinds.Long = Long
 content_found octets kinds.TooMuch = TooMuch
+
+-- how many octets a read gave, none where it failed
+abbrev pub count_read : Result ℕ Failed → ℕ
+count_read (Ok n) = n
+count_read (Err e) = 0
 
 -- So many octets came after those ahead.
 pub record Given (source0 source1 : SourceState) (ahead0 ahead1 : List ℕ) (count : ℕ) : Type 0 where

@@ -48,30 +48,6 @@ fn find_feed(octets: &[u8], clear: usize, end: usize) -> Option<usize>
     }
 }
 
-/// Looks for what stands first in two slices, where `clear` octets are known to be no line feeds and `room` octets may be used.
-fn look_in(front: &[u8], back: &[u8], clear: usize, room: usize) -> Found
-    requires clear { clear ≤ length (front.now ++ back.now) }
-    requires within { clear ≤ room }
-    requires none { NoFeed (take clear (front.now ++ back.now)) }
-    ensures { FoundIs (front.now ++ back.now) room result }
-{
-    let whole = front.len() + back.len();
-    let end = whole.min(room);
-    let middle = front.len();
-    if let Some(at) = find_feed(front, clear.min(middle), end.min(middle)) {
-        return Found::Feed(at);
-    }
-    match find_feed(
-        back,
-        clear.saturating_sub(middle),
-        end.saturating_sub(middle),
-    ) {
-        Some(at) => Found::Feed(middle + at),
-        None if end < whole => Found::PastRoom,
-        None => Found::Neither,
-    }
-}
-
 /// Looks for what stands first, where `clear` octets are known to be no line feeds and `room` octets may be used.
 fn look(window: &Window, clear: usize, room: usize) -> Found
     requires clear { clear ≤ length window.now.ahead }
@@ -79,8 +55,13 @@ fn look(window: &Window, clear: usize, room: usize) -> Found
     requires none { NoFeed (take clear window.now.ahead) }
     ensures { FoundIs window.now.ahead room result }
 {
-    let (front, back) = window.ahead();
-    look_in(front, back, clear, room)
+    let octets = window.ahead();
+    let end = octets.len().min(room);
+    match find_feed(octets, clear, end) {
+        Some(at) => Found::Feed(at),
+        None if end < octets.len() => Found::PastRoom,
+        None => Found::Neither,
+    }
 }
 
 /// The kind of a line of which so many octets stand in the window, and more before them where it is `long`.

@@ -1,15 +1,13 @@
 //! The octets of a source that were read ahead, and the line that was found last.
-ghost use Rattle.std.specs.Prelude.{◌≡◌, ◌<◌, ◌≤◌, ◌++◌, [], length, take, drop, IfOk, OnErr};
-ghost use Rattle.circular_buffer.specs.Buffer.{buffer};
+ghost use Rattle.std.specs.Prelude.{◌≡◌, ◌+◌, ◌-◌, ◌<◌, ◌≤◌, [], length, take, slice_range, IfOk};
 ghost use Rattle.script_lines.specs.Windows.{window_after};
-ghost use Rattle.script_lines.specs.Next.{Fills};
+ghost use Rattle.script_lines.specs.Next.{Fills, count_read};
 
-use circular_buffer::HeapCircularBuffer;
 use plc_base::{Failed, Source};
 use std::alloc::{AllocError, Global};
 use std::marker::Model;
 
-/// So many octets are read ahead.
+/// At most so many octets are read ahead.
 pub const WINDOW: usize = 8192;
 
 /// A line has at most so many octets.
@@ -17,14 +15,17 @@ pub const MAX_LINE: usize = 4096;
 
 /// The octets that were read and are not used yet, at most 8,192, and the line that was found last.
 ///
-/// What is ahead stands in a ring. A line is taken out of it at once, into a buffer that is kept; of one that is too long only the
-/// first 4,096 octets. A read goes into a chunk that is kept, too. A contract sees the line and the octets ahead.
+/// Both stand where they were read, in a buffer for twice as many octets. Before a read, what is ahead moves to the front where it begins in the second
+/// half, so never onto itself; the line is gone after a read. A contract sees the line and the octets ahead.
 #[derive(Drop)]
 pub struct Window {
-    ring: HeapCircularBuffer<u8>,
-    line: Vec<u8>,
-    line_len: usize,
-    chunk: Vec<u8>,
+    octets: Vec<u8>,
+    // Where the line begins and ends.
+    line: usize,
+    line_end: usize,
+    // Where what is ahead begins and ends.
+    first: usize,
+    end: usize,
 }
 
 impl Model for Window {
@@ -32,57 +33,53 @@ impl Model for Window {
 
     ghost Value = { Window };
 
-    ghost view = { λ w. window_of w.ring.items w.line.items w.line_len };
+    ghost view = { λ w. window_of w.octets.items w.line w.line_end w.first w.end };
 
-    ghost invariant = { λ w. IsHeld w.ring.capacity w.ring.items w.line.items w.line_len w.chunk.items };
+    ghost invariant = { λ w. IsHeld w.octets.items w.line w.line_end w.first w.end };
 }
 
-// Moves the first octets of a ring to the front of a buffer, and drops those after them that are used, too.
-fn take_out(ring: &mut HeapCircularBuffer<u8>, line: &mut Vec<u8>, count: usize, used: usize)
-    requires room { count ≤ length line.old.items }
-    requires order { count ≤ used }
-    requires used { used ≤ length ring.old.items }
-    ensures line { take count line.new.items ≡ take count ring.old.items }
-    ensures length { length line.new.items ≡ length line.old.items }
-    ensures ring { ring.new ≡ buffer (drop used ring.old.items) ring.old.capacity }
+// Moves the octets of a range to the front, onto none of themselves.
+fn move_to_front(octets: &mut [u8], first: usize, end: usize)
+    requires order { first ≤ end }
+    requires apart { end ≤ first + first }
+    requires within { end ≤ length octets.old }
+    ensures front { take (end - first) octets.new ≡ slice_range octets.old first end }
+    ensures length { length octets.new ≡ length octets.old }
 {
-    ring.read_into(&mut line[0..count]);
-    let rest = ring.len() - (used - count);
-    ring.truncate_front(rest);
+    let count = end - first;
+    let (front, back) = octets.split_at_mut(first);
+    front[..count].copy_from_slice(&back[..count]);
 }
 
-// Reads once, by way of a chunk, after the octets of a ring that is not full.
+// Reads once, after the octets of a range that is not full.
 fn read_behind<S: Source>(
-    ring: &mut HeapCircularBuffer<u8>,
-    chunk: &mut Vec<u8>,
+    octets: &mut [u8],
+    first: usize,
+    end: usize,
     source: &mut S,
 ) -> Result<usize, Failed>
-    requires room { length ring.old.items < ring.old.capacity }
-    requires chunk { ring.old.capacity ≤ length chunk.old.items }
-    ensures fills { Fills (S.state source.old) (S.state source.new) ring.old.items ring.new.items result }
-    ensures capacity { ring.new.capacity ≡ ring.old.capacity }
-    ensures bound { length ring.new.items ≤ ring.old.capacity }
-    ensures length { length chunk.new.items ≡ length chunk.old.items }
+    requires order { first ≤ end }
+    requires room { end < first + WINDOW }
+    requires within { first + WINDOW ≤ length octets.old }
+    ensures fills { Fills (S.state source.old) (S.state source.new) (slice_range octets.old first end)
+        (slice_range octets.new first (end + count_read result)) result }
+    ensures bound { end + count_read result ≤ first + WINDOW }
+    ensures length { length octets.new ≡ length octets.old }
 {
-    let room = ring.capacity() - ring.len();
-    let count = source.read(&mut chunk[0..room])?;
-    ring.fill_from_slice(&chunk[..count]);
-    Ok(count)
+    source.read(&mut octets[end..first + WINDOW])
 }
 
 impl Window {
-    /// No octet. It takes the memory of the ring, of a line and of a chunk.
+    /// No octet. It takes the memory of the buffer.
     pub fn new(alloc: Global) -> Result<Window, AllocError>
         ensures { IfOk result (λ window. window ≡ record { line = []; ahead = [] }) }
     {
-        let ring = HeapCircularBuffer::with_capacity(alloc, WINDOW)?;
-        let line = Vec::from_elem(alloc, 0u8, MAX_LINE)?;
-        let chunk = Vec::from_elem(alloc, 0u8, WINDOW)?;
         Ok(Window {
-            ring,
-            line,
-            line_len: 0,
-            chunk,
+            octets: Vec::from_elem(alloc, 0u8, 2 * WINDOW)?,
+            line: 0,
+            line_end: 0,
+            first: 0,
+            end: 0,
         })
     }
 
@@ -90,7 +87,7 @@ impl Window {
     pub fn line(&self) -> &[u8]
         ensures { result.now ≡ self.now.line }
     {
-        &self.line[..self.line_len]
+        &self.octets[self.line..self.line_end]
     }
 
     /// How many octets are not used yet.
@@ -98,14 +95,14 @@ impl Window {
         ensures len { result ≡ length self.now.ahead }
         ensures fits { length self.now.ahead ≤ WINDOW }
     {
-        self.ring.len()
+        self.end - self.first
     }
 
-    /// The octets that are not used yet, in two slices.
-    pub fn ahead(&self) -> (&[u8], &[u8])
-        ensures value { result.0.now ++ result.1.now ≡ self.now.ahead }
+    /// The octets that are not used yet.
+    pub fn ahead(&self) -> &[u8]
+        ensures { result.now ≡ self.now.ahead }
     {
-        self.ring.as_slices()
+        &self.octets[self.first..self.end]
     }
 
     /// Makes the first octets the line, but not more than 4,096 of them, and uses these and maybe more.
@@ -114,20 +111,27 @@ impl Window {
         requires used { used ≤ length self.old.ahead }
         ensures { self.new ≡ window_after self.old line used }
     {
-        let count = line.min(MAX_LINE);
-        take_out(&mut self.ring, &mut self.line, count, used);
-        self.line_len = count;
+        self.line = self.first;
+        self.line_end = self.first + line.min(MAX_LINE);
+        self.first += used;
     }
 
     /// Reads once, after the octets ahead, of which there are fewer than 8,192. Answers how many octets came: none at the end of
-    /// input. The line stays.
+    /// input. The line is gone.
     pub fn fill<S: Source>(&mut self, source: &mut S) -> Result<usize, Failed>
         requires room { length self.old.ahead < WINDOW }
         ensures fills { Fills (S.state source.old) (S.state source.new) self.old.ahead self.new.ahead result }
         ensures bound { length self.new.ahead ≤ WINDOW }
-        ensures line { self.new.line ≡ self.old.line }
+        ensures line { self.new.line ≡ [] }
     {
-        let count = read_behind(&mut self.ring, &mut self.chunk, source)?;
+        self.line_end = self.line;
+        if self.first >= WINDOW {
+            move_to_front(&mut self.octets, self.first, self.end);
+            self.end -= self.first;
+            self.first = 0;
+        }
+        let count = read_behind(&mut self.octets, self.first, self.end, source)?;
+        self.end += count;
         Ok(count)
     }
 }
