@@ -371,21 +371,22 @@ impl Model for Capture {
 }
 
 impl Capture {
-    /// No line so far.
-    pub fn new(alloc: Global, wanted: Wanted) -> Capture
-        ensures { result ≡ capturing.nothing_captured wanted }
+    /// No line so far. It fails only where there is no memory for it.
+    pub fn new(alloc: Global, wanted: Wanted) -> Result<Capture, AllocError>
+        ensures { IfOk result (λ capture. capture ≡ capturing.nothing_captured wanted) }
     {
-        Capture {
+        let run = Recorder::new(alloc)?;
+        Ok(Capture {
             capturer: Capturer {
                 alloc,
                 wanted,
-                run: Recorder::new(alloc),
+                run,
                 injected: OctetLog::new(alloc),
                 keys: DrawnKeys::new(alloc),
                 space: Buffers::new(),
             },
             octets: [0; LINE_OCTETS],
-        }
+        })
     }
 
     /// Whether the frames are written, and an event was forged.

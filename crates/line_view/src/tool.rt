@@ -239,7 +239,10 @@ fn capture<S: Source, K: Sink>(
     ensures source { SourceFaults (S.state source.old) (S.state source.new) }
     ensures sink { (K.state sink.old).faults ≤ (K.state sink.new).faults }
 {
-    let mut capture = Capture::new(alloc, wanted);
+    let Ok(mut capture) = Capture::new(alloc, wanted) else {
+        a_run_may_end_without_memory::<Capture>();
+        return Status::Memory;
+    };
     let exit = run(alloc, &mut capture, source, sink);
     account_status(exit, capture.shows_forged())
 }

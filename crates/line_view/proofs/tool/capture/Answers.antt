@@ -1,18 +1,35 @@
 use Rattle.std.proofs.Common.{◌≡◌, ℕ, ap, refl, ◌∙◌}
 use Rattle.line_rules.specs.Runs.{Entry}
+use Rattle.script_lines.specs.declared.machine.Exit.TheVariants as exits
 use Rattle.line_view.proofs.AccountRunning.{account_read, account_write}
 use Rattle.line_view.proofs.Recorded.{recorded_world}
 use Rattle.line_view.proofs.StatusNames.{status_names}
 use Rattle.line_view.specs.Capturing.{Capturing, after_entry, end_of, shows_forged, nothing_captured, refused_text}
+use Rattle.line_view.specs.declared.status.Status.TheVariants as status
 use Rattle.line_view.specs.Tool.{account_status}
 use Rattle.line_view.proofs.tool.capture.Goals as goal
 
 keeps : (row : ℕ) (entry : Entry) (m : Capturing) → (after_entry row entry m).run.world ≡ entry.after
 keeps row entry m = recorded_world row entry m.run
 
+pub returns-in_default-clause-captures : goal.returns-in_default-clause-captures
+returns-in_default-clause-captures g c =
+    let first : Capturing = nothing_captured c.args.wanted in
+    let source = g.S.Source.state c.args.source.now in
+    let sink = g.K.Sink.state c.args.sink.now in
+    let drives = c.a_run_may_end_without_memory.ensures first source sink in
+    record {
+      exit = exits.Memory;
+      last = first;
+      drives = drives;
+      status = refl;
+      named = status_names (λ (m : Capturing). m.run.world) after_entry refused_text end_of keeps first refl source source sink sink
+          drives.b drives.w first exits.Memory (shows_forged first) status.Memory drives.comes refl;
+    }
+
 pub returns-clause-captures : goal.returns-clause-captures
 returns-clause-captures g c =
-    let drives = rw c.new-capture.ensures at c.run-exit.ensures.drives in
+    let drives = rw c.in-Ok.ensures at c.run-exit.ensures.drives in
     let status : c.account_status.result ≡ account_status c.run-exit.result (shows_forged c.run-exit.new.machine)
     = c.account_status.ensures ∙ ap (account_status c.run-exit.result) c.shows_forged.ensures in
     record {
