@@ -10,8 +10,8 @@
 //! Where a store fails, or power does, the owner sends nothing, drops the node and opens another one over what was stored. That this is
 //! sound is the law `listed_puts_are_deferred` of `outbox_laws`: the node then behaves as one over the store itself.
 //!
-//! What its calls promise, by the names of their clauses: a put is listed at the end (`lists`), or the list was full (`room`, `full`), and
-//! then no record has changed. It is a keeper like any other (`puts`). `load` and `begin` change the records alone and the list alone.
+//! What its calls promise, by the names of their clauses: it is a keeper like any other (`puts`), which lists each put at the end; or the list
+//! was full (`room`, `full`), and then no record has changed (`refused`). `load` and `begin` change the records alone and the list alone.
 //!
 //! # Figures
 //!

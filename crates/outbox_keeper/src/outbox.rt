@@ -1,8 +1,8 @@
 //! The keeper.
-ghost use Rattle.std.specs.Prelude.{◌≡◌, ◌<◌, ◌≤◌, [], length, map, OnOk, OnErr, is_ok, IfOk, None};
+ghost use Rattle.std.specs.Prelude.{◌≡◌, ◌<◌, ◌≤◌, [], length, map, OnOk, OnErr, is_ok, IfOk, IfSome, Some, None};
 ghost use Rattle.std.specs.FinMap as map;
 ghost use Rattle.plc_base.specs.Keeper.{IsSlot, Puts};
-ghost use Rattle.outbox_keeper.specs.Outbox.{Lists, write_of};
+ghost use Rattle.outbox_keeper.specs.Outbox.{write_of};
 
 use arrayvec::ArrayVec;
 use plc_base::{Failed, Keeper, MemKeeper, Record};
@@ -35,7 +35,7 @@ impl Default for ListedPut {
 
 /// A keeper in memory, and the puts since the list was last cleared.
 ///
-/// A contract sees the records with the listed puts done, how often a put found no room, and the list.
+/// A contract sees the records with the listed puts done, how often a put found no room, and the list (`listed`, which is never None).
 #[derive(Drop)]
 pub struct OutboxKeeper {
     held: MemKeeper,
@@ -45,16 +45,14 @@ pub struct OutboxKeeper {
 
 impl Model for OutboxKeeper {
     ghost use Rattle.std.specs.Prelude.{◌≡◌, Some, None, map};
-    ghost use Rattle.outbox_keeper.specs.Outbox.{Outbox, outbox_code, write_of};
+    ghost use Rattle.plc_base.specs.Keeper.{Store, store_code};
+    ghost use Rattle.outbox_keeper.specs.Outbox.{write_of};
 
-    ghost Value = { Outbox };
+    ghost Value = { Store };
 
-    ghost coded = { outbox_code };
+    ghost coded = { store_code };
 
-    ghost view = { λ k. record {
-      store = record { records = k.held.records; faults = k.faults; known_cut = None };
-      puts = map write_of k.puts.items;
-    } };
+    ghost view = { λ k. record { records = k.held.records; faults = k.faults; known_cut = None; listed = Some (map write_of k.puts.items) } };
 
     // No put of the keeper in memory fails.
     ghost invariant = { λ k. k.held.known_cut ≡ Some None };
@@ -63,7 +61,7 @@ impl Model for OutboxKeeper {
 impl OutboxKeeper {
     /// A keeper with no record and no put. It fails only where there is no memory.
     pub fn new(alloc: Global) -> Result<OutboxKeeper, AllocError>
-        ensures { IfOk result (λ k. k ≡ record { store = record { records = map.empty; faults = 0; known_cut = None }; puts = [] }) }
+        ensures { IfOk result (λ k. k ≡ record { records = map.empty; faults = 0; known_cut = None; listed = Some [] }) }
     {
         Ok(OutboxKeeper {
             held: MemKeeper::new(alloc)?,
@@ -75,16 +73,14 @@ impl OutboxKeeper {
     /// Takes in a record that is stored, and lists no put: for each slot that has one, before a node is opened over the keeper.
     pub fn load(&mut self, slot: u32, octets: &Record)
         requires { IsSlot slot }
-        ensures records { self.new.store.records ≡ map.insert self.old.store.records slot octets.now }
-        ensures faults { self.new.store.faults ≡ self.old.store.faults }
-        ensures puts { self.new.puts ≡ self.old.puts }
+        ensures { self.new ≡ record self.old { records = map.insert self.old.records slot octets.now } }
     {
         let _ = self.held.put(slot, octets);
     }
 
     /// The puts since the list was last cleared, in order.
     pub fn puts(&self) -> &[ListedPut]
-        ensures puts { map write_of result.now ≡ self.now.puts }
+        ensures puts { self.now.listed ≡ Some (map write_of result.now) }
         ensures most { length result.now ≤ 5 }
     {
         self.puts.as_slice()
@@ -92,14 +88,14 @@ impl OutboxKeeper {
 
     /// Clears the list: all that is in it was stored.
     pub fn begin(&mut self)
-        ensures { self.new ≡ record self.old { puts = [] } }
+        ensures { self.new ≡ record self.old { listed = Some [] } }
     {
         self.puts.clear();
     }
 }
 
 impl Keeper for OutboxKeeper {
-    ghost store = { λ k. k.store };
+    ghost store = { λ k. k };
 
     fn get(&self, slot: u32) -> Option<Record> {
         self.held.get(slot)
@@ -109,10 +105,10 @@ impl Keeper for OutboxKeeper {
     #[tactic(auto, using(crate::proofs::OutboxLemmas::one_more))]
     fn put(&mut self, slot: u32, octets: &Record) -> Result<(), Failed>
         requires { IsSlot slot }
-        ensures puts { Puts self.old.store slot octets.now (is_ok result) self.new.store }
-        ensures lists { Lists self.old (record { slot = slot; octets = octets.now }) (is_ok result) self.new }
-        ensures room { OnOk result (length self.old.puts < 5) }
-        ensures full { OnErr result (5 ≤ length self.old.puts) }
+        ensures puts { Puts self.old slot octets.now (is_ok result) self.new }
+        ensures refused { OnErr result (self.new.records ≡ self.old.records) }
+        ensures room { OnOk result (IfSome self.old.listed (λ puts. length puts < 5)) }
+        ensures full { OnErr result (IfSome self.old.listed (λ puts. 5 ≤ length puts)) }
     {
         if self.puts.is_full() {
             self.faults = self.faults.saturating_add(1);

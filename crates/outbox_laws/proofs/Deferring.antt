@@ -44,7 +44,7 @@ module _ {M A : Type 0} (old new : State M) (p : Plan M A) (answer : A) (out : O
   memory_known : new.memory ≡ Some p.memory
   memory_known = ap (λ (s : State M). s.memory) c.new_is ∙ ap (λ (b : Bool). if b then Some p.memory else None) known
 
-  wrote_known : Wrote old.store p.puts true new.store
+  pub wrote_known : Wrote old.store p.puts true new.store
   wrote_known = subst (λ (b : Bool). Wrote old.store p.puts b new.store) known c.wrote
 
   carries_after : (stored kept : Store) (done : Bool) → Wrote stored p.puts done kept

@@ -8,7 +8,6 @@ use Rattle.node_rules.specs.Plans.{Plan, carry_out}
 use Rattle.node_rules.specs.States.{State}
 use Rattle.node_rules.specs.Carrying.{Carries}
 use Rattle.node_rules.specs.Laws.{all_put}
-use Rattle.outbox_keeper.specs.Outbox.{Outbox, ListsAll}
 
 -- what is given out where a put failed: the tags that were checked
 abbrev pub only_checked : Out → Out
@@ -46,16 +45,16 @@ CutsWhileStoring M A =
 
 -- # The list of a keeper
 
--- puts that were listed are at the end of the list, in order, and were done
-abbrev pub TheListIsThePuts : Type 0
-TheListIsThePuts =
-    (before after : Outbox) (ws : List Write) → ListsAll before ws after
-    → (after.puts ≡ before.puts ++ ws) × Wrote before.store ws true after.store
+-- A call over a keeper that lists its puts, which halted nothing: the list has the puts of its plan at the end, in order.
+abbrev pub ListedPutsAreThePlans : Type 0 → Type 0 → Type 0
+ListedPutsAreThePlans M A =
+    (old new : State M) (p : Plan M A) (answer : A) (out : Out) (before : List Write)
+    → Carries old p answer out new → IsSome new.memory → old.store.listed ≡ Some before → new.store.listed ≡ Some (before ++ p.puts)
 
--- the puts of the list are stored after a call that put those of its plan, from an empty list on
+-- The list was empty before such a call, and the puts that it has afterwards are stored.
 abbrev pub ListedPutsAreDeferred : Type 0 → Type 0 → Type 0
 ListedPutsAreDeferred M A =
-    (old new : State M) (p : Plan M A) (answer : A) (out : Out) (before after : Outbox) (stored kept : Store) (done : Bool)
-    → Carries old p answer out new → IsSome new.memory → before.puts ≡ [] → ListsAll before p.puts after
-    → stored.records ≡ old.store.records → Wrote stored after.puts done kept
+    (old new : State M) (p : Plan M A) (answer : A) (out : Out) (puts : List Write) (stored kept : Store) (done : Bool)
+    → Carries old p answer out new → IsSome new.memory → old.store.listed ≡ Some [] → new.store.listed ≡ Some puts
+    → stored.records ≡ old.store.records → Wrote stored puts done kept
     → IsDeferred old new p answer out stored kept done

@@ -1,5 +1,5 @@
 //! Laws of puts that are stored after the call: each carried by a function that does nothing.
-ghost use Rattle.outbox_laws.specs.Deferring.{DeferringPuts, CutsWhileStoring, TheListIsThePuts, ListedPutsAreDeferred};
+ghost use Rattle.outbox_laws.specs.Deferring.{DeferringPuts, CutsWhileStoring, ListedPutsAreThePlans, ListedPutsAreDeferred};
 ghost use Rattle.outbox_laws.specs.FewPuts.{HearingPutsFew, AMetersHearingPutsFew, ACoordinatorsHearingPutsFew, SendingPutsFew, JoiningPutsFew, OrdersPutFew};
 
 /// Puts may be stored after the call that made them. Where a call runs over a keeper in memory, and its owner stores the puts in order and
@@ -10,12 +10,12 @@ pub fn deferring_puts<M, A>()
     ensures cuts { CutsWhileStoring M A }
 {}
 
-/// The list of an outbox, after puts of which each was listed, is the list before them and then these puts.
-pub fn the_list_is_the_puts()
-    ensures { TheListIsThePuts }
+/// Over a keeper that lists its puts, a call that halted nothing leaves the list before it, and then the puts of its plan, in order.
+pub fn listed_puts_are_the_plans<M, A>()
+    ensures { ListedPutsAreThePlans M A }
 {}
 
-/// Where a call put what its plan says into an outbox with an empty list, it is enough to store the list.
+/// So where the list was empty before the call, it is enough to store the list.
 pub fn listed_puts_are_deferred<M, A>()
     ensures { ListedPutsAreDeferred M A }
 {}

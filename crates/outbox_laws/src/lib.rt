@@ -5,18 +5,16 @@
 //!
 //! - [`deferring_puts`]: the node then does what it does over the store itself, whichever put fails, and a loss of power in between leaves
 //!   records that the call itself could have left, with no frame sent.
-//! - [`the_list_is_the_puts`]: what is listed after puts is what was put, in order.
-//! - [`listed_puts_are_deferred`]: both together, of a call that put what its plan says.
+//! - [`listed_puts_are_the_plans`]: over a keeper that lists its puts, the list has what the call put, in order.
+//! - [`listed_puts_are_deferred`]: both together, so it is enough to store the list.
 //! - [`hearing_puts_few`], [`sending_puts_few`], [`joining_puts_few`], [`orders_put_few`]: a call makes at most four puts.
 //!
-//! That a call of a node puts what its plan says into the keeper, and reaches it in no other way, is no clause: `Carries` of `node_rules`
-//! speaks of what the keeper holds, and not of how it came to that. It is so since a node's calls are generic over the trait `Keeper`, whose
-//! only way to change a keeper is `put`.
+//! The first three are over `Carries` of `node_rules`, which the calls of a node ensure (`carries`).
 #![tactic(auto)]
 
 mod laws;
 
 pub use laws::{
-    deferring_puts, hearing_puts_few, joining_puts_few, listed_puts_are_deferred, orders_put_few,
-    sending_puts_few, the_list_is_the_puts,
+    deferring_puts, hearing_puts_few, joining_puts_few, listed_puts_are_deferred,
+    listed_puts_are_the_plans, orders_put_few, sending_puts_few,
 };

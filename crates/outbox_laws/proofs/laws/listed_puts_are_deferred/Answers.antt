@@ -2,5 +2,5 @@ use Rattle.outbox_laws.proofs.Listing.{listed_deferred}
 use Rattle.outbox_laws.proofs.laws.listed_puts_are_deferred.Goals as goal
 
 pub returns : goal.returns
-returns g c = λ old new p answer out before after stored kept done h running none listed same wrote.
-    listed_deferred old new p answer out before after stored kept done h running none listed same wrote
+returns g c = λ old new p answer out puts stored kept done h running none listed same wrote.
+    listed_deferred old new p answer out puts stored kept done h running none listed same wrote
