@@ -83,7 +83,8 @@ fn fill<S: Source, const N: usize>(
 
 /// Reads an item: its kind, and its octets into `octets`; None where the input ended before one.
 ///
-/// Failed where a read failed, Torn where the input ends within an item, TooLong where an item has more than [`MOST_OCTETS`] octets.
+/// Failed where a read failed, Torn where the input ends within an item, TooLong where an item has more than [`MOST_OCTETS`] octets. What `octets`
+/// holds after None or after an error does not count.
 pub fn read_item<S: Source>(
     source: &mut S,
     octets: &mut ItemOctets,
