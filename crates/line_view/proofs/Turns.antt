@@ -54,11 +54,15 @@ last_text : (text0 text1 shown : List ℕ) (c : Checking) (number : ℕ) (look :
 last_text text0 text1 shown c number look none is looked =
     is ∙ looked ∙ ap (λ (l : List ℕ). l ++ (look_text number [] look c ++ end_of (after number [] look c))) none
 
+-- what a bad line answers, once its text was written or not
+pub stops_by : {old new : SinkState} (text : List ℕ) (r : Result (Unit {0}) StopReason) → IsWritten old new text r → StopsWith old new text (bad_line r)
+stops_by text (Ok u) t = written_stop text u t
+stops_by text (Err reason) t = written_short text reason t
+
 -- the octet that is too much was told, with the last lines
 stopped_last : {old new : SinkState} (text : List ℕ) (c0 c1 : Checking) (r : Result (Unit {0}) StopReason) → IsWritten old new text r
     → Turned old new c0 c1 (Stops text) (bad_line r)
-stopped_last text c0 c1 (Ok u) t = stopped text c0 c1 (Err reasons.BadLine) (written_stop text u t)
-stopped_last text c0 c1 (Err reason) t = stopped text c0 c1 (Err reason) (written_short text reason t)
+stopped_last text c0 c1 r t = stopped text c0 c1 (bad_line r) (stops_by text r t)
 
 pub turned_stop : {old new : SinkState} (text0 text1 shown : List ℕ) (c0 c1 : Checking) (number : ℕ) (look : Look) (r : Result (Unit {0}) StopReason)
     → text0 ≡ [] → shown ≡ text1 → LooksLast text0 text1 c0 number look → ((t : List ℕ) → shown ≡ t → IsWritten old new t r)

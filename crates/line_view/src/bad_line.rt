@@ -1,9 +1,11 @@
 //! The line at which a run ends because it is bad.
 ghost use Rattle.std.specs.Prelude.{◌≡◌, ◌++◌, ◌≤◌, OnOk, length, string_bytes};
 ghost use Rattle.line_view.specs.BadLines.{bad_text};
+ghost use Rattle.line_view.specs.Checked.{bad_line};
 
 use line_script::Reason;
 use script_faults::word_of_reason;
+use script_lines::StopReason;
 use sentence_parts::{number, push_parts, words};
 use std::alloc::{AllocError, Global};
 
@@ -34,4 +36,14 @@ pub fn push_bad(text: &mut String, alloc: Global, bad: BadLine) -> Result<(), Al
             words(". `line_view check` says why."),
         ],
     )
+}
+
+/// What a bad line answers, once its text was written or not.
+pub fn bad_line(written: Result<(), StopReason>) -> Result<(), StopReason>
+    ensures { result ≡ bad_line written }
+{
+    match written {
+        Ok(()) => Err(StopReason::BadLine),
+        Err(reason) => Err(reason),
+    }
 }

@@ -10,7 +10,7 @@ ghost use Rattle.line_tale.specs.Tales.{numbered};
 ghost use Rattle.line_tale.specs.declared.told.TaleEvent.{TaleEvent};
 ghost use Rattle.line_view.specs.Capturing as capturing;
 
-use crate::bad_line::{BadLine, push_bad};
+use crate::bad_line::{BadLine, bad_line, push_bad};
 use crate::recorder::{Recorder, is_drawn};
 use line_capture::{DrawnKeys, Recording, addresses_text, capture_file, keys_text};
 use line_events::{Answer, Event, MAX_EVENTS};
@@ -196,17 +196,6 @@ fn write_octets<K: Sink>(sink: &mut K, made: Result<Vec<u8>, AllocError>) -> Res
     }
 }
 
-// Writes octets at a bad line, at which the run stops.
-fn stop_with<K: Sink>(sink: &mut K, made: Result<Vec<u8>, AllocError>) -> Result<(), StopReason>
-    ensures { (t : List ℕ) → IfOk made (λ octets. octets.items ≡ t)
-        → StopsWith (K.state sink.old) (K.state sink.new) t result }
-{
-    match write_octets(sink, made) {
-        Ok(()) => Err(StopReason::BadLine),
-        Err(reason) => Err(reason),
-    }
-}
-
 /// A run, and what of it the tale does not have: the octets that no node sent, and the keys.
 #[derive(Drop)]
 struct Capturer {
@@ -311,7 +300,7 @@ impl Capturer {
     fn refuse<K: Sink>(&self, row: u32, reason: Reason, sink: &mut K) -> Result<(), StopReason>
         ensures { StopsWith (K.state sink.old) (K.state sink.new) (capturing.refused_text self.now row reason) result }
     {
-        stop_with(sink, self.bad_output(row, reason))
+        bad_line(write_octets(sink, self.bad_output(row, reason)))
     }
 
     // Takes an event that a line of this number asks for, and keeps what it adds, or answers why the line is bad.

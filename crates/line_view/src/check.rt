@@ -2,9 +2,9 @@
 ghost use Rattle.std.specs.Prelude.{◌≡◌, IfOk, string_bytes};
 ghost use Rattle.script_lines.specs.Clauses.{Turned};
 ghost use Rattle.script_lines.specs.Lines.{Text, Long, TooMuch};
-ghost use Rattle.line_view.specs.Checked.{bad_line};
 ghost use Rattle.line_view.specs.Checking.{checking, end_of, is_bad, stops_at_too_much, turn_of};
 
+use crate::bad_line::bad_line;
 use crate::checker::Checker;
 use line_script::LINE_OCTETS;
 use plc_base::Sink;
@@ -33,16 +33,6 @@ impl Model for Check {
     ghost coded = { Prim.hlevel (codes, world_code) };
 
     ghost view = { λ c. c.checker };
-}
-
-// What a bad line answers, once its text was written or not.
-fn bad_line(written: Result<(), StopReason>) -> Result<(), StopReason>
-    ensures { result ≡ bad_line written }
-{
-    match written {
-        Ok(()) => Err(StopReason::BadLine),
-        Err(reason) => Err(reason),
-    }
 }
 
 impl Check {
