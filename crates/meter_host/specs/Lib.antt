@@ -1,0 +1,4 @@
+pub mod Loading
+pub mod Making
+pub mod Calling
+pub mod Serving
