@@ -1,8 +1,10 @@
-//! Tests of the stories of small tales, and of the faults of lines.
+//! Tests of the stories and the charts of small tales, and of the faults of lines.
 //!
 //! They stand apart from those crates, since the gate proves a crate once more where it has tests of its own.
 #![tactic(auto)]
 
+#[cfg(test)]
+mod charts;
 #[cfg(test)]
 mod faults;
 #[cfg(test)]

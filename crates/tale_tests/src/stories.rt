@@ -60,7 +60,7 @@ fn flight(note: u32, target: FrameTarget, gist: Gist, device: Option<u32>) -> Ta
 
 // Node 1 sends to node 0, and the datagram comes up. Another datagram waits for a route, and nobody hears the request. Time passes. Then
 // node 1 joins anew, and what readies it stands right before.
-fn small(alloc: Global) -> Result<Tale, AllocError> {
+pub fn small(alloc: Global) -> Result<Tale, AllocError> {
     let mut tale = Tale::new(alloc);
     let sent = Act::Send {
         from: 1,

@@ -1,0 +1,11 @@
+pub mod Outcomes
+pub mod Runs
+pub mod Rows
+pub mod Columns
+pub mod Drawings
+pub mod Doings
+pub mod Sayings
+pub mod Lives
+pub mod Charts
+pub mod Cells
+pub mod Lanes

@@ -1,0 +1,114 @@
+//! How an event ended, as a colour.
+ghost use Rattle.std.specs.Prelude.{◌≡◌};
+ghost use Rattle.run_charts.specs.Outcomes as outcomes;
+
+use line_events::Answer;
+use line_script::spaced_verdict;
+use line_tale::TaleEvent;
+
+/// How an event ended, as far as it has a colour.
+#[derive(Clone, Copy, Debug, PartialEq, Eq)]
+pub enum Outcome {
+    /// It was taken.
+    Fine,
+    /// Something reached its end: a datagram was handed up, a grant was taken, a joining is done.
+    Good,
+    /// It was refused.
+    Refused,
+    /// A tag that nobody made was found right.
+    Forged,
+    /// The frame is for another node.
+    Overheard,
+}
+
+fn refused_or_overheard(answer: Answer) -> Outcome
+    ensures { result ≡ outcomes.refused_or_overheard answer }
+{
+    match answer {
+        Answer::NotForMe => Outcome::Overheard,
+        _ => Outcome::Refused,
+    }
+}
+
+fn fine_or_good(answer: Answer) -> Outcome
+    ensures { result ≡ outcomes.fine_or_good answer }
+{
+    match answer {
+        Answer::Up => Outcome::Good,
+        Answer::Bup => Outcome::Good,
+        Answer::Took => Outcome::Good,
+        Answer::Done => Outcome::Good,
+        Answer::Path => Outcome::Good,
+        _ => Outcome::Fine,
+    }
+}
+
+#[tactic(auto, unfolding(crate::specs::Outcomes::is_ok))]
+fn is_ok(answer: Answer) -> bool
+    ensures { result ≡ outcomes.is_ok answer }
+{
+    spaced_verdict(answer) == " ok "
+}
+
+/// How an event ended.
+#[tactic(auto, unfolding(crate::specs::Outcomes::outcome_of))]
+pub fn outcome_of(told: &TaleEvent) -> Outcome
+    ensures { result ≡ outcomes.outcome_of told.now }
+{
+    if told.forged {
+        return Outcome::Forged;
+    }
+    if is_ok(told.answer) {
+        return fine_or_good(told.answer);
+    }
+    refused_or_overheard(told.answer)
+}
+
+/// Whether something was refused, and not since it is for another node.
+pub fn is_refused(outcome: Outcome) -> bool
+    ensures { result ≡ outcomes.is_refused outcome }
+{
+    match outcome {
+        Outcome::Refused => true,
+        _ => false,
+    }
+}
+
+/// The class of a line that is drawn of it.
+pub fn line_class(outcome: Outcome) -> &'static str
+    ensures { result.now ≡ outcomes.line_class outcome }
+{
+    match outcome {
+        Outcome::Fine => "A",
+        Outcome::Good => "A up",
+        Outcome::Refused => "A no",
+        Outcome::Forged => "A f",
+        Outcome::Overheard => "A q",
+    }
+}
+
+/// The class of what is filled.
+pub fn fill_class(outcome: Outcome) -> &'static str
+    ensures { result.now ≡ outcomes.fill_class outcome }
+{
+    match outcome {
+        Outcome::Fine => "B",
+        Outcome::Good => "B up",
+        Outcome::Refused => "B no",
+        Outcome::Forged => "B f",
+        Outcome::Overheard => "B q",
+    }
+}
+
+/// The class of its word.
+pub fn pill_class(outcome: Outcome) -> &'static str
+    ensures { result.now ≡ outcomes.pill_class outcome }
+{
+    match outcome {
+        Outcome::Fine => "p",
+        Outcome::Good => "p up",
+        Outcome::Refused => "p no",
+        Outcome::Forged => "p f",
+        Outcome::Overheard => "p q",
+    }
+}
