@@ -1,5 +1,5 @@
 -- What an item makes a meter do, and what is written of it.
-use Rattle.std.specs.Prelude.{◌≡◌, ◌⊎◌, ⊤, ℕ, List, [], Option, Some, None, Result, Ok, Err, IsSome}
+use Rattle.std.specs.Prelude.{◌≡◌, ◌⊎◌, ⊤, ℕ, List, [], Option, Some, None, Result, Err, IsSome}
 use Rattle.plc_base.specs.Keeper.{Store, Write}
 use Rattle.plc_base.specs.declared.keeper.BadStore as keeper
 use Rattle.plc_base.specs.declared.streams.Failed.{Failed}

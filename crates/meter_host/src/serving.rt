@@ -1,5 +1,5 @@
 //! The two phases: records are loaded, and then the meter is called.
-ghost use Rattle.std.specs.Prelude.{◌≡◌, [], Some, IfOk, IfErr};
+ghost use Rattle.std.specs.Prelude.{◌≡◌, [], Some, IfOk};
 ghost use Rattle.meter_host.specs.Serving.{outcome_number, outcome_of};
 
 use crate::hosting::{Buffers, Host};

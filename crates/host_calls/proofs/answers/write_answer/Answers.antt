@@ -1,4 +1,4 @@
-use Rattle.std.proofs.Common.{◌++◌, map}
+use Rattle.std.proofs.Common.{map}
 use Rattle.std.proofs.lemmas.Result.{err_from_is_err_and}
 use Rattle.outbox_keeper.specs.Outbox.{write_of}
 use Rattle.host_calls.specs.Answers.{puts_text, frames_text, up_text, status_text}
