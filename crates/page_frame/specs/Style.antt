@@ -67,5 +67,13 @@ drawing_text =
     ∷ codes ".B.up{fill:var(--ok)}.B.no{fill:var(--no)}.B.f{fill:var(--bad)}.B.q{fill:var(--grey)}"
     ∷ [])
 
+-- on paper: smaller, and no chart over two pages that fits on one
+unfoldable pub print_text : List ℕ
+print_text =
+    rules_text
+    (codes "@media print{body{zoom:.6;background:none;print-color-adjust:exact}.m,.tile,.card,summary{break-inside:avoid}h2{break-after:avoid}"
+    ∷ codes ".high{max-height:none}}"
+    ∷ [])
+
 abbrev pub style_text : List ℕ
-style_text = colour_text ++ (layout_text ++ (chart_text ++ drawing_text))
+style_text = colour_text ++ (layout_text ++ (chart_text ++ (drawing_text ++ print_text)))

@@ -181,6 +181,22 @@ fn push_drawing_rules(out: &mut Vec<u8>) -> Result<(), AllocError>
     )
 }
 
+// On paper.
+#[tactic(auto, unfolding(crate::specs::Style::print_text))]
+fn push_print_rules(out: &mut Vec<u8>) -> Result<(), AllocError>
+    ensures { OnOk result (out.new.items ≡ out.old.items ++ spec_style.print_text) }
+{
+    push_rules(
+        out,
+        &[
+            rule(
+                "@media print{body{zoom:.6;background:none;print-color-adjust:exact}.m,.tile,.card,summary{break-inside:avoid}h2{break-after:avoid}",
+            ),
+            rule(".high{max-height:none}}"),
+        ],
+    )
+}
+
 /// Appends the style. It has no `<`, so nothing in it ends it.
 pub fn push_style(out: &mut Vec<u8>) -> Result<(), AllocError>
     ensures { OnOk result (out.new.items ≡ out.old.items ++ spec_style.style_text) }
@@ -188,5 +204,6 @@ pub fn push_style(out: &mut Vec<u8>) -> Result<(), AllocError>
     push_colour_rules(out)?;
     push_layout_rules(out)?;
     push_chart_rules(out)?;
-    push_drawing_rules(out)
+    push_drawing_rules(out)?;
+    push_print_rules(out)
 }
