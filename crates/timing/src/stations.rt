@@ -41,10 +41,10 @@ impl Node {
     fn joined(alloc: Global, number: u8) -> anyhow::Result<Node> {
         let address = Short::new(u16::from(number)).context("no address")?;
         let keeper = MemKeeper::new(alloc)?;
+        let out = Out::new(alloc)?;
         let Ok(station) = Station::open(alloc, keeper, Eui([0, 0, 0, 0, 0, 0, 0, number])) else {
             bail!("not opened");
         };
-        let out = Out::new(alloc)?;
         let mut node = Node { station, out };
         let grant = Grant {
             address,
