@@ -339,6 +339,7 @@ impl Drill {
 }
 
 /// Runs a drill with so many meters. Answers the world that it leaves.
+#[inline(never)]
 #[tactic(auto, unfolding(crate::specs::Drills::drilled))]
 fn drilled(alloc: Global, meters: u8) -> Result<World, AllocError>
     ensures { IfOk result (λ world. world ≡ drilled meters) }

@@ -117,6 +117,7 @@ impl Model for Replay {
 
 impl Replay {
     /// The world before the first line. It fails only where there is no memory for it.
+    #[inline(never)]
     pub fn new(alloc: Global, quiet: bool) -> Result<Replay, AllocError>
         ensures { IfOk result (λ replay. replay ≡ record { quiet = quiet; world = start }) }
     {

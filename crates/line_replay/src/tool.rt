@@ -1,4 +1,6 @@
 //! All that the program does.
+//!
+//! The commands are not inlined: else one frame of the stack would hold what all of them have in turn.
 ghost use Rattle.std.specs.Prelude.{◌≡◌, ℕ, ◌≤◌, ◌⊎◌, Bool, true, Some, None};
 ghost use Rattle.std.specs.Io.KnownBytes.{IsAtEnd};
 ghost use Rattle.plc_base.specs.Streams.{SourceFaults, SourceRose, SinkRose};
@@ -33,6 +35,7 @@ fn status_of(exit: Exit, forged: bool) -> Status
 }
 
 /// Reads a script from the source, and writes its report to the sink: a quiet one without the octets of the flights.
+#[inline(never)]
 fn replay<S: Source, K: Sink>(alloc: Global, quiet: bool, source: &mut S, sink: &mut K) -> Status
     ensures replays { Replays quiet (S.state source.old) (S.state source.new)
         (K.state sink.old) (K.state sink.new) result }
@@ -52,6 +55,7 @@ fn replay<S: Source, K: Sink>(alloc: Global, quiet: bool, source: &mut S, sink: 
 }
 
 /// Reads frames from the source, and writes to the sink what each is.
+#[inline(never)]
 fn show<S: Source, K: Sink>(alloc: Global, source: &mut S, sink: &mut K) -> Status
     ensures shows { Shows (S.state source.old) (S.state source.new) (K.state sink.old) (K.state sink.new) result }
     ensures whole { is_whole result ≡ true → IsAtEnd ((S.state source.new).left) }
@@ -123,6 +127,7 @@ fn drill_of(number: &str) -> Option<Command>
 }
 
 /// Runs a drill of so many meters, and writes its text.
+#[inline(never)]
 fn run_drill<K: Sink>(alloc: Global, meters: u8, sink: &mut K) -> Status
     ensures drill { WritesTextOrMemory (drill_text meters) Status.Fine (K.state sink.old) (K.state sink.new) result }
     ensures write { result ≡ Status.WriteFault → SinkRose (K.state sink.old) (K.state sink.new) }
