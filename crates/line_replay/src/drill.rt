@@ -2,7 +2,8 @@
 ghost use Rattle.std.specs.Prelude.{◌≡◌, ◌+◌, ◌<◌, ◌≤◌, min, length, All, IfOk, OnOk, string_bytes};
 ghost use Rattle.line_events.specs.Events.{AreOctets, IsEui, IsCost, IsEvent};
 ghost use Rattle.line_replay.specs.Drills.{wide, eui, parent, cost, reading, after, each, bring, bring_both, bring_round, drain, make_coordinator, make_meter};
-ghost use Rattle.line_replay.specs.Drills.{make, draw, join, send, read, challenge, activate, rekey, drill_from, drilled, drill_text, drill_text_of};
+ghost use Rattle.line_replay.specs.Drills.{make, draw, join, send, read, challenge, activate, rekey, drill_from, drill_text, drill_text_of};
+ghost use Rattle.line_rules.specs.Worlds.{start};
 
 use crate::report::totals;
 use line_events::{Event, MAX_EVENTS, StepFault};
@@ -338,21 +339,18 @@ impl Drill {
     }
 }
 
-/// Runs a drill with so many meters. Answers the world that it leaves.
+/// A drill over a line without a node. It is not inlined, so that the parts of which it is made do not stand in the frame of the call that runs it.
 #[inline(never)]
-#[tactic(auto, unfolding(crate::specs::Drills::drilled))]
-fn drilled(alloc: Global, meters: u8) -> Result<World, AllocError>
-    ensures { IfOk result (λ world. world ≡ drilled meters) }
+fn new_drill(alloc: Global) -> Result<Drill, AllocError>
+    ensures { IfOk result (λ drill. drill ≡ record { world = start; drained = 0 }) }
 {
     let world = World::new(alloc)?;
-    let mut drill = Drill {
+    Ok(Drill {
         alloc,
         world,
         buffers: Buffers::new(),
         drained: 0,
-    };
-    drill.run(meters)?;
-    Ok(drill.world)
+    })
 }
 
 /// The text of a drill with so many meters that left this world: the number, how many joinings are done, and the last line of a
@@ -365,10 +363,19 @@ fn text_of(alloc: Global, meters: u8, world: &World) -> Result<String, AllocErro
     format!(in alloc; "drill {meters}\ndone {done}\n{end}")
 }
 
+/// Runs a drill with so many meters. Answers its text.
+#[inline(never)]
+fn run_text(alloc: Global, meters: u8, drill: &mut Drill) -> Result<String, AllocError>
+    ensures { IfOk result (λ text. string_bytes text ≡ drill_text_of meters (drill_from meters drill.old).world) }
+{
+    drill.run(meters)?;
+    text_of(alloc, meters, &drill.world)
+}
+
 /// The text of a drill with so many meters.
 pub fn drill_text(alloc: Global, meters: u8) -> Result<String, AllocError>
     ensures { IfOk result (λ text. string_bytes text ≡ drill_text meters) }
 {
-    let world = drilled(alloc, meters)?;
-    text_of(alloc, meters, &world)
+    let mut drill = new_drill(alloc)?;
+    run_text(alloc, meters, &mut drill)
 }
