@@ -15,7 +15,8 @@ mod on_a_board {
     use firmware::{Driver, Flash, Modem, Trouble};
     use plc_base::{Eui, Key, LinkCost, Rand, Short};
 
-    /// What a meter takes at its opening, and no more: a pool of 160 blocks and its table, 64 ranks with their routes, 64 marks.
+    /// What a meter takes at its opening, and no more: a pool of 160 blocks and its table, 64 ranks with their routes, 64 marks, the places of its pieces; and
+    /// the 24 frames of its `Out`.
     #[global_allocator]
     static HEAP: Heap<3552> = Heap::new();
 
