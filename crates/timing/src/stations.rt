@@ -124,26 +124,51 @@ fn pass(
     passed
 }
 
-/// Passes `count` datagrams, and prints how many went on, and how many octets their frames had together.
-pub fn run(rt: &HostRuntime, count: u32) -> anyhow::Result<()> {
+// Whether the route of a datagram over the relay is found.
+fn is_found(
+    sender: &mut Node,
+    relay: &mut Node,
+    target: &mut Node,
+    to: Short,
+    cost: LinkCost,
+    buffers: &mut Buffers,
+) -> bool {
+    sender.sends(to, &[0xa5; 64], 0)
+        && relay.takes(sender.frame(), cost, buffers)
+        && target.takes(relay.frame(), cost, buffers)
+        && relay.takes(target.frame(), cost, buffers)
+        && sender.takes(relay.frame(), cost, buffers)
+}
+
+// Finds the route to a third node, and passes the datagrams. Each node is made by a function of its own, so that no end of a function drops two.
+fn pass_over(
+    rt: &HostRuntime,
+    sender: &mut Node,
+    relay: &mut Node,
+    count: u32,
+) -> anyhow::Result<()> {
     let cost = LinkCost::new(3).context("no cost")?;
     let to = Short::new(3).context("no address")?;
-    let mut sender = Node::joined(rt.alloc(), 1)?;
-    let mut relay = Node::joined(rt.alloc(), 2)?;
-    let mut target = Node::joined(rt.alloc(), 3)?;
     let mut buffers = Buffers {
         payload: FrameBuf::new(),
         datagram: DatagramBuf::new(),
     };
-    let found = sender.sends(to, &[0xa5; 64], 0)
-        && relay.takes(sender.frame(), cost, &mut buffers)
-        && target.takes(relay.frame(), cost, &mut buffers)
-        && relay.takes(target.frame(), cost, &mut buffers)
-        && sender.takes(relay.frame(), cost, &mut buffers);
-    if !found {
+    let mut target = Node::joined(rt.alloc(), 3)?;
+    if !is_found(sender, relay, &mut target, to, cost, &mut buffers) {
         bail!("no route");
     }
-    let passed = pass(&mut sender, &mut relay, to, cost, &mut buffers, count);
+    let passed = pass(sender, relay, to, cost, &mut buffers, count);
     println!(rt; "sent on {} {}", passed.frames, passed.octets)?;
     Ok(())
+}
+
+fn pass_from(rt: &HostRuntime, sender: &mut Node, count: u32) -> anyhow::Result<()> {
+    let mut relay = Node::joined(rt.alloc(), 2)?;
+    pass_over(rt, sender, &mut relay, count)
+}
+
+/// Passes `count` datagrams, and prints how many went on, and how many octets their frames had together.
+pub fn run(rt: &HostRuntime, count: u32) -> anyhow::Result<()> {
+    let mut sender = Node::joined(rt.alloc(), 1)?;
+    pass_from(rt, &mut sender, count)
 }
