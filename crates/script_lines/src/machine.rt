@@ -141,7 +141,7 @@ pub fn run<M: LineMachine, S: Source, K: Sink>(
     follow(&mut input, machine, source, sink)
 }
 
-/// A run may end without memory before anything is read: its text is then the empty prefix. For who has no memory for the machine itself.
+/// A run may end without memory before anything is read: its text is then the empty prefix. For a caller that has no memory for the machine itself.
 pub fn a_run_may_end_without_memory<M: LineMachine>()
     ensures { (machine : M) (source : SourceState) (sink : SinkState)
         → Drives (outcome M.turn M.end_text machine) machine source source sink sink Exit.Memory }
