@@ -16,7 +16,7 @@
 
 enum meter_status {
     METER_DONE = 0,
-    METER_REFUSED = 1,        /* the call is refused, or the frame dropped: the meter is as before */
+    METER_REFUSED = 1,        /* refused, or the frame dropped: nothing is handed up. A dropped frame may still have stored a record */
     METER_HALTED = 2,         /* end the meter, and open another one */
     METER_BAD_STORE = 3,      /* meter_open: a record has no reading */
     METER_MALFORMED = 4,      /* an argument out of its range; nothing was done */
@@ -26,14 +26,14 @@ enum meter_status {
 };
 
 #define METER_RECORD_MAX 64u     /* octets of a record */
-#define METER_PUTS_MAX 5u        /* records that one call gives, at most */
+#define METER_PUTS_MAX 5u        /* records that one call gives, at most: 4, and 1 of taking in a frame */
 #define METER_FRAME_MAX 400u
 #define METER_FRAMES_MAX 24u     /* frames that one call gives, at most */
 #define METER_DATAGRAM_MAX 1280u
 
 struct meter_device {
     void *self;
-    /* Answers 0 once the record is in flash. The slot then has it, whole. */
+    /* Answers 0 once the record is in flash, else -1. Where it fails, or power does, the slot has the old record or the new one, whole. */
     int (*store)(void *self, uint32_t slot, const uint8_t *octets, size_t count);
     /* note: the number that came with the datagram of the frame, 0 for commands. */
     void (*send)(void *self, uint32_t note, const uint8_t *octets, size_t count);
@@ -49,7 +49,8 @@ struct meter {
 };
 
 /* Starts the program of this path. Then load each record that is stored, from the lowest slot on, and open the meter: a record that leaves a
- * gap in its table is METER_MALFORMED, and is not loaded. meter_end ends the program, and is called once after each meter_start. */
+ * gap in its table is METER_MALFORMED, and is not loaded. meter_end ends the program, and is called once after each meter_start. Where the path is
+ * wrong, meter_start still answers METER_DONE, and the next call METER_GONE. */
 int meter_start(struct meter *m, const char *program, struct meter_device device);
 int meter_load(struct meter *m, uint32_t slot, const uint8_t *octets, size_t count);
 int meter_open(struct meter *m, const uint8_t eui[8], const uint8_t psk[16]);
@@ -62,6 +63,7 @@ int meter_near(struct meter *m, uint16_t neighbour, uint8_t cost, uint64_t now);
 int meter_random(struct meter *m, const uint8_t value[16]);
 int meter_join(struct meter *m, uint16_t agent, uint64_t now);
 int meter_leave(struct meter *m);
+/* Once a second: it ends what waits too long. It reports nothing. */
 int meter_tick(struct meter *m, uint64_t now);
 int meter_send(struct meter *m, uint16_t to, uint32_t note, uint64_t now, const uint8_t *octets, size_t count);
 int meter_hear(struct meter *m, uint8_t cost, uint32_t note, uint64_t now, const uint8_t *frame, size_t count);
