@@ -18,7 +18,7 @@ struct text {
 };
 
 static void push(struct text *t, const void *octets, size_t count) {
-    if (count > sizeof t->octets - t->count) {
+    if (t->count > sizeof t->octets || count > sizeof t->octets - t->count) {
         t->count = sizeof t->octets + 1;   /* too long: meter_call refuses it */
         return;
     }
@@ -30,8 +30,7 @@ static void number(struct text *t, uint64_t value, unsigned width) {
     uint8_t octets[8];
     for (unsigned i = 0; i < width; i++)
         octets[i] = (uint8_t)(value >> (8 * (width - 1 - i)));
-    if (t->count <= sizeof t->octets)
-        push(t, octets, width);
+    push(t, octets, width);
 }
 
 static uint64_t number_at(const uint8_t *octets, unsigned width) {
