@@ -172,7 +172,7 @@ pub fn push_keys(out: &mut Vec<u8>) -> Result<(), AllocError>
     push_pieces(out, &[end(Element::Paragraph)])
 }
 
-/// Appends that a story has no chart, and what tells it.
+/// Appends the paragraph of a story without a chart, which names the command that explains it.
 #[tactic(auto, unfolding(crate::specs::Parts::not_drawn))]
 pub fn push_not_drawn(out: &mut Vec<u8>) -> Result<(), AllocError>
     ensures { OnOk result (out.new.items ≡ out.old.items ++ markup_text parts.not_drawn) }
