@@ -590,7 +590,7 @@ impl<'a> ChartRun<'a> {
     }
 }
 
-// The first event of a row. Of a flight that came, it is the event that the row tells of.
+// The first event of a row, or its main one where that is a flight that came.
 #[tactic(auto, unfolding(crate::specs::Charts::first_told))]
 fn first_told(events: &[usize], row: &Row, event: usize, told: &TaleEvent) -> usize
     ensures { result ≡ charts.first_told events.now row.now event told.now }

@@ -13,7 +13,7 @@ pub struct Row {
     pub start: usize,
     /// The place after the last of them.
     pub end: usize,
-    /// The one that the row tells of.
+    /// The main one, whose sentence the row shows.
     pub main: usize,
     /// How many lines of the chart are before it: rows, and what the script says before them.
     pub line: usize,
@@ -26,7 +26,7 @@ pub enum Joint {
     Apart,
     /// It belongs to the row.
     Along,
-    /// It belongs to the row, which tells of it now.
+    /// It belongs to the row, and becomes its main event.
     Over,
 }
 
@@ -64,7 +64,7 @@ fn is_same_flight(act: &Act, other: &Act) -> bool
     flight_heard(act) == flight_heard(other) && flight_heard(act) != 0
 }
 
-// How an event stands to the one that the row before it tells of; each with whether it has no words.
+// How an event stands to the main event of the row before it. Of each, the flag says whether it has no sentence.
 #[tactic(auto, unfolding(crate::specs::Rows::joint_between))]
 fn joint_between(told: &TaleEvent, hushed: bool, main: &TaleEvent, main_hushed: bool) -> Joint
     ensures { result ≡ spec_rows.joint_between told.now hushed main.now main_hushed }
@@ -151,7 +151,7 @@ fn joined_row(joint: Joint, row: Row, place: usize) -> Option<Row>
 }
 
 impl<'a> ChartRun<'a> {
-    // How the event of a number stands to that of another, which the row before it tells of.
+    // How the event with a number stands to the one with another number, the main event of the row before it.
     #[tactic(auto, unfolding(crate::specs::Rows::joint_of))]
     fn joint_of(&self, event: usize, main: usize) -> Joint
         ensures { result ≡ spec_rows.joint_of self.now event main }
