@@ -6,7 +6,6 @@ use std::collections::BTreeMap;
 #[derive(Clone, Copy, Debug)]
 struct Progress {
     born: u64,
-    tries: u64,
     came: bool,
     known: bool,
 }
@@ -48,7 +47,6 @@ impl Readings {
             Some(progress) => progress,
             None => Progress {
                 born: now,
-                tries: 0,
                 came: false,
                 known: false,
             },
@@ -62,13 +60,10 @@ impl Readings {
         Ok(())
     }
 
-    /// A reading is tried. Answers how often it was.
-    pub fn tried(&mut self, node: u32, round: u32, now: u64) -> Result<u64, AllocError> {
-        let mut progress = self.take(node, round, now);
-        progress.tries = progress.tries.saturating_add(1);
-        self.readings.insert((node, round), progress)?;
+    /// A reading is tried.
+    pub fn tried(&mut self, node: u32, round: u32, now: u64) -> Result<(), AllocError> {
         self.tries = self.tries.saturating_add(1);
-        Ok(progress.tries)
+        self.due(node, round, now)
     }
 
     /// A reading came to the coordinator, over so many hops.

@@ -1,7 +1,9 @@
 pub mod Arrivals
 pub mod Codes
 pub mod Recorders
+pub mod Recording
 pub mod Scripts
 pub mod Times
 pub mod Statuses
+pub mod Simulated
 pub mod Tool

@@ -10,10 +10,24 @@ use Rattle.line_sim.specs.Times.{Time, Remarked, Stepped, time_at, IsUpTo}
 use Rattle.line_sim.specs.declared.order.Delivery.{Delivery}
 use Rattle.line_sim.specs.declared.order.Order.{Order}
 
+-- What the lines so far ask of the next one: the flight that came last on each way, the second of the last line but `tick`, and the time of the last remark.
+pub record Ordered : Type 0 where
+  pub last : List ((ℕ × ℕ) × ℕ)
+  pub second : ℕ
+  pub remarked : ℕ
+
 -- What a recorder is to its callers.
 pub record Recorded : Type 0 where
   pub script : List ℕ
   pub world : World
+  pub order : Ordered
+
+abbrev pub ordered_of : Order → Ordered
+ordered_of o = record { last = o.last.entries; second = o.second; remarked = o.remarked }
+
+-- of no line
+abbrev pub no_order : Ordered
+no_order = record { last = []; second = 0; remarked = 0 }
 
 -- # The order of lines
 

@@ -10,8 +10,14 @@ use Rattle.plan_options.specs.Options.{are_options}
 use Rattle.plan_options.specs.Descriptions.{IsDescribed, IsBad}
 use Rattle.line_rules.specs.Worlds.{World}
 use Rattle.line_simulation.specs.Attackers.{has_attackers}
+use Rattle.line_simulation.specs.Simulations.{Simulated}
+use Rattle.line_simulation.specs.Starting.{IsFirst, IsApart}
+use Rattle.line_simulation.specs.Turning.{Ran, whole_run}
 use Rattle.line_sim.specs.Arrivals.{IsCausal, InOrder, arrivals}
+use Rattle.line_sim.specs.Recorders.{Recorded}
+use Rattle.line_sim.specs.Recording.{world_recorder}
 use Rattle.line_sim.specs.Scripts.{LeadsTo, InjectsNothing}
+use Rattle.line_sim.specs.Simulated.{new_recorder, IsLeftBy}
 use Rattle.line_sim.specs.Times.{IsUpTo, times}
 use Rattle.line_sim.specs.declared.command.Command.{Command}
 use Rattle.line_sim.specs.declared.command.Mode.{Mode}
@@ -72,23 +78,29 @@ pub record Writes (text : List ℕ) (done : Status) (sink0 sink1 : SinkState) (r
   pub wrote : Appends sink0.taken sink1.taken part
   pub ends : ((result ≡ done) × (part ≡ text)) ⊎ ((result ≡ status.WriteFault) × SinkRose sink0 sink1)
 
--- The script of a run was written.
-pub record WritesRun (quiet : Bool) (sink0 sink1 : SinkState) (result : Status) : Type 0 where
+-- A script that a run left was written. The status says whether an event was forged, and else whether the run went on to the end of its time.
+pub record WritesRun (injects : Bool) (ran : Ran Recorded) (sink0 sink1 : SinkState) (result : Status) : Type 0 where
   pub script : List ℕ
   pub world : World
-  pub run : IsRun quiet script world
+  pub run : IsRun (not injects) script world
   pub whole : Bool
+  pub left : IsLeftBy ran script world whole
   pub written : Writes script (status_of whole world.forged) sink0 sink1 result
 
+-- What became of a simulation: the script of its run was written, or nothing was.
+pub data EndsRun (injects : Bool) (s : Simulated Recorded) (sink0 sink1 : SinkState) (result : Status) : Type 0 where
+  Written : WritesRun injects (whole_run (world_recorder injects) s) sink0 sink1 result → EndsRun injects s sink0 sink1 result
+  NotRun : result ≡ status.Memory → sink1 ≡ sink0 → EndsRun injects s sink0 sink1 result
+
 -- What became of the run of a plan: its script was written, or the line that says why there is none; or nothing was.
-pub data Ends (quiet : Bool) (sink0 sink1 : SinkState) (result : Status) : Type 0 where
-  Ran : WritesRun quiet sink0 sink1 result → Ends quiet sink0 sink1 result
-  Apart : Writes apart_text status.BadDescription sink0 sink1 result → Ends quiet sink0 sink1 result
-  OutOfMemory : result ≡ status.Memory → sink1 ≡ sink0 → Ends quiet sink0 sink1 result
+pub data Ends (injects : Bool) (plan : Plan) (sink0 sink1 : SinkState) (result : Status) : Type 0 where
+  Simulates : (first : Simulated Recorded) → IsFirst plan new_recorder first → EndsRun injects first sink0 sink1 result → Ends injects plan sink0 sink1 result
+  Apart : IsApart plan.seed plan.place plan.place.kind → Writes apart_text status.BadDescription sink0 sink1 result → Ends injects plan sink0 sink1 result
+  OutOfMemory : result ≡ status.Memory → sink1 ≡ sink0 → Ends injects plan sink0 sink1 result
 
 -- What became of the run of a plan: where it describes no attacker, no line of the script injects octets.
 abbrev pub EndsPlan : Plan → SinkState → SinkState → Status → Type 0
-EndsPlan plan sink0 sink1 result = Ends (not (has_attackers plan.incidents)) sink0 sink1 result
+EndsPlan plan sink0 sink1 result = Ends (has_attackers plan.incidents) plan sink0 sink1 result
 
 -- What became of a call that asks for a script, with these options.
 pub data Runs (options : List (String Global)) (source0 source1 : SourceState) (sink0 sink1 : SinkState) (result : Status) : Type 0 where

@@ -2,6 +2,8 @@
 ghost use Rattle.std.specs.Prelude.{◌≡◌, IsTrue, OnOk, None, Some};
 ghost use Rattle.line_sim.specs.Arrivals.{arrival_by, coming};
 ghost use Rattle.line_sim.specs.Recorders.{Grows, Brings, Follows, last_of};
+ghost use Rattle.line_sim.specs.Recorders.{ordered_of};
+ghost use Rattle.line_sim.specs.Recording.{brings, event_turn, remark_turn, TurnsAs, turn_of};
 ghost use Rattle.line_sim.specs.Times.{Remarked, is_tick, time_by};
 
 use line_events::Event;
@@ -76,6 +78,7 @@ impl Order {
         ensures grows { Grows self.old self.new }
         ensures second { self.new.second ≡ self.old.second }
         ensures brings { OnOk result (Brings from coming self.old self.new) }
+        ensures exact { TurnsAs result (brings from coming (ordered_of self.old)) (ordered_of self.new) }
     {
         if from == coming.node {
             return Err(RecordFault::Refused);
@@ -93,6 +96,7 @@ impl Order {
     pub fn take(&mut self, world: &World, event: &Event<'_>) -> Result<(), RecordFault>
         ensures grows { Grows self.old self.new }
         ensures follows { OnOk result (Follows (arrival_by world.now event.now) (time_by world.now event.now) self.old self.new) }
+        ensures exact { TurnsAs result (event_turn world.now event.now (ordered_of self.old)) (ordered_of self.new) }
     {
         if is_tick(event) {
             return Ok(());
@@ -115,6 +119,7 @@ impl Order {
     pub fn take_remark(&mut self, at: u64) -> bool
         ensures grows { Grows self.old self.new }
         ensures follows { IsTrue result → Follows None (Some (Remarked at)) self.old self.new }
+        ensures exact { remark_turn at (ordered_of self.old) ≡ turn_of result (ordered_of self.new) }
     {
         if at < self.remarked || at / 1_000 < self.second {
             return false;

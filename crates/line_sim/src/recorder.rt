@@ -1,11 +1,12 @@
 //! The script of a run, and the world that the run has made.
-ghost use Rattle.std.specs.Prelude.{◌≡◌, ◌<◌, ◌≤◌, ◌^◌, ◌++◌, [], string_bytes, false, All, AllPairs, IsTrue, IfOk, OnOk, OnErr, length};
+ghost use Rattle.std.specs.Prelude.{◌≡◌, ◌<◌, ◌≤◌, ◌^◌, ◌++◌, [], string_bytes, true, false, not, ltb, All, AllPairs, IsTrue, IfOk, OnOk, OnErr, length};
 ghost use Rattle.line_events.specs.Events.{IsEvent, IsNumber, IsCost, IsEui, IsKey, AreOctets, IsLineOctets};
 ghost use Rattle.line_rules.specs.Worlds.{start};
 ghost use Rattle.line_script.specs.Lines.{line_of};
 ghost use Rattle.script_lines.specs.Lines.{NoFeed};
 ghost use Rattle.line_sim.specs.Arrivals.{IsCausal, InOrder, arrivals};
-ghost use Rattle.line_sim.specs.Recorders.{AppendsLine};
+ghost use Rattle.line_sim.specs.Recorders.{AppendsLine, no_order};
+ghost use Rattle.line_sim.specs.Recording.{are_line_octets, is_within, is_said, may_take, has_feed, appended, AppendsAs};
 ghost use Rattle.line_sim.specs.Scripts.{LeadsTo, InjectsNothing, is_injection};
 ghost use Rattle.line_sim.specs.Times.{IsUpTo, times, remark_line};
 
@@ -42,13 +43,13 @@ pub struct Recorder<const INJECTS: usize> {
 impl<const INJECTS: usize> Model for Recorder<INJECTS> {
     ghost use Rattle.std.specs.Prelude.{nat_lt};
     ghost use Rattle.line_sim.specs.Codes.{recorded_code};
-    ghost use Rattle.line_sim.specs.Recorders.{Recorded, IsScriptOf};
+    ghost use Rattle.line_sim.specs.Recorders.{ordered_of, Recorded, IsScriptOf};
 
     ghost Value = { Recorded };
 
     ghost coded = { recorded_code };
 
-    ghost view = { λ r. record { script = r.script.items; world = r.world } };
+    ghost view = { λ r. record { script = r.script.items; world = r.world; order = ordered_of r.order } };
 
     ghost invariant = { λ r. IsScriptOf (nat_lt 0 INJECTS) r.script.items r.world r.order };
 }
@@ -56,7 +57,7 @@ impl<const INJECTS: usize> Model for Recorder<INJECTS> {
 impl<const INJECTS: usize> Recorder<INJECTS> {
     /// A world without a node, and an empty script. It fails only where there is no memory for it.
     pub fn new(alloc: Global) -> Result<Recorder<INJECTS>, AllocError>
-        ensures { IfOk result (λ recorder. recorder ≡ record { script = []; world = start }) }
+        ensures { IfOk result (λ recorder. recorder ≡ record { script = []; world = start; order = no_order }) }
     {
         let world = World::new(alloc)?;
         Ok(Recorder {
@@ -92,6 +93,11 @@ impl<const INJECTS: usize> Recorder<INJECTS> {
 }
 
 impl<const INJECTS: usize> Recording for Recorder<INJECTS> {
+    ghost use Rattle.std.specs.Prelude.{nat_lt};
+    ghost use Rattle.line_sim.specs.Recording.{world_recorder};
+
+    ghost recorder = { world_recorder (nat_lt 0 INJECTS) };
+
     fn record(&mut self, event: &Event<'_>) -> Result<Facts, RecordFault> {
         if self.world.counts().events >= MAX_EVENTS {
             return Err(RecordFault::Full);
@@ -148,7 +154,8 @@ impl<const INJECTS: usize> Recording for Recorder<INJECTS> {
 
 // Whether octets hold no line feed.
 fn has_no_feed(octets: &[u8]) -> bool
-    ensures { IsTrue result → NoFeed octets.now }
+    ensures none { IsTrue result → NoFeed octets.now }
+    ensures exact { result ≡ not (has_feed octets.now) }
 {
     for octet in octets {
         if *octet == b'\n' {
@@ -163,6 +170,7 @@ fn append(script: &mut Vec<u8>, line: &[u8]) -> Result<(), RecordFault>
     requires { length script.old.items ≤ 67108864 }
     ensures ok { OnOk result (AppendsLine script.old.items line.now script.new.items) }
     ensures err { OnErr result (script.new.items ≡ script.old.items) }
+    ensures exact { AppendsAs result (appended script.old.items line.now) script.new.items }
 {
     if line.len() > MAX_LINE || !has_no_feed(line) {
         return Err(RecordFault::Full);
@@ -190,6 +198,7 @@ fn append_event(
     requires { length script.old.items ≤ 67108864 }
     ensures ok { OnOk result (AppendsLine script.old.items (line_of event.now) script.new.items) }
     ensures err { OnErr result (script.new.items ≡ script.old.items) }
+    ensures exact { AppendsAs result (appended script.old.items (line_of event.now)) script.new.items }
 {
     line.clear();
     if push_line(line, event).is_err() {
@@ -226,6 +235,7 @@ fn append_remark(
     requires { length script.old.items ≤ 67108864 }
     ensures ok { OnOk result (AppendsLine script.old.items (remark_line at remark.now) script.new.items) }
     ensures err { OnErr result (script.new.items ≡ script.old.items) }
+    ensures exact { AppendsAs result (appended script.old.items (remark_line at remark.now)) script.new.items }
 {
     line.clear();
     if push_remark(line, at, remark).is_err() {
@@ -236,71 +246,82 @@ fn append_remark(
 
 // Whether octets are as many as a line may have in hexadecimal.
 fn are_line_octets(octets: &[u8]) -> bool
-    ensures { IsTrue result → IsLineOctets octets.now }
+    ensures octets { IsTrue result → IsLineOctets octets.now }
+    ensures exact { result ≡ are_line_octets octets.now }
 {
     !octets.is_empty() && octets.len() <= 2_048
 }
 
 fn is_number(number: u32) -> bool
-    ensures { IsTrue result → IsNumber number }
+    ensures said { IsTrue result → IsNumber number }
+    ensures exact { result ≡ true }
 {
     true
 }
 
 // Whether a number is at least 1, and at most the bound.
 fn is_within(number: u32, bound: u32) -> bool
-    ensures { IsTrue result → (1 ≤ number) × (number ≤ bound) }
+    ensures within { IsTrue result → (1 ≤ number) × (number ≤ bound) }
+    ensures exact { result ≡ is_within number bound }
 {
     number > 0 && number <= bound
 }
 
 fn is_count(number: u16) -> bool
-    ensures { IsTrue result → (1 ≤ number) × (number < 2 ^ 16) }
+    ensures count { IsTrue result → (1 ≤ number) × (number < 2 ^ 16) }
+    ensures exact { result ≡ ltb 0 number }
 {
     number > 0
 }
 
 fn is_cost(cost: LinkCost) -> bool
-    ensures { IsTrue result → IsCost cost }
+    ensures said { IsTrue result → IsCost cost }
+    ensures exact { result ≡ true }
 {
     let _number = cost.number();
     true
 }
 
 fn is_index(index: KeyIndex) -> bool
-    ensures { IsTrue result → index ≤ 1 }
+    ensures said { IsTrue result → index ≤ 1 }
+    ensures exact { result ≡ true }
 {
     let _number = index.number();
     true
 }
 
 fn is_eui(eui: Eui) -> bool
-    ensures { IsTrue result → IsEui eui }
+    ensures said { IsTrue result → IsEui eui }
+    ensures exact { result ≡ true }
 {
     true
 }
 
 fn are_octets(octets: &[u8]) -> bool
-    ensures { IsTrue result → All (λ x. x < 256) octets.now }
+    ensures said { IsTrue result → All (λ x. x < 256) octets.now }
+    ensures exact { result ≡ true }
 {
     true
 }
 
 fn is_key(key: Key) -> bool
-    ensures { IsTrue result → IsKey key }
+    ensures said { IsTrue result → IsKey key }
+    ensures exact { result ≡ true }
 {
     key.0.len() == 16 && are_octets(&key.0)
 }
 
 fn is_rand(value: Rand) -> bool
-    ensures { IsTrue result → AreOctets 16 value.0 }
+    ensures said { IsTrue result → AreOctets 16 value.0 }
+    ensures exact { result ≡ true }
 {
     value.0.len() == 16 && are_octets(&value.0)
 }
 
 // Whether a line can say an event. All but lengths and a few numbers follow from its types.
 fn is_event(event: &Event<'_>) -> bool
-    ensures { IsTrue result → IsEvent event.now }
+    ensures event { IsTrue result → IsEvent event.now }
+    ensures exact { result ≡ is_said event.now }
 {
     match event {
         Event::Coordinator { eui, key } => is_eui(*eui) && is_key(*key),
@@ -353,6 +374,7 @@ fn is_injection(event: &Event<'_>) -> bool
 fn may_take(injects: bool, event: &Event<'_>) -> bool
     ensures event { IsTrue result → IsEvent event.now }
     ensures quiet { IsTrue result → injects ≡ false → is_injection event.now ≡ false }
+    ensures exact { result ≡ may_take injects event.now }
 {
     if !injects && is_injection(event) {
         return false;

@@ -1,6 +1,9 @@
 //! All that the program does.
-ghost use Rattle.std.specs.Prelude.{◌≡◌, nat_eq};
-ghost use Rattle.line_sim.specs.Tool.{status_of, Writes, WritesRun, Ends, EndsPlan, Runs, Answers, asked_by};
+ghost use Rattle.std.specs.Prelude.{◌≡◌, nat_lt};
+ghost use Rattle.line_simulation.specs.Simulations.{state_of};
+ghost use Rattle.line_simulation.specs.Turning.{Ran};
+ghost use Rattle.line_sim.specs.Recorders.{Recorded};
+ghost use Rattle.line_sim.specs.Tool.{status_of, Writes, WritesRun, EndsRun, Ends, EndsPlan, Runs, Answers, asked_by};
 
 use crate::command::{Mode, command_of};
 use crate::recorder::Recorder;
@@ -46,7 +49,8 @@ fn write_script<const INJECTS: usize, K: Sink>(
     whole: bool,
     sink: &mut K,
 ) -> Status
-    ensures { WritesRun (nat_eq INJECTS 0) (K.state sink.old) (K.state sink.new) result }
+    ensures { (ran : Ran Recorded) → ran.whole ≡ whole → ran.simulated.recorder ≡ recorder.now
+        → WritesRun (nat_lt 0 INJECTS) ran (K.state sink.old) (K.state sink.new) result }
 {
     let done = status_of(whole, recorder.forged());
     write_text(sink, recorder.script(), done)
@@ -71,7 +75,7 @@ fn run_line<const INJECTS: usize, K: Sink>(
     mut simulation: Simulation<Recorder<INJECTS>>,
     sink: &mut K,
 ) -> Status
-    ensures { mode ≡ Mode.Run → Ends (nat_eq INJECTS 0) (K.state sink.old) (K.state sink.new) result }
+    ensures { mode ≡ Mode.Run → EndsRun (nat_lt 0 INJECTS) (state_of simulation) (K.state sink.old) (K.state sink.new) result }
 {
     let Ok(whole) = simulation.run_whole() else {
         return Status::Memory;
@@ -89,7 +93,7 @@ fn run_over<const INJECTS: usize, K: Sink>(
     plan: Plan,
     sink: &mut K,
 ) -> Status
-    ensures { mode ≡ Mode.Run → Ends (nat_eq INJECTS 0) (K.state sink.old) (K.state sink.new) result }
+    ensures { mode ≡ Mode.Run → Ends (nat_lt 0 INJECTS) plan (K.state sink.old) (K.state sink.new) result }
 {
     let recorder: Recorder<INJECTS> = match Recorder::new(alloc) {
         Ok(recorder) => recorder,

@@ -1,1 +1,15 @@
 pub mod Attackers
+pub mod Runs
+pub mod Recorders
+pub mod Books
+pub mod Simulations
+pub mod RemarkTexts
+pub mod Stepping
+pub mod Happenings
+pub mod Bringing
+pub mod Acting
+pub mod Endings
+pub mod Attacking
+pub mod Happening
+pub mod Turning
+pub mod Starting

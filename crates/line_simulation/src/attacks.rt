@@ -1,12 +1,27 @@
 //! What attackers do.
+ghost use Rattle.std.specs.Prelude.{◌≡◌, ◌++◌, ◌∷◌, [], filter, IfOk, length, OnOk, Some, None};
+ghost use Rattle.std.specs.Option.{option_copied};
+ghost use Rattle.plc_base.specs.declared.address.Eui.{Eui as EuiOctets};
+ghost use Rattle.line_events.specs.declared.event.Event.TheVariants as events;
+ghost use Rattle.line_simulation.specs.Attacking.{flight_injected, drawn_flight, flight_drawn, replayed, is_kept_from, with_release, with_releases, kept_count};
+ghost use Rattle.line_simulation.specs.Attacking.{kept_from_others};
+ghost use Rattle.line_simulation.specs.Attacking.{without_kept, released, join_octets, is_challenged, challenged_if, if_found, join_forged};
+ghost use Rattle.line_simulation.specs.declared.work.Work.TheVariants as works;
+ghost use Rattle.line_simulation.specs.Endings.{event_cost};
+ghost use Rattle.line_simulation.specs.Runs.{Ends};
+ghost use Rattle.line_simulation.specs.Simulations.{state_of, to_do};
+ghost use Rattle.line_simulation.specs.Stepping.{stepped, stepped_and_taken};
+
 use crate::arrivals::cost_of;
+use crate::facts::Facts;
 use crate::recording::Recording;
 use crate::remarks::Remark;
-use crate::simulation::Simulation;
+use crate::simulation::{Kept, Simulation};
 use crate::work::{Stop, Work};
 use line_events::{Answer, Event};
 use line_members::Notice;
-use plc_base::OctetRef;
+use plc_base::{Eui, OctetRef};
+use std::alloc::{AllocError, Global};
 
 /// A JOIN in the name of a meter, up to its EUI: a plain frame to the coordinator of the PAN.
 const JOIN_HEAD: [u8; 7] = [0x61, 0xd8, 0x00, 0x1d, 0x78, 0x00, 0x00];
@@ -14,72 +29,196 @@ const JOIN_HEAD: [u8; 7] = [0x61, 0xd8, 0x00, 0x1d, 0x78, 0x00, 0x00];
 /// The header of a joining message, and the kind of a JOIN.
 const JOIN_BODY: [u8; 3] = [0x40, 0x02, 0x01];
 
-impl<R: Recording> Simulation<R> {
-    /// An attacker gives a node a frame that it heard, and then so many less one.
-    pub fn replay(&mut self, node: u32, count: u32) -> Result<(), Stop> {
-        if count == 0 {
-            return Ok(());
+// A plain frame to the coordinator with a JOIN in the name of a meter.
+#[tactic(auto, unfolding(crate::specs::Attacking::join_octets))]
+fn join_octets(alloc: Global, eui: &Eui) -> Result<Vec<u8>, AllocError>
+    ensures { IfOk result (λ octets. octets.items ≡ join_octets eui.now) }
+{
+    let mut octets = Vec::new(alloc);
+    octets.extend_from_slice(&JOIN_HEAD)?;
+    let mut turned = eui.0;
+    turned.reverse();
+    octets.extend_from_slice(&turned)?;
+    octets.extend_from_slice(&JOIN_BODY)?;
+    octets.extend_from_slice(&eui.0)?;
+    Ok(octets)
+}
+
+fn is_challenged(answer: Answer) -> bool
+    ensures { result ≡ is_challenged answer }
+{
+    match answer {
+        Answer::Challenged => true,
+        _ => false,
+    }
+}
+
+// How many of the frames are kept from a node.
+fn kept_count(kept: &[Kept], node: u32) -> u64
+    ensures { result ≡ kept_count node kept.now }
+{
+    let mut count = 0_u64;
+    for one in kept {
+        if one.node == node {
+            count = count.saturating_add(1);
         }
-        let flights = self.recording.counted().flights;
-        let flight = self.attack.below(flights).saturating_add(1);
-        self.work.push(Work::Replay(node, count - 1))?;
-        self.inject_flight(node, 1, flight)
+    }
+    count
+}
+
+// Leaves the frames that are not kept from a node.
+fn keep_others(kept: &mut Vec<Kept>, node: u32)
+    ensures { kept.new.items ≡ kept_from_others node kept.old.items }
+{
+    kept.retain(|one| one.node != node);
+}
+
+impl<R: Recording> Simulation<R> {
+    // Copies the octets of a flight. False where there is no such flight.
+    #[tactic(auto, unfolding(crate::specs::Simulations::state_of))]
+    fn copy_flight(&self, flight: u32, octets: &mut Vec<u8>) -> Result<bool, AllocError>
+        ensures { IfOk result (λ found. if_found found octets.new.items ≡ R.recorder.flight flight (state_of self.now).recorder) }
+    {
+        match self.recording.flight(flight) {
+            Some(flown) => {
+                octets.clear();
+                octets.extend_from_slice(flown)?;
+                Ok(true)
+            }
+            None => Ok(false),
+        }
+    }
+
+    // An attacker gives a node octets.
+    fn inject(&mut self, node: u32, cost: u8, octets: &[u8]) -> Result<(), Stop>
+        ensures { Ends result (stepped_and_taken R.recorder (events.Inject node (event_cost cost) octets.now) (state_of self.old)) (state_of self.new) }
+    {
+        let octets = OctetRef::new(octets);
+        let cost = cost_of(cost);
+        self.step_and_take("inject", &Event::Inject { node, cost, octets })
     }
 
     /// An attacker gives a node a flight, over a link of this cost.
-    pub fn inject_flight(&mut self, node: u32, cost: u8, flight: u32) -> Result<(), Stop> {
+    #[tactic(auto, unfolding(crate::specs::Attacking::flight_injected))]
+    pub fn inject_flight(&mut self, node: u32, cost: u8, flight: u32) -> Result<(), Stop>
+        ensures { Ends result (flight_injected R.recorder node cost flight (state_of self.old)) (state_of self.new) }
+    {
         let mut octets = Vec::new(self.alloc);
-        match self.recording.flight(flight) {
-            Some(flown) => octets.extend_from_slice(flown)?,
-            None => return Ok(()),
+        if !self.copy_flight(flight, &mut octets)? {
+            return Ok(());
         }
-        self.step_and_take(
+        self.inject(node, cost, octets.as_slice())
+    }
+
+    // A flight is drawn.
+    #[tactic(auto, unfolding(crate::specs::Simulations::state_of))]
+    fn draw_flight(&mut self) -> u32
+        ensures value { result ≡ drawn_flight R.recorder (state_of self.old) }
+        ensures state { state_of self.new ≡ flight_drawn (state_of self.old) }
+    {
+        let flights = self.recording.counted().flights;
+        self.attack.below(flights).saturating_add(1)
+    }
+
+    /// An attacker gives a node a frame that it heard, and then so many less one.
+    #[tactic(auto, unfolding(crate::specs::Attacking::replayed))]
+    pub fn replay(&mut self, node: u32, count: u32) -> Result<(), Stop>
+        ensures { Ends result (replayed R.recorder node count (state_of self.old)) (state_of self.new) }
+    {
+        if count == 0 {
+            return Ok(());
+        }
+        let flight = self.draw_flight();
+        self.push(Work::Replay(node, count - 1))?;
+        self.inject_flight(node, 1, flight)
+    }
+
+    // A frame that was kept from a node is given to it next.
+    fn push_release(&mut self, node: u32, kept: Kept) -> Result<(), AllocError>
+        ensures { OnOk result (state_of self.new ≡ with_release node kept (state_of self.old)) }
+    {
+        if kept.node != node {
+            return Ok(());
+        }
+        let cost = self.cost(kept.from, node);
+        self.push(Work::Inject(node, cost, kept.flight))
+    }
+
+    // What was kept from a node is given to it next, in its order.
+    fn push_releases(&mut self, node: u32, kept: &[Kept]) -> Result<(), AllocError>
+        ensures { OnOk result (state_of self.new ≡ with_releases node kept.now (state_of self.old)) }
+    {
+        for nth in 0..kept.len() {
+            let one = kept[kept.len() - 1 - nth];
+            self.push_release(node, one)?;
+        }
+        Ok(())
+    }
+
+    // The frames that are kept.
+    #[tactic(auto, unfolding(crate::specs::Simulations::state_of))]
+    fn kept_frames(&self) -> Result<Vec<Kept>, AllocError>
+        ensures { IfOk result (λ kept. kept.items ≡ (state_of self.now).kept) }
+    {
+        Vec::from_slice(self.alloc, self.kept.as_slice())
+    }
+
+    // Nothing is kept from a node any more.
+    #[tactic(auto, unfolding(crate::specs::Simulations::state_of))]
+    fn keep_no_more(&mut self, node: u32)
+        ensures { state_of self.new ≡ without_kept node (state_of self.old) }
+    {
+        keep_others(&mut self.kept, node);
+    }
+
+    /// An attacker gives a node what it kept from it.
+    #[tactic(auto, unfolding(crate::specs::Attacking::released))]
+    pub fn release(&mut self, node: u32) -> Result<(), Stop>
+        ensures { Ends result (released R.recorder node (state_of self.old)) (state_of self.new) }
+    {
+        let kept = self.kept_frames()?;
+        self.push_releases(node, kept.as_slice())?;
+        self.keep_no_more(node);
+        let frames = kept_count(kept.as_slice(), node);
+        self.remark(&Remark::Release { node, frames })
+    }
+
+    // An attacker gives the coordinator octets.
+    fn inject_join(&mut self, octets: &[u8]) -> Result<Option<Facts>, Stop>
+        ensures { Ends result (stepped R.recorder (events.Inject 0 1 octets.now) (state_of self.old)) (state_of self.new) }
+    {
+        let octets = OctetRef::new(octets);
+        let cost = cost_of(1);
+        self.step(
             "inject",
             &Event::Inject {
-                node,
-                cost: cost_of(cost),
-                octets: OctetRef::new(octets.as_slice()),
+                node: 0,
+                cost,
+                octets,
             },
         )
     }
 
-    /// An attacker gives a node what it kept from it.
-    pub fn release(&mut self, node: u32) -> Result<(), Stop> {
-        let mut frames = 0_u64;
-        for nth in 0..self.kept.len() {
-            let Some(kept) = self.kept.get(self.kept.len() - 1 - nth).copied() else {
-                break;
-            };
-            if kept.node == node {
-                let cost = self.cost(kept.from, node);
-                self.work.push(Work::Inject(node, cost, kept.flight))?;
-                frames = frames.saturating_add(1);
-            }
+    // What a false JOIN brought is taken up next.
+    fn take_join(&mut self, facts: Facts) -> Result<(), AllocError>
+        ensures { OnOk result (state_of self.new ≡ to_do (works.Facts facts 0) (challenged_if (is_challenged facts.answer) (state_of self.old))) }
+    {
+        if is_challenged(facts.answer) {
+            self.push(Work::Notice(Notice::Challenged))?;
+            return self.push(Work::Facts(facts, 0));
         }
-        self.kept.retain(|kept| kept.node != node);
-        self.remark(&Remark::Release { node, frames })
+        self.push(Work::Facts(facts, 0))
     }
 
     /// An attacker asks to join in the name of a meter.
-    pub fn false_join(&mut self, node: u32) -> Result<(), Stop> {
-        let eui = self.book.eui(node);
-        let mut octets = Vec::new(self.alloc);
-        octets.extend_from_slice(&JOIN_HEAD)?;
-        let mut turned = eui.0;
-        turned.reverse();
-        octets.extend_from_slice(&turned)?;
-        octets.extend_from_slice(&JOIN_BODY)?;
-        octets.extend_from_slice(&eui.0)?;
-        let event = Event::Inject {
-            node: 0,
-            cost: cost_of(1),
-            octets: OctetRef::new(octets.as_slice()),
-        };
-        if let Some(facts) = self.step("inject", &event)? {
-            if facts.answer == Answer::Challenged {
-                self.work.push(Work::Notice(Notice::Challenged))?;
-            }
-            self.work.push(Work::Facts(facts, 0))?;
+    #[tactic(auto, unfolding(crate::specs::Attacking::join_forged))]
+    pub fn false_join(&mut self, node: u32) -> Result<(), Stop>
+        ensures { Ends result (join_forged R.recorder node (state_of self.old)) (state_of self.new) }
+    {
+        let eui = self.eui(node);
+        let octets = join_octets(self.alloc, &eui)?;
+        if let Some(facts) = self.inject_join(octets.as_slice())? {
+            self.take_join(facts)?;
         }
         Ok(())
     }

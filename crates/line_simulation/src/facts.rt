@@ -1,4 +1,8 @@
 //! What an event brought, as plain values.
+ghost use Rattle.std.specs.Prelude.{◌≡◌};
+ghost use Rattle.line_simulation.specs.Bringing.{is_store, outcome_of};
+ghost use Rattle.line_simulation.specs.Happenings.{came_in, granted_in, facts_of};
+
 use line_events::{Answer, Happenings};
 use line_members::{Message, Outcome};
 
@@ -28,7 +32,9 @@ pub struct Facts {
     pub flights: u32,
 }
 
-fn came_in(happenings: &Happenings<'_>) -> Option<Came> {
+fn came_in(happenings: &Happenings<'_>) -> Option<Came>
+    ensures { result ≡ came_in happenings.now.up }
+{
     match &happenings.up {
         Some(up) => {
             let message = Message::read(up.octets.octets())?;
@@ -41,7 +47,9 @@ fn came_in(happenings: &Happenings<'_>) -> Option<Came> {
     }
 }
 
-fn granted_in(happenings: &Happenings<'_>) -> Option<Granted> {
+fn granted_in(happenings: &Happenings<'_>) -> Option<Granted>
+    ensures { result ≡ granted_in happenings.now.grant }
+{
     let admission = happenings.grant?;
     Some(Granted {
         node: u32::from(admission.node),
@@ -49,13 +57,29 @@ fn granted_in(happenings: &Happenings<'_>) -> Option<Granted> {
     })
 }
 
-fn node_of(node: Option<u16>) -> Option<u32> {
-    Some(u32::from(node?))
+fn node_of(node: Option<u16>) -> Option<u32>
+    ensures { result ≡ node }
+{
+    match node {
+        Some(node) => Some(u32::from(node)),
+        None => None,
+    }
+}
+
+fn is_store(answer: Answer) -> bool
+    ensures { result ≡ is_store answer }
+{
+    match answer {
+        Answer::Store => true,
+        _ => false,
+    }
 }
 
 impl Facts {
     /// Of what happened.
-    pub fn of(happenings: &Happenings<'_>) -> Facts {
+    pub fn of(happenings: &Happenings<'_>) -> Facts
+        ensures { result ≡ facts_of happenings.now }
+    {
         Facts {
             answer: happenings.answer,
             came: came_in(happenings),
@@ -68,8 +92,11 @@ impl Facts {
     }
 
     /// How a command of the owner's ended.
-    pub fn outcome(&self) -> Outcome {
-        if self.answer == Answer::Store {
+    #[tactic(auto, unfolding(crate::specs::Bringing::outcome_of))]
+    pub fn outcome(&self) -> Outcome
+        ensures { result ≡ outcome_of self.now }
+    {
+        if is_store(self.answer) {
             return Outcome::StoreFailed;
         }
         if line_script::spaced_verdict(self.answer) == " ok " {

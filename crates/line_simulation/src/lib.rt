@@ -10,7 +10,9 @@
 
 mod arrivals;
 mod attacks;
+mod backlog;
 mod book;
+mod bringing;
 mod events;
 mod facts;
 mod incidents;
@@ -19,10 +21,15 @@ mod remarks;
 mod simulation;
 mod start;
 mod steps;
+mod turns;
 mod whole;
 mod work;
 
+pub use arrivals::Brought;
+pub use backlog::Backlog;
+pub use book::{Book, Outline};
 pub use facts::{Came, Facts, Granted};
+pub use incidents::Found;
 pub use recording::{Counted, RecordFault, Recording};
 pub use remarks::Remark;
 pub use simulation::{Flown, Kept, Simulation};

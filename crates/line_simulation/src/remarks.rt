@@ -1,10 +1,17 @@
 //! The remarks of a script: what its events cannot say.
-use crate::recording::Recording;
+ghost use Rattle.std.specs.Prelude.{◌≡◌, codes, string_bytes, IfOk};
+ghost use Rattle.line_simulation.specs.RemarkTexts.{loss_word, command_text, saying_text, given_up_word, target_text, reason_text, given_up_text, remark_text};
+ghost use Rattle.line_simulation.specs.RemarkTexts.{title_text};
+ghost use Rattle.line_simulation.specs.Runs.{Ends};
+ghost use Rattle.line_simulation.specs.Simulations.{state_of};
+ghost use Rattle.line_simulation.specs.Stepping.{texted};
+
+use crate::recording::{RecordFault, Recording};
 use crate::simulation::Simulation;
 use crate::work::Stop;
 use line_figures::Loss;
 use line_members::{Command, Saying};
-use std::fmt;
+use std::alloc::{AllocError, Global};
 
 /// What the events of a script cannot say.
 #[derive(Clone, Copy, Debug)]
@@ -63,7 +70,9 @@ pub enum Remark {
     Limit,
 }
 
-fn loss_word(loss: Loss) -> &'static str {
+fn loss_word(loss: Loss) -> &'static str
+    ensures { result.now ≡ loss_word loss }
+{
     match loss {
         Loss::Collision => "collision",
         Loss::Noise => "noise",
@@ -73,95 +82,142 @@ fn loss_word(loss: Loss) -> &'static str {
 }
 
 // What the owner says of a command.
-fn write_command<W: fmt::Write>(f: &mut fmt::Formatter<W>, command: &Command) -> fmt::Result {
+fn command_text(alloc: Global, command: &Command) -> Result<String, AllocError>
+    ensures { IfOk result (λ text. string_bytes text ≡ command_text command.now) }
+{
     match command {
-        Command::Tell(message) => write!(
-            f,
+        Command::Tell(message) => format!(in alloc;
             "refused node={} reading={}",
             message.node, message.round
         ),
-        Command::Order(node, index) => write!(f, "refused node={node} order={index}"),
-        _ => f.write_str("refused"),
+        Command::Order(node, index) => format!(in alloc; "refused node={node} order={index}"),
+        _ => String::from_str(alloc, "refused"),
     }
 }
 
-fn write_saying<W: fmt::Write>(f: &mut fmt::Formatter<W>, saying: &Saying) -> fmt::Result {
+fn saying_text(alloc: Global, saying: &Saying) -> Result<String, AllocError>
+    ensures { IfOk result (λ text. string_bytes text ≡ saying_text saying.now) }
+{
     match saying {
-        Saying::Refused(command) => write_command(f, command),
-        Saying::Leaves(node) => write!(f, "leaves node={node}"),
-        Saying::Unreached(node, tries) => write!(f, "unreached node={node} tries={tries}"),
-        Saying::KeyDrawn(index) => write!(f, "rekey index={index}"),
-        Saying::ToldToLeave(node) => write!(f, "told node={node}"),
+        Saying::Refused(command) => command_text(alloc, command),
+        Saying::Leaves(node) => format!(in alloc; "leaves node={node}"),
+        Saying::Unreached(node, tries) => format!(in alloc; "unreached node={node} tries={tries}"),
+        Saying::KeyDrawn(index) => format!(in alloc; "rekey index={index}"),
+        Saying::ToldToLeave(node) => format!(in alloc; "told node={node}"),
     }
 }
 
-fn write_given_up<W: fmt::Write>(
-    f: &mut fmt::Formatter<W>,
+fn given_up_word(why: Option<Loss>) -> &'static str
+    ensures { result.now ≡ given_up_word why }
+{
+    match why {
+        Some(_) => "lost",
+        None => "unacknowledged",
+    }
+}
+
+fn target_text(alloc: Global, to: Option<u32>) -> Result<String, AllocError>
+    ensures { IfOk result (λ text. string_bytes text ≡ target_text to) }
+{
+    match to {
+        Some(to) => format!(in alloc; " to={to}"),
+        None => Ok(String::new(alloc)),
+    }
+}
+
+fn reason_text(alloc: Global, why: Option<Loss>) -> Result<String, AllocError>
+    ensures { IfOk result (λ text. string_bytes text ≡ reason_text why) }
+{
+    match why {
+        Some(why) => {
+            let word = loss_word(why);
+            format!(in alloc; " why={word}")
+        }
+        None => Ok(String::new(alloc)),
+    }
+}
+
+fn given_up_text(
+    alloc: Global,
     flight: u32,
     from: u32,
     to: Option<u32>,
     why: Option<Loss>,
-) -> fmt::Result {
-    let word = if why.is_some() {
-        "lost"
-    } else {
-        "unacknowledged"
-    };
-    write!(f, "{word} flight={flight} from={from}")?;
-    if let Some(to) = to {
-        write!(f, " to={to}")?;
-    }
-    if let Some(why) = why {
-        write!(f, " why={}", loss_word(why))?;
-    }
-    Ok(())
+) -> Result<String, AllocError>
+    ensures { IfOk result (λ text. string_bytes text ≡ given_up_text flight from to why) }
+{
+    let word = given_up_word(why);
+    let target = target_text(alloc, to)?;
+    let reason = reason_text(alloc, why)?;
+    format!(in alloc; "{word} flight={flight} from={from}{target}{reason}")
 }
 
-impl fmt::Display for Remark {
-    fn fmt<W: fmt::Write>(&self, f: &mut fmt::Formatter<W>) -> fmt::Result {
-        match self {
-            Remark::Line { meters, seed } => write!(f, "line meters={meters} seed={seed}"),
-            Remark::Spare { node } => write!(f, "spare node={node}"),
-            Remark::Try { node, round, tries } => {
-                write!(f, "try node={node} reading={round} k={tries}")
-            }
-            Remark::GivenUp {
-                flight,
-                from,
-                to,
-                why,
-            } => write_given_up(f, *flight, *from, *to, *why),
-            Remark::Dropped { flight, node } => write!(f, "dropped flight={flight} node={node}"),
-            Remark::Power {
-                node,
-                seconds,
-                frames,
-            } => write!(f, "power node={node} for={seconds} frames={frames}"),
-            Remark::Noise { seconds } => write!(f, "noise for={seconds}"),
-            Remark::Link {
-                one,
-                other,
-                seconds,
-            } => write!(f, "link a={one} b={other} for={seconds}"),
-            Remark::Release { node, frames } => write!(f, "release node={node} frames={frames}"),
-            Remark::Said(saying) => write_saying(f, saying),
-            Remark::Limit => f.write_str("limit"),
+// The text of a remark, after its time.
+#[tactic(auto, unfolding(crate::specs::RemarkTexts::remark_text))]
+fn remark_text(alloc: Global, remark: &Remark) -> Result<String, AllocError>
+    ensures { IfOk result (λ text. string_bytes text ≡ remark_text remark.now) }
+{
+    match remark {
+        Remark::Line { meters, seed } => format!(in alloc; "line meters={meters} seed={seed}"),
+        Remark::Spare { node } => format!(in alloc; "spare node={node}"),
+        Remark::Try { node, round, tries } => {
+            format!(in alloc; "try node={node} reading={round} k={tries}")
         }
+        Remark::GivenUp {
+            flight,
+            from,
+            to,
+            why,
+        } => given_up_text(alloc, *flight, *from, *to, *why),
+        Remark::Dropped { flight, node } => {
+            format!(in alloc; "dropped flight={flight} node={node}")
+        }
+        Remark::Power {
+            node,
+            seconds,
+            frames,
+        } => format!(in alloc; "power node={node} for={seconds} frames={frames}"),
+        Remark::Noise { seconds } => format!(in alloc; "noise for={seconds}"),
+        Remark::Link {
+            one,
+            other,
+            seconds,
+        } => format!(in alloc; "link a={one} b={other} for={seconds}"),
+        Remark::Release { node, frames } => {
+            format!(in alloc; "release node={node} frames={frames}")
+        }
+        Remark::Said(saying) => saying_text(alloc, saying),
+        Remark::Limit => String::from_str(alloc, "limit"),
     }
 }
 
 impl<R: Recording> Simulation<R> {
+    // Writes a text with the time.
+    #[tactic(auto, unfolding(crate::specs::Stepping::texted, crate::specs::Simulations::state_of))]
+    fn write_remark(&mut self, text: &str) -> Result<(), Stop>
+        ensures { Ends result (texted R.recorder text.now (state_of self.old)) (state_of self.new) }
+    {
+        match self.recording.remark(self.time / 1_000, text) {
+            Ok(()) => Ok(()),
+            Err(RecordFault::Full) => Err(Stop::Limit),
+            Err(RecordFault::Refused) => Err(Stop::Limit),
+            Err(RecordFault::Memory) => Err(Stop::Memory),
+        }
+    }
+
     /// Writes a remark with the time.
-    pub fn remark(&mut self, remark: &Remark) -> Result<(), Stop> {
-        let text = format!(in self.alloc; "{remark}")?;
-        self.recording.remark(self.now / 1_000, text.as_str())?;
-        Ok(())
+    pub fn remark(&mut self, remark: &Remark) -> Result<(), Stop>
+        ensures { Ends result (texted R.recorder (remark_text remark.now) (state_of self.old)) (state_of self.new) }
+    {
+        let text = remark_text(self.alloc, remark)?;
+        self.write_remark(text.as_str())
     }
 
     /// Writes a remark with the time and a text.
-    pub fn remark_title(&mut self, title: &str) -> Result<(), Stop> {
+    pub fn remark_title(&mut self, title: &str) -> Result<(), Stop>
+        ensures { Ends result (texted R.recorder (title_text title.now) (state_of self.old)) (state_of self.new) }
+    {
         let text = format!(in self.alloc; "title {title}")?;
-        self.recording.remark(self.now / 1_000, text.as_str())?;
-        Ok(())
+        self.write_remark(text.as_str())
     }
 }

@@ -1,20 +1,26 @@
 //! A simulation from its description.
-ghost use Rattle.std.specs.Prelude.{◌≡◌};
+ghost use Rattle.std.specs.Prelude.{◌≡◌, IfOk, map, Some};
+ghost use Rattle.line_place.specs.Rows.{rows_to};
 ghost use Rattle.line_simulation.specs.Attackers.{is_attack, has_attackers};
+ghost use Rattle.line_simulation.specs.Starting.{rate_of, air_settings, owner_settings, nodes_of, IsScattered, IsPlaced, depth_of, AreDepths, IsMade};
 
+use crate::backlog::Backlog;
 use crate::book::Book;
 use crate::recording::Recording;
 use crate::simulation::Simulation;
 use air_draws::{Draws, Purpose};
 use line_air::{Air, Calendar, Rate};
 use line_figures::Figures;
+use line_members::Asked;
 use line_owner::Owner;
-use line_place::{Layout, Place, Scattering};
+use line_place::{Field, Layout, Place, Scattering};
 use line_plan::Plan;
 use plan_tables::{AirPlan, Incident, Kind, PlacePlan, PlannedRate, Way, What};
 use std::alloc::{AllocError, Global};
 
-fn rate_of(rate: PlannedRate) -> Rate {
+fn rate_of(rate: PlannedRate) -> Rate
+    ensures { result ≡ rate_of rate }
+{
     match rate {
         PlannedRate::Robo => Rate::Robo,
         PlannedRate::Dbpsk => Rate::Dbpsk,
@@ -23,7 +29,9 @@ fn rate_of(rate: PlannedRate) -> Rate {
     }
 }
 
-fn air_settings(plan: &AirPlan) -> line_air::Settings {
+fn air_settings(plan: &AirPlan) -> line_air::Settings
+    ensures { result ≡ air_settings plan.now }
+{
     line_air::Settings {
         rate: rate_of(plan.rate),
         repeats: plan.limits.repeats,
@@ -39,7 +47,9 @@ fn air_settings(plan: &AirPlan) -> line_air::Settings {
     }
 }
 
-fn owner_settings(plan: &Plan) -> line_owner::Settings {
+fn owner_settings(plan: &Plan) -> line_owner::Settings
+    ensures { result ≡ owner_settings plan.now }
+{
     line_owner::Settings {
         length: plan.length,
         joining: plan.owner.joining,
@@ -49,25 +59,51 @@ fn owner_settings(plan: &Plan) -> line_owner::Settings {
     }
 }
 
-// The place of a plan. None where no path led to every meter in 1,000 draws.
-fn place_of(alloc: Global, seed: u64, plan: &PlacePlan) -> Result<Option<Place>, AllocError> {
-    let nodes = plan.meters().saturating_add(1);
-    let layout = match &plan.kind {
-        Kind::InStreet(street) => Layout::InStreet(*street),
-        Kind::InGrid(grid, _) => Layout::InGrid(*grid),
-        Kind::InTower(tower, _) => Layout::InTower(*tower),
-        Kind::Scattered(field) => {
-            let mut draws = Draws::new(seed, Purpose::Place);
-            return match field.scatter(alloc, &mut draws, &plan.losses, &plan.costs)? {
-                Scattering::Connected(place) => Ok(Some(place)),
-                Scattering::Apart => Ok(None),
-            };
-        }
-        Kind::Measured(links) => {
-            return Ok(Some(Place::measured(alloc, nodes, links.links())?));
-        }
-    };
+// How many nodes there are: the coordinator and the meters.
+fn nodes_of(plan: &PlacePlan) -> u32
+    ensures { result ≡ nodes_of plan.now }
+{
+    plan.meters().saturating_add(1)
+}
+
+// The place of a layout.
+fn place_on(alloc: Global, plan: &PlacePlan, layout: Layout) -> Result<Option<Place>, AllocError>
+    ensures { IfOk result (λ placed. placed ≡ Some (rows_to layout plan.now.losses plan.now.costs (nodes_of plan.now) (nodes_of plan.now))) }
+{
+    let nodes = nodes_of(plan);
     Ok(Some(Place::on(alloc, nodes, &layout, &plan.losses, &plan.costs)?))
+}
+
+// The place of scattered meters. None where no path led to every one in 1,000 draws.
+fn scattered(
+    alloc: Global,
+    seed: u64,
+    plan: &PlacePlan,
+    field: &Field,
+) -> Result<Option<Place>, AllocError>
+    ensures { IfOk result (IsScattered seed plan.now field.now) }
+{
+    let mut draws = Draws::new(seed, Purpose::Place);
+    match field.scatter(alloc, &mut draws, &plan.losses, &plan.costs)? {
+        Scattering::Connected(place) => Ok(Some(place)),
+        Scattering::Apart => Ok(None),
+    }
+}
+
+// The place of a plan. None where no path led to every meter in 1,000 draws.
+fn place_of(alloc: Global, seed: u64, plan: &PlacePlan) -> Result<Option<Place>, AllocError>
+    ensures { IfOk result (IsPlaced seed plan.now) }
+{
+    match &plan.kind {
+        Kind::InStreet(street) => place_on(alloc, plan, Layout::InStreet(*street)),
+        Kind::InGrid(grid, _) => place_on(alloc, plan, Layout::InGrid(*grid)),
+        Kind::InTower(tower, _) => place_on(alloc, plan, Layout::InTower(*tower)),
+        Kind::Scattered(field) => scattered(alloc, seed, plan, field),
+        Kind::Measured(links) => {
+            let place = Place::measured(alloc, nodes_of(plan), links.links())?;
+            Ok(Some(place))
+        }
+    }
 }
 
 fn is_attack(what: &What) -> bool
@@ -88,21 +124,36 @@ pub fn has_attackers(incidents: &[Incident]) -> bool
     incidents.iter().any(|incident| is_attack(&incident.what))
 }
 
-// The hops of each node where the meters join in the workshop, and 0 for all where they join over the air.
-fn depths_of(alloc: Global, place: &Place, depot: bool) -> Result<Vec<u32>, AllocError> {
+fn depth_of(hops: Option<usize>) -> u32
+    ensures { result ≡ depth_of hops }
+{
+    match hops {
+        Some(hops) => hops.min(1_000) as u32,
+        None => 0,
+    }
+}
+
+fn depths_by(alloc: Global, hops: &[Option<usize>]) -> Result<Vec<u32>, AllocError>
+    ensures { IfOk result (λ depths. depths.items ≡ map depth_of hops.now) }
+{
     let mut depths = Vec::new(alloc);
+    for hop in hops {
+        depths.push(depth_of(*hop))?;
+    }
+    Ok(depths)
+}
+
+// The hops of each node where the meters join in the workshop, and 0 for all where they join over the air.
+fn depths_of(alloc: Global, place: &Place, depot: bool) -> Result<Vec<u32>, AllocError>
+    ensures { IfOk result (λ depths. AreDepths depot place.now depths.items) }
+{
     if !depot {
+        let mut depths = Vec::new(alloc);
         depths.resize(place.nodes(), 0)?;
         return Ok(depths);
     }
     let hops = place.hops(alloc)?;
-    for hop in hops.as_slice() {
-        depths.push(match hop {
-            Some(hop) => (*hop).min(1_000) as u32,
-            None => 0,
-        })?;
-    }
-    Ok(depths)
+    depths_by(alloc, hops.as_slice())
 }
 
 /// What comes of a description.
@@ -116,7 +167,10 @@ pub enum Made<R: Recording> {
 
 impl<R: Recording> Simulation<R> {
     /// The line of a plan, before its run. The recording has taken no event.
-    pub fn new(alloc: Global, plan: Plan, recording: R) -> Result<Made<R>, AllocError> {
+    #[tactic(auto, unfolding(crate::specs::Simulations::state_of))]
+    pub fn new(alloc: Global, plan: Plan, recording: R) -> Result<Made<R>, AllocError>
+        ensures { IfOk result (IsMade plan recording) }
+    {
         let Some(place) = place_of(alloc, plan.seed, &plan.place)? else {
             return Ok(Made::Apart);
         };
@@ -124,7 +178,7 @@ impl<R: Recording> Simulation<R> {
         let owner = Owner::new(alloc, owner_settings(&plan), depths.as_slice(), plan.seed)?;
         let mut sent_at = Vec::new(alloc);
         sent_at.resize(place.nodes(), 0)?;
-        let nodes = plan.place.meters().saturating_add(1);
+        let nodes = nodes_of(&plan.place);
         Ok(Made::Simulation(Simulation {
             alloc,
             recording,
@@ -132,18 +186,16 @@ impl<R: Recording> Simulation<R> {
             owner,
             calendar: Calendar::new(alloc),
             jobs: Vec::new(alloc),
-            work: Vec::new(alloc),
-            now: 0,
-            nodes,
+            work: Backlog::new(alloc),
+            time: 0,
             book: Book::new(alloc, nodes)?,
             flown: Vec::new(alloc),
-            sent_at,
-            came: Vec::new(alloc),
             kept: Vec::new(alloc),
+            tried: Asked::new(alloc),
             failures: Draws::new(plan.seed, Purpose::Failures),
             attack: Draws::new(plan.seed, Purpose::Attack),
             figures: Figures::new(alloc),
-            reading_octets: plan.owner.readings.octets.min(2_048) as usize,
+            sent_at,
             polled: plan.owner.readings.way == Way::Poll,
             plan,
         }))

@@ -2,6 +2,7 @@
 use crate::facts::Facts;
 use line_members::{Act, Command, Notice, Outcome, Task};
 use plan_tables::Leaves;
+use std::alloc::{AllocError, AllocFailed};
 
 /// What is to be done before the next moment of the calendar.
 #[derive(Clone, Copy, Debug)]
@@ -55,4 +56,26 @@ pub enum Stop {
     /// The script is full, or nothing comes to an end.
     Limit,
     Memory,
+}
+
+impl From<AllocError> for Stop {
+    ghost use Rattle.std.specs.Prelude.{◌≡◌};
+    ghost use Rattle.line_simulation.specs.declared.work.Stop.TheVariants.{Memory};
+
+    ghost from_gives = { λ _ stop. stop ≡ Memory };
+
+    fn from(_: AllocError) -> Stop {
+        Stop::Memory
+    }
+}
+
+impl<T: Drop> From<AllocFailed<T>> for Stop {
+    ghost use Rattle.std.specs.Prelude.{◌≡◌};
+    ghost use Rattle.line_simulation.specs.declared.work.Stop.TheVariants.{Memory};
+
+    ghost from_gives = { λ _ stop. stop ≡ Memory };
+
+    fn from(_: AllocFailed<T>) -> Stop {
+        Stop::Memory
+    }
 }

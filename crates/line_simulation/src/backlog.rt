@@ -1,0 +1,50 @@
+//! What is to be done before the next moment of the calendar, as a stack.
+ghost use Rattle.std.specs.Prelude.{◌≡◌, ◌∷◌, [], List, None, OnOk, Option, Some};
+ghost use Rattle.line_simulation.specs.declared.work.Work.{Work as WorkItem};
+
+use crate::work::Work;
+use std::alloc::{AllocError, Global};
+use std::marker::Model;
+
+/// What is to be done before the next moment of the calendar. A contract sees the list of it, what comes next first.
+#[derive(Drop)]
+pub struct Backlog {
+    // What comes next stands last.
+    work: Vec<Work>,
+}
+
+impl Model for Backlog {
+    ghost use Rattle.std.specs.Prelude.{List, reverse};
+    ghost use Rattle.line_simulation.specs.declared.work.Work.{Work};
+
+    ghost Value = { List Work };
+
+    ghost view = { λ b. reverse b.work.items };
+}
+
+impl Backlog {
+    /// Nothing is to be done.
+    pub fn new(alloc: Global) -> Backlog
+        ensures { result ≡ [] }
+    {
+        Backlog {
+            work: Vec::new(alloc),
+        }
+    }
+
+    /// Something is to be done next, before all else.
+    pub fn push(&mut self, work: Work) -> Result<(), AllocError>
+        ensures { OnOk result (self.new ≡ work ∷ self.old) }
+    {
+        self.work.push(work)?;
+        Ok(())
+    }
+
+    /// Takes out what comes next.
+    pub fn pop(&mut self) -> Option<Work>
+        ensures first { self.old ≡ elim result as (λ _. List WorkItem) [ None ↦ self.new | Some w ↦ w ∷ self.new ] }
+        ensures none { result ≡ None → self.old ≡ [] }
+    {
+        self.work.pop()
+    }
+}
