@@ -5,6 +5,7 @@ ghost use Rattle.aes_modes.specs.LookUps.{unturned, unhidden};
 ghost use Rattle.aes_modes.specs.Schedule.{first_key, IsSchedule};
 ghost use Rattle.aes_modes.specs.Rounds.{mixed};
 
+use crate::compare::is_same;
 use crate::look_ups::{add, hide, look, once_and_twice, sub_turned, turn};
 use plc_base::Key;
 use std::marker::Model;
@@ -57,6 +58,15 @@ impl Aes {
             k10.to_array(),
         ];
         Aes { keys }
+    }
+
+    /// Makes it that of `key`, and expands the key only where it is another one than before. How long this takes shows whether it is.
+    pub fn renew(&mut self, key: &Key)
+        ensures { self.new ≡ key.now.0 }
+    {
+        if !is_same(&self.keys[0], &key.0) {
+            *self = Aes::new(key);
+        }
     }
 
     /// The encrypted block (FIPS 197, section 5.1).

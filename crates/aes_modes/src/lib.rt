@@ -1,6 +1,6 @@
 //! AES-128 and the modes that the network uses: CMAC, EAX and CCM*.
 //!
-//! - [`Aes`] is a key with its schedule: `new` makes it once for a key, `encrypt_block` is the cipher of FIPS 197.
+//! - [`Aes`] is a key with its schedule: `new` makes it for a key, `renew` where the key is another one, `encrypt_block` is the cipher of FIPS 197.
 //! - [`cmac`] gives the tag of a text (RFC 4493). [`eax_seal`] and [`eax_open`] serve the protected channel of EAP-PSK.
 //! - [`ccm_seal`] and [`ccm_open`] serve frames: a nonce of 13 octets, a header that is authenticated alone, a tag of 4 or 8 octets.
 //! - [`is_same`] compares two blocks whole, for a tag or a code that somebody may be guessing.
