@@ -13,7 +13,6 @@ ghost use Rattle.node_rules.specs.Laws.{WaitingFits};
 ghost use Rattle.plc_base.specs.declared.limits.TheConstants.{LONGEST_FRAME};
 
 use crate::station::Station;
-use aes_modes::Aes;
 use frame_counters::PeerFault;
 use mac_frames::{MacHead, RawFrame, open_frame, read_frame};
 use node_rules::{Accepted, FrameRef, FrameRefusal, Path};
@@ -122,7 +121,8 @@ impl<K: Keeper + Drop> Station<K> {
         let Some(key) = self.parts.ring.key(index) else {
             return Err(FrameRefusal::NoKey);
         };
-        let Ok(()) = open_frame(&Aes::new(&key), raw, payload) else {
+        self.cipher.renew(&key);
+        let Ok(()) = open_frame(&self.cipher, raw, payload) else {
             return Err(FrameRefusal::BadTag);
         };
         let path = Path::Sealed {

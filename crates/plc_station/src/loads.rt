@@ -100,7 +100,17 @@ impl<K: Keeper + Drop> Station<K> {
         let Ok(first) = self.parts.counter.reserve(&mut self.keeper, count) else {
             return Err(SendRefusal::Store);
         };
-        seal_own(grant, first, hop, to, note, tag, octets, out);
+        seal_own(
+            &mut self.cipher,
+            grant,
+            first,
+            hop,
+            to,
+            note,
+            tag,
+            octets,
+            out,
+        );
         self.halted = false;
         Ok(SentHow::Sent)
     }
@@ -177,7 +187,7 @@ impl<K: Keeper + Drop> Station<K> {
         let Ok(counter) = self.parts.counter.reserve(&mut self.keeper, 1) else {
             return Err(SendRefusal::Store);
         };
-        seal_request(grant, counter, number, to, out);
+        seal_request(&mut self.cipher, grant, counter, number, to, out);
         self.bodies.push(to, note, now, tag, octets);
         self.halted = false;
         Ok(SentHow::Waiting)

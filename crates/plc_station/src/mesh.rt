@@ -19,7 +19,6 @@ ghost use Rattle.plc_base.specs.declared.limits.TheConstants.{GREATEST_COUNTER};
 
 use crate::offers::LastHop;
 use crate::station::Station;
-use aes_modes::Aes;
 use loadng_messages::{Message, MessageBuf, write_message};
 use mesh_header::{Mesh, Unit};
 use node_rules::{Dropped, Heard, Way};
@@ -95,7 +94,8 @@ impl<K: Keeper + Drop> Station<K> {
             return Err(Dropped::Store);
         };
         let key = grant.sealing_key();
-        seal(grant, &key, &Aes::new(&key), counter, to, unit, note, out);
+        self.cipher.renew(&key);
+        seal(grant, &key, &self.cipher, counter, to, unit, note, out);
         self.halted = false;
         Ok(())
     }

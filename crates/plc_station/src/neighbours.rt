@@ -9,7 +9,6 @@ ghost use Rattle.plc_station.specs.Ready.{After, Ready};
 ghost use Rattle.plc_base.specs.declared.limits.TheConstants.{GREATEST_COUNTER, MOST_FRAMES};
 
 use crate::station::Station;
-use aes_modes::Aes;
 use mesh_header::Unit;
 use node_rules::LocalRefusal;
 use plc_base::{Destination, Grant, Keeper, OctetRef, Out, Short};
@@ -55,7 +54,8 @@ impl<K: Keeper + Drop> Station<K> {
         let key = grant.sealing_key();
         let body = OctetRef::new(body);
         let unit = Unit::Local { code, body };
-        seal(grant, &key, &Aes::new(&key), counter, to, &unit, 0, out);
+        self.cipher.renew(&key);
+        seal(grant, &key, &self.cipher, counter, to, &unit, 0, out);
         self.halted = false;
         Ok(())
     }

@@ -11,7 +11,6 @@ ghost use Rattle.plc_base.specs.declared.limits.TheConstants.{GREATEST_COUNTER};
 
 use crate::offers::{LastHop, Offer, Offered};
 use crate::station::Station;
-use aes_modes::Aes;
 use node_rules::{Dropped, Heard};
 use plc_base::{Grant, Keeper, Out};
 
@@ -42,12 +41,12 @@ impl<K: Keeper + Drop> Station<K> {
             return Err(Dropped::Store);
         };
         let key = grant.sealing_key();
-        let aes = Aes::new(&key);
+        self.cipher.renew(&key);
         self.bodies.seal_leaving(
             offer.origin,
             grant,
             &key,
-            &aes,
+            &self.cipher,
             first,
             offer.by,
             &mut self.buffer,

@@ -11,7 +11,6 @@ ghost use Rattle.plc_base.specs.declared.limits.TheConstants.{GREATEST_COUNTER};
 
 use crate::sealing::seal_message;
 use crate::station::Station;
-use aes_modes::Aes;
 use loadng_messages::Message;
 use node_rules::{Dropped, Heard};
 use plc_base::{Destination, Grant, Keeper, Out, Short};
@@ -69,11 +68,11 @@ impl<K: Keeper + Drop> Station<K> {
         self.parts.routing.invalidate(lost, by);
         let error = Message::Rerr { lost, to };
         let key = grant.sealing_key();
-        let aes = Aes::new(&key);
+        self.cipher.renew(&key);
         seal_message(
             grant,
             &key,
-            &aes,
+            &self.cipher,
             counter,
             Destination::one(hop),
             &error,

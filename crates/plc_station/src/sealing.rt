@@ -22,8 +22,10 @@ use mesh_header::Unit;
 use plc_base::{Destination, Grant, Key, OctetRef, Out, Short};
 use station_queues::{Bodies, BodyBuffer, seal, seal_load};
 
-// Seals a datagram with its tag, whole or in pieces, or a command, which has none.
+// Seals a datagram with its tag, whole or in pieces, or a command, which has none. Here and below `cipher` becomes that of the active key of
+// the grant.
 pub(crate) fn seal_own(
+    cipher: &mut Aes,
     grant: &Grant,
     first: u32,
     hop: Short,
@@ -44,18 +46,8 @@ pub(crate) fn seal_own(
     } }
 {
     let key = grant.sealing_key();
-    seal_load(
-        grant,
-        &key,
-        &Aes::new(&key),
-        first,
-        hop,
-        to,
-        note,
-        tag,
-        octets,
-        out,
-    );
+    cipher.renew(&key);
+    seal_load(grant, &key, cipher, first, hop, to, note, tag, octets, out);
 }
 
 // Seals a message for one neighbour or for all, under the active key of the grant, of which the caller has the schedule.
@@ -93,6 +85,7 @@ pub(crate) fn seal_message(
 pub(crate) fn seal_waiting_then(
     bodies: &mut Bodies,
     buffer: &mut BodyBuffer,
+    cipher: &mut Aes,
     grant: &Grant,
     offer: &Offer,
     first: u32,
@@ -112,23 +105,30 @@ pub(crate) fn seal_waiting_then(
 {
     let units = bodies.units_for(offer.origin);
     let key = grant.sealing_key();
-    let aes = Aes::new(&key);
+    cipher.renew(&key);
     bodies.seal_leaving(
         offer.origin,
         grant,
         &key,
-        &aes,
+        cipher,
         first,
         offer.by,
         buffer,
         out,
     );
-    seal_message(grant, &key, &aes, first + units, to, message, out);
+    seal_message(grant, &key, cipher, first + units, to, message, out);
     bodies.drop_for(offer.origin);
 }
 
 // Seals a request for the route to an address, which goes to all.
-pub(crate) fn seal_request(grant: &Grant, counter: u32, number: u16, dest: Short, out: &mut Out)
+pub(crate) fn seal_request(
+    cipher: &mut Aes,
+    grant: &Grant,
+    counter: u32,
+    number: u16,
+    dest: Short,
+    out: &mut Out,
+)
     requires number { 1 ≤ number }
     requires empty { out.old ≡ nothing }
     ensures { out.new ≡ record nothing {
@@ -148,11 +148,11 @@ pub(crate) fn seal_request(grant: &Grant, counter: u32, number: u16, dest: Short
         dest,
     };
     let key = grant.sealing_key();
-    let aes = Aes::new(&key);
+    cipher.renew(&key);
     seal_message(
         grant,
         &key,
-        &aes,
+        cipher,
         counter,
         Destination::all(),
         &message,

@@ -12,8 +12,9 @@ ghost use Rattle.plc_station.specs.StationReading.{if_read, read_answer};
 ghost use Rattle.plc_station.specs.OpenFaults.{IsOpenFault};
 
 use crate::parts::Parts;
+use aes_modes::Aes;
 use node_rules::Reply;
-use plc_base::{BadStore, Eui, Keeper, LONGEST_DATAGRAM, Short};
+use plc_base::{BadStore, Eui, Keeper, Key, LONGEST_DATAGRAM, Short};
 use station_queues::{Bodies, BodyBuffer};
 use std::alloc::Global;
 use std::marker::Model;
@@ -45,6 +46,8 @@ pub struct Station<K: Keeper + Drop> {
     pub(crate) bodies: Bodies,
     // Each body that leaves is read into it. It is kept, so that no call zeroes 1,280 octets.
     pub(crate) buffer: BodyBuffer,
+    // The cipher under the key of the last frame that it sealed or opened, so that the next one under this key needs no key schedule.
+    pub(crate) cipher: Aes,
     pub(crate) halted: bool,
     pub(crate) replied: Option<Reply>,
 }
@@ -99,6 +102,7 @@ impl<K: Keeper + Drop> Station<K> {
                 parts,
                 bodies,
                 buffer: [0; LONGEST_DATAGRAM],
+                cipher: Aes::new(&Key([0; 16])),
                 halted: false,
                 replied: None,
             }),

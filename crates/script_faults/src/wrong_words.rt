@@ -497,10 +497,10 @@ fn nearer_record(new: usize, old: usize, reach: usize) -> Option<&'static str>
 }
 
 #[tactic(auto, unfolding(crate::specs::Nearest::distance))]
-fn steps_to(alloc: Global, word: &str, record: &str) -> Result<usize, AllocError>
-    ensures { IfOk result (λ steps. steps ≡ distance word.now record.now) }
+fn steps_to(alloc: Global, word: &str, meant: &str) -> Result<usize, AllocError>
+    ensures { IfOk result (λ steps. steps ≡ distance word.now meant.now) }
 {
-    osa_distance(alloc, word, record)
+    osa_distance(alloc, word, meant)
 }
 
 // Which of `old` and `new` is meant, if one is near.

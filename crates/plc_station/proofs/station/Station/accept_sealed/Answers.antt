@@ -17,4 +17,4 @@ returns-in_default-open_frame-clause-carries g c =
     rw (← c.self.view_is)
     (on_memory c.self.inside.halted _ _ (λ running. tag_wrong _ (station_in c.self.inside.parts c.self.inside.bodies)
     (arrived_with network c.args.raw.now.head c.args.raw.now.header.now c.args.raw.now.body.now) c.args.to c.args.from c.args.counter _ _ running
-    c.in-Some.ensures (rw c.new.ensures at c.in_default-open_frame.ensures.exact)))
+    c.in-Some.ensures (rw c.renew.ensures at c.in_default-open_frame.ensures.exact)))
