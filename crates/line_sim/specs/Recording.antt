@@ -10,6 +10,7 @@ use Rattle.line_air.specs.Counts.{way_cmp}
 use Rattle.line_events.specs.declared.event.Event.{Event}
 use Rattle.line_events.specs.declared.event.Event.TheVariants as events
 use Rattle.line_events.specs.declared.event.StepFault.{StepFault}
+use Rattle.line_events.specs.declared.event.StepFault.TheVariants as steps
 use Rattle.line_events.specs.declared.event.TheConstants.{MAX_EVENTS}
 use Rattle.node_rules.specs.Ciphers.{network}
 use Rattle.line_rules.specs.Further.{line_step}
@@ -122,6 +123,11 @@ AppendsAs (Ok u) appended script = appended ≡ Some script
 AppendsAs (Err fault) appended script = AppendsNot fault appended
 
 -- # What becomes of events and remarks
+
+-- why an event is not recorded that the world does not take
+abbrev pub fault_of : StepFault → RecordFault
+fault_of steps.Memory = faults.Memory
+fault_of _ = faults.Refused
 
 abbrev pub with_order : Ordered → Recorded → Recorded
 with_order o r = record r { order = o }

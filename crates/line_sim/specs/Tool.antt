@@ -92,9 +92,14 @@ pub data EndsRun (injects : Bool) (s : Simulated Recorded) (sink0 sink1 : SinkSt
   Written : WritesRun injects (whole_run (world_recorder injects) s) sink0 sink1 result → EndsRun injects s sink0 sink1 result
   NotRun : result ≡ status.Memory → sink1 ≡ sink0 → EndsRun injects s sink0 sink1 result
 
--- What became of the run of a plan: its script was written, or the line that says why there is none; or nothing was.
+-- The simulation of a plan before its run: there is no other.
+pub record IsOnlyFirst (plan : Plan) (first : Simulated Recorded) : Type 0 where
+  pub is_first : IsFirst plan new_recorder first
+  pub only : (other : Simulated Recorded) → IsFirst plan new_recorder other → other ≡ first
+
+-- What became of the run of a plan: the script of its one simulation was written, or the line that says why there is none; or nothing was.
 pub data Ends (injects : Bool) (plan : Plan) (sink0 sink1 : SinkState) (result : Status) : Type 0 where
-  Simulates : (first : Simulated Recorded) → IsFirst plan new_recorder first → EndsRun injects first sink0 sink1 result → Ends injects plan sink0 sink1 result
+  Simulates : (first : Simulated Recorded) → IsOnlyFirst plan first → EndsRun injects first sink0 sink1 result → Ends injects plan sink0 sink1 result
   Apart : IsApart plan.seed plan.place plan.place.kind → Writes apart_text status.BadDescription sink0 sink1 result → Ends injects plan sink0 sink1 result
   OutOfMemory : result ≡ status.Memory → sink1 ≡ sink0 → Ends injects plan sink0 sink1 result
 

@@ -2,7 +2,7 @@
 ghost use Rattle.std.specs.Prelude.{◌≡◌, IsTrue, OnOk, None, Some};
 ghost use Rattle.line_sim.specs.Arrivals.{arrival_by, coming};
 ghost use Rattle.line_sim.specs.Recorders.{Grows, Brings, Follows, last_of};
-ghost use Rattle.line_sim.specs.Recorders.{ordered_of};
+ghost use Rattle.line_sim.specs.Recorders.{no_order, ordered_of};
 ghost use Rattle.line_sim.specs.Recording.{brings, event_turn, remark_turn, TurnsAs, turn_of};
 ghost use Rattle.line_sim.specs.Times.{Remarked, is_tick, time_by};
 
@@ -58,7 +58,9 @@ fn coming(event: &Event<'_>) -> Option<Delivery>
 
 impl Order {
     /// Of no line.
-    pub fn new(alloc: Global) -> Order {
+    pub fn new(alloc: Global) -> Order
+        ensures { ordered_of result ≡ no_order }
+    {
         Order {
             last: BTreeMap::new(alloc),
             second: 0,

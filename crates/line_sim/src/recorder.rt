@@ -6,7 +6,7 @@ ghost use Rattle.line_script.specs.Lines.{line_of};
 ghost use Rattle.script_lines.specs.Lines.{NoFeed};
 ghost use Rattle.line_sim.specs.Arrivals.{IsCausal, InOrder, arrivals};
 ghost use Rattle.line_sim.specs.Recorders.{AppendsLine, no_order};
-ghost use Rattle.line_sim.specs.Recording.{are_line_octets, is_within, is_said, may_take, has_feed, appended, AppendsAs};
+ghost use Rattle.line_sim.specs.Recording.{are_line_octets, is_within, is_said, may_take, has_feed, appended, AppendsAs, fault_of};
 ghost use Rattle.line_sim.specs.Scripts.{LeadsTo, InjectsNothing, is_injection};
 ghost use Rattle.line_sim.specs.Times.{IsUpTo, times, remark_line};
 
@@ -382,7 +382,10 @@ fn may_take(injects: bool, event: &Event<'_>) -> bool
     is_event(event)
 }
 
-fn fault_of(fault: StepFault) -> RecordFault {
+// Why an event is not recorded that the world does not take.
+fn fault_of(fault: StepFault) -> RecordFault
+    ensures { result ≡ fault_of fault }
+{
     match fault {
         StepFault::Memory => RecordFault::Memory,
         StepFault::Setup => RecordFault::Refused,
