@@ -1,6 +1,6 @@
 //! Items as octets.
 ghost use Rattle.std.specs.Prelude.{◌≡◌, ◌≤◌, ◌<◌, length};
-ghost use Rattle.plc_base.specs.Streams.{HasWritten};
+ghost use Rattle.plc_base.specs.Streams.{SourceFaults, HasWritten};
 ghost use Rattle.host_items.specs.Items.{spelling};
 ghost use Rattle.host_items.specs.Reading.{IsOctetRead, IsFilled, IsItemRead};
 
@@ -52,14 +52,15 @@ pub fn write_item<K: Sink>(sink: &mut K, kind: u8, octets: &[u8]) -> Result<(), 
 
 // Reads one octet, None at the end of input.
 fn read_octet<S: Source>(source: &mut S) -> Result<Option<u8>, Failed>
-    ensures { IsOctetRead (S.state source.old) (S.state source.new) result }
+    ensures read { IsOctetRead (S.state source.old) (S.state source.new) result }
+    ensures faults { SourceFaults (S.state source.old) (S.state source.new) }
 {
     let mut octet = [0; 1];
-    let count = source.read(&mut octet)?;
-    if count == 0 {
-        return Ok(None);
+    match source.read(&mut octet) {
+        Ok(0) => Ok(None),
+        Ok(_) => Ok(Some(octet[0])),
+        Err(failed) => Err(failed),
     }
-    Ok(Some(octet[0]))
 }
 
 // Reads so many octets, and answers whether there were so many: the input may end before.
@@ -69,14 +70,16 @@ fn fill<S: Source, const N: usize>(
     count: usize,
 ) -> Result<bool, Failed>
     requires { count ≤ N }
-    ensures { IsFilled (S.state source.old) (S.state source.new) count octets.new result }
+    ensures read { IsFilled (S.state source.old) (S.state source.new) count octets.new result }
+    ensures faults { SourceFaults (S.state source.old) (S.state source.new) }
 {
     octets.clear();
     for turn in 0..count {
-        let Some(octet) = read_octet(source)? else {
-            return Ok(false);
-        };
-        octets.push(octet);
+        match read_octet(source) {
+            Ok(Some(octet)) => octets.push(octet),
+            Ok(None) => return Ok(false),
+            Err(failed) => return Err(failed),
+        }
     }
     Ok(true)
 }
@@ -89,7 +92,8 @@ pub fn read_item<S: Source>(
     source: &mut S,
     octets: &mut ItemOctets,
 ) -> Result<Option<u8>, ItemFault>
-    ensures { IsItemRead (S.state source.old) (S.state source.new) octets.new result }
+    ensures read { IsItemRead (S.state source.old) (S.state source.new) octets.new result }
+    ensures faults { SourceFaults (S.state source.old) (S.state source.new) }
 {
     let mut head = Octets::<3>::new();
     let Ok(whole) = fill(source, &mut head, 3) else {
