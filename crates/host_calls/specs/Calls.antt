@@ -1,9 +1,10 @@
 -- The calls of a meter as items of octets. Numbers have their highest octet first.
-use Rattle.std.specs.Prelude.{ℕ, ◌==◌, nat_lt, if◌then◌else◌, List, length, take, drop, slice_index, Option, Some, None}
+use Rattle.std.specs.Prelude.{ℕ, ◌==◌, nat_lt, if◌then◌else◌, List, length, drop, slice_index, Option, Some, None}
 use Rattle.std.specs.Option.{option_map, option_and_then}
 use Rattle.byteorder.specs.Endian.{big_number}
 use Rattle.plc_base.specs.declared.key.Key.{Key}
 use Rattle.plc_base.specs.Addresses.{is_address}
+use Rattle.plc_base.specs.Fields.{part}
 use Rattle.plc_base.specs.Grant.{Granted, keyed}
 use Rattle.host_calls.specs.declared.calls.Call.{Call}
 use Rattle.host_calls.specs.declared.calls.Call.TheVariants as calls
@@ -34,7 +35,7 @@ granted address index key = keyed (record { address = address; active = index; k
 abbrev pub provision_in : List ℕ → Option Call
 provision_in octets =
     if length octets == 19 then option_and_then
-    (λ address. option_map (λ index. calls.Provision (granted address index (record { 0 = take 16 (drop 3 octets) }))) (index_of (slice_index octets 2)))
+    (λ address. option_map (λ index. calls.Provision (granted address index (record { 0 = part 3 16 octets }))) (index_of (slice_index octets 2)))
     (address_of (number_at 2 0 octets)) else None
 
 -- a neighbour: its address, the cost of the link, the time
@@ -45,7 +46,7 @@ near_in octets =
 
 -- a random value
 abbrev pub random_in : List ℕ → Option Call
-random_in octets = if length octets == 16 then Some (calls.Random (record { 0 = take 16 (drop 0 octets) })) else None
+random_in octets = if length octets == 16 then Some (calls.Random (record { 0 = part 0 16 octets })) else None
 
 -- a joining: the agent, the time
 abbrev pub join_in : List ℕ → Option Call

@@ -2,8 +2,8 @@
 ghost use Rattle.std.specs.Prelude.{◌≡◌};
 ghost use Rattle.host_calls.specs.Calls.{call_in, granted, provision_in, near_in, random_in, join_in, leave_in, tick_in, send_in, hear_in, broke_in};
 
-use crate::fields::{address_at, cost_at, eight_at, four_at, index_at, rest, sixteen_at};
-use plc_base::{Grant, Key, KeyIndex, LinkCost, OctetRef, Rand, Short};
+use crate::fields::{address_at, cost_at, eight_at, four_at, index_at, rest};
+use plc_base::{Grant, Key, KeyIndex, LinkCost, OctetRef, Rand, Short, octets_at};
 
 /// A call of a meter. Octets stay where they are: in the item.
 #[derive(Drop)]
@@ -111,7 +111,10 @@ fn read_provision<'a>(octets: &'a [u8]) -> Option<Call<'a>>
     let Some(active) = index_at(octets, 2) else {
         return None;
     };
-    Some(Call::Provision(grant(address, active, Key(sixteen_at(octets, 3)))))
+    let Ok(key) = octets_at::<16>(octets, 3) else {
+        return None;
+    };
+    Some(Call::Provision(grant(address, active, Key(key))))
 }
 
 // The octets of NEAR.
@@ -141,7 +144,10 @@ fn read_random<'a>(octets: &'a [u8]) -> Option<Call<'a>>
     if octets.len() != 16 {
         return None;
     }
-    Some(Call::Random(Rand(sixteen_at(octets, 0))))
+    let Ok(value) = octets_at::<16>(octets, 0) else {
+        return None;
+    };
+    Some(Call::Random(Rand(value)))
 }
 
 // The octets of JOIN.
