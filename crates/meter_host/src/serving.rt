@@ -1,6 +1,8 @@
 //! The two phases: records are loaded, and then the meter is called.
-ghost use Rattle.std.specs.Prelude.{◌≡◌, [], Some, IfOk};
-ghost use Rattle.meter_host.specs.Serving.{outcome_number, outcome_of};
+ghost use Rattle.std.specs.Prelude.{◌≡◌, ◌≢◌, [], Some, IfOk};
+ghost use Rattle.plc_base.specs.Streams.{SourceFaults, SourceRose, SinkRose};
+ghost use Rattle.meter_host.specs.Serving.{outcome_number, outcome_of, no_records, Loads, Runs, IsTaken, Opens, NextIs, LoadsAll, Says, Serves};
+ghost use Rattle.host_calls.specs.Answers.{status_text};
 
 use crate::hosting::{Buffers, Host};
 use crate::loading::Loading;
@@ -16,6 +18,8 @@ pub enum Outcome {
     Ended,
     /// 1: the meter was not opened, or the input is no list of items.
     Unusable,
+    /// 2: a word was given, and the program said what it is.
+    Usage,
     /// 3: there was not enough memory.
     Memory,
     /// 4: a read failed.
@@ -32,6 +36,7 @@ impl Outcome {
         match self {
             Outcome::Ended => 0,
             Outcome::Unusable => 1,
+            Outcome::Usage => 2,
             Outcome::Memory => 3,
             Outcome::ReadFault => 4,
             Outcome::WriteFault => 5,
@@ -45,26 +50,23 @@ const LOAD: u8 = 0x01;
 const OPEN: u8 = 0x02;
 
 // Reads the next item, its octets into `item`, and answers its kind.
-fn next_item<S: Source>(source: &mut S, item: &mut ItemOctets) -> Result<u8, Outcome> {
+fn next_item<S: Source>(source: &mut S, item: &mut ItemOctets) -> Result<u8, Outcome>
+    ensures next { NextIs (S.state source.old) (S.state source.new) item.new result }
+    ensures faults { SourceFaults (S.state source.old) (S.state source.new) }
+{
     match read_item(source, item) {
         Ok(Some(kind)) => Ok(kind),
         Ok(None) => Err(Outcome::Ended),
         Err(ItemFault::Failed) => Err(Outcome::ReadFault),
-        Err(_) => Err(Outcome::Unusable),
-    }
-}
-
-// Writes how a call ended.
-fn say<K: Sink>(sink: &mut K, status: Status) -> Result<(), Outcome> {
-    match write_status(sink, status) {
-        Ok(()) => Ok(()),
-        Err(_) => Err(Outcome::WriteFault),
+        Err(ItemFault::Torn) => Err(Outcome::Unusable),
+        Err(ItemFault::TooLong) => Err(Outcome::Unusable),
     }
 }
 
 // Takes in the record of an item, if it is one.
 fn take_in(loading: &mut Loading, kind: u8, octets: &[u8]) -> Status
-    ensures { loading.new.listed ≡ loading.old.listed }
+    ensures taken { IsTaken kind octets.now loading.old result loading.new }
+    ensures none { loading.new.listed ≡ loading.old.listed }
 {
     if kind != LOAD {
         return Status::Malformed;
@@ -79,15 +81,23 @@ fn load_all<S: Source, K: Sink>(
     source: &mut S,
     sink: &mut K,
 ) -> Result<(), Outcome>
-    ensures { loading.new.listed ≡ loading.old.listed }
+    ensures loads { LoadsAll (Loads loading.old) (S.state source.old) (S.state source.new) (K.state sink.old) (K.state sink.new)
+        loading.new item.new result }
+    ensures none { loading.new.listed ≡ loading.old.listed }
 {
-    for _ in 0..u64::MAX {
-        let kind = next_item(source, item)?;
+    for turn in 0..u64::MAX {
+        let kind = match next_item(source, item) {
+            Ok(kind) => kind,
+            Err(outcome) => return Err(outcome),
+        };
         if kind == OPEN {
             return Ok(());
         }
         let status = take_in(loading, kind, item.octets());
-        say(sink, status)?;
+        match write_status(sink, status) {
+            Ok(()) => {}
+            Err(_) => return Err(Outcome::WriteFault),
+        }
     }
     Err(Outcome::Ended)
 }
@@ -105,7 +115,8 @@ fn not_opened(status: Status) -> Outcome
 // Opens the meter of an item: its EUI-64, and its pair key. How that ended where it was not.
 fn open(alloc: Global, loading: Loading, octets: &[u8]) -> Result<Host, Status>
     requires none { loading.listed ≡ Some [] }
-    ensures { IfOk result (λ h. h.station.store.listed ≡ Some []) }
+    ensures opens { Opens loading octets.now result }
+    ensures none { IfOk result (λ h. h.station.store.listed ≡ Some []) }
 {
     if octets.len() != 24 {
         return Err(Status::Malformed);
@@ -126,52 +137,67 @@ fn answer_all<S: Source, K: Sink>(
     item: &mut ItemOctets,
     source: &mut S,
     sink: &mut K,
-) -> Result<(), Outcome>
+) -> Outcome
     requires none { host.old.station.store.listed ≡ Some [] }
+    ensures serves { Serves (Runs host.old) (S.state source.old) (S.state source.new) (K.state sink.old) (K.state sink.new) result }
+    ensures began { result ≢ Outcome.Memory }
 {
     let mut buffers = Buffers::new();
-    for _ in 0..u64::MAX {
-        let kind = next_item(source, item)?;
-        if host
-            .answer(kind, item.octets(), &mut buffers, given, sink)
-            .is_err()
-        {
-            return Err(Outcome::WriteFault);
+    for turn in 0..u64::MAX {
+        let kind = match next_item(source, item) {
+            Ok(kind) => kind,
+            Err(outcome) => return outcome,
+        };
+        match host.answer(kind, item.octets(), &mut buffers, given, sink) {
+            Ok(()) => {}
+            Err(_) => return Outcome::WriteFault,
         }
     }
-    Err(Outcome::Ended)
+    Outcome::Ended
+}
+
+// Says why the meter was not opened, and ends.
+fn refuse<K: Sink>(status: Status, sink: &mut K) -> Outcome
+    ensures { Says (K.state sink.old) (K.state sink.new) (status_text status) (outcome_of status) result }
+{
+    match write_status(sink, status) {
+        Ok(()) => not_opened(status),
+        Err(_) => Outcome::WriteFault,
+    }
 }
 
 // Loads, opens and answers.
-fn serve_all<S: Source, K: Sink>(
-    alloc: Global,
-    source: &mut S,
-    sink: &mut K,
-) -> Result<(), Outcome> {
+fn serve_all<S: Source, K: Sink>(alloc: Global, source: &mut S, sink: &mut K) -> Outcome
+    ensures { Serves (Loads no_records) (S.state source.old) (S.state source.new) (K.state sink.old) (K.state sink.new) result }
+{
     let Ok(mut loading) = Loading::new(alloc) else {
-        return Err(Outcome::Memory);
+        return Outcome::Memory;
     };
     let Ok(mut given) = Given::new(alloc) else {
-        return Err(Outcome::Memory);
+        return Outcome::Memory;
     };
     let mut item = ItemOctets::new();
-    load_all(&mut loading, &mut item, source, sink)?;
+    match load_all(&mut loading, &mut item, source, sink) {
+        Ok(()) => {}
+        Err(outcome) => return outcome,
+    }
     match open(alloc, loading, item.octets()) {
-        Err(status) => {
-            say(sink, status)?;
-            Err(not_opened(status))
-        }
-        Ok(mut host) => {
-            say(sink, Status::Done)?;
-            answer_all(&mut host, &mut given, &mut item, source, sink)
-        }
+        Err(status) => refuse(status, sink),
+        Ok(mut host) => match write_status(sink, Status::Done) {
+            Ok(()) => answer_all(&mut host, &mut given, &mut item, source, sink),
+            Err(_) => Outcome::WriteFault,
+        },
     }
 }
 
 /// Answers each item of the source, until it ends: first the records and the opening, then the calls.
-pub fn serve<S: Source, K: Sink>(alloc: Global, source: &mut S, sink: &mut K) -> Outcome {
-    match serve_all(alloc, source, sink) {
-        Ok(()) => Outcome::Ended,
-        Err(outcome) => outcome,
-    }
+///
+/// What the sink takes is the answers of the items in order, and a prefix of them only where a write failed. ReadFault and WriteFault come only where
+/// a read and a write failed; the other outcomes say what the items were.
+pub fn serve<S: Source, K: Sink>(alloc: Global, source: &mut S, sink: &mut K) -> Outcome
+    ensures serves { Serves (Loads no_records) (S.state source.old) (S.state source.new) (K.state sink.old) (K.state sink.new) result }
+    ensures read { result ≡ Outcome.ReadFault → SourceRose (S.state source.old) (S.state source.new) }
+    ensures write { result ≡ Outcome.WriteFault → SinkRose (K.state sink.old) (K.state sink.new) }
+{
+    serve_all(alloc, source, sink)
 }
