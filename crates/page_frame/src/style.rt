@@ -181,6 +181,27 @@ fn push_drawing_rules(out: &mut Vec<u8>) -> Result<(), AllocError>
     )
 }
 
+// What is drawn in a map.
+#[tactic(auto, unfolding(crate::specs::Style::map_text))]
+fn push_map_rules(out: &mut Vec<u8>) -> Result<(), AllocError>
+    ensures { OnOk result (out.new.items ≡ out.old.items ++ spec_style.map_text) }
+{
+    push_rules(
+        out,
+        &[
+            rule(
+                ".W{stroke:var(--out);fill:none}.W.one{stroke-dasharray:5 4}.W.w2{stroke-width:1.8}.W.w3{stroke-width:2.6}.W.w4{stroke-width:3.4}",
+            ),
+            rule(
+                ".W.w5{stroke-width:4.2}.W.w6{stroke-width:5}svg .H{paint-order:stroke;stroke:var(--card);stroke-width:4px}",
+            ),
+            rule(
+                ".N{stroke:var(--grey);fill:var(--card)}.N.k0{fill:var(--life)}.N.k1{fill:var(--life1)}.N.halt{stroke:var(--ink);stroke-width:4}",
+            ),
+        ],
+    )
+}
+
 // On paper.
 #[tactic(auto, unfolding(crate::specs::Style::print_text))]
 fn push_print_rules(out: &mut Vec<u8>) -> Result<(), AllocError>
@@ -205,5 +226,6 @@ pub fn push_style(out: &mut Vec<u8>) -> Result<(), AllocError>
     push_layout_rules(out)?;
     push_chart_rules(out)?;
     push_drawing_rules(out)?;
+    push_map_rules(out)?;
     push_print_rules(out)
 }

@@ -19,4 +19,8 @@ impl<K: Ord, V> BTreeMap<K, V> {
     pub fn remove(&mut self, key: &K) -> Option<V> {
         self.0.remove(key)
     }
+
+    pub fn iter(&self) -> heap::collections::btree_map::Iter<'_, K, V> {
+        self.0.iter()
+    }
 }

@@ -1,0 +1,16 @@
+use Rattle.run_maps.proofs.drawing.straight.Goals as goal
+
+pub returns : goal.returns
+unfolding Rattle.run_maps.specs.Ties.straight
+returns c =
+    rw (
+      c.words.ensures,
+      c.number.ensures,
+      c.words-2.ensures,
+      c.number-2.ensures,
+      c.words-3.ensures,
+      c.number-3.ensures,
+      c.words-4.ensures,
+      c.number-4.ensures,
+    )
+    at c.sentence.ensures

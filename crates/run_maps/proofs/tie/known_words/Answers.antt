@@ -1,0 +1,16 @@
+use Rattle.run_maps.proofs.tie.known_words.Goals as goal
+
+pub returns : goal.returns
+unfolding Rattle.run_maps.specs.Ties.known_words
+returns c =
+    rw (
+      c.node.ensures,
+      c.words.ensures,
+      c.node-2.ensures,
+      c.words-2.ensures,
+      c.number.ensures,
+      c.words-3.ensures,
+      c.number-2.ensures,
+      c.hearing.ensures,
+    )
+    at c.sentence.ensures
