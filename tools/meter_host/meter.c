@@ -8,7 +8,7 @@
 #include <sys/wait.h>
 #include <unistd.h>
 
-enum { LOAD = 1, OPEN, PROVISION, NEAR, RANDOM, JOIN, LEAVE, TICK, SEND, HEAR, BROKE, DONE = 0x80, PUT, FRAME, UP };
+enum { LOAD = 1, OPEN, PROVISION, NEAR, RANDOM, JOIN, LEAVE, TICK, SEND, HEAR, BROKE, DONE = 0x80, PUT, FRAME, UP, JOINED };
 
 enum { ITEM_MAX = 2000 };
 
@@ -79,6 +79,9 @@ static int meter_do(struct meter *m, uint8_t kind, const uint8_t *octets, size_t
             return METER_STORE_FAILED;
     } else if (kind == FRAME && count >= 4) {
         m->device.send(m->device.self, (uint32_t)number_at(octets, 4), octets + 4, count - 4);
+    } else if (kind == JOINED && count == 2) {
+        if (m->device.joined != NULL)
+            m->device.joined(m->device.self, (uint16_t)number_at(octets, 2));
     } else if (kind == UP && count >= 6) {
         m->device.up(m->device.self, (uint16_t)number_at(octets, 2), (uint32_t)number_at(octets + 2, 4), octets + 6, count - 6);
     } else {
@@ -96,8 +99,10 @@ static int meter_answer(struct meter *m) {
         size_t count = (size_t)number_at(head + 1, 2);
         if (read_all(m->line, octets, count) != 0)
             return METER_GONE;
-        if (head[0] == DONE && count == 1)
+        if (head[0] == DONE && (count == 1 || count == 2)) {
+            m->refusal = count == 2 ? octets[1] : 0;
             return octets[0];
+        }
         int ended = meter_do(m, head[0], octets, count);
         if (ended != METER_DONE)
             return ended;
@@ -105,6 +110,7 @@ static int meter_answer(struct meter *m) {
 }
 
 static int meter_call(struct meter *m, uint8_t kind, struct text *t) {
+    m->refusal = 0;
     if (m->ended != METER_DONE)
         return m->ended;
     if (t->count > sizeof t->octets)
@@ -125,6 +131,7 @@ int meter_start(struct meter *m, const char *program, struct meter_device device
     m->program = -1;
     m->line = -1;
     m->ended = METER_GONE;
+    m->refusal = 0;
     if (socketpair(AF_UNIX, SOCK_STREAM, 0, line) != 0)
         return METER_GONE;
     /* So that no other program which is started later keeps this end open. */

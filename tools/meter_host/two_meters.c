@@ -74,7 +74,7 @@ static void need(const char *what, int status, int wanted) {
 /* Starts a meter over what it stored. */
 static void start(struct node *node, const char *program) {
     uint8_t eui[8] = {0, 0, 0, 0, 0, 0, 0, (uint8_t)(1 + node->number)}, psk[16];
-    struct meter_device device = {node, store, send_frame, up};
+    struct meter_device device = {node, store, send_frame, up, NULL};
     for (int k = 0; k < 16; k++)
         psk[k] = (uint8_t)(16 * node->number + k);
     need("start", meter_start(&node->meter, program, device), METER_DONE);
@@ -102,6 +102,7 @@ int main(int count, char **words) {
     meter_end(&two->meter);
     start(two, words[1]);
     need("hear again", meter_hear(&two->meter, 3, 1, 0, one->frame, one->count), METER_REFUSED);
+    need("why", two->meter.refusal, METER_HEAR_REPLAYED);
     printf("refused the second time, over %zu records\n", two->stored);
     meter_end(&one->meter), meter_end(&two->meter);
     return 0;

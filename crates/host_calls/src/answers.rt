@@ -2,12 +2,12 @@
 ghost use Rattle.std.specs.Prelude.{◌≡◌, map, IfOk};
 ghost use Rattle.plc_base.specs.Streams.{HasWritten};
 ghost use Rattle.outbox_keeper.specs.Outbox.{write_of};
-ghost use Rattle.host_calls.specs.Answers.{none_given, put_text, frame_text, puts_text, frames_text, up_text, status_text, answer_text};
+ghost use Rattle.host_calls.specs.Answers.{none_given, put_text, frame_text, puts_text, frames_text, joined_text, up_text, status_text, answer_text};
 
 use crate::status::Status;
 use host_items::{ItemOctets, write_item};
 use outbox_keeper::ListedPut;
-use plc_base::{Failed, Out, OutFrame, Sink};
+use plc_base::{Failed, Out, OutFrame, Short, Sink};
 use std::alloc::{AllocError, Global};
 
 const STATUS: u8 = 0x80;
@@ -18,11 +18,15 @@ const FRAME: u8 = 0x82;
 
 const UP: u8 = 0x83;
 
+const JOINED: u8 = 0x84;
+
 /// What a call gave out, beside its puts.
 #[derive(Drop)]
 pub struct Given {
     /// The frames that are to be sent.
     pub out: Out,
+    /// The short address of a meter that has joined by the call. None where it has not.
+    pub joined: Option<Short>,
     /// A datagram that is handed up: its sender in two octets, its note in four, and its octets. Nothing where there is none.
     pub up: ItemOctets,
 }
@@ -34,6 +38,7 @@ impl Given {
     {
         Ok(Given {
             out: Out::new(alloc)?,
+            joined: None,
             up: ItemOctets::new(),
         })
     }
@@ -43,6 +48,7 @@ impl Given {
         ensures { self.new ≡ none_given }
     {
         self.out.clear();
+        self.joined = None;
         self.up.clear();
     }
 }
@@ -87,6 +93,18 @@ fn write_frames<K: Sink>(sink: &mut K, frames: &[OutFrame]) -> Result<(), Failed
     Ok(())
 }
 
+// Writes that the meter has joined, if it has.
+fn write_joined<K: Sink>(sink: &mut K, joined: Option<Short>) -> Result<(), Failed>
+    ensures { HasWritten (K.state sink.old) (K.state sink.new) result (joined_text joined) }
+{
+    let Some(address) = joined else {
+        return Ok(());
+    };
+    let mut text = ItemOctets::new();
+    text.push_be_u16(address.number());
+    write_item(sink, JOINED, text.octets())
+}
+
 // Writes what is handed up, if there is something.
 fn write_up<K: Sink>(sink: &mut K, up: &ItemOctets) -> Result<(), Failed>
     ensures { HasWritten (K.state sink.old) (K.state sink.new) result (up_text up.now) }
@@ -101,10 +119,16 @@ fn write_up<K: Sink>(sink: &mut K, up: &ItemOctets) -> Result<(), Failed>
 pub fn write_status<K: Sink>(sink: &mut K, status: Status) -> Result<(), Failed>
     ensures { HasWritten (K.state sink.old) (K.state sink.new) result (status_text status) }
 {
-    write_item(sink, STATUS, &[status.number()])
+    let mut text = ItemOctets::new();
+    text.push(status.number());
+    if let Some(reason) = status.reason() {
+        text.push(reason);
+    }
+    write_item(sink, STATUS, text.octets())
 }
 
-/// Writes an answer: the puts, in order, then the frames, in order, then what is handed up, and then how the call ended. Where the sink fails, a
+/// Writes an answer: the puts, in order, then the frames, in order, then that the meter has joined, then what is handed up,
+/// and then how the call ended. Where the sink fails, a
 /// prefix of it was written.
 pub fn write_answer<K: Sink>(
     sink: &mut K,
@@ -116,6 +140,7 @@ pub fn write_answer<K: Sink>(
 {
     write_puts(sink, puts)?;
     write_frames(sink, given.out.frames.frames())?;
+    write_joined(sink, given.joined)?;
     write_up(sink, &given.up)?;
     write_status(sink, status)
 }

@@ -58,7 +58,7 @@ slot_before first slot (inr e) after within = inr (inr (inl (omega arith, omega 
 pub same_list : (octets : List ℕ) (old : Store) (status : Status) (new : Store) → IsLoaded octets old status new → new.listed ≡ old.listed
 same_list octets old Done new h = ap (λ (s : Store). s.listed) h.1
 same_list octets old Malformed new h = ap (λ (s : Store). s.listed) h.1
-same_list octets old Refused new h = absurd h
+same_list octets old (Refused reason) new h = absurd h
 same_list octets old Halted new h = absurd h
 same_list octets old BadStore new h = absurd h
 same_list octets old Memory new h = absurd h

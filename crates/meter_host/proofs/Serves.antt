@@ -21,7 +21,7 @@ use Rattle.meter_host.specs.declared.serving.Outcome.{Outcome}
 use Rattle.meter_host.specs.declared.serving.Outcome.TheVariants.{Ended, Unusable, Usage, Memory, ReadFault, WriteFault}
 use Rattle.meter_host.specs.Serving.{Phase, Loads, Runs, Closed, Turn, Answered, begins, goes_on, HasAnswered, GaveNone, ClosedAs, EndsAs, Serves}
 use Rattle.meter_host.specs.Calling.{NotOpened, Answers, puts_in}
-use Rattle.meter_host.specs.Serving.{outcome_of, taken_by, Refuses, Opens, Says, IsToOpen}
+use Rattle.meter_host.specs.Serving.{outcome_of, taken_by, Refuses, Opens, Says, IsToOpen, IsTaken, TakesIn}
 use Rattle.host_items.specs.Reading.{HasFailed}
 use Rattle.host_calls.specs.Answers.{status_text, answer_text}
 use Rattle.meter_node.specs.MeterStates.{MeterState}
@@ -50,7 +50,7 @@ pub refuses : (old : Store) (octets : List ℕ) (s : Status) (r : Result memory.
 refuses old octets status.Malformed (Ok m) long e n = absurd n
 refuses old octets status.Malformed (Err b) long e n = absurd n
 refuses old octets status.Done r long e n = (long, subst (λ x. NotOpened x status.Done) e n)
-refuses old octets status.Refused r long e n = (long, subst (λ x. NotOpened x status.Refused) e n)
+refuses old octets (status.Refused reason) r long e n = (long, subst (λ x. NotOpened x (status.Refused reason)) e n)
 refuses old octets status.Halted r long e n = (long, subst (λ x. NotOpened x status.Halted) e n)
 refuses old octets status.BadStore r long e n = (long, subst (λ x. NotOpened x status.BadStore) e n)
 refuses old octets status.Memory r long e n = (long, subst (λ x. NotOpened x status.Memory) e n)
@@ -69,6 +69,11 @@ turned {first} {old} {source0} {source1} {source2} h item answer new gave faults
   written = behind h.said answer (all h.written) written;
   source = both_reads h.source faults;
 }
+
+-- an item whose record was taken in, or was none that may be, and how that was said
+pub taken_in : {old new : Store} (item : Item) (ended : Status) (said : List ℕ) → item.kind ≢ 2 → IsTaken item.kind item.octets old ended new
+    → said ≡ status_text ended → TakesIn old item said new
+taken_in item ended said other taken is = record { other = other; ended = ended; taken = taken; is_said = is }
 
 -- one more item of a loop
 pub one_more : {first old : Phase} {source0 source1 source2 : SourceState} {sink0 sink1 sink2 : SinkState} {count : ℕ}
@@ -182,7 +187,7 @@ module _ {first last : Phase} {source0 source1 : SourceState} {sink0 sink1 : Sin
     where
       is_whole : (s : Status) → taken_by (outcome_of s) ≡ Ok tt
       is_whole status.Done = refl
-      is_whole status.Refused = refl
+      is_whole (status.Refused reason) = refl
       is_whole status.Halted = refl
       is_whole status.BadStore = refl
       is_whole status.Malformed = refl
@@ -190,7 +195,7 @@ module _ {first last : Phase} {source0 source1 : SourceState} {sink0 sink1 : Sin
 
       by : (s : Status) → last ≡ Closed s → EndsAs (outcome_of s) last h.read source1 source1
       by status.Done e = inr (subst (ClosedAs Unusable) (sym e) refl, refl)
-      by status.Refused e = inr (subst (ClosedAs Unusable) (sym e) refl, refl)
+      by (status.Refused reason) e = inr (subst (ClosedAs Unusable) (sym e) refl, refl)
       by status.Halted e = inr (subst (ClosedAs Unusable) (sym e) refl, refl)
       by status.BadStore e = inr (subst (ClosedAs Unusable) (sym e) refl, refl)
       by status.Malformed e = inr (subst (ClosedAs Unusable) (sym e) refl, refl)

@@ -3,10 +3,11 @@ ghost use Rattle.std.specs.Prelude.{◌≡◌, IfSome, IsSome};
 ghost use Rattle.plc_station.specs.Heard.{Fits};
 ghost use Rattle.meter_node.specs.Hearing.{CameUp};
 ghost use Rattle.host_calls.specs.Answers.{none_given};
-ghost use Rattle.meter_host.specs.Making.{up_of, HeardAs, Hears};
+ghost use Rattle.meter_host.specs.Making.{up_of, is_joined_by, HeardAs, Hears};
 
 use crate::hosting::{Buffers, Host};
 use crate::making::ended;
+use crate::refusals::Refusal;
 use host_calls::{Given, Status};
 use host_items::ItemOctets;
 use node_rules::{Accepted, Dropped, Heard, MeterHeard};
@@ -29,6 +30,13 @@ fn hand_up(heard: &Result<MeterHeard<'_>, Dropped>, up: &mut ItemOctets)
     up.append(octets);
 }
 
+// Whether the meter has joined by a frame.
+fn has_joined(heard: &Result<MeterHeard<'_>, Dropped>) -> bool
+    ensures { result ≡ is_joined_by heard.now }
+{
+    matches!(heard, Ok(MeterHeard::Took(_)))
+}
+
 impl Host {
     // Hears a frame that was accepted.
     fn hear_accepted<'a>(
@@ -49,7 +57,10 @@ impl Host {
             .meter
             .hear(got, cost, note, now, datagram, &mut given.out);
         hand_up(&heard, &mut given.up);
-        ended(&heard)
+        let joined = has_joined(&heard);
+        let status = ended(&heard);
+        given.joined = if joined { self.meter.address() } else { None };
+        status
     }
 
     /// Accepts a frame, and hears it unless its mark was not stored.
@@ -65,8 +76,9 @@ impl Host {
         requires none { given.old ≡ none_given }
         ensures { Hears frame.now cost note now self.old result given.new self.new }
     {
-        let Ok(got) = self.meter.station().accept(frame, &mut buffers.payload) else {
-            return Status::Refused;
+        let got = match self.meter.station().accept(frame, &mut buffers.payload) {
+            Ok(got) => got,
+            Err(reason) => return Status::Refused(reason.number()),
         };
         if self.halted() {
             return Status::Halted;

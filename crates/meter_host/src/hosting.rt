@@ -133,8 +133,8 @@ impl Host {
         write_listed(self.meter.station().keeper_mut(), given, status, sink)
     }
 
-    /// Answers an item: does what the call says that it spells, and writes the puts of the call, in order, then the frames, in order, then a
-    /// datagram that is handed up, and then how the call ended. Where the sink fails, a prefix of that was written.
+    /// Answers an item: does what the call says that it spells, and writes the puts of the call, in order, then the frames, in order, then that
+    /// the meter has joined, then a datagram that is handed up, and then how the call ended. Where the sink fails, a prefix of that was written.
     pub fn answer<K: Sink>(
         &mut self,
         kind: u8,

@@ -20,6 +20,7 @@ mod hearing;
 mod hosting;
 mod loading;
 mod making;
+mod refusals;
 mod serving;
 
 use explaining::explain;

@@ -9,18 +9,20 @@ ghost use Rattle.meter_node.specs.MeterStates.{identity_of, node_of};
 ghost use Rattle.host_calls.specs.Answers.{none_given};
 ghost use Rattle.host_calls.specs.declared.status.Status.TheVariants.{Done};
 ghost use Rattle.meter_host.specs.Making.{status_of, NodeDid, StationDid, Made};
+ghost use Rattle.meter_host.specs.Refusals.{ring_number, preset_number, random_number, join_number, leave_number, send_number};
 
 use crate::hosting::{Buffers, Host};
+use crate::refusals::Refusal;
 use host_calls::{Call, Given, Status};
 use plc_base::{Grant, LinkCost, Rand, Short};
 
 /// How a call of the meter ended, by its answer.
-pub fn ended<T, E>(answer: &Result<T, E>) -> Status
-    ensures { result ≡ status_of answer.now }
+pub fn ended<T, E: Refusal>(answer: &Result<T, E>) -> Status
+    ensures { result ≡ status_of E.number answer.now }
 {
     match answer {
         Ok(_) => Status::Done,
-        Err(_) => Status::Refused,
+        Err(reason) => Status::Refused(reason.number()),
     }
 }
 
@@ -28,7 +30,7 @@ impl Host {
     // Installs the grant of a workshop.
     fn provision(&mut self, grant: &Grant) -> Status
         requires running { IsSome self.old.station.memory }
-        ensures { NodeDid (λ m. meters.provision m grant.now) self.old result nothing self.new }
+        ensures { NodeDid ring_number (λ m. meters.provision m grant.now) self.old result nothing self.new }
     {
         ended(&self.meter.provision(grant))
     }
@@ -36,21 +38,22 @@ impl Host {
     // Gives a neighbour.
     fn near(&mut self, to: Short, cost: LinkCost, now: u64) -> Status
         requires running { IsSome self.old.station.memory }
-        ensures { StationDid (λ l. calls.preset_near l to cost now) self.old result nothing self.new }
+        ensures { StationDid preset_number (λ l. calls.preset_near l to cost now) self.old result nothing self.new }
     {
         ended(&self.meter.station().preset_near(to, cost, now))
     }
 
     // Gives a random value.
     fn random(&mut self, value: Rand) -> Status
-        ensures { NodeDid (λ m. drafts.give_random m value) self.old result nothing self.new }
+        ensures { NodeDid random_number (λ m. drafts.give_random m value) self.old result nothing self.new }
     {
         ended(&self.meter.give_random(value))
     }
 
     // Begins to join.
     fn join(&mut self, agent: Short, now: u64, given: &mut Given) -> Status
-        ensures did { NodeDid (λ m. meters.join (identity_of self.old) m agent now) self.old result given.new.out self.new }
+        ensures did { NodeDid join_number (λ m. meters.join (identity_of self.old) m agent now) self.old result given.new.out self.new }
+        ensures joined { given.new.joined ≡ given.old.joined }
         ensures up { given.new.up ≡ given.old.up }
     {
         ended(&self.meter.join(agent, now, &mut given.out))
@@ -58,7 +61,7 @@ impl Host {
 
     // Drops the ring.
     fn leave(&mut self) -> Status
-        ensures { NodeDid (λ m. meters.leave m) self.old result nothing self.new }
+        ensures { NodeDid leave_number (λ m. meters.leave m) self.old result nothing self.new }
     {
         ended(&self.meter.leave())
     }
@@ -75,7 +78,8 @@ impl Host {
 
     // Sends a datagram.
     fn send(&mut self, to: Short, datagram: &[u8], note: u32, now: u64, given: &mut Given) -> Status
-        ensures did { StationDid (λ l. calls.send l to datagram.now note now) self.old result given.new.out self.new }
+        ensures did { StationDid send_number (λ l. calls.send l to datagram.now note now) self.old result given.new.out self.new }
+        ensures joined { given.new.joined ≡ given.old.joined }
         ensures up { given.new.up ≡ given.old.up }
     {
         ended(

@@ -11,12 +11,14 @@ use Rattle.meter_host.specs.Making.{HeardAs}
 use Rattle.meter_host.proofs.Steps.{hears, follows_halted, follows_running}
 use Rattle.meter_host.proofs.hosting.Host.hear.Goals as goal
 
-pub returns-in_default : goal.returns-in_default
-returns-in_default c =
+pub returns-in-Err : goal.returns-in-Err
+returns-in-Err c =
     let mid : MeterState = record c.self.inside.meter { station = c.accept.new.self } in
-    hears c.args.frame.now c.args.cost c.args.note c.args.now c.args.self.now mid c.station.result.now (Err c.in_default.field-0) Refused c.args.given.now mid
+    hears c.args.frame.now c.args.cost c.args.note c.args.now c.args.self.now mid c.station.result.now (Err c.in-Err.reason)
+    (Refused c.number.result) c.args.given.now mid
     (c.station.ensures.value ∙ ap (λ (m : MeterState). m.station) c.self.view_is)
-    (ap (λ (m : MeterState). record m { station = c.accept.new.self }) c.self.view_is) c.in_default.ensures.carries (refl, c.requires.none, refl)
+    (ap (λ (m : MeterState). record m { station = c.accept.new.self }) c.self.view_is) c.in-Err.ensures.carries
+    (ap Refused c.number.ensures, c.requires.none, refl)
 
 pub returns-then-halted : goal.returns-then-halted
 returns-then-halted c =
