@@ -72,17 +72,17 @@ fn write_summary<const INJECTS: usize, K: Sink>(
 // Runs a line, and writes what is asked for.
 fn run_line<const INJECTS: usize, K: Sink>(
     mode: Mode,
-    mut simulation: Simulation<Recorder<INJECTS>>,
+    simulation: &mut Simulation<Recorder<INJECTS>>,
     sink: &mut K,
 ) -> Status
-    ensures { mode ≡ Mode.Run → EndsRun (nat_lt 0 INJECTS) (state_of simulation) (K.state sink.old) (K.state sink.new) result }
+    ensures { mode ≡ Mode.Run → EndsRun (nat_lt 0 INJECTS) (state_of simulation.old) (K.state sink.old) (K.state sink.new) result }
 {
     let Ok(whole) = simulation.run_whole() else {
         return Status::Memory;
     };
     match mode {
         Mode::Run => write_script(&simulation.recording, whole, sink),
-        Mode::Measure => write_summary(&mut simulation, whole, sink),
+        Mode::Measure => write_summary(simulation, whole, sink),
     }
 }
 
@@ -100,7 +100,7 @@ fn run_over<const INJECTS: usize, K: Sink>(
         Err(AllocError) => return Status::Memory,
     };
     match Simulation::new(alloc, plan, recorder) {
-        Ok(Made::Simulation(simulation)) => run_line(mode, simulation, sink),
+        Ok(Made::Simulation(mut simulation)) => run_line(mode, &mut simulation, sink),
         Ok(Made::Apart) => write_text(sink, APART, Status::BadDescription),
         Err(AllocError) => Status::Memory,
     }
