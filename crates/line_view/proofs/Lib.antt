@@ -8,5 +8,8 @@ pub mod Captured
 pub mod Explained
 pub mod Looking
 pub mod Machines
+pub mod PageNests
+pub mod Paged
+pub mod PageText
 pub mod Recorded
 pub mod StatusNames

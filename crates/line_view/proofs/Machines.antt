@@ -36,7 +36,8 @@ refused after with_run row old new e (Refused reason) refusal r some = (r.0, ap 
 
 -- # The turn
 
-silent : {M : Type 0} (s : SinkState) (m next after : M) → next ≡ after → Turned {M = M} s s m next (Takes after []) (Ok tt)
+-- a line is taken, and nothing is written
+pub silent : {M : Type 0} (s : SinkState) (m next after : M) → next ≡ after → Turned {M = M} s s m next (Takes after []) (Ok tt)
 silent s m next after is =
     record {
       w = [];

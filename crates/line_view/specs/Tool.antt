@@ -11,7 +11,7 @@ use Rattle.script_lines.specs.Outcomes.{Outcome}
 use Rattle.script_lines.specs.Clauses.{Drives}
 use Rattle.script_runs.specs.Takings.{first_bad}
 use Rattle.line_view.specs.declared.tool.Command.{Command}
-use Rattle.line_view.specs.declared.tool.Command.TheVariants.{Capture, Check, Explain}
+use Rattle.line_view.specs.declared.tool.Command.TheVariants.{Capture, Check, Explain, Page}
 use Rattle.line_view.specs.declared.status.Status.{Status}
 use Rattle.line_view.specs.declared.status.Status.TheVariants as status
 use Rattle.line_view.specs.Checking.{is_bad, outcome}
@@ -22,6 +22,7 @@ use Rattle.line_view.specs.Explaining.{explained, is_forged}
 use Rattle.line_view.specs.declared.capture.Wanted.{Wanted}
 use Rattle.line_view.specs.declared.capture.Wanted.TheVariants as wants
 use Rattle.line_view.specs.Capturing.{captured, shows_forged}
+use Rattle.line_view.specs.Paging.{IsPage, Paging, paged, is_forged as is_page_forged}
 use Rattle.line_view.specs.Checked.{faults, first_of, faults_text, closing}
 
 -- what Wireshark reads, if a word asks for that
@@ -35,7 +36,8 @@ wanted_word word =
 abbrev pub one_word : List ℕ → Option Command
 one_word word =
     if bytes_eq word (codes "check") then Some (Check false)
-    else (if bytes_eq word (codes "explain") then Some (Explain chosens.Failed) else wanted_word word)
+    else (if bytes_eq word (codes "explain") then Some (Explain chosens.Failed)
+    else (if bytes_eq word (codes "page") then Some Page else wanted_word word))
 
 abbrev pub check_with : List ℕ → Option Command
 check_with option = if bytes_eq option (codes "--json") then Some (Check true) else None
@@ -70,7 +72,7 @@ command_of (word ∷ kind ∷ number ∷ []) = three_words (string_bytes word) (
 command_of (word ∷ kind ∷ number ∷ other ∷ words) = None
 
 abbrev pub usage_text : List ℕ
-usage_text = codes "usage: line_view check [--json] | explain [--all | send K | node N] | capture [--heard] | keys | addresses\n"
+usage_text = codes "usage: line_view check [--json] | explain [--all | send K | node N] | page | capture [--heard] | keys | addresses\n"
 
 -- the status of a run over lines, in which a line is bad or not
 abbrev pub status_of : Exit → Bool → Status
@@ -117,6 +119,22 @@ Explains chosen source0 source1 sink0 sink1 result = Accounts is_forged (explain
 -- what was written for Wireshark
 abbrev pub Captures : Wanted → SourceState → SourceState → SinkState → SinkState → Status → Type 0
 Captures wanted source0 source1 sink0 sink1 result = Accounts shows_forged (captured wanted) source0 source1 sink0 sink1 result
+
+-- all was written
+abbrev pub IsWhole : Status → Type 0
+IsWhole status.Fine = Unit {0}
+IsWhole status.BadScript = Unit {0}
+IsWhole status.Forged = Unit {0}
+IsWhole status.Usage = ⊥
+IsWhole status.Memory = ⊥
+IsWhole status.ReadFault = ⊥
+IsWhole status.WriteFault = ⊥
+
+-- What was shown of a run: its page, of which a part is left out only where something failed.
+pub record Pages (source0 source1 : SourceState) (sink0 sink1 : SinkState) (result : Status) : Type 0 where
+  pub account : Accounts is_page_forged paged source0 source1 sink0 sink1 result
+  -- what is written whole is a page that closes all that it opens, whatever the script holds
+  pub well_formed : IsWhole result → IsPage account.drives.w
 
 -- What reading lines did: how the run ended, the last state where it came to the end of input, and the status of both.
 pub record Ran {M : Type 0} (bad : M → Bool) (outcome : List ℕ → Bool → Outcome M) (source0 source1 : SourceState)

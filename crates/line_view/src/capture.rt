@@ -1,8 +1,8 @@
 //! `capture`, `keys` and `addresses`: a run for Wireshark.
-ghost use Rattle.std.specs.Prelude.{◌≡◌, ◌++◌, ◌∷◌, ◌≤◌, All, IfOk, List, OnOk, [], length, Some, option_to_list, string_bytes, true, ℕ};
+ghost use Rattle.std.specs.Prelude.{◌≡◌, ◌++◌, ◌∷◌, ◌≤◌, All, IfOk, OnOk, [], length, Some, option_to_list, string_bytes, true};
 ghost use Rattle.std.specs.Option.{option_copied};
 ghost use Rattle.line_events.specs.Events.{IsEvent};
-ghost use Rattle.script_lines.specs.Clauses.{IsWritten, StopsWith, Turned};
+ghost use Rattle.script_lines.specs.Clauses.{StopsWith, Turned};
 ghost use Rattle.script_runs.specs.Takings.{event_taking};
 ghost use Rattle.line_capture.specs.Captures.{IsFrame, run_of};
 ghost use Rattle.line_capture.specs.Places.{AreEvents, HasAct, IsAct};
@@ -11,6 +11,7 @@ ghost use Rattle.line_tale.specs.declared.told.TaleEvent.{TaleEvent};
 ghost use Rattle.line_view.specs.Capturing as capturing;
 
 use crate::bad_line::{BadLine, bad_line, push_bad};
+use crate::octet_output::write_octets;
 use crate::recorder::{Recorder, is_drawn};
 use line_capture::{DrawnKeys, Recording, addresses_text, capture_file, keys_text};
 use line_events::{Answer, Event, MAX_EVENTS};
@@ -18,7 +19,7 @@ use line_script::{LINE_OCTETS, Reading, Reason, Totals, read_line};
 use line_tale::{Act, TaleEvent};
 use line_world::{Buffers, World};
 use octet_log::OctetLog;
-use plc_base::{Key, KeyIndex, OctetRef, Sink, write_all};
+use plc_base::{Key, KeyIndex, OctetRef, Sink};
 use script_lines::{LineKind, LineMachine, StopReason};
 use std::alloc::{AllocError, Global};
 use std::marker::Model;
@@ -180,20 +181,6 @@ fn keep_drawn(keys: &mut DrawnKeys, run: &Recorder, event: &Event<'_>) -> Result
         return Ok(());
     };
     keep_key(keys, event, told.answer)
-}
-
-// Writes octets, if there was memory for them. Never `BadLine`.
-fn write_octets<K: Sink>(sink: &mut K, made: Result<Vec<u8>, AllocError>) -> Result<(), StopReason>
-    ensures { (t : List ℕ) → IfOk made (λ octets. octets.items ≡ t)
-        → IsWritten (K.state sink.old) (K.state sink.new) t result }
-{
-    match made {
-        Err(_) => Err(StopReason::Memory),
-        Ok(octets) => match write_all(sink, octets.as_slice()) {
-            Ok(()) => Ok(()),
-            Err(_) => Err(StopReason::WriteFault),
-        },
-    }
 }
 
 /// A run, and what of it the tale does not have: the octets that no node sent, and the keys.

@@ -20,7 +20,7 @@ use std::marker::Model;
 use story_accounts::{is_for_another, numbered};
 
 /// A line has at most so many nodes.
-const MOST_NODES: usize = 1000;
+pub const MOST_NODES: usize = 1000;
 
 /// The sentences of a run, and what they go by. A contract sees all but the buffers.
 #[derive(Drop)]
@@ -53,7 +53,8 @@ impl Model for Teller {
     } };
 }
 
-fn nothing_shown() -> Shown
+/// What is shown of no node.
+pub fn nothing_shown() -> Shown
     ensures { result ≡ nothing_shown }
 {
     Shown {

@@ -4,12 +4,13 @@ ghost use Rattle.std.specs.Io.KnownBytes.{IsAtEnd};
 ghost use Rattle.plc_base.specs.Streams.{SourceFaults, SourceRose, SinkRose};
 ghost use Rattle.story_accounts.specs.declared.section.Chosen.{Chosen};
 ghost use Rattle.line_view.specs.declared.capture.Wanted.{Wanted};
-ghost use Rattle.line_view.specs.Tool.{Captures, Checks, Explains, WritesText, capture_with, check_with, chosen_by, command_of, account_status};
-ghost use Rattle.line_view.specs.Tool.{explain_with, one_word, status_of, three_words, two_words, usage_text, wanted_word};
+ghost use Rattle.line_view.specs.Tool.{Captures, Checks, Explains, Pages, WritesText, account_status, capture_with, check_with, chosen_by};
+ghost use Rattle.line_view.specs.Tool.{command_of, explain_with, one_word, status_of, three_words, two_words, usage_text, wanted_word};
 
 use crate::capture::{Capture, Wanted};
 use crate::check::Check;
 use crate::explain::Explain;
+use crate::page::Page;
 use crate::status::Status;
 use line_script::number_within;
 use plc_base::{Sink, Source, write_all};
@@ -30,6 +31,8 @@ pub enum Command {
         /// Which stories are accounted for.
         chosen: Chosen,
     },
+    /// `page`: a run as one page of HTML.
+    Page,
     /// `capture`, `capture --heard`, `keys` and `addresses`: what Wireshark reads of a run.
     Capture {
         /// What of it is written.
@@ -69,6 +72,9 @@ fn one_word(word: &str) -> Option<Command>
         return Some(Command::Explain {
             chosen: Chosen::Failed,
         });
+    }
+    if word == "page" {
+        return Some(Command::Page);
     }
     wanted_word(word)
 }
@@ -226,6 +232,22 @@ fn explain<S: Source, K: Sink>(
     account_status(exit, explain.is_forged())
 }
 
+/// Reads a script from the source, and writes to the sink a page that shows its run.
+fn page<S: Source, K: Sink>(alloc: Global, source: &mut S, sink: &mut K) -> Status
+    ensures pages { Pages (S.state source.old) (S.state source.new) (K.state sink.old) (K.state sink.new) result }
+    ensures read { result ≡ Status.ReadFault → SourceRose (S.state source.old) (S.state source.new) }
+    ensures write { result ≡ Status.WriteFault → SinkRose (K.state sink.old) (K.state sink.new) }
+    ensures source { SourceFaults (S.state source.old) (S.state source.new) }
+    ensures sink { (K.state sink.old).faults ≤ (K.state sink.new).faults }
+{
+    let Ok(mut page) = Page::new(alloc) else {
+        a_run_may_end_without_memory::<Page>();
+        return Status::Memory;
+    };
+    let exit = run(alloc, &mut page, source, sink);
+    account_status(exit, page.is_forged())
+}
+
 /// Reads a script from the source, and writes to the sink what Wireshark reads of its run.
 fn capture<S: Source, K: Sink>(
     alloc: Global,
@@ -258,15 +280,15 @@ fn write_whole<K: Sink>(sink: &mut K, text: &[u8], done: Status) -> Status
     }
 }
 
-const USAGE: &[u8; 107] =
-    b"usage: line_view check [--json] | explain [--all | send K | node N] | capture [--heard] | keys | addresses\n";
+const USAGE: &[u8; 114] =
+    b"usage: line_view check [--json] | explain [--all | send K | node N] | page | capture [--heard] | keys | addresses\n";
 
 /// All that the program does, with the words after its name.
 ///
 /// `check` reads a script and writes what is wrong with each of its lines, `check --json` the same as objects of JSON. `explain` writes what
-/// became of each datagram and each joining, with `send K` or `node N` of those alone. `capture` writes the frames as a capture, with `--heard`
-/// each arrival too, `keys` the keys and `addresses` the short addresses of a run, as Wireshark reads them. Other words write the usage line, and
-/// read nothing.
+/// became of each datagram and each joining, with `send K` or `node N` of those alone. `page` writes a page of HTML that shows the run. `capture`
+/// writes the frames as a capture, with `--heard` each arrival too, `keys` the keys and `addresses` the short addresses of a run, as Wireshark
+/// reads them. Other words write the usage line, and read nothing.
 ///
 /// Where no read of the source and no write of the sink is to fail, and the sink has room for the whole text, neither count of
 /// faults changes, so that neither fault comes.
@@ -282,6 +304,9 @@ pub fn run_view<S: Source, K: Sink>(
     // What was read and written of an account, and why its status came.
     ensures explains { (chosen : Chosen) → command_of words.now ≡ Some (Command.Explain chosen)
         → Explains chosen (S.state source.old) (S.state source.new) (K.state sink.old) (K.state sink.new) result }
+    // What was read and written of a page, why its status came, and that what is written whole nests.
+    ensures pages { command_of words.now ≡ Some Command.Page
+        → Pages (S.state source.old) (S.state source.new) (K.state sink.old) (K.state sink.new) result }
     // What was read, and written for Wireshark, and why its status came.
     ensures captures { (wanted : Wanted) → command_of words.now ≡ Some (Command.Capture wanted)
         → Captures wanted (S.state source.old) (S.state source.new) (K.state sink.old) (K.state sink.new) result }
@@ -300,6 +325,7 @@ pub fn run_view<S: Source, K: Sink>(
     match command_of(words) {
         Some(Command::Check { json }) => check(alloc, json, source, sink),
         Some(Command::Explain { chosen }) => explain(alloc, chosen, source, sink),
+        Some(Command::Page) => page(alloc, source, sink),
         Some(Command::Capture { wanted }) => capture(alloc, wanted, source, sink),
         None => write_whole(sink, USAGE, Status::Usage),
     }

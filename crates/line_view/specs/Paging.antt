@@ -1,0 +1,182 @@
+-- What `page` writes of a script.
+use Rattle.std.specs.Prelude.{◌≡◌, ℕ, ◌-◌, zero, suc, min, Bool, true, false, nat_lt, List, [], ◌∷◌, ◌++◌, length, Option, None, Some, if◌then◌else◌}
+use Rattle.script_lines.specs.Lines.{Content, Text, Long, TooMuch}
+use Rattle.script_lines.specs.Clauses.{IsStop}
+use Rattle.script_lines.specs.Outcomes.{Turn, Takes, Stops, Outcome, outcome as outcome_of}
+use Rattle.line_script.specs.declared.report.Reason.{Reason}
+use Rattle.node_rules.specs.Memory.{Node}
+use Rattle.node_rules.specs.Showing.{shown_of}
+use Rattle.node_pasts.specs.declared.past.Change.{Change}
+use Rattle.node_pasts.specs.Pasts.{looked as past_looked}
+use Rattle.line_tale.specs.declared.act.Act.{Act}
+use Rattle.line_tale.specs.declared.act.Act.TheVariants as acts
+use Rattle.line_tale.specs.declared.told.TaleEvent.{TaleEvent}
+use Rattle.line_tale.specs.Kinds.{actor_of, makes_node, person_of}
+use Rattle.line_tale.specs.Tales.{numbered}
+use Rattle.line_tale.specs.Verdicts.{ends_of}
+use Rattle.line_tale.specs.declared.ends.Ends.{Ends}
+use Rattle.story_accounts.specs.Indexes.{Index, index_of}
+use Rattle.line_stories.specs.Stories.{Stories, stories_of}
+use Rattle.line_events.specs.declared.event.Event.{Event}
+use Rattle.line_rules.specs.Worlds.{World, node_at}
+use Rattle.line_rules.specs.Runs.{Entry}
+use Rattle.script_runs.specs.Takings.{Taking, Skipped, Taken, Refused}
+unfoldable use Rattle.script_runs.specs.Takings.{taking}
+use Rattle.markup.specs.Nesting.{IsContent}
+use Rattle.page_frame.specs.Frames.{doctype}
+use Rattle.run_charts.specs.Runs.{Run}
+use Rattle.line_view.specs.declared.bad_line.BadLine.{BadLine}
+use Rattle.line_view.specs.Explaining.{run_account}
+use Rattle.line_view.specs.Pages.{Sheet, page}
+use Rattle.line_view.specs.Recordings.{Recording, no_recording, recorded}
+use Rattle.line_view.specs.Recordings as recordings
+use Rattle.line_view.specs.Remarking.{Remarked, no_remarks, with_event, with_line}
+use Rattle.line_view.specs.Sentences.{Sentences, no_sentences, with_sentence}
+
+pub record Paging : Type 0 where
+  pub run : Recording
+  pub told : Sentences
+  pub remarks : Remarked
+  -- the changes of each node
+  pub pasts : List (List Change)
+
+abbrev pub nothing_paged : Paging
+nothing_paged = record { run = no_recording; told = no_sentences; remarks = no_remarks; pasts = [] }
+
+-- # Nodes
+
+abbrev pub with_look : Option Node → ℕ → ℕ → Paging → Paging
+with_look None event node p = p
+with_look (Some state) event node p = record p { pasts = past_looked node event (shown_of state) p.pasts }
+
+-- with what a node shows after an event
+unfoldable pub looked : ℕ → ℕ → Paging → Paging
+looked event node p = with_look (node_at p.run.world node) event node p
+
+-- with what so many nodes show
+abbrev pub looked_at_all : ℕ → ℕ → Paging → Paging
+looked_at_all event zero p = p
+looked_at_all event (suc node) p = looked event node (looked_at_all event node p)
+
+abbrev pub with_node : Paging → Paging
+with_node p = record p { pasts = p.pasts ++ ([] ∷ []) }
+
+abbrev pub node_count : Paging → ℕ
+node_count p = min (length p.run.euis) 1000
+
+-- whether time passes, for all nodes
+abbrev pub is_tick : Act → Bool
+is_tick (acts.Tick seconds) = true
+is_tick _ = false
+
+abbrev pub looked_by : Act → ℕ → Paging → Paging
+looked_by act event p =
+    if is_tick act then looked_at_all event (node_count p) p else looked event (person_of act) (looked event (actor_of act) p)
+
+-- with what the nodes show that an event may have changed
+abbrev pub looked_around : ℕ → Act → Paging → Paging
+looked_around event act p = if makes_node act then looked event (node_count p - 1) (with_node p) else looked_by act event p
+
+abbrev pub kept_by : Option TaleEvent → Paging → Paging
+kept_by None p = p
+kept_by (Some e) p = looked_around (length p.run.events) e.act p
+
+-- with what is kept of the event that the run took last
+unfoldable pub kept : Paging → Paging
+kept p = kept_by (numbered p.run.events (length p.run.events)) (record p { remarks = with_event p.remarks })
+
+-- with the sentence of an event that the run took, and what else there is of it
+abbrev pub told_and_kept : Event → Paging → Paging
+told_and_kept event p = kept (record p { told = with_sentence event p.run p.told })
+
+-- # The page
+
+abbrev pub sheet_with : Paging → Stories → Option BadLine → List Ends → Index → Sheet
+sheet_with p s bad ends index =
+    record {
+      account = run_account p.run p.told s ends index;
+      events = p.run.world.events;
+      flights = length p.run.world.flights;
+      forged = p.run.world.forged;
+      title = p.remarks.title;
+      bad = bad;
+    }
+
+abbrev pub chart_run : Paging → Stories → Run
+chart_run p s =
+    record {
+      events = p.run.events;
+      flights = p.run.flights;
+      lots = s.lots;
+      sentences = p.told.sentences;
+      notes = p.remarks.notes;
+      pasts = p.pasts;
+    }
+
+abbrev pub page_over : Paging → Stories → Option BadLine → List Ends → Index → List ℕ
+page_over p s bad ends index = page (sheet_with p s bad ends index) (chart_run p s)
+
+abbrev pub page_with : Paging → Stories → Option BadLine → List ℕ
+page_with p s bad =
+    page_over p s bad (ends_of (length s.stories) s.lots)
+    (index_of (length s.stories) (length p.run.euis) p.run.events p.run.flights s.lots s.sent s.owners)
+
+-- the page of a run, with the bad line at which it ends, if there is one
+unfoldable pub page_text : Paging → Option BadLine → List ℕ
+page_text p bad = page_with p (stories_of p.run.events p.run.flights) bad
+
+-- # Lines
+
+-- after an entry of the script, which stands in a line of this number
+abbrev pub after_entry : ℕ → Entry → Paging → Paging
+after_entry row entry p = told_and_kept entry.event (record p { run = recorded row entry p.run })
+
+abbrev pub refused_text : Paging → ℕ → Reason → List ℕ
+refused_text p row reason = page_text p (Some (record { row = row; reason = reason }))
+
+abbrev pub with_remark : List ℕ → Paging → Paging
+with_remark line p = record p { remarks = with_line line p.remarks }
+
+-- what a line without an event says
+abbrev pub remarked : Content → Paging → Paging
+remarked (Text line) p = with_remark line p
+remarked Long p = p
+remarked TooMuch p = p
+
+-- an event was taken, and all that there is of it is kept, or it was not taken, for a reason
+abbrev pub Stepped : ℕ → Paging → Paging → Taking → Option Reason → Type 0
+Stepped row p0 p1 taking reason = recordings.Stepped after_entry row p0 p1 taking reason
+
+-- by what a line is: what it says is kept where it has no event, and nothing is written before the end, or before a bad line
+abbrev pub turn_by : Paging → ℕ → Content → Taking → Turn Paging
+turn_by p row content Skipped = Takes (remarked content p) []
+turn_by p row content (Taken entry) = Takes (after_entry row entry p) []
+turn_by p row content (Refused reason) = Stops (refused_text p row reason)
+
+-- what a line does
+abbrev pub turn_of : Paging → ℕ → Content → Turn Paging
+turn_of p row content = turn_by p row content (taking p.run.world content)
+
+abbrev pub end_of : Paging → List ℕ
+end_of p = page_text p None
+
+-- the octet that is too much makes its line bad
+pub stops_at_too_much : (p : Paging) (row : ℕ) → IsStop (turn_of p row TooMuch)
+unfolding taking
+stops_at_too_much p row = tt
+
+-- whether an event was forged
+abbrev pub is_forged : Paging → Bool
+is_forged p = nat_lt 0 p.run.world.forged
+
+-- what a script does, where its input has ended or not
+abbrev pub paged : List ℕ → Bool → Outcome Paging
+paged octets ended = outcome_of turn_of end_of nothing_paged octets ended
+
+-- # What is a page
+
+-- the type of the document, and after it markup that closes all that it opens, and nothing else
+pub record IsPage (octets : List ℕ) : Type 0 where
+  pub markup : List ℕ
+  pub whole : octets ≡ doctype ++ markup
+  pub nests : IsContent markup

@@ -1,0 +1,325 @@
+//! `page`: a run as one page of HTML, to look at.
+ghost use Rattle.std.specs.Prelude.{◌≡◌, ◌++◌, IfOk, OnOk, ℕ};
+ghost use Rattle.line_events.specs.Events.{IsEvent};
+ghost use Rattle.script_lines.specs.Clauses.{StopsWith, Turned};
+ghost use Rattle.script_lines.specs.Lines.{Content, Text};
+ghost use Rattle.script_runs.specs.Takings.{Skipped, event_taking};
+ghost use Rattle.line_view.specs.Paging as paging;
+
+use crate::bad_line::{BadLine, bad_line};
+use crate::octet_output::write_octets;
+use crate::page_text::Sheet;
+use crate::recorder::Recorder;
+use crate::remarks::Remarks;
+use crate::teller::{MOST_NODES, Teller, nothing_shown};
+use line_events::Event;
+use line_script::{LINE_OCTETS, Reading, Reason, read_line};
+use line_stories::{Telling, stories_of};
+use line_tale::{Act, Ends, actor_of, ends_of, makes_node, person_of};
+use line_world::Buffers;
+use node_pasts::Pasts;
+use node_rules::Shown;
+use plc_base::Sink;
+use run_charts::ChartRun;
+use script_lines::{LineKind, LineMachine, StopReason};
+use std::alloc::{AllocError, Global};
+use std::marker::Model;
+use story_accounts::{Account, Index};
+
+/// A run with its sentences, what the script says, and what the nodes were.
+#[derive(Drop)]
+struct Pager {
+    alloc: Global,
+    run: Recorder,
+    teller: Teller,
+    remarks: Remarks,
+    pasts: Pasts,
+    // What the last event handed up, and what the node shows that was looked at last.
+    space: Buffers,
+    shown: Shown,
+}
+
+impl Model for Pager {
+    ghost use Rattle.std.specs.Coded.{codes};
+    ghost use Rattle.line_world.specs.WorldCodes.{world_code};
+    ghost use Rattle.line_view.specs.Paging.{Paging};
+
+    ghost Value = { Paging };
+
+    ghost coded = { Prim.hlevel (codes, world_code) };
+
+    ghost view = { λ p. record { run = p.run; told = p.teller; remarks = p.remarks; pasts = p.pasts } };
+}
+
+// Whether time passes, for all nodes.
+fn is_tick(act: &Act) -> bool
+    ensures { result ≡ paging.is_tick act.now }
+{
+    match act {
+        Act::Tick { .. } => true,
+        _ => false,
+    }
+}
+
+impl Pager {
+    // Appends the page, with the ends of all stories and what is looked up of the run.
+    fn push_page_over(
+        &self,
+        out: &mut Vec<u8>,
+        telling: &Telling,
+        bad: Option<BadLine>,
+        ends: &[Ends],
+        index: &Index,
+    ) -> Result<(), AllocError>
+        ensures { OnOk result (out.new.items ≡ out.old.items ++ paging.page_over self.now telling.now bad ends.now index.now) }
+    {
+        let account = Account {
+            alloc: self.alloc,
+            tale: &self.run.tale,
+            stories: telling.stories.as_slice(),
+            lots: telling.lots.as_slice(),
+            ends,
+            index,
+            homes: telling.homes.as_slice(),
+            euis: self.run.euis.as_slice(),
+            sentences: self.teller.sentences.as_slice(),
+        };
+        let sheet = Sheet {
+            account: &account,
+            counts: self.run.world.counts(),
+            title: self.remarks.title(),
+            bad,
+        };
+        sheet.push_page(out, &self.chart_run(telling))
+    }
+
+    // Appends the page, by the stories of the run.
+    fn push_page_with(
+        &self,
+        out: &mut Vec<u8>,
+        telling: &Telling,
+        bad: Option<BadLine>,
+    ) -> Result<(), AllocError>
+        ensures { OnOk result (out.new.items ≡ out.old.items ++ paging.page_with self.now telling.now bad) }
+    {
+        let count = telling.stories.len();
+        let lots = telling.lots.as_slice();
+        let ends = ends_of(self.alloc, count, lots)?;
+        let index = Index::new(
+            self.alloc,
+            count,
+            self.run.euis.len(),
+            &self.run.tale,
+            lots,
+            telling.sent.as_slice(),
+            telling.owners.as_slice(),
+        )?;
+        self.push_page_over(out, telling, bad, ends.as_slice(), &index)
+    }
+
+    fn chart_run<'a>(&'a self, telling: &'a Telling) -> ChartRun<'a>
+        ensures { result ≡ paging.chart_run self.now telling.now }
+    {
+        ChartRun {
+            alloc: self.alloc,
+            tale: &self.run.tale,
+            lots: telling.lots.as_slice(),
+            sentences: self.teller.sentences.as_slice(),
+            notes: self.remarks.notes(),
+            pasts: &self.pasts,
+        }
+    }
+
+    // The whole page, with the bad line, if there is one.
+    #[tactic(auto, unfolding(crate::specs::Paging::page_text))]
+    fn text(&self, bad: Option<BadLine>) -> Result<Vec<u8>, AllocError>
+        ensures { IfOk result (λ text. text.items ≡ paging.page_text self.now bad) }
+    {
+        let telling = stories_of(self.alloc, &self.run.tale)?;
+        let mut out = Vec::new(self.alloc);
+        self.push_page_with(&mut out, &telling, bad)?;
+        Ok(out)
+    }
+
+    // Writes the page, with the bad line at which the run ends.
+    fn refuse<K: Sink>(&self, row: u32, reason: Reason, sink: &mut K) -> Result<(), StopReason>
+        ensures { StopsWith (K.state sink.old) (K.state sink.new) (paging.refused_text self.now row reason) result }
+    {
+        bad_line(write_octets(sink, self.text(Some(BadLine { row, reason }))))
+    }
+
+    // Looks at a node after an event.
+    #[tactic(auto, unfolding(crate::specs::Paging::looked), using(crate::proofs::Paged::look_there, crate::proofs::Paged::look_nowhere))]
+    fn look(&mut self, event: usize, node: u32) -> Result<(), AllocError>
+        ensures { OnOk result (self.new ≡ paging.looked event node self.old) }
+    {
+        if !self.run.world.show(node, &mut self.shown) {
+            return Ok(());
+        }
+        self.pasts.look(node as usize, event, &self.shown)
+    }
+
+    // Looks at so many nodes.
+    fn look_at_all(&mut self, event: usize, count: u32) -> Result<(), AllocError>
+        ensures { OnOk result (self.new ≡ paging.looked_at_all event count self.old) }
+    {
+        for node in 0..count {
+            self.look(event, node)?;
+        }
+        Ok(())
+    }
+
+    // Looks at the nodes that an event may have changed.
+    fn look_around(&mut self, event: usize, act: &Act) -> Result<(), AllocError>
+        ensures { OnOk result (self.new ≡ paging.looked_around event act.now self.old) }
+    {
+        let nodes = self.run.euis.len().min(MOST_NODES) as u32;
+        if makes_node(act) {
+            self.pasts.push_node()?;
+            return self.look(event, nodes.saturating_sub(1));
+        }
+        if is_tick(act) {
+            return self.look_at_all(event, nodes);
+        }
+        self.look(event, actor_of(act))?;
+        self.look(event, person_of(act))
+    }
+
+    // What is kept of the event that the run took last.
+    #[tactic(auto, unfolding(crate::specs::Paging::kept))]
+    fn keep(&mut self) -> Result<(), AllocError>
+        ensures { OnOk result (self.new ≡ paging.kept self.old) }
+    {
+        let event = self.run.tale.events.len();
+        self.remarks.end(self.alloc)?;
+        match self.run.tale.event(event).copied() {
+            None => Ok(()),
+            Some(told) => self.look_around(event, &told.act),
+        }
+    }
+
+    // Takes a line that has no event.
+    fn take_quiet<K: Sink>(&mut self, line: &[u8], sink: &mut K) -> Result<(), StopReason>
+        ensures { (row : ℕ) → Turned (K.state sink.old) (K.state sink.new) self.old self.new
+            (paging.turn_by self.old row (Text line.now) Skipped) result }
+    {
+        let Ok(()) = self.remarks.take(self.alloc, line) else {
+            return Err(StopReason::Memory);
+        };
+        Ok(())
+    }
+
+    // Takes an event that a line of this number asks for, makes its sentence and keeps what else there is of it, or answers why the line is bad.
+    fn step(&mut self, row: u32, event: &Event<'_>) -> Result<Option<Reason>, AllocError>
+        requires { IsEvent event.now }
+        ensures { IfOk result (paging.Stepped row self.old self.new (event_taking self.old.run.world event.now)) }
+    {
+        let refusal = self.run.step(row, event, &mut self.space)?;
+        if refusal.is_some() {
+            return Ok(refusal);
+        }
+        self.teller.tell(&mut self.run, event)?;
+        self.keep()?;
+        Ok(None)
+    }
+
+    // The turn of a line of this number that asks for an event.
+    fn take_event<K: Sink>(
+        &mut self,
+        row: u32,
+        event: &Event<'_>,
+        sink: &mut K,
+    ) -> Result<(), StopReason>
+        requires { IsEvent event.now }
+        ensures { (content : Content) → Turned (K.state sink.old) (K.state sink.new) self.old self.new
+            (paging.turn_by self.old row content (event_taking self.old.run.world event.now)) result }
+    {
+        let Ok(refusal) = self.step(row, event) else {
+            return Err(StopReason::Memory);
+        };
+        let Some(reason) = refusal else {
+            return Ok(());
+        };
+        self.refuse(row, reason, sink)
+    }
+}
+
+/// Takes the lines of a script, and shows at its end what its run did. A contract sees the run, its sentences, what the script says,
+/// and what the nodes were.
+#[derive(Drop)]
+pub struct Page {
+    pager: Pager,
+    // Where the octets are that a line holds in hexadecimal.
+    octets: [u8; LINE_OCTETS],
+}
+
+impl Model for Page {
+    ghost use Rattle.std.specs.Coded.{codes};
+    ghost use Rattle.line_world.specs.WorldCodes.{world_code};
+    ghost use Rattle.line_view.specs.Paging.{Paging};
+
+    ghost Value = { Paging };
+
+    ghost coded = { Prim.hlevel (codes, world_code) };
+
+    ghost view = { λ p. p.pager };
+}
+
+impl Page {
+    /// No line so far. It fails only where there is no memory for it.
+    pub fn new(alloc: Global) -> Result<Page, AllocError>
+        ensures { IfOk result (λ page. page ≡ paging.nothing_paged) }
+    {
+        let run = Recorder::new(alloc)?;
+        Ok(Page {
+            pager: Pager {
+                alloc,
+                run,
+                teller: Teller::new(alloc),
+                remarks: Remarks::new(alloc),
+                pasts: Pasts::new(alloc),
+                space: Buffers::new(),
+                shown: nothing_shown(),
+            },
+            octets: [0; LINE_OCTETS],
+        })
+    }
+
+    /// Whether an event was forged.
+    pub fn is_forged(&self) -> bool
+        ensures { result ≡ paging.is_forged self.now }
+    {
+        self.pager.run.is_forged()
+    }
+}
+
+impl LineMachine for Page {
+    ghost turn = { paging.turn_of };
+
+    ghost end_text = { paging.end_of };
+
+    ghost stops = { paging.stops_at_too_much };
+
+    #[tactic(auto, unfolding(script_runs::specs::Takings::taking), using(script_lines::proofs::Turned::stopped))]
+    fn take<K: Sink>(
+        &mut self,
+        number: u32,
+        kind: LineKind,
+        line: &[u8],
+        sink: &mut K,
+    ) -> Result<(), StopReason> {
+        match kind {
+            LineKind::TooMuch => self.pager.refuse(number, Reason::Input, sink),
+            LineKind::Long => self.pager.refuse(number, Reason::Long, sink),
+            LineKind::Text => match read_line(line, &mut self.octets) {
+                Reading::Quiet => self.pager.take_quiet(line, sink),
+                Reading::NoForm => self.pager.refuse(number, Reason::Form, sink),
+                Reading::Reads(event) => self.pager.take_event(number, &event, sink),
+            },
+        }
+    }
+
+    fn finish<K: Sink>(&self, sink: &mut K) -> Result<(), StopReason> {
+        write_octets(sink, self.pager.text(None))
+    }
+}
