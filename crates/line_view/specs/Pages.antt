@@ -15,6 +15,7 @@ use Rattle.line_tale.specs.declared.told.TaleEvent.{TaleEvent}
 use Rattle.line_tale.specs.Verdicts.{is_good}
 use Rattle.run_charts.specs.Charts.{chart}
 use Rattle.run_charts.specs.Lanes.{lanes}
+use Rattle.run_maps.specs.Maps.{run_map}
 use Rattle.run_charts.specs.Outcomes.{is_refused, outcome_of}
 use Rattle.run_charts.specs.Runs.{Run, is_missed}
 use Rattle.sentence_parts.specs.declared.part.Part.TheVariants as part
@@ -302,6 +303,16 @@ tiles s = Inside E.Division (with_text A.Class (codes "tiles") ∷ []) (tile_lis
 
 -- # The order
 
+-- who hears whom
+unfoldable pub map_of : Run → Markup
+map_of run = run_map run.events run.flights run.pasts
+
+abbrev pub map_card : Run → Markup
+map_card run = Inside E.Division (with_text A.Class (codes "card high") ∷ []) (map_of run)
+
+unfoldable pub links : Run → Markup
+links run = Both (heading (codes "Who hears whom")) (map_card run)
+
 -- each node over the run
 abbrev pub nodes : Run → Markup
 nodes run =
@@ -316,10 +327,14 @@ whole_if false s run = Nothing
 unfoldable pub summary : Sheet → Markup
 summary s = Both (top s) (Both (bad_band s) (Both (forged_band s) (tiles s)))
 
+-- the map, and its nodes
+abbrev pub views : Run → Markup
+views run = Both (links run) (nodes run)
+
 -- what is said of its parts; a run of at most 60 events is shown whole before its stories, one of at most 600 after them
 unfoldable pub parts : Sheet → Run → Markup
 parts s run =
-    Both (failed_stories s run) (Both (nodes run) (Both (whole_if (nat_le (length s.account.events) 60) s run)
+    Both (failed_stories s run) (Both (views run) (Both (whole_if (nat_le (length s.account.events) 60) s run)
     (Both (stories s run all_kinds)
     (whole_if (nat_lt 60 (length s.account.events) && nat_le (length s.account.events) 600) s run))))
 

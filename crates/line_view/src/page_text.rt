@@ -14,6 +14,7 @@ use page_parts::{
     push_not_drawn, push_share, push_span, push_tile, push_totals,
 };
 use run_charts::{ChartRun, is_missed, is_refused, outcome_of, push_chart, push_lanes};
+use run_maps::push_map;
 use sentence_parts::{number, words};
 use std::alloc::{AllocError, Global};
 use std::marker::Model;
@@ -293,6 +294,28 @@ fn push_whole(out: &mut Vec<u8>, run: &ChartRun<'_>, events: &[usize]) -> Result
     push_card(out, run, events)
 }
 
+#[tactic(auto, unfolding(crate::specs::Pages::map_of))]
+fn push_map_of(out: &mut Vec<u8>, run: &ChartRun<'_>) -> Result<(), AllocError>
+    ensures { OnOk result (out.new.items ≡ out.old.items ++ markup_text (pages.map_of run.now)) }
+{
+    push_map(out, run.alloc, run.tale, run.pasts)
+}
+
+fn push_map_card(out: &mut Vec<u8>, run: &ChartRun<'_>) -> Result<(), AllocError>
+    ensures { OnOk result (out.new.items ≡ out.old.items ++ markup_text (pages.map_card run.now)) }
+{
+    push_pieces(
+        out,
+        &[
+            start(Element::Division),
+            given(Attribute::Class, "card high"),
+            open(),
+        ],
+    )?;
+    push_map_of(out, run)?;
+    push_pieces(out, &[end(Element::Division)])
+}
+
 impl<'a> Sheet<'a> {
     // How many of these stories are of a kind and reached their ends.
     fn good_of(&self, stories: &[Story], kind: StoryKind) -> usize
@@ -495,6 +518,14 @@ impl<'a> Sheet<'a> {
         push_whole(out, run, events.as_slice())
     }
 
+    // Who hears whom.
+    fn push_links(&self, out: &mut Vec<u8>, run: &ChartRun<'_>) -> Result<(), AllocError>
+        ensures { OnOk result (out.new.items ≡ out.old.items ++ markup_text (pages.links run.now)) }
+    {
+        push_heading(out, "Who hears whom")?;
+        push_map_card(out, run)
+    }
+
     // Each node over the run.
     fn push_nodes(&self, out: &mut Vec<u8>, run: &ChartRun<'_>) -> Result<(), AllocError>
         ensures { OnOk result (out.new.items ≡ out.old.items ++ markup_text (pages.nodes run.now)) }
@@ -511,6 +542,14 @@ impl<'a> Sheet<'a> {
         )?;
         push_lanes(out, run)?;
         push_pieces(out, &[end(Element::Division)])
+    }
+
+    // The map, and its nodes.
+    fn push_views(&self, out: &mut Vec<u8>, run: &ChartRun<'_>) -> Result<(), AllocError>
+        ensures { OnOk result (out.new.items ≡ out.old.items ++ markup_text (pages.views run.now)) }
+    {
+        self.push_links(out, run)?;
+        self.push_nodes(out, run)
     }
 
     fn push_story_head(
@@ -683,7 +722,7 @@ impl<'a> Sheet<'a> {
         let account = self.account;
         let events = account.tale.events.len();
         self.push_failed(out, run)?;
-        self.push_nodes(out, run)?;
+        self.push_views(out, run)?;
         self.push_whole_if(out, run, events <= FIRST)?;
         self.push_stories(out, run, &KINDS)?;
         self.push_whole_if(out, run, events > FIRST && events <= WHOLE)
