@@ -1,10 +1,10 @@
 -- A script with one line more.
-use Rattle.std.proofs.Common.{◌≡◌, ℕ, ◌+◌, ◌<◌, ◌≤◌, ◌^◌, Bool, true, false, List, [], ◌∷◌, ◌++◌, length, map, All, AllPairs, Option, None, Some}
+use Rattle.std.proofs.Common.{◌≡◌, ℕ, ◌<◌, ◌≤◌, ◌^◌, Bool, true, false, List, [], ◌∷◌, ◌++◌, length, map, All, AllPairs, Option, None, Some}
 use Rattle.std.proofs.Common.{refl, sym, ◌∙◌, ap, subst, append_assoc, append-nil, arith, Ok, Err, Result, OnOk, OnErr}
 use Rattle.std.proofs.lemmas.Bool.{lt-ltb, le-leb}
 use Rattle.std.proofs.lemmas.List.{map-append}
 use Rattle.std.proofs.lemmas.List.Elements.{All-append, All-cons, All-nil}
-use Rattle.script_lines.specs.Lines.{Content, Text, Long, TooMuch, Line, content_of, lines, NoFeed, NoFeeds, script, rest_line}
+use Rattle.script_lines.specs.Lines.{Content, Text, Line, content_of, lines, NoFeed, NoFeeds, script, rest_line}
 use Rattle.line_events.specs.declared.event.Event.{Event}
 use Rattle.line_events.specs.declared.event.TheConstants.{MAX_EVENTS}
 use Rattle.line_events.specs.Events.{IsEvent}
@@ -14,7 +14,7 @@ use Rattle.line_rules.specs.Further.{line_step}
 use Rattle.line_script.specs.Laws.{LinesAreReadBack}
 use Rattle.line_script.specs.Lines.{line_of}
 use Rattle.line_script.specs.Readings.{reading}
-use Rattle.script_runs.specs.Takings.{Taking, Skipped, Taken, Refused, step_taking, event_taking, reading_taking, taking}
+use Rattle.script_runs.specs.Takings.{Taking, Skipped, Taken, Refused, taking}
 use Rattle.line_sim.specs.Arrivals.{arrival_at, arrival_by, arrivals, IsCausal, InOrder}
 use Rattle.line_sim.specs.Recorders.{IsScriptOf, AppendsLine, AreOrdered, Follows, Grows}
 use Rattle.line_sim.specs.Scripts.{world_by, world_after, contents_of, LeadsTo, is_injection, injects, InjectsNothing, said}

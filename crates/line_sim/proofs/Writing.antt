@@ -1,7 +1,7 @@
 -- What was written.
-use Rattle.std.proofs.Common.{◌≡◌, ◌⊎◌, inl, inr, ℕ, Bool, true, List, [], ◌++◌, Result, refl, sym, ◌∙◌, ap}
+use Rattle.std.proofs.Common.{◌≡◌, inl, inr, ℕ, List, [], ◌++◌, Result, refl, sym, ◌∙◌, ap}
 use Rattle.std.proofs.lemmas.List.{append-nil}
-use Rattle.plc_base.specs.Streams.{SinkState, SinkRose, IsPrefixOf, HasWritten}
+use Rattle.plc_base.specs.Streams.{SinkState, SinkRose, HasWritten}
 use Rattle.line_sim.specs.declared.status.Status.{Status}
 use Rattle.line_sim.specs.declared.status.Status.TheVariants as status
 use Rattle.line_sim.specs.Tool.{Writes}
