@@ -7,7 +7,7 @@ ghost use Rattle.host_calls.specs.Answers.{status_number, reason_of};
 pub enum Status {
     /// 0: it is done.
     Done,
-    /// 1: the meter refused it, or dropped the frame. The number is that of the refusal, among those of the call.
+    /// 1: the meter refused the call, or dropped the frame that it heard; with the number of that refusal, from 1.
     Refused(u8),
     /// 2: the meter is halted. A put found no room, or the meter was halted before.
     Halted,
