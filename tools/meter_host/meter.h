@@ -1,10 +1,10 @@
 /* A meter, in C: the program meter_host holds it, and these calls talk with it over a socket.
  *
  * No call reads a clock, draws a random value, sends a frame or writes flash by itself. While a call is answered, meter_device is called
- * for what is to be done: store for each record, in order; then send for each frame, in order; then joined, once the meter has its grant; then up for a datagram. A frame is never given
- * before each record of its call was stored, so no frame counter is used twice after a loss of power. Where store fails, nothing is sent, the
- * call answers METER_STORE_FAILED, and the meter takes no call more. The same where the program ends (METER_GONE), and after METER_HALTED: end
- * the meter, and open another one over what was stored.
+ * for what is to be done: store for each record, in order; then send for each frame, in order; then joined, where the meter has joined by this
+ * call; then up for a datagram. A frame is never given before each record of its call was stored, so no frame counter is used twice after a loss
+ * of power. Where store fails, nothing is sent, the call answers METER_STORE_FAILED, and the meter takes no call more. The same where the program
+ * ends (METER_GONE), and after METER_HALTED: end the meter, and open another one over what was stored.
  *
  * One meter is used by one task at a time. A call waits for its answer, and no function here may be called from store, send and up.
  */
@@ -41,12 +41,13 @@ enum meter_refusal {
     METER_SEND_HALTED = 1, METER_SEND_NOT_JOINED = 2, METER_SEND_BAD_SIZE = 3, METER_SEND_TO_SELF = 4, METER_SEND_WAITING_FULL = 5,
     METER_SEND_SEQ_SPENT = 6, METER_SEND_COUNTER_SPENT = 7, METER_SEND_STORE = 8,
     /* of meter_hear: the frame is not accepted, or (from 9) it is dropped */
-    METER_HEAR_HALTED = 1, METER_HEAR_MALFORMED = 2, METER_HEAR_NOT_FOR_ME = 3, METER_HEAR_NO_KEY = 4, METER_HEAR_BAD_TAG = 5,
-    METER_HEAR_REPLAYED = 6, METER_HEAR_PEERS_FULL = 7, METER_HEAR_STORE = 8, METER_HEAR_BAD_UNIT = 9, METER_HEAR_NO_ROUTE = 10,
-    METER_HEAR_HOPS_SPENT = 11, METER_HEAR_NOT_BETTER = 12, METER_HEAR_COST_SPENT = 13, METER_HEAR_ROUTES_FULL = 14, METER_HEAR_NOT_ALLOWED
-    = 15, METER_HEAR_NO_SESSION = 16, METER_HEAR_SESSIONS_FULL = 17, METER_HEAR_NO_RANDOM = 18, METER_HEAR_FORM = 19,
-    METER_HEAR_OTHER_SESSION = 20, METER_HEAR_BAD_MAC = 21, METER_HEAR_BAD_CHANNEL = 22, METER_HEAR_NO_SUCCESS = 23, METER_HEAR_NOT_HELD =
-    24, METER_HEAR_BUFFER_FULL = 25, METER_HEAR_SEQ_SPENT = 26, METER_HEAR_COUNTER_SPENT = 27, METER_HEAR_DROPPED_STORE = 28
+    METER_HEAR_HALTED = 1, METER_HEAR_MALFORMED = 2, METER_HEAR_NOT_FOR_ME = 3, METER_HEAR_NO_KEY = 4,
+    METER_HEAR_BAD_TAG = 5, METER_HEAR_REPLAYED = 6, METER_HEAR_PEERS_FULL = 7, METER_HEAR_STORE = 8,
+    METER_HEAR_BAD_UNIT = 9, METER_HEAR_NO_ROUTE = 10, METER_HEAR_HOPS_SPENT = 11, METER_HEAR_NOT_BETTER = 12,
+    METER_HEAR_COST_SPENT = 13, METER_HEAR_ROUTES_FULL = 14, METER_HEAR_NOT_ALLOWED = 15, METER_HEAR_NO_SESSION = 16,
+    METER_HEAR_SESSIONS_FULL = 17, METER_HEAR_NO_RANDOM = 18, METER_HEAR_FORM = 19, METER_HEAR_OTHER_SESSION = 20,
+    METER_HEAR_BAD_MAC = 21, METER_HEAR_BAD_CHANNEL = 22, METER_HEAR_NO_SUCCESS = 23, METER_HEAR_NOT_HELD = 24,
+    METER_HEAR_BUFFER_FULL = 25, METER_HEAR_SEQ_SPENT = 26, METER_HEAR_COUNTER_SPENT = 27, METER_HEAR_DROPPED_STORE = 28
 };
 
 #define METER_RECORD_MAX 64u     /* octets of a record */
