@@ -1,5 +1,6 @@
 pub mod LookUps
 pub mod Rounds
+pub mod Mixing
 pub mod Same
 pub mod StandardFacts
 pub mod Texts

@@ -31,7 +31,7 @@ turn2 p q r s = xor_comm (bit_xor p q) (bit_xor r s) ∙ turn0 r s p q
 turn1 : (p q r s : ℕ) → bit_xor (bit_xor p q) (bit_xor r s) ≡ bit_xor (bit_xor (bit_xor s p) q) r
 turn1 p q r s = xor_comm (bit_xor p q) (bit_xor r s) ∙ turn3 r s p q
 
-swapped : (p q r s : ℕ) → bit_xor (bit_xor p q) (bit_xor r s) ≡ bit_xor (bit_xor p r) (bit_xor q s)
+pub swapped : (p q r s : ℕ) → bit_xor (bit_xor p q) (bit_xor r s) ≡ bit_xor (bit_xor p r) (bit_xor q s)
 swapped p q r s =
     xor_assoc p q (bit_xor r s)
     ∙ ap (bit_xor p) (sym (xor_assoc q r s) ∙ ap (λ (x : ℕ). bit_xor x s) (xor_comm q r) ∙ xor_assoc r q s)

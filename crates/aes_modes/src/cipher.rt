@@ -99,17 +99,18 @@ fn add_round_key(s: Simd<u8, 16>, k: Simd<u8, 16>) -> Simd<u8, 16>
 }
 
 /// ShiftRows and MixColumns (sections 5.1.2 and 5.1.3) of a state, from its octets and twice those.
+///
+/// Twice an octet and the one of the row after it are added first: turned by a row, that sum is what the two rows after an octet give to it.
 #[inline(always)]
 fn mix(once: Simd<u8, 16>, twice: Simd<u8, 16>) -> Simd<u8, 16>
     ensures { result ≡ mixed once twice }
 {
-    let thrice = add(twice, once);
     let own = look(twice, Simd::from_array(OWN));
-    let next = look(thrice, Simd::from_array(NEXT));
-    let third = look(once, Simd::from_array(THIRD));
+    let next = look(once, Simd::from_array(NEXT));
+    let pair = add(own, next);
     let last = look(once, Simd::from_array(LAST));
-    let front = add(own, next);
-    let back = add(third, last);
+    let front = add(pair, last);
+    let back = look(pair, Simd::from_array(ROW_AFTER));
     add(front, back)
 }
 
@@ -150,14 +151,15 @@ fn step(k: Simd<u8, 16>, constant: u8) -> (Simd<u8, 16>, Simd<u8, 16>)
     (add(k, add(one, add(two, add(three, temp)))), hide(turned))
 }
 
-// Where ShiftRows and MixColumns take each octet from: its own row, and the three rows after it.
+// Where ShiftRows and MixColumns take each octet from: its own row, the row after it, and the one before it.
 const OWN: [u8; 16] = [0, 5, 10, 15, 4, 9, 14, 3, 8, 13, 2, 7, 12, 1, 6, 11];
 
 const NEXT: [u8; 16] = [5, 10, 15, 0, 9, 14, 3, 4, 13, 2, 7, 8, 1, 6, 11, 12];
 
-const THIRD: [u8; 16] = [10, 15, 0, 5, 14, 3, 4, 9, 2, 7, 8, 13, 6, 11, 12, 1];
-
 const LAST: [u8; 16] = [15, 0, 5, 10, 3, 4, 9, 14, 7, 8, 13, 2, 11, 12, 1, 6];
+
+// The octets of a state, each from the row after it.
+const ROW_AFTER: [u8; 16] = [1, 2, 3, 0, 5, 6, 7, 4, 9, 10, 11, 8, 13, 14, 15, 12];
 
 // RotWord of the last word, four times.
 const ROT_WORD: [u8; 16] = [
