@@ -49,7 +49,7 @@ impl<K: Keeper + Drop> Station<K> {
             &self.cipher,
             first,
             offer.by,
-            &mut self.buffer,
+            &mut *self.buffer,
             out,
         );
         self.bodies.drop_for(offer.origin);

@@ -62,7 +62,7 @@ impl<K: Keeper + Drop> Station<K> {
         };
         seal_waiting_then(
             &mut self.bodies,
-            &mut self.buffer,
+            &mut *self.buffer,
             &mut self.cipher,
             grant,
             offer,

@@ -44,8 +44,9 @@ pub struct Station<K: Keeper + Drop> {
     pub(crate) eui: Eui,
     pub(crate) parts: Parts,
     pub(crate) bodies: Bodies,
-    // Each body that leaves is read into it. It is kept, so that no call zeroes 1,280 octets.
-    pub(crate) buffer: BodyBuffer,
+    // Each body that leaves is read into it. It is kept, so that no call zeroes 1,280 octets, and lies apart, so that they are not moved with
+    // the station.
+    pub(crate) buffer: Box<BodyBuffer>,
     // The cipher under the key of the last frame that it sealed or opened, so that the next one under this key needs no key schedule.
     pub(crate) cipher: Aes,
     pub(crate) halted: bool,
@@ -93,6 +94,9 @@ impl<K: Keeper + Drop> Station<K> {
         let Ok(bodies) = Bodies::new(alloc) else {
             return Err((OpenFault::Memory, keeper));
         };
+        let Ok(buffer) = Box::new(alloc, [0; LONGEST_DATAGRAM]) else {
+            return Err((OpenFault::Memory, keeper));
+        };
         match Parts::open(alloc, &keeper) {
             Err(store_tables::OpenFault::Memory) => Err((OpenFault::Memory, keeper)),
             Err(store_tables::OpenFault::BadStore(bad)) => Err((OpenFault::BadStore(bad), keeper)),
@@ -101,7 +105,7 @@ impl<K: Keeper + Drop> Station<K> {
                 eui,
                 parts,
                 bodies,
-                buffer: [0; LONGEST_DATAGRAM],
+                buffer,
                 cipher: Aes::new(&Key([0; 16])),
                 halted: false,
                 replied: None,
