@@ -152,7 +152,7 @@ impl<K: Keeper + Drop> Meter<K> {
             return;
         }
         self.station.tick(now);
-        self.session = session_within(now, self.session);
+        end_old(&mut self.session, now);
     }
 
     /// Forgets all but the store, also its random values and its session, and ends a halt. After BadStore it is halted.
@@ -172,14 +172,16 @@ impl<K: Keeper + Drop> Meter<K> {
     }
 }
 
-// The session that is left at a time: one that began 120 seconds ago ends.
-fn session_within(now: u64, session: Option<Session>) -> Option<Session>
-    ensures { option_map session_of result
-        ≡ option_and_then (meters.session_within now) (option_map session_of session) }
+// Ends a session that began 120 seconds ago or before. It is looked at where it stands, since it has many octets and most ticks end none.
+fn end_old(session: &mut Option<Session>, now: u64)
+    ensures { option_map session_of session.new
+        ≡ option_and_then (meters.session_within now) (option_map session_of session.old) }
 {
-    let session = session?;
-    if is_within(120, now, session.since) {
-        return Some(session);
+    let lasts = match session {
+        Some(session) => is_within(120, now, session.since),
+        None => true,
+    };
+    if !lasts {
+        *session = None;
     }
-    None
 }
