@@ -10,6 +10,5 @@ pub mod Looking
 pub mod Machines
 pub mod PageNests
 pub mod Paged
-pub mod PageText
 pub mod Recorded
 pub mod StatusNames

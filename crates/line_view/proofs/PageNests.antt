@@ -1,5 +1,5 @@
 -- What a page writes closes all that it opens, where it is written whole.
-use Rattle.std.proofs.Common.{◌≡◌, ℕ, Bool, true, false, List, [], ◌∷◌, ◌++◌, codes, length, Option, None, Some, refl, sym, subst}
+use Rattle.std.proofs.Common.{◌≡◌, ℕ, Bool, true, false, List, [], ◌∷◌, ◌++◌, length, Option, None, Some, refl, sym, subst}
 use Rattle.plc_base.specs.Streams.{SourceState, SinkState}
 use Rattle.script_lines.specs.declared.machine.Exit.{Exit}
 use Rattle.script_lines.specs.declared.machine.Exit.TheVariants as exits
@@ -9,38 +9,26 @@ use Rattle.script_lines.specs.Outcomes.{Turn, Skips, Takes, Stops, Outcome, Stop
 use Rattle.script_lines.specs.Clauses.{Comes}
 use Rattle.script_runs.specs.Takings.{Taking, Skipped, Taken, Refused, taking}
 use Rattle.line_script.specs.declared.report.Reason.{Reason}
-use Rattle.markup_parts.specs.Markups.{markup_text}
-use Rattle.markup_parts.proofs.Markups.{markups_are_content}
-use Rattle.page_frame.specs.Frames.{html, page_text as frame_text}
-use Rattle.page_frame.proofs.Pages.{pages_nest}
 use Rattle.line_stories.specs.Stories.{Stories, stories_of}
 use Rattle.line_tale.specs.Verdicts.{ends_of}
-use Rattle.run_charts.specs.Runs.{Run}
+use Rattle.run_pages.specs.Pages.{IsPage, Sheet}
+use Rattle.run_pages.proofs.PageNests.{page_nests}
 use Rattle.story_accounts.specs.Indexes.{index_of}
 use Rattle.line_view.specs.declared.bad_line.BadLine.{BadLine}
 use Rattle.line_view.specs.declared.status.Status.{Status}
 use Rattle.line_view.specs.declared.status.Status.TheVariants as status
-use Rattle.line_view.specs.Pages.{Sheet, content, or_words}
-use Rattle.line_view.specs.Paging.{IsPage, Paging, chart_run, end_of, is_forged, nothing_paged, page_text, paged, sheet_with, turn_by, turn_of}
+use Rattle.line_view.specs.Paging.{Paging, bad_words, chart_run, end_of, is_forged, nothing_paged, page_text, paged, sheet_with, turn_by, turn_of}
 use Rattle.line_view.specs.Tool.{Accounts, IsWhole, account_status}
 
 -- # A page
-
-sheets_nest : (title : List ℕ) (s : Sheet) (run : Run) → IsPage (frame_text title (markup_text (content s run)))
-sheets_nest title s run =
-    record {
-      markup = html title (markup_text (content s run));
-      whole = refl;
-      nests = pages_nest title (markup_text (content s run)) (markups_are_content (content s run));
-    }
 
 pages_are : (p : Paging) (bad : Option BadLine) → IsPage (page_text p bad)
 unfolding page_text
 pages_are p bad =
     let s : Stories = stories_of p.run.events p.run.flights in
-    let sheet : Sheet = sheet_with p s bad (ends_of (length s.stories) s.lots)
+    let sheet : Sheet = sheet_with p s (bad_words bad) (ends_of (length s.stories) s.lots)
     (index_of (length s.stories) (length p.run.euis) p.run.events p.run.flights s.lots s.sent s.owners) in
-    sheets_nest (or_words sheet.title (codes "A run")) sheet (chart_run p s)
+    page_nests sheet (chart_run p s)
 
 -- # The outcome of a script
 

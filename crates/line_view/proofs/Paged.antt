@@ -19,6 +19,7 @@ use Rattle.line_tale.specs.declared.act.Act.{Act}
 use Rattle.line_tale.specs.declared.told.TaleEvent.{TaleEvent}
 use Rattle.line_tale.specs.Tales.{numbered}
 use Rattle.plc_base.specs.Streams.{SinkState}
+use Rattle.run_pages.specs.Remarking.{with_event}
 use Rattle.script_lines.specs.declared.text_output.StopReason.{StopReason}
 use Rattle.script_lines.specs.declared.input.LineKind.{LineKind}
 use Rattle.script_lines.specs.declared.input.LineKind.TheVariants as kinds
@@ -26,11 +27,11 @@ use Rattle.script_lines.specs.Clauses.{StopsWith, Turned}
 use Rattle.script_lines.specs.Next.{content_found}
 use Rattle.script_lines.specs.Lines.{Content, Text, Long, TooMuch}
 use Rattle.script_runs.specs.Takings.{Taking, Skipped, Taken, Refused, reading_taking, taking}
+use Rattle.story_accounts.specs.Sections.{is_for_another}
 use Rattle.line_view.specs.Recordings.{Recording, Recorded, recorded}
-use Rattle.line_view.specs.Remarking.{with_event}
 use Rattle.line_view.specs.Sentences.{Sentences, with_sentence}
-use Rattle.line_view.specs.Paging.{Paging, Stepped, after_entry, is_tick, kept, kept_by, looked, looked_around, looked_at_all, looked_by, node_count, remarked}
-use Rattle.line_view.specs.Paging.{refused_text, turn_by, turn_of, with_look, with_node}
+use Rattle.line_view.specs.Paging.{Paging, Stepped, after_entry, is_tick, kept, kept_by, looked, looked_after, looked_around, looked_at_all, looked_by}
+use Rattle.line_view.specs.Paging.{node_count, refused_text, remarked, turn_by, turn_of, with_look, with_node}
 use Rattle.line_view.proofs.Machines.{ended, went_on}
 use Rattle.line_view.proofs.Recorded.{recorded_world}
 use Rattle.line_view.proofs.StatusNames.{Follows}
@@ -140,9 +141,12 @@ around_run event act p =
     either_run (makes_node act) (looked event (node_count p - 1) (with_node p)) (looked_by act event p) p
     (looked_run event (node_count p - 1) (with_node p)) (by_run event act p)
 
+after_run : (event : ℕ) (e : TaleEvent) (p : Paging) → (looked_after event e p).run ≡ p.run
+after_run event e p = either_run (is_for_another e.answer) p (looked_around event e.act p) p refl (around_run event e.act p)
+
 kept_by_run : (last : Option TaleEvent) (p : Paging) → (kept_by last p).run ≡ p.run
 kept_by_run None p = refl
-kept_by_run (Some e) p = around_run (length p.run.events) e.act p
+kept_by_run (Some e) p = after_run (length p.run.events) e p
 
 kept_run : (p : Paging) → (kept p).run ≡ p.run
 unfolding kept

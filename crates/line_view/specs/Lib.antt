@@ -5,8 +5,6 @@ pub mod Sentences
 pub mod Statuses
 pub mod Checking
 pub mod Capturing
-pub mod Remarking
-pub mod Pages
 pub mod Paging
 pub mod Checked
 pub mod Tool

@@ -16,21 +16,21 @@ use Rattle.line_tale.specs.Tales.{numbered}
 use Rattle.line_tale.specs.Verdicts.{ends_of}
 use Rattle.line_tale.specs.declared.ends.Ends.{Ends}
 use Rattle.story_accounts.specs.Indexes.{Index, index_of}
+use Rattle.story_accounts.specs.Sections.{is_for_another}
 use Rattle.line_stories.specs.Stories.{Stories, stories_of}
 use Rattle.line_events.specs.declared.event.Event.{Event}
 use Rattle.line_rules.specs.Worlds.{World, node_at}
 use Rattle.line_rules.specs.Runs.{Entry}
 use Rattle.script_runs.specs.Takings.{Taking, Skipped, Taken, Refused}
 unfoldable use Rattle.script_runs.specs.Takings.{taking}
-use Rattle.markup.specs.Nesting.{IsContent}
-use Rattle.page_frame.specs.Frames.{doctype}
 use Rattle.run_charts.specs.Runs.{Run}
+use Rattle.run_pages.specs.Pages.{Sheet, page}
+use Rattle.run_pages.specs.Remarking.{Remarked, no_remarks, with_event, with_line}
+use Rattle.line_view.specs.BadLines.{bad_text}
 use Rattle.line_view.specs.declared.bad_line.BadLine.{BadLine}
 use Rattle.line_view.specs.Explaining.{run_account}
-use Rattle.line_view.specs.Pages.{Sheet, page}
 use Rattle.line_view.specs.Recordings.{Recording, no_recording, recorded}
 use Rattle.line_view.specs.Recordings as recordings
-use Rattle.line_view.specs.Remarking.{Remarked, no_remarks, with_event, with_line}
 use Rattle.line_view.specs.Sentences.{Sentences, no_sentences, with_sentence}
 
 pub record Paging : Type 0 where
@@ -73,13 +73,17 @@ abbrev pub looked_by : Act → ℕ → Paging → Paging
 looked_by act event p =
     if is_tick act then looked_at_all event (node_count p) p else looked event (person_of act) (looked event (actor_of act) p)
 
--- with what the nodes show that an event may have changed
+-- with what the nodes show that an event of this kind may change
 abbrev pub looked_around : ℕ → Act → Paging → Paging
 looked_around event act p = if makes_node act then looked event (node_count p - 1) (with_node p) else looked_by act event p
 
+-- a frame that was for another node changed none
+abbrev pub looked_after : ℕ → TaleEvent → Paging → Paging
+looked_after event e p = if is_for_another e.answer then p else looked_around event e.act p
+
 abbrev pub kept_by : Option TaleEvent → Paging → Paging
 kept_by None p = p
-kept_by (Some e) p = looked_around (length p.run.events) e.act p
+kept_by (Some e) p = looked_after (length p.run.events) e p
 
 -- with what is kept of the event that the run took last
 unfoldable pub kept : Paging → Paging
@@ -91,7 +95,7 @@ told_and_kept event p = kept (record p { told = with_sentence event p.run p.told
 
 -- # The page
 
-abbrev pub sheet_with : Paging → Stories → Option BadLine → List Ends → Index → Sheet
+abbrev pub sheet_with : Paging → Stories → List ℕ → List Ends → Index → Sheet
 sheet_with p s bad ends index =
     record {
       account = run_account p.run p.told s ends index;
@@ -113,17 +117,22 @@ chart_run p s =
       pasts = p.pasts;
     }
 
-abbrev pub page_over : Paging → Stories → Option BadLine → List Ends → Index → List ℕ
+abbrev pub page_over : Paging → Stories → List ℕ → List Ends → Index → List ℕ
 page_over p s bad ends index = page (sheet_with p s bad ends index) (chart_run p s)
 
-abbrev pub page_with : Paging → Stories → Option BadLine → List ℕ
+abbrev pub page_with : Paging → Stories → List ℕ → List ℕ
 page_with p s bad =
     page_over p s bad (ends_of (length s.stories) s.lots)
     (index_of (length s.stories) (length p.run.euis) p.run.events p.run.flights s.lots s.sent s.owners)
 
+-- what is said of the bad line at which a run ends, no words where there is none
+abbrev pub bad_words : Option BadLine → List ℕ
+bad_words None = []
+bad_words (Some bad) = bad_text bad
+
 -- the page of a run, with the bad line at which it ends, if there is one
 unfoldable pub page_text : Paging → Option BadLine → List ℕ
-page_text p bad = page_with p (stories_of p.run.events p.run.flights) bad
+page_text p bad = page_with p (stories_of p.run.events p.run.flights) (bad_words bad)
 
 -- # Lines
 
@@ -172,11 +181,3 @@ is_forged p = nat_lt 0 p.run.world.forged
 -- what a script does, where its input has ended or not
 abbrev pub paged : List ℕ → Bool → Outcome Paging
 paged octets ended = outcome_of turn_of end_of nothing_paged octets ended
-
--- # What is a page
-
--- the type of the document, and after it markup that closes all that it opens, and nothing else
-pub record IsPage (octets : List ℕ) : Type 0 where
-  pub markup : List ℕ
-  pub whole : octets ≡ doctype ++ markup
-  pub nests : IsContent markup

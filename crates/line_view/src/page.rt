@@ -1,30 +1,29 @@
 //! `page`: a run as one page of HTML, to look at.
-ghost use Rattle.std.specs.Prelude.{◌≡◌, ◌++◌, IfOk, OnOk, ℕ};
+ghost use Rattle.std.specs.Prelude.{◌≡◌, ◌++◌, IfOk, OnOk, ℕ, string_bytes};
 ghost use Rattle.line_events.specs.Events.{IsEvent};
 ghost use Rattle.script_lines.specs.Clauses.{StopsWith, Turned};
 ghost use Rattle.script_lines.specs.Lines.{Content, Text};
 ghost use Rattle.script_runs.specs.Takings.{Skipped, event_taking};
 ghost use Rattle.line_view.specs.Paging as paging;
 
-use crate::bad_line::{BadLine, bad_line};
+use crate::bad_line::{BadLine, bad_line, push_bad};
 use crate::octet_output::write_octets;
-use crate::page_text::Sheet;
 use crate::recorder::Recorder;
-use crate::remarks::Remarks;
 use crate::teller::{MOST_NODES, Teller, nothing_shown};
 use line_events::Event;
 use line_script::{LINE_OCTETS, Reading, Reason, read_line};
 use line_stories::{Telling, stories_of};
-use line_tale::{Act, Ends, actor_of, ends_of, makes_node, person_of};
+use line_tale::{Act, Ends, TaleEvent, actor_of, ends_of, makes_node, person_of};
 use line_world::Buffers;
 use node_pasts::Pasts;
 use node_rules::Shown;
 use plc_base::Sink;
 use run_charts::ChartRun;
+use run_pages::{Remarks, Sheet};
 use script_lines::{LineKind, LineMachine, StopReason};
 use std::alloc::{AllocError, Global};
 use std::marker::Model;
-use story_accounts::{Account, Index};
+use story_accounts::{Account, Index, is_for_another};
 
 /// A run with its sentences, what the script says, and what the nodes were.
 #[derive(Drop)]
@@ -61,17 +60,29 @@ fn is_tick(act: &Act) -> bool
     }
 }
 
+// What is said of the bad line at which a run ends, no words where there is none.
+fn bad_words(alloc: Global, bad: Option<BadLine>) -> Result<String, AllocError>
+    ensures { IfOk result (λ text. string_bytes text ≡ paging.bad_words bad) }
+{
+    let mut text = String::new(alloc);
+    let Some(bad) = bad else {
+        return Ok(text);
+    };
+    push_bad(&mut text, alloc, bad)?;
+    Ok(text)
+}
+
 impl Pager {
     // Appends the page, with the ends of all stories and what is looked up of the run.
     fn push_page_over(
         &self,
         out: &mut Vec<u8>,
         telling: &Telling,
-        bad: Option<BadLine>,
+        bad: &str,
         ends: &[Ends],
         index: &Index,
     ) -> Result<(), AllocError>
-        ensures { OnOk result (out.new.items ≡ out.old.items ++ paging.page_over self.now telling.now bad ends.now index.now) }
+        ensures { OnOk result (out.new.items ≡ out.old.items ++ paging.page_over self.now telling.now bad.now ends.now index.now) }
     {
         let account = Account {
             alloc: self.alloc,
@@ -84,9 +95,12 @@ impl Pager {
             euis: self.run.euis.as_slice(),
             sentences: self.teller.sentences.as_slice(),
         };
+        let counts = self.run.world.counts();
         let sheet = Sheet {
             account: &account,
-            counts: self.run.world.counts(),
+            events: counts.events,
+            flights: counts.flights,
+            forged: counts.forged,
             title: self.remarks.title(),
             bad,
         };
@@ -98,9 +112,9 @@ impl Pager {
         &self,
         out: &mut Vec<u8>,
         telling: &Telling,
-        bad: Option<BadLine>,
+        bad: &str,
     ) -> Result<(), AllocError>
-        ensures { OnOk result (out.new.items ≡ out.old.items ++ paging.page_with self.now telling.now bad) }
+        ensures { OnOk result (out.new.items ≡ out.old.items ++ paging.page_with self.now telling.now bad.now) }
     {
         let count = telling.stories.len();
         let lots = telling.lots.as_slice();
@@ -136,8 +150,9 @@ impl Pager {
         ensures { IfOk result (λ text. text.items ≡ paging.page_text self.now bad) }
     {
         let telling = stories_of(self.alloc, &self.run.tale)?;
+        let said = bad_words(self.alloc, bad)?;
         let mut out = Vec::new(self.alloc);
-        self.push_page_with(&mut out, &telling, bad)?;
+        self.push_page_with(&mut out, &telling, said.as_str())?;
         Ok(out)
     }
 
@@ -169,7 +184,7 @@ impl Pager {
         Ok(())
     }
 
-    // Looks at the nodes that an event may have changed.
+    // Looks at the nodes that an event of this kind may change.
     fn look_around(&mut self, event: usize, act: &Act) -> Result<(), AllocError>
         ensures { OnOk result (self.new ≡ paging.looked_around event act.now self.old) }
     {
@@ -185,6 +200,16 @@ impl Pager {
         self.look(event, person_of(act))
     }
 
+    // Looks at the nodes that an event may have changed: at none where its frame was for another node, as most are that come.
+    fn look_after(&mut self, event: usize, told: &TaleEvent) -> Result<(), AllocError>
+        ensures { OnOk result (self.new ≡ paging.looked_after event told.now self.old) }
+    {
+        if is_for_another(told.answer) {
+            return Ok(());
+        }
+        self.look_around(event, &told.act)
+    }
+
     // What is kept of the event that the run took last.
     #[tactic(auto, unfolding(crate::specs::Paging::kept))]
     fn keep(&mut self) -> Result<(), AllocError>
@@ -194,7 +219,7 @@ impl Pager {
         self.remarks.end(self.alloc)?;
         match self.run.tale.event(event).copied() {
             None => Ok(()),
-            Some(told) => self.look_around(event, &told.act),
+            Some(told) => self.look_after(event, &told),
         }
     }
 

@@ -181,7 +181,7 @@ fn push_drawing_rules(out: &mut Vec<u8>) -> Result<(), AllocError>
     )
 }
 
-// What is drawn in a map.
+// What is drawn in a map, and the table of its nodes.
 #[tactic(auto, unfolding(crate::specs::Style::map_text))]
 fn push_map_rules(out: &mut Vec<u8>) -> Result<(), AllocError>
     ensures { OnOk result (out.new.items ≡ out.old.items ++ spec_style.map_text) }
@@ -197,6 +197,9 @@ fn push_map_rules(out: &mut Vec<u8>) -> Result<(), AllocError>
             ),
             rule(
                 ".N{stroke:var(--grey);fill:var(--card)}.N.k0{fill:var(--life)}.N.k1{fill:var(--life1)}.N.halt{stroke:var(--ink);stroke-width:4}",
+            ),
+            rule(
+                "table{border-collapse:collapse;font-variant-numeric:tabular-nums}th,td{text-align:left;padding:1px 18px 1px 0}tr.b{color:var(--bad)}",
             ),
         ],
     )

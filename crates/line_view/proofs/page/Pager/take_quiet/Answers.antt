@@ -1,6 +1,6 @@
 use Rattle.std.proofs.Common.{◌≡◌, ap}
 use Rattle.line_view.specs.Paging.{Paging, with_remark}
-use Rattle.line_view.specs.Remarking.{Remarked}
+use Rattle.run_pages.specs.Remarking.{Remarked}
 use Rattle.line_view.proofs.Machines.{silent}
 use Rattle.line_view.proofs.Turns.{unwritten}
 use Rattle.line_view.proofs.page.Pager.take_quiet.Goals as goal

@@ -1,8 +1,0 @@
-use Rattle.std.proofs.Common.{◌≡◌, drop}
-use Rattle.line_view.specs.Pages.{missed_from}
-use Rattle.line_view.proofs.page_text.missed_among.Given as goal
-
--- those so far, and those to come
-abbrev pub invariant-loop-lot : goal.invariant-loop-lot
-invariant-loop-lot l =
-    missed_from (drop l.lot-index l.lots) l.all ≡ missed_from l.lots 0

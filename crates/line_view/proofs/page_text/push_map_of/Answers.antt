@@ -1,6 +1,0 @@
-use Rattle.line_view.specs.Pages.{map_of}
-use Rattle.line_view.proofs.page_text.push_map_of.Goals as goal
-
-pub returns : goal.returns
-unfolding map_of
-returns c = rw (← c.run.view_is) c.push_map.ensures

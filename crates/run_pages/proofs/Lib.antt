@@ -1,0 +1,2 @@
+pub mod PageNests
+pub mod PageText

@@ -1,0 +1,10 @@
+use Rattle.std.proofs.Common.{◌≡◌, ◌++◌, drop}
+use Rattle.markup_parts.specs.Markups.{markup_text}
+use Rattle.run_pages.specs.Pages.{others_from}
+use Rattle.run_pages.proofs.page_text.Sheet.push_others_of.Given as goal
+
+-- what was written, and the stories to come
+abbrev pub invariant-loop-i : goal.invariant-loop-i
+invariant-loop-i l =
+    l.out.items ++ markup_text (others_from l.self l.run l.kind l.left l.i (drop l.i l.stories))
+    ≡ l.fn.out.items ++ markup_text (others_from l.self l.run l.kind 100 0 l.stories)

@@ -1,0 +1,6 @@
+pub mod Remarking
+pub mod Counting
+pub mod NodeCounts
+pub mod NodeTables
+pub mod Pages
+pub mod Laws
