@@ -7,6 +7,7 @@ from lexer import Stop, closing, rust_tokens, solid, step
 
 HERE = os.path.dirname(os.path.abspath(__file__))
 PATCHES = json.load(open(os.path.join(HERE, "patches.json"), encoding="utf-8"))
+FRAMES = json.load(open(os.path.join(HERE, "frames.json"), encoding="utf-8"))
 REASONS = {
     "test entry": "Rust passes a test no handle of the runtime: std::test::check makes one",
     "program entry": "Rust passes main no handle of the runtime: it is made there",
@@ -14,6 +15,7 @@ REASONS = {
     "root lines": "no_std, the name std for the shim over core and alloc, and no warning of what only a contract used",
     "prelude line": "names that Rattle has everywhere: Vec, String, HostRuntime, AllocGlobal",
     "patch": "a text of patches.json, with its reason there",
+    "frame of its own": "a hint: on bare metal its buffers are not on the stack of the calls beside it (frames.json)",
     "check at the border": "a clause of a public call, which nobody proves of a caller in Rust (border.json)",
 }
 PRELUDE = {"Vec", "String", "Box", "HostRuntime", "AllocGlobal"}
@@ -76,6 +78,27 @@ def patches(ts, name, tally):
         tally["patch"] += 1
 
 
+def frames(ts, name, tally):
+    """The functions that are not made a part of their caller on bare metal, where the stack is small: all that one call may need would lie in one frame, also
+    what only one of its ways needs. It is a hint of Rust, which changes no result."""
+    for function in FRAMES.get(name, ()):
+        found = [i for i, t in enumerate(ts) if t.kind == "ident" and t.text == "fn" and not t.gone and ts[step(ts, i)].text == function]
+        if len(found) != 1:
+            raise Stop(f"frames.json names a function that is not there once: {function}")
+        first = step(ts, found[0], -1)
+        while ts[first].text in ("pub", "const", "(", "crate", ")"):
+            first = step(ts, first, -1)
+        first = step(ts, first)
+        margin = ts[first - 1].text.rpartition("\n")[2] if ts[first - 1].kind == "space" else ""
+        hints = '#[cfg_attr(target_os = "none", inline(never))]\n' + margin
+        before = [i for i in range(first) if ts[i].is_solid() and not ts[i].gone][-7:]
+        if "".join(ts[i].text for i in before) == "#[inline(always)]":
+            drop(ts, before[0], before[-1] + 1)
+            hints += '#[cfg_attr(not(target_os = "none"), inline(always))]\n' + margin
+        insert(ts, first, hints)
+        tally["frame of its own"] += 1
+
+
 def replace(ts, old, new):
     """Replaces a sequence of tokens."""
     wanted = [t.text for t in rust_tokens(old) if t.is_solid()]
@@ -123,4 +146,5 @@ def all_of_them(ts, name, is_root, tally):
     entries(ts, tally)
     slices(ts, tally)
     patches(ts, name, tally)
+    frames(ts, name, tally)
     head(ts, is_root, tally)

@@ -7,12 +7,14 @@ import re
 import sys
 import tempfile
 import unittest
+from unittest import mock
 
 HERE = os.path.dirname(os.path.abspath(__file__))
 sys.path.insert(0, HERE)
 sys.dont_write_bytecode = True
 import border  # noqa: E402
 import lexer  # noqa: E402
+import rewrites  # noqa: E402
 
 loader = importlib.machinery.SourceFileLoader("export", os.path.join(HERE, "export"))
 export = importlib.util.module_from_spec(importlib.util.spec_from_loader("export", loader))
@@ -128,6 +130,17 @@ class Rewrites(unittest.TestCase):
 
     def test_to_vec_is_the_one_with_an_allocator(self):
         self.assertEqual(code("fn f() { a.to_vec(alloc); a.to_vec(); }"), words("fn f() { a.to_vec_in(alloc); a.to_vec(); }"))
+
+    def test_a_function_of_frames_json_has_a_frame_of_its_own_on_bare_metal(self):
+        with mock.patch.dict(rewrites.FRAMES, {"some/src/some.rt": ["f", "g"]}):
+            text = code("impl A {\n    /// It.\n    pub(crate) fn f() {}\n}\n\n#[inline(always)]\nfn g() {}\nfn h() {}")
+        bare = '#[cfg_attr(target_os = "none", inline(never))]'
+        wanted = f"impl A {{ {bare} pub(crate) fn f() {{}} }} {bare} #[cfg_attr(not(target_os = \"none\"), inline(always))] fn g() {{}} fn h() {{}}"
+        self.assertEqual(text, words(wanted))
+
+    def test_a_function_of_frames_json_that_is_not_there_stops(self):
+        with mock.patch.dict(rewrites.FRAMES, {"some/src/some.rt": ["f"]}), self.assertRaises(lexer.Stop):
+            plain("fn g() {}")
 
     def test_what_is_written_is_counted(self):
         _, tally = plain("fn f() { a.to_vec(alloc); }")

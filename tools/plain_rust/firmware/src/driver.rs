@@ -1,5 +1,6 @@
 //! The loop of a meter, in calls that a task makes.
 use crate::Flash;
+use core::mem::MaybeUninit;
 use meter_node::Meter;
 use node_rules::{Heard, MeterHeard};
 use plc_station::OpenFault;
@@ -32,12 +33,43 @@ pub struct Driver {
     datagram: DatagramBuf,
 }
 
+/// Opens the meter into a place for one. A move out of the answer would make a second copy of it on the stack.
+#[inline(never)]
+fn open_meter(place: *mut Meter<Flash>, flash: Flash, eui: Eui, psk: Key) -> Result<(), OpenFault> {
+    let opened = Meter::open(Global, flash, eui, psk);
+    match &opened {
+        Ok(meter) => unsafe { place.copy_from_nonoverlapping(meter, 1) },
+        Err((fault, _)) => return Err(*fault),
+    }
+    // It lives on in its place.
+    core::mem::forget(opened);
+    Ok(())
+}
+
 impl Driver {
     /// Opens the meter, once after power comes: it reads the flash.
     pub fn open(flash: Flash, eui: Eui, psk: Key) -> Result<Driver, OpenFault> {
-        let out = Out::new(Global).map_err(|_| OpenFault::Memory)?;
-        let meter = Meter::open(Global, flash, eui, psk).map_err(|(fault, _)| fault)?;
-        Ok(Driver { meter, out, payload: FrameBuf::new(), datagram: DatagramBuf::new() })
+        let mut place = MaybeUninit::uninit();
+        Driver::open_at(&mut place, flash, eui, psk)?;
+        // It was opened there.
+        Ok(unsafe { place.assume_init() })
+    }
+
+    /// The same where the driver stays. Only the meter is on the stack on its way there, and once: so open it before you start tasks.
+    pub fn open_at(place: &mut MaybeUninit<Driver>, flash: Flash, eui: Eui, psk: Key) -> Result<&mut Driver, OpenFault> {
+        let at = place.as_mut_ptr();
+        // Each field is written once, and none is read before.
+        unsafe {
+            open_meter(&raw mut (*at).meter, flash, eui, psk)?;
+            let Ok(out) = Out::new(Global) else {
+                (&raw mut (*at).meter).drop_in_place();
+                return Err(OpenFault::Memory);
+            };
+            (&raw mut (*at).out).write(out);
+            (&raw mut (*at).payload).write(FrameBuf::new());
+            (&raw mut (*at).datagram).write(DatagramBuf::new());
+            Ok(place.assume_init_mut())
+        }
     }
 
     /// Takes the grant that a workshop gives, in place of joining over the air.

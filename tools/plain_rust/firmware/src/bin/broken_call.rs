@@ -10,10 +10,10 @@ use firmware::Flash;
 use plc_base::{Eui, Key, KeyIndex};
 use rattle_std::alloc::Global;
 
-// A coordinator takes about 76 KB, most of it for its book.
+// A coordinator takes about 80 KB, most of it for its book.
 #[cfg(target_os = "none")]
 #[global_allocator]
-static HEAP: bare::Heap<10072> = bare::Heap::new();
+static HEAP: bare::Heap<10232> = bare::Heap::new();
 
 fn run() {
     if let Ok(mut coordinator) = Coordinator::open(Global, Flash::new(), Eui([1; 8]), &Key([2; 16])) {

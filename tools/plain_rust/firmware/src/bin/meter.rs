@@ -15,10 +15,10 @@ mod on_a_board {
     use firmware::{Driver, Flash, Modem, Trouble};
     use plc_base::{Eui, Key, LinkCost, Rand, Short};
 
-    /// What a meter takes at its opening, and no more: a pool of 160 blocks and its table, 64 ranks with their routes, 64 marks, the places of its pieces; and
-    /// the 24 frames of its `Out`.
+    /// What a meter takes at its opening, and no more: a pool of 160 blocks and its table, 64 ranks with their routes, 64 marks, the places of its pieces, the
+    /// buffer of a body that leaves; and the 24 frames of its `Out`.
     #[global_allocator]
-    static HEAP: Heap<3552> = Heap::new();
+    static HEAP: Heap<3712> = Heap::new();
 
     /// What happened.
     #[repr(C)]
@@ -81,11 +81,12 @@ mod on_a_board {
     fn open() -> &'static mut Driver {
         let (mut eui, mut psk) = ([0; 8], [0; 16]);
         unsafe { board_identity(&mut eui, &mut psk) }
-        let Ok(opened) = Driver::open(Flash::new(), Eui(eui), Key(psk)) else {
+        // This is the only borrow of it, since `program` runs once.
+        let place = unsafe { &mut *(&raw mut DRIVER) };
+        let Ok(driver) = Driver::open_at(place, Flash::new(), Eui(eui), Key(psk)) else {
             core::panic!("the meter does not open");
         };
-        // This is the only borrow of it, since `program` runs once.
-        unsafe { (&mut *(&raw mut DRIVER)).write(opened) }
+        driver
     }
 
     #[unsafe(no_mangle)]

@@ -13,10 +13,10 @@ use firmware::{Driver, Flash, Modem};
 use plc_base::{Eui, FrameBuf, Key, LinkCost, Short};
 use rattle_std::alloc::Global;
 
-// Three nodes take 18 KB each, the coordinator 61 KB more for its book, and two drivers 10 KB each for the frames of an `Out`.
+// Three nodes take 19 KB each, the coordinator 61 KB more for its book, and two drivers 10 KB each for the frames of an `Out`.
 #[cfg(target_os = "none")]
 #[global_allocator]
-static HEAP: bare::Heap<17176> = bare::Heap::new();
+static HEAP: bare::Heap<17656> = bare::Heap::new();
 
 #[cfg(not(target_os = "none"))]
 fn print(text: &str) {

@@ -8,6 +8,7 @@ extern crate std as host;
 pub use core::*;
 
 pub mod alloc;
+pub mod boxed;
 pub mod collections;
 #[cfg(feature = "std")]
 mod hosted;
@@ -19,6 +20,7 @@ pub mod vec;
 
 /// The names that Rattle has everywhere and `core` has not.
 pub mod dialect {
+    pub use crate::boxed::Box;
     pub use crate::process::{AllocGlobal, HostRuntime};
     pub use crate::string::String;
     pub use crate::vec::{SliceExt, Vec};
