@@ -6,7 +6,7 @@
  * of power. Where store fails, nothing is sent, the call answers METER_STORE_FAILED, and the meter takes no call more. The same where the program
  * ends (METER_GONE), and after METER_HALTED: end the meter, and open another one over what was stored.
  *
- * One meter is used by one task at a time. A call waits for its answer, and no function here may be called from store, send and up.
+ * One meter is used by one task at a time. A call waits for its answer, and no function here may be called from store, send, joined or up.
  */
 #ifndef METER_H
 #define METER_H
