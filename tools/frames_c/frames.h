@@ -1,4 +1,4 @@
-/* MAC frames of IEEE 802.15.4-2006 as G3-PLC uses them, sealed with CCM*: the calls of libframes_c.a, which the crate frames_c makes.
+/* MAC frames of IEEE 802.15.4-2006 in three forms (docs/FORMATS.md), sealed with CCM*: the calls of libframes_c.a, which the crate frames_c makes.
  *
  * Each call stands alone: it keeps nothing, takes no memory and may be called from any thread. It returns FRAMES_OK, or why it
  * did nothing. A refused call changes none of its buffers; a call writes no octet of a buffer beyond the length that it gives.
