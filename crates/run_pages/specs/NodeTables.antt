@@ -1,8 +1,9 @@
 -- The table of the nodes of a run: what each is at the end, and what is counted of it.
-use Rattle.std.specs.Prelude.{ℕ, ◌+◌, ◌-◌, ◌||◌, nat_lt, Bool, true, false, List, [], ◌∷◌, codes, is_some, length, position, replicate, slice_get}
+use Rattle.std.specs.Prelude.{ℕ, ◌+◌, ◌-◌, ◌||◌, nat_lt, Bool, true, false, List, [], ◌∷◌, codes, is_some, length, min, position, replicate, slice_get}
 use Rattle.std.specs.Prelude.{Option, None, Some, if◌then◌else◌}
 use Rattle.std.specs.Fmt.{decimal}
 use Rattle.hex.specs.Hex.{encode_lower}
+use Rattle.frame_words.specs.Words.{short_word}
 use Rattle.plc_base.specs.declared.address.Eui.{Eui}
 use Rattle.markup.specs.declared.names.Element.TheVariants as E
 use Rattle.markup.specs.declared.names.Attribute.TheVariants as A
@@ -87,9 +88,13 @@ number_cell number = Inside E.Cell [] (Words (decimal number))
 unfoldable pub head_cell : List ℕ → Markup
 head_cell words = Inside E.HeadCell [] (Words words)
 
+-- a short address in hexadecimal, as reports have it; the greatest of two octets for one that would have more
+abbrev pub short_cell : ℕ → Markup
+short_cell address = text_cell (short_word (min address 65535))
+
 abbrev pub address_cell : Option ℕ → Markup
 address_cell None = text_cell []
-address_cell (Some address) = number_cell address
+address_cell (Some address) = short_cell address
 
 abbrev pub eui_cell : Eui → Markup
 eui_cell eui = text_cell (encode_lower eui.0)

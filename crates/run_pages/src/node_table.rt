@@ -5,6 +5,7 @@ ghost use Rattle.run_pages.specs.NodeTables as tables;
 
 use crate::counting::{is_kind, is_yes};
 use crate::node_counts::{NodeCount, add_addresses, add_datagram, add_events, no_count};
+use frame_words::push_short;
 use line_tale::{Story, StoryKind, is_good};
 use markup::{Attribute, Element};
 use markup_parts::{count, end, given, open, push_pieces, start, text};
@@ -166,12 +167,25 @@ fn push_head_cell(out: &mut Vec<u8>, words: &str) -> Result<(), AllocError>
     )
 }
 
-fn push_address_cell(out: &mut Vec<u8>, address: Option<usize>) -> Result<(), AllocError>
+// A short address, as reports have it.
+fn push_short_cell(out: &mut Vec<u8>, alloc: Global, address: usize) -> Result<(), AllocError>
+    ensures { OnOk result (out.new.items ≡ out.old.items ++ markup_text (tables.short_cell address)) }
+{
+    let mut digits = String::new(alloc);
+    push_short(&mut digits, alloc, address.min(0xffff) as u16)?;
+    push_text_cell(out, digits.as_str())
+}
+
+fn push_address_cell(
+    out: &mut Vec<u8>,
+    alloc: Global,
+    address: Option<usize>,
+) -> Result<(), AllocError>
     ensures { OnOk result (out.new.items ≡ out.old.items ++ markup_text (tables.address_cell address)) }
 {
     match address {
         None => push_text_cell(out, ""),
-        Some(number) => push_number_cell(out, number),
+        Some(address) => push_short_cell(out, alloc, address),
     }
 }
 
@@ -195,7 +209,7 @@ fn push_who_cells(
     ensures { OnOk result (out.new.items ≡ out.old.items ++ markup_text (tables.who_cells node eui.now changes.now address)) }
 {
     push_number_cell(out, node)?;
-    push_address_cell(out, address)?;
+    push_address_cell(out, alloc, address)?;
     push_eui_cell(out, alloc, eui)?;
     push_text_cell(out, end_words(changes))
 }
