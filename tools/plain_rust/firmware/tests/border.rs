@@ -196,6 +196,6 @@ fn what_a_clause_just_allows_does_not_stop() {
         let _ = joined().station().activate(index);
         let _ = coordinator().rekey(index, &key());
         let _ = coordinator().activate_self(index);
-        let _ = coordinator().activate(Eui([2; 8]), index, 0, &mut out());
+        let _ = coordinator().activate(Eui([2; 8]), index, 0, &mut out);
     }
 }
