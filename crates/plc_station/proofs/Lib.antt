@@ -20,3 +20,4 @@ pub mod Beside
 pub mod Locals
 pub mod Replying
 pub mod Holding
+pub mod Rising

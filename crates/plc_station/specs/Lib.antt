@@ -10,3 +10,4 @@ pub mod Sizes
 pub mod Offers
 pub mod NextSteps
 pub mod OwnLoads
+pub mod Rising

@@ -1,8 +1,9 @@
 //! What is shown of a station.
-ghost use Rattle.std.specs.Prelude.{◌≡◌, ◌+◌, ◌<◌, map, None, Some, IfSome, IsSome, length};
+ghost use Rattle.std.specs.Prelude.{◌≡◌, ◌+◌, ◌<◌, ◌≤◌, map, None, Some, IfSome, IsSome, length};
 ghost use Rattle.std.specs.Option.{option_map};
 ghost use Rattle.plc_base.specs.Orders.{ordered_by};
 ghost use Rattle.store_tables.specs.SlotTables.{entry_of};
+ghost use Rattle.plc_station.specs.Rising.{is_above, is_rising_after};
 ghost use Rattle.plc_station.specs.Sizes.{HasSizes};
 ghost use Rattle.frame_counters.specs.PeerMarks.{peers};
 ghost use Rattle.routing_set.specs.RoutingSet.{ranks, next_of};
@@ -11,11 +12,67 @@ ghost use Rattle.node_rules.specs.Showing.{shown_station, nothing_shown, shown_r
 ghost use Rattle.plc_base.specs.declared.limits.TheConstants.{GREATEST_COUNTER};
 
 use crate::station::Station;
-use frame_counters::PeerMarks;
+use frame_counters::{Peer, PeerMarks};
 use group_keys::KeyRing;
 use node_rules::{Shown, ShownPeer, ShownPeers, ShownRoute, ShownRoutes};
 use plc_base::{Eui, Keeper, KeyIndex, Short};
-use routing_set::RoutingSet;
+use routing_set::{Route, RoutingEntry, RoutingSet};
+use store_tables::SlotEntry;
+
+fn is_above(last: Option<u64>, key: u64) -> bool
+    ensures { result ≡ is_above last key }
+{
+    match last {
+        None => true,
+        Some(last) => last < key,
+    }
+}
+
+// Whether each entry has a greater key than the one before it. Then its order is that of the slots, as in most tables.
+fn is_rising<E: SlotEntry>(entries: &[E]) -> bool
+    ensures { result ≡ is_rising_after E.layout.key None entries.now }
+{
+    let mut last = None;
+    for entry in entries {
+        let key = entry.key();
+        if !is_above(last, key) {
+            return false;
+        }
+        last = Some(key);
+    }
+    true
+}
+
+fn hop_of(route: Option<Route>) -> Option<u16>
+    ensures { result ≡ option_map (λ t. t.next) route }
+{
+    match route {
+        None => None,
+        Some(route) => Some(route.next.number()),
+    }
+}
+
+fn entry_shown(entry: &RoutingEntry) -> ShownRoute
+    ensures { result ≡ shown_route entry.now }
+{
+    ShownRoute {
+        dest: entry.address,
+        number: entry.rank.number,
+        cost: entry.rank.cost,
+        next: hop_of(entry.route),
+    }
+}
+
+// Shows the kept ranks, in the order of their slots.
+fn show_entries(entries: &[RoutingEntry], out: &mut ShownRoutes)
+    requires { length entries.now ≤ 64 }
+    ensures { out.new ≡ map shown_route entries.now }
+{
+    out.clear();
+    for entry in entries {
+        out.push(entry_shown(entry));
+    }
+}
 
 // The next hop of the valid route to an address, as a number.
 fn next_number(routing: &RoutingSet, dest: Short) -> Option<u16>
@@ -41,8 +98,8 @@ fn route_shown(routing: &RoutingSet, dest: Short) -> ShownRoute
     }
 }
 
-// Shows the kept ranks, in the order of their addresses.
-fn show_routes(routing: &RoutingSet, out: &mut ShownRoutes)
+// Shows the kept ranks, in the order of their addresses: each is looked up.
+fn show_sorted_routes(routing: &RoutingSet, out: &mut ShownRoutes)
     ensures { out.new ≡ map shown_route (ordered_by (λ e. e.address) routing.now.entries) }
 {
     out.clear();
@@ -51,6 +108,32 @@ fn show_routes(routing: &RoutingSet, out: &mut ShownRoutes)
     let kept = routing.kept();
     for dest in kept.as_slice() {
         out.push(route_shown(routing, *dest));
+    }
+}
+
+// Shows the kept ranks, in the order of their addresses.
+#[tactic(auto, using(crate::proofs::Rising::rising))]
+fn show_routes(routing: &RoutingSet, out: &mut ShownRoutes)
+    ensures { out.new ≡ map shown_route (ordered_by (λ e. e.address) routing.now.entries) }
+{
+    let entries = routing.entries();
+    if is_rising(entries) {
+        return show_entries(entries, out);
+    }
+    show_sorted_routes(routing, out);
+}
+
+// Shows the marks, in the order of their slots.
+fn show_marks(marks: &[Peer], out: &mut ShownPeers)
+    requires { length marks.now ≤ 64 }
+    ensures { out.new ≡ map shown_peer marks.now }
+{
+    out.clear();
+    for peer in marks {
+        out.push(ShownPeer {
+            from: peer.address,
+            mark: peer.mark,
+        });
     }
 }
 
@@ -65,8 +148,8 @@ fn peer_shown(marks: &PeerMarks, from: Short) -> ShownPeer
     ShownPeer { from, mark }
 }
 
-// Shows the marks, in the order of their senders.
-fn show_peers(marks: &PeerMarks, out: &mut ShownPeers)
+// Shows the marks, in the order of their senders: each is looked up.
+fn show_sorted_peers(marks: &PeerMarks, out: &mut ShownPeers)
     ensures { out.new ≡ map shown_peer (ordered_by (λ p. p.address) marks.now) }
 {
     out.clear();
@@ -76,6 +159,18 @@ fn show_peers(marks: &PeerMarks, out: &mut ShownPeers)
     for from in senders.as_slice() {
         out.push(peer_shown(marks, *from));
     }
+}
+
+// Shows the marks, in the order of their senders.
+#[tactic(auto, using(crate::proofs::Rising::rising))]
+fn show_peers(marks: &PeerMarks, out: &mut ShownPeers)
+    ensures { out.new ≡ map shown_peer (ordered_by (λ p. p.address) marks.now) }
+{
+    let entries = marks.entries();
+    if is_rising(entries) {
+        return show_marks(entries, out);
+    }
+    show_sorted_peers(marks, out);
 }
 
 impl<K: Keeper + Drop> Station<K> {

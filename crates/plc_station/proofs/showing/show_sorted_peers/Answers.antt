@@ -6,7 +6,7 @@ use Rattle.frame_counters.specs.PeerMarks.{Peer}
 use Rattle.frame_counters.specs.PeerMarks.{peers}
 use Rattle.node_rules.specs.Showing.{ordered_by, shown_peer}
 use Rattle.plc_station.proofs.Shows.{is_there, shown_suc, as_many}
-use Rattle.plc_station.proofs.showing.show_peers.Goals as goal
+use Rattle.plc_station.proofs.showing.show_sorted_peers.Goals as goal
 
 pub peer_shown-requires : goal.peer_shown-requires
 peer_shown-requires c = record {

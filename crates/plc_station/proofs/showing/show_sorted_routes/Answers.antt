@@ -6,7 +6,7 @@ use Rattle.routing_set.specs.declared.entry.RoutingEntry.{RoutingEntry}
 use Rattle.routing_set.specs.RoutingSet.{ranks}
 use Rattle.node_rules.specs.Showing.{ordered_by, shown_route}
 use Rattle.plc_station.proofs.Shows.{is_there, shown_suc, as_many}
-use Rattle.plc_station.proofs.showing.show_routes.Goals as goal
+use Rattle.plc_station.proofs.showing.show_sorted_routes.Goals as goal
 
 pub route_shown-requires : goal.route_shown-requires
 route_shown-requires c = record {
