@@ -1,4 +1,4 @@
-//! The text of the command `vectors`, and the test vectors of the standards.
+//! The text of the command `vectors`: what the ciphers make of known inputs, most of them those of the standards.
 //!
 //! The text has a line for each known input: a name, a space, the value that the ciphers compute in lower-case hexadecimal,
 //! and a line feed. Whoever reads it can compare it with the standards.
@@ -135,6 +135,3 @@ fn ccm1() -> Octets<31>
     sealed.append(&tag);
     sealed
 }
-
-#[cfg(test)]
-mod tests;

@@ -1,9 +1,9 @@
 //! Vectors from the standards themselves.
 
-use super::*;
 use aes_modes::laws::{ccm_seal_and_open, eax_seal_and_open};
-use aes_modes::{BadTag, ccm_open, eax_open};
+use aes_modes::{Aes, BadTag, ccm_open, ccm_seal, cmac, eax_open, eax_seal};
 use hex::FromHex;
+use plc_base::Key;
 use std::process::Abort;
 use std::test::Fail;
 
