@@ -24,7 +24,5 @@
 
 mod draws;
 pub mod laws;
-#[cfg(test)]
-mod tests;
 
 pub use draws::{Draws, Purpose};

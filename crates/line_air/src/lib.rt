@@ -37,8 +37,6 @@ mod node;
 mod nodes;
 mod settings;
 mod spans;
-#[cfg(test)]
-mod tests;
 mod times;
 
 pub use air::{Air, Attempt, Ended, Hearing};

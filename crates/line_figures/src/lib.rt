@@ -11,8 +11,6 @@ mod joinings;
 mod readings;
 mod spread;
 mod summary;
-#[cfg(test)]
-mod tests;
 mod words;
 
 pub use changes::{ChangeFigures, Changes};

@@ -31,8 +31,6 @@ mod place;
 mod plane;
 mod scattering;
 mod street;
-#[cfg(test)]
-mod tests;
 mod tower;
 
 pub use layout::Layout;

@@ -1,6 +1,6 @@
 //! A summary.
 
-use super::*;
+use line_figures::{Ending, Figures, Line};
 use std::test::Fail;
 
 #[test]

@@ -1,7 +1,9 @@
 //! The kinds of places: who hears whom, worked out by hand from their descriptions.
 
-use super::*;
 use air_draws::{Draws, Purpose};
+use line_place::{
+    Costs, Field, Grid, Layout, Link, Losses, MeasuredLink, Place, Scattering, Street, Tower,
+};
 use std::test::Fail;
 
 #[test]

@@ -1,7 +1,7 @@
 //! Vectors: the first words are those of PCG's own code in C (a PCG32 with the same state and stream), the others follow from
 //! them by the formulas of `specs/Draws.antt`, computed by other code than this.
 
-use super::*;
+use air_draws::{Draws, Purpose};
 
 #[test]
 fn has_the_words_of_pcg32(rt: HostRuntime) {

@@ -2,7 +2,9 @@
 
 ghost use Rattle.std.specs.Prelude.{◌<◌};
 
-use super::*;
+use line_air::{
+    Air, Calendar, CutLink, Due, End, Ended, Frame, Moment, Noise, Rate, Settings, Target, airtime,
+};
 use line_place::{Costs, Layout, Losses, Place, Street};
 use std::alloc::{AllocError, Global};
 use std::test::Fail;
@@ -119,21 +121,64 @@ fn end_of(
     air.go_on(calendar, end.at, end.node)
 }
 
+// A street of 13 nodes that have all joined, disturbed at two nodes and between two others.
+fn street_air(alloc: Global, seed: u64, loss: u16, settings: Settings) -> Result<Air, AllocError> {
+    let mut air = Air::new(alloc, street(alloc, loss)?, settings, seed)?;
+    disturb(&mut air)?;
+    for node in 0..13 {
+        air.set_joined(node, true);
+    }
+    Ok(air)
+}
+
+// The 39 frames, one every 40 milliseconds.
+fn frames_due(alloc: Global) -> Result<Calendar, AllocError> {
+    let mut calendar = Calendar::new(alloc);
+    for k in 0..39 {
+        calendar.put(u64::from(k) * 40_000, Moment::Task(k))?;
+    }
+    Ok(calendar)
+}
+
+// What is due happens.
+fn carry_out(
+    alloc: Global,
+    air: &mut Air,
+    calendar: &mut Calendar,
+    due: Due,
+    session_way: &mut SessionWay,
+) -> Result<(), AllocError> {
+    let now = due.at;
+    match due.moment {
+        Moment::Task(k) => air.send(calendar, now, k % 13, frame_of(k % 39)),
+        Moment::Attempt { node } => {
+            air.attempt(calendar, now, node)?;
+            Ok(())
+        }
+        Moment::End {
+            node,
+            flight,
+            segments,
+        } => {
+            let end = End {
+                at: now,
+                node,
+                flight,
+                segments,
+            };
+            end_of(alloc, air, calendar, &end, session_way)
+        }
+    }
+}
+
 fn session_way_of(
     alloc: Global,
     seed: u64,
     loss: u16,
     settings: Settings,
 ) -> Result<SessionWay, AllocError> {
-    let mut air = Air::new(alloc, street(alloc, loss)?, settings, seed)?;
-    let mut calendar = Calendar::new(alloc);
-    disturb(&mut air)?;
-    for node in 0..13 {
-        air.set_joined(node, true);
-    }
-    for k in 0..39 {
-        calendar.put(u64::from(k) * 40_000, Moment::Task(k))?;
-    }
+    let mut air = street_air(alloc, seed, loss, settings)?;
+    let mut calendar = frames_due(alloc)?;
     let mut session_way = SessionWay {
         entries: 0,
         end: 0,
@@ -143,27 +188,8 @@ fn session_way_of(
         let Some(due) = calendar.take() else {
             return Ok(session_way);
         };
-        let now = due.at;
-        session_way.end = now;
-        match due.moment {
-            Moment::Task(k) => air.send(&mut calendar, now, k % 13, frame_of(k % 39))?,
-            Moment::Attempt { node } => {
-                air.attempt(&mut calendar, now, node)?;
-            }
-            Moment::End {
-                node,
-                flight,
-                segments,
-            } => {
-                let end = End {
-                    at: now,
-                    node,
-                    flight,
-                    segments,
-                };
-                end_of(alloc, &mut air, &mut calendar, &end, &mut session_way)?;
-            }
-        }
+        session_way.end = due.at;
+        carry_out(alloc, &mut air, &mut calendar, due, &mut session_way)?;
     }
     Ok(session_way)
 }
