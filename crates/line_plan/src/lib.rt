@@ -13,8 +13,6 @@
 
 mod plan;
 mod reading;
-#[cfg(test)]
-mod tests;
 mod unknown;
 
 pub use plan::{IncidentList, OwnerPlan, Plan, Title};

@@ -12,8 +12,6 @@
 mod fault;
 mod fields;
 mod keys;
-#[cfg(test)]
-mod tests;
 mod text_places;
 mod values;
 

@@ -7,8 +7,6 @@
 mod input;
 mod options;
 mod reading;
-#[cfg(test)]
-mod tests;
 
 pub use input::{InputFault, MAX_DESCRIPTION, read_text};
 pub use options::{OptionFault, are_options, with_options};

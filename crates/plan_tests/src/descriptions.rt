@@ -1,6 +1,6 @@
 //! Descriptions, with what they say or what is wrong with them.
 
-use super::*;
+use line_plan::Plan;
 use std::test::Fail;
 
 const STREET: &str = "title = \"a street of 60 meters\"
