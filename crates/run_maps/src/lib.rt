@@ -20,8 +20,6 @@ mod links;
 mod map;
 mod search;
 mod seats;
-#[cfg(test)]
-mod tests;
 mod tie;
 
 pub use links::{Heard, Link, Links, links_of};

@@ -1,4 +1,4 @@
-//! Tests of the stories and the charts of small tales, and of the faults of lines.
+//! Tests of the stories, the charts and the maps of small tales, and of the faults of lines.
 //!
 //! They stand apart from those crates, since the gate proves a crate once more where it has tests of its own.
 #![tactic(auto)]
@@ -7,5 +7,7 @@
 mod charts;
 #[cfg(test)]
 mod faults;
+#[cfg(test)]
+mod maps;
 #[cfg(test)]
 mod stories;

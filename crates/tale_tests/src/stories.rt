@@ -9,7 +9,7 @@ use std::test::Fail;
 const DEVICE: Eui = Eui([0, 0, 0, 0, 0, 0, 0, 2]);
 
 // An event that made so many flights, the first of this number.
-fn event(clock: u64, act: Act, answer: Answer, first_flight: u32, flights: u8) -> TaleEvent {
+pub fn event(clock: u64, act: Act, answer: Answer, first_flight: u32, flights: u8) -> TaleEvent {
     TaleEvent {
         line: 1,
         act,

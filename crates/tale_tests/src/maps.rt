@@ -1,48 +1,51 @@
 //! Small runs, with links, hops and places worked out by hand.
-use crate::layout::{Spot, layout_of};
-use crate::links::{Heard, Link, links_of};
-use crate::map::push_map;
-use crate::search::{Found, search_of};
+use crate::stories::event;
 use frame_words::{FrameTarget, Gist, PayloadKind};
 use line_events::Answer;
 use line_tale::{Act, Tale, TaleEvent, TaleFlight};
 use node_pasts::Pasts;
+use run_maps::{Found, Heard, Link, links_of, push_map, search_of};
 use std::alloc::{AllocError, Global};
 use std::test::Fail;
 
-fn event(act: Act) -> TaleEvent {
-    TaleEvent {
-        line: 1,
-        act,
-        answer: Answer::Set,
-        forged: false,
-        clock: 0,
-        up: None,
-        address: None,
-        took: None,
-        done: None,
-        first_flight: 1,
-        flights: 0,
-    }
-}
-
 fn deliver(flight: u32, node: u32, cost: u8) -> TaleEvent {
-    event(Act::Deliver { flight, node, cost })
+    event(0, Act::Deliver { flight, node, cost }, Answer::Set, 1, 0)
 }
 
-// A run of one flight, from the coordinator.
-fn tale_of(alloc: Global, events: &[TaleEvent]) -> Result<Tale, AllocError> {
+// A run of a flight of each of these nodes.
+fn tale_of(alloc: Global, senders: &[u32], events: &[TaleEvent]) -> Result<Tale, AllocError> {
     let mut tale = Tale::new(alloc);
     tale.events.extend_from_slice(events)?;
-    tale.flights.push(TaleFlight {
-        from: 0,
-        note: 0,
-        target: FrameTarget::All,
-        kind: PayloadKind::Datagram,
-        gist: Gist::Unread,
-        device: None,
-    })?;
+    for from in senders {
+        tale.flights.push(TaleFlight {
+            from: *from,
+            note: 0,
+            target: FrameTarget::All,
+            kind: PayloadKind::Datagram,
+            gist: Gist::Unread,
+            device: None,
+        })?;
+    }
     Ok(tale)
+}
+
+// The map of a run of so many nodes.
+fn map_of(alloc: Global, nodes: u32, tale: &Tale) -> Result<String, AllocError> {
+    let mut pasts = Pasts::new(alloc);
+    for _ in 0..nodes {
+        pasts.push_node()?;
+    }
+    let mut out = Vec::new(alloc);
+    push_map(&mut out, alloc, tale, &pasts)?;
+    String::from_utf8_lossy(alloc, out.as_slice())
+}
+
+// Whether a map has the circle of a node there.
+fn has_node(alloc: Global, map: &str, node: u32, x: u32, y: u32) -> Result<bool, AllocError> {
+    let circle = format!(in alloc;
+        "<circle class=\"N out\" data-node=\"{node}\" cx=\"{x}\" cy=\"{y}\" r=\"15\"/>"
+    )?;
+    Ok(map.contains(circle.as_str()))
 }
 
 fn heard(from: u32, to: u32, least: Option<u8>, frames: u32) -> Heard {
@@ -57,13 +60,13 @@ fn heard(from: u32, to: u32, least: Option<u8>, frames: u32) -> Heard {
 #[test]
 fn links_of_a_small_run(rt: HostRuntime) -> Result<(), Fail> {
     let events = [
-        event(Act::Near { a: 0, b: 1 }),
+        event(0, Act::Near { a: 0, b: 1 }, Answer::Set, 1, 0),
         deliver(1, 2, 5),
         deliver(1, 2, 3),
         deliver(9, 1, 2),
         deliver(1, 1, 7),
     ];
-    let tale = tale_of(rt.alloc(), &events)?;
+    let tale = tale_of(rt.alloc(), &[0], &events)?;
     let links = links_of(rt.alloc(), &tale)?;
     let list = links.list(rt.alloc())?;
     let wanted = [
@@ -107,43 +110,38 @@ fn hops_of_a_chain(rt: HostRuntime) -> Result<(), Fail> {
 // Behind meter 1 are two others: it is in the middle between them.
 #[test]
 fn places_of_a_fork(rt: HostRuntime) -> Result<(), Fail> {
-    let heards = [
-        heard(0, 1, Some(3), 1),
-        heard(1, 2, Some(3), 1),
-        heard(1, 3, Some(3), 1),
-    ];
-    let search = search_of(rt.alloc(), 4, &heards)?;
-    let layout = layout_of(rt.alloc(), 4, search)?;
+    let events = [deliver(1, 1, 3), deliver(2, 2, 3), deliver(2, 3, 3)];
+    let tale = tale_of(rt.alloc(), &[0, 1], &events)?;
+    let map = map_of(rt.alloc(), 4, &tale)?;
+    assert!(rt;
+        map.as_str()
+            .starts_with("<svg width=\"400\" height=\"172\" ")
+    );
     for (node, x, y) in [(0, 50, 77), (1, 200, 95), (2, 350, 40), (3, 350, 114)] {
-        assert!(rt; layout.spot(node) == Some(Spot { x, y }));
+        assert!(rt; has_node(rt.alloc(), map.as_str(), node, x, y)?);
     }
-    assert!(rt; layout.spot(4).is_none());
-    assert_eq!(rt; layout.width(), 400);
-    assert_eq!(rt; layout.height(), 172);
+    assert!(rt; !map.as_str().contains("data-node=\"4\""));
     Ok(())
 }
 
 // More than 24 nodes stand in a grid, here five in a row.
 #[test]
 fn places_of_a_grid(rt: HostRuntime) -> Result<(), Fail> {
-    let search = search_of(rt.alloc(), 25, &[])?;
-    let layout = layout_of(rt.alloc(), 25, search)?;
+    let tale = tale_of(rt.alloc(), &[], &[])?;
+    let map = map_of(rt.alloc(), 25, &tale)?;
+    assert!(rt;
+        map.as_str()
+            .starts_with("<svg width=\"616\" height=\"616\" ")
+    );
     for (node, x, y) in [(0, 44, 44), (6, 139, 139), (24, 508, 508)] {
-        assert!(rt; layout.spot(node) == Some(Spot { x, y }));
+        assert!(rt; has_node(rt.alloc(), map.as_str(), node, x, y)?);
     }
-    assert_eq!(rt; layout.width(), 616);
-    assert_eq!(rt; layout.height(), 616);
     Ok(())
 }
 
 #[test]
 fn map_of_two_nodes(rt: HostRuntime) -> Result<(), Fail> {
-    let tale = tale_of(rt.alloc(), &[deliver(1, 1, 3)])?;
-    let mut pasts = Pasts::new(rt.alloc());
-    pasts.push_node()?;
-    pasts.push_node()?;
-    let mut out = Vec::new(rt.alloc());
-    push_map(&mut out, rt.alloc(), &tale, &pasts)?;
+    let tale = tale_of(rt.alloc(), &[0], &[deliver(1, 1, 3)])?;
     let wanted =
         "<svg width=\"250\" height=\"98\" role=\"img\"><title>Who hears whom (nodes: 2, links: 1)</title>\
         <path class=\"W w1 one\" d=\"M50 40L200 58\"><title>the coordinator is heard by meter 1: cost 3, frames: 1</title></path>\
@@ -152,6 +150,6 @@ fn map_of_two_nodes(rt: HostRuntime) -> Result<(), Fail> {
         <text data-node=\"0\" x=\"50\" y=\"44\" text-anchor=\"middle\">0</text>\
         <circle class=\"N out\" data-node=\"1\" cx=\"200\" cy=\"58\" r=\"15\"/>\
         <text data-node=\"1\" x=\"200\" y=\"62\" text-anchor=\"middle\">1</text></svg>";
-    assert!(rt; out.as_slice() == wanted.as_bytes());
+    assert_eq!(rt; map_of(rt.alloc(), 2, &tale)?.as_str(), wanted);
     Ok(())
 }
