@@ -13,7 +13,7 @@ fn deliver(flight: u32, node: u32, cost: u8) -> TaleEvent {
 }
 
 // A run of a flight of each of these nodes.
-fn tale_of(alloc: Global, senders: &[u32], events: &[TaleEvent]) -> Result<Tale, AllocError> {
+fn tale_of(alloc: Global, senders: &[u16], events: &[TaleEvent]) -> Result<Tale, AllocError> {
     let mut tale = Tale::new(alloc);
     tale.events.extend_from_slice(events)?;
     for from in senders {
