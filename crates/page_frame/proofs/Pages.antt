@@ -7,7 +7,7 @@ use Rattle.markup.specs.Writing.{attribute_text, element_text, end_tag, tag_star
 use Rattle.markup.proofs.Contents.{contents_join, elements_are_content, raw_elements_are_content}
 use Rattle.markup_parts.specs.Markups.{Words, Leaf, Inside, with_text}
 use Rattle.markup_parts.proofs.Markups.{markups_are_content}
-use Rattle.page_frame.specs.Style.{chart_text, colour_text, drawing_text, layout_text, map_text, print_text, style_text}
+use Rattle.page_frame.specs.Style.{chart_text, colour_text, content_text, drawing_text, layout_text, map_text, print_text, reason_text, style_text}
 use Rattle.page_frame.specs.Frames.{body, body_start, charset, doctype, head, head_content, html_start, policy, style, title_text, viewport}
 use Rattle.page_frame.specs.Laws.{EndsMeet, PagesNest}
 
@@ -15,7 +15,7 @@ use Rattle.page_frame.specs.Laws.{EndsMeet, PagesNest}
 
 -- the style does not end itself
 style_is_raw : IsRaw style_text
-unfolding IsRaw reached colour_text layout_text chart_text drawing_text map_text print_text
+unfolding IsRaw reached colour_text content_text layout_text reason_text chart_text drawing_text map_text print_text
 style_is_raw os = refl
 
 style_nests : IsContent style

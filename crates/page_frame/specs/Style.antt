@@ -35,6 +35,19 @@ layout_text =
     ∷ codes "@media (max-width:700px){main{padding:12px 10px 30px}.m ol{min-width:300px}.m li{height:26px}summary .n{min-width:0;margin-right:8px}}"
     ∷ [])
 
+-- the reasons of what failed, and the story that a link leads to
+unfoldable pub reason_text : List ℕ
+reason_text =
+    rules_text
+    (codes "h3{font-size:14px;margin:4px 0}.why{list-style:none;margin:0 0 8px;padding:0}.why li{padding-left:3.8em;text-indent:-3.8em}"
+    ∷ codes ".why b{display:inline-block;min-width:3em;text-align:right;text-indent:0}.why .t{font-weight:600;margin:0 12px 0 10px}"
+    ∷ codes "a{color:var(--blue)}details:target{outline:3px solid var(--blue)}"
+    ∷ [])
+
+-- all that is not drawn
+unfoldable pub content_text : List ℕ
+content_text = layout_text ++ reason_text
+
 -- the charts, their sentences and the words of answers
 unfoldable pub chart_text : List ℕ
 chart_text =
@@ -86,4 +99,4 @@ print_text =
     ∷ [])
 
 abbrev pub style_text : List ℕ
-style_text = colour_text ++ (layout_text ++ (chart_text ++ (drawing_text ++ (map_text ++ print_text))))
+style_text = colour_text ++ (content_text ++ (chart_text ++ (drawing_text ++ (map_text ++ print_text))))

@@ -99,6 +99,34 @@ fn push_layout_rules(out: &mut Vec<u8>) -> Result<(), AllocError>
     )
 }
 
+// The reasons of what failed, and the story that a link leads to.
+#[tactic(auto, unfolding(crate::specs::Style::reason_text))]
+fn push_reason_rules(out: &mut Vec<u8>) -> Result<(), AllocError>
+    ensures { OnOk result (out.new.items ≡ out.old.items ++ spec_style.reason_text) }
+{
+    push_rules(
+        out,
+        &[
+            rule(
+                "h3{font-size:14px;margin:4px 0}.why{list-style:none;margin:0 0 8px;padding:0}.why li{padding-left:3.8em;text-indent:-3.8em}",
+            ),
+            rule(
+                ".why b{display:inline-block;min-width:3em;text-align:right;text-indent:0}.why .t{font-weight:600;margin:0 12px 0 10px}",
+            ),
+            rule("a{color:var(--blue)}details:target{outline:3px solid var(--blue)}"),
+        ],
+    )
+}
+
+// All that is not drawn.
+#[tactic(auto, unfolding(crate::specs::Style::content_text))]
+fn push_content_rules(out: &mut Vec<u8>) -> Result<(), AllocError>
+    ensures { OnOk result (out.new.items ≡ out.old.items ++ spec_style.content_text) }
+{
+    push_layout_rules(out)?;
+    push_reason_rules(out)
+}
+
 // The charts, their sentences and the words of answers.
 #[tactic(auto, unfolding(crate::specs::Style::chart_text))]
 fn push_chart_rules(out: &mut Vec<u8>) -> Result<(), AllocError>
@@ -226,7 +254,7 @@ pub fn push_style(out: &mut Vec<u8>) -> Result<(), AllocError>
     ensures { OnOk result (out.new.items ≡ out.old.items ++ spec_style.style_text) }
 {
     push_colour_rules(out)?;
-    push_layout_rules(out)?;
+    push_content_rules(out)?;
     push_chart_rules(out)?;
     push_drawing_rules(out)?;
     push_map_rules(out)?;

@@ -13,6 +13,10 @@ span class words = Inside E.Span (with_text A.Class class ∷ []) (Words words)
 unfoldable pub heading : List ℕ → Markup
 heading words = Inside E.Heading2 [] (Words words)
 
+-- the heading of a part of a section
+unfoldable pub subheading : List ℕ → Markup
+subheading words = Inside E.Heading3 [] (Words words)
+
 -- the name of the page
 unfoldable pub name : List ℕ → Markup
 name words = Inside E.Heading1 [] (Words words)

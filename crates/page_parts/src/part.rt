@@ -23,6 +23,22 @@ pub fn push_heading(out: &mut Vec<u8>, words: &str) -> Result<(), AllocError>
     )
 }
 
+/// Appends the heading of a part of a section.
+#[tactic(auto, unfolding(crate::specs::Parts::subheading))]
+pub fn push_subheading(out: &mut Vec<u8>, words: &str) -> Result<(), AllocError>
+    ensures { OnOk result (out.new.items ≡ out.old.items ++ markup_text (parts.subheading words.now)) }
+{
+    push_pieces(
+        out,
+        &[
+            start(Element::Heading3),
+            open(),
+            text(words),
+            end(Element::Heading3),
+        ],
+    )
+}
+
 /// Appends the name of the page.
 #[tactic(auto, unfolding(crate::specs::Parts::name))]
 pub fn push_name(out: &mut Vec<u8>, words: &str) -> Result<(), AllocError>

@@ -22,6 +22,7 @@ use Rattle.sentence_parts.specs.declared.part.Part.TheVariants as part
 use Rattle.sentence_parts.specs.Parts.{parts_text}
 use Rattle.run_pages.specs.Counting.{count_if, is_kind, is_yes}
 use Rattle.run_pages.specs.NodeTables.{nodes_table}
+use Rattle.run_pages.specs.Reasons.{reasons}
 use Rattle.story_accounts.specs.Accounts.{RunAccount, verdict_at, why}
 use Rattle.story_accounts.specs.Indexes.{events_at}
 use Rattle.story_accounts.specs.Outcomes.{outcome_text}
@@ -238,8 +239,9 @@ failed_from s run left place (it ∷ stories) =
 unfoldable pub failed_list : Sheet → Run → Markup
 failed_list s run = Both (heading (codes "What failed")) (failed_from s run 300 0 s.account.stories)
 
+-- why they failed, and each of them
 abbrev pub failed_stories : Sheet → Run → Markup
-failed_stories s run = if failed s == 0 then Nothing else failed_list s run
+failed_stories s run = if failed s == 0 then Nothing else Both (reasons s.account) (failed_list s run)
 
 abbrev pub stories : Sheet → Run → List StoryKind → Markup
 stories s run [] = Nothing

@@ -1,4 +1,4 @@
-//! A run as one page of HTML: its name and its counts, what failed, a map of who hears whom, the nodes, each node over the run, and all other
+//! A run as one page of HTML: its name and its counts, why and what failed, a map of who hears whom, the nodes, each node over the run, and all other
 //! stories, each with its chart. And what the comments of its script say.
 //!
 //! ```text
@@ -14,6 +14,7 @@ pub mod laws;
 mod node_counts;
 mod node_table;
 mod page_text;
+mod reasons;
 mod remarks;
 
 pub use page_text::Sheet;

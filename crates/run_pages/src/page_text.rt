@@ -5,6 +5,7 @@ ghost use Rattle.run_pages.specs.Pages as pages;
 
 use crate::counting::{count_if, is_kind, is_yes};
 use crate::node_table::push_nodes_table;
+use crate::reasons::push_reasons;
 use line_tale::{Lot, Story, StoryKind, TaleEvent, is_good};
 use markup::{Attribute, Element};
 use markup_parts::{end, given, given_number, open, push_pieces, start};
@@ -652,6 +653,7 @@ impl<'a> Sheet<'a> {
         if self.failed() == 0 {
             return Ok(());
         }
+        push_reasons(out, self.account)?;
         self.push_failed_list(out, run)
     }
 

@@ -193,6 +193,14 @@ abbrev pub reasons_from : RunAccount → List ℕ → List WordGroup → List Wo
 reasons_from a [] groups = groups
 reasons_from a (n ∷ ns) groups = reasons_from a ns (joined_if (failed a n) (reason a n) n groups)
 
+-- for which reasons these stories failed, each with the numbers of its stories, the most first
+unfoldable pub reasons : RunAccount → List ℕ → List WordGroup
+reasons a stories = largest_first (reasons_from a stories [])
+
+-- those of all stories of a section
+unfoldable pub section_reasons : RunAccount → Section → List WordGroup
+section_reasons a section = reasons a (stories_in a section chosens.All)
+
 -- # Columns
 
 abbrev pub blanks : ℕ → List ℕ
@@ -215,7 +223,7 @@ reason_rows (group ∷ groups) = reason_row group ++ reason_rows groups
 
 -- how many stories failed for which reason, the most first
 unfoldable pub reasons_text : RunAccount → List ℕ → List ℕ
-reasons_text a stories = reason_rows (largest_first (reasons_from a stories []))
+reasons_text a stories = reason_rows (reasons a stories)
 
 -- # Stories
 

@@ -27,7 +27,8 @@ mod waiting;
 mod whole;
 
 pub use account::Account;
+pub use groups::Group;
 pub use index::Index;
 pub use numbers::numbered;
 pub use reasons::is_for_another;
-pub use section::Chosen;
+pub use section::{Chosen, SECTIONS, Section, section_title};

@@ -222,15 +222,25 @@ impl<'a> Account<'a> {
         Ok(())
     }
 
+    /// For which reasons these stories failed, each with the numbers of its stories, the most first.
+    ///
+    /// It fails only where memory runs out.
+    #[tactic(auto, unfolding(crate::specs::Sections::reasons))]
+    pub fn reasons(&self, stories: &[usize]) -> Result<Vec<Group>, AllocError>
+        ensures { IfOk result (λ groups. groups.items ≡ sections.reasons self.now stories.now) }
+    {
+        let mut groups = Vec::new(self.alloc);
+        self.join_reasons(&mut groups, stories)?;
+        largest_first(self.alloc, groups)
+    }
+
     /// Appends how many of these stories failed for which reason, the most first.
     #[tactic(auto, unfolding(crate::specs::Sections::reasons_text))]
     pub fn push_reasons(&self, text: &mut String, stories: &[usize]) -> Result<(), AllocError>
         ensures { OnOk result (string_bytes text.new ≡ string_bytes text.old ++ sections.reasons_text self.now stories.now) }
     {
-        let mut groups = Vec::new(self.alloc);
-        self.join_reasons(&mut groups, stories)?;
-        let sorted = largest_first(self.alloc, groups)?;
-        push_reason_rows(text, sorted.as_slice())
+        let groups = self.reasons(stories)?;
+        push_reason_rows(text, groups.as_slice())
     }
 
     /// Those of these stories that reached their ends.

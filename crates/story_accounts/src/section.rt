@@ -34,6 +34,16 @@ pub enum Section {
     Walks,
 }
 
+/// All sections, in their order.
+pub const SECTIONS: [Section; 6] = [
+    Section::Datagrams,
+    Section::Joinings,
+    Section::Orders,
+    Section::Injections,
+    Section::Broadcasts,
+    Section::Walks,
+];
+
 /// Whether stories of a kind are in a section.
 pub fn section_kind(section: Section, kind: StoryKind) -> bool
     ensures { result ≡ sections.section_kind section kind }

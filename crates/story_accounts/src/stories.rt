@@ -3,6 +3,7 @@ ghost use Rattle.std.specs.Prelude.{◌≡◌, ◌++◌, IfOk, OnOk, length, str
 ghost use Rattle.story_accounts.specs.Sections as sections;
 
 use crate::account::{Account, is_ok};
+use crate::groups::Group;
 use crate::reasons::{is_for_another, push_if};
 use crate::section::{
     Chosen, Section, good_word, is_brief, is_broadcasts, section_kind, section_title,
@@ -141,6 +142,17 @@ impl<'a> Account<'a> {
             push_if(&mut list, self.is_in(section, chosen, i + 1, story), i + 1)?;
         }
         Ok(list)
+    }
+
+    /// For which reasons the stories of a section failed, each with the numbers of its stories, the most first: those that `explain` counts.
+    ///
+    /// It fails only where memory runs out.
+    #[tactic(auto, unfolding(crate::specs::Sections::section_reasons))]
+    pub fn section_reasons(&self, section: Section) -> Result<Vec<Group>, AllocError>
+        ensures { IfOk result (λ groups. groups.items ≡ sections.section_reasons self.now section) }
+    {
+        let stories = self.stories_in(section, Chosen::All)?;
+        self.reasons(stories.as_slice())
     }
 
     // What came to a node that it is not for has no words.

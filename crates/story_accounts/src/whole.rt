@@ -7,19 +7,10 @@ use crate::account::{Account, is_ok};
 use crate::fates::is_mute;
 use crate::groups::{Group, join, largest_first};
 use crate::reasons::{is_for_another, push_if, push_padded, push_widened};
-use crate::section::{Chosen, Section, is_part};
+use crate::section::{Chosen, SECTIONS, is_part};
 use line_tale::TaleEvent;
 use sentence_parts::{number, push_parts, words};
 use std::alloc::{AllocError, Global};
-
-const SECTIONS: [Section; 6] = [
-    Section::Datagrams,
-    Section::Joinings,
-    Section::Orders,
-    Section::Injections,
-    Section::Broadcasts,
-    Section::Walks,
-];
 
 /// So many flights that never came are named.
 const MOST: usize = 20;
