@@ -5,8 +5,7 @@ use Rattle.std.specs.Prelude.{IfSome, if◌then◌else◌, is_some}
 use Rattle.node_rules.specs.Memory.{Node}
 use Rattle.node_rules.specs.declared.shown.Shown.{Shown}
 use Rattle.node_rules.specs.Showing.{shown_of}
-use Rattle.node_pasts.specs.declared.past.Change.{Change}
-use Rattle.node_pasts.specs.Pasts.{looked as past_looked}
+use Rattle.node_pasts.specs.Pasts.{NodePast, looked as past_looked}
 use Rattle.line_events.specs.declared.event.Event.{Event}
 use Rattle.line_rules.specs.Worlds.{World, node_at}
 use Rattle.line_rules.specs.Runs.{Entry}
@@ -14,7 +13,7 @@ use Rattle.line_script.specs.declared.reading.Reading.{Reading}
 use Rattle.line_script.specs.declared.reading.Reading.TheVariants.{Quiet}
 use Rattle.line_script.specs.declared.report.Reason.{Reason}
 use Rattle.line_script.specs.Readings.{reading}
-use Rattle.line_tale.specs.Kinds.{actor_of, makes_node, person_of}
+use Rattle.line_tale.specs.Kinds.{actor_of, makes_node}
 use Rattle.line_tale.specs.declared.act.Act.{Act}
 use Rattle.line_tale.specs.declared.told.TaleEvent.{TaleEvent}
 use Rattle.line_tale.specs.Tales.{numbered}
@@ -31,7 +30,7 @@ use Rattle.story_accounts.specs.Sections.{is_for_another}
 use Rattle.line_view.specs.Recordings.{Recording, Recorded, recorded}
 use Rattle.line_view.specs.Sentences.{Sentences, with_sentence}
 use Rattle.line_view.specs.Paging.{Paging, Stepped, after_entry, is_tick, kept, kept_by, looked, looked_after, looked_around, looked_at_all, looked_by}
-use Rattle.line_view.specs.Paging.{node_count, refused_text, remarked, turn_by, turn_of, with_look, with_node}
+use Rattle.line_view.specs.Paging.{node_count, other_of, refused_text, remarked, turn_by, turn_of, with_look, with_node}
 use Rattle.line_view.proofs.Machines.{ended, went_on}
 use Rattle.line_view.proofs.Recorded.{recorded_world}
 use Rattle.line_view.proofs.StatusNames.{Follows}
@@ -93,11 +92,11 @@ page_quiet {old} {new} p q next row line kind r same is quiet h =
 
 -- # Looking at nodes
 
-abbrev with_pasts : Paging → List (List Change) → Paging
+abbrev with_pasts : Paging → List NodePast → Paging
 with_pasts p pasts = record p { pasts = pasts }
 
 -- a node that is there, and what it shows
-pub look_there : (node event : ℕ) (p : Paging) (state : Option Node) (shown : Shown) (pasts : List (List Change)) → IfSome state (λ n. shown ≡ shown_of n)
+pub look_there : (node event : ℕ) (p : Paging) (state : Option Node) (shown : Shown) (pasts : List NodePast) → IfSome state (λ n. shown ≡ shown_of n)
     → is_some state ≡ true → pasts ≡ past_looked node event shown p.pasts → with_pasts p pasts ≡ with_look state event node p
 look_there node event p None shown pasts is there looks = absurd (no_truth there)
 look_there node event p (Some n) shown pasts is there looks =
@@ -133,8 +132,8 @@ either_run false x y p hx hy = hy
 
 by_run : (event : ℕ) (act : Act) (p : Paging) → (looked_by act event p).run ≡ p.run
 by_run event act p =
-    either_run (is_tick act) (looked_at_all event (node_count p) p) (looked event (person_of act) (looked event (actor_of act) p)) p
-    (all_run event (node_count p) p) (looked_run event (person_of act) (looked event (actor_of act) p) ∙ looked_run event (actor_of act) p)
+    either_run (is_tick act) (looked_at_all event (node_count p) p) (looked event (other_of act) (looked event (actor_of act) p)) p
+    (all_run event (node_count p) p) (looked_run event (other_of act) (looked event (actor_of act) p) ∙ looked_run event (actor_of act) p)
 
 around_run : (event : ℕ) (act : Act) (p : Paging) → (looked_around event act p).run ≡ p.run
 around_run event act p =

@@ -6,8 +6,7 @@ use Rattle.script_lines.specs.Outcomes.{Turn, Takes, Stops, Outcome, outcome as 
 use Rattle.line_script.specs.declared.report.Reason.{Reason}
 use Rattle.node_rules.specs.Memory.{Node}
 use Rattle.node_rules.specs.Showing.{shown_of}
-use Rattle.node_pasts.specs.declared.past.Change.{Change}
-use Rattle.node_pasts.specs.Pasts.{looked as past_looked}
+use Rattle.node_pasts.specs.Pasts.{NodePast, looked as past_looked, no_past}
 use Rattle.line_tale.specs.declared.act.Act.{Act}
 use Rattle.line_tale.specs.declared.act.Act.TheVariants as acts
 use Rattle.line_tale.specs.declared.told.TaleEvent.{TaleEvent}
@@ -37,8 +36,8 @@ pub record Paging : Type 0 where
   pub run : Recording
   pub told : Sentences
   pub remarks : Remarked
-  -- the changes of each node
-  pub pasts : List (List Change)
+  -- what is known of each node
+  pub pasts : List NodePast
 
 abbrev pub nothing_paged : Paging
 nothing_paged = record { run = no_recording; told = no_sentences; remarks = no_remarks; pasts = [] }
@@ -59,10 +58,15 @@ looked_at_all event zero p = p
 looked_at_all event (suc node) p = looked event node (looked_at_all event node p)
 
 abbrev pub with_node : Paging → Paging
-with_node p = record p { pasts = p.pasts ++ ([] ∷ []) }
+with_node p = record p { pasts = p.pasts ++ (no_past ∷ []) }
 
 abbrev pub node_count : Paging → ℕ
 node_count p = min (length p.run.euis) 1000
+
+-- the node that an event may change beside the one that it is about
+abbrev pub other_of : Act → ℕ
+other_of (acts.Near a b) = b
+other_of act = person_of act
 
 -- whether time passes, for all nodes
 abbrev pub is_tick : Act → Bool
@@ -71,7 +75,7 @@ is_tick _ = false
 
 abbrev pub looked_by : Act → ℕ → Paging → Paging
 looked_by act event p =
-    if is_tick act then looked_at_all event (node_count p) p else looked event (person_of act) (looked event (actor_of act) p)
+    if is_tick act then looked_at_all event (node_count p) p else looked event (other_of act) (looked event (actor_of act) p)
 
 -- with what the nodes show that an event of this kind may change
 abbrev pub looked_around : ℕ → Act → Paging → Paging

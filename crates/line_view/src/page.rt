@@ -50,6 +50,16 @@ impl Model for Pager {
     ghost view = { λ p. record { run = p.run; told = p.teller; remarks = p.remarks; pasts = p.pasts } };
 }
 
+// The node that an event may change beside the one that it is about.
+fn other_of(act: &Act) -> u32
+    ensures { result ≡ paging.other_of act.now }
+{
+    match act {
+        Act::Near { b, .. } => *b,
+        _ => person_of(act),
+    }
+}
+
 // Whether time passes, for all nodes.
 fn is_tick(act: &Act) -> bool
     ensures { result ≡ paging.is_tick act.now }
@@ -197,7 +207,7 @@ impl Pager {
             return self.look_at_all(event, nodes);
         }
         self.look(event, actor_of(act))?;
-        self.look(event, person_of(act))
+        self.look(event, other_of(act))
     }
 
     // Looks at the nodes that an event may have changed: at none where its frame was for another node, as most are that come.

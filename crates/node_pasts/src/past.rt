@@ -1,9 +1,9 @@
-//! What nodes were, event by event.
+//! What nodes were, event by event, and which way their frames to the coordinator go.
 ghost use Rattle.std.specs.Prelude.{◌≡◌, ◌++◌, ◌∷◌, [], OnOk, length};
 ghost use Rattle.node_pasts.specs.Pasts as spec_pasts;
 
 use crate::mode::{Mode, is_same, mode_of};
-use node_rules::Shown;
+use node_rules::{Shown, ShownRoute};
 use std::alloc::{AllocError, Global};
 use std::marker::Model;
 
@@ -16,22 +16,23 @@ pub struct Change {
     pub mode: Mode,
 }
 
-/// The changes of a node, in their order.
+/// What is known of a node.
 #[derive(Drop)]
 struct Past {
     changes: Vec<Change>,
+    // The address of its next hop to the coordinator, by what it showed last.
+    next_hop: Option<u16>,
 }
 
 impl Model for Past {
-    ghost use Rattle.std.specs.Prelude.{List};
-    ghost use Rattle.node_pasts.specs.declared.past.Change.{Change};
+    ghost use Rattle.node_pasts.specs.Pasts.{NodePast};
 
-    ghost Value = { List Change };
+    ghost Value = { NodePast };
 
-    ghost view = { λ p. p.changes.items };
+    ghost view = { λ p. record { changes = p.changes.items; next_hop = p.next_hop } };
 }
 
-/// The changes of all nodes, by their numbers from 0. A contract sees the list of those of each.
+/// What is known of all nodes, by their numbers from 0. A contract sees the list of that.
 #[derive(Drop)]
 pub struct Pasts {
     alloc: Global,
@@ -40,11 +41,23 @@ pub struct Pasts {
 
 impl Model for Pasts {
     ghost use Rattle.std.specs.Prelude.{List};
-    ghost use Rattle.node_pasts.specs.declared.past.Change.{Change};
+    ghost use Rattle.node_pasts.specs.Pasts.{NodePast};
 
-    ghost Value = { List (List Change) };
+    ghost Value = { List NodePast };
 
     ghost view = { λ p. p.nodes.items };
+}
+
+// The address of the next hop of the valid route to the coordinator, whose address is 0.
+fn next_hop_in(routes: &[ShownRoute]) -> Option<u16>
+    ensures { result ≡ spec_pasts.next_hop_in routes.now }
+{
+    for route in routes {
+        if route.dest.number() == 0 {
+            return route.next;
+        }
+    }
+    None
 }
 
 fn is_mode(change: Option<Change>, mode: Mode) -> bool
@@ -56,14 +69,22 @@ fn is_mode(change: Option<Change>, mode: Mode) -> bool
     }
 }
 
+fn push_mode(changes: &mut Vec<Change>, event: usize, mode: Mode) -> Result<(), AllocError>
+    ensures { OnOk result (changes.new.items ≡ spec_pasts.changed event mode changes.old.items) }
+{
+    if is_mode(changes.last().copied(), mode) {
+        return Ok(());
+    }
+    changes.push(Change { event, mode })?;
+    Ok(())
+}
+
 impl Past {
-    fn push(&mut self, event: usize, mode: Mode) -> Result<(), AllocError>
-        ensures { OnOk result (self.new ≡ spec_pasts.changed event mode self.old) }
+    fn look(&mut self, event: usize, shown: &Shown) -> Result<(), AllocError>
+        ensures { OnOk result (self.new ≡ spec_pasts.past_after event shown.now self.old) }
     {
-        if is_mode(self.changes.last().copied(), mode) {
-            return Ok(());
-        }
-        self.changes.push(Change { event, mode })?;
+        push_mode(&mut self.changes, event, mode_of(shown))?;
+        self.next_hop = next_hop_in(shown.routes.routes());
         Ok(())
     }
 }
@@ -90,10 +111,11 @@ impl Pasts {
     ///
     /// It fails only where memory runs out, and nothing changes then.
     pub fn push_node(&mut self) -> Result<(), AllocError>
-        ensures { OnOk result (self.new ≡ self.old ++ [] ∷ []) }
+        ensures { OnOk result (self.new ≡ self.old ++ spec_pasts.no_past ∷ []) }
     {
         self.nodes.push(Past {
             changes: Vec::new(self.alloc),
+            next_hop: None,
         })?;
         Ok(())
     }
@@ -107,7 +129,7 @@ impl Pasts {
         if node >= self.nodes.len() {
             return Ok(());
         }
-        self.nodes[node].push(event, mode_of(shown))
+        self.nodes[node].look(event, shown)
     }
 
     /// The changes of a node, none where there is no such node.
@@ -117,6 +139,16 @@ impl Pasts {
         match self.nodes.get(node) {
             None => &[],
             Some(past) => past.changes.as_slice(),
+        }
+    }
+
+    /// The address of the next hop of a node to the coordinator, by the valid route that it showed last. None where it showed none.
+    pub fn next_hop(&self, node: usize) -> Option<u16>
+        ensures { result ≡ spec_pasts.next_hop_at self.now node }
+    {
+        match self.nodes.get(node) {
+            None => None,
+            Some(past) => past.next_hop,
         }
     }
 }

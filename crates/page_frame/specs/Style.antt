@@ -80,12 +80,16 @@ drawing_text =
     ∷ codes ".B.up{fill:var(--ok)}.B.no{fill:var(--no)}.B.f{fill:var(--bad)}.B.q{fill:var(--grey)}"
     ∷ [])
 
--- the map: lines as thick as their class says, dashed where one way only, and nodes by what they were; and the table of nodes
+-- the map with its key: lines as thick as their class says, dashed where one way only, arrows, and nodes by what they were; and the table of nodes
 unfoldable pub map_text : List ℕ
 map_text =
     rules_text
     (codes ".W{stroke:var(--out);fill:none}.W.one{stroke-dasharray:5 4}.W.w2{stroke-width:1.8}.W.w3{stroke-width:2.6}.W.w4{stroke-width:3.4}"
     ∷ codes ".W.w5{stroke-width:4.2}.W.w6{stroke-width:5}svg .H{paint-order:stroke;stroke:var(--card);stroke-width:4px}"
+    ∷ codes ".R{stroke:var(--blue);stroke-width:2;fill:none}.R.thin{stroke-width:1}.Z{fill:var(--blue)}marker{overflow:visible}"
+    ∷ codes ".key .w::before{height:3px;background:var(--out)}"
+    ∷ codes ".key .w1::before{height:3px;background:repeating-linear-gradient(90deg,var(--out) 0 5px,transparent 5px 9px)}"
+    ∷ codes ".key .hop::before{width:0;height:0;border:5px solid transparent;border-left:10px solid var(--blue);border-right:0;background:none}"
     ∷ codes ".N{stroke:var(--grey);fill:var(--card)}.N.k0{fill:var(--life)}.N.k1{fill:var(--life1)}.N.halt{stroke:var(--ink);stroke-width:4}"
     ∷ codes "table{border-collapse:collapse;font-variant-numeric:tabular-nums}th,td{text-align:left;padding:1px 18px 1px 0}tr.b{color:var(--bad)}"
     ∷ [])

@@ -209,7 +209,7 @@ fn push_drawing_rules(out: &mut Vec<u8>) -> Result<(), AllocError>
     )
 }
 
-// What is drawn in a map, and the table of its nodes.
+// What is drawn in a map, with its key, and the table of its nodes.
 #[tactic(auto, unfolding(crate::specs::Style::map_text))]
 fn push_map_rules(out: &mut Vec<u8>) -> Result<(), AllocError>
     ensures { OnOk result (out.new.items ≡ out.old.items ++ spec_style.map_text) }
@@ -222,6 +222,16 @@ fn push_map_rules(out: &mut Vec<u8>) -> Result<(), AllocError>
             ),
             rule(
                 ".W.w5{stroke-width:4.2}.W.w6{stroke-width:5}svg .H{paint-order:stroke;stroke:var(--card);stroke-width:4px}",
+            ),
+            rule(
+                ".R{stroke:var(--blue);stroke-width:2;fill:none}.R.thin{stroke-width:1}.Z{fill:var(--blue)}marker{overflow:visible}",
+            ),
+            rule(".key .w::before{height:3px;background:var(--out)}"),
+            rule(
+                ".key .w1::before{height:3px;background:repeating-linear-gradient(90deg,var(--out) 0 5px,transparent 5px 9px)}",
+            ),
+            rule(
+                ".key .hop::before{width:0;height:0;border:5px solid transparent;border-left:10px solid var(--blue);border-right:0;background:none}",
             ),
             rule(
                 ".N{stroke:var(--grey);fill:var(--card)}.N.k0{fill:var(--life)}.N.k1{fill:var(--life1)}.N.halt{stroke:var(--ink);stroke-width:4}",

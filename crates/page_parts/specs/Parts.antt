@@ -85,6 +85,22 @@ outcomes =
 unfoldable pub keys : Markup
 keys = Inside E.Paragraph (with_text A.Class (codes "key") ∷ []) (Both states outcomes)
 
+unfoldable pub line_both_ways : Markup
+line_both_ways = span (codes "w") (codes "hear each other")
+
+unfoldable pub line_one_way : Markup
+line_one_way = span (codes "w1") (codes "one hears the other")
+
+unfoldable pub line_to_hop : Markup
+line_to_hop = span (codes "hop") (codes "next hop to the coordinator, as shown last")
+
+unfoldable pub lines : Markup
+lines = Both line_both_ways (Both line_one_way line_to_hop)
+
+-- what the lines and the colours of a map are
+unfoldable pub map_keys : Markup
+map_keys = Inside E.Paragraph (with_text A.Class (codes "key") ∷ []) (Both lines states)
+
 -- # Stories
 
 -- that a story has no chart, and what tells it

@@ -13,7 +13,7 @@ mod part;
 mod tile;
 
 pub use part::{
-    push_band, push_event_numbers, push_heading, push_keys, push_name, push_not_drawn, push_span,
-    push_subheading, push_totals,
+    push_band, push_event_numbers, push_heading, push_keys, push_map_keys, push_name,
+    push_not_drawn, push_span, push_subheading, push_totals,
 };
 pub use tile::{push_fault_tile, push_share, push_tile};

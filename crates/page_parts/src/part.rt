@@ -188,6 +188,54 @@ pub fn push_keys(out: &mut Vec<u8>) -> Result<(), AllocError>
     push_pieces(out, &[end(Element::Paragraph)])
 }
 
+#[tactic(auto, unfolding(crate::specs::Parts::line_both_ways))]
+fn push_line_both_ways(out: &mut Vec<u8>) -> Result<(), AllocError>
+    ensures { OnOk result (out.new.items ≡ out.old.items ++ markup_text parts.line_both_ways) }
+{
+    push_span(out, "w", "hear each other")
+}
+
+#[tactic(auto, unfolding(crate::specs::Parts::line_one_way))]
+fn push_line_one_way(out: &mut Vec<u8>) -> Result<(), AllocError>
+    ensures { OnOk result (out.new.items ≡ out.old.items ++ markup_text parts.line_one_way) }
+{
+    push_span(out, "w1", "one hears the other")
+}
+
+#[tactic(auto, unfolding(crate::specs::Parts::line_to_hop))]
+fn push_line_to_hop(out: &mut Vec<u8>) -> Result<(), AllocError>
+    ensures { OnOk result (out.new.items ≡ out.old.items ++ markup_text parts.line_to_hop) }
+{
+    push_span(out, "hop", "next hop to the coordinator, as shown last")
+}
+
+#[tactic(auto, unfolding(crate::specs::Parts::lines))]
+fn push_lines(out: &mut Vec<u8>) -> Result<(), AllocError>
+    ensures { OnOk result (out.new.items ≡ out.old.items ++ markup_text parts.lines) }
+{
+    push_line_both_ways(out)?;
+    push_line_one_way(out)?;
+    push_line_to_hop(out)
+}
+
+/// Appends what the lines and the colours of a map are.
+#[tactic(auto, unfolding(crate::specs::Parts::map_keys))]
+pub fn push_map_keys(out: &mut Vec<u8>) -> Result<(), AllocError>
+    ensures { OnOk result (out.new.items ≡ out.old.items ++ markup_text parts.map_keys) }
+{
+    push_pieces(
+        out,
+        &[
+            start(Element::Paragraph),
+            given(Attribute::Class, "key"),
+            open(),
+        ],
+    )?;
+    push_lines(out)?;
+    push_states(out)?;
+    push_pieces(out, &[end(Element::Paragraph)])
+}
+
 /// Appends the paragraph of a story without a chart, which names the command that explains it.
 #[tactic(auto, unfolding(crate::specs::Parts::not_drawn))]
 pub fn push_not_drawn(out: &mut Vec<u8>) -> Result<(), AllocError>

@@ -6,7 +6,7 @@ use Rattle.line_tale.specs.declared.lot.Lot.{Lot}
 use Rattle.line_tale.specs.declared.lot.Fate.{Fate}
 use Rattle.line_tale.specs.declared.lot.Fate.TheVariants as fates
 use Rattle.line_tale.specs.Tales.{numbered}
-use Rattle.node_pasts.specs.declared.past.Change.{Change}
+use Rattle.node_pasts.specs.Pasts.{NodePast}
 
 pub record Run : Type 0 where
   pub events : List TaleEvent
@@ -17,8 +17,8 @@ pub record Run : Type 0 where
   pub sentences : List (List ℕ)
   -- what the script says before each event
   pub notes : List (List ℕ)
-  -- the changes of each node
-  pub pasts : List (List Change)
+  -- what is known of each node
+  pub pasts : List NodePast
 
 -- # Texts
 

@@ -2,5 +2,6 @@ pub mod Links
 pub mod Searches
 pub mod Layouts
 pub mod Ties
+pub mod Routes
 pub mod Maps
 pub mod Laws

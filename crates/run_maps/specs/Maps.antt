@@ -1,4 +1,4 @@
--- The map of a run: who hears whom, and what each node was at the end.
+-- The map of a run: who hears whom, what each node was at the end, and its next hop to the coordinator.
 use Rattle.std.specs.Prelude.{ℕ, ◌+◌, ◌-◌, min, nat_le, zero, suc, Bool, true, false, List, [], ◌∷◌, codes, length, slice_get}
 use Rattle.std.specs.Prelude.{Option, None, Some}
 use Rattle.std.specs.Fmt.{decimal}
@@ -12,14 +12,16 @@ use Rattle.line_tale.specs.declared.told.TaleFlight.{TaleFlight}
 use Rattle.node_pasts.specs.declared.mode.Mode.{Mode}
 use Rattle.node_pasts.specs.declared.mode.Mode.TheVariants as modes
 use Rattle.node_pasts.specs.declared.past.Change.{Change}
-use Rattle.node_pasts.specs.Pasts.{changes_at}
+use Rattle.node_pasts.specs.Pasts.{NodePast, changes_at}
 use Rattle.run_maps.specs.declared.links.Heard.{Heard}
 use Rattle.run_maps.specs.declared.links.Link.{Link}
 use Rattle.run_maps.specs.declared.layout.Spot.{Spot}
+use Rattle.run_maps.specs.declared.tie.PlacedTie.{PlacedTie}
 use Rattle.run_maps.specs.Links.{heard_list, links_of}
 use Rattle.run_maps.specs.Searches.{search_of}
 use Rattle.run_maps.specs.Layouts.{Layout, height_of, layout_of, radius_of, spot, width_of}
-use Rattle.run_maps.specs.Ties.{ties}
+use Rattle.run_maps.specs.Routes.{routes}
+use Rattle.run_maps.specs.Ties.{costs_if, has_costs, lines, placed_ties, titled}
 
 -- # A node
 
@@ -66,11 +68,11 @@ abbrev pub node_by : Option Spot → Layout → Mode → ℕ → Markup
 node_by None l mode node = Nothing
 node_by (Some spot) l mode node = node_drawing l mode node spot
 
-unfoldable pub node_at : Layout → List (List Change) → ℕ → Markup
+unfoldable pub node_at : Layout → List NodePast → ℕ → Markup
 node_at l pasts node = node_by (spot l node) l (mode_at_end (changes_at pasts node)) node
 
 -- so many nodes
-abbrev pub nodes : Layout → List (List Change) → ℕ → Markup
+abbrev pub nodes : Layout → List NodePast → ℕ → Markup
 nodes l pasts zero = Nothing
 nodes l pasts (suc node) = Both (nodes l pasts node) (node_at l pasts node)
 
@@ -80,35 +82,37 @@ nodes l pasts (suc node) = Both (nodes l pasts node) (node_at l pasts node)
 unfoldable pub title_words : ℕ → ℕ → List ℕ
 title_words nodes links =
     parts_text
-    (part.Words (codes "Who hears whom (nodes: ") ∷ part.Number nodes ∷ part.Words (codes ", links: ") ∷ part.Number links
+    (part.Words (codes "Who hears whom, and each next hop to the coordinator (nodes: ") ∷ part.Number nodes ∷ part.Words (codes ", links: ") ∷ part.Number links
     ∷ part.Words (codes ")") ∷ [])
-
-unfoldable pub titled : List ℕ → Markup
-titled words = Inside E.Title [] (Words words)
 
 unfoldable pub title : ℕ → ℕ → Markup
 title nodes links = titled (title_words nodes links)
 
--- nodes lie on top of lines
-unfoldable pub content : List ((ℕ × ℕ) × Link) → List Heard → Layout → List (List Change) → Markup
-content links heards l pasts = Both (title l.nodes (length heards)) (Both (ties links l heards) (nodes l pasts l.nodes))
+-- the lines, over them the arrows and the costs, and the nodes on top
+unfoldable pub content : ℕ → List PlacedTie → Layout → List NodePast → List ℕ → Markup
+content links ties l pasts homes =
+    Both (title l.nodes links)
+    (Both (lines ties) (Both (routes l pasts homes) (Both (costs_if (has_costs l) ties) (nodes l pasts l.nodes))))
 
-unfoldable pub drawing : List ((ℕ × ℕ) × Link) → List Heard → Layout → List (List Change) → Markup
-drawing links heards l pasts =
+unfoldable pub drawing : ℕ → List PlacedTie → Layout → List NodePast → List ℕ → Markup
+drawing links ties l pasts homes =
     Inside E.Svg
     (with_number A.Width (width_of l) ∷ with_number A.Height (height_of l) ∷ with_text A.Role (codes "img") ∷ [])
-    (content links heards l pasts)
+    (content links ties l pasts homes)
 
 -- a map shows at most 1,000 nodes
-abbrev pub nodes_of : List (List Change) → ℕ
+abbrev pub nodes_of : List NodePast → ℕ
 nodes_of pasts = min (length pasts) 1000
 
 unfoldable pub layout_by : List Heard → ℕ → Layout
 layout_by heards nodes = layout_of nodes (search_of nodes heards)
 
-unfoldable pub map_by : List ((ℕ × ℕ) × Link) → List (List Change) → Markup
-map_by links pasts = drawing links (heard_list links) (layout_by (heard_list links) (nodes_of pasts)) pasts
+unfoldable pub map_over : List ((ℕ × ℕ) × Link) → List Heard → Layout → List NodePast → List ℕ → Markup
+map_over links heards l pasts homes = drawing (length heards) (placed_ties links l heards) l pasts homes
 
--- the map of a run
-unfoldable pub run_map : List TaleEvent → List TaleFlight → List (List Change) → Markup
-run_map events flights pasts = map_by (links_of events flights) pasts
+unfoldable pub map_by : List ((ℕ × ℕ) × Link) → List NodePast → List ℕ → Markup
+map_by links pasts homes = map_over links (heard_list links) (layout_by (heard_list links) (nodes_of pasts)) pasts homes
+
+-- the map of a run, by the node of each short address
+unfoldable pub run_map : List TaleEvent → List TaleFlight → List NodePast → List ℕ → Markup
+run_map events flights pasts homes = map_by (links_of events flights) pasts homes

@@ -1,5 +1,5 @@
 -- What is drawn of the links: one line for two nodes, whether one of them hears the other one or both do.
-use Rattle.std.specs.Prelude.{ℕ, ◌+◌, ◌/◌, min, nat_lt, nat_le, Bool, true, false, List, [], ◌∷◌, codes, Option, None, Some, if◌then◌else◌}
+use Rattle.std.specs.Prelude.{ℕ, ◌+◌, ◌/◌, min, nat_lt, nat_le, Bool, true, false, List, [], ◌∷◌, ◌++◌, codes, Option, None, Some, if◌then◌else◌}
 use Rattle.std.specs.Fmt.{decimal}
 use Rattle.markup.specs.declared.names.Element.TheVariants as E
 use Rattle.markup.specs.declared.names.Attribute.TheVariants as A
@@ -9,6 +9,7 @@ use Rattle.sentence_parts.specs.Parts.{parts_text}
 use Rattle.run_maps.specs.declared.links.Heard.{Heard}
 use Rattle.run_maps.specs.declared.links.Link.{Link}
 use Rattle.run_maps.specs.declared.layout.Spot.{Spot}
+use Rattle.run_maps.specs.declared.tie.PlacedTie.{PlacedTie}
 use Rattle.run_maps.specs.declared.tie.Tie.{Tie}
 use Rattle.run_maps.specs.Links.{link_at}
 use Rattle.run_maps.specs.Layouts.{Layout, spot}
@@ -91,8 +92,9 @@ unfoldable pub titled_path : List ℕ → List ℕ → List ℕ → Markup
 titled_path class outline words =
     Inside E.Path (with_text A.Class class ∷ with_text A.Outline outline ∷ []) (Inside E.Title [] (Words words))
 
-unfoldable pub line : Tie → Spot → Spot → Markup
-line tie a b = titled_path (tie_class tie) (straight a b) (tie_words tie)
+-- what is said of a drawing, or of a part of it
+unfoldable pub titled : List ℕ → Markup
+titled words = Inside E.Title [] (Words words)
 
 -- # Its cost
 
@@ -108,36 +110,52 @@ middle a b = (min a 1000000 + min b 1000000) / 2
 unfoldable pub cost_between : Spot → Spot → ℕ → Markup
 cost_between a b least = cost_at (middle a.x b.x) (middle a.y b.y) least
 
-abbrev pub cost_if : Bool → Option ℕ → Spot → Spot → Markup
-cost_if false least a b = Nothing
-cost_if true None a b = Nothing
-cost_if true (Some least) a b = cost_between a b least
+abbrev pub cost_by : Option ℕ → Spot → Spot → Markup
+cost_by None a b = Nothing
+cost_by (Some least) a b = cost_between a b least
+
+-- # Lines with their places
+
+abbrev pub placed_by : Option Spot → Option Spot → Tie → List PlacedTie
+placed_by None b tie = []
+placed_by (Some a) None tie = []
+placed_by (Some a) (Some b) tie = record { tie = tie; a = a; b = b } ∷ []
+
+-- a line, if its nodes have a place
+unfoldable pub placed_tie : Layout → Tie → List PlacedTie
+placed_tie l tie = placed_by (spot l tie.from) (spot l tie.to) tie
+
+abbrev pub placed_if : Option Tie → Layout → List PlacedTie
+placed_if None l = []
+placed_if (Some tie) l = placed_tie l tie
+
+unfoldable pub placed_heard : List ((ℕ × ℕ) × Link) → Layout → Heard → List PlacedTie
+placed_heard links l heard = placed_if (tie_of links heard) l
+
+abbrev pub placed_ties : List ((ℕ × ℕ) × Link) → Layout → List Heard → List PlacedTie
+placed_ties links l [] = []
+placed_ties links l (heard ∷ rest) = placed_heard links l heard ++ placed_ties links l rest
+
+-- # All lines, and all costs
+
+unfoldable pub line : PlacedTie → Markup
+line placed = titled_path (tie_class placed.tie) (straight placed.a placed.b) (tie_words placed.tie)
+
+abbrev pub lines : List PlacedTie → Markup
+lines [] = Nothing
+lines (placed ∷ rest) = Both (line placed) (lines rest)
+
+unfoldable pub cost_of : PlacedTie → Markup
+cost_of placed = cost_by placed.tie.least placed.a placed.b
+
+abbrev pub costs : List PlacedTie → Markup
+costs [] = Nothing
+costs (placed ∷ rest) = Both (cost_of placed) (costs rest)
 
 -- up to 20 nodes
 abbrev pub has_costs : Layout → Bool
 has_costs l = nat_le l.nodes 20
 
--- # All lines
-
-unfoldable pub tie_between : Layout → Tie → Spot → Spot → Markup
-tie_between l tie a b = Both (line tie a b) (cost_if (has_costs l) tie.least a b)
-
-abbrev pub tie_at : Option Spot → Option Spot → Layout → Tie → Markup
-tie_at None b l tie = Nothing
-tie_at (Some a) None l tie = Nothing
-tie_at (Some a) (Some b) l tie = tie_between l tie a b
-
--- between the places of its nodes, if they have one
-unfoldable pub tie_drawing : Layout → Tie → Markup
-tie_drawing l tie = tie_at (spot l tie.from) (spot l tie.to) l tie
-
-abbrev pub tie_if : Option Tie → Layout → Markup
-tie_if None l = Nothing
-tie_if (Some tie) l = tie_drawing l tie
-
-unfoldable pub heard_drawing : List ((ℕ × ℕ) × Link) → Layout → Heard → Markup
-heard_drawing links l heard = tie_if (tie_of links heard) l
-
-abbrev pub ties : List ((ℕ × ℕ) × Link) → Layout → List Heard → Markup
-ties links l [] = Nothing
-ties links l (heard ∷ rest) = Both (heard_drawing links l heard) (ties links l rest)
+abbrev pub costs_if : Bool → List PlacedTie → Markup
+costs_if false ties = Nothing
+costs_if true ties = costs ties

@@ -142,10 +142,10 @@ pub fn push_number_in(out: &mut Vec<u8>, node: u32, spot: Spot) -> Result<(), Al
     push_number_at(out, node, spot.x, spot.y.min(1_000_000) + 4)
 }
 
-/// What is said of a whole drawing.
-#[tactic(auto, unfolding(crate::specs::Maps::titled))]
+/// What is said of a drawing, or of a part of it.
+#[tactic(auto, unfolding(crate::specs::Ties::titled))]
 pub fn push_title(out: &mut Vec<u8>, said: &str) -> Result<(), AllocError>
-    ensures { OnOk result (out.new.items ≡ out.old.items ++ markup_text (maps.titled said.now)) }
+    ensures { OnOk result (out.new.items ≡ out.old.items ++ markup_text (spec_ties.titled said.now)) }
 {
     push_pieces(
         out,

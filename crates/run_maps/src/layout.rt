@@ -47,8 +47,8 @@ impl Model for Layout {
     } };
 }
 
-// Up to 24 nodes there is a column for each number of hops.
-fn is_tree(nodes: u32) -> bool
+/// Up to 24 nodes there is a column for each number of hops.
+pub fn is_tree(nodes: u32) -> bool
     ensures { result ≡ layouts.is_tree nodes }
 {
     nodes <= 24

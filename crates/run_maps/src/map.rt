@@ -6,8 +6,9 @@ ghost use Rattle.run_maps.specs.Maps as maps;
 use crate::drawing::{push_circle, push_number_in, push_title};
 use crate::layout::{Layout, Spot, layout_of};
 use crate::links::{Heard, Links, links_of};
+use crate::route::push_routes;
 use crate::search::search_of;
-use crate::tie::push_ties;
+use crate::tie::{PlacedTie, has_costs, placed_ties, push_costs_if, push_lines};
 use line_tale::Tale;
 use markup::{Attribute, Element};
 use markup_parts::{end, given, given_number, open, push_pieces, start};
@@ -99,7 +100,7 @@ fn title_words(alloc: Global, nodes: usize, links: usize) -> Result<String, Allo
     sentence(
         alloc,
         &[
-            words("Who hears whom (nodes: "),
+            words("Who hears whom, and each next hop to the coordinator (nodes: "),
             number(nodes),
             words(", links: "),
             number(links),
@@ -122,20 +123,24 @@ fn push_map_title(
     push_title(out, said.as_str())
 }
 
-// Nodes lie on top of lines.
+// The lines, over them the arrows and the costs, and the nodes on top.
 #[tactic(auto, unfolding(crate::specs::Maps::content))]
 fn push_content(
     out: &mut Vec<u8>,
     alloc: Global,
-    links: &Links,
-    heards: &[Heard],
+    links: usize,
+    ties: &[PlacedTie],
     layout: &Layout,
     pasts: &Pasts,
+    homes: &[u32],
 ) -> Result<(), AllocError>
-    ensures { OnOk result (out.new.items ≡ out.old.items ++ markup_text (maps.content links.now heards.now layout.now pasts.now)) }
+    ensures { OnOk result (out.new.items
+        ≡ out.old.items ++ markup_text (maps.content links ties.now layout.now pasts.now homes.now)) }
 {
-    push_map_title(out, alloc, layout.nodes as usize, heards.len())?;
-    push_ties(out, alloc, links, layout, heards)?;
+    push_map_title(out, alloc, layout.nodes as usize, links)?;
+    push_lines(out, alloc, ties)?;
+    push_routes(out, alloc, layout, pasts, homes)?;
+    push_costs_if(out, has_costs(layout), ties)?;
     push_nodes(out, layout, pasts, layout.nodes)
 }
 
@@ -143,12 +148,14 @@ fn push_content(
 fn push_drawing(
     out: &mut Vec<u8>,
     alloc: Global,
-    links: &Links,
-    heards: &[Heard],
+    links: usize,
+    ties: &[PlacedTie],
     layout: &Layout,
     pasts: &Pasts,
+    homes: &[u32],
 ) -> Result<(), AllocError>
-    ensures { OnOk result (out.new.items ≡ out.old.items ++ markup_text (maps.drawing links.now heards.now layout.now pasts.now)) }
+    ensures { OnOk result (out.new.items
+        ≡ out.old.items ++ markup_text (maps.drawing links ties.now layout.now pasts.now homes.now)) }
 {
     push_pieces(
         out,
@@ -160,7 +167,7 @@ fn push_drawing(
             open(),
         ],
     )?;
-    push_content(out, alloc, links, heards, layout, pasts)?;
+    push_content(out, alloc, links, ties, layout, pasts, homes)?;
     push_pieces(out, &[end(Element::Svg)])
 }
 
@@ -179,21 +186,48 @@ fn layout_by(alloc: Global, heards: &[Heard], nodes: u32) -> Result<Layout, Allo
     layout_of(alloc, nodes, search)
 }
 
+#[tactic(auto, unfolding(crate::specs::Maps::map_over))]
+fn push_map_over(
+    out: &mut Vec<u8>,
+    alloc: Global,
+    links: &Links,
+    heards: &[Heard],
+    layout: &Layout,
+    pasts: &Pasts,
+    homes: &[u32],
+) -> Result<(), AllocError>
+    ensures { OnOk result (out.new.items
+        ≡ out.old.items ++ markup_text (maps.map_over links.now heards.now layout.now pasts.now homes.now)) }
+{
+    let ties = placed_ties(alloc, links, layout, heards)?;
+    push_drawing(
+        out,
+        alloc,
+        heards.len(),
+        ties.as_slice(),
+        layout,
+        pasts,
+        homes,
+    )
+}
+
 #[tactic(auto, unfolding(crate::specs::Maps::map_by))]
 fn push_map_by(
     out: &mut Vec<u8>,
     alloc: Global,
     links: &Links,
     pasts: &Pasts,
+    homes: &[u32],
 ) -> Result<(), AllocError>
-    ensures { OnOk result (out.new.items ≡ out.old.items ++ markup_text (maps.map_by links.now pasts.now)) }
+    ensures { OnOk result (out.new.items ≡ out.old.items ++ markup_text (maps.map_by links.now pasts.now homes.now)) }
 {
     let heards = links.list(alloc)?;
     let layout = layout_by(alloc, heards.as_slice(), nodes_of(pasts))?;
-    push_drawing(out, alloc, links, heards.as_slice(), &layout, pasts)
+    push_map_over(out, alloc, links, heards.as_slice(), &layout, pasts, homes)
 }
 
-/// Appends the map of a run: who hears whom, and what each node was at the end.
+/// Appends the map of a run: who hears whom, what each node was at the end, and its next hop to the coordinator, by the node of each short
+/// address.
 ///
 /// It fails only where memory runs out; `out` may end anywhere within the map then.
 #[tactic(auto, unfolding(crate::specs::Maps::run_map))]
@@ -202,9 +236,11 @@ pub fn push_map(
     alloc: Global,
     tale: &Tale,
     pasts: &Pasts,
+    homes: &[u32],
 ) -> Result<(), AllocError>
-    ensures { OnOk result (out.new.items ≡ out.old.items ++ markup_text (maps.run_map tale.now.events.items tale.now.flights.items pasts.now)) }
+    ensures { OnOk result (out.new.items
+        ≡ out.old.items ++ markup_text (maps.run_map tale.now.events.items tale.now.flights.items pasts.now homes.now)) }
 {
     let links = links_of(alloc, tale)?;
-    push_map_by(out, alloc, &links, pasts)
+    push_map_by(out, alloc, &links, pasts, homes)
 }

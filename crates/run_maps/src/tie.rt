@@ -24,6 +24,17 @@ pub struct Tie {
     pub both: bool,
 }
 
+/// A line with the places of its nodes.
+#[derive(Clone, Copy, Debug, PartialEq, Eq)]
+pub struct PlacedTie {
+    /// The line.
+    pub tie: Tie,
+    /// Where the node is that is heard.
+    pub a: Spot,
+    /// Where the one is that hears it.
+    pub b: Spot,
+}
+
 // The less of two costs, where they are known.
 fn least_of(least: Option<u8>, other: Option<u8>) -> Option<u8>
     ensures { result ≡ spec_ties.least_of least other }
@@ -180,66 +191,10 @@ fn tie_words(alloc: Global, tie: &Tie) -> Result<String, AllocError>
     }
 }
 
-#[tactic(auto, unfolding(crate::specs::Ties::line))]
-fn push_line(
-    out: &mut Vec<u8>,
-    alloc: Global,
-    tie: &Tie,
-    a: Spot,
-    b: Spot,
-) -> Result<(), AllocError>
-    ensures { OnOk result (out.new.items ≡ out.old.items ++ markup_text (spec_ties.line tie.now a b)) }
-{
-    let class = tie_class(alloc, tie)?;
-    let outline = straight(alloc, a, b)?;
-    let said = tie_words(alloc, tie)?;
-    push_titled_path(out, class.as_str(), outline.as_str(), said.as_str())
-}
-
-fn push_cost_if(
-    out: &mut Vec<u8>,
-    holds: bool,
-    least: Option<u8>,
-    a: Spot,
-    b: Spot,
-) -> Result<(), AllocError>
-    ensures { OnOk result (out.new.items ≡ out.old.items ++ markup_text (spec_ties.cost_if holds least a b)) }
-{
-    if !holds {
-        return Ok(());
-    }
-    match least {
-        None => Ok(()),
-        Some(least) => push_cost(out, a, b, least),
-    }
-}
-
-// Up to 20 nodes each line has its cost.
-fn has_costs(layout: &Layout) -> bool
-    ensures { result ≡ spec_ties.has_costs layout.now }
-{
-    layout.nodes <= 20
-}
-
-#[tactic(auto, unfolding(crate::specs::Ties::tie_between))]
-fn push_tie_between(
-    out: &mut Vec<u8>,
-    alloc: Global,
-    layout: &Layout,
-    tie: &Tie,
-    a: Spot,
-    b: Spot,
-) -> Result<(), AllocError>
-    ensures { OnOk result (out.new.items ≡ out.old.items ++ markup_text (spec_ties.tie_between layout.now tie.now a b)) }
-{
-    push_line(out, alloc, tie, a, b)?;
-    push_cost_if(out, has_costs(layout), tie.least, a, b)
-}
-
-// Between the places of its nodes, if they have one.
-#[tactic(auto, unfolding(crate::specs::Ties::tie_drawing))]
-fn push_tie(out: &mut Vec<u8>, alloc: Global, layout: &Layout, tie: &Tie) -> Result<(), AllocError>
-    ensures { OnOk result (out.new.items ≡ out.old.items ++ markup_text (spec_ties.tie_drawing layout.now tie.now)) }
+// A line, if its nodes have a place.
+#[tactic(auto, unfolding(crate::specs::Ties::placed_tie))]
+fn place_tie(placed: &mut Vec<PlacedTie>, layout: &Layout, tie: Tie) -> Result<(), AllocError>
+    ensures { OnOk result (placed.new.items ≡ placed.old.items ++ spec_ties.placed_tie layout.now tie) }
 {
     let Some(a) = layout.spot(tie.from) else {
         return Ok(());
@@ -247,37 +202,93 @@ fn push_tie(out: &mut Vec<u8>, alloc: Global, layout: &Layout, tie: &Tie) -> Res
     let Some(b) = layout.spot(tie.to) else {
         return Ok(());
     };
-    push_tie_between(out, alloc, layout, tie, a, b)
+    placed.push(PlacedTie { tie, a, b })?;
+    Ok(())
 }
 
-#[tactic(auto, unfolding(crate::specs::Ties::heard_drawing))]
-fn push_heard(
-    out: &mut Vec<u8>,
-    alloc: Global,
+#[tactic(auto, unfolding(crate::specs::Ties::placed_heard))]
+fn place_heard(
+    placed: &mut Vec<PlacedTie>,
     links: &Links,
     layout: &Layout,
     heard: &Heard,
 ) -> Result<(), AllocError>
-    ensures { OnOk result (out.new.items ≡ out.old.items ++ markup_text (spec_ties.heard_drawing links.now layout.now heard.now)) }
+    ensures { OnOk result (placed.new.items ≡ placed.old.items ++ spec_ties.placed_heard links.now layout.now heard.now) }
 {
     match tie_of(links, heard) {
         None => Ok(()),
-        Some(tie) => push_tie(out, alloc, layout, &tie),
+        Some(tie) => place_tie(placed, layout, tie),
     }
 }
 
-/// Appends the lines of the links.
-pub fn push_ties(
-    out: &mut Vec<u8>,
+/// The lines of the links, each with the places of its nodes.
+pub fn placed_ties(
     alloc: Global,
     links: &Links,
     layout: &Layout,
     heards: &[Heard],
-) -> Result<(), AllocError>
-    ensures { OnOk result (out.new.items ≡ out.old.items ++ markup_text (spec_ties.ties links.now layout.now heards.now)) }
+) -> Result<Vec<PlacedTie>, AllocError>
+    ensures { IfOk result (λ placed. placed.items ≡ spec_ties.placed_ties links.now layout.now heards.now) }
 {
+    let mut placed = Vec::new(alloc);
     for heard in heards {
-        push_heard(out, alloc, links, layout, heard)?;
+        place_heard(&mut placed, links, layout, heard)?;
+    }
+    Ok(placed)
+}
+
+#[tactic(auto, unfolding(crate::specs::Ties::line))]
+fn push_line(out: &mut Vec<u8>, alloc: Global, placed: &PlacedTie) -> Result<(), AllocError>
+    ensures { OnOk result (out.new.items ≡ out.old.items ++ markup_text (spec_ties.line placed.now)) }
+{
+    let class = tie_class(alloc, &placed.tie)?;
+    let outline = straight(alloc, placed.a, placed.b)?;
+    let said = tie_words(alloc, &placed.tie)?;
+    push_titled_path(out, class.as_str(), outline.as_str(), said.as_str())
+}
+
+/// Appends the lines.
+pub fn push_lines(out: &mut Vec<u8>, alloc: Global, ties: &[PlacedTie]) -> Result<(), AllocError>
+    ensures { OnOk result (out.new.items ≡ out.old.items ++ markup_text (spec_ties.lines ties.now)) }
+{
+    for placed in ties {
+        push_line(out, alloc, placed)?;
     }
     Ok(())
+}
+
+#[tactic(auto, unfolding(crate::specs::Ties::cost_of))]
+fn push_cost_of(out: &mut Vec<u8>, placed: &PlacedTie) -> Result<(), AllocError>
+    ensures { OnOk result (out.new.items ≡ out.old.items ++ markup_text (spec_ties.cost_of placed.now)) }
+{
+    match placed.tie.least {
+        None => Ok(()),
+        Some(least) => push_cost(out, placed.a, placed.b, least),
+    }
+}
+
+fn push_costs(out: &mut Vec<u8>, ties: &[PlacedTie]) -> Result<(), AllocError>
+    ensures { OnOk result (out.new.items ≡ out.old.items ++ markup_text (spec_ties.costs ties.now)) }
+{
+    for placed in ties {
+        push_cost_of(out, placed)?;
+    }
+    Ok(())
+}
+
+/// Up to 20 nodes each line has its cost.
+pub fn has_costs(layout: &Layout) -> bool
+    ensures { result ≡ spec_ties.has_costs layout.now }
+{
+    layout.nodes <= 20
+}
+
+/// Appends the costs of the lines, if they are shown.
+pub fn push_costs_if(out: &mut Vec<u8>, shown: bool, ties: &[PlacedTie]) -> Result<(), AllocError>
+    ensures { OnOk result (out.new.items ≡ out.old.items ++ markup_text (spec_ties.costs_if shown ties.now)) }
+{
+    if !shown {
+        return Ok(());
+    }
+    push_costs(out, ties)
 }

@@ -15,7 +15,7 @@ use Rattle.line_tale.specs.Verdicts.{is_good}
 use Rattle.node_pasts.specs.declared.mode.Mode.{Mode}
 use Rattle.node_pasts.specs.declared.mode.Mode.TheVariants as modes
 use Rattle.node_pasts.specs.declared.past.Change.{Change}
-use Rattle.node_pasts.specs.Pasts.{changes_at}
+use Rattle.node_pasts.specs.Pasts.{NodePast, changes_at}
 use Rattle.run_charts.specs.Runs.{Run}
 use Rattle.run_pages.specs.Counting.{is_kind, is_yes}
 use Rattle.run_pages.specs.NodeCounts.{addresses_added, datagram_added, events_added, no_count}
@@ -120,11 +120,11 @@ unfoldable pub row : ℕ → Eui → List Change → NodeCount → Markup
 row node eui changes c =
     Inside E.Row (with_text A.Class (row_class (is_amiss (was_joined changes) c)) ∷ []) (Both (who_cells node eui changes c.address) (count_cells c))
 
-abbrev pub row_of : List (List Change) → List NodeCount → ℕ → Eui → Markup
+abbrev pub row_of : List NodePast → List NodeCount → ℕ → Eui → Markup
 row_of pasts counts node eui = row node eui (changes_at pasts node) (count_or_none (slice_get counts node))
 
 -- those of the nodes from this one on
-abbrev pub rows : List (List Change) → List NodeCount → ℕ → List Eui → Markup
+abbrev pub rows : List NodePast → List NodeCount → ℕ → List Eui → Markup
 rows pasts counts node [] = Nothing
 rows pasts counts node (eui ∷ euis) = Both (row_of pasts counts node eui) (rows pasts counts (node + 1) euis)
 
@@ -143,10 +143,10 @@ count_heads =
 unfoldable pub head_row : Markup
 head_row = Inside E.Row [] (Both who_heads count_heads)
 
-unfoldable pub table : List (List Change) → List NodeCount → List Eui → Markup
+unfoldable pub table : List NodePast → List NodeCount → List Eui → Markup
 table pasts counts euis = Inside E.Table [] (Both head_row (rows pasts counts 0 euis))
 
-unfoldable pub table_card : List (List Change) → List NodeCount → List Eui → Markup
+unfoldable pub table_card : List NodePast → List NodeCount → List Eui → Markup
 table_card pasts counts euis = Inside E.Division (with_text A.Class (codes "card high") ∷ []) (table pasts counts euis)
 
 -- the nodes of a run

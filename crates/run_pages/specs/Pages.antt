@@ -6,7 +6,7 @@ use Rattle.markup.specs.declared.names.Attribute.TheVariants as A
 use Rattle.markup_parts.specs.Markups.{Markup, Nothing, Words, Inside, Both, markup_text, with_text, with_number}
 use Rattle.markup.specs.Nesting.{IsContent}
 use Rattle.page_frame.specs.Frames.{doctype, page_text}
-use Rattle.page_parts.specs.Parts.{band, event_numbers, fault_tile, heading, keys, name, not_drawn, share, span, tile, totals}
+use Rattle.page_parts.specs.Parts.{band, event_numbers, fault_tile, heading, keys, map_keys, name, not_drawn, share, span, tile, totals}
 use Rattle.line_tale.specs.declared.kind.StoryKind.{StoryKind}
 use Rattle.line_tale.specs.declared.kind.StoryKind.TheVariants as kinds
 use Rattle.line_tale.specs.declared.lot.Lot.{Lot}
@@ -279,15 +279,15 @@ tiles s = Inside E.Division (with_text A.Class (codes "tiles") ∷ []) (tile_lis
 
 -- # The order
 
--- who hears whom
-unfoldable pub map_of : Run → Markup
-map_of run = run_map run.events run.flights run.pasts
+-- who hears whom, and each next hop to the coordinator, by the node of each short address
+unfoldable pub map_of : Run → List ℕ → Markup
+map_of run homes = run_map run.events run.flights run.pasts homes
 
-abbrev pub map_card : Run → Markup
-map_card run = Inside E.Division (with_text A.Class (codes "card high") ∷ []) (map_of run)
+abbrev pub map_card : Run → List ℕ → Markup
+map_card run homes = Inside E.Division (with_text A.Class (codes "card high") ∷ []) (map_of run homes)
 
-unfoldable pub links : Run → Markup
-links run = Both (heading (codes "Who hears whom")) (map_card run)
+unfoldable pub links : Run → List ℕ → Markup
+links run homes = Both (heading (codes "Who hears whom")) (Both map_keys (map_card run homes))
 
 -- each node over the run
 abbrev pub nodes : Run → Markup
@@ -305,7 +305,7 @@ summary s = Both (top s) (Both (bad_band s) (Both (forged_band s) (tiles s)))
 
 -- the map, its nodes, and each over the run
 abbrev pub views : Sheet → Run → Markup
-views s run = Both (links run) (Both (nodes_table s.account run) (nodes run))
+views s run = Both (links run s.account.homes) (Both (nodes_table s.account run) (nodes run))
 
 -- what is said of its parts; a run of at most 60 events is shown whole before its stories, one of at most 600 after them
 unfoldable pub parts : Sheet → Run → Markup

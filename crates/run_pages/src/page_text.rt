@@ -11,8 +11,8 @@ use markup::{Attribute, Element};
 use markup_parts::{end, given, given_number, open, push_pieces, start};
 use page_frame::{push_page_end, push_page_start};
 use page_parts::{
-    push_band, push_event_numbers, push_fault_tile, push_heading, push_keys, push_name,
-    push_not_drawn, push_share, push_span, push_tile, push_totals,
+    push_band, push_event_numbers, push_fault_tile, push_heading, push_keys, push_map_keys,
+    push_name, push_not_drawn, push_share, push_span, push_tile, push_totals,
 };
 use run_charts::{ChartRun, is_missed, is_refused, outcome_of, push_chart, push_lanes};
 use run_maps::push_map;
@@ -264,14 +264,14 @@ fn push_whole(out: &mut Vec<u8>, run: &ChartRun<'_>, events: &[usize]) -> Result
 }
 
 #[tactic(auto, unfolding(crate::specs::Pages::map_of))]
-fn push_map_of(out: &mut Vec<u8>, run: &ChartRun<'_>) -> Result<(), AllocError>
-    ensures { OnOk result (out.new.items ≡ out.old.items ++ markup_text (pages.map_of run.now)) }
+fn push_map_of(out: &mut Vec<u8>, run: &ChartRun<'_>, homes: &[u32]) -> Result<(), AllocError>
+    ensures { OnOk result (out.new.items ≡ out.old.items ++ markup_text (pages.map_of run.now homes.now)) }
 {
-    push_map(out, run.alloc, run.tale, run.pasts)
+    push_map(out, run.alloc, run.tale, run.pasts, homes)
 }
 
-fn push_map_card(out: &mut Vec<u8>, run: &ChartRun<'_>) -> Result<(), AllocError>
-    ensures { OnOk result (out.new.items ≡ out.old.items ++ markup_text (pages.map_card run.now)) }
+fn push_map_card(out: &mut Vec<u8>, run: &ChartRun<'_>, homes: &[u32]) -> Result<(), AllocError>
+    ensures { OnOk result (out.new.items ≡ out.old.items ++ markup_text (pages.map_card run.now homes.now)) }
 {
     push_pieces(
         out,
@@ -281,8 +281,18 @@ fn push_map_card(out: &mut Vec<u8>, run: &ChartRun<'_>) -> Result<(), AllocError
             open(),
         ],
     )?;
-    push_map_of(out, run)?;
+    push_map_of(out, run, homes)?;
     push_pieces(out, &[end(Element::Division)])
+}
+
+// Who hears whom.
+#[tactic(auto, unfolding(crate::specs::Pages::links))]
+fn push_links(out: &mut Vec<u8>, run: &ChartRun<'_>, homes: &[u32]) -> Result<(), AllocError>
+    ensures { OnOk result (out.new.items ≡ out.old.items ++ markup_text (pages.links run.now homes.now)) }
+{
+    push_heading(out, "Who hears whom")?;
+    push_map_keys(out)?;
+    push_map_card(out, run, homes)
 }
 
 impl<'a> Sheet<'a> {
@@ -484,14 +494,6 @@ impl<'a> Sheet<'a> {
         push_whole(out, run, events.as_slice())
     }
 
-    // Who hears whom.
-    fn push_links(&self, out: &mut Vec<u8>, run: &ChartRun<'_>) -> Result<(), AllocError>
-        ensures { OnOk result (out.new.items ≡ out.old.items ++ markup_text (pages.links run.now)) }
-    {
-        push_heading(out, "Who hears whom")?;
-        push_map_card(out, run)
-    }
-
     // Each node over the run.
     fn push_nodes(&self, out: &mut Vec<u8>, run: &ChartRun<'_>) -> Result<(), AllocError>
         ensures { OnOk result (out.new.items ≡ out.old.items ++ markup_text (pages.nodes run.now)) }
@@ -514,8 +516,9 @@ impl<'a> Sheet<'a> {
     fn push_views(&self, out: &mut Vec<u8>, run: &ChartRun<'_>) -> Result<(), AllocError>
         ensures { OnOk result (out.new.items ≡ out.old.items ++ markup_text (pages.views self.now run.now)) }
     {
-        self.push_links(out, run)?;
-        push_nodes_table(out, self.account, run)?;
+        let account = self.account;
+        push_links(out, run, account.homes)?;
+        push_nodes_table(out, account, run)?;
         self.push_nodes(out, run)
     }
 

@@ -4,6 +4,8 @@ use frame_words::{FrameTarget, Gist, PayloadKind};
 use line_events::Answer;
 use line_tale::{Act, Tale, TaleEvent, TaleFlight};
 use node_pasts::Pasts;
+use node_rules::{Shown, ShownPeers, ShownRoute, ShownRoutes};
+use plc_base::Short;
 use run_maps::{Found, Heard, Link, links_of, push_map, search_of};
 use std::alloc::{AllocError, Global};
 use std::test::Fail;
@@ -29,14 +31,19 @@ fn tale_of(alloc: Global, senders: &[u16], events: &[TaleEvent]) -> Result<Tale,
     Ok(tale)
 }
 
-// The map of a run of so many nodes.
-fn map_of(alloc: Global, nodes: u32, tale: &Tale) -> Result<String, AllocError> {
+// So many nodes, of which nothing was shown.
+fn pasts_of(alloc: Global, nodes: u32) -> Result<Pasts, AllocError> {
     let mut pasts = Pasts::new(alloc);
     for _ in 0..nodes {
         pasts.push_node()?;
     }
+    Ok(pasts)
+}
+
+// The map of a run, where each of the first two nodes has its number as its address.
+fn map_of(alloc: Global, pasts: &Pasts, tale: &Tale) -> Result<String, AllocError> {
     let mut out = Vec::new(alloc);
-    push_map(&mut out, alloc, tale, &pasts)?;
+    push_map(&mut out, alloc, tale, pasts, &[0, 1])?;
     String::from_utf8_lossy(alloc, out.as_slice())
 }
 
@@ -112,7 +119,7 @@ fn hops_of_a_chain(rt: HostRuntime) -> Result<(), Fail> {
 fn places_of_a_fork(rt: HostRuntime) -> Result<(), Fail> {
     let events = [deliver(1, 1, 3), deliver(2, 2, 3), deliver(2, 3, 3)];
     let tale = tale_of(rt.alloc(), &[0, 1], &events)?;
-    let map = map_of(rt.alloc(), 4, &tale)?;
+    let map = map_of(rt.alloc(), &pasts_of(rt.alloc(), 4)?, &tale)?;
     assert!(rt;
         map.as_str()
             .starts_with("<svg width=\"400\" height=\"172\" ")
@@ -128,7 +135,7 @@ fn places_of_a_fork(rt: HostRuntime) -> Result<(), Fail> {
 #[test]
 fn places_of_a_grid(rt: HostRuntime) -> Result<(), Fail> {
     let tale = tale_of(rt.alloc(), &[], &[])?;
-    let map = map_of(rt.alloc(), 25, &tale)?;
+    let map = map_of(rt.alloc(), &pasts_of(rt.alloc(), 25)?, &tale)?;
     assert!(rt;
         map.as_str()
             .starts_with("<svg width=\"616\" height=\"616\" ")
@@ -139,17 +146,45 @@ fn places_of_a_grid(rt: HostRuntime) -> Result<(), Fail> {
     Ok(())
 }
 
+// What a meter shows that is not joined any more, and has a route to the coordinator beside it.
+fn shows_a_route() -> Shown {
+    let mut routes = ShownRoutes::new();
+    routes.push(ShownRoute {
+        dest: Short::default(),
+        number: 1,
+        cost: 3,
+        next: Some(0),
+    });
+    Shown {
+        halted: false,
+        address: None,
+        active: None,
+        next_counter: 0,
+        last_number: 0,
+        key0: None,
+        key1: None,
+        routes,
+        floors: [0; 16],
+        peers: ShownPeers::new(),
+    }
+}
+
 #[test]
 fn map_of_two_nodes(rt: HostRuntime) -> Result<(), Fail> {
     let tale = tale_of(rt.alloc(), &[0], &[deliver(1, 1, 3)])?;
+    let mut pasts = pasts_of(rt.alloc(), 2)?;
+    pasts.look(1, 1, &shows_a_route())?;
     let wanted =
-        "<svg width=\"250\" height=\"98\" role=\"img\"><title>Who hears whom (nodes: 2, links: 1)</title>\
+        "<svg width=\"250\" height=\"98\" role=\"img\"><title>Who hears whom, and each next hop to the coordinator (nodes: 2, links: 1)</title>\
         <path class=\"W w1 one\" d=\"M50 40L200 58\"><title>the coordinator is heard by meter 1: cost 3, frames: 1</title></path>\
+        <defs><marker id=\"hop\" orient=\"auto\" refX=\"14\"><path class=\"Z\" d=\"M0 -3L6 0L0 3z\"/></marker></defs>\
+        <path class=\"R\" d=\"M200 58L50 40\" marker-end=\"url(#hop)\">\
+        <title>route of meter 1 to the coordinator, next hop the coordinator</title></path>\
         <text class=\"c H\" x=\"125\" y=\"49\" text-anchor=\"middle\">3</text>\
         <circle class=\"N out\" data-node=\"0\" cx=\"50\" cy=\"40\" r=\"15\"/>\
         <text data-node=\"0\" x=\"50\" y=\"44\" text-anchor=\"middle\">0</text>\
         <circle class=\"N out\" data-node=\"1\" cx=\"200\" cy=\"58\" r=\"15\"/>\
         <text data-node=\"1\" x=\"200\" y=\"62\" text-anchor=\"middle\">1</text></svg>";
-    assert_eq!(rt; map_of(rt.alloc(), 2, &tale)?.as_str(), wanted);
+    assert_eq!(rt; map_of(rt.alloc(), &pasts, &tale)?.as_str(), wanted);
     Ok(())
 }

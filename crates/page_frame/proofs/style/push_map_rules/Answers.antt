@@ -2,4 +2,15 @@ use Rattle.page_frame.proofs.style.push_map_rules.Goals as goal
 
 pub returns : goal.returns
 unfolding Rattle.page_frame.specs.Style.map_text
-returns c = rw (c.rule.ensures, c.rule-2.ensures, c.rule-3.ensures, c.rule-4.ensures) at c.push_rules.ensures
+returns c =
+    rw (
+      c.rule.ensures,
+      c.rule-2.ensures,
+      c.rule-3.ensures,
+      c.rule-4.ensures,
+      c.rule-5.ensures,
+      c.rule-6.ensures,
+      c.rule-7.ensures,
+      c.rule-8.ensures,
+    )
+    at c.push_rules.ensures
