@@ -16,8 +16,11 @@ use line_script::spaced_verdict;
 use line_tale::{TaleEvent, TaleFlight};
 use node_rules::{Shown, ShownRoute};
 use plc_base::Eui;
-use sentence_parts::{Part, Who, number, place, sentence, who_at, words};
+use sentence_parts::{Part, Who, number, place, push_parts, who_at, words};
 use std::alloc::{AllocError, Global};
+
+// A part of a sentence has about so many octets, so that few sentences move while they grow.
+const PART_OCTETS: usize = 24;
 
 /// What the sentence of an event goes by: the event, the flights that it made, the frame that came, and the node that it is about.
 #[derive(Clone, Copy)]
@@ -123,7 +126,9 @@ impl<'a> Moment<'a> {
     pub fn say(&self, parts: &[Part<'_>]) -> Result<String, AllocError>
         ensures { IfOk result (λ text. string_bytes text ≡ parts_text parts.now) }
     {
-        sentence(self.alloc, parts)
+        let mut text = String::with_capacity(self.alloc, parts.len().saturating_mul(PART_OCTETS))?;
+        push_parts(&mut text, self.alloc, parts)?;
+        Ok(text)
     }
 
     /// The same, and the flights of the event in brackets.

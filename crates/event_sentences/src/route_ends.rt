@@ -1,5 +1,6 @@
 //! When the routes of a node ended.
 ghost use Rattle.std.specs.Prelude.{◌≡◌, ◌++◌, IfOk, OnOk};
+ghost use Rattle.std.specs.Bool.{OnTrue};
 ghost use Rattle.event_sentences.specs.RouteEnds as spec_ends;
 
 use node_rules::ShownRoute;
@@ -41,7 +42,7 @@ fn push_dest(valid: &mut Vec<u16>, route: &ShownRoute) -> Result<(), AllocError>
 fn valid_dests(alloc: Global, shown: &[ShownRoute]) -> Result<Vec<u16>, AllocError>
     ensures { IfOk result (λ valid. valid.items ≡ spec_ends.valid_dests shown.now) }
 {
-    let mut valid = Vec::new(alloc);
+    let mut valid = Vec::with_capacity(alloc, shown.len())?;
     for route in shown {
         push_dest(&mut valid, route)?;
     }
@@ -84,6 +85,13 @@ fn has_ended(valid: &[u16], old: &[u16]) -> bool
     old.iter().any(|dest| !has(valid, *dest))
 }
 
+// Whether two lists of addresses are the same.
+fn is_same(valid: &[u16], old: &[u16]) -> bool
+    ensures { OnTrue result (valid.now ≡ old.now) }
+{
+    valid == old
+}
+
 impl RouteEnds {
     /// No route. It takes no memory.
     pub fn new(alloc: Global) -> RouteEnds
@@ -98,6 +106,7 @@ impl RouteEnds {
     /// The routes after an event of this number, as they are shown then. Answers whether one of them ended.
     ///
     /// It fails only where memory runs out; what is left then is not said.
+    #[tactic(auto, using(crate::proofs::SameRoutes::none_ended, crate::proofs::SameRoutes::same_routes))]
     pub fn look(
         &mut self,
         alloc: Global,
@@ -108,6 +117,10 @@ impl RouteEnds {
         ensures routes { OnOk result (self.new ≡ spec_ends.routes_after event shown.now self.old) }
     {
         let valid = valid_dests(alloc, shown)?;
+        // Most events end no route.
+        if is_same(valid.as_slice(), self.valid.as_slice()) {
+            return Ok(false);
+        }
         end_all(
             &mut self.ended,
             event,
