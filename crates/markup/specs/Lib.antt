@@ -2,3 +2,4 @@ pub mod Names
 pub mod Writing
 pub mod Nesting
 pub mod Laws
+pub mod Due
