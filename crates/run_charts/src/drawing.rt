@@ -1,12 +1,13 @@
 //! What is drawn of a row: lines, arrows, dots. All numbers are pixels.
 ghost use Rattle.std.specs.Prelude.{◌≡◌, ◌<◌, ◌^◌, ◌++◌, IfOk, OnOk, string_bytes};
 ghost use Rattle.markup_parts.specs.Markups.{markup_text};
+ghost use Rattle.sentence_parts.specs.Parts.{parts_text};
 ghost use Rattle.run_charts.specs.Drawings as drawings;
 
 use crate::outcome::{Outcome, fill_class, line_class};
 use markup::{Attribute, Element};
 use markup_parts::{count, end, given, given_number, leaf, open, push_pieces, start, text};
-use sentence_parts::{number, sentence, words};
+use sentence_parts::{Part, number, push_parts, words};
 use std::alloc::{AllocError, Global};
 
 /// Where the column of a place is, from 0. A run has at most 1,000 nodes.
@@ -27,12 +28,24 @@ pub fn line_y(line: usize) -> usize
     51 + 26 * line.min(100_000)
 }
 
+// An outline has at most about so many octets.
+const OUTLINE_OCTETS: usize = 32;
+
+// An outline of these parts, in a text that seldom moves while it grows.
+fn outline_text(alloc: Global, parts: &[Part<'_>]) -> Result<String, AllocError>
+    ensures { IfOk result (λ text. string_bytes text ≡ parts_text parts.now) }
+{
+    let mut text = String::with_capacity(alloc, OUTLINE_OCTETS)?;
+    push_parts(&mut text, alloc, parts)?;
+    Ok(text)
+}
+
 // From a height down to another one.
 #[tactic(auto, unfolding(crate::specs::Drawings::fall))]
 fn fall(alloc: Global, x: usize, top: usize, bottom: usize) -> Result<String, AllocError>
     ensures { IfOk result (λ text. string_bytes text ≡ drawings.fall x top bottom) }
 {
-    sentence(
+    outline_text(
         alloc,
         &[
             words("M"),
@@ -50,7 +63,7 @@ fn fall(alloc: Global, x: usize, top: usize, bottom: usize) -> Result<String, Al
 fn level(alloc: Global, from: usize, to: usize, y: usize) -> Result<String, AllocError>
     ensures { IfOk result (λ text. string_bytes text ≡ drawings.level from to y) }
 {
-    sentence(
+    outline_text(
         alloc,
         &[
             words("M"),
@@ -69,7 +82,7 @@ fn tip(alloc: Global, neck: usize, to: usize, y: usize) -> Result<String, AllocE
     requires { y < 2 ^ 48 }
     ensures { IfOk result (λ text. string_bytes text ≡ drawings.tip neck to y) }
 {
-    sentence(
+    outline_text(
         alloc,
         &[
             words("M"),
@@ -98,7 +111,7 @@ fn stroke(
 ) -> Result<String, AllocError>
     ensures { IfOk result (λ text. string_bytes text ≡ drawings.stroke from top to bottom) }
 {
-    sentence(
+    outline_text(
         alloc,
         &[
             words("M"),
@@ -118,7 +131,7 @@ fn stroke(
 fn whole_width(alloc: Global, width: usize, y: usize) -> Result<String, AllocError>
     ensures { IfOk result (λ text. string_bytes text ≡ drawings.whole_width width y) }
 {
-    sentence(
+    outline_text(
         alloc,
         &[words("M54 "), number(y), words("H"), number(width)],
     )

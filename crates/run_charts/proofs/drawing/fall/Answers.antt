@@ -11,4 +11,4 @@ returns c =
       c.words-3.ensures,
       c.number-3.ensures,
     )
-    at c.sentence.ensures
+    at c.outline_text.ensures

@@ -13,4 +13,4 @@ returns c =
       c.words-4.ensures,
       c.number-4.ensures,
     )
-    at c.sentence.ensures
+    at c.outline_text.ensures

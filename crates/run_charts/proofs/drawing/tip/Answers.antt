@@ -17,4 +17,4 @@ returns c =
       c.words-6.ensures,
       c.saturating_sub.ensures,
     )
-    at c.sentence.ensures
+    at c.outline_text.ensures
