@@ -1,3 +1,3 @@
 pub mod Words
 pub mod Contents
-pub mod Due
+pub mod Plain

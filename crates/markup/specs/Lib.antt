@@ -2,4 +2,3 @@ pub mod Names
 pub mod Writing
 pub mod Nesting
 pub mod Laws
-pub mod Due

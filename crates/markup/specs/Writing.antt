@@ -1,5 +1,5 @@
 -- The octets of texts, tags and elements.
-use Rattle.std.specs.Prelude.{ℕ, ◌==◌, nat_lt, List, [], ◌∷◌, ◌++◌, codes, if◌then◌else◌}
+use Rattle.std.specs.Prelude.{ℕ, ◌==◌, Bool, true, false, nat_lt, List, [], ◌∷◌, ◌++◌, codes, if◌then◌else◌}
 use Rattle.std.specs.Fmt.{decimal}
 use Rattle.markup.specs.declared.names.Element.{Element}
 use Rattle.markup.specs.declared.names.Attribute.{Attribute}
@@ -17,6 +17,17 @@ escaped_octet c =
     else (if c == 39 then codes "&#39;"
     else (if c == 127 then 239 ∷ 191 ∷ 189 ∷ []
     else (if nat_lt c 32 then 239 ∷ 191 ∷ 189 ∷ [] else c ∷ []))))))
+
+-- whether an octet of a text is written as it is
+abbrev pub is_plain : ℕ → Bool
+is_plain c =
+    if c == 60 then false
+    else (if c == 62 then false
+    else (if c == 38 then false
+    else (if c == 34 then false
+    else (if c == 39 then false
+    else (if c == 127 then false
+    else (if nat_lt c 32 then false else true))))))
 
 abbrev pub escaped : List ℕ → List ℕ
 escaped [] = []

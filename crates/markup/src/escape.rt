@@ -1,9 +1,8 @@
 //! Text.
-ghost use Rattle.std.specs.Prelude.{◌≡◌, ◌≤◌, ◌<◌, ◌+◌, ◌++◌, ◌∷◌, [], IfOk, OnOk, length};
-ghost use Rattle.std.specs.Bool.{OnTrue};
+ghost use Rattle.std.specs.Prelude.{◌≡◌, ◌++◌, OnOk};
 ghost use Rattle.std.specs.Fmt.{decimal};
-ghost use Rattle.markup.specs.Due.{due};
-ghost use Rattle.markup.specs.Writing.{escaped, escaped_octet};
+ghost use Rattle.std.specs.List.{list_all};
+ghost use Rattle.markup.specs.Writing.{escaped, escaped_octet, is_plain};
 
 use itoa::Buffer;
 use std::alloc::AllocError;
@@ -26,10 +25,9 @@ fn push_octet(out: &mut Vec<u8>, octet: u8) -> Result<(), AllocError>
     }
 }
 
-#[tactic(auto, unfolding(crate::specs::Writing::escaped_octet))]
 // Whether an octet of a text is written as it is.
 fn is_plain(octet: u8) -> bool
-    ensures { OnTrue result (escaped_octet octet ≡ octet ∷ []) }
+    ensures { result ≡ is_plain octet }
 {
     match octet {
         b'<' => false,
@@ -43,32 +41,27 @@ fn is_plain(octet: u8) -> bool
     }
 }
 
-// Appends the octets of a text that are due before a place, which are written as they are, and the octet there. Answers from where on octets are
-// due then: so those between two octets that are not written as they are, are appended at once.
-fn push_due(out: &mut Vec<u8>, text: &[u8], start: usize, i: usize) -> Result<usize, AllocError>
-    requires order { start ≤ i }
-    requires within { i < length text.now }
-    ensures text { IfOk result (λ next. out.new.items ++ due next (i + 1) text.now ≡ out.old.items ++ due start i text.now) }
-    ensures order { IfOk result (λ next. next ≤ i + 1) }
+// Whether a text is written as it is, as most are.
+fn is_all_plain(text: &[u8]) -> bool
+    ensures { result ≡ list_all is_plain text.now }
 {
-    out.extend_from_slice(&text[start..i])?;
-    push_octet(out, text[i])?;
-    Ok(i + 1)
+    text.iter().all(|octet| is_plain(*octet))
 }
 
 /// Appends a text in UTF-8, between tags or in an attribute. It opens no tag and ends no attribute, whatever it holds.
 ///
 /// After an error `out` may end anywhere within the text.
+#[tactic(auto, using(crate::proofs::Plain::plain_text))]
 pub fn push_text(out: &mut Vec<u8>, text: &[u8]) -> Result<(), AllocError>
     ensures { OnOk result (out.new.items ≡ out.old.items ++ escaped text.now) }
 {
-    let mut start = 0;
-    for i in 0..text.len() {
-        if !is_plain(text[i]) {
-            start = push_due(out, text, start, i)?;
-        }
+    if is_all_plain(text) {
+        return out.extend_from_slice(text);
     }
-    out.extend_from_slice(&text[start..])
+    for octet in text {
+        push_octet(out, *octet)?;
+    }
+    Ok(())
 }
 
 /// Appends a number in decimal.

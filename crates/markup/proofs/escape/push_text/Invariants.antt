@@ -1,8 +1,7 @@
-use Rattle.std.proofs.Common.{◌≡◌, ◌≤◌, ◌++◌}
-use Rattle.markup.specs.Due.{due}
+use Rattle.std.proofs.Common.{◌≡◌, ◌++◌, drop}
 use Rattle.markup.specs.Writing.{escaped}
 use Rattle.markup.proofs.escape.push_text.Given as goal
 
--- what was written, and what is due
-abbrev pub invariant-loop-i : goal.invariant-loop-i
-invariant-loop-i l = (l.start ≤ l.i) × (l.out.items ++ due l.start l.i l.text ≡ l.fn.out.items ++ escaped l.text)
+-- what was written, and what the rest of the text will be
+abbrev pub invariant-loop-octet : goal.invariant-loop-octet
+invariant-loop-octet l = l.out.items ++ escaped (drop l.octet-index l.text) ≡ l.fn.out.items ++ escaped l.text
