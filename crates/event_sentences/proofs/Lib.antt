@@ -1,1 +1,2 @@
 pub mod SameRoutes
+pub mod InsertedAgain

@@ -35,4 +35,4 @@ pub same_routes : (event : ℕ) (shown : List ShownRoute) (routes : Routes) → 
 same_routes event shown routes same =
     ap (λ (valid : List ℕ). record { valid = valid; ended = ended_after event valid routes.valid routes.ended }) same
     ∙ ap (λ (ended : List (ℕ × ℕ)). record { valid = routes.valid; ended = ended })
-      (no_end event routes.valid routes.valid routes.ended (all_there routes.valid))
+    (no_end event routes.valid routes.valid routes.ended (all_there routes.valid))

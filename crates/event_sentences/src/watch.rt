@@ -66,12 +66,19 @@ impl Comings {
     }
 
     /// A flight comes at an event, and is taken as far as its counter or not. It fails only where memory runs out, and nothing changes then.
+    #[tactic(auto, using(crate::proofs::InsertedAgain::inserted_again))]
     pub fn push(&mut self, flight: u32, event: usize, taken: bool) -> Result<(), AllocError>
         ensures { OnOk result (self.new ≡ spec_watches.comings_with flight event taken self.old) }
     {
-        let coming = come_again(event, taken, self.of(flight));
-        self.events.insert(flight, coming)?;
-        Ok(())
+        // Most flights come to a node once, so the flight is not looked up first.
+        let first = come_again(event, taken, Coming { first: 0, taken: 0 });
+        match self.events.insert(flight, first)? {
+            None => Ok(()),
+            Some(old) => {
+                self.events.insert(flight, come_again(event, taken, old))?;
+                Ok(())
+            }
+        }
     }
 }
 
