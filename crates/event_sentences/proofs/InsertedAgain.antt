@@ -12,12 +12,15 @@ same_key n = grind (arith, nat_tests)
 module _ {X : Type 0} where
   pub inserted_again : (key : ℕ) (old new : X) (entries : List (ℕ × X))
       → insert_entry nat_cmp (insert_entry nat_cmp entries key old) key new ≡ insert_entry nat_cmp entries key new
-  inserted_again key old new [] = ap (λ (o : Ordering). match_ordering o ((key, new) ∷ (key, old) ∷ []) ((key, new) ∷ []) ((key, old) ∷ (key, new) ∷ [])) (same_key key)
+  inserted_again key old new [] =
+      ap (λ (o : Ordering). match_ordering o ((key, new) ∷ (key, old) ∷ []) ((key, new) ∷ []) ((key, old) ∷ (key, new) ∷ [])) (same_key key)
   inserted_again key old new (e ∷ es) = by_order (nat_cmp key e.0) refl (inserted_again key old new es)
     where
-      here : match_ordering (nat_cmp key key) ((key, new) ∷ ((key, old) ∷ (e ∷ es))) ((key, new) ∷ (e ∷ es)) ((key, old) ∷ insert_entry nat_cmp (e ∷ es) key new)
+      here : match_ordering (nat_cmp key key) ((key, new) ∷ ((key, old) ∷ (e ∷ es))) ((key, new) ∷ (e ∷ es))
+          ((key, old) ∷ insert_entry nat_cmp (e ∷ es) key new)
           ≡ (key, new) ∷ (e ∷ es)
-      here = ap (λ (o : Ordering). match_ordering o ((key, new) ∷ ((key, old) ∷ (e ∷ es))) ((key, new) ∷ (e ∷ es)) ((key, old) ∷ insert_entry nat_cmp (e ∷ es) key new)) (same_key key)
+      here = ap (λ (o : Ordering). match_ordering o ((key, new) ∷ ((key, old) ∷ (e ∷ es))) ((key, new) ∷ (e ∷ es))
+          ((key, old) ∷ insert_entry nat_cmp (e ∷ es) key new)) (same_key key)
 
       by_order : (o : Ordering) → nat_cmp key e.0 ≡ o
           → insert_entry nat_cmp (insert_entry nat_cmp es key old) key new ≡ insert_entry nat_cmp es key new
