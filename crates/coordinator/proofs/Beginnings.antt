@@ -30,7 +30,7 @@ use Rattle.node_rules.specs.Carrying.{Carries, nothing}
 use Rattle.plc_station.specs.StationReading as stations
 use Rattle.plc_station.proofs.Agreeing.{agrees_ringed}
 use Rattle.plc_station.proofs.Carrying.{if_some, at_some, resting_carried}
-use Rattle.coordinator.specs.CoordinatorStates.{CoordinatorState, memory_in, state_in, node_of}
+use Rattle.coordinator.specs.CoordinatorStates.{memory_in, state_in}
 use Rattle.coordinator.specs.CoordinatorAgreement.{CoordinatorAgreesWith}
 use Rattle.coordinator.specs.Opening.{Begins, halted_state}
 use Rattle.coordinator.proofs.Storing.{stored, unstored, carried_by}
@@ -203,44 +203,44 @@ module _ (s : State StationMemory) (l : StationMemory) (running : s.memory ≡ S
 
 -- # The coordinator over an opened station
 
-module _ (store : Store) (eui : Eui) (key : Key) (x : CoordinatorState) where
+module _ (store : Store) (eui : Eui) (key : Key) (b : book.Book) where
   -- the station as it is opened, of what its store gives
   abbrev pub started : Result StationMemory BadStore → State StationMemory
   started o = record { store = store; eui = eui; memory = stations.if_read o; replied = None }
 
+  -- the plan of a coordinator with this book is carried out
+  abbrev pub Begun : State StationMemory → Result (Unit {0}) RingFault → State Memory → Type 0
+  Begun s answer new = IfSome s.memory (λ l. Carries (state_in s [] [] b) (begin (memory_in [] [] b l) (first_grant key)) answer nothing new)
+
   begins_by : (answer : Result (Unit {0}) RingFault) (new : State Memory) (o : Result StationMemory BadStore) → station_of store.records ≡ o
-      → slots.opened book.entries store.records ≡ Ok x.book
+      → slots.opened book.entries store.records ≡ Ok b
       → IsSome (stations.if_read o)
-      → IfSome (state_in (started o) [] [] x.book).memory (λ m. Carries (state_in (started o) [] [] x.book) (begin m (first_grant key)) answer nothing new)
+      → Begun (started o) answer new
       → Begins store eui key answer new
   begins_by answer new (Err bad) e opened running h = absurd (cc)
   begins_by answer new (Ok l) e opened running h = record {
-    memory = memory_in [] [] x.book l;
-    read = λ i. reading (e i) (λ k. reading (opened i) (λ b. Ok (remembering k b)));
+    memory = memory_in [] [] b l;
+    read = λ i. reading (e i) (λ k. reading (opened i) (λ x. Ok (remembering k x)));
     carries = h;
   }
 
   module _ (s : State StationMemory) (is : s ≡ started (station_of store.records)) (running : IsSome s.memory)
-      (over : x.station ≡ s) (empty : (x.randoms ≡ []) × (x.sessions ≡ [])) (opened : slots.opened book.entries s.store.records ≡ Ok x.book) where
+      (opened : slots.opened book.entries s.store.records ≡ Ok b) where
     -- what the records give was read, and the plan carried out
-    pub begins : (answer : Result (Unit {0}) RingFault) (new : State Memory)
-        → IfSome (node_of x).memory (λ m. Carries (node_of x) (begin m (first_grant key)) answer nothing new) → Begins store eui key answer new
+    pub begins : (answer : Result (Unit {0}) RingFault) (new : State Memory) → Begun s answer new → Begins store eui key answer new
     begins answer new h =
         begins_by answer new (station_of store.records) refl
-        (subst (λ (k : State StationMemory). slots.opened book.entries k.store.records ≡ Ok x.book) is opened)
+        (subst (λ (k : State StationMemory). slots.opened book.entries k.store.records ≡ Ok b) is opened)
         (subst (λ (k : State StationMemory). IsSome k.memory) is running)
-        (subst (λ (n : State Memory). IfSome n.memory (λ m. Carries n (begin m (first_grant key)) answer nothing new))
-        (λ i. state_in ((over ∙ is) i) (empty.0 i) (empty.1 i) x.book) h)
+        (subst (λ (k : State StationMemory). Begun k answer new) is h)
 
     -- the first ring was not stored
-    pub refuses : (reason : RingFault) (new : State Memory)
-        → IfSome (node_of x).memory (λ m. Carries (node_of x) (begin m (first_grant key)) (Err reason) nothing new)
-        → Begins store eui key (Err rings.Store) (halted_state new.store eui)
+    pub refuses : (reason : RingFault) (new : State Memory) → Begun s (Err reason) new → Begins store eui key (Err rings.Store) (halted_state new.store eui)
     refuses reason new h =
         begins (Err rings.Store) (halted_state new.store eui)
-        (if_some (node_of x).memory _ (λ m at. halted_carries m (first_grant key) (node_of x) eui reason new
-        (ap (λ (k : State StationMemory). k.eui) (over ∙ is)) (at_some (node_of x).memory _ m at h)))
+        (if_some s.memory _ (λ l at. halted_carries (memory_in [] [] b l) (first_grant key) (state_in s [] [] b) eui reason new
+        (ap (λ (k : State StationMemory). k.eui) is) (at_some s.memory _ l at h)))
 
     -- else it runs
-    pub begun : (new : State Memory) → IfSome (node_of x).memory (λ m. Carries (node_of x) (begin m (first_grant key)) (Ok tt) nothing new) → IsSome new.memory
-    begun new h = let b = begins (Ok tt) new h in runs b.memory (first_grant key) _ new b.carries
+    pub begun : (new : State Memory) → Begun s (Ok tt) new → IsSome new.memory
+    begun new h = let x = begins (Ok tt) new h in runs x.memory (first_grant key) _ new x.carries

@@ -23,12 +23,12 @@ use Rattle.node_rules.specs.Drafts.{Draft, empty_draft, refused, sealing, checke
 use Rattle.node_rules.specs.Coordinators.{orders, lacking, with_session, sessions_full, allowed_address, challenge, challenge_by}
 use Rattle.node_rules.specs.States.{State}
 use Rattle.node_rules.specs.Carrying.{Carries}
-use Rattle.node_rules.specs.Composing.{begun}
+use Rattle.node_rules.specs.Composing.{begun, HasRoom}
 use Rattle.node_rules.proofs.Composing.{command_plan, command_units, room_seals, room_refuses, carries_behind}
 use Rattle.coordinator.specs.CoordinatorStates.{memory_in, state_in}
 use Rattle.coordinator.specs.CoordinatorAgreement.{CoordinatorAgreesWith, CoordinatorAgrees}
 use Rattle.coordinator.specs.Tables.{placed}
-use Rattle.coordinator.specs.MeshCommands.{sent_command, lacks, RoomFor}
+use Rattle.coordinator.specs.MeshCommands.{command_sent, sent_command, lacks, RoomFor}
 use Rattle.coordinator.proofs.Storing.{carried_by}
 
 -- # The plan, by what is tested
@@ -80,11 +80,11 @@ module _ (own : Eui) (m : Memory) (to now : ℕ) (server : Server) where
       command_plan orders [] opened [] [] [] 0 to (Command (command_of first)) now tt ∙ (λ i. sealing in_memory orders (from_address (sym home i)) tt)
       ∙ room_seals to (length (command_of first)) orders lacking m (from_address (address_of m.station)) tt room (long home)
 
-  first_lacks : (reason : CoordinatorRefusal) → address_of m.station ≡ Some 0
+  pub lacking_plan : (reason : CoordinatorRefusal) → address_of m.station ≡ Some 0
       → lacks m to (length (command_of (message server.eui (Challenge (first_packet server))))) ≡ Some reason
       → refused {H = Unit {0}} orders m reason ≡ challenge_by own m to now server
   unfolding from_address begins opened first is_commanded with_memory_by empty_draft
-  first_lacks reason home fault =
+  lacking_plan reason home fault =
       room_refuses to (length (command_of first)) orders lacking m (from_address (address_of m.station)) tt reason fault (long home)
 
   first_done : (s mid t : State Memory) (answer : Result (Unit {0}) CoordinatorRefusal) (out : Out) → CoordinatorAgreesWith m s.store.records
@@ -101,20 +101,15 @@ module _ (own : Eui) (m : Memory) (to now : ℕ) (server : Server) where
       (sym (ap (λ (x : State Memory). x.eui) is))
       (subst (λ (o : Option Memory). IfSome o (λ n. Carries mid (sent_command n to first now) answer out t)) held goes))
 
-  -- the same of a message that is this one
-  pub lacking_plan : (join : JoinMessage) (reason : CoordinatorRefusal) → join ≡ message server.eui (Challenge (first_packet server))
-      → address_of m.station ≡ Some 0
-      → lacks m to (length (command_of join)) ≡ Some reason → refused {H = Unit {0}} orders m reason ≡ challenge_by own m to now server
-  lacking_plan join reason same home fault = first_lacks reason home (subst (λ (j : JoinMessage). lacks m to (length (command_of j)) ≡ Some reason) same fault)
-
-  pub ordered_done : (join : JoinMessage) (s mid t : State Memory) (answer : Result (Unit {0}) CoordinatorRefusal) (out : Out)
-      → join ≡ message server.eui (Challenge (first_packet server))
-      → CoordinatorAgreesWith m s.store.records → RoomFor m to join
+  -- the same of octets that are this command
+  pub ordered_done : (octets : List ℕ) (s mid t : State Memory) (answer : Result (Unit {0}) CoordinatorRefusal) (out : Out)
+      → octets ≡ command_of (message server.eui (Challenge (first_packet server)))
+      → CoordinatorAgreesWith m s.store.records → HasRoom m.station to (length octets)
       → mid ≡ record s { memory = Some (with_session (record { server = server; way = Mesh to; since = now }) (without_oldest m)) }
-      → IfSome mid.memory (λ n. Carries mid (sent_command n to join now) answer out t) → Carries s (challenge_by own m to now server) answer out t
-  ordered_done join s mid t answer out same h room is goes =
-      first_done s mid t answer out h (subst (λ (j : JoinMessage). RoomFor m to j) same room) is
-      (subst (λ (j : JoinMessage). IfSome mid.memory (λ n. Carries mid (sent_command n to j now) answer out t)) same goes)
+      → IfSome mid.memory (λ n. Carries mid (command_sent n to octets now) answer out t) → Carries s (challenge_by own m to now server) answer out t
+  ordered_done octets s mid t answer out same h room is goes =
+      first_done s mid t answer out h (subst (λ (k : List ℕ). HasRoom m.station to (length k)) same room) is
+      (subst (λ (k : List ℕ). IfSome mid.memory (λ n. Carries mid (command_sent n to k now) answer out t)) same goes)
 
 -- # The session in the memory
 
@@ -144,7 +139,7 @@ module _ (s : State StationMemory) (randoms after : List Rand) (sessions next : 
 pub session_runs : (s mid : State Memory) (m : Memory) → mid ≡ record s { memory = Some m } → IsSome mid.memory
 session_runs s mid m is = subst (λ (o : Option Memory). IsSome o) (sym (ap (λ (x : State Memory). x.memory) is)) refl
 
-pub session_room : (s mid : State Memory) (m : Memory) (session : CoordinatorSession) (to : ℕ) (join : JoinMessage) → RoomFor m to join
-    → mid ≡ record s { memory = Some (with_session session (without_oldest m)) } → IfSome mid.memory (λ n. RoomFor n to join)
-session_room s mid m session to join room is =
-    subst (λ (o : Option Memory). IfSome o (λ n. RoomFor n to join)) (sym (ap (λ (x : State Memory). x.memory) is)) room
+pub session_room : (s mid : State Memory) (m : Memory) (session : CoordinatorSession) (to octets : ℕ) → HasRoom m.station to octets
+    → mid ≡ record s { memory = Some (with_session session (without_oldest m)) } → IfSome mid.memory (λ n. HasRoom n.station to octets)
+session_room s mid m session to octets room is =
+    subst (λ (o : Option Memory). IfSome o (λ n. HasRoom n.station to octets)) (sym (ap (λ (x : State Memory). x.memory) is)) room

@@ -147,6 +147,11 @@ module _ (own : CoordinatorIdentity) (m : Memory) (e : BookEntry) (packet : List
   unfolding by_rand
   fourth_awaited rand_p r = ap by_rand r
 
+-- what has no reason has no fault
+pub none_mapped : (o : Option EapFault) → option_map packet_fault o ≡ None → o ≡ None
+none_mapped None h = refl
+none_mapped (Some fault) h = absurd (cc)
+
 -- # The second packet
 
 module _ (own : Eui) (m : Memory) (s : CoordinatorSession) (e : BookEntry) (packet : List ℕ) (now : ℕ) where
@@ -158,10 +163,13 @@ module _ (own : Eui) (m : Memory) (s : CoordinatorSession) (e : BookEntry) (pack
       checked dropped m (option_map packet_fault fault)
       (option_map_or (λ granted. keys_for (record { eui = own; ciphers = network }) m s e (rand_p_in packet) granted now) grant (refused dropped m NotAllowed))
 
-  pub second_refused : (fault : EapFault) → second_fault (keys_of e.psk.0) s.server packet ≡ Some fault
-      → refused {H = CoordinatorHeard} dropped m (packet_fault fault) ≡ take_second (record { eui = own; ciphers = network }) m s e packet now
-  unfolding checked second_by
-  second_refused fault is = ap (λ o. second_by o (grant_for m s.server.eui)) (sym is)
+  pub second_refused : (reason : Dropped) → option_map packet_fault (second_fault (keys_of e.psk.0) s.server packet) ≡ Some reason
+      → refused {H = CoordinatorHeard} dropped m reason ≡ take_second (record { eui = own; ciphers = network }) m s e packet now
+  unfolding checked
+  second_refused reason is =
+      ap (λ o. checked dropped m o
+      (option_map_or (λ granted. keys_for (record { eui = own; ciphers = network }) m s e (rand_p_in packet) granted now) (grant_for m s.server.eui)
+      (refused dropped m NotAllowed))) (sym is)
 
   pub second_taken : (granted : Granted) → second_fault (keys_of e.psk.0) s.server packet ≡ None → Some granted ≡ grant_for m s.server.eui
       → keys_for (record { eui = own; ciphers = network }) m s e (rand_p_in packet) granted now
@@ -184,7 +192,7 @@ module _ (own : Eui) (m : Memory) (s : CoordinatorSession) (e : BookEntry) (pack
 -- # What is noted
 
 module _ (s : State Memory) (m : Memory) (session : CoordinatorSession) (e : BookEntry) where
-  pub noted_by : (mid t : State Memory) (done : Bool) → mid ≡ record s { memory = Some (with_session session m) }
+  noted_by : (mid t : State Memory) (done : Bool) → mid ≡ record s { memory = Some (with_session session m) }
       → IfSome mid.memory (λ n. Does mid (with_book_entry e (empty_draft n)) done t)
       → Does s (noting m session e) done t
   noted_by mid t done is does =
@@ -194,6 +202,12 @@ module _ (s : State Memory) (m : Memory) (session : CoordinatorSession) (e : Boo
         wrote = subst (λ (k : Store). Wrote k (noting m session e).puts done t.store) (ap (λ (x : State Memory). x.store) is) d.wrote;
         state = d.state ∙ (λ i. record t { eui = (is i).eui; memory = if done then Some (noting m session e).memory else None });
       }
+
+  -- the same of an entry that is this one
+  pub noted_as : (f : BookEntry) → e ≡ f → (mid t : State Memory) (done : Bool) → mid ≡ record s { memory = Some (with_session session m) }
+      → IfSome mid.memory (λ n. Does mid (with_book_entry e (empty_draft n)) done t)
+      → Does s (noting m session f) done t
+  noted_as f same mid t done is does = subst (λ (x : BookEntry). Does s (noting m session x) done t) same (noted_by mid t done is does)
 
   pub entry_room : (mid : State Memory) → mid ≡ record s { memory = Some (with_session session m) } → book.has_room m.book e.eui ≡ true
       → IfSome mid.memory (λ n. book.has_room n.book e.eui ≡ true)
@@ -229,29 +243,16 @@ module _ (s : State Memory) (m : Memory) (session : CoordinatorSession) (e : Boo
         t r out room does.wrote
         (ap (λ (x : State Memory). x.eui) does.state) (ap (λ (x : State Memory). x.memory) does.state) c
 
-    -- the same by the session as it was read again
-    pub keys_room_by : (x : CoordinatorSession) → session ≡ x → (mid : State Memory) → Does s (noting m session e) true mid → RoomToSay m session.way join
-        → IfSome mid.memory (λ k. RoomToSay k x.way join)
-    keys_room_by x same mid does room = subst (λ (y : CoordinatorSession). IfSome mid.memory (λ k. RoomToSay k y.way join)) same (keys_room mid does room)
-
-    pub keys_given_by : (x : CoordinatorSession) → session ≡ x → (mid t : State Memory) (r : Result (Unit {0}) Dropped) (out : Out)
-        → RoomToSay m session.way join → Does s (noting m session e) true mid
-        → IfSome mid.memory (λ k. Carries mid (saying k x.way join tags now) r out t)
-        → Carries s (keying m session e join granted tags now) (sayings.answered (Keyed session.server.eui granted) r) out t
-    keys_given_by x same mid t r out room does c =
-        keys_given mid t r out room does
-        (subst (λ (y : CoordinatorSession). IfSome mid.memory (λ k. Carries mid (saying k y.way join tags now) r out t)) (sym same) c)
-
 -- # The fourth packet
 
 module _ (own : Eui) (m : Memory) (s : CoordinatorSession) (e : BookEntry) (packet : List ℕ) (rand_p : Rand) (now : ℕ) where
   fourth_by : Option EapFault → Hearing
   fourth_by fault = checked dropped m (option_map packet_fault fault) (accepts m s rand_p now)
 
-  pub fourth_refused : (fault : EapFault) → fourth_fault (keys_of e.psk.0) s.server rand_p.0 packet ≡ Some fault
-      → refused {H = CoordinatorHeard} dropped m (packet_fault fault) ≡ take_fourth (record { eui = own; ciphers = network }) m s e packet rand_p now
-  unfolding checked fourth_by
-  fourth_refused fault is = ap fourth_by (sym is)
+  pub fourth_refused : (reason : Dropped) → option_map packet_fault (fourth_fault (keys_of e.psk.0) s.server rand_p.0 packet) ≡ Some reason
+      → refused {H = CoordinatorHeard} dropped m reason ≡ take_fourth (record { eui = own; ciphers = network }) m s e packet rand_p now
+  unfolding checked
+  fourth_refused reason is = ap (λ o. checked dropped m o (accepts m s rand_p now)) (sym is)
 
   accept_plan : (agreed : Agreed) (tags : TagList) → agreed ≡ server_agrees s.server rand_p → tags ≡ fourth_tags (peer_of s.server rand_p)
       → accepting m s agreed tags now ≡ accepts m s rand_p now

@@ -1,5 +1,5 @@
 -- Messages that go in a command for which there is room.
-use Rattle.std.specs.Prelude.{ℕ, ◌&&◌, Bool, nat_lt, is_some, length, Option}
+use Rattle.std.specs.Prelude.{ℕ, ◌&&◌, Bool, List, nat_lt, is_some, length, Option}
 use Rattle.joining_messages.specs.declared.message.JoinMessage.{JoinMessage}
 use Rattle.node_rules.specs.declared.refusal.CoordinatorRefusal.{CoordinatorRefusal}
 use Rattle.node_rules.specs.Memory.{Memory, Command, next_hop}
@@ -19,10 +19,14 @@ RoomFor m to join = HasRoom m.station to (length (command_of join))
 abbrev pub lacks : Memory → ℕ → ℕ → Option CoordinatorRefusal
 lacks m to octets = command_fault orders lacking m.station to octets
 
--- the command goes, from the coordinator's address
+-- a command goes, from the coordinator's address
+abbrev pub command_sent : Memory → ℕ → List ℕ → ℕ → Ordering (Unit {0})
+command_sent m to octets now =
+    within (λ l. with_station l m) (answer_if_sent orders tt) (command_alone m.station 0 to (Command octets) now)
+
+-- the one that carries a message
 abbrev pub sent_command : Memory → ℕ → JoinMessage → ℕ → Ordering (Unit {0})
-sent_command m to join now =
-    within (λ l. with_station l m) (answer_if_sent orders tt) (command_alone m.station 0 to (Command (command_of join)) now)
+sent_command m to join now = command_sent m to (command_of join) now
 
 -- whether there is a route to an address, and a counter for a frame
 abbrev pub reaches : Memory → ℕ → Bool

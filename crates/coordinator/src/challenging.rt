@@ -1,6 +1,5 @@
 //! Sessions that the operator opens with a meter over the mesh.
-ghost use Rattle.std.specs.Prelude.{◌≡◌, false, Err, Some, None, IfSome, IfNone, IsSome, IfOk, IfErr, length};
-ghost use Rattle.joining_messages.specs.Messages.{IsMessage};
+ghost use Rattle.std.specs.Prelude.{◌≡◌, ◌≤◌, false, Err, Some, None, IfSome, IfNone, IsSome, length};
 ghost use Rattle.joining_messages.specs.declared.message.JoinBody.TheVariants as body;
 ghost use Rattle.node_rules.specs.Joining.{command_of};
 ghost use Rattle.node_rules.specs.Joining as joining;
@@ -9,12 +8,12 @@ ghost use Rattle.node_rules.specs.Coordinators as rules;
 ghost use Rattle.node_rules.specs.Carrying.{Carries, nothing};
 ghost use Rattle.coordinator.specs.CoordinatorStates.{node_of};
 ghost use Rattle.coordinator.specs.CoordinatorAgreement.{CoordinatorReady, CoordinatorReadyToAnswer, CoordinatorAgrees};
-ghost use Rattle.coordinator.specs.MeshCommands as mesh_plans;
+ghost use Rattle.station_queues.specs.declared.bodies.TheConstants.{LONGEST_COMMAND};
 
 use crate::coordinator::Coordinator;
 use crate::sessions::ServerSession;
 use eap_psk::Server;
-use joining_base::command_length;
+use joining_base::{CommandBuf, write_command};
 use joining_messages::{JoinBody, JoinMessage};
 use node_rules::{CoordinatorRefusal, Way};
 use plc_base::{EapBuf, Eui, Keeper, Out, Rand, Short};
@@ -44,17 +43,6 @@ impl<K: Keeper + Drop> Coordinator<K> {
         self.randoms.oldest()
     }
 
-    // What stands in the way of the command that carries a message.
-    fn message_room(&self, to: Short, message: &JoinMessage) -> Result<(), CoordinatorRefusal>
-        requires ready { CoordinatorReady (node_of self.now) }
-        requires message { IsMessage message.now }
-        ensures room { IfOk result (λ _. IfSome (node_of self.now).memory (λ m. mesh_plans.RoomFor m to message.now)) }
-        ensures refused { IfErr result (λ reason. IfSome (node_of self.now).memory (λ m.
-            mesh_plans.lacks m to (length (command_of message.now)) ≡ Some reason)) }
-    {
-        self.room_for(to, command_length(message))
-    }
-
     // A session begins, with the oldest random value.
     pub(crate) fn begin_session(&mut self, session: ServerSession)
         requires ready { CoordinatorReady (node_of self.old) }
@@ -68,31 +56,48 @@ impl<K: Keeper + Drop> Coordinator<K> {
         self.sessions.put(session);
     }
 
-    // This first packet goes to a meter over the mesh, and its session begins.
+    // Writes the command that carries the first packet of a session with this random value, and answers the session's server.
+    fn first_command(&self, eui: Eui, value: Rand, command: &mut CommandBuf) -> Server
+        ensures server { result ≡ joining.server_for eui self.now.station.eui value }
+        ensures command { command.new
+            ≡ command_of (joining.message eui (body.Challenge (joining.first_packet result))) }
+        ensures some { 1 ≤ length command.new }
+        ensures fits { length command.new ≤ LONGEST_COMMAND }
+    {
+        let mut eap = EapBuf::new();
+        let server = Server::first(eui, self.station.eui(), value, &mut eap);
+        let body = JoinBody::Challenge { eap };
+        write_command(&JoinMessage { eui, body }, command);
+        server
+    }
+
+    // The command with the first packet goes to a meter over the mesh, and its session begins.
     fn open_by(
         &mut self,
         server: Server,
         to: Short,
-        message: &JoinMessage,
+        command: &CommandBuf,
         now: u64,
         out: &mut Out,
     ) -> Result<(), CoordinatorRefusal>
         requires ready { CoordinatorReadyToAnswer (node_of self.old) out.old }
         requires room { IfSome (node_of self.old).memory (λ m. rules.sessions_full m server.eui ≡ false) }
         requires value { IfSome (node_of self.old).memory (λ m. IsSome (words.oldest m)) }
-        requires message { IsMessage message.now }
-        requires packet { message.now ≡ joining.message server.eui (body.Challenge (joining.first_packet server)) }
+        requires some { 1 ≤ length command.now }
+        requires fits { length command.now ≤ LONGEST_COMMAND }
+        requires packet { command.now
+            ≡ command_of (joining.message server.eui (body.Challenge (joining.first_packet server))) }
         ensures carries { IfSome (node_of self.old).memory (λ m. Carries (node_of self.old)
             (rules.challenge_by self.old.station.eui m to now server) result out.new (node_of self.new)) }
         ensures holds { CoordinatorAgrees (node_of self.new) }
     {
-        self.message_room(to, message)?;
+        self.room_for(to, command.len() as u16)?;
         self.begin_session(ServerSession {
             server,
             way: Way::Mesh(to),
             since: now,
         });
-        self.send_join_message(to, message, now, out)
+        self.send_in_room(to, command, now, out)
     }
 
     // The first packet goes to a meter over the mesh, and its session begins with this random value, the oldest.
@@ -112,10 +117,9 @@ impl<K: Keeper + Drop> Coordinator<K> {
             result out.new (node_of self.new)) }
         ensures holds { CoordinatorAgrees (node_of self.new) }
     {
-        let mut eap = EapBuf::new();
-        let server = Server::first(eui, self.station.eui(), value, &mut eap);
-        let body = JoinBody::Challenge { eap };
-        self.open_by(server, to, &JoinMessage { eui, body }, now, out)
+        let mut command = CommandBuf::new();
+        let server = self.first_command(eui, value, &mut command);
+        self.open_by(server, to, &command, now, out)
     }
 
     /// Opens a session with a meter over the mesh, at a time in seconds: a random value is taken, and the first packet goes to the meter

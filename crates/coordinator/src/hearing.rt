@@ -98,7 +98,8 @@ impl<K: Keeper + Drop> Coordinator<K> {
             result out.new (node_of self.new)) }
         ensures holds { CoordinatorAgrees (node_of self.new) }
     {
-        let Some(join) = read_message(octets) else {
+        let read = read_message(octets);
+        let Some(join) = &read else {
             return Err(Dropped::BadUnit);
         };
         if !may_come(*way, join.eui) {

@@ -1,5 +1,5 @@
 //! What the coordinator says to a meter in answer, by the way of the meter's session.
-ghost use Rattle.std.specs.Prelude.{◌≡◌, ◌≤◌, Some, IfSome, IfOk, IfErr, length};
+ghost use Rattle.std.specs.Prelude.{◌≡◌, ◌≤◌, [], Some, IfSome, IfOk, IfErr, length};
 ghost use Rattle.joining_messages.specs.Messages.{IsMessage};
 ghost use Rattle.node_rules.specs.declared.heard.Way.TheVariants as ways;
 ghost use Rattle.node_rules.specs.Joining.{command_of};
@@ -8,7 +8,7 @@ ghost use Rattle.node_rules.specs.Calls.{command_fault};
 ghost use Rattle.node_rules.specs.Carrying.{Carries};
 ghost use Rattle.node_rules.specs.Composing.{HasRoom};
 ghost use Rattle.coordinator.specs.CoordinatorStates.{node_of};
-ghost use Rattle.coordinator.specs.CoordinatorAgreement.{CoordinatorReady, CoordinatorReadyToAnswer, CoordinatorAgrees};
+ghost use Rattle.coordinator.specs.CoordinatorAgreement.{CoordinatorReady, CoordinatorAgrees};
 ghost use Rattle.coordinator.specs.MeshCommands as mesh_plans;
 ghost use Rattle.coordinator.specs.JoiningReplies as saying;
 ghost use Rattle.station_queues.specs.declared.bodies.TheConstants.{LONGEST_COMMAND};
@@ -17,7 +17,8 @@ use crate::coordinator::Coordinator;
 use joining_base::{command_length, dropped_send, push_down};
 use joining_messages::JoinMessage;
 use node_rules::{Dropped, Way};
-use plc_base::{Keeper, Out, Short, TagList};
+use plc_base::{Keeper, Out, Short};
+use std::mem::take;
 
 // The address of the coordinator.
 fn coordinator_address() -> Short
@@ -67,12 +68,12 @@ impl<K: Keeper + Drop> Coordinator<K> {
         }
     }
 
-    // Says a message for which there is room over the mesh, and gives out these pair tags with it.
+    // Says a message for which there is room over the mesh, beside the pair tags of the step. They are put aside meanwhile, since what the station
+    // sends replaces all that `out` holds.
     fn say_over_mesh(
         &mut self,
         to: Short,
         message: &JoinMessage,
-        mut tags: TagList,
         now: u64,
         out: &mut Out,
     ) -> Result<(), Dropped>
@@ -80,9 +81,10 @@ impl<K: Keeper + Drop> Coordinator<K> {
         requires message { IsMessage message.now }
         requires room { IfSome (node_of self.old).memory (λ m. mesh_plans.RoomFor m to message.now) }
         ensures carries { IfSome (node_of self.old).memory (λ m. Carries (node_of self.old)
-            (saying.saying m (ways.Mesh to) message.now tags now) result out.new (node_of self.new)) }
+            (saying.saying m (ways.Mesh to) message.now out.old.tags now) result out.new (node_of self.new)) }
         ensures holds { CoordinatorAgrees (node_of self.new) }
     {
+        let mut tags = take(&mut out.tags);
         let Ok(()) = self.send_join_message(to, message, now, out) else {
             tags.made.clear();
             out.tags = tags;
@@ -92,33 +94,29 @@ impl<K: Keeper + Drop> Coordinator<K> {
         Ok(())
     }
 
-    // Says a message for which there is room, and gives out these pair tags with it.
+    // Says a message for which there is room, beside the pair tags of the step.
     pub(crate) fn say(
         &mut self,
         way: Way,
         message: &JoinMessage,
-        tags: TagList,
         now: u64,
         out: &mut Out,
     ) -> Result<(), Dropped>
-        requires ready { CoordinatorReadyToAnswer (node_of self.old) out.old }
+        requires ready { CoordinatorReady (node_of self.old) }
+        requires quiet { out.old.frames ≡ [] }
         requires message { IsMessage message.now }
         requires room { IfSome (node_of self.old).memory (λ m. saying.RoomToSay m way message.now) }
         ensures carries { IfSome (node_of self.old).memory (λ m. Carries (node_of self.old)
-            (saying.saying m way message.now tags now) result out.new (node_of self.new)) }
+            (saying.saying m way message.now out.old.tags now) result out.new (node_of self.new)) }
         ensures holds { CoordinatorAgrees (node_of self.new) }
     {
         match way {
             Way::Air(_) => {
                 push_down(message, coordinator_address(), out);
-                out.tags = tags;
                 return Ok(());
             }
-            Way::Near(_) => {
-                out.tags = tags;
-                return Ok(());
-            }
-            Way::Mesh(to) => return self.say_over_mesh(to, message, tags, now, out),
+            Way::Near(_) => return Ok(()),
+            Way::Mesh(to) => return self.say_over_mesh(to, message, now, out),
         }
     }
 }

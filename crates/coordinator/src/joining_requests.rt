@@ -15,7 +15,7 @@ use crate::sessions::ServerSession;
 use eap_psk::Server;
 use joining_messages::{JoinBody, JoinMessage};
 use node_rules::{CoordinatorHeard, Dropped, Way};
-use plc_base::{EapBuf, Eui, Keeper, Out, Rand, TagList};
+use plc_base::{EapBuf, Eui, Keeper, Out, Rand};
 
 impl<K: Keeper + Drop> Coordinator<K> {
     // Whether a meter is allowed.
@@ -46,7 +46,7 @@ impl<K: Keeper + Drop> Coordinator<K> {
             Err(reason) => return Err(reason),
             Ok(()) => {}
         }
-        let Ok(()) = self.say(*way, &message, TagList::new(), now, out) else {
+        let Ok(()) = self.say(*way, &message, now, out) else {
             return Err(Dropped::Store);
         };
         Ok(CoordinatorHeard::Declined)
@@ -74,7 +74,7 @@ impl<K: Keeper + Drop> Coordinator<K> {
             Ok(()) => {}
         }
         self.begin_session(session);
-        let Ok(()) = self.say(session.way, message, TagList::new(), session.since, out) else {
+        let Ok(()) = self.say(session.way, message, session.since, out) else {
             return Err(Dropped::Store);
         };
         Ok(CoordinatorHeard::Challenged)

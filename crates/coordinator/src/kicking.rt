@@ -1,7 +1,10 @@
 //! Meters that the operator shuts out.
-ghost use Rattle.std.specs.Prelude.{◌≡◌, true, is_ok, Err, Some, IfSome, IfNone};
+ghost use Rattle.std.specs.Prelude.{◌≡◌, ◌≤◌, true, is_ok, length, Err, Some, IfSome, IfNone};
+ghost use Rattle.joining_messages.specs.declared.message.JoinBody.TheVariants as body;
 ghost use Rattle.group_keys.specs.KeyBook as book;
 ghost use Rattle.node_rules.specs.Drafts as drafts;
+ghost use Rattle.node_rules.specs.Joining.{command_of, message};
+ghost use Rattle.station_queues.specs.declared.bodies.TheConstants.{LONGEST_COMMAND};
 ghost use Rattle.node_rules.specs.Coordinators as rules;
 ghost use Rattle.node_rules.specs.Carrying.{Carries, nothing};
 ghost use Rattle.coordinator.specs.CoordinatorStates.{node_of};
@@ -13,9 +16,20 @@ ghost use Rattle.coordinator.specs.Kicking as kicking;
 use crate::coordinator::Coordinator;
 use crate::entries::kicked;
 use group_keys::BookEntry;
+use joining_base::{CommandBuf, write_command};
 use joining_messages::{JoinBody, JoinMessage};
 use node_rules::CoordinatorRefusal;
 use plc_base::{Eui, Failed, Keeper, Out, Short};
+
+// Writes the command Kick to a meter.
+fn write_kick(eui: Eui, command: &mut CommandBuf)
+    ensures command { command.new ≡ command_of (message eui body.Kick) }
+    ensures some { 1 ≤ length command.new }
+    ensures fits { length command.new ≤ LONGEST_COMMAND }
+{
+    let body = JoinBody::Kick;
+    write_command(&JoinMessage { eui, body }, command);
+}
 
 impl<K: Keeper + Drop> Coordinator<K> {
     // The entry of a meter is stored as kicked, and its session ends.
@@ -64,11 +78,9 @@ impl<K: Keeper + Drop> Coordinator<K> {
         let Ok(()) = self.shut_out(&entry) else {
             return Err(CoordinatorRefusal::Store);
         };
-        let message = JoinMessage {
-            eui: entry.eui,
-            body: JoinBody::Kick,
-        };
-        self.send_join_message(to, &message, 0, out)
+        let mut command = CommandBuf::new();
+        write_kick(entry.eui, &mut command);
+        self.send_in_room(to, &command, 0, out)
     }
 
     /// Shuts a meter out: it may not join any more, the keys that were issued to it are cleared, and its session ends. Where there is

@@ -1,5 +1,5 @@
 //! Messages that go in a command for which there is room.
-ghost use Rattle.std.specs.Prelude.{◌≡◌, ◌≤◌, Some, Ok, Err, IfSome, IfOk, IfErr};
+ghost use Rattle.std.specs.Prelude.{◌≡◌, ◌≤◌, Some, Ok, Err, IfSome, IfOk, IfErr, length};
 ghost use Rattle.joining_messages.specs.Messages.{IsMessage};
 ghost use Rattle.node_rules.specs.Carrying.{Carries};
 ghost use Rattle.node_rules.specs.Composing.{HasRoom};
@@ -44,6 +44,28 @@ impl<K: Keeper + Drop> Coordinator<K> {
         true
     }
 
+    // Sends a command that has room.
+    pub(crate) fn send_in_room(
+        &mut self,
+        to: Short,
+        command: &CommandBuf,
+        now: u64,
+        out: &mut Out,
+    ) -> Result<(), CoordinatorRefusal>
+        requires ready { CoordinatorReady (node_of self.old) }
+        requires some { 1 ≤ length command.now }
+        requires fits { length command.now ≤ LONGEST_COMMAND }
+        requires room { IfSome (node_of self.old).memory (λ m. HasRoom m.station to (length command.now)) }
+        ensures carries { IfSome (node_of self.old).memory (λ m.
+            Carries (node_of self.old) (mesh_plans.command_sent m to command.now now) result out.new (node_of self.new)) }
+        ensures holds { CoordinatorAgrees (node_of self.new) }
+    {
+        let Ok(_) = self.station.send_command(to, command.octets(), now, out) else {
+            return Err(CoordinatorRefusal::Store);
+        };
+        Ok(())
+    }
+
     // Sends a message in a command that has room.
     pub(crate) fn send_join_message(
         &mut self,
@@ -59,11 +81,8 @@ impl<K: Keeper + Drop> Coordinator<K> {
             Carries (node_of self.old) (mesh_plans.sent_command m to message.now now) result out.new (node_of self.new)) }
         ensures holds { CoordinatorAgrees (node_of self.new) }
     {
-        let mut octets = CommandBuf::new();
-        write_command(message, &mut octets);
-        let Ok(_) = self.station.send_command(to, octets.octets(), now, out) else {
-            return Err(CoordinatorRefusal::Store);
-        };
-        Ok(())
+        let mut command = CommandBuf::new();
+        write_command(message, &mut command);
+        self.send_in_room(to, &command, now, out)
     }
 }

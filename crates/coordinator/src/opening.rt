@@ -9,7 +9,7 @@ ghost use Rattle.node_rules.specs.Coordinators as rules;
 ghost use Rattle.node_rules.specs.Agreement.{Agrees};
 ghost use Rattle.node_rules.specs.Carrying.{Carries, nothing};
 ghost use Rattle.plc_station.specs.StationReading as stations;
-ghost use Rattle.coordinator.specs.CoordinatorStates.{node_of};
+ghost use Rattle.coordinator.specs.CoordinatorStates.{memory_in, node_of, state_in};
 ghost use Rattle.coordinator.specs.CoordinatorAgreement.{CoordinatorAgrees};
 ghost use Rattle.coordinator.specs.Opening as opening;
 
@@ -32,6 +32,63 @@ fn first_grant(key: &Key) -> Grant
     }
 }
 
+// The book that the keeper of an opened station holds. BadStore where it has no reading, Memory where there is none for it.
+fn open_book<K: Keeper + Drop>(
+    alloc: Global,
+    station: &mut Station<K>,
+) -> Result<KeyBook, OpenFault>
+    ensures same { station.new ≡ station.old }
+    ensures read { IfOk result (λ b. slots.opened book.entries station.old.store.records ≡ Ok b) }
+    ensures kept { slots.IsGapless book.entries station.old.store.records
+        → IfOk result (λ b. book.AgreesWith b station.old.store.records) }
+    ensures bad { IfErr result (λ fault. opening.IsBookFault (slots.opened book.entries station.old.store.records) fault) }
+{
+    match KeyBook::open(alloc, station.keeper_mut()) {
+        Ok(book) => Ok(book),
+        Err(store_tables::OpenFault::Memory) => Err(OpenFault::Memory),
+        Err(store_tables::OpenFault::BadStore(bad)) => Err(OpenFault::BadStore(bad)),
+    }
+}
+
+// Stores the first ring at the station of a coordinator, whichever book it has, and reads the store again. The station's own `install` would ask
+// that it agrees with its keeper, and a store whose tables have gaps does not give that.
+fn store_first<K: Keeper + Drop>(station: &mut Station<K>, key: &Key) -> Result<(), RingFault>
+    requires running { IsSome station.old.memory }
+    requires read { station.old.memory ≡ stations.if_read (station_of station.old.store.records) }
+    requires empty { IfSome station.old.memory (λ l. is_some l.ring ≡ false) }
+    ensures carries { (b : book.Book) → IfSome station.old.memory (λ l. Carries (state_in station.old [] [] b)
+        (rules.begin (memory_in [] [] b l) (first_grant key.now)) result nothing (state_in station.new [] [] b)) }
+    ensures holds { (b : book.Book) → Agrees station.old → book.AgreesWith b station.old.store.records
+        → CoordinatorAgrees (state_in station.new [] [] b) }
+{
+    let Ok(mut ring) = KeyRing::open(station.keeper_mut()) else {
+        unreachable!()
+    };
+    let Ok(()) = ring.keep(station.keeper_mut(), Some(first_grant(key))) else {
+        station.halt();
+        return Err(RingFault::Store);
+    };
+    let Ok(()) = station.restart() else {
+        unreachable!()
+    };
+    Ok(())
+}
+
+// Installs the first ring at the station of a coordinator, whichever book it has, where it has none.
+fn begin<K: Keeper + Drop>(station: &mut Station<K>, key: &Key) -> Result<(), RingFault>
+    requires running { IsSome station.old.memory }
+    requires read { station.old.memory ≡ stations.if_read (station_of station.old.store.records) }
+    ensures carries { (b : book.Book) → IfSome station.old.memory (λ l. Carries (state_in station.old [] [] b)
+        (rules.begin (memory_in [] [] b l) (first_grant key.now)) result nothing (state_in station.new [] [] b)) }
+    ensures holds { (b : book.Book) → Agrees station.old → book.AgreesWith b station.old.store.records
+        → opening.MayBegin station.old.store.records → CoordinatorAgrees (state_in station.new [] [] b) }
+{
+    if station.ring().grant().is_some() {
+        return Ok(());
+    }
+    store_first(station, key)
+}
+
 impl<K: Keeper + Drop> Coordinator<K> {
     /// A coordinator over what its keeper holds, not halted, without a random value and a session. Where the keeper holds no ring,
     /// it stores one with the address 0000 and this key, active at index 0. Its memory is taken here, and only here.
@@ -51,81 +108,22 @@ impl<K: Keeper + Drop> Coordinator<K> {
             → IfOk result (λ c. CoordinatorAgrees (node_of c)) }
         ensures refused { IfErr result (λ e. opening.IsOpenFault (K.store keeper) eui key.now e.0 (K.store e.1)) }
     {
-        let station = match Station::open(alloc, keeper, eui) {
+        let mut station = match Station::open(alloc, keeper, eui) {
             Ok(station) => station,
             Err(fault) => return Err(fault),
         };
-        let mut coordinator = match Coordinator::over(alloc, station) {
-            Ok(coordinator) => coordinator,
-            Err(fault) => return Err(fault),
+        let book = match open_book(alloc, &mut station) {
+            Ok(book) => book,
+            Err(fault) => return Err((fault, station.into_keeper())),
         };
-        let Ok(()) = coordinator.begin(key) else {
-            return Err((OpenFault::Store, coordinator.station.into_keeper()));
+        let Ok(()) = begin(&mut station, key) else {
+            return Err((OpenFault::Store, station.into_keeper()));
         };
-        Ok(coordinator)
-    }
-
-    // The coordinator over a station that was just opened. BadStore where the book has no reading, Memory where there is none for it.
-    fn over(alloc: Global, mut station: Station<K>) -> Result<Coordinator<K>, (OpenFault, K)>
-        ensures station { IfOk result (λ c. c.station ≡ station) }
-        ensures empty { IfOk result (λ c. (c.randoms ≡ []) × (c.sessions ≡ [])) }
-        ensures read { IfOk result (λ c. slots.opened book.entries station.store.records ≡ Ok c.book) }
-        ensures kept { slots.IsGapless book.entries station.store.records
-            → IfOk result (λ c. book.AgreesWith c.book station.store.records) }
-        ensures bad { IfErr result (λ e. (opening.IsBookFault (slots.opened book.entries station.store.records) e.0)
-            × (K.store e.1 ≡ station.store)) }
-    {
-        match KeyBook::open(alloc, station.keeper_mut()) {
-            Ok(book) => Ok(Coordinator {
-                station,
-                book,
-                randoms: RandomValues::new(),
-                sessions: Sessions::new(),
-            }),
-            Err(store_tables::OpenFault::Memory) => Err((OpenFault::Memory, station.into_keeper())),
-            Err(store_tables::OpenFault::BadStore(bad)) => Err((
-                OpenFault::BadStore(bad),
-                station.into_keeper(),
-            )),
-        }
-    }
-
-    // Installs the first ring where it has none.
-    fn begin(&mut self, key: &Key) -> Result<(), RingFault>
-        requires running { IsSome self.old.station.memory }
-        requires read { self.old.station.memory ≡ stations.if_read (station_of self.old.station.store.records) }
-        ensures carries { IfSome (node_of self.old).memory (λ m.
-            Carries (node_of self.old) (rules.begin m (first_grant key.now)) result nothing (node_of self.new)) }
-        ensures holds { Agrees self.old.station → book.AgreesWith self.old.book self.old.station.store.records
-            → opening.MayBegin self.old.station.store.records → CoordinatorAgrees (node_of self.new) }
-    {
-        if self.station.ring().grant().is_some() {
-            return Ok(());
-        }
-        self.store_first(key)
-    }
-
-    // Stores the first ring and reads the store again. The station's own `install` would ask that it agrees with its keeper, and a
-    // store whose tables have gaps does not give that.
-    fn store_first(&mut self, key: &Key) -> Result<(), RingFault>
-        requires running { IsSome self.old.station.memory }
-        requires read { self.old.station.memory ≡ stations.if_read (station_of self.old.station.store.records) }
-        requires empty { IfSome self.old.station.memory (λ l. is_some l.ring ≡ false) }
-        ensures carries { IfSome (node_of self.old).memory (λ m.
-            Carries (node_of self.old) (rules.begin m (first_grant key.now)) result nothing (node_of self.new)) }
-        ensures holds { Agrees self.old.station → book.AgreesWith self.old.book self.old.station.store.records
-            → CoordinatorAgrees (node_of self.new) }
-    {
-        let Ok(mut ring) = KeyRing::open(self.station.keeper_mut()) else {
-            unreachable!()
-        };
-        let Ok(()) = ring.keep(self.station.keeper_mut(), Some(first_grant(key))) else {
-            self.station.halt();
-            return Err(RingFault::Store);
-        };
-        let Ok(()) = self.station.restart() else {
-            unreachable!()
-        };
-        Ok(())
+        Ok(Coordinator {
+            station,
+            book,
+            randoms: RandomValues::new(),
+            sessions: Sessions::new(),
+        })
     }
 }

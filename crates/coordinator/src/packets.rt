@@ -1,9 +1,16 @@
 //! The packets with which a meter answers.
-ghost use Rattle.std.specs.Prelude.{◌≡◌, ◌<◌, length, true, false, is_ok, Some, None, IfSome};
+ghost use Rattle.std.specs.Prelude.{◌≡◌, ◌<◌, [], length, true, false, is_ok, Some, None, IfOk, IfSome, IsSome, OnErr, OnOk};
+ghost use Rattle.std.specs.Option.{option_map};
+ghost use Rattle.std.specs.Result.{result_err};
+ghost use Rattle.eap_psk.specs.Faults.{fourth_fault, second_fault};
+ghost use Rattle.eap_psk.specs.Keys.{keys_of};
+ghost use Rattle.eap_psk.specs.Sessions.{peer_of, rand_p_in, server_after, third_packet};
+ghost use Rattle.eap_psk.specs.Tags.{fourth_tags, no_tags, second_tags};
 ghost use Rattle.joining_messages.specs.Messages.{IsMessage};
 ghost use Rattle.joining_messages.specs.declared.message.JoinBody.TheVariants as body;
 ghost use Rattle.group_keys.specs.KeyBook as book;
 ghost use Rattle.node_rules.specs.Joining.{message};
+ghost use Rattle.node_rules.specs.MemoryDrafts.{packet_fault};
 ghost use Rattle.node_rules.specs.Coordinators as rules;
 ghost use Rattle.node_rules.specs.Carrying.{Carries};
 ghost use Rattle.coordinator.specs.CoordinatorStates.{node_of, identity_of};
@@ -14,12 +21,12 @@ ghost use Rattle.coordinator.specs.Packets as answering;
 use crate::coordinator::Coordinator;
 use crate::entries::issued;
 use crate::sessions::ServerSession;
-use eap_psk::{Agreed, PskKeys};
+use eap_psk::{Agreed, PskKeys, Server};
 use group_keys::BookEntry;
 use joining_base::dropped_packet;
 use joining_messages::{JoinBody, JoinMessage};
 use node_rules::{CoordinatorHeard, Dropped};
-use plc_base::{EapBuf, Eui, Failed, Grant, Keeper, Out, Rand, TagList};
+use plc_base::{EapBuf, Eui, Failed, Grant, Keeper, Key, Out, Rand, TagList};
 
 // The message with a third packet.
 fn third_with(eui: Eui, eap: EapBuf) -> JoinMessage
@@ -30,6 +37,54 @@ fn third_with(eui: Eui, eap: EapBuf) -> JoinMessage
     JoinMessage {
         eui,
         body: JoinBody::Challenge { eap },
+    }
+}
+
+// Takes the second packet of a session: the server that awaits the fourth, and the message with the third, which carries this grant. The keys of
+// the pair key are gone before that is sent.
+fn third_message(
+    server: &Server,
+    psk: &Key,
+    packet: &[u8],
+    grant: &Grant,
+    tags: &mut TagList,
+) -> Result<(Server, JoinMessage), Dropped>
+    requires awaits { server.now.rand_p ≡ None }
+    ensures exact { option_map packet_fault (second_fault (keys_of psk.now.0) server.now packet.now) ≡ result_err result }
+    ensures next { IfOk result (λ x. x.0 ≡ server_after server.now packet.now) }
+    ensures message { IfOk result (λ x. x.1 ≡ message server.now.eui (body.Challenge
+        (third_packet (keys_of psk.now.0) 2 (peer_of server.now (rand_p_in packet.now)) grant.now))) }
+    ensures valid { IfOk result (λ x. IsMessage x.1) }
+    ensures tags { OnOk result (tags.new ≡ second_tags (peer_of server.now (rand_p_in packet.now)) grant.now) }
+    ensures untagged { OnErr result (tags.new ≡ no_tags) }
+{
+    let keys = PskKeys::of(psk);
+    let mut eap = EapBuf::new();
+    match server.take_second(&keys, packet, grant, &mut eap, tags) {
+        Err(fault) => Err(dropped_packet(fault)),
+        Ok(next) => Ok((next, third_with(server.eui, eap))),
+    }
+}
+
+// Takes the fourth packet of a session: the random values that both ends hold then. The keys of the pair key are gone before the meter is accepted.
+fn check_fourth(
+    server: &Server,
+    psk: &Key,
+    packet: &[u8],
+    tags: &mut TagList,
+) -> Result<Agreed, Dropped>
+    requires awaits { IsSome server.now.rand_p }
+    ensures exact { IfSome server.now.rand_p (λ rand_p.
+        option_map packet_fault (fourth_fault (keys_of psk.now.0) server.now rand_p.0 packet.now) ≡ result_err result) }
+    ensures agreed { IfOk result (λ agreed.
+        (agreed.rand_s ≡ server.now.rand_s) × (Some agreed.rand_p ≡ server.now.rand_p)) }
+    ensures tags { IfOk result (λ agreed. tags.new ≡ fourth_tags (peer_of server.now agreed.rand_p)) }
+    ensures untagged { OnErr result (tags.new ≡ no_tags) }
+{
+    let keys = PskKeys::of(psk);
+    match server.take_fourth(&keys, packet, tags) {
+        Err(fault) => Err(dropped_packet(fault)),
+        Ok(agreed) => Ok(agreed),
     }
 }
 
@@ -63,55 +118,72 @@ impl<K: Keeper + Drop> Coordinator<K> {
         self.sessions.put(session);
     }
 
-    // A session goes on, and this entry is that of its meter. It is halted where that is not stored.
-    fn note_keys(&mut self, session: ServerSession, entry: BookEntry) -> Result<(), Failed>
+    // A session goes on with this server, and the keys of a grant are noted as issued to its meter. It is halted where that is not stored.
+    fn note_keys(
+        &mut self,
+        session: &ServerSession,
+        server: &Server,
+        entry: &BookEntry,
+        grant: &Grant,
+    ) -> Result<(), Failed>
         requires ready { CoordinatorReady (node_of self.old) }
-        requires session { IfSome (node_of self.old).memory (λ m. rules.sessions_full m session.server.eui ≡ false) }
-        requires entry { IfSome (node_of self.old).memory (λ m. book.has_room m.book entry.eui ≡ true) }
-        ensures does { IfSome (node_of self.old).memory (λ m.
-            Does (node_of self.old) (answering.noting m session entry) (is_ok result) (node_of self.new)) }
+        requires session { IfSome (node_of self.old).memory (λ m. rules.sessions_full m server.now.eui ≡ false) }
+        requires entry { IfSome (node_of self.old).memory (λ m. book.has_room m.book session.now.server.eui ≡ true) }
+        ensures does { IfSome (node_of self.old).memory (λ m. Does (node_of self.old)
+            (answering.noting m (record session.now { server = server.now })
+            (book.issued_entry session.now.server.eui grant.now entry.now)) (is_ok result) (node_of self.new)) }
         ensures holds { CoordinatorAgrees (node_of self.new) }
     {
-        self.put_session(session);
-        let Ok(_) = self.keep_entry(entry) else {
+        self.put_session(ServerSession {
+            server: *server,
+            ..*session
+        });
+        let Ok(_) = self.keep_entry(issued(session.server.eui, grant, entry)) else {
             return Err(Failed);
         };
         Ok(())
     }
 
-    // This third packet goes to a meter: its session goes on, and the keys of its grant are noted as issued.
+    // This third packet goes to a meter: its session goes on with this server, and the keys of its grant are noted as issued.
     fn give_keys(
         &mut self,
-        session: ServerSession,
-        entry: BookEntry,
+        session: &ServerSession,
+        server: &Server,
+        entry: &BookEntry,
         message: &JoinMessage,
-        grant: Grant,
-        mut tags: TagList,
+        grant: &Grant,
         now: u64,
         out: &mut Out,
     ) -> Result<CoordinatorHeard<'static>, Dropped>
-        requires ready { CoordinatorReadyToAnswer (node_of self.old) out.old }
-        requires session { IfSome (node_of self.old).memory (λ m. rules.sessions_full m session.server.eui ≡ false) }
-        requires entry { IfSome (node_of self.old).memory (λ m. book.has_room m.book entry.eui ≡ true) }
+        requires ready { CoordinatorReady (node_of self.old) }
+        requires quiet { out.old.frames ≡ [] }
+        requires session { IfSome (node_of self.old).memory (λ m. rules.sessions_full m server.now.eui ≡ false) }
+        requires entry { IfSome (node_of self.old).memory (λ m. book.has_room m.book session.now.server.eui ≡ true) }
         requires message { IsMessage message.now }
         ensures carries { IfSome (node_of self.old).memory (λ m. Carries (node_of self.old)
-            (answering.keying m session entry message.now grant tags now) result out.new (node_of self.new)) }
+            (answering.keying m (record session.now { server = server.now })
+            (book.issued_entry session.now.server.eui grant.now entry.now) message.now grant.now out.old.tags now)
+            result out.new (node_of self.new)) }
         ensures holds { CoordinatorAgrees (node_of self.new) }
     {
-        let eui = session.server.eui;
         match self.say_room(session.way, message) {
-            Err(reason) => return Err(reason),
+            Err(reason) => {
+                out.tags.clear();
+                return Err(reason);
+            }
             Ok(()) => {}
         }
-        let Ok(()) = self.note_keys(session, entry) else {
-            tags.made.clear();
-            out.tags = tags;
+        let Ok(()) = self.note_keys(session, server, entry, grant) else {
+            out.tags.made.clear();
             return Err(Dropped::Store);
         };
-        let Ok(()) = self.say(session.way, message, tags, now, out) else {
+        let Ok(()) = self.say(session.way, message, now, out) else {
             return Err(Dropped::Store);
         };
-        Ok(CoordinatorHeard::Keyed { eui, grant })
+        Ok(CoordinatorHeard::Keyed {
+            eui: server.eui,
+            grant: *grant,
+        })
     }
 
     // Takes the second packet of a session.
@@ -131,28 +203,12 @@ impl<K: Keeper + Drop> Coordinator<K> {
             result out.new (node_of self.new)) }
         ensures holds { CoordinatorAgrees (node_of self.new) }
     {
-        let eui = session.server.eui;
-        let grant = self.grant_for(eui).unwrap();
-        let keys = PskKeys::of(&entry.psk);
-        let mut eap = EapBuf::new();
-        let mut tags = TagList::new();
-        match session
-            .server
-            .take_second(&keys, packet, &grant, &mut eap, &mut tags)
-        {
-            Err(fault) => Err(dropped_packet(fault)),
-            Ok(server) => {
-                let next = ServerSession { server, ..*session };
-                let message = third_with(eui, eap);
-                self.give_keys(
-                    next,
-                    issued(eui, &grant, entry),
-                    &message,
-                    grant,
-                    tags,
-                    now,
-                    out,
-                )
+        let grant = self.grant_for(session.server.eui).unwrap();
+        let third = third_message(&session.server, &entry.psk, packet, &grant, &mut out.tags);
+        match &third {
+            Err(reason) => Err(*reason),
+            Ok((server, message)) => {
+                self.give_keys(session, server, entry, message, &grant, now, out)
             }
         }
     }
@@ -162,22 +218,25 @@ impl<K: Keeper + Drop> Coordinator<K> {
         &mut self,
         session: &ServerSession,
         agreed: Agreed,
-        tags: TagList,
         now: u64,
         out: &mut Out,
     ) -> Result<CoordinatorHeard<'static>, Dropped>
-        requires ready { CoordinatorReadyToAnswer (node_of self.old) out.old }
+        requires ready { CoordinatorReady (node_of self.old) }
+        requires quiet { out.old.frames ≡ [] }
         ensures carries { IfSome (node_of self.old).memory (λ m. Carries (node_of self.old)
-            (answering.accepting m session.now agreed tags now) result out.new (node_of self.new)) }
+            (answering.accepting m session.now agreed out.old.tags now) result out.new (node_of self.new)) }
         ensures holds { CoordinatorAgrees (node_of self.new) }
     {
         let message = acceptance(session.server.eui);
         match self.say_room(session.way, &message) {
-            Err(reason) => return Err(reason),
+            Err(reason) => {
+                out.tags.clear();
+                return Err(reason);
+            }
             Ok(()) => {}
         }
         self.end_session(session.server.eui);
-        let Ok(()) = self.say(session.way, &message, tags, now, out) else {
+        let Ok(()) = self.say(session.way, &message, now, out) else {
             return Err(Dropped::Store);
         };
         Ok(CoordinatorHeard::Done {
@@ -203,11 +262,9 @@ impl<K: Keeper + Drop> Coordinator<K> {
             result out.new (node_of self.new)) }
         ensures holds { CoordinatorAgrees (node_of self.new) }
     {
-        let keys = PskKeys::of(&entry.psk);
-        let mut tags = TagList::new();
-        match session.server.take_fourth(&keys, packet, &mut tags) {
-            Err(fault) => Err(dropped_packet(fault)),
-            Ok(agreed) => self.accept_meter(session, agreed, tags, now, out),
+        match check_fourth(&session.server, &entry.psk, packet, &mut out.tags) {
+            Err(reason) => Err(reason),
+            Ok(agreed) => self.accept_meter(session, agreed, now, out),
         }
     }
 
@@ -246,12 +303,14 @@ impl<K: Keeper + Drop> Coordinator<K> {
             (rules.join_with_packet (identity_of self.old) m eui packet.now now) result out.new (node_of self.new)) }
         ensures holds { CoordinatorAgrees (node_of self.new) }
     {
-        let Some(entry) = self.allowed_one(eui) else {
+        let allowed = self.allowed_one(eui);
+        let Some(entry) = &allowed else {
             return Err(Dropped::NotAllowed);
         };
-        let Some(session) = self.session_of(eui) else {
+        let open = self.session_of(eui);
+        let Some(session) = &open else {
             return Err(Dropped::NoSession);
         };
-        self.take_packet(&session, &entry, packet, now, out)
+        self.take_packet(session, entry, packet, now, out)
     }
 }

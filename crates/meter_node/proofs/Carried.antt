@@ -5,6 +5,8 @@ use Rattle.std.specs.Option.{option_map}
 use Rattle.store_tables.specs.Writes.{Wrote}
 use Rattle.plc_base.specs.declared.key.Rand.{Rand}
 use Rattle.plc_base.specs.declared.out_frame.Out.{Out}
+use Rattle.plc_base.specs.declared.tags.TagList.{TagList}
+use Rattle.eap_psk.specs.Tags.{no_tags}
 use Rattle.store_tables.proofs.WritesLemmas.{wrote_none}
 use Rattle.group_keys.specs.declared.fault.RingFault.{RingFault}
 use Rattle.joining_messages.specs.declared.message.JoinBody.TheVariants as body
@@ -36,6 +38,10 @@ if_mapped f (Some m) P h = h m refl
 
 pub on_node : (x : MeterState) (P : Memory → Type 0) → ((l : StationMemory) → x.station.memory ≡ Some l → P (memory_with x l)) → IfSome (node_of x).memory P
 on_node x P h = if_mapped (memory_with x) x.station.memory P h
+
+-- what gave out nothing, and was given no tags after that
+pub untagged : (out : Out) (tags : TagList) → out ≡ nothing → (out.tags ≡ no_tags → tags ≡ no_tags) → record out { tags = tags } ≡ nothing
+untagged out tags empty none = λ i. record { frames = (empty i).frames; tags = none (λ j. (empty j).tags) i }
 
 -- nothing changes, for this reason
 pub refuses : {H E : Type 0} (ends : Ends E) (x y : MeterState) (l : StationMemory) (reason : E) (p : Plan Memory (Result H E)) (out : Out)

@@ -38,7 +38,7 @@ use Rattle.node_rules.proofs.Composing.{installed, not_installed, Whole, CutOff,
 use Rattle.plc_station.proofs.Carrying.{at_some}
 use Rattle.meter_node.specs.MeterStates.{MeterState, memory_with, node_of, identity_of}
 use Rattle.meter_node.specs.Hearing.{first_refusal, peer_in, third_refusal}
-use Rattle.meter_node.proofs.CommandRules.{Commands, commanded, not_commanded, stopped_before, untagged_cut, goes_in_command, lacks_in_command, address_at}
+use Rattle.meter_node.proofs.CommandRules.{Commands, commanded, not_commanded, stopped_before, goes_in_command, lacks_in_command, address_at}
 use Rattle.meter_node.proofs.CommandRules.{same_frames}
 use Rattle.meter_node.proofs.ChallengeRules.{changes_with, ring_changes, ring_fails, replying, reply_goes, replies_by_agent, replies_in_command, take_goes}
 use Rattle.meter_node.proofs.ChallengeRules.{takes_by_agent, takes_in_command}
@@ -92,18 +92,18 @@ module _ (x : MeterState) (l : StationMemory) (packet : List ℕ) (now : ℕ) (p
           h
           (wrote_none x.station.store) refl own.1 room c is_more))
 
-      pub command_failed : (e : SendRefusal) → Carries x.station (calls.send_command l 0 (command_of Second) now) (Err e) out u
-          → Carries (node_of x) (meters.reply (identity_of x) (memory_with x l) ByCommand packet now) (Err dropped.store) out (node_of (Replied ByCommand u r))
-      command_failed e c =
+      pub command_failed : (e : SendRefusal) (more : Out) → Carries x.station (calls.send_command l 0 (command_of Second) now) (Err e) out u
+          → more ≡ record out { tags = record { made = []; opened = [] } }
+          → Carries (node_of x) (meters.reply (identity_of x) (memory_with x l) ByCommand packet now) (Err dropped.store) more (node_of (Replied ByCommand u r))
+      command_failed e more c is_more =
           let own = address_at l joined in
-          subst (λ (k : List Rand). Carries (node_of x) (meters.reply (identity_of x) (memory_with x l) ByCommand packet now) (Err dropped.store) out
+          subst (λ (k : List Rand). Carries (node_of x) (meters.reply (identity_of x) (memory_with x l) ByCommand packet now) (Err dropped.store) more
           (node_of (Replied ByCommand u k))) (sym left)
-          (subst (λ (p : Plan Memory (Result MeterHeard Dropped)). Carries (node_of x) p (Err dropped.store) out
+          (subst (λ (p : Plan Memory (Result MeterHeard Dropped)). Carries (node_of x) p (Err dropped.store) more
           (node_of (Replied ByCommand u (drop 1 x.randoms)))) (plan_reply own.0 own.1)
           (not_commanded x (Replied ByCommand u (drop 1 x.randoms)) x.station l [] (first_tags peer).made [] own.0 0 (command_of Second) now heard.Replied out
-          out e
-          (wrote_none x.station.store) refl own.1 room c
-          (untagged_cut x (Replied ByCommand u (drop 1 x.randoms)) x.station l [] [] [] own.0 0 (command_of Second) now heard.Replied out out e own.1 room c)))
+          more e
+          (wrote_none x.station.store) refl own.1 room c is_more))
 
     pub reply_lacks : (reason : Dropped) → IsSome l.ring → command_fault dropped dropped_for l 0 (length (command_of Second)) ≡ Some reason
         → refused {H = MeterHeard} dropped (memory_with x l) reason ≡ meters.reply (identity_of x) (memory_with x l) ByCommand packet now

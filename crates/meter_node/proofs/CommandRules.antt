@@ -252,12 +252,12 @@ sent_as s u l to octets join now r out zero is c =
     subst (λ (k : List ℕ). Carries s (calls.send_command l 0 k now) r out u) is
     (subst (λ (k : ℕ). Carries s (calls.send_command l k octets now) r out u) zero c)
 
--- the same where its memory is not named
-pub sent_some : (s u : State StationMemory) (to : ℕ) (octets : List ℕ) (join : JoinMessage) (now : ℕ) (r : Result SentHow SendRefusal) (out : Out) → to ≡ 0
-    → octets ≡ command_of join
+-- the same of octets, where its memory is not named
+pub sent_zero : (s u : State StationMemory) (to : ℕ) (octets command : List ℕ) (now : ℕ) (r : Result SentHow SendRefusal) (out : Out) → to ≡ 0
+    → octets ≡ command
     → IfSome s.memory (λ k. Carries s (calls.send_command k to octets now) r out u)
-    → IfSome s.memory (λ k. Carries s (calls.send_command k 0 (command_of join) now) r out u)
-sent_some s u to octets join now r out zero is c =
+    → IfSome s.memory (λ k. Carries s (calls.send_command k 0 command now) r out u)
+sent_zero s u to octets command now r out zero is c =
     subst (λ (o : List ℕ). IfSome s.memory (λ k. Carries s (calls.send_command k 0 o now) r out u)) is
     (subst (λ (n : ℕ). IfSome s.memory (λ k. Carries s (calls.send_command k n octets now) r out u)) zero c)
 

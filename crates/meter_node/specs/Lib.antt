@@ -3,4 +3,5 @@ pub mod MeterStates
 pub mod MeterCalls
 pub mod Reading
 pub mod Hearing
+pub mod SendingUp
 pub mod Laws

@@ -8,12 +8,11 @@ ghost use Rattle.plc_station.specs.Ready.{ReadyToAnswer};
 ghost use Rattle.meter_node.specs.MeterCalls.{MeterAfter};
 ghost use Rattle.meter_node.specs.MeterStates.{identity_of, node_of};
 
-use crate::commanding::{coordinator, join_with, write_up};
+use crate::commanding::{push_answer, send_answer};
 use crate::meter::Meter;
 use crate::session::{Session, SessionWay};
-use joining_base::{CommandBuf, push_up};
 use node_rules::{Dropped, MeterHeard};
-use plc_base::{EapBuf, Keeper, Out, Short, TagList};
+use plc_base::{EapBuf, Keeper, Out, Short};
 
 // Whether a packet counts as a first one.
 #[tactic(auto, unfolding(plc_base::specs::Fields::octet))]
@@ -43,8 +42,7 @@ impl<K: Keeper + Drop> Meter<K> {
     {
         self.awaits(agent)?;
         let mut eap = EapBuf::new();
-        let mut tags = TagList::new();
-        let peer = self.second(packet, &mut eap, &mut tags)?;
+        let peer = self.second(packet, &mut eap, &mut out.tags)?;
         self.randoms.drop_oldest();
         self.session = Some(Session {
             session_way: SessionWay::ByAgent(agent),
@@ -52,9 +50,7 @@ impl<K: Keeper + Drop> Meter<K> {
             since: now,
         });
         let eui = self.station.eui();
-        let join = join_with(eui, eap);
-        push_up(&join, agent, eui, out);
-        out.tags = tags;
+        push_answer(eui, &eap, agent, eui, out);
         Ok(MeterHeard::Replied)
     }
 
@@ -72,26 +68,23 @@ impl<K: Keeper + Drop> Meter<K> {
         ensures after { MeterAfter self.old self.new }
     {
         let mut eap = EapBuf::new();
-        let mut tags = TagList::new();
-        let peer = self.second(packet, &mut eap, &mut tags)?;
-        let eui = self.station.eui();
-        let join = join_with(eui, eap);
-        let mut command = CommandBuf::new();
-        write_up(&join, &mut command);
-        self.room(&command)?;
+        let peer = self.second(packet, &mut eap, &mut out.tags)?;
+        match self.answer_room(&eap) {
+            Err(reason) => {
+                out.tags.clear();
+                return Err(reason);
+            }
+            Ok(()) => {}
+        }
         self.randoms.drop_oldest();
         self.session = Some(Session {
             session_way: SessionWay::ByCommand,
             peer: Some(peer),
             since: now,
         });
-        let Ok(_) = self
-            .station
-            .send_command(coordinator(), command.octets(), now, out)
-        else {
+        let Ok(_) = send_answer(&mut self.station, &eap, now, out) else {
             return Err(Dropped::Store);
         };
-        out.tags = tags;
         Ok(MeterHeard::Replied)
     }
 
@@ -111,18 +104,17 @@ impl<K: Keeper + Drop> Meter<K> {
     {
         self.awaits(agent)?;
         let mut eap = EapBuf::new();
-        let mut tags = TagList::new();
-        let taken = self.fourth(packet, &mut eap, &mut tags)?;
+        let fourth = self.fourth(packet, &mut eap, &mut out.tags);
+        let taken = match &fourth {
+            Ok(taken) => taken,
+            Err(reason) => return Err(*reason),
+        };
         self.session = None;
         let Ok(()) = self.station.install(&taken.grant) else {
-            tags.made.clear();
-            out.tags = tags;
+            out.tags.made.clear();
             return Err(Dropped::Store);
         };
-        let eui = self.station.eui();
-        let join = join_with(eui, eap);
-        push_up(&join, agent, taken.peer.eui, out);
-        out.tags = tags;
+        push_answer(self.station.eui(), &eap, agent, taken.peer.eui, out);
         Ok(MeterHeard::Took(taken.agreed))
     }
 
@@ -143,28 +135,26 @@ impl<K: Keeper + Drop> Meter<K> {
             return Err(Dropped::NoSession);
         }
         let mut eap = EapBuf::new();
-        let mut tags = TagList::new();
-        let taken = self.fourth(packet, &mut eap, &mut tags)?;
-        let eui = self.station.eui();
-        let join = join_with(eui, eap);
-        let mut command = CommandBuf::new();
-        write_up(&join, &mut command);
-        self.room(&command)?;
+        let fourth = self.fourth(packet, &mut eap, &mut out.tags);
+        let taken = match &fourth {
+            Ok(taken) => taken,
+            Err(reason) => return Err(*reason),
+        };
+        match self.answer_room(&eap) {
+            Err(reason) => {
+                out.tags.clear();
+                return Err(reason);
+            }
+            Ok(()) => {}
+        }
         self.session = None;
         let Ok(()) = self.station.install(&taken.grant) else {
-            tags.made.clear();
-            out.tags = tags;
+            out.tags.made.clear();
             return Err(Dropped::Store);
         };
-        let Ok(_) = self
-            .station
-            .send_command(coordinator(), command.octets(), now, out)
-        else {
-            tags.made.clear();
-            out.tags = tags;
+        let Ok(_) = send_answer(&mut self.station, &eap, now, out) else {
             return Err(Dropped::Store);
         };
-        out.tags = tags;
         Ok(MeterHeard::Took(taken.agreed))
     }
 

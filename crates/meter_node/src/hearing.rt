@@ -235,10 +235,11 @@ impl<K: Keeper + Drop> Meter<K> {
             result out.new (node_of self.new)) }
         ensures after { MeterAfter self.old self.new }
     {
-        let Some(join) = read_message(body) else {
+        let read = read_message(body);
+        let Some(join) = &read else {
             return Err(Dropped::BadUnit);
         };
-        self.hear_join(way, &join, now, out)
+        self.hear_join(way, join, now, out)
     }
 
     /// Hears a frame that was accepted, over a link of this cost, under a number of the caller's, at a time in seconds. A joining

@@ -1,9 +1,9 @@
 //! What a meter answers to the packets of a joining.
-ghost use Rattle.std.specs.Prelude.{◌≡◌, Some, IfOk, IfSome, slice_get};
+ghost use Rattle.std.specs.Prelude.{◌≡◌, Some, IfOk, IfSome, OnErr, slice_get};
 ghost use Rattle.std.specs.Result.{result_err};
 ghost use Rattle.eap_psk.specs.Keys.{keys_of};
 ghost use Rattle.eap_psk.specs.Sessions.{agreed_by, fourth_packet, granted_by, identifier_of, peer_for, second_packet};
-ghost use Rattle.eap_psk.specs.Tags.{first_tags, third_tags};
+ghost use Rattle.eap_psk.specs.Tags.{first_tags, no_tags, third_tags};
 ghost use Rattle.node_rules.specs.Memory as memory;
 ghost use Rattle.node_rules.specs.Meters as meters;
 ghost use Rattle.meter_node.specs.MeterStates.{memory_with};
@@ -55,6 +55,7 @@ impl<K: Keeper + Drop> Meter<K> {
         ensures written { IfOk result (λ peer. eap.new
             ≡ second_packet (keys_of self.now.psk.0) (identifier_of packet.now) peer) }
         ensures tags { IfOk result (λ peer. tags.new ≡ first_tags peer) }
+        ensures untagged { OnErr result (tags.old ≡ no_tags → tags.new ≡ no_tags) }
     {
         let Some(value) = self.randoms.oldest() else {
             return Err(Dropped::NoRandom);
@@ -81,6 +82,7 @@ impl<K: Keeper + Drop> Meter<K> {
         ensures written { IfOk result (λ x. eap.new
             ≡ fourth_packet (keys_of self.now.psk.0) (identifier_of packet.now) x.peer) }
         ensures tags { IfOk result (λ x. tags.new ≡ third_tags x.peer (identifier_of packet.now) x.grant) }
+        ensures untagged { OnErr result (tags.old ≡ no_tags → tags.new ≡ no_tags) }
     {
         let Some(session) = self.session else {
             return Err(Dropped::NoSession);

@@ -15,12 +15,17 @@ returns-in-Err-clause-carries g c =
 
 pub returns-in_default-clause-carries : goal.returns-in_default-clause-carries
 returns-in_default-clause-carries g c =
-    if_some (node_of c.args.self.now).memory _ (λ m running. declined m c.args.way.now c.args.eui c.args.now (node_of c.args.self.now) _ c.new.result (Err _) _
-    (at_some (node_of c.args.self.now).memory _ m running c.requires.ready.holds) running c.new.ensures
+    if_some (node_of c.args.self.now).memory _ (λ m running. declined m c.args.way.now c.args.eui c.args.now (node_of c.args.self.now) _
+    c.args.out.now.tags (Err _) _
+    (at_some (node_of c.args.self.now).memory _ m running c.requires.ready.holds) running (λ i. (c.requires.ready.empty i).tags)
     (at_some (node_of c.args.self.now).memory _ m running c.in-Ok.ensures.room) c.in_default.ensures.carries)
 
 pub returns-clause-carries : goal.returns-clause-carries
 returns-clause-carries g c =
-    if_some (node_of c.args.self.now).memory _ (λ m running. declined m c.args.way.now c.args.eui c.args.now (node_of c.args.self.now) _ c.new.result (Ok _) _
-    (at_some (node_of c.args.self.now).memory _ m running c.requires.ready.holds) running c.new.ensures
+    if_some (node_of c.args.self.now).memory _ (λ m running. declined m c.args.way.now c.args.eui c.args.now (node_of c.args.self.now) _
+    c.args.out.now.tags (Ok _) _
+    (at_some (node_of c.args.self.now).memory _ m running c.requires.ready.holds) running (λ i. (c.requires.ready.empty i).tags)
     (at_some (node_of c.args.self.now).memory _ m running c.in-Ok.ensures.room) c.in-Ok-say.ensures.carries)
+
+pub say-requires-clause-quiet : goal.say-requires-clause-quiet
+say-requires-clause-quiet g c = λ i. (c.requires.ready.empty i).frames

@@ -1,9 +1,12 @@
 use Rattle.plc_station.proofs.Carrying.{if_some, at_some}
+use Rattle.node_rules.specs.Memory.{CoordinatorSession}
 use Rattle.coordinator.specs.CoordinatorStates.{node_of}
-use Rattle.std.proofs.Common.{true, false}
+use Rattle.std.proofs.Common.{true, false, ap, ◌∙◌}
+use Rattle.group_keys.specs.declared.key_book.BookEntry.{BookEntry}
+use Rattle.group_keys.specs.KeyBook.{has_room}
 use Rattle.coordinator.proofs.Storing.{by_some}
 use Rattle.coordinator.proofs.Challenges.{session_runs}
-use Rattle.coordinator.proofs.PacketRules.{noted_by, entry_room}
+use Rattle.coordinator.proofs.PacketRules.{noted_as, entry_room}
 use Rattle.coordinator.proofs.coordinator.Coordinator.note_keys.Goals as goal
 
 pub keep_entry-requires-clause-ready : goal.keep_entry-requires-clause-ready
@@ -17,15 +20,22 @@ keep_entry-requires-clause-ready g c =
 
 pub keep_entry-requires-clause-room : goal.keep_entry-requires-clause-room
 keep_entry-requires-clause-room g c =
-    by_some (node_of c.args.self.now).memory _ c.requires.ready.running (λ m running. entry_room (node_of c.args.self.now) m c.args.session c.args.entry _
-    (at_some (node_of c.args.self.now).memory _ m running c.put_session.ensures.state) (at_some (node_of c.args.self.now).memory _ m running c.requires.entry))
+    let s : CoordinatorSession = record { server = c.args.server.now; way = c.session.inside.way; since = c.session.inside.since } in
+    by_some (node_of c.args.self.now).memory _ c.requires.ready.running (λ m running. entry_room (node_of c.args.self.now) m s c.issued.result _
+    (at_some (node_of c.args.self.now).memory _ m running c.put_session.ensures.state)
+    (ap (λ (x : BookEntry). has_room m.book x.eui) c.issued.ensures
+    ∙ at_some (node_of c.args.self.now).memory _ m running (rw (← c.session.view_is) at c.requires.entry)))
 
 pub returns-in_default-clause-does : goal.returns-in_default-clause-does
 returns-in_default-clause-does g c =
-    if_some (node_of c.args.self.now).memory _ (λ m running. noted_by (node_of c.args.self.now) m c.args.session c.args.entry _ _ false
-    (at_some (node_of c.args.self.now).memory _ m running c.put_session.ensures.state) c.in_default.ensures.does)
+    let s : CoordinatorSession = record { server = c.args.server.now; way = c.session.inside.way; since = c.session.inside.since } in
+    rw (← c.session.view_is) (if_some (node_of c.args.self.now).memory _ (λ m running. noted_as (node_of c.args.self.now) m s c.issued.result _
+    c.issued.ensures _ _ false
+    (at_some (node_of c.args.self.now).memory _ m running c.put_session.ensures.state) c.in_default.ensures.does))
 
 pub returns-clause-does : goal.returns-clause-does
 returns-clause-does g c =
-    if_some (node_of c.args.self.now).memory _ (λ m running. noted_by (node_of c.args.self.now) m c.args.session c.args.entry _ _ true
-    (at_some (node_of c.args.self.now).memory _ m running c.put_session.ensures.state) c.in-Ok.ensures.does)
+    let s : CoordinatorSession = record { server = c.args.server.now; way = c.session.inside.way; since = c.session.inside.since } in
+    rw (← c.session.view_is) (if_some (node_of c.args.self.now).memory _ (λ m running. noted_as (node_of c.args.self.now) m s c.issued.result _
+    c.issued.ensures _ _ true
+    (at_some (node_of c.args.self.now).memory _ m running c.put_session.ensures.state) c.in-Ok.ensures.does))

@@ -23,7 +23,6 @@ say-requires-clause-ready g c =
           by_some (node_of c.args.self.now).memory _ c.requires.ready.running
           (λ m running. session_runs (node_of c.args.self.now) _ _ (at_some (node_of c.args.self.now).memory _ m running c.begin_session.ensures.state));
       holds = c.begin_session.ensures.holds;
-      empty = c.requires.ready.empty;
     }
 
 pub say-requires-clause-room : goal.say-requires-clause-room
@@ -43,8 +42,9 @@ returns-in_default-clause-carries g c =
       server = c.session-2.inside.server;
       way = c.session-2.inside.way;
       since = c.session-2.inside.since;
-    }) (c.session.view_is ∙ sym c.session-2.view_is) (node_of c.args.self.now) _ _ c.args.message.now c.new.result (Err _) _
-    (at_some (node_of c.args.self.now).memory _ m running c.requires.ready.holds) (rw (← c.session.view_is) at c.requires.packet) c.new.ensures
+    }) (c.session.view_is ∙ sym c.session-2.view_is) (node_of c.args.self.now) _ _ c.args.message.now c.args.out.now.tags (Err _) _
+    (at_some (node_of c.args.self.now).memory _ m running c.requires.ready.holds) (rw (← c.session.view_is) at c.requires.packet)
+    (λ i. (c.requires.ready.empty i).tags)
     (at_some (node_of c.args.self.now).memory _ m running c.in-Ok.ensures.room)
     (at_some (node_of c.args.self.now).memory _ m running (rw (← c.session.view_is) at c.begin_session.ensures.state)) c.in_default.ensures.carries))
 
@@ -56,7 +56,11 @@ returns-clause-carries g c =
       server = c.session-2.inside.server;
       way = c.session-2.inside.way;
       since = c.session-2.inside.since;
-    }) (c.session.view_is ∙ sym c.session-2.view_is) (node_of c.args.self.now) _ _ c.args.message.now c.new.result (Ok _) _
-    (at_some (node_of c.args.self.now).memory _ m running c.requires.ready.holds) (rw (← c.session.view_is) at c.requires.packet) c.new.ensures
+    }) (c.session.view_is ∙ sym c.session-2.view_is) (node_of c.args.self.now) _ _ c.args.message.now c.args.out.now.tags (Ok _) _
+    (at_some (node_of c.args.self.now).memory _ m running c.requires.ready.holds) (rw (← c.session.view_is) at c.requires.packet)
+    (λ i. (c.requires.ready.empty i).tags)
     (at_some (node_of c.args.self.now).memory _ m running c.in-Ok.ensures.room)
     (at_some (node_of c.args.self.now).memory _ m running (rw (← c.session.view_is) at c.begin_session.ensures.state)) c.in-Ok-say.ensures.carries))
+
+pub say-requires-clause-quiet : goal.say-requires-clause-quiet
+say-requires-clause-quiet g c = λ i. (c.requires.ready.empty i).frames

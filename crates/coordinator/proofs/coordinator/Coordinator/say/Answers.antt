@@ -13,29 +13,29 @@ use Rattle.coordinator.proofs.coordinator.Coordinator.say.Goals as goal
 pub returns-in-Air-clause-carries : goal.returns-in-Air-clause-carries
 returns-in-Air-clause-carries g c =
     if_some (node_of c.args.self.now).memory _
-    (λ m running. carried_by _ _ _ _ _ _ (ap (λ w. saying m w c.args.message.now c.args.tags c.args.now) (sym c.in-Air.is))
-    (air_said (node_of c.args.self.now) m c.args.message.now c.args.tags c.args.now _
+    (λ m running. carried_by _ _ _ _ _ _ (ap (λ w. saying m w c.args.message.now c.args.out.now.tags c.args.now) (sym c.in-Air.is))
+    (air_said (node_of c.args.self.now) m c.args.message.now c.args.out.now.tags c.args.now _
     (at_some (node_of c.args.self.now).memory _ m running c.requires.ready.holds)
     running (record { 0 = [] })
     (λ i. record {
       frames = (ap (λ (o : Out). o.frames) c.push_down.ensures
-          ∙ (λ j. (c.requires.ready.empty j).frames ++ spelled network (Down (c.coordinator_address.ensures j) c.args.message.now) ∷ [])) i;
-      tags = c.args.tags;
+          ∙ (λ j. c.requires.quiet j ++ spelled network (Down (c.coordinator_address.ensures j) c.args.message.now) ∷ [])) i;
+      tags = ap (λ (o : Out). o.tags) c.push_down.ensures i;
     })))
 
 pub returns-in-Near-clause-carries : goal.returns-in-Near-clause-carries
 returns-in-Near-clause-carries g c =
     if_some (node_of c.args.self.now).memory _
-    (λ m running. carried_by _ _ _ _ _ _ (ap (λ w. saying m w c.args.message.now c.args.tags c.args.now) (sym c.in-Near.is))
-    (near_said (node_of c.args.self.now) m c.args.message.now c.args.tags c.args.now _
+    (λ m running. carried_by _ _ _ _ _ _ (ap (λ w. saying m w c.args.message.now c.args.out.now.tags c.args.now) (sym c.in-Near.is))
+    (near_said (node_of c.args.self.now) m c.args.message.now c.args.out.now.tags c.args.now _
     (at_some (node_of c.args.self.now).memory _ m running c.requires.ready.holds)
     running 0
-    (λ i. record { frames = (c.requires.ready.empty i).frames; tags = c.args.tags })))
+    (λ i. record { frames = c.requires.quiet i; tags = c.args.out.now.tags })))
 
 pub returns-in-Mesh-clause-carries : goal.returns-in-Mesh-clause-carries
 returns-in-Mesh-clause-carries g c =
     if_some (node_of c.args.self.now).memory _ (λ m running. carried_by _ _ _ _ _ _
-    (ap (λ w. saying m w c.args.message.now c.args.tags c.args.now) (sym c.in-Mesh.is))
+    (ap (λ w. saying m w c.args.message.now c.args.out.now.tags c.args.now) (sym c.in-Mesh.is))
     (at_some (node_of c.args.self.now).memory _ m running c.say_over_mesh.ensures.carries))
 
 pub say_over_mesh-requires-clause-room : goal.say_over_mesh-requires-clause-room

@@ -1,62 +1,17 @@
-use Rattle.std.proofs.Common.{refl, ap, sym, ◌∙◌}
-use Rattle.std.specs.Option.{option_map}
-use Rattle.node_rules.specs.Joining.{command_of}
-use Rattle.node_rules.specs.Composing.{answer_if_sent}
-use Rattle.node_rules.specs.Coordinators.{orders}
-use Rattle.node_rules.proofs.Composing.{command_sent}
-use Rattle.plc_station.proofs.Carrying.{at_some}
-use Rattle.plc_station.proofs.Ending.{carried_by as station_by}
-use Rattle.coordinator.specs.CoordinatorStates.{memory_in}
-use Rattle.coordinator.proofs.Storing.{on_parts, by_some}
-use Rattle.coordinator.proofs.Parts.{part_runs, part_agrees, part_home, part_book}
-use Rattle.coordinator.proofs.Within.{within_carried, home_holds}
-use Rattle.coordinator.proofs.CommandOrders.{command_keeps}
+use Rattle.std.proofs.Common.{ℕ, List, length, sym, subst}
+use Rattle.std.specs.Prelude.{IfSome}
+use Rattle.node_rules.specs.Composing.{HasRoom}
+use Rattle.node_rules.specs.Carrying.{Carries}
+use Rattle.coordinator.specs.CoordinatorStates.{node_of}
+use Rattle.coordinator.specs.MeshCommands.{command_sent}
 use Rattle.coordinator.proofs.coordinator.Coordinator.send_join_message.Goals as goal
 
-pub send_command-requires-clause-agrees : goal.send_command-requires-clause-agrees
-send_command-requires-clause-agrees g c =
-    part_agrees c.self.inside.randoms c.self.inside.sessions c.self.inside.book _ c.self.inside.station.memory (rw (← c.self.view_is) at c.requires.ready.holds)
-
-pub returns-in_default-clause-carries : goal.returns-in_default-clause-carries
-returns-in_default-clause-carries g c =
-    rw (← c.self.view_is) (on_parts c.self.inside.station.memory _ _ (λ l running.
-    (within_carried (memory_in c.self.inside.randoms c.self.inside.sessions c.self.inside.book) (answer_if_sent orders tt) c.self.inside.station _ _ _ _
-    (station_by c.self.inside.station _ _ _ _ _ (sym (command_sent 0 c.args.to (command_of c.args.message.now) c.args.now l
-    (part_home c.self.inside.randoms c.self.inside.sessions c.self.inside.book _ c.self.inside.station.memory l running
-    (rw (← c.self.view_is) at c.requires.ready.holds))
-    (at_some _ _ (memory_in c.self.inside.randoms c.self.inside.sessions c.self.inside.book l)
-    (ap (option_map (memory_in c.self.inside.randoms c.self.inside.sessions c.self.inside.book)) running) (rw (← c.self.view_is) at c.requires.room))))
-    (rw (c.octets.ensures.value ∙ c.write_command.ensures.command) at (at_some c.self.inside.station.memory _ l running c.in_default.ensures.carries))))))
+pub send_in_room-requires-clause-room : goal.send_in_room-requires-clause-room
+send_in_room-requires-clause-room g c =
+    subst (λ (k : List ℕ). IfSome (node_of c.args.self.now).memory (λ m. HasRoom m.station c.args.to (length k))) (sym c.write_command.ensures.command)
+    c.requires.room
 
 pub returns-clause-carries : goal.returns-clause-carries
 returns-clause-carries g c =
-    rw (← c.self.view_is) (on_parts c.self.inside.station.memory _ _ (λ l running.
-    (within_carried (memory_in c.self.inside.randoms c.self.inside.sessions c.self.inside.book) (answer_if_sent orders tt) c.self.inside.station _ _ _ _
-    (station_by c.self.inside.station _ _ _ _ _ (sym (command_sent 0 c.args.to (command_of c.args.message.now) c.args.now l
-    (part_home c.self.inside.randoms c.self.inside.sessions c.self.inside.book _ c.self.inside.station.memory l running
-    (rw (← c.self.view_is) at c.requires.ready.holds))
-    (at_some _ _ (memory_in c.self.inside.randoms c.self.inside.sessions c.self.inside.book l)
-    (ap (option_map (memory_in c.self.inside.randoms c.self.inside.sessions c.self.inside.book)) running) (rw (← c.self.view_is) at c.requires.room))))
-    (rw (c.octets.ensures.value ∙ c.write_command.ensures.command) at (at_some c.self.inside.station.memory _ l running c.in-Ok.ensures.carries))))))
-
-pub returns-in_default-clause-holds : goal.returns-in_default-clause-holds
-returns-in_default-clause-holds g c =
-    by_some c.self.inside.station.memory _ (part_runs c.self.inside.station.memory _ (rw (← c.self.view_is) at c.requires.ready.running)) (λ l running.
-    home_holds c.self.inside.station _ _ (memory_in c.self.inside.randoms c.self.inside.sessions c.self.inside.book) _ _ c.self.inside.book (λ n. refl)
-    (λ n. refl) (at_some c.self.inside.station.memory _ l running c.in_default.ensures.carries)
-    (command_keeps l (part_home c.self.inside.randoms c.self.inside.sessions c.self.inside.book _ c.self.inside.station.memory l running
-    (rw (← c.self.view_is) at c.requires.ready.holds)) c.args.to _ c.args.now)
-    (part_book c.self.inside.randoms c.self.inside.sessions c.self.inside.book _ c.self.inside.station.memory
-    (rw (← c.self.view_is) at c.requires.ready.running)
-    (rw (← c.self.view_is) at c.requires.ready.holds)) c.in_default.ensures.after.agrees)
-
-pub returns-clause-holds : goal.returns-clause-holds
-returns-clause-holds g c =
-    by_some c.self.inside.station.memory _ (part_runs c.self.inside.station.memory _ (rw (← c.self.view_is) at c.requires.ready.running)) (λ l running.
-    home_holds c.self.inside.station _ _ (memory_in c.self.inside.randoms c.self.inside.sessions c.self.inside.book) _ _ c.self.inside.book (λ n. refl)
-    (λ n. refl) (at_some c.self.inside.station.memory _ l running c.in-Ok.ensures.carries)
-    (command_keeps l (part_home c.self.inside.randoms c.self.inside.sessions c.self.inside.book _ c.self.inside.station.memory l running
-    (rw (← c.self.view_is) at c.requires.ready.holds)) c.args.to _ c.args.now)
-    (part_book c.self.inside.randoms c.self.inside.sessions c.self.inside.book _ c.self.inside.station.memory
-    (rw (← c.self.view_is) at c.requires.ready.running)
-    (rw (← c.self.view_is) at c.requires.ready.holds)) c.in-Ok.ensures.after.agrees)
+    subst (λ (k : List ℕ). IfSome (node_of c.args.self.now).memory (λ m. Carries (node_of c.args.self.now) (command_sent m c.args.to k c.args.now)
+    c.send_in_room.result c.send_in_room.new.out (node_of c.send_in_room.new.self))) c.write_command.ensures.command c.send_in_room.ensures.carries

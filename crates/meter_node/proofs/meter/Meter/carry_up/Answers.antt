@@ -1,11 +1,8 @@
-use Rattle.std.proofs.Common.{ℕ, Some, sym, ap, subst, refl, ◌∙◌}
-use Rattle.std.specs.Prelude.{length, List}
+use Rattle.std.proofs.Common.{Some, sym, ap, refl, ◌∙◌}
 use Rattle.std.specs.Option.{option_map}
 use Rattle.std.proofs.lemmas.Result.{err_from_is_err_and}
 use Rattle.plc_base.specs.Addresses.{eui_number}
-use Rattle.node_rules.specs.Hearing.{dropped, dropped_for}
-use Rattle.node_rules.specs.Calls.{command_fault}
-use Rattle.node_rules.specs.Composing.{HasRoom}
+use Rattle.node_rules.specs.Hearing.{dropped}
 use Rattle.node_rules.specs.Meters as meters
 use Rattle.node_rules.specs.declared.refusal.Dropped.TheVariants.{BadUnit}
 use Rattle.plc_station.proofs.Carrying.{at_some}
@@ -41,8 +38,7 @@ returns-in_err-room-clause-carries g c =
     (up_lacks c.args.self.now l c.args.from c.args.join.now c.args.now p.0 (at_some _ _ l running c.requires.joined) (sym c.if-not-goes_up.ensures)
     (same_number (eui_number c.args.join.now.eui) (eui_number c.args.from) c.number.result c.number-2.result c.number.ensures c.number-2.ensures
     c.if-number.false)
-    (ap (λ (k : List ℕ). command_fault dropped dropped_for l 0 (length k)) (sym c.write_up.ensures.command) ∙ at_some _ _ l running c.in_err-room.ensures
-    ∙ ap Some (sym p.2))) c.requires.ready.empty))
+    (at_some _ _ l running c.in_err-room.ensures ∙ ap Some (sym p.2))) c.requires.ready.empty))
 
 pub returns-in_default-clause-carries : goal.returns-in_default-clause-carries
 returns-in_default-clause-carries g c =
@@ -56,7 +52,7 @@ returns-in_default-clause-carries g c =
     } in
     rw (← c.self.view_is) (on_node x _ (λ l running.
     up_failed x c.send_command.new.self l c.args.from c.args.join.now c.args.now c.send_command.new.out (at_some _ _ l running joined)
-    (subst (λ (k : List ℕ). HasRoom l 0 (length k)) c.write_up.ensures.command (at_some _ _ l running room)) (sym c.if-not-goes_up.ensures)
+    (at_some _ _ l running room) (sym c.if-not-goes_up.ensures)
     (same_number (eui_number c.args.join.now.eui) (eui_number c.args.from) c.number.result c.number-2.result c.number.ensures c.number-2.ensures
     c.if-number.false) _
     (sent_as x.station c.send_command.new.self l c.coordinator.result c.octets.result.now c.args.join.now c.args.now _ c.send_command.new.out
@@ -75,7 +71,7 @@ returns-clause-carries g c =
     } in
     rw (← c.self.view_is) (on_node x _ (λ l running.
     up_sent x c.send_command.new.self l c.args.from c.args.join.now c.args.now c.send_command.new.out (at_some _ _ l running joined)
-    (subst (λ (k : List ℕ). HasRoom l 0 (length k)) c.write_up.ensures.command (at_some _ _ l running room)) (sym c.if-not-goes_up.ensures)
+    (at_some _ _ l running room) (sym c.if-not-goes_up.ensures)
     (same_number (eui_number c.args.join.now.eui) (eui_number c.args.from) c.number.result c.number-2.result c.number.ensures c.number-2.ensures
     c.if-number.false) _
     (sent_as x.station c.send_command.new.self l c.coordinator.result c.octets.result.now c.args.join.now c.args.now _ c.send_command.new.out

@@ -14,7 +14,7 @@ use Rattle.plc_station.proofs.Carrying.{at_some}
 use Rattle.meter_node.specs.Sessions.{session_of}
 use Rattle.meter_node.specs.Hearing.{first_refusal}
 use Rattle.meter_node.specs.MeterStates.{MeterState, memory_with, identity_of}
-use Rattle.meter_node.proofs.Carried.{on_node, refuses}
+use Rattle.meter_node.proofs.Carried.{on_node, refuses, untagged}
 use Rattle.meter_node.proofs.ChallengeRules.{reply_refused}
 use Rattle.meter_node.proofs.ChallengeSteps.{agent_replied}
 use Rattle.meter_node.proofs.meter.Meter.reply_by_agent.Goals as goal
@@ -34,10 +34,10 @@ returns-in_err-peer-clause-carries g c =
     let p = err_from_is_err_and c.from_residual-in_err-peer.result c.from_residual-in_err-peer.ensures.1 in
     rw p.1 (on_node c.args.self.now _ (λ l running.
     refuses dropped c.args.self.now c.args.self.now l p.0 (meters.reply (identity_of c.args.self.now) (memory_with c.args.self.now l)
-    (memory.ByAgent c.args.agent) c.args.packet.now c.args.now) c.args.out.now running refl
+    (memory.ByAgent c.args.agent) c.args.packet.now c.args.now) _ running refl
     (reply_refused c.args.self.now l (memory.ByAgent c.args.agent) c.args.packet.now c.args.now p.0
     (ap (λ f. f then first_refusal c.args.self.now.randoms c.args.packet.now) (at_some _ _ l running c.in_ok-awaits.ensures) ∙ c.in_err-peer.ensures.exact
-    ∙ ap Some (sym p.2))) c.requires.ready.empty))
+    ∙ ap Some (sym p.2))) (untagged c.args.out.now _ c.requires.ready.empty c.in_err-peer.ensures.untagged)))
 
 pub returns-clause-carries : goal.returns-clause-carries
 returns-clause-carries g c =
@@ -57,8 +57,8 @@ returns-clause-carries g c =
     agent_replied x l c.args.packet.now c.args.now c.in_ok-peer.peer fine value is c.args.agent c.drop_oldest.new.self _ running agrees
     (at_some _ _ l running free) c.drop_oldest.ensures
     (λ i. record {
-      frames = (ap (λ (o : Out). o.frames) c.push_up.ensures
+      frames = (ap (λ (o : Out). o.frames) c.push_answer.ensures
           ∙ (λ j. (c.requires.ready.empty j).frames ++ spelled network (Up c.args.agent (c.eui-eui.ensures j)
-          ((c.join_with-join.ensures.value ∙ (λ j. message (c.eui-eui.ensures j) (body.Join (written j)))) j)) ∷ [])) i;
-      tags = c.in_ok-peer.ensures.tags i;
+          (message (c.eui-eui.ensures j) (body.Join (written j)))) ∷ [])) i;
+      tags = (ap (λ (o : Out). o.tags) c.push_answer.ensures ∙ c.in_ok-peer.ensures.tags) i;
     })))
