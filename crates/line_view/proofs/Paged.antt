@@ -29,8 +29,8 @@ use Rattle.script_runs.specs.Takings.{Taking, Skipped, Taken, Refused, reading_t
 use Rattle.story_accounts.specs.Sections.{is_for_another}
 use Rattle.line_view.specs.Recordings.{Recording, Recorded, recorded}
 use Rattle.line_view.specs.Sentences.{Sentences, with_sentence}
-use Rattle.line_view.specs.Paging.{Paging, Stepped, after_entry, is_tick, kept, kept_by, looked, looked_after, looked_around, looked_at_all, looked_by}
-use Rattle.line_view.specs.Paging.{node_count, other_of, refused_text, remarked, turn_by, turn_of, with_look, with_node}
+use Rattle.line_view.specs.Paging.{Paging, Stepped, after_entry, is_delivery, is_tick, kept, kept_by, looked, looked_after, looked_around, looked_at_all}
+use Rattle.line_view.specs.Paging.{looked_at_both, looked_by, node_count, other_of, refused_text, remarked, turn_by, turn_of, with_look, with_node}
 use Rattle.line_view.proofs.Machines.{ended, went_on}
 use Rattle.line_view.proofs.Recorded.{recorded_world}
 use Rattle.line_view.proofs.StatusNames.{Follows}
@@ -130,10 +130,15 @@ either_run : (b : Bool) (x y p : Paging) → x.run ≡ p.run → y.run ≡ p.run
 either_run true x y p hx hy = hx
 either_run false x y p hx hy = hy
 
+both_run : (event : ℕ) (act : Act) (p : Paging) → (looked_at_both act event p).run ≡ p.run
+both_run event act p =
+    let own = looked_run event (actor_of act) p in
+    either_run (is_delivery act) (looked event (actor_of act) p) (looked event (other_of act) (looked event (actor_of act) p)) p own
+    (looked_run event (other_of act) (looked event (actor_of act) p) ∙ own)
+
 by_run : (event : ℕ) (act : Act) (p : Paging) → (looked_by act event p).run ≡ p.run
 by_run event act p =
-    either_run (is_tick act) (looked_at_all event (node_count p) p) (looked event (other_of act) (looked event (actor_of act) p)) p
-    (all_run event (node_count p) p) (looked_run event (other_of act) (looked event (actor_of act) p) ∙ looked_run event (actor_of act) p)
+    either_run (is_tick act) (looked_at_all event (node_count p) p) (looked_at_both act event p) p (all_run event (node_count p) p) (both_run event act p)
 
 around_run : (event : ℕ) (act : Act) (p : Paging) → (looked_around event act p).run ≡ p.run
 around_run event act p =

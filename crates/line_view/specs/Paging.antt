@@ -73,9 +73,18 @@ abbrev pub is_tick : Act → Bool
 is_tick (acts.Tick seconds) = true
 is_tick _ = false
 
+-- whether a flight came, which changes no other node
+abbrev pub is_delivery : Act → Bool
+is_delivery (acts.Deliver flight node cost) = true
+is_delivery _ = false
+
+-- with what the nodes show that an event is about
+abbrev pub looked_at_both : Act → ℕ → Paging → Paging
+looked_at_both act event p =
+    if is_delivery act then looked event (actor_of act) p else looked event (other_of act) (looked event (actor_of act) p)
+
 abbrev pub looked_by : Act → ℕ → Paging → Paging
-looked_by act event p =
-    if is_tick act then looked_at_all event (node_count p) p else looked event (other_of act) (looked event (actor_of act) p)
+looked_by act event p = if is_tick act then looked_at_all event (node_count p) p else looked_at_both act event p
 
 -- with what the nodes show that an event of this kind may change
 abbrev pub looked_around : ℕ → Act → Paging → Paging

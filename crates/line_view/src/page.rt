@@ -70,6 +70,16 @@ fn is_tick(act: &Act) -> bool
     }
 }
 
+// Whether a flight came, which changes no other node.
+fn is_delivery(act: &Act) -> bool
+    ensures { result ≡ paging.is_delivery act.now }
+{
+    match act {
+        Act::Deliver { .. } => true,
+        _ => false,
+    }
+}
+
 // What is said of the bad line at which a run ends, no words where there is none.
 fn bad_words(alloc: Global, bad: Option<BadLine>) -> Result<String, AllocError>
     ensures { IfOk result (λ text. string_bytes text ≡ paging.bad_words bad) }
@@ -194,6 +204,17 @@ impl Pager {
         Ok(())
     }
 
+    // Looks at the nodes that an event may change, which is one where a flight came.
+    fn look_at_both(&mut self, event: usize, act: &Act) -> Result<(), AllocError>
+        ensures { OnOk result (self.new ≡ paging.looked_at_both act.now event self.old) }
+    {
+        self.look(event, actor_of(act))?;
+        if is_delivery(act) {
+            return Ok(());
+        }
+        self.look(event, other_of(act))
+    }
+
     // Looks at the nodes that an event of this kind may change.
     fn look_around(&mut self, event: usize, act: &Act) -> Result<(), AllocError>
         ensures { OnOk result (self.new ≡ paging.looked_around event act.now self.old) }
@@ -206,8 +227,7 @@ impl Pager {
         if is_tick(act) {
             return self.look_at_all(event, nodes);
         }
-        self.look(event, actor_of(act))?;
-        self.look(event, other_of(act))
+        self.look_at_both(event, act)
     }
 
     // Looks at the nodes that an event may have changed: at none where its frame was for another node, as most are that come.

@@ -14,7 +14,7 @@ use line_tale::{Act, TaleEvent, actor_of, made_by, makes_node};
 use line_world::World;
 use node_rules::{Shown, ShownPeers, ShownRoute, ShownRoutes};
 use plc_base::{FrameBuf, Key};
-use sentence_parts::Who;
+use sentence_parts::{Who, who_of};
 use std::alloc::{AllocError, Global};
 use std::marker::Model;
 use story_accounts::{is_for_another, numbered};
@@ -107,6 +107,27 @@ fn is_hushed(heard: &Option<Heard>, told: &TaleEvent) -> bool
         None => false,
         Some(heard) => is_for_another(told.answer) && !is_at(&heard.to, actor_of(&told.act)),
     }
+}
+
+// Whether a flight came to a node that it is not for, as most do: by whom it is for alone.
+#[tactic(auto, unfolding(crate::specs::Sentences::flight_heard))]
+fn is_flight_hushed(run: &Recorder, number: u32, homes: &[u32], told: &TaleEvent) -> bool
+    ensures { result ≡ spec_sentences.is_hushed (spec_sentences.flight_heard number run.now homes.now) told.now }
+{
+    if !is_for_another(told.answer) {
+        return false;
+    }
+    let Some(_) = run.world.flight(number) else {
+        return false;
+    };
+    let Some(flight) = run.tale.flight(number as usize) else {
+        return false;
+    };
+    let Some(_) = numbered(run.more.as_slice(), number as usize) else {
+        return false;
+    };
+    let to = who_of(&flight.target, homes, run.euis.as_slice());
+    !is_at(&to, actor_of(&told.act))
 }
 
 // Adds flights from this number on.
@@ -303,6 +324,19 @@ impl Teller {
         }
     }
 
+    // Whether an event brought a frame to a node that it is not for.
+    fn is_hushed(&mut self, run: &Recorder, event: &Event<'_>, told: &TaleEvent) -> bool
+        ensures hushed { result ≡ spec_sentences.is_hushed (spec_sentences.heard_by event.now run.now self.old) told.now }
+        ensures same { self.new ≡ self.old }
+    {
+        match event {
+            Event::Deliver { flight, .. } => {
+                is_flight_hushed(run, *flight, self.homes.as_slice(), told)
+            }
+            _ => is_hushed(&self.heard(run, event), told),
+        }
+    }
+
     // Adds the words of an event, which is noted.
     #[tactic(auto, unfolding(crate::specs::Sentences::ending))]
     fn end(
@@ -396,11 +430,11 @@ impl Teller {
         ensures same { run.new ≡ run.old }
     {
         self.learn(event, told)?;
-        let heard = self.heard(run, event);
-        if is_hushed(&heard, told) {
+        if self.is_hushed(run, event, told) {
             let no_words = String::new(self.alloc);
             return self.end(no_words, number, told, run);
         }
+        let heard = self.heard(run, event);
         self.word(run, number, told, &heard)
     }
 
