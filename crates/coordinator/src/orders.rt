@@ -1,6 +1,9 @@
 //! Orders of the operator that go to a meter in a command, and the random values that joinings use.
-ghost use Rattle.std.specs.Prelude.{◌≡◌, Err, Some, IfSome, IfNone};
-ghost use Rattle.joining_messages.specs.Messages.{IsMessage};
+ghost use Rattle.std.specs.Prelude.{◌≡◌, ◌≤◌, Err, Some, IfSome, IfNone, length};
+ghost use Rattle.joining_messages.specs.declared.message.JoinMessage.{JoinMessage};
+ghost use Rattle.joining_messages.specs.declared.message.JoinBody.TheVariants as body;
+ghost use Rattle.node_rules.specs.Joining.{command_of, message};
+ghost use Rattle.station_queues.specs.declared.bodies.TheConstants.{LONGEST_COMMAND};
 ghost use Rattle.group_keys.specs.KeyBook as book;
 ghost use Rattle.node_rules.specs.MemoryDrafts as words;
 ghost use Rattle.node_rules.specs.Coordinators as rules;
@@ -52,6 +55,16 @@ fn issued_at(entry: &BookEntry, index: KeyIndex) -> Option<Key>
     entry.issued1
 }
 
+// Writes the command Activate to a meter.
+fn write_activation(eui: Eui, index: KeyIndex, command: &mut CommandBuf)
+    ensures command { command.new ≡ command_of (message eui (body.Activate index)) }
+    ensures some { 1 ≤ length command.new }
+    ensures fits { length command.new ≤ LONGEST_COMMAND }
+{
+    let body = JoinBody::Activate { index };
+    write_command(&JoinMessage { eui, body }, command);
+}
+
 impl<K: Keeper + Drop> Coordinator<K> {
     // Takes a random value in, after the others.
     fn take_random(&mut self, value: Rand) -> Result<(), RandomFault>
@@ -77,23 +90,22 @@ impl<K: Keeper + Drop> Coordinator<K> {
         self.take_random(value)
     }
 
-    // Sends a message to a meter in a command.
+    // Sends a command to a meter, which carries a message.
     fn order(
         &mut self,
         to: Short,
-        message: &JoinMessage,
+        command: &CommandBuf,
         now: u64,
         out: &mut Out,
     ) -> Result<(), CoordinatorRefusal>
         requires ready { CoordinatorReady (node_of self.old) }
-        requires message { IsMessage message.now }
-        ensures carries { IfSome (node_of self.old).memory (λ m.
-            Carries (node_of self.old) (rules.activate_at m to message.now now) result out.new (node_of self.new)) }
+        requires some { 1 ≤ length command.now }
+        requires fits { length command.now ≤ LONGEST_COMMAND }
+        ensures carries { (join : JoinMessage) → command.now ≡ command_of join → IfSome (node_of self.old).memory (λ m.
+            Carries (node_of self.old) (rules.activate_at m to join now) result out.new (node_of self.new)) }
         ensures holds { CoordinatorAgrees (node_of self.new) }
     {
-        let mut octets = CommandBuf::new();
-        write_command(message, &mut octets);
-        let sent = self.station.send_command(to, octets.octets(), now, out);
+        let sent = self.station.send_command(to, command.octets(), now, out);
         order_answer(sent)
     }
 
@@ -149,10 +161,8 @@ impl<K: Keeper + Drop> Coordinator<K> {
         if !self.was_issued(&entry, index) {
             return Err(CoordinatorRefusal::NotIssued);
         }
-        let message = JoinMessage {
-            eui: entry.eui,
-            body: JoinBody::Activate { index },
-        };
-        self.order(to, &message, now, out)
+        let mut command = CommandBuf::new();
+        write_activation(entry.eui, index, &mut command);
+        self.order(to, &command, now, out)
     }
 }

@@ -4,6 +4,8 @@ use Rattle.plc_station.proofs.Carrying.{if_some, at_some}
 use Rattle.coordinator.specs.CoordinatorStates.{node_of}
 use Rattle.coordinator.proofs.Storing.{refusal, carried_by}
 use Rattle.coordinator.proofs.Activating.{not_allowed, not_known, not_issued, ordered}
+use Rattle.joining_messages.specs.declared.message.JoinBody.TheVariants as body
+use Rattle.node_rules.specs.Joining.{message}
 use Rattle.coordinator.proofs.coordinator.Coordinator.activate.Goals as goal
 
 pub returns-in_default-clause-carries : goal.returns-in_default-clause-carries
@@ -30,4 +32,5 @@ returns-clause-carries g c =
     (ordered m c.args.eui c.args.index c.args.now _ _ (at_some (node_of c.args.self.now).memory _ m running c.in-Some.ensures.entry)
     (at_some (node_of c.args.self.now).memory _ m running c.in-Some-known_address.ensures)
     (at_some (node_of c.args.self.now).memory _ m running c.if-not-was_issued.ensures))
-    (at_some (node_of c.args.self.now).memory _ m running c.order.ensures.carries))
+    (at_some (node_of c.args.self.now).memory _ m running
+    (c.order.ensures.carries (message c.in-Some.entry.eui (body.Activate c.args.index)) c.write_activation.ensures.command)))

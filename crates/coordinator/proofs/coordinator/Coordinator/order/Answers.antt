@@ -14,13 +14,13 @@ send_command-sent-requires-clause-agrees g c =
 
 pub returns-clause-carries : goal.returns-clause-carries
 returns-clause-carries g c =
-    rw (← c.self.view_is) (on_parts c.self.inside.station.memory _ _ (λ l running.
+    λ join is. rw (← c.self.view_is) (on_parts c.self.inside.station.memory _ _ (λ l running.
     said _ _ _ _ _ _ c.order_answer.ensures (carried_by _ _ _ _ _ _
-    (order_plan (memory_in c.self.inside.randoms c.self.inside.sessions c.self.inside.book l) c.args.to c.args.message.now c.args.now
+    (order_plan (memory_in c.self.inside.randoms c.self.inside.sessions c.self.inside.book l) c.args.to join c.args.now
     (part_home c.self.inside.randoms c.self.inside.sessions c.self.inside.book _ c.self.inside.station.memory l running
     (rw (← c.self.view_is) at c.requires.ready.holds)))
     (within_carried (memory_in c.self.inside.randoms c.self.inside.sessions c.self.inside.book) order_answer c.self.inside.station _ _ _ _
-    (rw (c.octets.ensures.value ∙ c.write_command.ensures.command) at
+    (rw (c.octets.ensures.value ∙ is) at
     (at_some c.self.inside.station.memory _ l running c.send_command-sent.ensures.carries))))))
 
 pub returns-clause-holds : goal.returns-clause-holds
