@@ -25,8 +25,11 @@ fn counter(nonce: &[u8; 13], i: usize) -> [u8; 16]
     ]
 }
 
-/// Adds the key stream from S_1 on to `text` (section 2.3).
-fn mask(aes: &Aes, nonce: &[u8; 13], text: &mut [u8])
+/// Encrypts or decrypts `text` in place, without a tag: adds the key stream from S_1 on to it (section 2.3).
+///
+/// The text has at most 65,535 octets. Nothing is known of a text that was decrypted so: whoever does not know from elsewhere that it was sealed under
+/// this key and this nonce takes [`ccm_open`].
+pub fn ccm_mask(aes: &Aes, nonce: &[u8; 13], text: &mut [u8])
     requires { length text.old < 65536 }
     ensures { text.new ≡ ccm_text aes.now nonce.now text.old }
 {
@@ -132,7 +135,7 @@ pub fn ccm_seal(aes: &Aes, nonce: &[u8; 13], header: &[u8], text: &mut [u8], tag
     let tag_len = tag.len();
     let whole = whole_tag(aes, nonce, header, text, tag_len);
     tag.copy_from_slice(&whole[..tag_len]);
-    mask(aes, nonce, text);
+    ccm_mask(aes, nonce, text);
 }
 
 /// Whether `whole` begins with `tag`. All octets of `tag` are compared, wherever they differ first.
@@ -165,10 +168,10 @@ pub fn ccm_open(
     ensures opened { OnOk result (text.new ≡ ccm_text aes.now nonce.now text.old) }
     ensures unchanged { OnErr result (text.new ≡ text.old) }
 {
-    mask(aes, nonce, text);
+    ccm_mask(aes, nonce, text);
     let whole = whole_tag(aes, nonce, header, text, tag.len());
     if !is_tag(&whole, tag) {
-        mask(aes, nonce, text);
+        ccm_mask(aes, nonce, text);
         return Err(BadTag);
     }
     Ok(())

@@ -3,6 +3,7 @@
 //! - [`Aes`] is a key with its schedule: `new` makes it for a key, `renew` where the key is another one, `encrypt_block` is the cipher of FIPS 197.
 //! - [`cmac`] gives the tag of a text (RFC 4493). [`eax_seal`] and [`eax_open`] serve the protected channel of EAP-PSK.
 //! - [`ccm_seal`] and [`ccm_open`] serve frames: a nonce of 13 octets, a header that is authenticated alone, a tag of 4 or 8 octets.
+//!   [`ccm_mask`] decrypts without a look at the tag, for whoever knows that a text was sealed so.
 //! - [`is_same`] compares two blocks whole, for a tag or a code that somebody may be guessing.
 //!
 //! What its calls promise, by the names of their clauses:
@@ -28,7 +29,7 @@ mod look_ups;
 mod mac;
 
 pub use bad_tag::BadTag;
-pub use ccm::{ccm_open, ccm_seal};
+pub use ccm::{ccm_mask, ccm_open, ccm_seal};
 pub use cipher::Aes;
 pub use compare::is_same;
 pub use eax::{eax_open, eax_seal};

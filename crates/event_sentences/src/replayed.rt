@@ -51,7 +51,7 @@ impl<'a> Moment<'a> {
     fn first_coming(&self, flight: usize) -> usize
         ensures { result ≡ spec_replayed.first_coming flight (scene_of self.now) }
     {
-        if flight == 0 || flight >= 1 << 32 {
+        if flight == 0 || flight as u64 >= 1 << 32 {
             return 0;
         }
         self.coming(flight as u32).first

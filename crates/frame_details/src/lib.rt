@@ -9,6 +9,8 @@
 //! }
 //! ```
 //!
+//! [`decrypt_octets`] gives the payload of a frame that is known to be sealed under a key, as those of a run are, without a look at its tag.
+//!
 //! `specs/Payloads.antt` says which payload a frame has, `specs/Details.antt` what a payload says.
 #![tactic(auto)]
 
@@ -16,4 +18,4 @@ mod detail;
 mod opening;
 
 pub use detail::{Detail, FlightMore, more_of, payload_detail};
-pub use opening::open_octets;
+pub use opening::{decrypt_octets, open_octets};

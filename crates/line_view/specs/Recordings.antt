@@ -6,7 +6,7 @@ use Rattle.plc_base.specs.declared.key.Key.{Key}
 use Rattle.frame_words.specs.Gists.{frame_target}
 use Rattle.frame_details.specs.declared.detail.FlightMore.{FlightMore}
 use Rattle.frame_details.specs.Details.{more_of}
-use Rattle.frame_details.specs.Payloads.{payload_of}
+use Rattle.frame_details.specs.Payloads.{carried_of}
 use Rattle.sentence_parts.specs.Whos.{device_of}
 use Rattle.line_events.specs.declared.event.Answer.{Answer}
 use Rattle.line_events.specs.declared.event.Answer.TheVariants as answers
@@ -63,7 +63,7 @@ with_payload from note octets payload r =
 
 abbrev pub with_octets : Option (List ℕ) → ℕ → ℕ → Option Key → Recording → Recording
 with_octets None from note key r = r
-with_octets (Some octets) from note key r = with_payload from note octets (payload_of octets key) r
+with_octets (Some octets) from note key r = with_payload from note octets (carried_of octets key) r
 
 -- with the flight of a number, if there is one
 unfoldable pub flight_recorded : ℕ → Recording → Recording

@@ -7,18 +7,19 @@ ghost use Rattle.frame_details.specs.Payloads.{held};
 ghost use Rattle.script_runs.specs.Takings.{event_taking};
 ghost use Rattle.line_view.specs.Recordings as recordings;
 
-use frame_details::{FlightMore, more_of, open_octets};
+use aes_modes::Aes;
+use frame_details::{FlightMore, decrypt_octets, more_of};
 use frame_words::frame_target;
 use line_events::{Answer, Event, Happenings, MAX_EVENTS, StepFault};
 use line_script::Reason;
 use line_tale::Tale;
 use line_world::{Buffers, World};
-use plc_base::{Eui, FrameBuf};
+use plc_base::{Eui, FrameBuf, Key};
 use sentence_parts::device_of;
 use std::alloc::{AllocError, Global};
 use std::marker::Model;
 
-/// A run and its tale. A contract sees all but the buffer.
+/// A run and its tale. A contract sees all but the schedule and the buffer.
 #[derive(Drop)]
 pub struct Recorder {
     /// The world after the last event.
@@ -29,7 +30,8 @@ pub struct Recorder {
     pub more: Vec<FlightMore>,
     /// The EUI-64 of each node.
     pub euis: Vec<Eui>,
-    // The last payload that was opened.
+    // The schedule of the last key, and the payload that was decrypted last.
+    aes: Aes,
     opened: FrameBuf,
 }
 
@@ -105,6 +107,7 @@ impl Recorder {
             tale: Tale::new(alloc),
             more: Vec::new(alloc),
             euis: Vec::new(alloc),
+            aes: Aes::new(&Key([0; 16])),
             opened: FrameBuf::new(),
         })
     }
@@ -127,7 +130,7 @@ impl Recorder {
         let from = self.world.flight_sender(number).unwrap_or(0);
         let note = self.world.flight_note(number).unwrap_or(0);
         let key = self.world.flight_key(number);
-        let is_open = open_octets(octets, &key, &mut self.opened);
+        let is_open = decrypt_octets(octets, &key, &mut self.aes, &mut self.opened);
         let payload = payload_in(is_open, &self.opened);
         let device = device_of(&frame_target(octets), payload, self.euis.as_slice());
         self.tale.push_flight(from, note, octets, payload, device)?;

@@ -2,7 +2,8 @@
 //! `docs/FORMATS.md` has the table.
 //!
 //! - [`read_frame`] reads octets as a frame: a [`MacHead`] (`Sealed`, `Up` or `Down`) and a body, over the octets ([`RawFrame`]).
-//! - [`open_frame`] opens a sealed one under a key, by its schedule, into a buffer that the caller lends.
+//! - [`open_frame`] opens a sealed one under a key, by its schedule, into a buffer that the caller lends; [`decrypt_payload`] does so without a look at
+//!   the tag, for whoever knows that the frame was sealed under that key.
 //! - [`seal_frame`] writes the frame of a head and a payload; [`write_header`] and then [`seal_written`] do so without copying the payload.
 //!   [`plain_frame`] writes one that is not sealed, as between a node that joins and its agent.
 //!
@@ -31,5 +32,5 @@ mod writing;
 pub use fault::{FrameFault, FrameFaultKind};
 pub use head::MacHead;
 pub use reading::{RawFrame, read_frame};
-pub use sealing::{open_frame, seal_frame, seal_written};
+pub use sealing::{decrypt_payload, open_frame, seal_frame, seal_written};
 pub use writing::{plain_frame, write_header};

@@ -8,7 +8,7 @@ ghost use Rattle.plc_base.specs.declared.limits.TheConstants.{LONGEST_FRAME};
 use crate::head::MacHead;
 use crate::reading::RawFrame;
 use crate::writing::write_header;
-use aes_modes::{Aes, BadTag, ccm_open, ccm_seal};
+use aes_modes::{Aes, BadTag, ccm_mask, ccm_open, ccm_seal};
 use plc_base::{FrameBuf, Short, four_octets, two_octets};
 
 // How many octets a tag has.
@@ -138,4 +138,32 @@ pub fn open_frame(aes: &Aes, raw: &RawFrame<'_>, out: &mut FrameBuf) -> Result<(
 {
     let (sealed, tag) = raw.body.split_at(raw.body.len() - TAG);
     open_text(aes, &nonce_of(&raw.head), raw.header, sealed, tag, out)
+}
+
+// Decrypts a payload: what it is replaces what `out` held.
+fn decrypt_text(aes: &Aes, nonce: &[u8; 13], sealed: &[u8], out: &mut FrameBuf)
+    requires { length sealed.now ≤ 381 }
+    ensures text { out.new ≡ ccm_text aes.now nonce.now sealed.now }
+    ensures fits { length out.new ≤ 381 }
+{
+    out.clear();
+    out.append(sealed);
+    ccm_mask(aes, nonce, out.octets_mut());
+}
+
+/// Decrypts the payload of a sealed frame that was read, without a look at its tag: it replaces what `out` held.
+///
+/// It is half the work of [`open_frame`], for whoever knows that the frame was sealed under the key of `aes`, as a program that looks at a run of its
+/// own. What a node hears is opened by [`open_frame`] alone: nothing is known of a payload before its tag was found right.
+pub fn decrypt_payload(aes: &Aes, raw: &RawFrame<'_>, out: &mut FrameBuf)
+    requires sealed { IsSealed raw.now.head }
+    requires frame { Frame raw.now.head raw.now.body.now (raw.now.header.now ++ raw.now.body.now) }
+    ensures payload { out.new ≡ payload_in aes.now raw.now.head raw.now.body.now }
+    // Of what was sealed so it is the payload.
+    ensures only { (payload : List ℕ)
+        → SealedFrame raw.now.head aes.now payload (raw.now.header.now ++ raw.now.body.now) → out.new ≡ payload }
+    ensures fits { length out.new ≤ 381 }
+{
+    let (sealed, _) = raw.body.split_at(raw.body.len() - TAG);
+    decrypt_text(aes, &nonce_of(&raw.head), sealed, out);
 }

@@ -1,5 +1,5 @@
 -- A list that rises is in order.
-use Rattle.std.proofs.Common.{◌≡◌, ℕ, Bool, true, false, List, [], ◌∷◌, Option, Some, None, refl, ap, ◌∙◌}
+use Rattle.std.proofs.Common.{◌≡◌, ℕ, Bool, true, false, List, [], ◌∷◌, Option, Some, refl, ap, ◌∙◌}
 use Rattle.std.specs.Prelude.{nat_lt, if◌then◌else◌}
 use Rattle.plc_base.specs.Orders.{placed_by, ordered_by}
 use Rattle.plc_station.specs.Rising.{is_above, is_rising_after}

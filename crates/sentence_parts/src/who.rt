@@ -41,7 +41,7 @@ pub fn node_with(eui: Eui, euis: &[Eui]) -> Option<u32>
     let Some(place) = place_with(eui, euis) else {
         return None;
     };
-    if place < 1 << 32 {
+    if (place as u64) < 1 << 32 {
         return Some(place as u32);
     }
     None

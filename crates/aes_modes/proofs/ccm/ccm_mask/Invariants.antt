@@ -1,7 +1,7 @@
 use Rattle.std.proofs.Common.{◌*◌, ◌+◌}
 use Rattle.aes_modes.specs.Ccm.{ccm_stream_block}
 use Rattle.aes_modes.proofs.Streams.{MaskedTo}
-use Rattle.aes_modes.proofs.ccm.mask.Given as goal
+use Rattle.aes_modes.proofs.ccm.ccm_mask.Given as goal
 
 abbrev pub invariant-whole : goal.invariant-whole
 invariant-whole l = MaskedTo (λ i. ccm_stream_block l.aes l.nonce (i + 1)) l.fn.text l.text (16 * l.i)

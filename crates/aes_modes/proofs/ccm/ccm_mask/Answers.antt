@@ -3,7 +3,7 @@ use Rattle.aes_modes.specs.Cipher.{encrypted}
 use Rattle.aes_modes.specs.Ccm.{ccm_stream_block, ccm_text}
 use Rattle.aes_modes.proofs.Chains.{length-encrypted}
 use Rattle.aes_modes.proofs.Streams.{MaskedTo, masked_more, masked_all}
-use Rattle.aes_modes.proofs.ccm.mask.Goals as goal
+use Rattle.aes_modes.proofs.ccm.ccm_mask.Goals as goal
 
 pub returns-then-rest-eq0 : goal.returns-then-rest-eq0
 unfolding ccm_text
