@@ -41,7 +41,7 @@ reason_text =
     rules_text
     (codes "h3{font-size:14px;margin:4px 0}.why{list-style:none;margin:0 0 8px;padding:0}.why li{padding-left:3.8em;text-indent:-3.8em}"
     ∷ codes ".why b{display:inline-block;min-width:3em;text-align:right;text-indent:0}.why .t{font-weight:600;margin:0 12px 0 10px}"
-    ∷ codes "a{color:var(--blue)}details:target{outline:3px solid var(--blue)}"
+    ∷ codes ".why a{white-space:nowrap}a{color:var(--blue)}details:target{outline:3px solid var(--blue)}"
     ∷ [])
 
 -- all that is not drawn
@@ -94,12 +94,12 @@ map_text =
     ∷ codes "table{border-collapse:collapse;font-variant-numeric:tabular-nums}th,td{text-align:left;padding:1px 18px 1px 0}tr.b{color:var(--bad)}"
     ∷ [])
 
--- on paper: smaller, and no chart over two pages that fits on one
+-- on paper: in landscape and smaller, so that lanes and sentences are whole, and no chart over two pages that fits on one
 unfoldable pub print_text : List ℕ
 print_text =
     rules_text
-    (codes "@media print{body{zoom:.6;background:none;print-color-adjust:exact}.m,.tile,.card,summary{break-inside:avoid}h2{break-after:avoid}"
-    ∷ codes ".high{max-height:none}}"
+    (codes "@page{size:landscape;margin:10mm}@media print{body{zoom:.75;background:none;print-color-adjust:exact}.m,.card{overflow:visible}"
+    ∷ codes ".m,.tile,.card,summary{break-inside:avoid}h2{break-after:avoid}.high{max-height:none}}"
     ∷ [])
 
 abbrev pub style_text : List ℕ

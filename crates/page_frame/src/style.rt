@@ -113,7 +113,9 @@ fn push_reason_rules(out: &mut Vec<u8>) -> Result<(), AllocError>
             rule(
                 ".why b{display:inline-block;min-width:3em;text-align:right;text-indent:0}.why .t{font-weight:600;margin:0 12px 0 10px}",
             ),
-            rule("a{color:var(--blue)}details:target{outline:3px solid var(--blue)}"),
+            rule(
+                ".why a{white-space:nowrap}a{color:var(--blue)}details:target{outline:3px solid var(--blue)}",
+            ),
         ],
     )
 }
@@ -252,9 +254,11 @@ fn push_print_rules(out: &mut Vec<u8>) -> Result<(), AllocError>
         out,
         &[
             rule(
-                "@media print{body{zoom:.6;background:none;print-color-adjust:exact}.m,.tile,.card,summary{break-inside:avoid}h2{break-after:avoid}",
+                "@page{size:landscape;margin:10mm}@media print{body{zoom:.75;background:none;print-color-adjust:exact}.m,.card{overflow:visible}",
             ),
-            rule(".high{max-height:none}}"),
+            rule(
+                ".m,.tile,.card,summary{break-inside:avoid}h2{break-after:avoid}.high{max-height:none}}",
+            ),
         ],
     )
 }
