@@ -1,5 +1,6 @@
 -- How a run goes from line to line, and how it ends.
-use Rattle.std.proofs.Common.{◌≡◌, ℕ, ◌<◌, ◌≤◌, Bool, true, false, List, [], ◌++◌, length, None, Some, Ok, Err, Result, IsTrue, refl, sym, ◌∙◌, ap, subst}
+use Rattle.std.proofs.Common.{◌≡◌, inl, inr, ℕ, ◌<◌, ◌≤◌, Bool, true, false, List, [], ◌++◌, length, None, Some, Ok, Err, Result, IsTrue, refl, sym, ◌∙◌, ap}
+use Rattle.std.proofs.Common.{subst}
 use Rattle.std.proofs.Common.{append_assoc, length-append, arith, ◌+◌}
 use Rattle.std.proofs.lemmas.List.{append-nil}
 use Rattle.std.proofs.KnownBytes.{Consumes-nil, Consumes-trans, Appends-nil, Appends-trans}
@@ -16,12 +17,13 @@ use Rattle.script_lines.specs.declared.machine.Exit.TheVariants as exits
 use Rattle.script_lines.specs.declared.text_output.StopReason.{StopReason}
 use Rattle.script_lines.specs.declared.text_output.StopReason.TheVariants as reasons
 use Rattle.script_lines.specs.declared.window.TheConstants.{WINDOW}
-use Rattle.script_lines.specs.Lines.{Content, TooMuch, Line, lines_from}
+use Rattle.script_lines.specs.Lines.{Content, TooMuch, Line, lines_from, lines}
 use Rattle.script_lines.specs.Next.{content_found, MayFollow, Advances, NextLine}
-use Rattle.script_lines.specs.Outcomes.{Turn, Skips, Takes, Stops, Ended, Open, Outcome, outcome_turn, outcome_from, outcome, StopsShortOf}
+use Rattle.script_lines.specs.Outcomes.{Turn, Skips, Takes, Stops, Ended, Open, Outcome, outcome_turn, outcome_from, outcome, StopsShortOf, BreaksOff}
 use Rattle.script_lines.specs.Clauses.{IsWritten, IsWrittenBy, turn_text, GoesOn, IsStop, Turned, TurnedBy, exit_of, Comes, Drives}
 use Rattle.script_lines.proofs.Turns.{line_outcome, no_lines, no_lines_yet, goes_text, goes_ending, goes_no_stop, stops_text, stops_ending, turn_front}
 use Rattle.script_lines.proofs.Turns.{front_of_front, front_behind}
+use Rattle.script_lines.proofs.BreakingOff.{BreaksFrom, breaks_here, breaks_later, breaks_off}
 
 pub next_at : {source0 source1 : SourceState} {seen0 count0 : ℕ} {window0 : List ℕ} {ended0 : Bool} {seen1 count1 : ℕ} {window1 : List ℕ} {ended1 : Bool}
     {line : List ℕ} {r : Option LineKind} → NextLine source0 source1 seen0 count0 window0 ended0 seen1 count1 window1 ended1 line (Ok r) → (q : Option LineKind)
@@ -59,6 +61,10 @@ module _ {M : Type 0} (turn : M → ℕ → Content → Turn M) (end_text : M �
         → (outcome turn end_text first (b ++ more) e).text ≡ w ++ (outcome_from turn end_text m (lines_from seen count [] (window ++ more) e) e).text
     pub ending : (more : List ℕ) (e : Bool) → MayFollow ended more e
         → (outcome turn end_text first (b ++ more) e).ending ≡ (outcome_from turn end_text m (lines_from seen count [] (window ++ more) e) e).ending
+    -- where the report of the rest breaks off, there the report of all does
+    pub breaks : (v more : List ℕ) (e : Bool) → MayFollow ended more e
+        → BreaksFrom turn end_text WINDOW m (lines_from seen count [] (window ++ more) e) e v
+        → BreaksFrom turn end_text WINDOW first (lines (b ++ more) e) e (w ++ v)
 
   pub so_far_none : (source : SourceState) (sink : SinkState) (seen count : ℕ) (window : List ℕ) (ended : Bool) → seen ≡ 0 → count ≡ 0 → window ≡ []
       → SoFar source source sink sink first seen count window ended
@@ -71,6 +77,7 @@ module _ {M : Type 0} (turn : M → ℕ → Content → Turn M) (end_text : M �
     sink = wrote_nothing sink;
     text = λ more e may. rw (seen_is, count_is, none) refl;
     ending = λ more e may. rw (seen_is, count_is, none) refl;
+    breaks = λ v more e may b. rw (seen_is, count_is, none) at b;
   }
 
   module _ {source0 source1 source2 : SourceState} {sink0 sink1 : SinkState} {m0 : M} {seen0 count0 : ℕ} {window0 : List ℕ} {ended0 : Bool}
@@ -93,6 +100,12 @@ module _ {M : Type 0} (turn : M → ℕ → Content → Turn M) (end_text : M �
           → (outcome turn end_text first ((s.b ++ n.octets) ++ more) e).ending ≡ (rest_of m0 seen0 count0 (window0 ++ (n.octets ++ more)) e).ending
       ending_now more e may = ap (λ (l : List ℕ). (outcome turn end_text first l e).ending) (append_assoc s.b n.octets more)
           ∙ s.ending (n.octets ++ more) e (may_before more e may)
+
+      breaks_now : (v more : List ℕ) (e : Bool) → MayFollow ended1 more e
+          → BreaksFrom turn end_text WINDOW m0 (lines_from seen0 count0 [] (window0 ++ (n.octets ++ more)) e) e v
+          → BreaksFrom turn end_text WINDOW first (lines ((s.b ++ n.octets) ++ more) e) e (s.w ++ v)
+      breaks_now v more e may b = subst (λ (l : List ℕ). BreaksFrom turn end_text WINDOW first (lines l e) e (s.w ++ v)) (sym (append_assoc s.b n.octets more))
+          (s.breaks v (n.octets ++ more) e (may_before more e may) b)
 
     -- ---- a line was found
     module _ {kind : LineKind} (n : NextLine source1 source2 seen0 count0 window0 ended0 seen1 count1 window1 ended1 line (Ok (Some kind))) where
@@ -130,6 +143,10 @@ module _ {M : Type 0} (turn : M → ℕ → Content → Turn M) (end_text : M �
         ending = λ more e may. ending_now n more e may ∙ ap (λ (o : Outcome M). o.ending) (outcome_now more e may)
             ∙ goes_ending m0 m1 (found_line more) t.w (turn m0 count1 (content_found line kind)) (λ next. rest_of next seen1 count1 (window1 ++ more) e)
             t.turned;
+        breaks = λ v more e may b. subst (BreaksFrom turn end_text WINDOW first (lines ((s.b ++ n.octets) ++ more) e) e) (sym (append_assoc s.w t.w v))
+            (breaks_now n (t.w ++ v) more e may (subst (λ (ls : List Line). BreaksFrom turn end_text WINDOW m0 ls e (t.w ++ v))
+            (sym (n.found.2 more e may)) (breaks_later turn end_text WINDOW stops m0 m1 count1 (content_found line kind) (window1 ++ more)
+            (lines_from seen1 count1 [] (window1 ++ more) e) e t.w v t.turned b)));
       }
 
       -- where the run goes on, octets were taken
@@ -166,6 +183,16 @@ module _ {M : Type 0} (turn : M → ℕ → Content → Turn M) (end_text : M �
             (turn_front m0 (found_line []) (turn m0 count1 (content_found line kind)) (λ next. rest_of next seen1 count1 (window1 ++ []) source2.ended)))
             text_end
 
+        -- the report breaks off in that of the line
+        breaks_end : (w : List ℕ) → length window1 ≤ WINDOW → IsPrefixOf w (turn_text (turn m0 count1 (content_found line kind)))
+            → BreaksOff WINDOW (λ octets ended. (outcome turn end_text first octets ended).text) (s.b ++ n.octets) (s.w ++ w) source2.ended
+        breaks_end w short p = breaks_off turn end_text WINDOW stops (s.b ++ n.octets) first 0 0 [] (s.w ++ w) source2.ended
+            (subst (λ (l : List ℕ). BreaksFrom turn end_text WINDOW first (lines l source2.ended) source2.ended (s.w ++ w)) (append-nil (s.b ++ n.octets))
+            (breaks_now n w [] source2.ended (λ seen. (refl, over seen)) (subst (λ (ls : List Line). BreaksFrom turn end_text WINDOW m0 ls source2.ended w)
+            (sym (n.found.2 [] source2.ended (λ seen. (refl, over seen)))) (breaks_here turn end_text WINDOW m0 count1 (content_found line kind) (window1 ++ [])
+            (lines_from seen1 count1 [] (window1 ++ []) source2.ended) source2.ended w
+            (subst (λ (l : List ℕ). length l ≤ WINDOW) (sym (append-nil window1)) short) p))))
+
         comes_at_line : (sink2 : SinkState) (m1 : M) (q : StopReason) (w : List ℕ) → length window1 ≤ WINDOW
             → TurnedBy w m0 m1 (turn m0 count1 (content_found line kind)) sink1 sink2 (Err q)
             → Comes (outcome turn end_text first) m1 source0 source2 sink0 sink2 (s.b ++ n.octets) (s.w ++ w) (exit_of q)
@@ -178,8 +205,8 @@ module _ {M : Type 0} (turn : M → ℕ → Content → Turn M) (end_text : M �
               ++ l) (stops_text m0 (found_line []) (turn m0 count1 (content_found line kind)) (λ next. rest_of next seen1 count1 (window1 ++ []) source2.ended)
               t.0 ∙ sym t.1)),
         )
-        comes_at_line sink2 m1 reasons.Memory w short t = front_end w t
-        comes_at_line sink2 m1 reasons.WriteFault w short t = (rose_then s.sink.later t.0, front_end w t.1)
+        comes_at_line sink2 m1 reasons.Memory w short t = (front_end w t, inr (breaks_end w short t))
+        comes_at_line sink2 m1 reasons.WriteFault w short t = (rose_then s.sink.later t.0, front_end w t.1, breaks_end w short t.1)
 
       pub ends_at_line : (over : IsTrue ended1 → IsTrue source2.ended) {sink2 : SinkState} {m1 : M} (q : StopReason) → length window1 ≤ WINDOW
           → SourceFaults source1 source2 → Turned sink1 sink2 m0 m1 (turn m0 count1 (content_found line kind)) (Err q)
@@ -214,10 +241,19 @@ module _ {M : Type 0} (turn : M → ℕ → Content → Turn M) (end_text : M �
       front_at_end w p = subst (λ b. IsPrefixOf (s.w ++ w) ((outcome turn end_text first (s.b ++ n.octets) b).text)) (sym (over n.found.0))
           (front_behind s.w w _ _ p text_at_end)
 
+      -- the report breaks off in the text at the end
+      breaks_at_end : (w : List ℕ) → IsPrefixOf w (end_text m0)
+          → BreaksOff WINDOW (λ octets ended. (outcome turn end_text first octets ended).text) (s.b ++ n.octets) (s.w ++ w) source2.ended
+      breaks_at_end w p = breaks_off turn end_text WINDOW stops (s.b ++ n.octets) first 0 0 [] (s.w ++ w) source2.ended
+          (subst (λ (l : List ℕ). BreaksFrom turn end_text WINDOW first (lines l source2.ended) source2.ended (s.w ++ w)) (append-nil (s.b ++ n.octets))
+          (breaks_now n w [] source2.ended (λ seen. (refl, over seen)) (subst (λ (ls : List Line). BreaksFrom turn end_text WINDOW m0 ls source2.ended w)
+          (sym (ap (λ (l : List ℕ). lines_from seen0 count0 [] (window0 ++ l) source2.ended) (append-nil n.octets) ∙ n.found.1 source2.ended))
+          (over n.found.0, p))))
+
       comes_short : (sink2 : SinkState) (m1 : M) (q : StopReason) (w : List ℕ) → IsWrittenBy w (end_text m0) sink1 sink2 (Err q)
           → Comes (outcome turn end_text first) m1 source0 source2 sink0 sink2 (s.b ++ n.octets) (s.w ++ w) (exit_of q)
-      comes_short sink2 m1 reasons.Memory w t = front_at_end w t
-      comes_short sink2 m1 reasons.WriteFault w t = (rose_then s.sink.later t.0, front_at_end w t.1)
+      comes_short sink2 m1 reasons.Memory w t = (front_at_end w t, inr (breaks_at_end w t))
+      comes_short sink2 m1 reasons.WriteFault w t = (rose_then s.sink.later t.0, front_at_end w t.1, breaks_at_end w t.1)
       comes_short sink2 m1 reasons.BadLine w t = absurd t
 
       pub ends_fine : {sink2 : SinkState} {u : Unit {0}} → IsWritten sink1 sink2 (end_text m0) (Ok u)
@@ -283,7 +319,7 @@ module _ {M : Type 0} (turn : M → ℕ → Content → Turn M) (end_text : M �
     w = [];
     gave = Consumes-nil source.left;
     wrote = Appends-nil sink.taken;
-    comes = record { rest = (outcome turn end_text first [] source.ended).text; whole = refl };
+    comes = (record { rest = (outcome turn end_text first [] source.ended).text; whole = refl }, inl (refl, refl));
     source = no_reads source;
     sink_later = omega arith;
     sink_none = λ room. refl;

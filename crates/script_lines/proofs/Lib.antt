@@ -1,3 +1,4 @@
+mod BreakingOff
 mod Follow
 mod LineLaws
 mod Taking

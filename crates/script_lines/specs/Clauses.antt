@@ -7,7 +7,7 @@ use Rattle.script_lines.specs.declared.machine.Exit.TheVariants as exits
 use Rattle.script_lines.specs.declared.text_output.StopReason.{StopReason}
 use Rattle.script_lines.specs.declared.text_output.StopReason.TheVariants as stops
 use Rattle.script_lines.specs.declared.window.TheConstants.{WINDOW}
-use Rattle.script_lines.specs.Outcomes.{Turn, Skips, Takes, Stops, Ended, Open, Outcome, StopsShortOf}
+use Rattle.script_lines.specs.Outcomes.{Turn, Skips, Takes, Stops, Ended, Open, Outcome, StopsShortOf, BreaksOff, MayBreakOff}
 
 -- w was written of a text: all of it, or a prefix where memory ran out or the sink failed
 abbrev pub IsWrittenBy : List ℕ → List ℕ → SinkState → SinkState → Result (Unit {0}) StopReason → Type 0
@@ -78,7 +78,8 @@ exit_of stops.Memory = exits.Memory
 exit_of stops.WriteFault = exits.WriteFault
 
 -- What an exit says, over the octets b that were given, the text w that was written and what b does by the outcome: at the end of
--- input, that it is in the state `last`, and that w is the whole text; at a bad line, that few octets are read after it.
+-- input, that it is in the state `last`, and that w is the whole text; at a bad line, that few octets are read after it; where the
+-- text could not be written whole, the line in which it breaks off, and that few octets are read after that line.
 abbrev pub Comes : {M : Type 0} → (List ℕ → Bool → Outcome M) → M → SourceState → SourceState → SinkState → SinkState
     → List ℕ → List ℕ → Exit → Type 0
 Comes outcome last source0 source1 sink0 sink1 b w exits.Fine =
@@ -89,7 +90,10 @@ Comes outcome last source0 source1 sink0 sink1 b w exits.ReadFault =
     SourceRose source0 source1 × ((outcome b false).ending ≡ Open) × (w ≡ (outcome b false).text)
 Comes outcome last source0 source1 sink0 sink1 b w exits.WriteFault =
     SinkRose sink0 sink1 × IsPrefixOf w (outcome b source1.ended).text
-Comes outcome last source0 source1 sink0 sink1 b w exits.Memory = IsPrefixOf w (outcome b source1.ended).text
+    × BreaksOff WINDOW (λ octets ended. (outcome octets ended).text) b w source1.ended
+Comes outcome last source0 source1 sink0 sink1 b w exits.Memory =
+    IsPrefixOf w (outcome b source1.ended).text
+    × MayBreakOff WINDOW (λ octets ended. (outcome octets ended).text) b w source1.ended
 
 -- What a run did: what the source gave, what the sink took, why it ended so, and where neither can have failed.
 pub record Drives {M : Type 0} (outcome : List ℕ → Bool → Outcome M) (last : M) (source0 source1 : SourceState)

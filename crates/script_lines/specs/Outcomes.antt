@@ -1,5 +1,6 @@
 -- What lines do to a machine, whatever it is.
-use Rattle.std.specs.Prelude.{ℕ, ◌≤◌, Bool, List, [], ◌∷◌, ◌++◌, length, if◌then◌else◌}
+use Rattle.std.specs.Prelude.{◌≡◌, ◌⊎◌, ℕ, ◌≤◌, Bool, true, false, List, [], ◌∷◌, ◌++◌, length, if◌then◌else◌, IsTrue}
+use Rattle.plc_base.specs.Streams.{IsPrefixOf}
 use Rattle.script_lines.specs.Lines.{Content, Line, lines}
 
 -- what a line does: nothing, or it is taken, with a text, or it is bad, with a text
@@ -41,3 +42,30 @@ abbrev pub StopsShortOf : {M : Type 0} → ℕ → Ending M → Type 0
 StopsShortOf ahead (Bad number behind) = length behind ≤ ahead
 StopsShortOf ahead (Ended last) = ⊥
 StopsShortOf ahead Open = ⊥
+
+-- ---- where a report breaks off, if it could not be written whole
+
+-- Of the octets b that were read, w was written. It breaks off in the report of the line that the octet `last` ends: the reports of
+-- all lines before it were written whole, and a prefix of its own. At most so many octets were read after it. Where the input has
+-- not ended, a report is that of the whole lines.
+pub record BreaksOffInLine (ahead : ℕ) (report : List ℕ → Bool → List ℕ) (b w : List ℕ) : Type 0 where
+  pub before : List ℕ
+  pub last : ℕ
+  pub behind : List ℕ
+  pub parts : b ≡ before ++ last ∷ behind
+  pub few : length behind ≤ ahead
+  pub whole : IsPrefixOf (report before false) w
+  pub cut : IsPrefixOf w (report (before ++ last ∷ []) false)
+
+-- It breaks off in what the end of input adds: the reports of all lines that a line feed ends were written whole.
+pub record BreaksOffAtEnd (report : List ℕ → Bool → List ℕ) (b w : List ℕ) (ended : Bool) : Type 0 where
+  pub over : IsTrue ended
+  pub whole : IsPrefixOf (report b false) w
+  pub cut : IsPrefixOf w (report b true)
+
+abbrev pub BreaksOff : ℕ → (List ℕ → Bool → List ℕ) → List ℕ → List ℕ → Bool → Type 0
+BreaksOff ahead report b w ended = BreaksOffInLine ahead report b w ⊎ BreaksOffAtEnd report b w ended
+
+-- the same where memory ran out, which may be before anything was read
+abbrev pub MayBreakOff : ℕ → (List ℕ → Bool → List ℕ) → List ℕ → List ℕ → Bool → Type 0
+MayBreakOff ahead report b w ended = ((b ≡ []) × (w ≡ [])) ⊎ BreaksOff ahead report b w ended

@@ -20,11 +20,11 @@ pub enum Exit {
     Fine,
     /// A line is bad. Its report was written, and no line after it was taken.
     BadScript,
-    /// There was not enough memory. A prefix of the text was written.
+    /// There was not enough memory: before anything was read, or as at `WriteFault`.
     Memory,
     /// The source failed. The text of all whole lines before was written.
     ReadFault,
-    /// The sink failed. A prefix of the text was written.
+    /// The sink failed. The text of all lines before one line was written, and a prefix of that line's.
     WriteFault,
 }
 
@@ -119,8 +119,9 @@ fn take_line<M: LineMachine, K: Sink>(
 
 /// Reads a script from the source line by line, and writes the report of a machine to the sink.
 ///
-/// The report of a line is written before the next one is taken, and at a bad line at most 8,192 octets after it were read. At
-/// the end of input the machine is left in the state after the last line; in what state it is left otherwise is not said.
+/// The report of a line is written before the next one is taken. Where the run ends at a line, since it is bad, the sink failed or
+/// memory ran out, the reports of all lines before it were written whole, and at most 8,192 octets after it were read. At the end
+/// of input the machine is left in the state after the last line; in what state it is left otherwise is not said.
 ///
 /// Where no read of the source and no write of the sink is to fail, and the sink has room for the whole report, neither count of
 /// faults changes.
