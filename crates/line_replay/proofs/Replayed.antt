@@ -5,7 +5,7 @@ use Rattle.line_laws.specs.Network.{IsRight}
 use Rattle.line_replay.specs.Replay.{entries, is_forged, outcome}
 use Rattle.line_replay.specs.Tool.{Ran, Replays}
 use Rattle.line_replay.specs.declared.status.Status.{Status}
-use Rattle.line_replay.proofs.Running.{entries_run, last_is, report_by_entries, names}
+use Rattle.line_replay.proofs.Running.{entries_run, last_is, report_by_entries, names, breaks_as}
 use Rattle.line_replay.proofs.Quieting.{report_quieted}
 
 pub replays_of : (quiet : Bool) {source0 source1 : SourceState} {sink0 sink1 : SinkState} {s : Status}
@@ -15,6 +15,7 @@ replays_of quiet ran right = record {
   ran = ran;
   by_entries = report_by_entries quiet ran.drives.b;
   quieted = λ e. report_quieted ran.drives.b e;
+  breaks = breaks_as ran;
   bad = last_is ran.drives.b;
   run = entries_run ran.drives.b;
   holds = λ e. right ran.drives.b e;

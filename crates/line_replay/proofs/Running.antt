@@ -30,7 +30,7 @@ use Rattle.line_replay.specs.Replay.{BadLine, bad_by, first_bad_from, first_bad,
 use Rattle.line_replay.specs.Replay.{is_forged, outcome, report, entries_by, entries_from, entries, entries_text, last_by, last_from, last_text, forged_in}
 use Rattle.line_replay.specs.declared.status.Status.{Status}
 use Rattle.line_replay.specs.declared.status.Status.TheVariants as status
-use Rattle.line_replay.specs.Tool.{status_of, Ran, Names, is_whole}
+use Rattle.line_replay.specs.Tool.{status_of, Ran, Names, BreaksOffBy, is_whole}
 
 -- what a taking says of the run that goes on
 abbrev GoesOn : World → Taking → Type 0
@@ -182,6 +182,23 @@ module _ (quiet : Bool) where
       → CountsRight start (entries ran.drives.b true) → Names s (forged_in (entries ran.drives.b true))
   names {source0} {source1} {sink0} {sink1} {s} ran right = subst (λ t. Names t (forged_in (entries ran.drives.b true))) (sym ran.status)
       (names_by source0 source1 sink0 sink1 ran.drives.b ran.drives.w ran.last ran.exit (is_forged ran.last) refl ran.drives.comes right)
+
+-- ---- where a report breaks off
+
+module _ {M : Type 0} {judge : M → Bool} {outcome : List ℕ → Bool → Outcome M} {source0 source1 : SourceState} {sink0 sink1 : SinkState} {s : Status}
+    (ran : Ran judge outcome source0 source1 sink0 sink1 s) where
+  breaks_by : (exit : Exit) (flag : Bool) → Comes outcome ran.last source0 source1 sink0 sink1 ran.drives.b ran.drives.w exit
+      → BreaksOffBy (status_of exit flag) (λ octets ended. (outcome octets ended).text) ran.drives.b ran.drives.w source1.ended
+  breaks_by exits.Fine false comes = tt
+  breaks_by exits.Fine true comes = tt
+  breaks_by exits.BadScript flag comes = tt
+  breaks_by exits.ReadFault flag comes = tt
+  breaks_by exits.WriteFault flag comes = comes.2
+  breaks_by exits.Memory flag comes = comes.1
+
+  pub breaks_as : BreaksOffBy s (λ octets ended. (outcome octets ended).text) ran.drives.b ran.drives.w source1.ended
+  breaks_as = subst (λ t. BreaksOffBy t (λ octets ended. (outcome octets ended).text) ran.drives.b ran.drives.w source1.ended) (sym ran.status)
+      (breaks_by ran.exit (judge ran.last) ran.drives.comes)
 
 -- ---- why a status came
 

@@ -9,7 +9,8 @@ use Rattle.std.specs.Io.KnownBytes.{Appends}
 use Rattle.plc_base.specs.Streams.{SourceState, SinkState, SinkFaults, SinkRose, IsPrefixOf}
 use Rattle.script_lines.specs.declared.machine.Exit.{Exit}
 use Rattle.script_lines.specs.declared.machine.Exit.TheVariants as exits
-use Rattle.script_lines.specs.Outcomes.{Outcome}
+use Rattle.script_lines.specs.declared.window.TheConstants.{WINDOW}
+use Rattle.script_lines.specs.Outcomes.{Outcome, BreaksOff, MayBreakOff}
 use Rattle.script_lines.specs.Clauses.{Drives}
 use Rattle.node_rules.specs.Ciphers.{network}
 use Rattle.line_laws.specs.Network.{IsRight}
@@ -81,6 +82,17 @@ is_whole status.Fine = true
 is_whole status.Forged = true
 is_whole _ = false
 
+-- A report that could not be written whole, since a write failed or memory ran out, breaks off in the report of one line, or in the
+-- last line of all: what comes before was written whole, and few octets after that line were read.
+abbrev pub BreaksOffBy : Status → (List ℕ → Bool → List ℕ) → List ℕ → List ℕ → Bool → Type 0
+BreaksOffBy status.WriteFault whole b w ended = BreaksOff WINDOW whole b w ended
+BreaksOffBy status.Memory whole b w ended = MayBreakOff WINDOW whole b w ended
+BreaksOffBy status.Fine whole b w ended = Unit {0}
+BreaksOffBy status.Forged whole b w ended = Unit {0}
+BreaksOffBy status.BadScript whole b w ended = Unit {0}
+BreaksOffBy status.ReadFault whole b w ended = Unit {0}
+BreaksOffBy status.Usage whole b w ended = Unit {0}
+
 -- What a replay did: the same, and what holds of its run.
 pub record Replays (quiet : Bool) (source0 source1 : SourceState) (sink0 sink1 : SinkState)
     (result : Status) : Type 0 where
@@ -90,6 +102,8 @@ pub record Replays (quiet : Bool) (source0 source1 : SourceState) (sink0 sink1 :
       → report quiet ran.drives.b e ≡ entries_text quiet (entries ran.drives.b e) ++ last_text ran.drives.b e
   -- the quiet report is the full one without its lines that begin with "fly "
   pub quieted : (e : Bool) → report true ran.drives.b e ≡ without_flights (report false ran.drives.b e)
+  -- where a write failed or memory ran out, the reports of all lines before that one were written whole
+  pub breaks : BreaksOffBy result (report quiet) ran.drives.b ran.drives.w source1.ended
   -- the last line names the first bad line, where there is one
   pub bad : (e : Bool) → EndsBy e (first_bad ran.drives.b e) (last_text ran.drives.b e)
   -- the entries are a run of the network: the step of each event gives the next world
