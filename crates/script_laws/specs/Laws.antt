@@ -1,0 +1,16 @@
+-- The laws of the language of scripts.
+use Rattle.std.specs.Prelude.{◌≡◌, ℕ, List}
+use Rattle.line_events.specs.declared.event.Event.{Event}
+use Rattle.line_events.specs.Events.{IsEvent}
+use Rattle.line_script.specs.declared.reading.Reading.TheVariants.{Reads}
+use Rattle.line_script.specs.Readings.{reading}
+use Rattle.line_script.specs.Lines.{line_of}
+use Rattle.script_laws.specs.Spellings.{lower_line}
+
+-- what is read as an event is the event's line, whose octets may be written in upper case
+abbrev pub OnlyLinesAreRead : Type 0
+OnlyLinesAreRead = (octets : List ℕ) (event : Event) → reading octets ≡ Reads event → IsEvent event × (lower_line octets ≡ line_of event)
+
+-- two lines that are read as one event differ in the case of hexadecimal digits alone
+abbrev pub OneLineForAnEvent : Type 0
+OneLineForAnEvent = (v w : List ℕ) (event : Event) → reading v ≡ Reads event → reading w ≡ Reads event → lower_line v ≡ lower_line w

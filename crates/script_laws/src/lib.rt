@@ -1,0 +1,6 @@
+//! Laws of the language of scripts, over the definitions of `line_script`: each is the clause of a function that does nothing.
+#![tactic(auto)]
+
+mod laws;
+
+pub use laws::{one_line_for_an_event, only_lines_are_read};
