@@ -1,20 +1,24 @@
 -- What is read as octets is their digits, of either case.
-use Rattle.std.proofs.Common.{◌≡◌, ℕ, ◌+◌, ◌*◌, ◌/◌, ◌%◌, ◌<◌, ◌==◌, ◌&&◌, Bool, true, false, not, List, [], ◌∷◌, map, length, get_or, slice_index, Option}
+use Rattle.std.proofs.Common.{◌≡◌, inl, inr, ℕ, ◌+◌, ◌*◌, ◌/◌, ◌%◌, ◌<◌, ◌==◌, ◌&&◌, Bool, true, false, not, List, [], ◌∷◌, map, length, get_or, slice_index}
+use Rattle.std.proofs.Common.{Option}
 use Rattle.std.proofs.Common.{Some, None, is_some, Result, Ok, Err, refl, sym, ap, subst, ◌∙◌, arith}
 use Rattle.std.specs.Prelude.{IfSome, IfOk, nat_lt, nat_le, if◌then◌else◌}
 use Rattle.std.specs.Char.{to_ascii_lowercase}
 use Rattle.std.specs.List.{list_all, range_with_len}
 use Rattle.std.specs.Result.{result_ok}
-use Rattle.std.proofs.lemmas.Bool.{ltb-true, eqb-true, and_parts}
+use Rattle.std.proofs.lemmas.Bool.{ltb-true, eqb-true, and_parts, not-true}
+use Rattle.std.proofs.lemmas.List.{length-map}
 use Rattle.std.proofs.lemmas.List.FromFn.{get_or-map-range_with_len}
 use Rattle.hex.specs.Hex.{decode_of, decode_pairs, digit_or_error, encode_lower, encode_with, hex_digit_value, is_hex_digit, lower_digits, pair_value, value_at}
 use Rattle.hex.specs.Hex.{◌>>=◌}
 use Rattle.hex.specs.declared.error.FromHexError.{FromHexError}
 use Rattle.hex.specs.declared.error.FromHexError.TheVariants.{OddLength}
+use Rattle.line_script.specs.Words as words
 use Rattle.line_script.specs.Words.{eui, sixteen_octets, hex_octets}
 use Rattle.line_script.proofs.WordsRead.{IsWord}
 use Rattle.script_laws.specs.Spellings.{lower_word}
-use Rattle.script_laws.proofs.Words.{IsSpelled, if_then, if_so}
+use Rattle.script_laws.proofs.Letters.{in_lower_case, same_if}
+use Rattle.script_laws.proofs.Words.{IsReader, IsSpelled, if_then, if_so}
 
 ok_then : {A B : Type 0} (P : A → Type 0) (Q : B → Type 0) (r : Result A FromHexError) (f : A → Result B FromHexError) → IfOk r P
     → ((a : A) → P a → IfOk (f a) Q) → IfOk (r >>= f) Q
@@ -43,17 +47,13 @@ digit_low c v is = grind (arith)
 abbrev IsDigitOf : ℕ → ℕ → Type 0
 IsDigitOf c v = ((c == 32) ≡ false) × (is_hex_digit c ≡ true) × (v < 16) × (to_ascii_lowercase c ≡ slice_index lower_digits v)
 
-not_true : (b : Bool) → not b ≡ true → b ≡ false
-not_true false is = refl
-not_true true is = absurd (cc)
-
 digit_by : (c : ℕ) (o : Option ℕ) → hex_digit_value c ≡ o → IfSome o (IsDigitOf c)
 digit_by c None is = tt
 digit_by c (Some v) is =
     let whole : passes c (Some v) ≡ true = ap (passes c) (sym is) ∙ pass c (digit_low c v is) in
     let word = and_parts (not (c == 32)) (nat_lt v 16 && (to_ascii_lowercase c == slice_index lower_digits v)) whole in
     let digit = and_parts (nat_lt v 16) (to_ascii_lowercase c == slice_index lower_digits v) word.1 in
-    (not_true (c == 32) word.0, ap is_some is, ltb-true v 16 digit.0, eqb-true (to_ascii_lowercase c) (slice_index lower_digits v) digit.1)
+    (not-true (c == 32) word.0, ap is_some is, ltb-true v 16 digit.0, eqb-true (to_ascii_lowercase c) (slice_index lower_digits v) digit.1)
 
 value_by : (c i : ℕ) (o : Option ℕ) → IfSome o (IsDigitOf c) → IfOk (digit_or_error c i o) (IsDigitOf c)
 value_by c i None is = tt
@@ -113,18 +113,81 @@ some_by word (Err e) are = tt
 decoded : (word : List ℕ) → IfSome (result_ok (decode_of word)) (λ octets. IsSpelled word (encode_lower octets))
 decoded word = some_by word (decode_of word) (decode_by word (length word % 2 == 1))
 
-pub eui_spelled : (word : List ℕ) → IfSome (eui word) (λ who. IsSpelled word (encode_lower who.0))
-unfolding eui
-eui_spelled word =
-    if_then (λ octets. IsSpelled word (encode_lower octets)) (λ who. IsSpelled word (encode_lower who.0))
-    (if length word == 16 then result_ok (decode_of word) else None) _
-    (if_so (λ octets. IsSpelled word (encode_lower octets)) (length word == 16) (result_ok (decode_of word)) (decoded word)) (λ octets is. is)
+-- # The case of digits
 
-pub sixteen_spelled : (word : List ℕ) → IfSome (sixteen_octets word) (λ octets. IsSpelled word (encode_lower octets))
+low_values : map (λ (c : ℕ). hex_digit_value (to_ascii_lowercase c)) (range_with_len 0 128) ≡ map hex_digit_value (range_with_len 0 128)
+low_values = refl
+
+value_low : (c : ℕ) → c < 128 → hex_digit_value (to_ascii_lowercase c) ≡ hex_digit_value c
+value_low c low =
+    sym (get_or-map-range_with_len (λ (c : ℕ). hex_digit_value (to_ascii_lowercase c)) 0 128 c c None low (omega arith))
+    ∙ ap (λ (os : List (Option ℕ)). get_or os c None) low_values
+    ∙ get_or-map-range_with_len hex_digit_value 0 128 c c None low (omega arith)
+
+same_value : (c : ℕ) → hex_digit_value (to_ascii_lowercase c) ≡ hex_digit_value c
+same_value c =
+    elim (in_lower_case c) [
+      | inl same ↦ ap hex_digit_value same
+      | inr is ↦ value_low c (omega (arith, is.1))
+    ]
+
+same_or_error : (b c i : ℕ) (o : Option ℕ) → is_some o ≡ true → digit_or_error b i o ≡ digit_or_error c i o
+same_or_error b c i (Some v) is = refl
+same_or_error b c i None is = absurd (cc is)
+
+same_digit : (c i : ℕ) → is_hex_digit c ≡ true → value_at (to_ascii_lowercase c) i ≡ value_at c i
+same_digit c i is = ap (digit_or_error (to_ascii_lowercase c) i) (same_value c) ∙ same_or_error (to_ascii_lowercase c) c i (hex_digit_value c) is
+
+same_pairs : (i : ℕ) (s : List ℕ) → list_all is_hex_digit s ≡ true → decode_pairs i (map to_ascii_lowercase s) ≡ decode_pairs i s
+unfolding decode_pairs
+same_pairs i [] are = refl
+same_pairs i (a ∷ []) are = refl
+same_pairs i (a ∷ b ∷ s) are =
+    let first = and_parts (is_hex_digit a) (list_all is_hex_digit (b ∷ s)) are in
+    let second = and_parts (is_hex_digit b) (list_all is_hex_digit s) first.1 in
+    λ k. (same_digit a i first.0 k >>= λ h. same_digit b (i + 1) second.0 k >>= λ l. Ok (h * 16 + l)) >>= λ octet. same_pairs (i + 2) s second.1 k
+    >>= λ octets. Ok (octet ∷ octets)
+
+same_decoded : (word : List ℕ) → list_all is_hex_digit word ≡ true → decode_of (map to_ascii_lowercase word) ≡ decode_of word
+same_decoded word are = λ i. if length-map word to_ascii_lowercase i % 2 == 1 then Err OddLength else same_pairs 0 word are i
+
+-- a word of hexadecimal digits is one in lower case too
+pub lower_digits_are : (word : List ℕ) → list_all is_hex_digit word ≡ true → list_all is_hex_digit (map to_ascii_lowercase word) ≡ true
+lower_digits_are [] are = refl
+lower_digits_are (c ∷ cs) are =
+    let parts = and_parts (is_hex_digit c) (list_all is_hex_digit cs) are in
+    λ i. (ap is_some (same_value c) ∙ parts.0) i && lower_digits_are cs parts.1 i
+
+-- # Readers
+
+abbrev read_if : (ℕ → Bool) → List ℕ → Option (List ℕ)
+read_if fits word = if fits (length word) then result_ok (decode_of word) else None
+
+-- what reads the octets of words of some lengths
+if_reader : (fits : ℕ → Bool) → IsReader (read_if fits) encode_lower
+unfolding lower_word
+if_reader fits = record {
+  spells = λ word. if_so (λ octets. IsSpelled word (encode_lower octets)) (fits (length word)) (result_ok (decode_of word)) (decoded word);
+  same = λ word. same_if (read_if fits) _ (map to_ascii_lowercase word) word
+      (λ are i. if fits (length-map word to_ascii_lowercase i) then result_ok (same_decoded word are i) else None);
+}
+
+pub sixteen_reader : IsReader sixteen_octets encode_lower
 unfolding sixteen_octets
-sixteen_spelled word = if_so (λ octets. IsSpelled word (encode_lower octets)) (length word == 32) (result_ok (decode_of word)) (decoded word)
+sixteen_reader = if_reader (λ long. long == 32)
 
-pub hex_spelled : (word : List ℕ) → IfSome (hex_octets word) (λ octets. IsSpelled word (encode_lower octets))
+pub hex_reader : IsReader hex_octets encode_lower
 unfolding hex_octets
-hex_spelled word =
-    if_so (λ octets. IsSpelled word (encode_lower octets)) (nat_lt 0 (length word) && nat_le (length word) 4096) (result_ok (decode_of word)) (decoded word)
+hex_reader = if_reader (λ long. nat_lt 0 long && nat_le long 4096)
+
+eight : IsReader (read_if (λ long. long == 16)) encode_lower
+eight = if_reader (λ long. long == 16)
+
+pub eui_reader : IsReader eui (λ who. encode_lower who.0)
+unfolding eui
+eui_reader = record {
+  spells = λ word.
+      if_then (λ octets. IsSpelled word (encode_lower octets)) (λ who. IsSpelled word (encode_lower who.0)) (read_if (λ long. long == 16) word) _
+      (eight.spells word) (λ octets is. is);
+  same = λ word i. words.◌>>=◌ (eight.same word i) (λ octets. Some (record { 0 = octets }));
+}

@@ -1,10 +1,11 @@
--- The words after the first, by kind: what is read is an event whose line has them.
-use Rattle.std.proofs.Common.{◌≡◌, ℕ, Bool, true, false, List, Option, Some, None, refl, sym, ap, subst, ◌∙◌}
+-- The words after the first, by kind: what is read is an event whose line has them, and the case of digits is not read.
+use Rattle.std.proofs.Common.{◌≡◌, ℕ, Bool, true, false, List, map, Option, Some, None, refl, sym, ap, subst, ◌∙◌}
 use Rattle.std.specs.Prelude.{IfSome, codes, if◌then◌else◌}
-use Rattle.std.specs.Fmt.{decimal}
+use Rattle.std.specs.Char.{to_ascii_lowercase}
+use Rattle.std.specs.List.{list_all}
+use Rattle.std.specs.Option.{option_map}
 use Rattle.std.specs.Str.{bytes_eq}
-use Rattle.hex.specs.Hex.{encode_lower}
-use Rattle.plc_base.specs.declared.address.Eui.{Eui}
+use Rattle.hex.specs.Hex.{is_hex_digit}
 use Rattle.line_events.specs.declared.event.Event.{Event}
 use Rattle.line_events.specs.declared.event.Event.TheVariants.{Coordinator, Meter, Depot, Near, Counter, Number, Allow, Rand as GiveRand, Join, Leave, Send}
 use Rattle.line_events.specs.declared.event.Event.TheVariants.{Deliver, Inject, Lose, Break, Tick, Restart, Cut, Rekey, Challenge, Activate, Kick, Show}
@@ -12,15 +13,16 @@ use Rattle.line_events.specs.declared.event.Event.TheVariants.{Bcast, Scan, Choo
 use Rattle.line_script.specs.declared.kind.EventKind.{EventKind}
 use Rattle.line_script.specs.declared.kind.EventKind.TheVariants as kinds
 use Rattle.line_script.specs.Kinds.{kind_word}
-use Rattle.line_script.specs.Words.{◌>>=◌, Field, field, number, number_within, cost, eui, sixteen_octets, hex_octets, keeps_new}
+use Rattle.line_script.specs.Words.{◌>>=◌, Field, field, keeps_new}
 use Rattle.line_script.specs.Readings.{coordinator_of, meter_of, depot_of, near_of, counter_of, number_of, allow_of, rand_of, join_of, leave_of, send_of}
 use Rattle.line_script.specs.Readings.{deliver_of, inject_of, lose_of, break_of, tick_of, restart_of, cut_of, rekey_of, challenge_of, activate_of, kick_of}
 use Rattle.line_script.specs.Readings.{show_of, bcast_of, scan_of, choose_of, path_of, event_by}
 use Rattle.line_script.specs.Lines.{kept_word, line_of, spaced}
 use Rattle.script_laws.specs.Spellings.{lower_word, lower_line}
-use Rattle.script_laws.proofs.Words.{IsSpelled, IsSplit, field_splits, if_then, last_word, same_word}
-use Rattle.script_laws.proofs.Numbers.{number_spelled, within_spelled, cost_spelled}
-use Rattle.script_laws.proofs.Hexadecimal.{eui_spelled, sixteen_spelled, hex_spelled}
+use Rattle.script_laws.proofs.Letters.{same_if}
+use Rattle.script_laws.proofs.Words.{IsReader, IsSpelled, IsSplit, field_splits, if_then, last_same, last_word, lower_field, lower_fields, not_hex, same_word}
+use Rattle.script_laws.proofs.Numbers.{number_reader, within_reader, cost_reader}
+use Rattle.script_laws.proofs.Hexadecimal.{eui_reader, sixteen_reader, hex_reader, lower_digits_are}
 
 -- # Choices
 
@@ -33,110 +35,112 @@ kept_by word false true is_new is_old =
     subst (λ (w : List ℕ). IsSpelled w (codes "old")) (sym (same_word word (codes "old") true is_old refl)) ((refl, (refl, (refl, tt))), refl)
 kept_by word false false is_new is_old = tt
 
-kept_spelled : (word : List ℕ) → IfSome (keeps_new word) (λ keeps. IsSpelled word (kept_word keeps))
+no_choice : (word : List ℕ) → list_all is_hex_digit word ≡ true → keeps_new word ≡ None
 unfolding keeps_new
-kept_spelled word = kept_by word (bytes_eq word (codes "new")) (bytes_eq word (codes "old")) refl refl
+no_choice word are = rw (not_hex word (codes "new") are refl, not_hex word (codes "old") are refl) refl
+
+kept_reader : IsReader keeps_new kept_word
+unfolding keeps_new lower_word
+kept_reader = record {
+  spells = λ word. kept_by word (bytes_eq word (codes "new")) (bytes_eq word (codes "old")) refl refl;
+  same = λ word. same_if keeps_new _ (map to_ascii_lowercase word) word
+      (λ are. no_choice (map to_ascii_lowercase word) (lower_digits_are word are) ∙ sym (no_choice word are));
+}
 
 -- # One to three words
-
--- what is read of a word is spelled so
-abbrev Spells : {A : Type 0} → (List ℕ → Option A) → (A → List ℕ) → Type 0
-Spells read text = (word : List ℕ) → IfSome (read word) (λ a. IsSpelled word (text a))
 
 -- the words after the first are those of the event's line
 abbrev pub IsBy : EventKind → List ℕ → Event → Type 0
 IsBy kind rest event = spaced (lower_word (kind_word kind)) (lower_line rest) ≡ line_of event
 
-last : {A : Type 0} (read : List ℕ → Option A) (text : A → List ℕ) (Q : Event → Type 0) (rest : List ℕ) (f : A → Option Event) → Spells read text
-    → ((a : A) → lower_line rest ≡ text a → IfSome (f a) Q) → IfSome (read rest >>= f) Q
-last read text Q rest f spells all =
-    if_then (λ a. IsSpelled rest (text a)) Q (read rest) f (spells rest) (λ a is. all a (last_word rest is.0 ∙ is.1))
+-- what is read of the words after the first is an event whose line has them, and the case of digits is not read
+abbrev pub ReadsKind : EventKind → List ℕ → (List ℕ → Option Event) → Type 0
+ReadsKind kind rest read = IfSome (read rest) (IsBy kind rest) × (read (lower_line rest) ≡ read rest)
 
-next : {A : Type 0} (read : List ℕ → Option A) (text : A → List ℕ) (Q : Event → Type 0) (rest : List ℕ) (f : Field → A → Option Event) → Spells read text
-    → ((first : Field) (a : A) → lower_line rest ≡ spaced (text a) (lower_line first.rest) → IfSome (f first a) Q)
-    → IfSome (field rest >>= λ first. read first.word >>= λ a. f first a) Q
-next read text Q rest f spells all =
-    if_then (IsSplit rest) Q (field rest) _ (field_splits rest)
-    (λ first split. if_then (λ a. IsSpelled first.word (text a)) Q (read first.word) _ (spells first.word)
-    (λ a is. all first a (split ∙ ap (λ (w : List ℕ). spaced w (lower_line first.rest)) is.1)))
+module _ {A : Type 0} {read : List ℕ → Option A} {text : A → List ℕ} (r : IsReader read text) (rest : List ℕ) where
+  -- the last word of a line
+  last : (Q : Event → Type 0) (f : A → Option Event) → ((a : A) → lower_line rest ≡ text a → IfSome (f a) Q) → IfSome (read rest >>= f) Q
+  last Q f all = if_then (λ a. IsSpelled rest (text a)) Q (read rest) f (r.spells rest) (λ a is. all a (last_word rest is.0 ∙ is.1))
+
+  -- a word that others follow
+  abbrev then_read : (List ℕ → A → Option Event) → Option Field → Option Event
+  then_read f found = found >>= λ first. read first.word >>= λ a. f first.rest a
+
+  next : (Q : Event → Type 0) (f : List ℕ → A → Option Event)
+      → ((tail : List ℕ) (a : A) → lower_line rest ≡ spaced (text a) (lower_line tail) → IfSome (f tail a) Q) → IfSome (then_read f (field rest)) Q
+  next Q f all =
+      if_then (IsSplit rest) Q (field rest) _ (field_splits rest)
+      (λ first split. if_then (λ a. IsSpelled first.word (text a)) Q (read first.word) _ (r.spells first.word)
+      (λ a is. all first.rest a (split.1 ∙ ap (λ (w : List ℕ). spaced w (lower_line first.rest)) is.1)))
+
+  next_by : (f : List ℕ → A → Option Event) (found : Option Field) → ((tail : List ℕ) (a : A) → f (lower_line tail) a ≡ f tail a)
+      → then_read f (option_map lower_field found) ≡ then_read f found
+  next_by f None same = refl
+  next_by f (Some first) same = λ i. r.same first.word i >>= λ a. same first.rest a i
+
+  next_same : (f : List ℕ → A → Option Event) → ((tail : List ℕ) (a : A) → f (lower_line tail) a ≡ f tail a)
+      → then_read f (field (lower_line rest)) ≡ then_read f (field rest)
+  next_same f same = ap (then_read f) (lower_fields rest) ∙ next_by f (field rest) same
 
 module _ (kind : EventKind) (rest : List ℕ) where
-  abbrev Is : Event → Type 0
-  Is event = IsBy kind rest event
-
   abbrev with_kind : List ℕ → List ℕ
   with_kind text = spaced (lower_word (kind_word kind)) text
 
-  one : {A : Type 0} (read : List ℕ → Option A) (text : A → List ℕ) (make : A → Event) → Spells read text
-      → ((a : A) → with_kind (text a) ≡ line_of (make a)) → IfSome (read rest >>= λ a. Some (make a)) Is
-  one read text make spells line = last read text Is rest _ spells (λ a is. ap with_kind is ∙ line a)
+  module _ {A : Type 0} {read : List ℕ → Option A} {text : A → List ℕ} (r : IsReader read text) where
+    one : (make : A → Event) → ((a : A) → with_kind (text a) ≡ line_of (make a)) → ReadsKind kind rest (λ octets. read octets >>= λ a. Some (make a))
+    one make line = (last r rest (IsBy kind rest) _ (λ a is. ap with_kind is ∙ line a), ap (λ o. o >>= λ a. Some (make a)) (last_same r rest))
 
-  two : {A B : Type 0} (read : List ℕ → Option A) (text : A → List ℕ) (read' : List ℕ → Option B) (text' : B → List ℕ) (make : A → B → Event)
-      → Spells read text → Spells read' text' → ((a : A) (b : B) → with_kind (spaced (text a) (text' b)) ≡ line_of (make a b))
-      → IfSome (field rest >>= λ first. read first.word >>= λ a. read' first.rest >>= λ b. Some (make a b)) Is
-  two read text read' text' make spells spells' line =
-      next read text Is rest _ spells
-      (λ first a is. last read' text' Is first.rest _ spells' (λ b is'. ap with_kind (is ∙ ap (spaced (text a)) is') ∙ line a b))
+    module _ {B : Type 0} {read' : List ℕ → Option B} {text' : B → List ℕ} (r' : IsReader read' text') where
+      two : (make : A → B → Event) → ((a : A) (b : B) → with_kind (spaced (text a) (text' b)) ≡ line_of (make a b))
+          → ReadsKind kind rest (λ octets. field octets >>= λ first. read first.word >>= λ a. read' first.rest >>= λ b. Some (make a b))
+      two make line = (
+        next r rest (IsBy kind rest) _
+            (λ tail a is. last r' tail (IsBy kind rest) _ (λ b is'. ap with_kind (is ∙ ap (spaced (text a)) is') ∙ line a b)),
+        next_same r rest _ (λ tail a. ap (λ o. o >>= λ b. Some (make a b)) (last_same r' tail)),
+      )
 
-  three : {A B C : Type 0} (read : List ℕ → Option A) (text : A → List ℕ) (read' : List ℕ → Option B) (text' : B → List ℕ)
-      (read'' : List ℕ → Option C) (text'' : C → List ℕ) (make : A → B → C → Event) → Spells read text → Spells read' text' → Spells read'' text''
-      → ((a : A) (b : B) (c : C) → with_kind (spaced (text a) (spaced (text' b) (text'' c))) ≡ line_of (make a b c))
-      → IfSome (field rest >>= λ first. read first.word >>= λ a. field first.rest >>= λ second. read' second.word >>= λ b. read'' second.rest
-      >>= λ c. Some (make a b c)) Is
-  three read text read' text' read'' text'' make spells spells' spells'' line =
-      next read text Is rest _ spells
-      (λ first a is. next read' text' Is first.rest _ spells'
-      (λ second b is'. last read'' text'' Is second.rest _ spells''
-      (λ c is''. ap with_kind (is ∙ ap (spaced (text a)) (is' ∙ ap (spaced (text' b)) is'')) ∙ line a b c)))
+      module _ {C : Type 0} {read'' : List ℕ → Option C} {text'' : C → List ℕ} (r'' : IsReader read'' text'') where
+        three : (make : A → B → C → Event) → ((a : A) (b : B) (c : C) → with_kind (spaced (text a) (spaced (text' b) (text'' c))) ≡ line_of (make a b c))
+            → ReadsKind kind rest (λ octets. field octets >>= λ first. read first.word >>= λ a. field first.rest >>= λ second. read' second.word
+            >>= λ b. read'' second.rest >>= λ c. Some (make a b c))
+        three make line = (
+          next r rest (IsBy kind rest) _
+              (λ tail a is. next r' tail (IsBy kind rest) _
+              (λ end b is'. last r'' end (IsBy kind rest) _
+              (λ c is''. ap with_kind (is ∙ ap (spaced (text a)) (is' ∙ ap (spaced (text' b)) is'')) ∙ line a b c))),
+          next_same r rest _ (λ tail a. next_same r' tail _ (λ end b. ap (λ o. o >>= λ c. Some (make a b c)) (last_same r'' end))),
+        )
 
 -- # Kinds
 
-abbrev digits_of : Eui → List ℕ
-digits_of who = encode_lower who.0
-
-pub by_kind : (kind : EventKind) (rest : List ℕ) → IfSome (event_by kind rest) (IsBy kind rest)
+pub by_kind : (kind : EventKind) (rest : List ℕ) → ReadsKind kind rest (event_by kind)
 unfolding event_by coordinator_of meter_of depot_of near_of counter_of number_of allow_of rand_of join_of leave_of send_of deliver_of inject_of lose_of break_of
     tick_of restart_of cut_of rekey_of challenge_of activate_of kick_of show_of bcast_of scan_of choose_of path_of lower_word
-by_kind kinds.Coordinator rest =
-    two kinds.Coordinator rest eui digits_of sixteen_octets encode_lower (λ who key. Coordinator who (record { 0 = key })) eui_spelled sixteen_spelled
-    (λ a b. refl)
-by_kind kinds.Meter rest =
-    two kinds.Meter rest eui digits_of sixteen_octets encode_lower (λ who psk. Meter who (record { 0 = psk })) eui_spelled sixteen_spelled (λ a b. refl)
-by_kind kinds.Depot rest = one kinds.Depot rest number decimal Depot number_spelled (λ a. refl)
-by_kind kinds.Near rest = three kinds.Near rest number decimal number decimal cost decimal Near number_spelled number_spelled cost_spelled (λ a b c. refl)
-by_kind kinds.Counter rest = two kinds.Counter rest number decimal number decimal Counter number_spelled number_spelled (λ a b. refl)
-by_kind kinds.Number rest =
-    two kinds.Number rest number decimal (number_within 1 65535) decimal Number number_spelled (within_spelled 1 65535) (λ a b. refl)
-by_kind kinds.Allow rest = one kinds.Allow rest number decimal Allow number_spelled (λ a. refl)
-by_kind kinds.Rand rest =
-    two kinds.Rand rest number decimal sixteen_octets encode_lower (λ node value. GiveRand node (record { 0 = value })) number_spelled sixteen_spelled
-    (λ a b. refl)
-by_kind kinds.Join rest = two kinds.Join rest number decimal number decimal Join number_spelled number_spelled (λ a b. refl)
-by_kind kinds.Leave rest = one kinds.Leave rest number decimal Leave number_spelled (λ a. refl)
-by_kind kinds.Send rest =
-    three kinds.Send rest number decimal number decimal hex_octets encode_lower Send number_spelled number_spelled hex_spelled (λ a b c. refl)
-by_kind kinds.Deliver rest =
-    three kinds.Deliver rest number decimal number decimal cost decimal Deliver number_spelled number_spelled cost_spelled (λ a b c. refl)
-by_kind kinds.Inject rest =
-    three kinds.Inject rest number decimal cost decimal hex_octets encode_lower Inject number_spelled cost_spelled hex_spelled (λ a b c. refl)
-by_kind kinds.Lose rest = one kinds.Lose rest number decimal Lose number_spelled (λ a. refl)
-by_kind kinds.Break rest = two kinds.Break rest number decimal number decimal Break number_spelled number_spelled (λ a b. refl)
-by_kind kinds.Tick rest = one kinds.Tick rest (number_within 1 86400) decimal Tick (within_spelled 1 86400) (λ a. refl)
-by_kind kinds.Restart rest = one kinds.Restart rest number decimal Restart number_spelled (λ a. refl)
-by_kind kinds.Cut rest =
-    three kinds.Cut rest number decimal (number_within 1 1000) decimal keeps_new kept_word Cut number_spelled (within_spelled 1 1000) kept_spelled
-    (λ a b c. refl)
-by_kind kinds.Rekey rest =
-    two kinds.Rekey rest (number_within 0 1) decimal sixteen_octets encode_lower (λ index key. Rekey index (record { 0 = key })) (within_spelled 0 1)
-    sixteen_spelled (λ a b. refl)
-by_kind kinds.Challenge rest = one kinds.Challenge rest number decimal Challenge number_spelled (λ a. refl)
-by_kind kinds.Activate rest =
-    two kinds.Activate rest number decimal (number_within 0 1) decimal Activate number_spelled (within_spelled 0 1) (λ a b. refl)
-by_kind kinds.Kick rest = one kinds.Kick rest number decimal Kick number_spelled (λ a. refl)
-by_kind kinds.Show rest = one kinds.Show rest number decimal Show number_spelled (λ a. refl)
-by_kind kinds.Checks rest = tt
-by_kind kinds.Bcast rest = two kinds.Bcast rest number decimal hex_octets encode_lower Bcast number_spelled hex_spelled (λ a b. refl)
-by_kind kinds.Scan rest = one kinds.Scan rest number decimal Scan number_spelled (λ a. refl)
-by_kind kinds.Choose rest =
-    two kinds.Choose rest number decimal (number_within 1 16) decimal Choose number_spelled (within_spelled 1 16) (λ a b. refl)
-by_kind kinds.Path rest = two kinds.Path rest number decimal number decimal Path number_spelled number_spelled (λ a b. refl)
+by_kind kinds.Coordinator rest = two kinds.Coordinator rest eui_reader sixteen_reader (λ who key. Coordinator who (record { 0 = key })) (λ a b. refl)
+by_kind kinds.Meter rest = two kinds.Meter rest eui_reader sixteen_reader (λ who psk. Meter who (record { 0 = psk })) (λ a b. refl)
+by_kind kinds.Depot rest = one kinds.Depot rest number_reader Depot (λ a. refl)
+by_kind kinds.Near rest = three kinds.Near rest number_reader number_reader cost_reader Near (λ a b c. refl)
+by_kind kinds.Counter rest = two kinds.Counter rest number_reader number_reader Counter (λ a b. refl)
+by_kind kinds.Number rest = two kinds.Number rest number_reader (within_reader 1 65535) Number (λ a b. refl)
+by_kind kinds.Allow rest = one kinds.Allow rest number_reader Allow (λ a. refl)
+by_kind kinds.Rand rest = two kinds.Rand rest number_reader sixteen_reader (λ node value. GiveRand node (record { 0 = value })) (λ a b. refl)
+by_kind kinds.Join rest = two kinds.Join rest number_reader number_reader Join (λ a b. refl)
+by_kind kinds.Leave rest = one kinds.Leave rest number_reader Leave (λ a. refl)
+by_kind kinds.Send rest = three kinds.Send rest number_reader number_reader hex_reader Send (λ a b c. refl)
+by_kind kinds.Deliver rest = three kinds.Deliver rest number_reader number_reader cost_reader Deliver (λ a b c. refl)
+by_kind kinds.Inject rest = three kinds.Inject rest number_reader cost_reader hex_reader Inject (λ a b c. refl)
+by_kind kinds.Lose rest = one kinds.Lose rest number_reader Lose (λ a. refl)
+by_kind kinds.Break rest = two kinds.Break rest number_reader number_reader Break (λ a b. refl)
+by_kind kinds.Tick rest = one kinds.Tick rest (within_reader 1 86400) Tick (λ a. refl)
+by_kind kinds.Restart rest = one kinds.Restart rest number_reader Restart (λ a. refl)
+by_kind kinds.Cut rest = three kinds.Cut rest number_reader (within_reader 1 1000) kept_reader Cut (λ a b c. refl)
+by_kind kinds.Rekey rest = two kinds.Rekey rest (within_reader 0 1) sixteen_reader (λ index key. Rekey index (record { 0 = key })) (λ a b. refl)
+by_kind kinds.Challenge rest = one kinds.Challenge rest number_reader Challenge (λ a. refl)
+by_kind kinds.Activate rest = two kinds.Activate rest number_reader (within_reader 0 1) Activate (λ a b. refl)
+by_kind kinds.Kick rest = one kinds.Kick rest number_reader Kick (λ a. refl)
+by_kind kinds.Show rest = one kinds.Show rest number_reader Show (λ a. refl)
+by_kind kinds.Checks rest = (tt, refl)
+by_kind kinds.Bcast rest = two kinds.Bcast rest number_reader hex_reader Bcast (λ a b. refl)
+by_kind kinds.Scan rest = one kinds.Scan rest number_reader Scan (λ a. refl)
+by_kind kinds.Choose rest = two kinds.Choose rest number_reader (within_reader 1 16) Choose (λ a b. refl)
+by_kind kinds.Path rest = two kinds.Path rest number_reader number_reader Path (λ a b. refl)

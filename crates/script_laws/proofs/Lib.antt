@@ -1,5 +1,7 @@
+pub mod Letters
 pub mod Words
 pub mod Numbers
 pub mod Hexadecimal
 pub mod KindWords
+pub mod EventLines
 pub mod OnlyLines

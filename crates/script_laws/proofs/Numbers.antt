@@ -1,20 +1,23 @@
 -- What is read as a number is its decimal.
-use Rattle.std.proofs.Common.{◌≡◌, ℕ, ◌+◌, ◌*◌, ◌-◌, ◌<◌, ◌==◌, ◌&&◌, Bool, true, false, List, [], ◌∷◌, map, length, get_or, Some, None, refl, sym, ap, ◌∙◌}
+use Rattle.std.proofs.Common.{◌≡◌, ℕ, ◌+◌, ◌*◌, ◌-◌, ◌<◌, ◌==◌, ◌&&◌, inl, inr, Bool, true, false, List, [], ◌∷◌, map, length, get_or, Some, None, refl, sym}
+use Rattle.std.proofs.Common.{ap, ◌∙◌}
 use Rattle.std.proofs.Common.{arith}
 use Rattle.std.specs.Prelude.{IfSome, nat_lt, nat_le, if◌then◌else◌}
 use Rattle.std.specs.Char.{digit_value, to_ascii_lowercase}
 use Rattle.std.specs.Fmt.{decimal}
 use Rattle.std.specs.Int.{IsInRange}
 use Rattle.std.specs.Str.Parse.{AllDigits, digits_value_after}
-use Rattle.std.proofs.lemmas.Bool.{ltb-false, lt-ltb, leb-false, eq-eqb, ne_eqb, both_ways}
+use Rattle.std.proofs.lemmas.Bool.{ltb-false, lt-ltb, le-ltb, leb-false, eq-eqb, ne_eqb, both_ways}
 use Rattle.std.proofs.lemmas.Option.{IfSome_then}
+use Rattle.std.proofs.lemmas.List.{length-map}
 use Rattle.std.proofs.lemmas.Fmt.{decimal-digits_value}
 use Rattle.std.proofs.lemmas.Str.{digit_value_digit}
 use Rattle.std.proofs.lemmas.Str.Parse.{digit_from_value, numerals_by_value, tells_digits}
-use Rattle.line_script.specs.Words.{digit_more, number_from, number, number_within, cost}
+use Rattle.line_script.specs.Words.{◌>>=◌, digit_more, number_from, number, number_within, cost}
 use Rattle.line_script.proofs.WordsRead.{IsWord}
 use Rattle.script_laws.specs.Spellings.{lower_word}
-use Rattle.script_laws.proofs.Words.{IsSpelled, if_then}
+use Rattle.script_laws.proofs.Letters.{in_lower_case, same_if, same_sign}
+use Rattle.script_laws.proofs.Words.{IsReader, IsSpelled, if_then}
 
 -- # Digits
 
@@ -60,13 +63,9 @@ same_digits : (ds : List ℕ) → AllDigits 10 ds → map to_ascii_lowercase ds 
 same_digits [] are = refl
 same_digits (c ∷ cs) are = λ i. same_digit c (digit_from_value c are.0) i ∷ same_digits cs are.1 i
 
-same_by : (b : Bool) (v w : List ℕ) → v ≡ w → (if b then v else w) ≡ w
-same_by true v w is = is
-same_by false v w is = refl
-
 digits_spelled : (ds : List ℕ) → AllDigits 10 ds → IsSpelled ds ds
 unfolding lower_word
-digits_spelled ds are = (digits_word ds are, same_by _ (map to_ascii_lowercase ds) ds (same_digits ds are))
+digits_spelled ds are = (digits_word ds are, same_if (λ (x : List ℕ). x) _ (map to_ascii_lowercase ds) ds (λ is. same_digits ds are))
 
 -- # Numbers
 
@@ -86,10 +85,41 @@ number_by c cs true false is_zero is_more = spelled c cs (λ is. omega (arith, l
 number_by c cs false more is_zero is_more = spelled c cs (λ is. absurd (both_ways (c == 48) is_zero (eq-eqb c 48 is)))
 
 -- what is read as a number is its decimal
-pub number_spelled : (word : List ℕ) → IfSome (number word) (λ n. IsSpelled word (decimal n))
+number_spelled : (word : List ℕ) → IfSome (number word) (λ n. IsSpelled word (decimal n))
 unfolding number
 number_spelled [] = tt
 number_spelled (c ∷ cs) = number_by c cs (c == 48) (nat_lt 0 (length cs)) refl refl
+
+-- # Letters
+
+no_digit : (n c : ℕ) → 57 < c → digit_more n c ≡ None
+no_digit n c above = rw (le-ltb c 48 (omega (arith, above)), lt-ltb 57 c above) refl
+
+same_more : (n c : ℕ) → digit_more n (to_ascii_lowercase c) ≡ digit_more n c
+same_more n c =
+    elim (in_lower_case c) [
+      | inl same ↦ ap (digit_more n) same
+      | inr is ↦ ap (digit_more n) is.2 ∙ no_digit n (c + 32) (omega (arith, is.0)) ∙ sym (no_digit n c (omega (arith, is.0)))
+    ]
+
+same_from : (n : ℕ) (ds : List ℕ) → number_from n (map to_ascii_lowercase ds) ≡ number_from n ds
+same_from n [] = refl
+same_from n (c ∷ cs) = λ i. same_more n c i >>= λ m. same_from m cs i
+
+same_letters : (word : List ℕ) → number (map to_ascii_lowercase word) ≡ number word
+unfolding number
+same_letters [] = refl
+same_letters (c ∷ cs) =
+    λ i. if same_sign 48 c (omega arith) i && nat_lt 0 (length-map cs to_ascii_lowercase i) then None else same_from 0 (c ∷ cs) i
+
+number_same : (word : List ℕ) → number (lower_word word) ≡ number word
+unfolding lower_word
+number_same word = same_if number _ (map to_ascii_lowercase word) word (λ is. same_letters word)
+
+-- # Readers
+
+pub number_reader : IsReader number decimal
+number_reader = record { spells = number_spelled; same = number_same }
 
 within_by : (word : List ℕ) (n : ℕ) (under over : Bool) → IsSpelled word (decimal n)
     → IfSome (if under then None else if over then None else Some n) (λ m. IsSpelled word (decimal m))
@@ -97,12 +127,19 @@ within_by word n true over is = tt
 within_by word n false true is = tt
 within_by word n false false is = is
 
-pub within_spelled : (low high : ℕ) (word : List ℕ) → IfSome (number_within low high word) (λ n. IsSpelled word (decimal n))
+within_spelled : (low high : ℕ) (word : List ℕ) → IfSome (number_within low high word) (λ n. IsSpelled word (decimal n))
 unfolding number_within
 within_spelled low high word =
     if_then (λ n. IsSpelled word (decimal n)) (λ n. IsSpelled word (decimal n)) (number word) _ (number_spelled word)
     (λ n is. within_by word n (nat_lt n low) (nat_lt high n) is)
 
-pub cost_spelled : (word : List ℕ) → IfSome (cost word) (λ n. IsSpelled word (decimal n))
+within_same : (low high : ℕ) (word : List ℕ) → number_within low high (lower_word word) ≡ number_within low high word
+unfolding number_within
+within_same low high word = λ i. number_same word i >>= λ n. if nat_lt n low then None else if nat_lt high n then None else Some n
+
+pub within_reader : (low high : ℕ) → IsReader (number_within low high) decimal
+within_reader low high = record { spells = within_spelled low high; same = within_same low high }
+
+pub cost_reader : IsReader cost decimal
 unfolding cost
-cost_spelled word = within_spelled 1 255 word
+cost_reader = record { spells = within_spelled 1 255; same = within_same 1 255 }

@@ -1,79 +1,64 @@
--- What is read as an event is its line.
-use Rattle.std.proofs.Common.{◌≡◌, ℕ, ◌==◌, Bool, true, false, List, [], ◌∷◌, Option, Some, None, refl, sym, ap, subst, ◌∙◌}
+-- What is read as an event is its line, but for the case of digits.
+use Rattle.std.proofs.Common.{◌≡◌, ℕ, ◌<◌, ◌==◌, Bool, true, false, List, [], ◌∷◌, ◌++◌, length, map, Option, Some, None, refl, sym, ap, subst, ◌∙◌, arith}
 use Rattle.std.specs.Prelude.{IfSome, if◌then◌else◌}
-use Rattle.std.specs.Str.{bytes_eq}
-use Rattle.std.proofs.lemmas.Option.{IfSome_then}
+use Rattle.std.specs.Char.{to_ascii_lowercase}
+use Rattle.std.specs.List.{join_with_byte, onto_first, slice_split}
+use Rattle.std.proofs.lemmas.Bool.{eqb-true, ne_eqb}
+use Rattle.std.proofs.lemmas.List.{append-nil}
+use Rattle.std.proofs.lemmas.List.Splits.{slice_split-cons_yes, slice_split-cons_no, length-slice_split}
 use Rattle.line_events.specs.declared.event.Event.{Event}
-use Rattle.line_events.specs.declared.event.Event.TheVariants.{Checks}
-use Rattle.line_script.specs.declared.kind.EventKind.{EventKind}
-use Rattle.line_script.specs.declared.kind.EventKind.TheVariants as kinds
 use Rattle.line_script.specs.declared.reading.Reading.{Reading}
 use Rattle.line_script.specs.declared.reading.Reading.TheVariants.{Quiet, NoForm, Reads}
-use Rattle.line_script.specs.Kinds.{kind_among, kind_named, kind_word}
-use Rattle.line_script.specs.Words.{Field, field}
-use Rattle.line_script.specs.Readings.{event_alone, event_by, event_of, event_with, reading, reads}
-use Rattle.line_script.specs.Lines.{IsInRange, line_of, spaced}
+use Rattle.line_script.specs.Readings.{event_of, reading, reads}
+use Rattle.line_script.specs.Lines.{IsInRange}
 use Rattle.line_script.proofs.Ranges.{reading_fits}
+use Rattle.line_script.proofs.RoundTrip.{read_back}
 use Rattle.script_laws.specs.Spellings.{lower_word, lower_line}
-use Rattle.script_laws.specs.Laws.{OnlyLinesAreRead, OneLineForAnEvent}
-use Rattle.script_laws.proofs.Words.{IsSplit, field_splits, if_then, same_word}
-use Rattle.script_laws.proofs.KindWords.{by_kind}
+use Rattle.script_laws.specs.Laws.{CaseIsNotRead, OnlyLinesAreRead, OneLineForAnEvent}
+use Rattle.script_laws.proofs.Letters.{same_if, same_sign}
+use Rattle.script_laws.proofs.Words.{joined, space}
+use Rattle.script_laws.proofs.EventLines.{IsLine, event_line, event_same}
 
-abbrev IsLine : List ℕ → Event → Type 0
-IsLine octets event = lower_line octets ≡ line_of event
+-- # Lines that say nothing
 
--- # Kinds
+abbrev is_quiet : List ℕ → Bool
+is_quiet [] = true
+is_quiet (c ∷ cs) = c == 35
 
-abbrev IsNamed : List ℕ → EventKind → Type 0
-IsNamed word kind = word ≡ kind_word kind
+reading_by : (octets : List ℕ) → reading octets ≡ (if is_quiet octets then Quiet else reads (event_of octets))
+unfolding reading
+reading_by [] = refl
+reading_by (c ∷ cs) = refl
 
-named_by : (word : List ℕ) (kind : EventKind) (o : Option EventKind) (b : Bool) → bytes_eq word (kind_word kind) ≡ b → IfSome o (IsNamed word)
-    → IfSome (if b then Some kind else o) (IsNamed word)
-named_by word kind o true is more = same_word word (kind_word kind) true is refl
-named_by word kind o false is more = more
+-- the first octet of a word in lower case, and of what comes after the word
+quiet_word : (c : ℕ) (part more : List ℕ) → is_quiet (lower_word (c ∷ part) ++ more) ≡ (c == 35)
+unfolding lower_word
+quiet_word c part more =
+    same_if (λ (w : List ℕ). is_quiet (w ++ more)) _ (map to_ascii_lowercase (c ∷ part)) (c ∷ part) (λ are. same_sign 35 c (omega arith))
 
-named_among : (word : List ℕ) (ks : List EventKind) → IfSome (kind_among word ks) (IsNamed word)
-named_among word [] = tt
-named_among word (kind ∷ ks) = named_by word kind (kind_among word ks) (bytes_eq word (kind_word kind)) refl (named_among word ks)
+quiet_parts : (c : ℕ) (parts : List (List ℕ)) → 0 < length parts → is_quiet (join_with_byte 32 (map lower_word (onto_first c parts))) ≡ (c == 35)
+quiet_parts c [] some = absurd (omega arith)
+quiet_parts c (part ∷ []) some = ap is_quiet (sym (append-nil (lower_word (c ∷ part)))) ∙ quiet_word c part []
+quiet_parts c (part ∷ next ∷ parts) some = quiet_word c part (32 ∷ join_with_byte 32 (map lower_word (next ∷ parts)))
 
--- in the order in which a word is compared with them
-abbrev all_kinds : List EventKind
-all_kinds = kinds.Send ∷ kinds.Deliver ∷ kinds.Tick ∷ kinds.Inject ∷ kinds.Lose ∷ kinds.Coordinator ∷ kinds.Meter ∷ kinds.Depot ∷ kinds.Near ∷ kinds.Counter
-    ∷ kinds.Number ∷ kinds.Allow ∷ kinds.Rand ∷ kinds.Join ∷ kinds.Leave ∷ kinds.Break ∷ kinds.Restart ∷ kinds.Cut ∷ kinds.Rekey ∷ kinds.Challenge
-    ∷ kinds.Activate ∷ kinds.Kick ∷ kinds.Show ∷ kinds.Checks ∷ kinds.Bcast ∷ kinds.Scan ∷ kinds.Choose ∷ kinds.Path ∷ []
-
-named : (word : List ℕ) → IfSome (kind_named word) (IsNamed word)
-unfolding kind_named
-named word = named_among word all_kinds
-
--- # Lines
-
-checks_line : IsLine (kind_word kinds.Checks) Checks
+quiet_by : (c : ℕ) (cs : List ℕ) (b : Bool) → (c == 32) ≡ b → is_quiet (lower_line (c ∷ cs)) ≡ (c == 35)
 unfolding lower_line lower_word
-checks_line = refl
+quiet_by c cs true is =
+    let long = length-slice_split space cs in
+    let blank : c ≡ 32 = eqb-true c 32 is in
+    ap (λ (parts : List (List ℕ)). is_quiet (join_with_byte 32 (map lower_word parts))) (slice_split-cons_yes space c cs is)
+    ∙ ap is_quiet (joined [] (slice_split space cs) (omega (arith, long))) ∙ sym (ne_eqb c 35 (λ e. omega (arith, e, blank)))
+quiet_by c cs false is =
+    let long = length-slice_split space cs in
+    ap (λ (parts : List (List ℕ)). is_quiet (join_with_byte 32 (map lower_word parts))) (slice_split-cons_no space c cs is)
+    ∙ quiet_parts c (slice_split space cs) (omega (arith, long))
 
-alone_by : (octets : List ℕ) (b : Bool) → bytes_eq octets (kind_word kinds.Checks) ≡ b → IfSome (if b then Some Checks else None) (IsLine octets)
-alone_by octets true is = ap lower_line (same_word octets (kind_word kinds.Checks) true is refl) ∙ checks_line
-alone_by octets false is = tt
+quiet_same : (octets : List ℕ) → is_quiet (lower_line octets) ≡ is_quiet octets
+unfolding lower_line lower_word
+quiet_same [] = refl
+quiet_same (c ∷ cs) = quiet_by c cs (c == 32) refl
 
-alone : (octets : List ℕ) → IfSome (event_alone octets) (IsLine octets)
-unfolding event_alone
-alone octets = alone_by octets (bytes_eq octets (kind_word kinds.Checks)) refl
-
-with_kind : (octets : List ℕ) (first : Field) (kind : EventKind) → IsSplit octets first → IsNamed first.word kind
-    → IfSome (event_by kind first.rest) (IsLine octets)
-with_kind octets first kind split is =
-    IfSome_then (event_by kind first.rest) (by_kind kind first.rest)
-    (λ event by. split ∙ ap (λ (w : List ℕ). spaced (lower_word w) (lower_line first.rest)) is ∙ by)
-
-with_first : (octets : List ℕ) (o : Option Field) → IfSome o (IsSplit octets) → IfSome (event_with octets o) (IsLine octets)
-with_first octets None split = alone octets
-with_first octets (Some first) split =
-    if_then (IsNamed first.word) (IsLine octets) (kind_named first.word) _ (named first.word) (λ kind is. with_kind octets first kind split is)
-
-event_line : (octets : List ℕ) → IfSome (event_of octets) (IsLine octets)
-unfolding event_of
-event_line octets = with_first octets (field octets) (field_splits octets)
+-- # Lines that are read
 
 abbrev IsLineRead : List ℕ → Reading → Type 0
 IsLineRead octets Quiet = Unit {0}
@@ -84,19 +69,24 @@ reads_line : (octets : List ℕ) (o : Option Event) → IfSome o (IsLine octets)
 reads_line octets (Some event) is = is
 reads_line octets None is = tt
 
-comment_by : (octets : List ℕ) (b : Bool) (o : Option Event) → IfSome o (IsLine octets) → IsLineRead octets (if b then Quiet else reads o)
-comment_by octets true o is = tt
-comment_by octets false o is = reads_line octets o is
+line_by : (octets : List ℕ) (quiet : Bool) (o : Option Event) → IfSome o (IsLine octets) → IsLineRead octets (if quiet then Quiet else reads o)
+line_by octets true o is = tt
+line_by octets false o is = reads_line octets o is
 
 line_read : (octets : List ℕ) → IsLineRead octets (reading octets)
-unfolding reading
-line_read [] = tt
-line_read (c ∷ cs) = comment_by (c ∷ cs) (c == 35) (event_of (c ∷ cs)) (event_line (c ∷ cs))
+line_read octets = subst (IsLineRead octets) (sym (reading_by octets)) (line_by octets (is_quiet octets) (event_of octets) (event_line octets))
 
 -- # Laws
 
+pub case_not_read : CaseIsNotRead
+case_not_read octets =
+    reading_by (lower_line octets) ∙ (λ i. if quiet_same octets i then Quiet else reads (event_same octets i)) ∙ sym (reading_by octets)
+
 pub only_lines : OnlyLinesAreRead
-only_lines octets event is = (subst IsInRange is (reading_fits octets), subst (IsLineRead octets) is (line_read octets))
+only_lines octets event = (
+  λ is. (subst IsInRange is (reading_fits octets), subst (IsLineRead octets) is (line_read octets)),
+  λ is. sym (case_not_read octets) ∙ ap reading is.1 ∙ read_back event is.0,
+)
 
 pub one_line : OneLineForAnEvent
-one_line v w event of_v of_w = (only_lines v event of_v).1 ∙ sym (only_lines w event of_w).1
+one_line v w event of_v of_w = ((only_lines v event).0 of_v).1 ∙ sym ((only_lines w event).0 of_w).1

@@ -1,10 +1,16 @@
 //! The laws of the language of scripts: each carried by a function that does nothing.
-ghost use Rattle.script_laws.specs.Laws.{OnlyLinesAreRead, OneLineForAnEvent};
+ghost use Rattle.script_laws.specs.Laws.{CaseIsNotRead, OneLineForAnEvent, OnlyLinesAreRead};
 
-/// What is read as an event is the line that a script has for it: the kind's word and its fields, with numbers in decimal without leading
-/// zeros and one space between two words. Only hexadecimal digits may be written in either case.
+/// A line is read as an event exactly where the event's fields are in their ranges and the line is the one that `push_line` writes for it: its
+/// kind's word and its fields, with numbers in decimal without leading zeros and one space between two words. Only the hexadecimal digits of
+/// its octets may be in either case.
 pub fn only_lines_are_read()
     ensures { OnlyLinesAreRead }
+{}
+
+/// The case of hexadecimal digits makes no difference to what is read, of a bad line neither.
+pub fn case_is_not_read()
+    ensures { CaseIsNotRead }
 {}
 
 /// So two lines that are read as one event differ in the case of hexadecimal digits alone.

@@ -3,4 +3,4 @@
 
 mod laws;
 
-pub use laws::{one_line_for_an_event, only_lines_are_read};
+pub use laws::{case_is_not_read, one_line_for_an_event, only_lines_are_read};
