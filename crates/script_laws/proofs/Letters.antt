@@ -13,8 +13,8 @@ IsUpper c = (65 ≤ c) × (c < 91) × (to_ascii_lowercase c ≡ c + 32)
 before : (c : ℕ) → c < 65 → to_ascii_lowercase c ≡ c
 before c below = rw (lt-ltb c 65 below) refl
 
-behind : (c : ℕ) → 91 ≤ c → to_ascii_lowercase c ≡ c
-behind c above = rw (le-ltb c 65 (omega (arith, above)), le-ltb c 91 above) refl
+after : (c : ℕ) → 91 ≤ c → to_ascii_lowercase c ≡ c
+after c above = rw (le-ltb c 65 (omega (arith, above)), le-ltb c 91 above) refl
 
 upper : (c : ℕ) → 65 ≤ c → c < 91 → to_ascii_lowercase c ≡ c + 32
 upper c above below = rw (le-ltb c 65 above, lt-ltb c 91 below) refl
@@ -27,7 +27,7 @@ in_lower_case c =
       | inr above ↦
           elim (cases_lt c 91) [
             | inl low ↦ inr (above, low, upper c above low)
-            | inr high ↦ inl (behind c high)
+            | inr high ↦ inl (after c high)
           ]
     ]
 

@@ -8,7 +8,7 @@ pub fn only_lines_are_read()
     ensures { OnlyLinesAreRead }
 {}
 
-/// The case of hexadecimal digits makes no difference to what is read, of a bad line neither.
+/// The case of hexadecimal digits makes no difference to what is read: a bad line is bad in either case.
 pub fn case_is_not_read()
     ensures { CaseIsNotRead }
 {}
