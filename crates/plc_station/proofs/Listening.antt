@@ -1,5 +1,5 @@
 -- What hearing a frame comes to, by what it is.
-use Rattle.std.proofs.Common.{◌≡◌, ℕ, Bool, true, false, List, Option, Some, None, Ok, Err, refl}
+use Rattle.std.proofs.Common.{◌≡◌, ◌⊎◌, inl, inr, ℕ, Bool, true, false, List, Option, Some, None, Ok, Err, refl}
 use Rattle.std.specs.Prelude.{◌==◌}
 use Rattle.plc_base.specs.Grant.{Granted}
 use Rattle.plc_base.specs.declared.key.Key.{Key}
@@ -58,35 +58,25 @@ pub sealed_local : (l : StationMemory) (own by : ℕ) (all : Bool) (u : MeshUnit
     → hear_command l own by all code body cost now ≡ hear_sealed l own by all u cost note now
 sealed_local l own by all u code body cost note now is = rw is refl
 
-pub whole_all : (l : StationMemory) (own by : ℕ) (all : Bool) (u : MeshUnit) (mesh : Mesh) (octets : List ℕ) (cost note now : ℕ) → u ≡ Whole mesh octets
-    → true ≡ all → refused {H = Heard} dropped l BadUnit ≡ hear_sealed l own by all u cost note now
-unfolding choose
-whole_all l own by all u mesh octets cost note now is a = rw (is, ← a) refl
+-- a unit that goes over the mesh
+abbrev pub IsOverMesh : MeshUnit → Type 0
+IsOverMesh u =
+    ((mesh : Mesh) × (octets : List ℕ) × u ≡ Whole mesh octets)
+    ⊎ (((mesh : Mesh) × (piece : Placed) × u ≡ Part mesh piece) ⊎ ((mesh : Mesh) × (body : List ℕ) × u ≡ Carried mesh body))
 
-pub whole_one : (l : StationMemory) (own by : ℕ) (all : Bool) (u : MeshUnit) (mesh : Mesh) (octets : List ℕ) (cost note now : ℕ) → u ≡ Whole mesh octets
-    → false ≡ all → hear_over_mesh l own u note now ≡ hear_sealed l own by all u cost note now
+pub mesh_all : (l : StationMemory) (own by : ℕ) (all : Bool) (u : MeshUnit) (cost note now : ℕ) → IsOverMesh u → true ≡ all
+    → refused {H = Heard} dropped l BadUnit ≡ hear_sealed l own by all u cost note now
 unfolding choose
-whole_one l own by all u mesh octets cost note now is a = rw (is, ← a) refl
+mesh_all l own by all u cost note now (inl (mesh, octets, is)) a = rw (is, ← a) refl
+mesh_all l own by all u cost note now (inr (inl (mesh, piece, is))) a = rw (is, ← a) refl
+mesh_all l own by all u cost note now (inr (inr (mesh, body, is))) a = rw (is, ← a) refl
 
-pub part_all : (l : StationMemory) (own by : ℕ) (all : Bool) (u : MeshUnit) (mesh : Mesh) (piece : Placed) (cost note now : ℕ) → u ≡ Part mesh piece
-    → true ≡ all → refused {H = Heard} dropped l BadUnit ≡ hear_sealed l own by all u cost note now
+pub mesh_one : (l : StationMemory) (own by : ℕ) (all : Bool) (u : MeshUnit) (cost note now : ℕ) → IsOverMesh u → false ≡ all
+    → hear_over_mesh l own u note now ≡ hear_sealed l own by all u cost note now
 unfolding choose
-part_all l own by all u mesh piece cost note now is a = rw (is, ← a) refl
-
-pub part_one : (l : StationMemory) (own by : ℕ) (all : Bool) (u : MeshUnit) (mesh : Mesh) (piece : Placed) (cost note now : ℕ) → u ≡ Part mesh piece
-    → false ≡ all → hear_over_mesh l own u note now ≡ hear_sealed l own by all u cost note now
-unfolding choose
-part_one l own by all u mesh piece cost note now is a = rw (is, ← a) refl
-
-pub carried_all : (l : StationMemory) (own by : ℕ) (all : Bool) (u : MeshUnit) (mesh : Mesh) (body : List ℕ) (cost note now : ℕ) → u ≡ Carried mesh body
-    → true ≡ all → refused {H = Heard} dropped l BadUnit ≡ hear_sealed l own by all u cost note now
-unfolding choose
-carried_all l own by all u mesh body cost note now is a = rw (is, ← a) refl
-
-pub carried_one : (l : StationMemory) (own by : ℕ) (all : Bool) (u : MeshUnit) (mesh : Mesh) (body : List ℕ) (cost note now : ℕ) → u ≡ Carried mesh body
-    → false ≡ all → hear_over_mesh l own u note now ≡ hear_sealed l own by all u cost note now
-unfolding choose
-carried_one l own by all u mesh body cost note now is a = rw (is, ← a) refl
+mesh_one l own by all u cost note now (inl (mesh, octets, is)) a = rw (is, ← a) refl
+mesh_one l own by all u cost note now (inr (inl (mesh, piece, is))) a = rw (is, ← a) refl
+mesh_one l own by all u cost note now (inr (inr (mesh, body, is))) a = rw (is, ← a) refl
 
 -- # A frame
 

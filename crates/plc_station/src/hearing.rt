@@ -168,19 +168,7 @@ impl<K: Keeper + Drop> Station<K> {
             Unit::Local { code, body } => {
                 self.hear_command(grant, last, *code, body.octets(), out)
             }
-            Unit::Whole { .. } => {
-                if last.to_all {
-                    return Err(Dropped::BadUnit);
-                }
-                self.hear_over_mesh(grant, last, unit, datagram, out)
-            }
-            Unit::Part { .. } => {
-                if last.to_all {
-                    return Err(Dropped::BadUnit);
-                }
-                self.hear_over_mesh(grant, last, unit, datagram, out)
-            }
-            Unit::Carried { .. } => {
+            Unit::Whole { .. } | Unit::Part { .. } | Unit::Carried { .. } => {
                 if last.to_all {
                     return Err(Dropped::BadUnit);
                 }

@@ -35,7 +35,7 @@ impl<K: Keeper + Drop> Station<K> {
         octets: usize,
         frames: u32,
     ) -> Result<NextStep, SendRefusal>
-        requires fits { octets ≤ LONGEST_DATAGRAM }
+        requires size { octets ≤ LONGEST_DATAGRAM }
         ensures step { IfSome self.now.memory (λ l. result ≡ next_step l to octets frames) }
         ensures fits { IfOk result (λ step. IfSome self.now.memory (λ l. CanStep l octets frames step)) }
     {
