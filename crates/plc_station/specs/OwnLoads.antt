@@ -1,14 +1,22 @@
 -- What a station sends by itself: a datagram or a command.
-use Rattle.std.specs.Prelude.{ℕ, List, Option, Some, None}
+use Rattle.std.specs.Prelude.{◌≡◌, ◌≤◌, ℕ, List, Option, Some, None}
+use Rattle.plc_base.specs.declared.limits.TheConstants.{LONGEST_DATAGRAM}
 use Rattle.plc_base.specs.Keeper.{Write}
 use Rattle.fragment_buffers.specs.Fragmentation.{pieces_of}
 use Rattle.fragment_buffers.specs.Loads.{Load, load_of}
 use Rattle.fragment_buffers.specs.NextTag.{take_write, tag_left}
+use Rattle.station_queues.specs.declared.bodies.TheConstants.{LONGEST_COMMAND}
 use Rattle.node_rules.specs.Memory.{StationMemory}
 use Rattle.node_rules.specs.Drafts.{Draft, empty_draft}
 use Rattle.node_rules.specs.Calls.{tag_taken}
 use Rattle.plc_station.specs.declared.loads.LoadKind.{LoadKind}
 use Rattle.plc_station.specs.declared.loads.LoadKind.TheVariants.{Datagram, Command}
+
+-- so many octets may go out as a load
+pub record IsLoad (kind : LoadKind) (octets : ℕ) : Type 0 where
+  pub some : 1 ≤ octets
+  pub fits : octets ≤ LONGEST_DATAGRAM
+  pub command : kind ≡ Command → octets ≤ LONGEST_COMMAND
 
 -- its tag, where the next one is known
 abbrev pub own_tag : LoadKind → ℕ → Option ℕ

@@ -1,5 +1,5 @@
 //! What a station makes of a frame that it accepted.
-ghost use Rattle.std.specs.Prelude.{◌≡◌, ◌==◌, not, ◌+◌, ◌<◌, ◌≤◌, Some, None, Ok, Err, IfSome, length};
+ghost use Rattle.std.specs.Prelude.{◌≡◌, ◌==◌, ◌+◌, ◌<◌, ◌≤◌, Some, None, Ok, Err, IfSome, length};
 ghost use Rattle.mesh_header.specs.Grammar.{IsAllowed, spelled_length};
 ghost use Rattle.mesh_header.specs.Reading as units;
 ghost use Rattle.loadng_messages.specs.Grammar as messages;
@@ -11,7 +11,6 @@ ghost use Rattle.plc_station.specs.Ready.{Ready, ReadyToAnswer, ReadyToSend};
 ghost use Rattle.loadng_messages.specs.Reading as reading;
 ghost use Rattle.plc_station.specs.Heard.{Fits};
 ghost use Rattle.node_rules.specs.Replies.{reply_sent};
-ghost use Rattle.group_keys.specs.KeyRing as ring;
 ghost use Rattle.plc_base.specs.declared.limits.TheConstants.{LONGEST_FRAME};
 
 use crate::offers::LastHop;

@@ -6,12 +6,10 @@ ghost use Rattle.node_rules.specs.Drafts as drafts;
 ghost use Rattle.node_rules.specs.Calls as calls;
 ghost use Rattle.node_rules.specs.declared.heard.SentHow.TheVariants as how;
 ghost use Rattle.node_rules.specs.Carrying.{Carries};
-ghost use Rattle.plc_station.specs.OwnLoads.{own_tag, own_load, own_frames, own_write, own_tag_left, own_draft};
+ghost use Rattle.plc_station.specs.OwnLoads.{IsLoad, own_tag, own_load, own_frames, own_write, own_tag_left, own_draft};
 ghost use Rattle.plc_station.specs.NextSteps.{next_step, stepping};
 ghost use Rattle.plc_station.specs.Ready.{After, ReadyToAnswer, ReadyToSend};
-ghost use Rattle.plc_station.specs.declared.loads.LoadKind.TheVariants.{Command};
 ghost use Rattle.plc_base.specs.declared.limits.TheConstants.{GREATEST_COUNTER, LONGEST_DATAGRAM};
-ghost use Rattle.station_queues.specs.declared.bodies.TheConstants.{LONGEST_COMMAND};
 
 use crate::next_steps::NextStep;
 use crate::sealing::{seal_own, seal_request};
@@ -78,9 +76,7 @@ impl<K: Keeper + Drop> Station<K> {
         out: &mut Out,
     ) -> Result<SentHow, SendRefusal>
         requires ready { ReadyToSend self.old grant.now out.old }
-        requires some { 1 ≤ length octets.now }
-        requires fits { length octets.now ≤ LONGEST_DATAGRAM }
-        requires command { kind ≡ Command → length octets.now ≤ LONGEST_COMMAND }
+        requires load { IsLoad kind (length octets.now) }
         requires left { IfSome self.old.memory (λ l. l.counter.next + own_frames kind (length octets.now) ≤ GREATEST_COUNTER) }
         ensures carries { IfSome self.old.memory (λ l. Carries self.old (drafts.sealing drafts.alone calls.sending_ends
             (drafts.body_goes grant.now.address hop to note (own_load kind octets.now l.next_tag) (own_draft kind octets.now l)) how.Sent)
@@ -126,9 +122,7 @@ impl<K: Keeper + Drop> Station<K> {
         out: &Out,
     ) -> Result<SentHow, SendRefusal>
         requires ready { ReadyToAnswer self.old out.now }
-        requires some { 1 ≤ length octets.now }
-        requires fits { length octets.now ≤ LONGEST_DATAGRAM }
-        requires command { kind ≡ Command → length octets.now ≤ LONGEST_COMMAND }
+        requires load { IsLoad kind (length octets.now) }
         requires room { IfSome self.old.memory (λ l. drafts.no_room l (length octets.now) ≡ false) }
         ensures carries { IfSome self.old.memory (λ l. Carries self.old (drafts.sealing drafts.alone calls.sending_ends
             (drafts.waits to note (own_load kind octets.now l.next_tag) now (own_draft kind octets.now l)) how.Waiting)
@@ -161,9 +155,7 @@ impl<K: Keeper + Drop> Station<K> {
         out: &mut Out,
     ) -> Result<SentHow, SendRefusal>
         requires ready { ReadyToSend self.old grant.now out.old }
-        requires some { 1 ≤ length octets.now }
-        requires fits { length octets.now ≤ LONGEST_DATAGRAM }
-        requires command { kind ≡ Command → length octets.now ≤ LONGEST_COMMAND }
+        requires load { IsLoad kind (length octets.now) }
         requires room { IfSome self.old.memory (λ l. drafts.no_room l (length octets.now) ≡ false) }
         requires number { IfSome self.old.memory (λ l. l.own_number.last < 65535) }
         requires left { IfSome self.old.memory (λ l. l.counter.next + 1 ≤ GREATEST_COUNTER) }
@@ -206,9 +198,7 @@ impl<K: Keeper + Drop> Station<K> {
         out: &mut Out,
     ) -> Result<SentHow, SendRefusal>
         requires ready { ReadyToSend self.old grant.now out.old }
-        requires some { 1 ≤ length octets.now }
-        requires fits { length octets.now ≤ LONGEST_DATAGRAM }
-        requires command { kind ≡ Command → length octets.now ≤ LONGEST_COMMAND }
+        requires load { IsLoad kind (length octets.now) }
         ensures carries { IfSome self.old.memory (λ l. Carries self.old (stepping l grant.now.address to note now
             (own_load kind octets.now l.next_tag) (own_draft kind octets.now l)
             (next_step l to (length octets.now) (own_frames kind (length octets.now)))) result out.new self.new) }

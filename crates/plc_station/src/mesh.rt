@@ -10,11 +10,8 @@ ghost use Rattle.node_rules.specs.declared.refusal.Dropped.TheVariants as hearin
 ghost use Rattle.node_rules.specs.Memory.{next_hop};
 ghost use Rattle.node_rules.specs.Drafts as drafts;
 ghost use Rattle.node_rules.specs.Hearing as hearing;
-ghost use Rattle.routing_set.specs.RoutingSet as routing;
 ghost use Rattle.node_rules.specs.Carrying.{Carries};
-ghost use Rattle.plc_station.specs.Hears.{Hears};
 ghost use Rattle.plc_station.specs.Ready.{After, ReadyToSend};
-ghost use Rattle.group_keys.specs.KeyRing as ring;
 ghost use Rattle.plc_base.specs.declared.limits.TheConstants.{GREATEST_COUNTER};
 
 use crate::offers::LastHop;

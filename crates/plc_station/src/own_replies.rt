@@ -4,7 +4,6 @@ ghost use Rattle.node_rules.specs.Drafts as drafts;
 ghost use Rattle.node_rules.specs.Hearing as hearing;
 ghost use Rattle.fragment_buffers.specs.Waiting.{leaving};
 ghost use Rattle.node_rules.specs.Carrying.{Carries};
-ghost use Rattle.plc_station.specs.Hears.{Hears};
 ghost use Rattle.plc_station.specs.Ready.{After, ReadyToSend};
 ghost use Rattle.plc_station.specs.Offers.{CanBeKept, offered_rank};
 ghost use Rattle.plc_base.specs.declared.limits.TheConstants.{GREATEST_COUNTER};

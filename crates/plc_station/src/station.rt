@@ -6,7 +6,6 @@ ghost use Rattle.store_tables.specs.SlotTables.{IsGapless};
 ghost use Rattle.frame_counters.specs.PeerMarks.{peers};
 ghost use Rattle.routing_set.specs.RoutingSet.{ranks};
 ghost use Rattle.node_rules.specs.StoreReading.{station_of};
-ghost use Rattle.node_rules.specs.Carrying.{nothing};
 ghost use Rattle.node_rules.specs.Agreement.{Agrees};
 ghost use Rattle.plc_station.specs.StationReading.{if_read, read_answer};
 ghost use Rattle.plc_station.specs.OpenFaults.{IsOpenFault};

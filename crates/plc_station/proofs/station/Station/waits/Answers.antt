@@ -49,4 +49,4 @@ returns-clause-carries g c =
     ++ record { to = c.args.to; note = c.args.note; since = c.args.now; load = load_of (c.in-Ok.ensures.tag i) c.args.octets.now } ∷ [])))))
 
 pub push-requires-clause-command : goal.push-requires-clause-command
-push-requires-clause-command g c = untagged c.args.kind c.self.inside.parts.next_tag _ (length c.args.octets.now) _ c.requires.command c.in-Ok.ensures.tag
+push-requires-clause-command g c = untagged c.args.kind c.self.inside.parts.next_tag _ (length c.args.octets.now) _ c.requires.load.command c.in-Ok.ensures.tag
