@@ -16,6 +16,7 @@ returns-in_default-clause-carries g c =
 pub returns-clause-carries : goal.returns-clause-carries
 returns-clause-carries g c =
     if_some c.args.self.now.memory _ (λ l m. subst
-    (λ (a : Option Arrived). Carries c.args.self.now (accepting.accept l c.args.self.now.eui a) c.accept_raw-accepted.result nothing c.accept_raw-accepted.new.self)
+    (λ (a : Option Arrived). Carries c.args.self.now (accepting.accept l c.args.self.now.eui a) c.accept_raw-accepted.result nothing
+    c.accept_raw-accepted.new.self)
     (sym (arrived_is c.args.octets.now _ _ _ c.in-Ok.ensures.exact c.in-Ok.ensures.places.0 c.in-Ok.ensures.places.1 c.in-Ok.ensures.front))
     (at_some c.args.self.now.memory _ l m c.accept_raw-accepted.ensures.carries))

@@ -66,4 +66,5 @@ returns-clause-carries g c =
     (lines_are _ _ _ _ refl c.in-Ok-reserve.ensures.counter refl refl refl c.in-Ok.ensures.next refl refl)))
 
 pub seal_own-requires-clause-command : goal.seal_own-requires-clause-command
-seal_own-requires-clause-command g c = untagged c.args.kind c.self.inside.parts.next_tag _ (length c.args.octets.now) _ c.requires.load.command c.in-Ok.ensures.tag
+seal_own-requires-clause-command g c =
+    untagged c.args.kind c.self.inside.parts.next_tag _ (length c.args.octets.now) _ c.requires.load.command c.in-Ok.ensures.tag
