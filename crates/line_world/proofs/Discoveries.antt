@@ -548,20 +548,7 @@ choice_halted w new number x k psk h at none bounds room is left =
 
 -- what is said of an event at which a node acted, and an agent with it
 abbrev pub with_agent : Happenings → Option AgentLine → Happenings
-with_agent h agent = record {
-  answer = h.answer;
-  forged = false;
-  up = None;
-  bup = None;
-  agent = agent;
-  path = None;
-  grant = None;
-  took = None;
-  done = None;
-  shown = None;
-  first_flight = h.first_flight;
-  flights = h.flights;
-}
+with_agent h agent = record h { agent = agent }
 
 -- the world that a step leaves, and what is said of it
 abbrev world_in : World → Result (World × Trace) StepFault → World

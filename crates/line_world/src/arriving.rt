@@ -51,11 +51,7 @@ fn origin_by(flights: &Flights, octets: &[u8], path: &Path) -> Origin
 {
     match path {
         Path::Sealed { key, .. } => flights.origin(octets, key),
-        Path::Up { .. } => Origin {
-            is_forged: false,
-            note: 0,
-        },
-        Path::Down { .. } => Origin {
+        Path::Up { .. } | Path::Down { .. } => Origin {
             is_forged: false,
             note: 0,
         },
@@ -174,18 +170,11 @@ impl Line {
         let happenings = self.node_outcome(node, reported.answer);
         self.count(reported, forged);
         Happenings {
-            answer: reported.answer,
             forged,
             up: handed(node, &reported.up),
-            bup: None,
-            agent: None,
-            path: None,
-            grant: None,
             took: taker(node, reported.took),
             done,
-            shown: None,
-            first_flight: happenings.first_flight,
-            flights: happenings.flights,
+            ..happenings
         }
     }
 

@@ -241,21 +241,9 @@ impl Line {
     {
         let asked = self.nodes.join(node, address, self.clock, &mut self.out);
         let agent = agent_of(node, address, total, &asked);
-        let happenings = self.node_outcome(node, choice_word(asked));
-        Happenings {
-            answer: happenings.answer,
-            forged: false,
-            up: None,
-            bup: None,
-            agent,
-            path: None,
-            grant: None,
-            took: None,
-            done: None,
-            shown: None,
-            first_flight: happenings.first_flight,
-            flights: happenings.flights,
-        }
+        let mut happenings = self.node_outcome(node, choice_word(asked));
+        happenings.agent = agent;
+        happenings
     }
 
     /// A meter begins to join by the k-th agent that it heard.

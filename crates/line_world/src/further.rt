@@ -4,7 +4,6 @@ ghost use Rattle.std.specs.Option.{option_and_then};
 ghost use Rattle.loadng_messages.specs.Grammar as messages;
 ghost use Rattle.loadng_messages.specs.Reading as reading;
 ghost use Rattle.mesh_header.specs.Reading as units;
-ghost use Rattle.node_rules.specs.declared.refusal.Dropped.TheVariants.{Store};
 ghost use Rattle.node_rules.specs.Ciphers.{network};
 ghost use Rattle.node_rules.specs.Replies.{route_message};
 ghost use Rattle.reach_rules.specs.CheckedReplies as replies;
@@ -24,7 +23,7 @@ ghost use Rattle.line_world.specs.Steps.{Steps, has_address};
 ghost use Rattle.plc_base.specs.declared.limits.TheConstants.{MOST_FRAMES};
 
 use crate::line::Line;
-use crate::nodes::{CommandRef, Reception, command_on};
+use crate::nodes::{CommandRef, command_on, only};
 use line_events::{Answer, Happenings, StepFault};
 use line_flights::Origin;
 use loadng_messages::{Message, read_message};
@@ -195,19 +194,6 @@ fn is_stored(sent: &Result<(), LocalRefusal>) -> bool
     }
 }
 
-// Nothing came up, and a write failed.
-fn failed() -> Reception<'static>
-    ensures { result ≡ record { answer = words.drop_word Store; up = None; took = false; done = None; replied = None } }
-{
-    Reception {
-        answer: Answer::Store,
-        up: None,
-        took: false,
-        done: None,
-        replied: None,
-    }
-}
-
 impl Line {
     /// Neighbours are checked from now on.
     pub(crate) fn checks(&mut self) -> Result<Happenings<'static>, StepFault>
@@ -287,14 +273,7 @@ impl Line {
     {
         self.out.clear();
         let forged = self.is_forged(origin);
-        let reported = Reception {
-            answer: Answer::Blacklisted,
-            up: None,
-            took: false,
-            done: None,
-            replied: None,
-        };
-        self.received(node, forged, &reported)
+        self.received(node, forged, &only(Answer::Blacklisted, None))
     }
 
     // A node hears a command for its neighbours.
@@ -335,21 +314,11 @@ impl Line {
             &mut self.body,
             &mut self.out,
         );
-        let happenings = self.received(node, forged, &reported);
-        Happenings {
-            answer: commanded.answer,
-            forged,
-            up: happenings.up,
-            bup: commanded.bup,
-            agent: None,
-            path: commanded.path,
-            grant: None,
-            took: happenings.took,
-            done: happenings.done,
-            shown: None,
-            first_flight: happenings.first_flight,
-            flights: happenings.flights,
-        }
+        let mut happenings = self.received(node, forged, &reported);
+        happenings.answer = commanded.answer;
+        happenings.bup = commanded.bup;
+        happenings.path = commanded.path;
+        happenings
     }
 
     // The reply that the node sent begins a check, if it sent one.
@@ -421,7 +390,7 @@ impl Line {
         );
         let forged = self.is_forged(origin);
         if !self.acknowledged(node, due(&got.path, message, reported.answer)) {
-            return self.received(node, forged, &failed());
+            return self.received(node, forged, &only(Answer::Store, None));
         }
         self.begin_check(node, reply_of(message, reported.replied));
         self.received(node, forged, &reported)

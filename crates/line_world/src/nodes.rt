@@ -29,6 +29,7 @@ mod time;
 pub(crate) use command::{CommandRef, command_on};
 use coordinator::Coordinator;
 use meter_node::Meter;
+pub(crate) use node_receptions::only;
 use plc_base::{Eui, Key, MemKeeper, Short};
 pub(crate) use reception::{HandedUp, Reception};
 use std::alloc::Global;

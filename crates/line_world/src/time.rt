@@ -97,20 +97,8 @@ impl Line {
     {
         let number = self.node(node)?;
         self.nodes.show(number, &mut buffers.shown);
-        let happenings = self.answered(Answer::Shown);
-        Ok(Happenings {
-            answer: Answer::Shown,
-            forged: false,
-            up: None,
-            bup: None,
-            agent: None,
-            path: None,
-            grant: None,
-            took: None,
-            done: None,
-            shown: Some(ShownRef::new(&buffers.shown)),
-            first_flight: happenings.first_flight,
-            flights: 0,
-        })
+        let mut happenings: Happenings<'a> = self.answered(Answer::Shown);
+        happenings.shown = Some(ShownRef::new(&buffers.shown));
+        Ok(happenings)
     }
 }

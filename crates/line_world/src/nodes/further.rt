@@ -17,7 +17,7 @@ use crate::beside::Beside;
 use crate::nodes::Nodes;
 use crate::nodes::command::{CommandRef, Commanded};
 use crate::nodes::station_broadcasts::broadcast_at;
-use crate::nodes::station_further::{acknowledge_at, ask_at, hear_command_at};
+use crate::nodes::station_further::{acknowledge_at, ask_at, hear_command_at, only};
 use line_events::Answer;
 use node_rules::{LocalRefusal, Reply};
 use plc_base::{BadStore, FrameBuf, Out, Short};
@@ -206,11 +206,7 @@ impl Nodes {
             );
         }
         let Some(coordinator) = &mut self.coordinator else {
-            return Commanded {
-                answer: Answer::Store,
-                bup: None,
-                path: None,
-            };
+            return only(Answer::Store);
         };
         hear_command_at(0, coordinator.station(), beside, command, buffer, out)
     }

@@ -1,5 +1,5 @@
 //! Receptions of what a node heard: a word, and what came up with it.
-ghost use Rattle.std.specs.Prelude.{◌≡◌, ℕ, List, Ok};
+ghost use Rattle.std.specs.Prelude.{◌≡◌, false, None, Ok};
 ghost use Rattle.line_rules.specs.Answers as rules;
 ghost use Rattle.line_world.specs.Receiving.{ReportsReception};
 
@@ -9,9 +9,9 @@ use node_rules::{CoordinatorHeard, Dropped, Heard, MeterHeard, Reply};
 use plc_base::OctetRef;
 
 // A word, the reply that the station sent last, and nothing beside them.
-fn only(answer: Answer, replied: Option<Reply>) -> Reception<'static>
+pub(crate) fn only(answer: Answer, replied: Option<Reply>) -> Reception<'static>
+    ensures value { result ≡ record { answer = answer; up = None; took = false; done = None; replied = replied } }
     ensures reports { ReportsReception result (rules.only answer) }
-    ensures replied { result.replied ≡ replied }
 {
     Reception {
         answer,

@@ -18,10 +18,10 @@ ghost use Rattle.line_world.specs.Reaching.{Reaches, ReachesCommand, ReachesFirs
 
 use crate::beside::Beside;
 use crate::nodes::command::{CommandRef, Commanded};
-use crate::nodes::station_further::{dropped_word, only, send_local, sent_on};
+use crate::nodes::station_further::{dropped_word, ended_by, only, send_local, sent_on};
 use broadcast_log::{BroadcastLog, LogFault, read_broadcast};
 use line_events::{Answer, BroadcastUp};
-use node_rules::{Dropped, LocalRefusal};
+use node_rules::Dropped;
 use plc_base::{FrameBuf, MemKeeper, OctetRef, Out, Short};
 use plc_station::Station;
 use reach_rules::{BroadcastRefusal, ReachDropped};
@@ -65,17 +65,6 @@ fn take_number(station: &mut Station<MemKeeper>, log: &mut BroadcastLog) -> Opti
     Some(number)
 }
 
-// How an own broadcast ended.
-fn broadcast_sent(sent: Result<(), LocalRefusal>) -> Result<(), BroadcastRefusal>
-    ensures { result ≡ ended_by BroadcastRefusal.CounterSpent BroadcastRefusal.Store sent }
-{
-    match sent {
-        Ok(()) => Ok(()),
-        Err(LocalRefusal::CounterSpent) => Err(BroadcastRefusal::CounterSpent),
-        Err(LocalRefusal::Store) => Err(BroadcastRefusal::Store),
-    }
-}
-
 // Whether no broadcast holds a datagram.
 fn is_bad_size(datagram: &[u8]) -> bool
     ensures { result ≡ ((length datagram.now == 0) || nat_lt 360 (length datagram.now)) }
@@ -116,7 +105,11 @@ fn broadcast_from(
     };
     write_broadcast(14, own, number, datagram, buffer);
     let sent = send_local(station, &mut beside.log, 4, None, buffer.octets(), out);
-    broadcast_sent(sent)
+    ended_by(
+        BroadcastRefusal::CounterSpent,
+        BroadcastRefusal::Store,
+        sent,
+    )
 }
 
 // A datagram goes to all. `buffer` is overwritten, and what goes out is in `out`.

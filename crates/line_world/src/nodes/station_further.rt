@@ -71,6 +71,21 @@ pub(crate) fn send_local(
     sent
 }
 
+// How something ended that sends a command, with its words for why that was not sent.
+pub(crate) fn ended_by<E: Copy + Drop>(
+    spent: E,
+    store: E,
+    sent: Result<(), LocalRefusal>,
+) -> Result<(), E>
+    ensures { result ≡ ended_by spent store sent }
+{
+    match sent {
+        Ok(()) => Ok(()),
+        Err(LocalRefusal::CounterSpent) => Err(spent),
+        Err(LocalRefusal::Store) => Err(store),
+    }
+}
+
 // # Asking for a path
 
 // A path message goes to a neighbour.
@@ -119,17 +134,6 @@ fn ask_of(own: Short, target: Short) -> PathMessage
     }
 }
 
-// How an ask ended.
-fn ask_sent(sent: Result<(), LocalRefusal>) -> Result<(), AskRefusal>
-    ensures { result ≡ ended_by AskRefusal.CounterSpent AskRefusal.Store sent }
-{
-    match sent {
-        Ok(()) => Ok(()),
-        Err(LocalRefusal::CounterSpent) => Err(AskRefusal::CounterSpent),
-        Err(LocalRefusal::Store) => Err(AskRefusal::Store),
-    }
-}
-
 // The next hop of the valid route to an address.
 fn hop_to(station: &Station<MemKeeper>, dest: Short) -> Option<Short>
     ensures { IfSome station.now.memory (λ l. result ≡ station_route l dest) }
@@ -166,7 +170,7 @@ pub(crate) fn ask_at(
     };
     let message = ask_of(own, target);
     let sent = path_goes(station, &mut beside.log, hop, &message, buffer, out);
-    ask_sent(sent)
+    ended_by(AskRefusal::CounterSpent, AskRefusal::Store, sent)
 }
 
 // # Acknowledging
@@ -228,11 +232,8 @@ fn hear_acknowledgement(checks: &mut Checks, command: &CommandRef<'_>) -> Result
 pub(crate) fn sent_on(sent: Result<(), LocalRefusal>) -> Result<(), ReachDropped>
     ensures { result ≡ ended_by (Known drops.CounterSpent) (Known drops.Store) sent }
 {
-    match sent {
-        Ok(()) => Ok(()),
-        Err(LocalRefusal::CounterSpent) => Err(ReachDropped::Known(Dropped::CounterSpent)),
-        Err(LocalRefusal::Store) => Err(ReachDropped::Known(Dropped::Store)),
-    }
+    let spent = ReachDropped::Known(Dropped::CounterSpent);
+    ended_by(spent, ReachDropped::Known(Dropped::Store), sent)
 }
 
 // # Path messages that are heard
@@ -316,29 +317,6 @@ fn follow_step(
     }
 }
 
-// What becomes of a path message.
-fn follow_path(
-    station: &mut Station<MemKeeper>,
-    beside: &mut Beside,
-    step: Result<PathStep, PathRefusal>,
-    buffer: &mut FrameBuf,
-    out: &mut Out,
-) -> Result<PathHeard, ReachDropped>
-    requires step { IfOk step IsStep }
-    requires running { IsSome station.old.memory }
-    requires joined { IfSome station.old.memory (λ l. IsSome l.ring) }
-    requires agrees { Agrees station.old }
-    requires room { length out.old.frames < MOST_FRAMES }
-    ensures reaches { Reaches station.old beside.old (Err (Known drops.Store))
-        (λ y. path_rules.follows_path alone y step) (answer_as path_heard result) out.old out.new station.new beside.new }
-    ensures agrees { Agrees station.new }
-{
-    match step {
-        Err(reason) => Err(path_word(reason)),
-        Ok(step) => follow_step(station, beside, &step, buffer, out),
-    }
-}
-
 // A path message is heard at the node of this address.
 fn hear_path(
     own: Short,
@@ -364,8 +342,10 @@ fn hear_path(
         return Err(ReachDropped::Known(Dropped::BadUnit));
     };
     let next = next_toward(station, &message);
-    let step = take_path(own, command.from, next, &message);
-    follow_path(station, beside, step, buffer, out)
+    match take_path(own, command.from, next, &message) {
+        Err(reason) => Err(path_word(reason)),
+        Ok(step) => follow_step(station, beside, &step, buffer, out),
+    }
 }
 
 // # What the report says of a command

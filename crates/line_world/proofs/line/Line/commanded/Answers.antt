@@ -75,22 +75,8 @@ returns c =
     let within : number < length w.beside = subst (λ (n : ℕ). number < n) (sym c.requires.beside) c.requires.there in
     let held : c.index_mut.result.now ≡ beside_at w number = beside_found w.beside number c.index_mut.result.now within c.index_mut.ensures.value in
     let done = c.hear_command-commanded.result in
-    let heard_it = c.received-happenings.result in
     let h : Happenings =
-    record {
-      answer = done.answer;
-      forged = c.is_forged-forged.result;
-      up = heard_it.up;
-      bup = done.bup;
-      agent = None;
-      path = done.path;
-      grant = None;
-      took = heard_it.took;
-      done = heard_it.done;
-      shown = None;
-      first_flight = heard_it.first_flight;
-      flights = heard_it.flights;
-    } in
+    record c.received-happenings.result { answer = done.answer; bup = done.bup; path = done.path } in
     subst (λ (o : Option Node). IfSome o (λ y. Steps true w (Ok h) (world_of c.received-happenings.new.self)
     (Ok (heard_by_command network w number y c.args.got.now c.args.origin c.args.cost (Some (command_of c.args.command.now)))))) (sym x.1)
     (was_commanded w _ number x.0 c.args.got.now (command_of c.args.command.now) c.args.origin c.args.cost c.hear-reported.result c.hear-reported.new.out
@@ -98,12 +84,4 @@ returns c =
     c.hear-reported.new.self c.hear_command-commanded.new.self c.is_forged-forged.result done c.index_mut.result.now c.hear_command-commanded.new.beside h
     c.requires.bounds c.requires.events c.received-happenings.ensures.frames c.received-happenings.ensures.tags x.1 c.requires.command heard held
     c.hear_command-commanded.ensures c.is_forged-forged.ensures
-    (λ i. record (c.received-happenings.ensures.reported i) {
-      answer = done.answer;
-      forged = c.is_forged-forged.result;
-      bup = done.bup;
-      agent = None;
-      path = done.path;
-      grant = None;
-      shown = None;
-    }) c.received-happenings.ensures.world)
+    (λ i. record (c.received-happenings.ensures.reported i) { answer = done.answer; bup = done.bup; path = done.path }) c.received-happenings.ensures.world)

@@ -25,9 +25,8 @@ returns c =
     let w = world_of c.args.self.now in
     let there = is_there w c.args.node c.in_ok-number.number c.in_ok-number.ensures in
     let shown = c.new.ensures ∙ holds_there there (λ x. c.show.new.out ≡ shown_of x) c.show.ensures.shown in
-    let first = ap (λ (h : Happenings). h.first_flight) c.answered-happenings.ensures.reported in
     steps_as _ _ (begun w _ (has_coordinator (world_of c.args.self.now) c.args.node c.in_ok-number.number c.in_ok-number.ensures)
     ∙ at_node w c.args.node there.node _ there.at)
     (only_ran false w _ (trace_of (record (happenings w answers.Shown) { shown = Some (shown_of there.node) })) _ c.requires.bounds c.requires.events
-    (λ i. record (happenings w answers.Shown) { shown = Some (shown i); first_flight = first i })
+    (λ i. record (c.answered-happenings.ensures.reported i) { shown = Some (shown i) })
     (ap world_of c.answered-happenings.ensures.line ∙ (λ i. record (running_world w) { nodes = c.show.ensures.same i })))

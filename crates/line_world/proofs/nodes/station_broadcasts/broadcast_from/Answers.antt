@@ -80,7 +80,7 @@ returns-clause-reaches c =
     rw (← c.beside.view_is) (subst (λ (r : Result (Unit {0}) BroadcastRefusal). ReachesFirst s b (Err refusals.Halted)
     (λ y. broadcast_from alone y c.args.own c.args.datagram.now) r c.send_local-sent.new.out c.send_local-sent.new.station
     (record b { log = c.send_local-sent.new.log }))
-    (own_after c.send_local-sent.result ∙ sym c.broadcast_sent.ensures)
+    (own_after c.send_local-sent.result ∙ sym c.ended_by.ensures)
     (first_recorded broadcast_ends s b (Err refusals.Halted) (λ y. broadcast_from alone y c.args.own c.args.datagram.now) h.0 h.1 (number_put b.log.numbering)
     (numbered_log b.log) tt 4 None body goes
     c.args.out.now c.send_local-sent.new.out m c.send_local-sent.new.station c.send_local-sent.result (record b { log = c.send_local-sent.new.log })

@@ -53,8 +53,8 @@ returns-clause-reaches c =
     let b : Beside = record { checks = c.beside.inside.checks; log = c.beside.inside.log; scan = c.beside.inside.scan } in
     rw (← c.beside.view_is)
     (asked s c.path_goes-sent.new.station b c.args.target c.in-Some.own c.in-Some-hop_to.hop m.0 c.ask_of-message.result c.path_goes-sent.result
-    c.ask_sent.result c.clear.new.self c.path_goes-sent.new.out c.path_goes-sent.new.log
+    c.ended_by.result c.clear.new.self c.path_goes-sent.new.out c.path_goes-sent.new.log
     m.1 (owned s c.ring.result.now c.joined.result m.0 m.1 c.ring.ensures c.joined.ensures ∙ c.in-Some.is)
     (λ e. c.if-number.false (c.number.ensures.value ∙ e ∙ sym c.number-2.ensures.value))
     (sym (at_some s.memory (λ l. c.hop_to.result ≡ station_route l c.args.target) m.0 m.1 c.hop_to.ensures) ∙ c.in-Some-hop_to.is)
-    c.clear.ensures c.ask_of-message.ensures.value c.path_goes-sent.ensures.carries c.path_goes-sent.ensures.log c.ask_sent.ensures)
+    c.clear.ensures c.ask_of-message.ensures.value c.path_goes-sent.ensures.carries c.path_goes-sent.ensures.log c.ended_by.ensures)
