@@ -13,7 +13,7 @@ ghost use Rattle.line_rules.specs.Answers as words;
 ghost use Rattle.line_rules.specs.Further as further;
 ghost use Rattle.line_rules.specs.Logs.{LogsKept};
 ghost use Rattle.line_rules.specs.Steps as rules;
-ghost use Rattle.line_world.specs.Arrivals.{Acknowledges, outcome_of_checked, outcome_of_further, outcome_of_command, in_run, is_stored, outcome_of_unbelieved};
+ghost use Rattle.line_world.specs.Arrivals.{Acknowledges, outcome_of_further, outcome_of_command, in_run, is_stored, outcome_of_unbelieved};
 ghost use Rattle.line_world.specs.Arrivals.{with_check_of};
 ghost use Rattle.line_world.specs.Bounds.{IsBounded};
 ghost use Rattle.line_world.specs.Lines.{HasRoom, world_of};
@@ -357,47 +357,8 @@ impl Line {
         is_stored(&sent)
     }
 
-    // A node hears a frame where neighbours are checked.
+    // A node hears a frame that carries no command for its neighbours, where these are checked.
     fn checked<'a>(
-        &mut self,
-        node: usize,
-        got: &Accepted<'a>,
-        message: &Option<Message>,
-        origin: Origin,
-        cost: LinkCost,
-        datagram: &'a mut DatagramBuf,
-    ) -> Happenings<'a>
-        requires room { HasRoom self.old }
-        requires there { node < length self.old.nodes }
-        requires bounds { IsBounded (in_run (world_of self.old)) }
-        requires beside { length self.old.beside.items ≡ length self.old.nodes }
-        requires events { self.old.events < MAX_EVENTS }
-        requires accepted { IfSome (slice_get self.old.nodes node) (λ x. MayHear x got.now) }
-        requires logs { LogsKept (world_of self.old) }
-        requires message { message.now ≡ replies.message_of got.now }
-        requires allowed { IfSome message.now (λ m. messages.IsAllowed m) }
-        ensures { IfSome (slice_get self.old.nodes node) (λ x. Steps true (world_of self.old) (Ok result) (world_of self.new)
-            (Ok (outcome_of_checked network (world_of self.old) node x got.now origin cost))) }
-    {
-        let reported = self.nodes.hear(
-            node,
-            got,
-            cost,
-            origin.note,
-            self.clock,
-            datagram,
-            &mut self.out,
-        );
-        let forged = self.is_forged(origin);
-        if !self.acknowledged(node, due(&got.path, message, reported.answer)) {
-            return self.received(node, forged, &only(Answer::Store, None));
-        }
-        self.begin_check(node, reply_of(message, reported.replied));
-        self.received(node, forged, &reported)
-    }
-
-    // A frame that carries no command for the neighbours, where these are checked.
-    fn heard_checked<'a>(
         &mut self,
         node: usize,
         got: &Accepted<'a>,
@@ -423,7 +384,21 @@ impl Line {
         if is_unbelieved(&self.beside[node].checks, &got.path, message) {
             return self.unbelieved(node, origin);
         }
-        self.checked(node, got, message, origin, cost, datagram)
+        let reported = self.nodes.hear(
+            node,
+            got,
+            cost,
+            origin.note,
+            self.clock,
+            datagram,
+            &mut self.out,
+        );
+        let forged = self.is_forged(origin);
+        if !self.acknowledged(node, due(&got.path, message, reported.answer)) {
+            return self.received(node, forged, &only(Answer::Store, None));
+        }
+        self.begin_check(node, reply_of(message, reported.replied));
+        self.received(node, forged, &reported)
     }
 
     /// A node hears a frame that it accepted, under the note with which its octets were sent.
@@ -451,7 +426,7 @@ impl Line {
         }
         if self.checks_on {
             let message = message_of(&unit);
-            return self.heard_checked(node, got, &message, origin, cost, datagram);
+            return self.checked(node, got, &message, origin, cost, datagram);
         }
         self.heard(node, got, origin, cost, datagram)
     }
