@@ -11,3 +11,4 @@ pub mod Arrivals
 pub mod Finding
 pub mod Reaching
 pub mod Discovering
+pub mod Ready

@@ -1,5 +1,5 @@
 //! Checks of neighbours, broadcasts and path requests.
-ghost use Rattle.std.specs.Prelude.{◌≡◌, ◌==◌, ◌<◌, ◌≤◌, true, false, length, Ok, None, Some, IfSome, IsSome, is_some, slice_get, if◌then◌else◌};
+ghost use Rattle.std.specs.Prelude.{◌≡◌, ◌==◌, ◌<◌, true, false, length, Ok, None, Some, IfSome, IsSome, is_some, slice_get, if◌then◌else◌};
 ghost use Rattle.std.specs.Option.{option_and_then};
 ghost use Rattle.loadng_messages.specs.Grammar as messages;
 ghost use Rattle.loadng_messages.specs.Reading as reading;
@@ -12,13 +12,12 @@ ghost use Rattle.line_events.specs.declared.event.TheConstants.{MAX_EVENTS};
 ghost use Rattle.line_rules.specs.Answers as words;
 ghost use Rattle.line_rules.specs.Further as further;
 ghost use Rattle.line_rules.specs.Logs.{LogsKept};
-ghost use Rattle.line_rules.specs.Steps as rules;
 ghost use Rattle.line_world.specs.Arrivals.{Acknowledges, outcome_of_further, outcome_of_command, in_run, is_stored, outcome_of_unbelieved};
 ghost use Rattle.line_world.specs.Arrivals.{with_check_of};
 ghost use Rattle.line_world.specs.Bounds.{IsBounded};
 ghost use Rattle.line_world.specs.Lines.{HasRoom, world_of};
 ghost use Rattle.line_world.specs.Reaching as reaching;
-ghost use Rattle.line_world.specs.Receiving.{MayHear};
+ghost use Rattle.line_world.specs.Ready.{ReadyToHear};
 ghost use Rattle.line_world.specs.Steps.{Steps, has_address};
 ghost use Rattle.plc_base.specs.declared.limits.TheConstants.{MOST_FRAMES};
 
@@ -286,13 +285,7 @@ impl Line {
         cost: LinkCost,
         datagram: &'a mut DatagramBuf,
     ) -> Happenings<'a>
-        requires room { HasRoom self.old }
-        requires there { node < length self.old.nodes }
-        requires bounds { IsBounded (in_run (world_of self.old)) }
-        requires beside { length self.old.beside.items ≡ length self.old.nodes }
-        requires events { self.old.events < MAX_EVENTS }
-        requires accepted { IfSome (slice_get self.old.nodes node) (λ x. MayHear x got.now) }
-        requires logs { LogsKept (world_of self.old) }
+        requires ready { ReadyToHear self.old node got.now }
         requires command { further_command got.now ≡ Some (reaching.command_of command.now) }
         ensures { IfSome (slice_get self.old.nodes node) (λ x. Steps true (world_of self.old) (Ok result) (world_of self.new)
             (Ok (outcome_of_command network (world_of self.old) node x got.now origin cost (Some (reaching.command_of command.now))))) }
@@ -367,13 +360,7 @@ impl Line {
         cost: LinkCost,
         datagram: &'a mut DatagramBuf,
     ) -> Happenings<'a>
-        requires room { HasRoom self.old }
-        requires there { node < length self.old.nodes }
-        requires bounds { IsBounded (in_run (world_of self.old)) }
-        requires beside { length self.old.beside.items ≡ length self.old.nodes }
-        requires events { self.old.events < MAX_EVENTS }
-        requires accepted { IfSome (slice_get self.old.nodes node) (λ x. MayHear x got.now) }
-        requires logs { LogsKept (world_of self.old) }
+        requires ready { ReadyToHear self.old node got.now }
         requires message { message.now ≡ replies.message_of got.now }
         requires allowed { IfSome message.now (λ m. messages.IsAllowed m) }
         requires checks { self.old.checks_on ≡ true }
@@ -410,13 +397,7 @@ impl Line {
         cost: LinkCost,
         datagram: &'a mut DatagramBuf,
     ) -> Happenings<'a>
-        requires room { HasRoom self.old }
-        requires there { node < length self.old.nodes }
-        requires bounds { IsBounded (in_run (world_of self.old)) }
-        requires beside { length self.old.beside.items ≡ length self.old.nodes }
-        requires events { self.old.events < MAX_EVENTS }
-        requires accepted { IfSome (slice_get self.old.nodes node) (λ x. MayHear x got.now) }
-        requires logs { LogsKept (world_of self.old) }
+        requires ready { ReadyToHear self.old node got.now }
         ensures { IfSome (slice_get self.old.nodes node) (λ x. Steps true (world_of self.old) (Ok result) (world_of self.new)
             (Ok (outcome_of_further network (world_of self.old) node x got.now origin cost))) }
     {

@@ -1,9 +1,7 @@
 //! Time, losses of power, restarts, and what a node shows.
-ghost use Rattle.std.specs.Prelude.{◌≡◌, ◌<◌, ◌≤◌, true, false, length, map};
-ghost use Rattle.node_rules.specs.Calls as calls;
+ghost use Rattle.std.specs.Prelude.{◌≡◌, ◌<◌, ◌≤◌, false, length, map};
 ghost use Rattle.node_rules.specs.Ciphers.{network};
 ghost use Rattle.line_events.specs.declared.event.TheConstants.{MAX_EVENTS};
-ghost use Rattle.line_rules.specs.Answers as words;
 ghost use Rattle.line_rules.specs.Further as further;
 ghost use Rattle.line_rules.specs.Logs.{LogsKept};
 ghost use Rattle.line_rules.specs.Steps as rules;

@@ -20,7 +20,7 @@ pub returns-then-is_unbelieved : goal.returns-then-is_unbelieved
 returns-then-is_unbelieved c =
     let w = world_of c.args.self.now in
     let got = c.args.got.now in
-    let within : c.args.node < length w.beside = subst (λ (n : ℕ). c.args.node < n) (sym c.requires.beside) c.requires.there in
+    let within : c.args.node < length w.beside = subst (λ (n : ℕ). c.args.node < n) (sym c.requires.ready.beside) c.requires.ready.there in
     let b = c.behind-self.inside in
     let held : (record { checks = b.checks; log = b.log; scan = b.scan })
     ≡ beside_at w c.args.node = c.behind-self.view_is ∙ beside_found w.beside c.args.node c.index.result.now within c.index.ensures in
@@ -37,40 +37,40 @@ acknowledged-requires-clause-joined c =
     joined_then (world_of c.args.self.now) c.hear-reported.new.self c.args.node c.args.got.now c.args.origin c.args.cost c.hear-reported.result
     c.hear-reported.new.out
     c.args.message.now c.due.result
-    c.requires.there c.requires.accepted c.hear-reported.ensures.received c.requires.message c.due.ensures.value
+    c.requires.ready.there c.requires.ready.accepted c.hear-reported.ensures.received c.requires.message c.due.ensures.value
 
 pub acknowledged-requires-clause-room : goal.acknowledged-requires-clause-room
 acknowledged-requires-clause-room c =
     room_then (world_of c.args.self.now) c.hear-reported.new.self c.args.node c.args.got.now c.args.origin c.args.cost c.hear-reported.result
     c.hear-reported.new.out
     c.args.message.now c.due.result
-    c.requires.there c.requires.accepted c.hear-reported.ensures.received c.requires.message c.due.ensures.value
+    c.requires.ready.there c.requires.ready.accepted c.hear-reported.ensures.received c.requires.message c.due.ensures.value
 
 pub received-requires-clause-bounds : goal.received-requires-clause-bounds
 received-requires-clause-bounds c =
     bounds_then (world_of c.args.self.now) c.hear-reported.new.self c.args.node c.args.got.now c.args.origin c.args.cost c.hear-reported.result
     c.hear-reported.new.out
     c.args.message.now c.due.result
-    c.requires.there c.requires.accepted c.hear-reported.ensures.received c.requires.message c.due.ensures.value
-    (world_of c.acknowledged.new.self) c.acknowledged.result c.acknowledged.new.self.out c.acknowledged.ensures.acknowledges c.requires.bounds
+    c.requires.ready.there c.requires.ready.accepted c.hear-reported.ensures.received c.requires.message c.due.ensures.value
+    (world_of c.acknowledged.new.self) c.acknowledged.result c.acknowledged.new.self.out c.acknowledged.ensures.acknowledges c.requires.ready.bounds
 
 pub received-requires-clause-events : goal.received-requires-clause-events
 received-requires-clause-events c =
     events_then (world_of c.args.self.now) c.hear-reported.new.self c.args.node c.args.got.now c.args.origin c.args.cost c.hear-reported.result
     c.hear-reported.new.out
     c.args.message.now c.due.result
-    c.requires.there c.requires.accepted c.hear-reported.ensures.received c.requires.message c.due.ensures.value
-    (world_of c.acknowledged.new.self) c.acknowledged.result c.acknowledged.new.self.out c.acknowledged.ensures.acknowledges c.requires.events
+    c.requires.ready.there c.requires.ready.accepted c.hear-reported.ensures.received c.requires.message c.due.ensures.value
+    (world_of c.acknowledged.new.self) c.acknowledged.result c.acknowledged.new.self.out c.acknowledged.ensures.acknowledges c.requires.ready.events
 
 pub begin_check-requires : goal.begin_check-requires
 begin_check-requires c =
     let beside = beside_then (world_of c.args.self.now) c.hear-reported.new.self c.args.node c.args.got.now c.args.origin c.args.cost c.hear-reported.result
     c.hear-reported.new.out c.args.message.now c.due.result
-    c.requires.there c.requires.accepted c.hear-reported.ensures.received c.requires.message c.due.ensures.value
+    c.requires.ready.there c.requires.ready.accepted c.hear-reported.ensures.received c.requires.message c.due.ensures.value
     (world_of c.acknowledged.new.self) c.acknowledged.result c.acknowledged.new.self.out c.acknowledged.ensures.acknowledges in
     record {
       there = subst (λ (bs : List Beside). c.args.node < length bs) (sym beside)
-          (subst (λ (n : ℕ). c.args.node < n) (sym c.requires.beside) c.requires.there);
+          (subst (λ (n : ℕ). c.args.node < n) (sym c.requires.ready.beside) c.requires.ready.there);
     }
 
 pub received-requires-2-clause-bounds : goal.received-requires-2-clause-bounds
@@ -79,8 +79,8 @@ received-requires-2-clause-bounds c =
     (bounds_then (world_of c.args.self.now) c.hear-reported.new.self c.args.node c.args.got.now c.args.origin c.args.cost c.hear-reported.result
     c.hear-reported.new.out
     c.args.message.now c.due.result
-    c.requires.there c.requires.accepted c.hear-reported.ensures.received c.requires.message c.due.ensures.value
-    (world_of c.acknowledged.new.self) c.acknowledged.result c.acknowledged.new.self.out c.acknowledged.ensures.acknowledges c.requires.bounds)
+    c.requires.ready.there c.requires.ready.accepted c.hear-reported.ensures.received c.requires.message c.due.ensures.value
+    (world_of c.acknowledged.new.self) c.acknowledged.result c.acknowledged.new.self.out c.acknowledged.ensures.acknowledges c.requires.ready.bounds)
 
 pub received-requires-2-clause-events : goal.received-requires-2-clause-events
 received-requires-2-clause-events c =
@@ -88,14 +88,14 @@ received-requires-2-clause-events c =
     (events_then (world_of c.args.self.now) c.hear-reported.new.self c.args.node c.args.got.now c.args.origin c.args.cost c.hear-reported.result
     c.hear-reported.new.out
     c.args.message.now c.due.result
-    c.requires.there c.requires.accepted c.hear-reported.ensures.received c.requires.message c.due.ensures.value
-    (world_of c.acknowledged.new.self) c.acknowledged.result c.acknowledged.new.self.out c.acknowledged.ensures.acknowledges c.requires.events)
+    c.requires.ready.there c.requires.ready.accepted c.hear-reported.ensures.received c.requires.message c.due.ensures.value
+    (world_of c.acknowledged.new.self) c.acknowledged.result c.acknowledged.new.self.out c.acknowledged.ensures.acknowledges c.requires.ready.events)
 
 pub returns-then-not-acknowledged : goal.returns-then-not-acknowledged
 returns-then-not-acknowledged c =
     let w = world_of c.args.self.now in
     let got = c.args.got.now in
-    let within : c.args.node < length w.beside = subst (λ (n : ℕ). c.args.node < n) (sym c.requires.beside) c.requires.there in
+    let within : c.args.node < length w.beside = subst (λ (n : ℕ). c.args.node < n) (sym c.requires.ready.beside) c.requires.ready.there in
     let b = c.behind-self.inside in
     let held : (record { checks = b.checks; log = b.log; scan = b.scan })
     ≡ beside_at w c.args.node = c.behind-self.view_is ∙ beside_found w.beside c.args.node c.index.result.now within c.index.ensures in
@@ -108,9 +108,10 @@ returns-then-not-acknowledged c =
     (λ x. further_checked w c.args.node x got c.args.origin c.args.cost c.requires.checks is c.requires.plain)
     (unacknowledged_then (world_of c.args.self.now) c.hear-reported.new.self c.args.node c.args.got.now c.args.origin c.args.cost c.hear-reported.result
     c.hear-reported.new.out c.args.message.now c.due.result
-    c.requires.there c.requires.accepted c.hear-reported.ensures.received c.requires.message c.due.ensures.value
-    (world_of c.acknowledged.new.self) (world_of c.received.new.self) c.acknowledged.new.self.out c.is_forged-forged.result c.received.result c.requires.bounds
-    c.requires.events
+    c.requires.ready.there c.requires.ready.accepted c.hear-reported.ensures.received c.requires.message c.due.ensures.value
+    (world_of c.acknowledged.new.self) (world_of c.received.new.self) c.acknowledged.new.self.out c.is_forged-forged.result c.received.result
+    c.requires.ready.bounds
+    c.requires.ready.events
     c.received.ensures.frames c.received.ensures.tags c.is_forged-forged.ensures c.acknowledged.result c.if-not-acknowledged.true
     c.acknowledged.ensures.acknowledges
     (c.received.ensures.reported ∙ ap (λ (r : Reception). reception_happenings (world_of c.acknowledged.new.self) c.args.node c.acknowledged.new.self.out
@@ -122,7 +123,7 @@ pub returns : goal.returns
 returns c =
     let w = world_of c.args.self.now in
     let got = c.args.got.now in
-    let within : c.args.node < length w.beside = subst (λ (n : ℕ). c.args.node < n) (sym c.requires.beside) c.requires.there in
+    let within : c.args.node < length w.beside = subst (λ (n : ℕ). c.args.node < n) (sym c.requires.ready.beside) c.requires.ready.there in
     let b = c.behind-self.inside in
     let held : (record { checks = b.checks; log = b.log; scan = b.scan })
     ≡ beside_at w c.args.node = c.behind-self.view_is ∙ beside_found w.beside c.args.node c.index.result.now within c.index.ensures in
@@ -137,9 +138,9 @@ returns c =
     (checked_then (world_of c.args.self.now) c.hear-reported.new.self c.args.node c.args.got.now c.args.origin c.args.cost c.hear-reported.result
     c.hear-reported.new.out
     c.args.message.now c.due.result
-    c.requires.there c.requires.accepted c.hear-reported.ensures.received c.requires.message c.due.ensures.value
+    c.requires.ready.there c.requires.ready.accepted c.hear-reported.ensures.received c.requires.message c.due.ensures.value
     (world_of c.acknowledged.new.self) (world_of c.received-2.new.self) c.begin_check.new.self.out c.is_forged-forged.result c.received-2.result
-    c.requires.bounds c.requires.events
+    c.requires.ready.bounds c.requires.ready.events
     c.received-2.ensures.frames c.received-2.ensures.tags c.is_forged-forged.ensures (world_of c.begin_check.new.self) c.reply_of.result c.acknowledged.result
     c.if-not-acknowledged.false
     (subst (λ (o : Out). IfSome (slice_get c.hear-reported.new.self c.args.node)

@@ -22,23 +22,23 @@ pub hear_command-commanded-requires-clause-log : goal.hear_command-commanded-req
 hear_command-commanded-requires-clause-log c =
     let w = world_of c.args.self.now in
     let number = c.args.node in
-    let x = at_some w.nodes number c.requires.there in
+    let x = at_some w.nodes number c.requires.ready.there in
     let step : Node → NodeStep Reception = λ y. hearing_step network y c.args.got.now c.args.cost c.args.origin.note w.clock in
     let heard = at_node_after w.nodes number x.0 (λ y. Received (step y) w.nodes number c.hear-reported.result c.hear-reported.new.out c.hear-reported.new.self)
     x.1
     c.hear-reported.ensures.received in
-    let within : number < length w.beside = subst (λ (n : ℕ). number < n) (sym c.requires.beside) c.requires.there in
+    let within : number < length w.beside = subst (λ (n : ℕ). number < n) (sym c.requires.ready.beside) c.requires.ready.there in
     let held : c.index_mut.result.now ≡ beside_at w number = beside_found w.beside number c.index_mut.result.now within c.index_mut.ensures.value in
     command_log w number x.0 c.args.got.now (command_of c.args.command.now) c.args.cost c.args.origin.note c.hear-reported.result c.hear-reported.new.out
     c.hear-reported.new.self
     x.1 c.requires.command heard
-    c.index_mut.result.now held c.requires.logs
+    c.index_mut.result.now held c.requires.ready.logs
 
 pub hear_command-commanded-requires-clause-room : goal.hear_command-commanded-requires-clause-room
 hear_command-commanded-requires-clause-room c =
     let w = world_of c.args.self.now in
     let number = c.args.node in
-    let x = at_some w.nodes number c.requires.there in
+    let x = at_some w.nodes number c.requires.ready.there in
     let step : Node → NodeStep Reception = λ y. hearing_step network y c.args.got.now c.args.cost c.args.origin.note w.clock in
     let heard = at_node_after w.nodes number x.0 (λ y. Received (step y) w.nodes number c.hear-reported.result c.hear-reported.new.out c.hear-reported.new.self)
     x.1
@@ -51,7 +51,7 @@ pub received-happenings-requires-clause-bounds : goal.received-happenings-requir
 received-happenings-requires-clause-bounds c =
     let w = world_of c.args.self.now in
     let number = c.args.node in
-    let x = at_some w.nodes number c.requires.there in
+    let x = at_some w.nodes number c.requires.ready.there in
     let step : Node → NodeStep Reception = λ y. hearing_step network y c.args.got.now c.args.cost c.args.origin.note w.clock in
     let heard = at_node_after w.nodes number x.0 (λ y. Received (step y) w.nodes number c.hear-reported.result c.hear-reported.new.out c.hear-reported.new.self)
     x.1
@@ -61,18 +61,18 @@ received-happenings-requires-clause-bounds c =
     x.1 c.requires.command heard
     c.index_mut.result.now c.hear_command-commanded.new.beside c.hear_command-commanded.result c.hear_command-commanded.new.out
     c.hear_command-commanded.new.self _
-    c.hear_command-commanded.ensures c.requires.bounds
+    c.hear_command-commanded.ensures c.requires.ready.bounds
 
 pub returns : goal.returns
 returns c =
     let w = world_of c.args.self.now in
     let number = c.args.node in
-    let x = at_some w.nodes number c.requires.there in
+    let x = at_some w.nodes number c.requires.ready.there in
     let step : Node → NodeStep Reception = λ y. hearing_step network y c.args.got.now c.args.cost c.args.origin.note w.clock in
     let heard = at_node_after w.nodes number x.0 (λ y. Received (step y) w.nodes number c.hear-reported.result c.hear-reported.new.out c.hear-reported.new.self)
     x.1
     c.hear-reported.ensures.received in
-    let within : number < length w.beside = subst (λ (n : ℕ). number < n) (sym c.requires.beside) c.requires.there in
+    let within : number < length w.beside = subst (λ (n : ℕ). number < n) (sym c.requires.ready.beside) c.requires.ready.there in
     let held : c.index_mut.result.now ≡ beside_at w number = beside_found w.beside number c.index_mut.result.now within c.index_mut.ensures.value in
     let done = c.hear_command-commanded.result in
     let h : Happenings =
@@ -82,6 +82,6 @@ returns c =
     (was_commanded w _ number x.0 c.args.got.now (command_of c.args.command.now) c.args.origin c.args.cost c.hear-reported.result c.hear-reported.new.out
     c.hear_command-commanded.new.out
     c.hear-reported.new.self c.hear_command-commanded.new.self c.is_forged-forged.result done c.index_mut.result.now c.hear_command-commanded.new.beside h
-    c.requires.bounds c.requires.events c.received-happenings.ensures.frames c.received-happenings.ensures.tags x.1 c.requires.command heard held
+    c.requires.ready.bounds c.requires.ready.events c.received-happenings.ensures.frames c.received-happenings.ensures.tags x.1 c.requires.command heard held
     c.hear_command-commanded.ensures c.is_forged-forged.ensures
     (λ i. record (c.received-happenings.ensures.reported i) { answer = done.answer; bup = done.bup; path = done.path }) c.received-happenings.ensures.world)
