@@ -3,15 +3,15 @@ use Rattle.std.proofs.Common.{◌≡◌, ℕ, List, Bool, true, false, sym, ◌�
 use Rattle.plc_base.specs.Streams.{SourceState, SinkState, SourceRose, SinkRose}
 use Rattle.script_lines.specs.declared.machine.Exit.{Exit}
 use Rattle.script_lines.specs.declared.machine.Exit.TheVariants as exits
-use Rattle.script_lines.specs.Clauses.{Comes}
+use Rattle.script_lines.specs.Clauses.{Comes, Drives}
 use Rattle.script_lines.specs.Outcomes.{Outcome}
 use Rattle.line_view.specs.declared.status.Status.{Status}
 use Rattle.line_view.specs.declared.status.Status.TheVariants as status
-use Rattle.line_view.specs.Tool.{Accounts, account_status}
+use Rattle.line_view.specs.Tool.{account_status}
 
-module _ {M : Type 0} {forged : M → Bool} {outcome : List ℕ → Bool → Outcome M} {source0 source1 : SourceState} {sink0 sink1 : SinkState} {s : Status}
-    (ran : Accounts forged outcome source0 source1 sink0 sink1 s) where
-  read_by : (exit : Exit) (tells : Bool) → Comes outcome ran.last source0 source1 sink0 sink1 ran.drives.b ran.drives.w exit
+module _ {M : Type 0} {outcome : List ℕ → Bool → Outcome M} {last : M} {source0 source1 : SourceState} {sink0 sink1 : SinkState} (exit : Exit)
+    (forged : Bool) (s : Status) (drives : Drives outcome last source0 source1 sink0 sink1 exit) (comes_so : s ≡ account_status exit forged) where
+  read_by : (exit : Exit) (tells : Bool) → Comes outcome last source0 source1 sink0 sink1 drives.b drives.w exit
       → account_status exit tells ≡ status.ReadFault → SourceRose source0 source1
   read_by exits.Fine false comes is = absurd (let no : status.Fine ≡ status.ReadFault → ⊥ = λ e. cc in no is)
   read_by exits.Fine true comes is = absurd (let no : status.Forged ≡ status.ReadFault → ⊥ = λ e. cc in no is)
@@ -20,7 +20,7 @@ module _ {M : Type 0} {forged : M → Bool} {outcome : List ℕ → Bool → Out
   read_by exits.WriteFault tells comes is = absurd (let no : status.WriteFault ≡ status.ReadFault → ⊥ = λ e. cc in no is)
   read_by exits.ReadFault tells comes is = comes.0
 
-  write_by : (exit : Exit) (tells : Bool) → Comes outcome ran.last source0 source1 sink0 sink1 ran.drives.b ran.drives.w exit
+  write_by : (exit : Exit) (tells : Bool) → Comes outcome last source0 source1 sink0 sink1 drives.b drives.w exit
       → account_status exit tells ≡ status.WriteFault → SinkRose sink0 sink1
   write_by exits.Fine false comes is = absurd (let no : status.Fine ≡ status.WriteFault → ⊥ = λ e. cc in no is)
   write_by exits.Fine true comes is = absurd (let no : status.Forged ≡ status.WriteFault → ⊥ = λ e. cc in no is)
@@ -31,7 +31,7 @@ module _ {M : Type 0} {forged : M → Bool} {outcome : List ℕ → Bool → Out
 
   -- a fault of the outside has its cause there
   pub account_read : s ≡ status.ReadFault → SourceRose source0 source1
-  account_read is = read_by ran.exit (forged ran.last) ran.drives.comes (sym ran.status ∙ is)
+  account_read is = read_by exit forged drives.comes (sym comes_so ∙ is)
 
   pub account_write : s ≡ status.WriteFault → SinkRose sink0 sink1
-  account_write is = write_by ran.exit (forged ran.last) ran.drives.comes (sym ran.status ∙ is)
+  account_write is = write_by exit forged drives.comes (sym comes_so ∙ is)

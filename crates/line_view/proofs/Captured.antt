@@ -18,8 +18,9 @@ use Rattle.plc_base.specs.declared.address.Eui.{Eui}
 use Rattle.line_script.specs.declared.report.Totals.{Totals}
 use Rattle.line_capture.specs.Captures.{Run, blocks}
 use Rattle.line_view.specs.declared.capture.Wanted.TheVariants as wants
-use Rattle.line_view.specs.Capturing.{Capturing, Stepped, injected_with, keys_with, octets_of, output_by, totals_of, with_key}
+use Rattle.line_view.specs.Capturing.{Capturing, injected_with, keys_with, octets_of, output_by, rules, totals_of, with_key}
 use Rattle.line_view.specs.Recordings.{Recording, Recorded, recorded}
+use Rattle.line_view.specs.RunMachines.{Stepped}
 use Rattle.line_view.proofs.Recorded.{above_zero, last_recorded, told_of}
 
 -- # Lists
@@ -115,7 +116,7 @@ no_falsehood is = cc
 pub entry_captured : (row : ℕ) (m : Capturing) (e : Event) (run : Recording) (injected keys : List (List ℕ)) (t : Taking) (refusal : Option Reason)
     → Recorded row e m.run run t refusal → is_some refusal ≡ false → injected ≡ injected_with e m.injected
     → ((told : TaleEvent) → numbered run.events (length run.events) ≡ Some told → keys ≡ keys_with e told.answer m.keys)
-    → Stepped row m (next_of m run injected keys) t None
+    → Stepped rules row m (next_of m run injected keys) t None
 entry_captured row m e run injected keys Skipped refusal r none brought drew = absurd r
 entry_captured row m e run injected keys (Taken entry) refusal r none brought drew =
     let told : TaleEvent = told_of row entry in

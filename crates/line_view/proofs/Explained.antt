@@ -6,7 +6,8 @@ use Rattle.line_script.specs.declared.report.Reason.{Reason}
 use Rattle.script_runs.specs.Takings.{Taking, Skipped, Taken, Refused}
 use Rattle.line_view.specs.Recordings.{Recording, Recorded}
 use Rattle.line_view.specs.Sentences.{Sentences, with_sentence}
-use Rattle.line_view.specs.Explaining.{Explaining, Stepped}
+use Rattle.line_view.specs.RunMachines.{Stepped}
+use Rattle.line_view.specs.Explaining.{Explaining, rules}
 
 abbrev next_of : Explaining → Recording → Sentences → Explaining
 next_of m run told = record m { run = run; told = told }
@@ -17,7 +18,7 @@ no_falsehood is = cc
 -- an event that was taken and recorded, and has its sentence
 pub entry_told : (row : ℕ) (m : Explaining) (e : Event) (run again : Recording) (told : Sentences) (t : Taking) (refusal : Option Reason)
     → Recorded row e m.run run t refusal → is_some refusal ≡ false → told ≡ with_sentence e run m.told → again ≡ run
-    → Stepped row m (next_of m again told) t None
+    → Stepped rules row m (next_of m again told) t None
 entry_told row m e run again told Skipped refusal r none is same = absurd r
 entry_told row m e run again told (Taken entry) refusal r none is same =
     let words : told ≡ with_sentence entry.event run m.told = is ∙ ap (λ (x : Event). with_sentence x run m.told) (sym r.1.0) in (

@@ -14,10 +14,12 @@ use Rattle.line_tale.specs.Verdicts.{ends_of}
 use Rattle.run_pages.specs.Pages.{IsPage, Sheet}
 use Rattle.run_pages.proofs.PageNests.{page_nests}
 use Rattle.story_accounts.specs.Indexes.{index_of}
+use Rattle.line_view.specs.BadLines.{bad_words}
 use Rattle.line_view.specs.declared.bad_line.BadLine.{BadLine}
 use Rattle.line_view.specs.declared.status.Status.{Status}
 use Rattle.line_view.specs.declared.status.Status.TheVariants as status
-use Rattle.line_view.specs.Paging.{Paging, bad_words, chart_run, end_of, is_forged, nothing_paged, page_text, paged, sheet_with, turn_by, turn_of}
+use Rattle.line_view.specs.Paging.{Paging, chart_run, is_forged, nothing_paged, page_text, paged, rules, sheet_with}
+use Rattle.line_view.specs.RunMachines.{end_of, turn_by, turn_of}
 use Rattle.line_view.specs.Tool.{Accounts, IsWhole, account_status}
 
 -- # A page
@@ -38,7 +40,7 @@ Writes Skips = Unit {0}
 Writes (Takes next text) = text ≡ []
 Writes (Stops text) = IsPage text
 
-writes_by : (p : Paging) (row : ℕ) (c : Content) (t : Taking) → Writes (turn_by p row c t)
+writes_by : (p : Paging) (row : ℕ) (c : Content) (t : Taking) → Writes (turn_by rules p row c t)
 writes_by p row c Skipped = refl
 writes_by p row c (Taken entry) = refl
 writes_by p row c (Refused reason) = pages_are p (Some (record { row = row; reason = reason }))
@@ -50,11 +52,11 @@ fine_by p line (Takes next text) rest w all = subst (λ (x : List ℕ). IsPage (
 fine_by p line (Stops text) rest w all = w
 
 -- to the end of the input
-fine_from : (ls : List Line) (p : Paging) → IsPage (outcome_from turn_of end_of p ls true).text
+fine_from : (ls : List Line) (p : Paging) → IsPage (outcome_from (turn_of rules) (end_of rules) p ls true).text
 unfolding outcome_from
 fine_from [] p = pages_are p None
 fine_from (line ∷ ls) p =
-    fine_by p line (turn_of p line.number line.content) (λ next. outcome_from turn_of end_of next ls true)
+    fine_by p line (turn_of rules p line.number line.content) (λ next. outcome_from (turn_of rules) (end_of rules) next ls true)
     (writes_by p line.number line.content (taking p.run.world line.content)) (fine_from ls)
 
 bad_by : (ahead : ℕ) (p : Paging) (line : Line) (u : Turn Paging) (rest : Paging → Outcome Paging) → Writes u
@@ -65,13 +67,13 @@ bad_by ahead p line (Takes next text) rest w all stops = subst (λ (x : List ℕ
 bad_by ahead p line (Stops text) rest w all stops = w
 
 -- to a bad line
-bad_from : (ahead : ℕ) (ls : List Line) (p : Paging) (ended : Bool) → StopsShortOf ahead (outcome_from turn_of end_of p ls ended).ending
-    → IsPage (outcome_from turn_of end_of p ls ended).text
+bad_from : (ahead : ℕ) (ls : List Line) (p : Paging) (ended : Bool) → StopsShortOf ahead (outcome_from (turn_of rules) (end_of rules) p ls ended).ending
+    → IsPage (outcome_from (turn_of rules) (end_of rules) p ls ended).text
 unfolding outcome_from
 bad_from ahead [] p true stops = absurd stops
 bad_from ahead [] p false stops = absurd stops
 bad_from ahead (line ∷ ls) p ended stops =
-    bad_by ahead p line (turn_of p line.number line.content) (λ next. outcome_from turn_of end_of next ls ended)
+    bad_by ahead p line (turn_of rules p line.number line.content) (λ next. outcome_from (turn_of rules) (end_of rules) next ls ended)
     (writes_by p line.number line.content (taking p.run.world line.content)) (λ next. bad_from ahead ls next ended) stops
 
 -- # What was written

@@ -1,5 +1,5 @@
 -- What an event does to a page: it is recorded, has its sentence, and the nodes that it may have changed are looked at.
-use Rattle.std.proofs.Common.{◌≡◌, ℕ, ◌+◌, ◌-◌, zero, suc, Bool, true, false, List, [], ◌∷◌, Option, None, Some, Ok, Result, refl, sym, ap, subst}
+use Rattle.std.proofs.Common.{◌≡◌, ℕ, ◌+◌, ◌-◌, zero, suc, Bool, true, false, List, [], ◌∷◌, Option, None, Some, refl, sym, ap}
 use Rattle.std.proofs.Common.{◌∙◌, length, arith}
 use Rattle.std.specs.Prelude.{IfSome, if◌then◌else◌, is_some}
 use Rattle.node_rules.specs.Memory.{Node}
@@ -7,33 +7,23 @@ use Rattle.node_rules.specs.declared.shown.Shown.{Shown}
 use Rattle.node_rules.specs.Showing.{shown_of}
 use Rattle.node_pasts.specs.Pasts.{NodePast, looked as past_looked}
 use Rattle.line_events.specs.declared.event.Event.{Event}
-use Rattle.line_rules.specs.Worlds.{World, node_at}
+use Rattle.line_rules.specs.Worlds.{node_at}
 use Rattle.line_rules.specs.Runs.{Entry}
-use Rattle.line_script.specs.declared.reading.Reading.{Reading}
-use Rattle.line_script.specs.declared.reading.Reading.TheVariants.{Quiet}
 use Rattle.line_script.specs.declared.report.Reason.{Reason}
-use Rattle.line_script.specs.Readings.{reading}
 use Rattle.line_tale.specs.Kinds.{actor_of, makes_node}
 use Rattle.line_tale.specs.declared.act.Act.{Act}
 use Rattle.line_tale.specs.declared.told.TaleEvent.{TaleEvent}
 use Rattle.line_tale.specs.Tales.{numbered}
-use Rattle.plc_base.specs.Streams.{SinkState}
 use Rattle.run_pages.specs.Remarking.{with_event}
-use Rattle.script_lines.specs.declared.text_output.StopReason.{StopReason}
-use Rattle.script_lines.specs.declared.input.LineKind.{LineKind}
-use Rattle.script_lines.specs.declared.input.LineKind.TheVariants as kinds
-use Rattle.script_lines.specs.Clauses.{StopsWith, Turned}
-use Rattle.script_lines.specs.Next.{content_found}
 use Rattle.script_lines.specs.Lines.{Content, Text, Long, TooMuch}
-use Rattle.script_runs.specs.Takings.{Taking, Skipped, Taken, Refused, reading_taking, taking}
+use Rattle.script_runs.specs.Takings.{Taking, Skipped, Taken, Refused}
 use Rattle.story_accounts.specs.Sections.{is_for_another}
 use Rattle.line_view.specs.Recordings.{Recording, Recorded, recorded}
+use Rattle.line_view.specs.RunMachines.{FollowsRun, Stepped}
 use Rattle.line_view.specs.Sentences.{Sentences, with_sentence}
-use Rattle.line_view.specs.Paging.{Paging, Stepped, after_entry, is_delivery, is_tick, kept, kept_by, looked, looked_after, looked_around, looked_at_all}
-use Rattle.line_view.specs.Paging.{looked_at_both, looked_by, node_count, other_of, refused_text, remarked, turn_by, turn_of, with_look, with_node}
-use Rattle.line_view.proofs.Machines.{ended, went_on}
+use Rattle.line_view.specs.Paging.{Paging, after_entry, is_delivery, is_tick, kept, kept_by, looked, looked_after, looked_around, looked_at_all}
+use Rattle.line_view.specs.Paging.{looked_at_both, looked_by, node_count, nothing_paged, other_of, remarked, rules, with_look, with_node}
 use Rattle.line_view.proofs.Recorded.{recorded_world}
-use Rattle.line_view.proofs.StatusNames.{Follows}
 
 -- # The step
 
@@ -49,7 +39,7 @@ no_falsehood is = cc
 -- an event that was taken and recorded, has its sentence, and of which all else is kept
 pub entry_told : (row : ℕ) (p : Paging) (e : Event) (run again : Recording) (told : Sentences) (next : Paging) (t : Taking) (refusal : Option Reason)
     → Recorded row e p.run run t refusal → is_some refusal ≡ false → told ≡ with_sentence e run p.told → again ≡ run
-    → next ≡ kept (next_of p again told) → Stepped row p next t None
+    → next ≡ kept (next_of p again told) → Stepped rules row p next t None
 entry_told row p e run again told next Skipped refusal r none is same kept_so = absurd r
 entry_told row p e run again told next (Taken entry) refusal r none is same kept_so =
     let words : told ≡ with_sentence entry.event run p.told = is ∙ ap (λ (x : Event). with_sentence x run p.told) (sym r.1.0) in (
@@ -61,34 +51,6 @@ entry_told row p e run again told next (Taken entry) refusal r none is same kept
     )
 entry_told row p e run again told next (Refused why) refusal r none is same kept_so =
     absurd (no_falsehood (ap (λ (o : Option Reason). is_some o) (sym r.0) ∙ none))
-
--- # The turn of a line that has an event is that of any machine that records a run
-
--- the run goes on
-pub page_goes_on : (content : Content) (s : SinkState) (row : ℕ) (p next : Paging) (t : Taking) → Stepped row p next t None
-    → Turned {M = Paging} s s p next (turn_by p row content t) (Ok tt)
-page_goes_on content s row p next Skipped h = absurd h
-page_goes_on content s row p next (Taken entry) h = went_on after_entry refused_text s row p next (Taken entry) h
-page_goes_on content s row p next (Refused why) h = went_on after_entry refused_text s row p next (Refused why) h
-
--- it stops at a bad line, whose page was written
-pub page_ends : {old new : SinkState} (content : Content) (row : ℕ) (p next : Paging) (t : Taking) (why : Reason) (r : Result (Unit {0}) StopReason)
-    → Stepped row p next t (Some why) → StopsWith old new (refused_text next row why) r
-    → Turned {M = Paging} old new p next (turn_by p row content t) r
-page_ends content row p next Skipped why r h stops = absurd h
-page_ends content row p next (Taken entry) why r h stops = ended after_entry refused_text row p next (Taken entry) why r h stops
-page_ends content row p next (Refused reason) why r h stops = ended after_entry refused_text row p next (Refused reason) why r h stops
-
--- # The turn of a line that has none
-
-pub page_quiet : {old new : SinkState} (p q next : Paging) (row : ℕ) (line : List ℕ) (kind : LineKind) (r : Result (Unit {0}) StopReason) → q ≡ p
-    → kind ≡ kinds.Text → reading line ≡ Quiet → Turned {M = Paging} old new q next (turn_by q row (Text line) Skipped) r
-    → Turned {M = Paging} old new p next (turn_of p row (content_found line kind)) r
-unfolding taking
-page_quiet {old} {new} p q next row line kind r same is quiet h =
-    subst (λ (x : Paging). Turned {M = Paging} old new x next (turn_of x row (content_found line kind)) r) same
-    (subst (λ (k : LineKind). Turned {M = Paging} old new q next (turn_of q row (content_found line k)) r) (sym is)
-    (subst (λ (t : Reading). Turned {M = Paging} old new q next (turn_by q row (Text line) (reading_taking q.run.world t)) r) (sym quiet) h))
 
 -- # Looking at nodes
 
@@ -158,7 +120,7 @@ kept_run p = kept_by_run (numbered p.run.events (length p.run.events)) (record p
 
 -- # The run of a page follows the script
 
-pub entry_world : (row : ℕ) (entry : Entry) (p : Paging) → (after_entry row entry p).run.world ≡ entry.after
+entry_world : (row : ℕ) (entry : Entry) (p : Paging) → (after_entry row entry p).run.world ≡ entry.after
 entry_world row entry p =
     let told : Paging = record p { run = recorded row entry p.run; told = with_sentence entry.event (recorded row entry p.run) p.told } in
     ap (λ (r : Recording). r.world) (kept_run told) ∙ recorded_world row entry p.run
@@ -168,11 +130,5 @@ remark_world (Text line) p = refl
 remark_world Long p = refl
 remark_world TooMuch p = refl
 
-follows_by : (p : Paging) (row : ℕ) (content : Content) (t : Taking) → Follows (λ (x : Paging). x.run.world) p (turn_by p row content t) t
-follows_by p row content Skipped = remark_world content p
-follows_by p row content (Taken entry) = entry_world row entry p
-follows_by p row content (Refused reason) = tt
-
-pub page_follows : (p : Paging) (row : ℕ) (content : Content)
-    → Follows (λ (x : Paging). x.run.world) p (turn_of p row content) (taking p.run.world content)
-page_follows p row content = follows_by p row content (taking p.run.world content)
+pub page_follows : FollowsRun rules nothing_paged
+page_follows = record { begins = refl; entries = entry_world; quiet = λ p content. remark_world content p }

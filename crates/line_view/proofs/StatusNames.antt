@@ -6,39 +6,29 @@ use Rattle.script_lines.specs.declared.machine.Exit.{Exit}
 use Rattle.script_lines.specs.declared.machine.Exit.TheVariants as exits
 use Rattle.script_lines.specs.declared.window.TheConstants.{WINDOW}
 use Rattle.script_lines.specs.Lines.{Content, Line, lines}
-use Rattle.script_lines.specs.Outcomes.{Turn, Skips, Takes, Stops, Bad, Ended, Outcome, outcome as outcome_of, outcome_turn, outcome_from, StopsShortOf}
+use Rattle.script_lines.specs.Outcomes.{Turn, Skips, Takes, Stops, Bad, Ended, Outcome, outcome_turn, outcome_from, StopsShortOf}
 use Rattle.script_lines.specs.Clauses.{Comes}
-use Rattle.line_script.specs.declared.report.Reason.{Reason}
-use Rattle.line_rules.specs.Worlds.{World, start}
-use Rattle.line_rules.specs.Runs.{Entry}
+use Rattle.line_rules.specs.Worlds.{World}
 use Rattle.script_runs.specs.Takings.{Taking, Skipped, Taken, Refused, taking, BadLine, bad_by, first_bad_from, first_bad}
 use Rattle.line_view.specs.declared.status.Status.{Status}
-use Rattle.line_view.specs.Recordings.{turn_by, turn_of}
+use Rattle.line_view.specs.RunMachines.{FollowsRun, Follows, RunRules, end_of, outcome_by, turn_by, turn_of}
 use Rattle.line_view.specs.Tool.{Names, account_status}
 
--- a turn does to the world of a machine what the line does to it, and stops where the line is bad
-abbrev pub Follows : {M : Type 0} → (M → World) → M → Turn M → Taking → Type 0
-Follows world m Skips Skipped = Unit {0}
-Follows world m Skips (Taken entry) = ⊥
-Follows world m Skips (Refused reason) = ⊥
-Follows world m (Takes next text) Skipped = world next ≡ world m
-Follows world m (Takes next text) (Taken entry) = world next ≡ entry.after
-Follows world m (Takes next text) (Refused reason) = ⊥
-Follows world m (Stops text) Skipped = ⊥
-Follows world m (Stops text) (Taken entry) = ⊥
-Follows world m (Stops text) (Refused reason) = Unit {0}
+-- a machine that records a run, and follows the script
+module _ {M : Type 0} (rules : RunRules M) (first : M) (follows : FollowsRun rules first) where
+  follows_by : (m : M) (row : ℕ) (content : Content) (t : Taking) → Follows rules.world m (turn_by rules m row content t) t
+  follows_by m row content Skipped = follows.quiet m content
+  follows_by m row content (Taken entry) = follows.entries row entry m
+  follows_by m row content (Refused reason) = tt
 
--- a machine that has a world, and turns that follow it
-module _ {M : Type 0} (world : M → World) (turn : M → ℕ → Content → Turn M) (end_text : M → List ℕ)
-    (follows : (m : M) (row : ℕ) (content : Content) → Follows world m (turn m row content) (taking (world m) content)) where
   -- # The end of a script
 
   not_ended : (number : ℕ) (behind : List ℕ) (last : M) → Bad number behind ≡ Ended last → ⊥
   not_ended number behind last is = cc
 
-  fine_by : (last m : M) (line : Line) (u : Turn M) (t : Taking) (rest : M → Outcome M) (more : World → Option BadLine) → Follows world m u t
-      → ((next : M) → (rest next).ending ≡ Ended last → is_some (more (world next)) ≡ false)
-      → (outcome_turn m line u rest).ending ≡ Ended last → is_some (bad_by (world m) line.number t more) ≡ false
+  fine_by : (last m : M) (line : Line) (u : Turn M) (t : Taking) (rest : M → Outcome M) (more : World → Option BadLine) → Follows rules.world m u t
+      → ((next : M) → (rest next).ending ≡ Ended last → is_some (more (rules.world next)) ≡ false)
+      → (outcome_turn m line u rest).ending ≡ Ended last → is_some (bad_by (rules.world m) line.number t more) ≡ false
   fine_by last m line Skips Skipped rest more f all ends = all m ends
   fine_by last m line Skips (Taken entry) rest more f all ends = absurd f
   fine_by last m line Skips (Refused reason) rest more f all ends = absurd f
@@ -47,17 +37,18 @@ module _ {M : Type 0} (world : M → World) (turn : M → ℕ → Content → Tu
   fine_by last m line (Takes next text) (Refused reason) rest more f all ends = absurd f
   fine_by last m line (Stops text) t rest more f all ends = absurd (not_ended line.number line.behind last ends)
 
-  fine_from : (last : M) (ls : List Line) (m : M) → (outcome_from turn end_text m ls true).ending ≡ Ended last
-      → is_some (first_bad_from (world m) ls) ≡ false
+  fine_from : (last : M) (ls : List Line) (m : M) → (outcome_from (turn_of rules) (end_of rules) m ls true).ending ≡ Ended last
+      → is_some (first_bad_from (rules.world m) ls) ≡ false
   unfolding outcome_from
   fine_from last [] m ends = refl
   fine_from last (line ∷ ls) m ends =
-      fine_by last m line (turn m line.number line.content) (taking (world m) line.content) (λ next. outcome_from turn end_text next ls true)
-      (λ w. first_bad_from w ls) (follows m line.number line.content) (fine_from last ls) ends
+      fine_by last m line (turn_of rules m line.number line.content) (taking (rules.world m) line.content)
+      (λ next. outcome_from (turn_of rules) (end_of rules) next ls true)
+      (λ w. first_bad_from w ls) (follows_by m line.number line.content (taking (rules.world m) line.content)) (fine_from last ls) ends
 
-  stopped_by : (ahead : ℕ) (m : M) (line : Line) (u : Turn M) (t : Taking) (rest : M → Outcome M) (more : World → Option BadLine) → Follows world m u t
-      → ((next : M) → StopsShortOf ahead (rest next).ending → is_some (more (world next)) ≡ true)
-      → StopsShortOf ahead (outcome_turn m line u rest).ending → is_some (bad_by (world m) line.number t more) ≡ true
+  stopped_by : (ahead : ℕ) (m : M) (line : Line) (u : Turn M) (t : Taking) (rest : M → Outcome M) (more : World → Option BadLine) → Follows rules.world m u t
+      → ((next : M) → StopsShortOf ahead (rest next).ending → is_some (more (rules.world next)) ≡ true)
+      → StopsShortOf ahead (outcome_turn m line u rest).ending → is_some (bad_by (rules.world m) line.number t more) ≡ true
   stopped_by ahead m line Skips Skipped rest more f all stops = all m stops
   stopped_by ahead m line Skips (Taken entry) rest more f all stops = absurd f
   stopped_by ahead m line Skips (Refused reason) rest more f all stops = absurd f
@@ -69,61 +60,41 @@ module _ {M : Type 0} (world : M → World) (turn : M → ℕ → Content → Tu
   stopped_by ahead m line (Stops text) (Refused reason) rest more f all stops = refl
 
   stopped_from : (ahead : ℕ) (ls : List Line) (m : M) (ended : Bool)
-      → StopsShortOf ahead (outcome_from turn end_text m ls ended).ending → is_some (first_bad_from (world m) ls) ≡ true
+      → StopsShortOf ahead (outcome_from (turn_of rules) (end_of rules) m ls ended).ending → is_some (first_bad_from (rules.world m) ls) ≡ true
   unfolding outcome_from
   stopped_from ahead [] m true stops = absurd stops
   stopped_from ahead [] m false stops = absurd stops
   stopped_from ahead (line ∷ ls) m ended stops =
-      stopped_by ahead m line (turn m line.number line.content) (taking (world m) line.content)
-      (λ next. outcome_from turn end_text next ls ended) (λ w. first_bad_from w ls) (follows m line.number line.content)
+      stopped_by ahead m line (turn_of rules m line.number line.content) (taking (rules.world m) line.content)
+      (λ next. outcome_from (turn_of rules) (end_of rules) next ls ended) (λ w. first_bad_from w ls)
+      (follows_by m line.number line.content (taking (rules.world m) line.content))
       (λ next. stopped_from ahead ls next ended) stops
 
   -- # The status
 
-  abbrev outcome_by : M → List ℕ → Bool → Outcome M
-  outcome_by first octets ended = outcome_of turn end_text first octets ended
-
   at_end : (source1 : SourceState) (b : List ℕ) → source1.ended ≡ true → is_some (first_bad b source1.ended) ≡ is_some (first_bad b true)
   at_end source1 b ended = ap (λ e. is_some (first_bad b e)) ended
 
-  from_start : (first : M) → world first ≡ start → (b : List ℕ) (e : Bool) → is_some (first_bad b e) ≡ is_some (first_bad_from (world first) (lines b e))
-  from_start first begins b e = ap (λ (w : World). is_some (first_bad_from w (lines b e))) (sym begins)
+  from_start : (b : List ℕ) (e : Bool) → is_some (first_bad b e) ≡ is_some (first_bad_from (rules.world first) (lines b e))
+  from_start b e = ap (λ (w : World). is_some (first_bad_from w (lines b e))) (sym follows.begins)
 
-  named_by : (first : M) → world first ≡ start → (source0 source1 : SourceState) (sink0 sink1 : SinkState) (b w : List ℕ) (last : M) (exit : Exit)
-      (forged : Bool) → Comes (outcome_by first) last source0 source1 sink0 sink1 b w exit
+  named_by : (source0 source1 : SourceState) (sink0 sink1 : SinkState) (b w : List ℕ) (last : M) (exit : Exit) (forged : Bool)
+      → Comes (outcome_by rules first) last source0 source1 sink0 sink1 b w exit
       → Names (account_status exit forged) (is_some (first_bad b source1.ended))
-  named_by first begins source0 source1 sink0 sink1 b w last exits.Fine false comes =
-      at_end source1 b comes.0 ∙ from_start first begins b true ∙ fine_from last (lines b true) first comes.1
-  named_by first begins source0 source1 sink0 sink1 b w last exits.Fine true comes =
-      at_end source1 b comes.0 ∙ from_start first begins b true ∙ fine_from last (lines b true) first comes.1
-  named_by first begins source0 source1 sink0 sink1 b w last exits.BadScript forged comes =
-      from_start first begins b source1.ended ∙ stopped_from WINDOW (lines b source1.ended) first source1.ended comes.0
-  named_by first begins source0 source1 sink0 sink1 b w last exits.ReadFault forged comes = tt
-  named_by first begins source0 source1 sink0 sink1 b w last exits.WriteFault forged comes = tt
-  named_by first begins source0 source1 sink0 sink1 b w last exits.Memory forged comes = tt
+  named_by source0 source1 sink0 sink1 b w last exits.Fine false comes =
+      at_end source1 b comes.0 ∙ from_start b true ∙ fine_from last (lines b true) first comes.1
+  named_by source0 source1 sink0 sink1 b w last exits.Fine true comes =
+      at_end source1 b comes.0 ∙ from_start b true ∙ fine_from last (lines b true) first comes.1
+  named_by source0 source1 sink0 sink1 b w last exits.BadScript forged comes =
+      from_start b source1.ended ∙ stopped_from WINDOW (lines b source1.ended) first source1.ended comes.0
+  named_by source0 source1 sink0 sink1 b w last exits.ReadFault forged comes = tt
+  named_by source0 source1 sink0 sink1 b w last exits.WriteFault forged comes = tt
+  named_by source0 source1 sink0 sink1 b w last exits.Memory forged comes = tt
 
   -- the status of an account says whether a line is bad
-  pub account_names : (first : M) → world first ≡ start → (source0 source1 : SourceState) (sink0 sink1 : SinkState) (b w : List ℕ) (last : M)
-      (exit : Exit) (forged : Bool) (s : Status) → Comes (outcome_by first) last source0 source1 sink0 sink1 b w exit
-      → s ≡ account_status exit forged → Names s (is_some (first_bad b source1.ended))
-  account_names first begins source0 source1 sink0 sink1 b w last exit forged s comes is =
+  pub status_names : (source0 source1 : SourceState) (sink0 sink1 : SinkState) (b w : List ℕ) (last : M) (exit : Exit) (forged : Bool) (s : Status)
+      → Comes (outcome_by rules first) last source0 source1 sink0 sink1 b w exit → s ≡ account_status exit forged
+      → Names s (is_some (first_bad b source1.ended))
+  status_names source0 source1 sink0 sink1 b w last exit forged s comes is =
       subst (λ (x : Status). Names x (is_some (first_bad b source1.ended))) (sym is)
-      (named_by first begins source0 source1 sink0 sink1 b w last exit forged comes)
-
--- a machine that has a world, which an entry makes what it makes of the world, and nothing else changes
-module _ {M : Type 0} (world : M → World) (after : ℕ → Entry → M → M) (refused : M → ℕ → Reason → List ℕ) (end_text : M → List ℕ)
-    (keeps : (row : ℕ) (entry : Entry) (m : M) → world (after row entry m) ≡ entry.after) where
-  follows_by : (m : M) (row : ℕ) (t : Taking) → Follows world m (turn_by after refused m row t) t
-  follows_by m row Skipped = tt
-  follows_by m row (Taken entry) = keeps row entry m
-  follows_by m row (Refused reason) = tt
-
-  abbrev outcome_after : M → List ℕ → Bool → Outcome M
-  outcome_after first octets ended = outcome_of (turn_of world after refused) end_text first octets ended
-
-  pub status_names : (first : M) → world first ≡ start → (source0 source1 : SourceState) (sink0 sink1 : SinkState) (b w : List ℕ) (last : M)
-      (exit : Exit) (forged : Bool) (s : Status) → Comes (outcome_after first) last source0 source1 sink0 sink1 b w exit
-      → s ≡ account_status exit forged → Names s (is_some (first_bad b source1.ended))
-  status_names first begins source0 source1 sink0 sink1 b w last exit forged s comes is =
-      account_names world (turn_of world after refused) end_text (λ m row content. follows_by m row (taking (world m) content)) first begins
-      source0 source1 sink0 sink1 b w last exit forged s comes is
+      (named_by source0 source1 sink0 sink1 b w last exit forged comes)

@@ -1,5 +1,5 @@
 -- The line at which a run ends because it is bad.
-use Rattle.std.specs.Prelude.{List, [], ◌∷◌, codes, ℕ}
+use Rattle.std.specs.Prelude.{List, [], ◌∷◌, codes, ℕ, Option, None, Some}
 use Rattle.sentence_parts.specs.declared.part.Part.TheVariants.{Words, Number}
 use Rattle.sentence_parts.specs.Parts.{parts_text}
 use Rattle.line_script.specs.Texts.{reason_word}
@@ -11,3 +11,8 @@ bad_text bad =
     parts_text
     (Words (codes "The run ends at line ") ∷ Number bad.row ∷ Words (codes ", which is bad: ") ∷ Words (reason_word bad.reason)
     ∷ Words (codes ". `line_view check` says why.") ∷ [])
+
+-- what is said of the bad line at which a run ends, no words where there is none
+abbrev pub bad_words : Option BadLine → List ℕ
+bad_words None = []
+bad_words (Some bad) = bad_text bad

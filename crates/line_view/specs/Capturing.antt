@@ -1,26 +1,22 @@
 -- What `capture`, `keys` and `addresses` write of a script.
 use Rattle.std.specs.Prelude.{ℕ, Bool, true, false, nat_lt, List, [], ◌∷◌, ◌++◌, bytes_eq, codes, length, map, Option, if◌then◌else◌}
 use Rattle.std.specs.List.{list_any}
-use Rattle.script_lines.specs.Lines.{Content, TooMuch}
-use Rattle.script_lines.specs.Clauses.{IsStop}
-use Rattle.script_lines.specs.Outcomes.{Turn, Outcome, outcome as outcome_of}
+use Rattle.script_lines.specs.Outcomes.{Outcome, Skips}
 use Rattle.pcapng.specs.Blocks.{capture}
 use Rattle.line_events.specs.declared.event.Answer.{Answer}
 use Rattle.line_events.specs.declared.event.Event.{Event}
 use Rattle.line_events.specs.declared.event.Event.TheVariants as events
-use Rattle.line_script.specs.declared.report.Reason.{Reason}
 use Rattle.line_script.specs.declared.report.Totals.{Totals}
 use Rattle.line_rules.specs.Worlds.{World}
 use Rattle.line_rules.specs.Runs.{Entry}
 use Rattle.line_capture.specs.Captures.{Run, blocks}
 use Rattle.line_capture.specs.declared.senders.TheConstants.{ADDRESSES}
 use Rattle.line_capture.specs.Profiles.{addresses_text, keys_text}
-use Rattle.script_runs.specs.Takings.{Taking}
-use Rattle.line_view.specs.BadLines.{bad_text}
+use Rattle.line_view.specs.BadLines.{bad_words}
 use Rattle.line_view.specs.declared.capture.Wanted.{Wanted}
 use Rattle.line_view.specs.declared.capture.Wanted.TheVariants as wants
 use Rattle.line_view.specs.Recordings.{Recording, is_drawn, no_recording, recorded}
-use Rattle.line_view.specs.Recordings as recordings
+use Rattle.line_view.specs.RunMachines.{RunRules, outcome_by}
 
 -- what of a run is written, the run, the octets that no node sent, in the order of the events that brought them, and the keys that were drawn,
 -- each as its index and its octets
@@ -85,28 +81,6 @@ after_entry row entry m =
       keys = keys_with entry.event entry.trace.happenings.answer m.keys;
     }
 
--- what is written where the run ends at a bad line
-abbrev pub refused_text : Capturing → ℕ → Reason → List ℕ
-refused_text m row reason = output_of m (bad_text (record { row = row; reason = reason }))
-
--- an event was taken, and what it adds was kept, or it was not taken, for a reason
-abbrev pub Stepped : ℕ → Capturing → Capturing → Taking → Option Reason → Type 0
-Stepped row m0 m1 taking reason = recordings.Stepped after_entry row m0 m1 taking reason
-
-abbrev pub turn_by : Capturing → ℕ → Taking → Turn Capturing
-turn_by m row taking = recordings.turn_by after_entry refused_text m row taking
-
--- what a line does: nothing is written before the end, or before a bad line
-abbrev pub turn_of : Capturing → ℕ → Content → Turn Capturing
-turn_of m row content = recordings.turn_of (λ (m : Capturing). m.run.world) after_entry refused_text m row content
-
-abbrev pub end_of : Capturing → List ℕ
-end_of m = output_of m []
-
--- the octet that is too much makes its line bad
-pub stops_at_too_much : (m : Capturing) (row : ℕ) → IsStop (turn_of m row TooMuch)
-stops_at_too_much m row = recordings.stops_at_too_much (λ (m : Capturing). m.run.world) after_entry refused_text m row
-
 -- whether the frames are written, and an event was forged
 abbrev pub shows_by : Wanted → World → Bool
 shows_by (wants.Frames heard) w = nat_lt 0 w.forged
@@ -116,6 +90,17 @@ shows_by wants.Addresses w = false
 abbrev pub shows_forged : Capturing → Bool
 shows_forged m = shows_by m.wanted m.run.world
 
+-- a line without an event says nothing
+abbrev pub rules : RunRules Capturing
+rules =
+    record {
+      world = λ m. m.run.world;
+      after_entry = after_entry;
+      quiet_turn = λ m content. Skips;
+      text = λ m bad. output_of m (bad_words bad);
+      shows_forged = shows_forged;
+    }
+
 -- what a script does, where its input has ended or not
 abbrev pub captured : Wanted → List ℕ → Bool → Outcome Capturing
-captured wanted octets ended = outcome_of turn_of end_of (nothing_captured wanted) octets ended
+captured wanted octets ended = outcome_by rules (nothing_captured wanted) octets ended

@@ -1,17 +1,13 @@
 -- What `explain` writes of a script.
 use Rattle.std.specs.Prelude.{◌≡◌, ℕ, Bool, nat_lt, List, [], ◌∷◌, ◌++◌, codes, length, Option, None, Some}
-use Rattle.script_lines.specs.Lines.{Content, TooMuch}
-use Rattle.script_lines.specs.Clauses.{IsStop}
-use Rattle.script_lines.specs.Outcomes.{Turn, Outcome, outcome as outcome_of}
+use Rattle.script_lines.specs.Outcomes.{Outcome, Skips}
 use Rattle.sentence_parts.specs.declared.part.Part.TheVariants.{Words, Number}
 use Rattle.sentence_parts.specs.Parts.{parts_text}
-use Rattle.line_script.specs.declared.report.Reason.{Reason}
 use Rattle.line_tale.specs.declared.ends.Ends.{Ends}
 use Rattle.line_tale.specs.Verdicts.{ends_of}
 use Rattle.line_stories.specs.Stories.{Stories, stories_of}
-use Rattle.line_rules.specs.Worlds.{World, start}
+use Rattle.line_rules.specs.Worlds.{World}
 use Rattle.line_rules.specs.Runs.{Entry}
-use Rattle.script_runs.specs.Takings.{Taking}
 use Rattle.story_accounts.specs.declared.section.Chosen.{Chosen}
 use Rattle.story_accounts.specs.Accounts.{RunAccount}
 use Rattle.story_accounts.specs.Indexes.{Index, index_of}
@@ -19,7 +15,7 @@ use Rattle.story_accounts.specs.Sections.{account_text}
 use Rattle.line_view.specs.declared.bad_line.BadLine.{BadLine}
 use Rattle.line_view.specs.BadLines.{bad_text}
 use Rattle.line_view.specs.Recordings.{Recording, no_recording, recorded}
-use Rattle.line_view.specs.Recordings as recordings
+use Rattle.line_view.specs.RunMachines.{RunRules, outcome_by}
 use Rattle.line_view.specs.Sentences.{Sentences, no_sentences, with_sentence}
 
 pub record Explaining : Type 0 where
@@ -82,32 +78,21 @@ abbrev pub after_entry : ℕ → Entry → Explaining → Explaining
 after_entry row entry m =
     record m { run = recorded row entry m.run; told = with_sentence entry.event (recorded row entry m.run) m.told }
 
--- the text where the run ends at a bad line
-abbrev pub refused_text : Explaining → ℕ → Reason → List ℕ
-refused_text m row reason = explain_text m (Some (record { row = row; reason = reason }))
-
--- an event was taken, and has its sentence, or it was not taken, for a reason
-abbrev pub Stepped : ℕ → Explaining → Explaining → Taking → Option Reason → Type 0
-Stepped row m0 m1 taking reason = recordings.Stepped after_entry row m0 m1 taking reason
-
-abbrev pub turn_by : Explaining → ℕ → Taking → Turn Explaining
-turn_by m row taking = recordings.turn_by after_entry refused_text m row taking
-
--- what a line does: nothing is written before the end, or before a bad line
-abbrev pub turn_of : Explaining → ℕ → Content → Turn Explaining
-turn_of m row content = recordings.turn_of (λ (m : Explaining). m.run.world) after_entry refused_text m row content
-
-abbrev pub end_of : Explaining → List ℕ
-end_of m = explain_text m None
-
--- the octet that is too much makes its line bad
-pub stops_at_too_much : (m : Explaining) (row : ℕ) → IsStop (turn_of m row TooMuch)
-stops_at_too_much m row = recordings.stops_at_too_much (λ (m : Explaining). m.run.world) after_entry refused_text m row
-
 -- whether an event was forged
 abbrev pub is_forged : Explaining → Bool
 is_forged m = nat_lt 0 m.run.world.forged
 
+-- a line without an event says nothing
+abbrev pub rules : RunRules Explaining
+rules =
+    record {
+      world = λ m. m.run.world;
+      after_entry = after_entry;
+      quiet_turn = λ m content. Skips;
+      text = explain_text;
+      shows_forged = is_forged;
+    }
+
 -- what a script does, where its input has ended or not
 abbrev pub explained : Chosen → List ℕ → Bool → Outcome Explaining
-explained chosen octets ended = outcome_of turn_of end_of (nothing_explained chosen) octets ended
+explained chosen octets ended = outcome_by rules (nothing_explained chosen) octets ended

@@ -1,6 +1,7 @@
 pub mod BadLines
 pub mod Explaining
 pub mod Recordings
+pub mod RunMachines
 pub mod Sentences
 pub mod Statuses
 pub mod Checking

@@ -1,9 +1,7 @@
 -- What `page` writes of a script.
 use Rattle.std.specs.Prelude.{◌≡◌, ℕ, ◌-◌, zero, suc, min, Bool, true, false, nat_lt, List, [], ◌∷◌, ◌++◌, length, Option, None, Some, if◌then◌else◌}
 use Rattle.script_lines.specs.Lines.{Content, Text, Long, TooMuch}
-use Rattle.script_lines.specs.Clauses.{IsStop}
-use Rattle.script_lines.specs.Outcomes.{Turn, Takes, Stops, Outcome, outcome as outcome_of}
-use Rattle.line_script.specs.declared.report.Reason.{Reason}
+use Rattle.script_lines.specs.Outcomes.{Outcome, Takes}
 use Rattle.node_rules.specs.Memory.{Node}
 use Rattle.node_rules.specs.Showing.{shown_of}
 use Rattle.node_pasts.specs.Pasts.{NodePast, looked as past_looked, no_past}
@@ -18,18 +16,16 @@ use Rattle.story_accounts.specs.Indexes.{Index, index_of}
 use Rattle.story_accounts.specs.Sections.{is_for_another}
 use Rattle.line_stories.specs.Stories.{Stories, stories_of}
 use Rattle.line_events.specs.declared.event.Event.{Event}
-use Rattle.line_rules.specs.Worlds.{World, node_at}
+use Rattle.line_rules.specs.Worlds.{node_at}
 use Rattle.line_rules.specs.Runs.{Entry}
-use Rattle.script_runs.specs.Takings.{Taking, Skipped, Taken, Refused}
-unfoldable use Rattle.script_runs.specs.Takings.{taking}
 use Rattle.run_charts.specs.Runs.{Run}
 use Rattle.run_pages.specs.Pages.{Sheet, page}
 use Rattle.run_pages.specs.Remarking.{Remarked, no_remarks, with_event, with_line}
-use Rattle.line_view.specs.BadLines.{bad_text}
+use Rattle.line_view.specs.BadLines.{bad_words}
 use Rattle.line_view.specs.declared.bad_line.BadLine.{BadLine}
 use Rattle.line_view.specs.Explaining.{run_account}
 use Rattle.line_view.specs.Recordings.{Recording, no_recording, recorded}
-use Rattle.line_view.specs.Recordings as recordings
+use Rattle.line_view.specs.RunMachines.{RunRules, outcome_by}
 use Rattle.line_view.specs.Sentences.{Sentences, no_sentences, with_sentence}
 
 pub record Paging : Type 0 where
@@ -138,11 +134,6 @@ page_with p s bad =
     page_over p s bad (ends_of (length s.stories) s.lots)
     (index_of (length s.stories) (length p.run.euis) p.run.events p.run.flights s.lots s.sent s.owners)
 
--- what is said of the bad line at which a run ends, no words where there is none
-abbrev pub bad_words : Option BadLine → List ℕ
-bad_words None = []
-bad_words (Some bad) = bad_text bad
-
 -- the page of a run, with the bad line at which it ends, if there is one
 unfoldable pub page_text : Paging → Option BadLine → List ℕ
 page_text p bad = page_with p (stories_of p.run.events p.run.flights) (bad_words bad)
@@ -153,9 +144,6 @@ page_text p bad = page_with p (stories_of p.run.events p.run.flights) (bad_words
 abbrev pub after_entry : ℕ → Entry → Paging → Paging
 after_entry row entry p = told_and_kept entry.event (record p { run = recorded row entry p.run })
 
-abbrev pub refused_text : Paging → ℕ → Reason → List ℕ
-refused_text p row reason = page_text p (Some (record { row = row; reason = reason }))
-
 abbrev pub with_remark : List ℕ → Paging → Paging
 with_remark line p = record p { remarks = with_line line p.remarks }
 
@@ -165,32 +153,21 @@ remarked (Text line) p = with_remark line p
 remarked Long p = p
 remarked TooMuch p = p
 
--- an event was taken, and all that there is of it is kept, or it was not taken, for a reason
-abbrev pub Stepped : ℕ → Paging → Paging → Taking → Option Reason → Type 0
-Stepped row p0 p1 taking reason = recordings.Stepped after_entry row p0 p1 taking reason
-
--- by what a line is: what it says is kept where it has no event, and nothing is written before the end, or before a bad line
-abbrev pub turn_by : Paging → ℕ → Content → Taking → Turn Paging
-turn_by p row content Skipped = Takes (remarked content p) []
-turn_by p row content (Taken entry) = Takes (after_entry row entry p) []
-turn_by p row content (Refused reason) = Stops (refused_text p row reason)
-
--- what a line does
-abbrev pub turn_of : Paging → ℕ → Content → Turn Paging
-turn_of p row content = turn_by p row content (taking p.run.world content)
-
-abbrev pub end_of : Paging → List ℕ
-end_of p = page_text p None
-
--- the octet that is too much makes its line bad
-pub stops_at_too_much : (p : Paging) (row : ℕ) → IsStop (turn_of p row TooMuch)
-unfolding taking
-stops_at_too_much p row = tt
-
 -- whether an event was forged
 abbrev pub is_forged : Paging → Bool
 is_forged p = nat_lt 0 p.run.world.forged
 
+-- what a line without an event says is kept
+abbrev pub rules : RunRules Paging
+rules =
+    record {
+      world = λ p. p.run.world;
+      after_entry = after_entry;
+      quiet_turn = λ p content. Takes (remarked content p) [];
+      text = page_text;
+      shows_forged = is_forged;
+    }
+
 -- what a script does, where its input has ended or not
 abbrev pub paged : List ℕ → Bool → Outcome Paging
-paged octets ended = outcome_of turn_of end_of nothing_paged octets ended
+paged octets ended = outcome_by rules nothing_paged octets ended

@@ -19,11 +19,7 @@ use Rattle.line_tale.specs.declared.told.TaleFlight.{TaleFlight}
 use Rattle.line_tale.specs.Tales.{event_told, flight_told}
 use Rattle.line_rules.specs.Runs.{Entry}
 use Rattle.line_rules.specs.Worlds.{Flight, World, flight_at, start}
-use Rattle.script_lines.specs.Lines.{Content, TooMuch}
-use Rattle.script_lines.specs.Clauses.{IsStop}
-use Rattle.script_lines.specs.Outcomes.{Turn, Skips, Takes, Stops}
 use Rattle.script_runs.specs.Takings.{Taking, Skipped, Taken, Refused}
-unfoldable use Rattle.script_runs.specs.Takings.{taking}
 
 pub record Recording : Type 0 where
   -- the world after the last event
@@ -120,27 +116,3 @@ abbrev pub Recorded : ℕ → Event → Recording → Recording → Taking → O
 Recorded row event old new Skipped reason = ⊥
 Recorded row event old new (Taken entry) reason = (reason ≡ None) × ((entry.event ≡ event) × (new ≡ recorded row entry old))
 Recorded row event old new (Refused why) reason = (reason ≡ Some why) × (new ≡ old)
-
--- # Machines that record a run, and write at its end
-
--- by what an entry makes of it: an event was taken, or it was not, for a reason
-abbrev pub Stepped : {M : Type 0} → (ℕ → Entry → M → M) → ℕ → M → M → Taking → Option Reason → Type 0
-Stepped after row m0 m1 Skipped reason = ⊥
-Stepped after row m0 m1 (Taken entry) reason = (reason ≡ None) × (m1 ≡ after row entry m0)
-Stepped after row m0 m1 (Refused why) reason = (reason ≡ Some why) × (m1 ≡ m0)
-
--- and by the text at a bad line: nothing is written before the end, or before a bad line
-abbrev pub turn_by : {M : Type 0} → (ℕ → Entry → M → M) → (M → ℕ → Reason → List ℕ) → M → ℕ → Taking → Turn M
-turn_by after refused m row Skipped = Skips
-turn_by after refused m row (Taken entry) = Takes (after row entry m) []
-turn_by after refused m row (Refused reason) = Stops (refused m row reason)
-
--- and by its world: what a line does
-abbrev pub turn_of : {M : Type 0} → (M → World) → (ℕ → Entry → M → M) → (M → ℕ → Reason → List ℕ) → M → ℕ → Content → Turn M
-turn_of world after refused m row content = turn_by after refused m row (taking (world m) content)
-
--- the octet that is too much makes its line bad
-pub stops_at_too_much : {M : Type 0} (world : M → World) (after : ℕ → Entry → M → M) (refused : M → ℕ → Reason → List ℕ) (m : M) (row : ℕ)
-    → IsStop (turn_of world after refused m row TooMuch)
-unfolding taking
-stops_at_too_much world after refused m row = tt

@@ -1,6 +1,6 @@
 //! The line at which a run ends because it is bad.
-ghost use Rattle.std.specs.Prelude.{◌≡◌, ◌++◌, ◌≤◌, OnOk, length, string_bytes};
-ghost use Rattle.line_view.specs.BadLines.{bad_text};
+ghost use Rattle.std.specs.Prelude.{◌≡◌, ◌++◌, ◌≤◌, IfOk, OnOk, length, string_bytes};
+ghost use Rattle.line_view.specs.BadLines.{bad_text, bad_words};
 ghost use Rattle.line_view.specs.Checked.{bad_line};
 
 use line_script::Reason;
@@ -36,6 +36,19 @@ pub fn push_bad(text: &mut String, alloc: Global, bad: BadLine) -> Result<(), Al
             words(". `line_view check` says why."),
         ],
     )
+}
+
+/// What is said of the bad line at which a run ends, no words where there is none. It fails only where memory runs out.
+pub fn bad_words(alloc: Global, bad: Option<BadLine>) -> Result<String, AllocError>
+    ensures text { IfOk result (λ text. string_bytes text ≡ bad_words bad) }
+    ensures bound { IfOk result (λ text. length (string_bytes text) ≤ 2000) }
+{
+    let mut text = String::new(alloc);
+    let Some(bad) = bad else {
+        return Ok(text);
+    };
+    push_bad(&mut text, alloc, bad)?;
+    Ok(text)
 }
 
 /// What a bad line answers, once its text was written or not.

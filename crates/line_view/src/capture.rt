@@ -1,26 +1,22 @@
 //! `capture`, `keys` and `addresses`: a run for Wireshark.
-ghost use Rattle.std.specs.Prelude.{◌≡◌, ◌++◌, ◌∷◌, ◌≤◌, All, IfOk, OnOk, [], length, Some, option_to_list, string_bytes, true};
+ghost use Rattle.std.specs.Prelude.{◌≡◌, ◌++◌, ◌∷◌, ◌≤◌, All, IfOk, OnOk, [], length, Some, option_to_list, true};
 ghost use Rattle.std.specs.Option.{option_copied};
-ghost use Rattle.line_events.specs.Events.{IsEvent};
-ghost use Rattle.script_lines.specs.Clauses.{StopsWith, Turned};
-ghost use Rattle.script_runs.specs.Takings.{event_taking};
 ghost use Rattle.line_capture.specs.Captures.{IsFrame, run_of};
 ghost use Rattle.line_capture.specs.Places.{AreEvents, HasAct, IsAct};
 ghost use Rattle.line_tale.specs.Tales.{numbered};
 ghost use Rattle.line_tale.specs.declared.told.TaleEvent.{TaleEvent};
 ghost use Rattle.line_view.specs.Capturing as capturing;
 
-use crate::bad_line::{BadLine, bad_line, push_bad};
-use crate::octet_output::write_octets;
+use crate::bad_line::{BadLine, bad_words};
 use crate::recorder::{Recorder, is_drawn};
+use crate::run_machine::RunMachine;
 use line_capture::{DrawnKeys, Recording, addresses_text, capture_file, keys_text};
 use line_events::{Answer, Event, MAX_EVENTS};
-use line_script::{LINE_OCTETS, Reading, Reason, Totals, read_line};
+use line_script::{Reason, Totals};
 use line_tale::{Act, TaleEvent};
 use line_world::{Buffers, World};
 use octet_log::OctetLog;
-use plc_base::{Key, KeyIndex, OctetRef, Sink};
-use script_lines::{LineKind, LineMachine, StopReason};
+use plc_base::{Key, KeyIndex, OctetRef};
 use std::alloc::{AllocError, Global};
 use std::marker::Model;
 
@@ -183,19 +179,18 @@ fn keep_drawn(keys: &mut DrawnKeys, run: &Recorder, event: &Event<'_>) -> Result
     keep_key(keys, event, told.answer)
 }
 
-/// A run, and what of it the tale does not have: the octets that no node sent, and the keys.
+/// The run of a script, and what of it the tale does not have: the octets that no node sent, and the keys. It writes at its end what Wireshark reads
+/// of the run.
 #[derive(Drop)]
-struct Capturer {
+pub struct Capture {
     alloc: Global,
     wanted: Wanted,
     run: Recorder,
     injected: OctetLog,
     keys: DrawnKeys,
-    // What the last event handed up.
-    space: Buffers,
 }
 
-impl Model for Capturer {
+impl Model for Capture {
     ghost use Rattle.std.specs.Coded.{codes};
     ghost use Rattle.line_world.specs.WorldCodes.{world_code};
     ghost use Rattle.line_view.specs.Capturing.{Capturing};
@@ -207,7 +202,21 @@ impl Model for Capturer {
     ghost view = { λ c. record { wanted = c.wanted; run = c.run; injected = c.injected.strings; keys = c.keys } };
 }
 
-impl Capturer {
+impl Capture {
+    /// No line so far. It fails only where there is no memory for it.
+    pub fn new(alloc: Global, wanted: Wanted) -> Result<Capture, AllocError>
+        ensures { IfOk result (λ capture. capture ≡ capturing.nothing_captured wanted) }
+    {
+        let run = Recorder::new(alloc)?;
+        Ok(Capture {
+            alloc,
+            wanted,
+            run,
+            injected: OctetLog::new(alloc),
+            keys: DrawnKeys::new(alloc),
+        })
+    }
+
     // What a capture shows of the run, with the octets of its flights and those that no node sent.
     fn recording<'a>(
         &'a self,
@@ -263,7 +272,7 @@ impl Capturer {
 
     // What is written, with a remark where it is not empty.
     #[tactic(auto, unfolding(crate::specs::Capturing::output_of))]
-    fn output(&self, remark: &str) -> Result<Vec<u8>, AllocError>
+    fn written(&self, remark: &str) -> Result<Vec<u8>, AllocError>
         requires { length remark.now ≤ 2000 }
         ensures { IfOk result (λ octets. octets.items ≡ capturing.output_of self.now remark.now) }
     {
@@ -273,29 +282,19 @@ impl Capturer {
             Wanted::Addresses => self.addresses(),
         }
     }
+}
 
-    // What is written at a bad line.
-    fn bad_output(&self, row: u32, reason: Reason) -> Result<Vec<u8>, AllocError>
-        ensures { IfOk result (λ octets. octets.items ≡ capturing.refused_text self.now row reason) }
-    {
-        let mut remark = String::new(self.alloc);
-        push_bad(&mut remark, self.alloc, BadLine { row, reason })?;
-        self.output(remark.as_str())
-    }
+impl RunMachine for Capture {
+    ghost rules = { capturing.rules };
 
-    // Writes what there is, at a bad line.
-    fn refuse<K: Sink>(&self, row: u32, reason: Reason, sink: &mut K) -> Result<(), StopReason>
-        ensures { StopsWith (K.state sink.old) (K.state sink.new) (capturing.refused_text self.now row reason) result }
-    {
-        bad_line(write_octets(sink, self.bad_output(row, reason)))
-    }
-
-    // Takes an event that a line of this number asks for, and keeps what it adds, or answers why the line is bad.
-    fn step(&mut self, row: u32, event: &Event<'_>) -> Result<Option<Reason>, AllocError>
-        requires { IsEvent event.now }
-        ensures { IfOk result (capturing.Stepped row self.old self.new (event_taking self.old.run.world event.now)) }
-    {
-        let refusal = self.run.step(row, event, &mut self.space)?;
+    // What the event adds is kept.
+    fn step(
+        &mut self,
+        row: u32,
+        event: &Event<'_>,
+        space: &mut Buffers,
+    ) -> Result<Option<Reason>, AllocError> {
+        let refusal = self.run.step(row, event, space)?;
         if refusal.is_some() {
             return Ok(refusal);
         }
@@ -304,106 +303,21 @@ impl Capturer {
         Ok(None)
     }
 
-    // The turn of a line of this number that asks for an event.
-    fn take_event<K: Sink>(
-        &mut self,
-        row: u32,
-        event: &Event<'_>,
-        sink: &mut K,
-    ) -> Result<(), StopReason>
-        requires { IsEvent event.now }
-        ensures { Turned (K.state sink.old) (K.state sink.new) self.old self.new
-            (capturing.turn_by self.old row (event_taking self.old.run.world event.now)) result }
-    {
-        let Ok(refusal) = self.step(row, event) else {
-            return Err(StopReason::Memory);
-        };
-        let Some(reason) = refusal else {
-            return Ok(());
-        };
-        self.refuse(row, reason, sink)
-    }
-}
-
-/// Takes the lines of a script, and writes at its end what Wireshark reads of the run. A contract sees the run, what is kept beside it, and what
-/// is wanted.
-#[derive(Drop)]
-pub struct Capture {
-    capturer: Capturer,
-    // Where the octets are that a line holds in hexadecimal.
-    octets: [u8; LINE_OCTETS],
-}
-
-impl Model for Capture {
-    ghost use Rattle.std.specs.Coded.{codes};
-    ghost use Rattle.line_world.specs.WorldCodes.{world_code};
-    ghost use Rattle.line_view.specs.Capturing.{Capturing};
-
-    ghost Value = { Capturing };
-
-    ghost coded = { Prim.hlevel (codes, world_code) };
-
-    ghost view = { λ c. c.capturer };
-}
-
-impl Capture {
-    /// No line so far. It fails only where there is no memory for it.
-    pub fn new(alloc: Global, wanted: Wanted) -> Result<Capture, AllocError>
-        ensures { IfOk result (λ capture. capture ≡ capturing.nothing_captured wanted) }
-    {
-        let run = Recorder::new(alloc)?;
-        Ok(Capture {
-            capturer: Capturer {
-                alloc,
-                wanted,
-                run,
-                injected: OctetLog::new(alloc),
-                keys: DrawnKeys::new(alloc),
-                space: Buffers::new(),
-            },
-            octets: [0; LINE_OCTETS],
-        })
+    fn take_quiet(&mut self, _line: &[u8]) -> Result<(), AllocError> {
+        Ok(())
     }
 
-    /// Whether the frames are written, and an event was forged.
-    pub fn shows_forged(&self) -> bool
-        ensures { result ≡ capturing.shows_forged self.now }
-    {
-        match self.capturer.wanted {
-            Wanted::Frames { .. } => self.capturer.run.world.counts().forged > 0,
+    fn output(&self, bad: Option<BadLine>) -> Result<Vec<u8>, AllocError> {
+        let remark = bad_words(self.alloc, bad)?;
+        self.written(remark.as_str())
+    }
+
+    // Whether the frames are written, and an event was forged.
+    fn shows_forged(&self) -> bool {
+        match self.wanted {
+            Wanted::Frames { .. } => self.run.is_forged(),
             Wanted::Keys => false,
             Wanted::Addresses => false,
         }
-    }
-}
-
-impl LineMachine for Capture {
-    ghost turn = { capturing.turn_of };
-
-    ghost end_text = { capturing.end_of };
-
-    ghost stops = { capturing.stops_at_too_much };
-
-    #[tactic(auto, unfolding(script_runs::specs::Takings::taking), using(script_lines::proofs::Turned::stopped))]
-    fn take<K: Sink>(
-        &mut self,
-        number: u32,
-        kind: LineKind,
-        line: &[u8],
-        sink: &mut K,
-    ) -> Result<(), StopReason> {
-        match kind {
-            LineKind::TooMuch => self.capturer.refuse(number, Reason::Input, sink),
-            LineKind::Long => self.capturer.refuse(number, Reason::Long, sink),
-            LineKind::Text => match read_line(line, &mut self.octets) {
-                Reading::Quiet => Ok(()),
-                Reading::NoForm => self.capturer.refuse(number, Reason::Form, sink),
-                Reading::Reads(event) => self.capturer.take_event(number, &event, sink),
-            },
-        }
-    }
-
-    fn finish<K: Sink>(&self, sink: &mut K) -> Result<(), StopReason> {
-        write_octets(sink, self.capturer.output(""))
     }
 }

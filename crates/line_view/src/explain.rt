@@ -1,20 +1,16 @@
 //! `explain`: what became of each datagram and each joining of a script.
 ghost use Rattle.std.specs.Prelude.{◌≡◌, ◌++◌, IfOk, OnOk, string_bytes};
-ghost use Rattle.line_events.specs.Events.{IsEvent};
-ghost use Rattle.script_lines.specs.Clauses.{StopsWith, Turned};
-ghost use Rattle.script_runs.specs.Takings.{event_taking};
 ghost use Rattle.line_view.specs.Explaining as explaining;
 
 use crate::bad_line::{BadLine, push_bad};
 use crate::recorder::Recorder;
+use crate::run_machine::RunMachine;
 use crate::teller::Teller;
 use line_events::Event;
-use line_script::{LINE_OCTETS, Reading, Reason, read_line};
+use line_script::Reason;
 use line_stories::{Telling, stories_of};
 use line_tale::{Ends, ends_of};
 use line_world::Buffers;
-use plc_base::Sink;
-use script_lines::{LineKind, LineMachine, StopReason, stop, write_text};
 use sentence_parts::{number, push_parts, words};
 use std::alloc::{AllocError, Global};
 use std::marker::Model;
@@ -134,18 +130,16 @@ fn push_account(
     push_account_with(text, alloc, chosen, run, teller, &telling)
 }
 
-/// A run with its sentences, and which of its stories are chosen.
+/// The run of a script with its sentences, and which of its stories are chosen. It says at its end what became of what was asked.
 #[derive(Drop)]
-struct Explainer {
+pub struct Explain {
     alloc: Global,
     chosen: Chosen,
     run: Recorder,
     teller: Teller,
-    // What the last event handed up.
-    space: Buffers,
 }
 
-impl Model for Explainer {
+impl Model for Explain {
     ghost use Rattle.std.specs.Coded.{codes};
     ghost use Rattle.line_world.specs.WorldCodes.{world_code};
     ghost use Rattle.line_view.specs.Explaining.{Explaining};
@@ -157,11 +151,18 @@ impl Model for Explainer {
     ghost view = { λ e. record { chosen = e.chosen; run = e.run; told = e.teller } };
 }
 
-impl Explainer {
-    fn is_forged(&self) -> bool
-        ensures { result ≡ explaining.is_forged self.now }
+impl Explain {
+    /// No line so far. It fails only where there is no memory for it.
+    pub fn new(alloc: Global, chosen: Chosen) -> Result<Explain, AllocError>
+        ensures { IfOk result (λ explain. explain ≡ explaining.nothing_explained chosen) }
     {
-        self.run.is_forged()
+        let run = Recorder::new(alloc)?;
+        Ok(Explain {
+            alloc,
+            chosen,
+            run,
+            teller: Teller::new(alloc),
+        })
     }
 
     // The whole text, with the bad line, if there is one.
@@ -175,20 +176,19 @@ impl Explainer {
         push_account(&mut text, self.alloc, self.chosen, &self.run, &self.teller)?;
         Ok(text)
     }
+}
 
-    // Writes the text, with the bad line at which the run ends.
-    fn refuse<K: Sink>(&self, row: u32, reason: Reason, sink: &mut K) -> Result<(), StopReason>
-        ensures { StopsWith (K.state sink.old) (K.state sink.new) (explaining.refused_text self.now row reason) result }
-    {
-        stop(sink, self.text(Some(BadLine { row, reason })))
-    }
+impl RunMachine for Explain {
+    ghost rules = { explaining.rules };
 
-    // Takes an event that a line of this number asks for, and makes its sentence, or answers why the line is bad.
-    fn step(&mut self, row: u32, event: &Event<'_>) -> Result<Option<Reason>, AllocError>
-        requires { IsEvent event.now }
-        ensures { IfOk result (explaining.Stepped row self.old self.new (event_taking self.old.run.world event.now)) }
-    {
-        let refusal = self.run.step(row, event, &mut self.space)?;
+    // The event has its sentence.
+    fn step(
+        &mut self,
+        row: u32,
+        event: &Event<'_>,
+        space: &mut Buffers,
+    ) -> Result<Option<Reason>, AllocError> {
+        let refusal = self.run.step(row, event, space)?;
         if refusal.is_some() {
             return Ok(refusal);
         }
@@ -196,100 +196,16 @@ impl Explainer {
         Ok(None)
     }
 
-    // The turn of a line of this number that asks for an event.
-    fn take_event<K: Sink>(
-        &mut self,
-        row: u32,
-        event: &Event<'_>,
-        sink: &mut K,
-    ) -> Result<(), StopReason>
-        requires { IsEvent event.now }
-        ensures { Turned (K.state sink.old) (K.state sink.new) self.old self.new
-            (explaining.turn_by self.old row (event_taking self.old.run.world event.now)) result }
-    {
-        let Ok(refusal) = self.step(row, event) else {
-            return Err(StopReason::Memory);
-        };
-        let Some(reason) = refusal else {
-            return Ok(());
-        };
-        self.refuse(row, reason, sink)
-    }
-}
-
-/// Takes the lines of a script, and says at its end what became of what was asked. A contract sees the run, its sentences and the choice.
-#[derive(Drop)]
-pub struct Explain {
-    explainer: Explainer,
-    // Where the octets are that a line holds in hexadecimal.
-    octets: [u8; LINE_OCTETS],
-}
-
-impl Model for Explain {
-    ghost use Rattle.std.specs.Coded.{codes};
-    ghost use Rattle.line_world.specs.WorldCodes.{world_code};
-    ghost use Rattle.line_view.specs.Explaining.{Explaining};
-
-    ghost Value = { Explaining };
-
-    ghost coded = { Prim.hlevel (codes, world_code) };
-
-    ghost view = { λ e. e.explainer };
-}
-
-impl Explain {
-    /// No line so far. It fails only where there is no memory for it.
-    pub fn new(alloc: Global, chosen: Chosen) -> Result<Explain, AllocError>
-        ensures { IfOk result (λ explain. explain ≡ explaining.nothing_explained chosen) }
-    {
-        let run = Recorder::new(alloc)?;
-        Ok(Explain {
-            explainer: Explainer {
-                alloc,
-                chosen,
-                run,
-                teller: Teller::new(alloc),
-                space: Buffers::new(),
-            },
-            octets: [0; LINE_OCTETS],
-        })
+    fn take_quiet(&mut self, _line: &[u8]) -> Result<(), AllocError> {
+        Ok(())
     }
 
-    /// Whether an event was forged.
-    pub fn is_forged(&self) -> bool
-        ensures { result ≡ explaining.is_forged self.now }
-    {
-        self.explainer.is_forged()
-    }
-}
-
-impl LineMachine for Explain {
-    ghost turn = { explaining.turn_of };
-
-    ghost end_text = { explaining.end_of };
-
-    ghost stops = { explaining.stops_at_too_much };
-
-    #[tactic(auto, unfolding(script_runs::specs::Takings::taking), using(script_lines::proofs::Turned::stopped))]
-    fn take<K: Sink>(
-        &mut self,
-        number: u32,
-        kind: LineKind,
-        line: &[u8],
-        sink: &mut K,
-    ) -> Result<(), StopReason> {
-        match kind {
-            LineKind::TooMuch => self.explainer.refuse(number, Reason::Input, sink),
-            LineKind::Long => self.explainer.refuse(number, Reason::Long, sink),
-            LineKind::Text => match read_line(line, &mut self.octets) {
-                Reading::Quiet => Ok(()),
-                Reading::NoForm => self.explainer.refuse(number, Reason::Form, sink),
-                Reading::Reads(event) => self.explainer.take_event(number, &event, sink),
-            },
-        }
+    fn output(&self, bad: Option<BadLine>) -> Result<Vec<u8>, AllocError> {
+        let text = self.text(bad)?;
+        Ok(text.into_bytes())
     }
 
-    fn finish<K: Sink>(&self, sink: &mut K) -> Result<(), StopReason> {
-        write_text(sink, self.explainer.text(None))
+    fn shows_forged(&self) -> bool {
+        self.run.is_forged()
     }
 }

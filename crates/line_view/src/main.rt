@@ -10,6 +10,7 @@ mod explain;
 mod octet_output;
 mod page;
 mod recorder;
+mod run_machine;
 mod status;
 mod teller;
 mod tool;

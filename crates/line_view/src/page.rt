@@ -1,44 +1,37 @@
 //! `page`: a run as one page of HTML, to look at.
-ghost use Rattle.std.specs.Prelude.{◌≡◌, ◌++◌, IfOk, OnOk, ℕ, string_bytes};
-ghost use Rattle.line_events.specs.Events.{IsEvent};
-ghost use Rattle.script_lines.specs.Clauses.{StopsWith, Turned};
-ghost use Rattle.script_lines.specs.Lines.{Content, Text};
-ghost use Rattle.script_runs.specs.Takings.{Skipped, event_taking};
+ghost use Rattle.std.specs.Prelude.{◌≡◌, ◌++◌, IfOk, OnOk};
 ghost use Rattle.line_view.specs.Paging as paging;
 
-use crate::bad_line::{BadLine, bad_line, push_bad};
-use crate::octet_output::write_octets;
+use crate::bad_line::{BadLine, bad_words};
 use crate::recorder::Recorder;
+use crate::run_machine::RunMachine;
 use crate::teller::{MOST_NODES, Teller, nothing_shown};
 use line_events::Event;
-use line_script::{LINE_OCTETS, Reading, Reason, read_line};
+use line_script::Reason;
 use line_stories::{Telling, stories_of};
 use line_tale::{Act, Ends, TaleEvent, actor_of, ends_of, makes_node, person_of};
 use line_world::Buffers;
 use node_pasts::Pasts;
 use node_rules::Shown;
-use plc_base::Sink;
 use run_charts::ChartRun;
 use run_pages::{Remarks, Sheet};
-use script_lines::{LineKind, LineMachine, StopReason};
 use std::alloc::{AllocError, Global};
 use std::marker::Model;
 use story_accounts::{Account, Index, is_for_another};
 
-/// A run with its sentences, what the script says, and what the nodes were.
+/// The run of a script with its sentences, what the script says, and what the nodes were. It shows at its end what the run did.
 #[derive(Drop)]
-struct Pager {
+pub struct Page {
     alloc: Global,
     run: Recorder,
     teller: Teller,
     remarks: Remarks,
     pasts: Pasts,
-    // What the last event handed up, and what the node shows that was looked at last.
-    space: Buffers,
+    // What the node shows that was looked at last.
     shown: Shown,
 }
 
-impl Model for Pager {
+impl Model for Page {
     ghost use Rattle.std.specs.Coded.{codes};
     ghost use Rattle.line_world.specs.WorldCodes.{world_code};
     ghost use Rattle.line_view.specs.Paging.{Paging};
@@ -80,19 +73,22 @@ fn is_delivery(act: &Act) -> bool
     }
 }
 
-// What is said of the bad line at which a run ends, no words where there is none.
-fn bad_words(alloc: Global, bad: Option<BadLine>) -> Result<String, AllocError>
-    ensures { IfOk result (λ text. string_bytes text ≡ paging.bad_words bad) }
-{
-    let mut text = String::new(alloc);
-    let Some(bad) = bad else {
-        return Ok(text);
-    };
-    push_bad(&mut text, alloc, bad)?;
-    Ok(text)
-}
+impl Page {
+    /// No line so far. It fails only where there is no memory for it.
+    pub fn new(alloc: Global) -> Result<Page, AllocError>
+        ensures { IfOk result (λ page. page ≡ paging.nothing_paged) }
+    {
+        let run = Recorder::new(alloc)?;
+        Ok(Page {
+            alloc,
+            run,
+            teller: Teller::new(alloc),
+            remarks: Remarks::new(alloc),
+            pasts: Pasts::new(alloc),
+            shown: nothing_shown(),
+        })
+    }
 
-impl Pager {
     // Appends the page, with the ends of all stories and what is looked up of the run.
     fn push_page_over(
         &self,
@@ -176,13 +172,6 @@ impl Pager {
         Ok(out)
     }
 
-    // Writes the page, with the bad line at which the run ends.
-    fn refuse<K: Sink>(&self, row: u32, reason: Reason, sink: &mut K) -> Result<(), StopReason>
-        ensures { StopsWith (K.state sink.old) (K.state sink.new) (paging.refused_text self.now row reason) result }
-    {
-        bad_line(write_octets(sink, self.text(Some(BadLine { row, reason }))))
-    }
-
     // Looks at a node after an event.
     #[tactic(auto, unfolding(crate::specs::Paging::looked), using(crate::proofs::Paged::look_there, crate::proofs::Paged::look_nowhere))]
     fn look(&mut self, event: usize, node: u32) -> Result<(), AllocError>
@@ -252,24 +241,19 @@ impl Pager {
             Some(told) => self.look_after(event, &told),
         }
     }
+}
 
-    // Takes a line that has no event.
-    fn take_quiet<K: Sink>(&mut self, line: &[u8], sink: &mut K) -> Result<(), StopReason>
-        ensures { (row : ℕ) → Turned (K.state sink.old) (K.state sink.new) self.old self.new
-            (paging.turn_by self.old row (Text line.now) Skipped) result }
-    {
-        let Ok(()) = self.remarks.take(self.alloc, line) else {
-            return Err(StopReason::Memory);
-        };
-        Ok(())
-    }
+impl RunMachine for Page {
+    ghost rules = { paging.rules };
 
-    // Takes an event that a line of this number asks for, makes its sentence and keeps what else there is of it, or answers why the line is bad.
-    fn step(&mut self, row: u32, event: &Event<'_>) -> Result<Option<Reason>, AllocError>
-        requires { IsEvent event.now }
-        ensures { IfOk result (paging.Stepped row self.old self.new (event_taking self.old.run.world event.now)) }
-    {
-        let refusal = self.run.step(row, event, &mut self.space)?;
+    // The event has its sentence, and what else there is of it is kept.
+    fn step(
+        &mut self,
+        row: u32,
+        event: &Event<'_>,
+        space: &mut Buffers,
+    ) -> Result<Option<Reason>, AllocError> {
+        let refusal = self.run.step(row, event, space)?;
         if refusal.is_some() {
             return Ok(refusal);
         }
@@ -278,103 +262,15 @@ impl Pager {
         Ok(None)
     }
 
-    // The turn of a line of this number that asks for an event.
-    fn take_event<K: Sink>(
-        &mut self,
-        row: u32,
-        event: &Event<'_>,
-        sink: &mut K,
-    ) -> Result<(), StopReason>
-        requires { IsEvent event.now }
-        ensures { (content : Content) → Turned (K.state sink.old) (K.state sink.new) self.old self.new
-            (paging.turn_by self.old row content (event_taking self.old.run.world event.now)) result }
-    {
-        let Ok(refusal) = self.step(row, event) else {
-            return Err(StopReason::Memory);
-        };
-        let Some(reason) = refusal else {
-            return Ok(());
-        };
-        self.refuse(row, reason, sink)
-    }
-}
-
-/// Takes the lines of a script, and shows at its end what its run did. A contract sees the run, its sentences, what the script says,
-/// and what the nodes were.
-#[derive(Drop)]
-pub struct Page {
-    pager: Pager,
-    // Where the octets are that a line holds in hexadecimal.
-    octets: [u8; LINE_OCTETS],
-}
-
-impl Model for Page {
-    ghost use Rattle.std.specs.Coded.{codes};
-    ghost use Rattle.line_world.specs.WorldCodes.{world_code};
-    ghost use Rattle.line_view.specs.Paging.{Paging};
-
-    ghost Value = { Paging };
-
-    ghost coded = { Prim.hlevel (codes, world_code) };
-
-    ghost view = { λ p. p.pager };
-}
-
-impl Page {
-    /// No line so far. It fails only where there is no memory for it.
-    pub fn new(alloc: Global) -> Result<Page, AllocError>
-        ensures { IfOk result (λ page. page ≡ paging.nothing_paged) }
-    {
-        let run = Recorder::new(alloc)?;
-        Ok(Page {
-            pager: Pager {
-                alloc,
-                run,
-                teller: Teller::new(alloc),
-                remarks: Remarks::new(alloc),
-                pasts: Pasts::new(alloc),
-                space: Buffers::new(),
-                shown: nothing_shown(),
-            },
-            octets: [0; LINE_OCTETS],
-        })
+    fn take_quiet(&mut self, line: &[u8]) -> Result<(), AllocError> {
+        self.remarks.take(self.alloc, line)
     }
 
-    /// Whether an event was forged.
-    pub fn is_forged(&self) -> bool
-        ensures { result ≡ paging.is_forged self.now }
-    {
-        self.pager.run.is_forged()
-    }
-}
-
-impl LineMachine for Page {
-    ghost turn = { paging.turn_of };
-
-    ghost end_text = { paging.end_of };
-
-    ghost stops = { paging.stops_at_too_much };
-
-    #[tactic(auto, unfolding(script_runs::specs::Takings::taking), using(script_lines::proofs::Turned::stopped))]
-    fn take<K: Sink>(
-        &mut self,
-        number: u32,
-        kind: LineKind,
-        line: &[u8],
-        sink: &mut K,
-    ) -> Result<(), StopReason> {
-        match kind {
-            LineKind::TooMuch => self.pager.refuse(number, Reason::Input, sink),
-            LineKind::Long => self.pager.refuse(number, Reason::Long, sink),
-            LineKind::Text => match read_line(line, &mut self.octets) {
-                Reading::Quiet => self.pager.take_quiet(line, sink),
-                Reading::NoForm => self.pager.refuse(number, Reason::Form, sink),
-                Reading::Reads(event) => self.pager.take_event(number, &event, sink),
-            },
-        }
+    fn output(&self, bad: Option<BadLine>) -> Result<Vec<u8>, AllocError> {
+        self.text(bad)
     }
 
-    fn finish<K: Sink>(&self, sink: &mut K) -> Result<(), StopReason> {
-        write_octets(sink, self.pager.text(None))
+    fn shows_forged(&self) -> bool {
+        self.run.is_forged()
     }
 }

@@ -1,21 +1,23 @@
 //! All that the program does.
-ghost use Rattle.std.specs.Prelude.{◌≡◌, ◌≤◌, Bool, Some, None};
+ghost use Rattle.std.specs.Prelude.{◌≡◌, ◌≤◌, Bool, IfOk, Some, None};
 ghost use Rattle.std.specs.Io.KnownBytes.{IsAtEnd};
 ghost use Rattle.plc_base.specs.Streams.{SourceFaults, SourceRose, SinkRose};
 ghost use Rattle.story_accounts.specs.declared.section.Chosen.{Chosen};
 ghost use Rattle.line_view.specs.declared.capture.Wanted.{Wanted};
-ghost use Rattle.line_view.specs.Tool.{Captures, Checks, Explains, Pages, WritesText, account_status, capture_with, check_with, chosen_by};
+ghost use Rattle.line_view.specs.RunMachines.{FollowsRun, outcome_by};
+ghost use Rattle.line_view.specs.Tool.{Accounts, Captures, Checks, Explains, Pages, WritesText, account_status, capture_with, check_with, chosen_by};
 ghost use Rattle.line_view.specs.Tool.{command_of, explain_with, one_word, status_of, three_words, two_words, usage_text, wanted_word};
 
 use crate::capture::{Capture, Wanted};
 use crate::check::Check;
 use crate::explain::Explain;
 use crate::page::Page;
+use crate::run_machine::{Lines, RunMachine};
 use crate::status::Status;
 use line_script::number_within;
 use plc_base::{Sink, Source, write_all};
 use script_lines::{Exit, a_run_may_end_without_memory, run};
-use std::alloc::Global;
+use std::alloc::{AllocError, Global};
 use story_accounts::Chosen;
 
 /// The commands that the program has.
@@ -211,6 +213,30 @@ fn account_status(exit: Exit, forged: bool) -> Status
     }
 }
 
+/// Reads a script from the source, and writes to the sink what a machine makes of its run.
+fn account<M: RunMachine, S: Source, K: Sink>(
+    alloc: Global,
+    made: Result<M, AllocError>,
+    source: &mut S,
+    sink: &mut K,
+) -> Status
+    ensures accounts { (first : M) → IfOk made (λ machine. machine ≡ first) → FollowsRun M.rules first
+        → Accounts M.rules.shows_forged (outcome_by M.rules first) (S.state source.old) (S.state source.new) (K.state sink.old) (K.state sink.new)
+        result }
+    ensures read { result ≡ Status.ReadFault → SourceRose (S.state source.old) (S.state source.new) }
+    ensures write { result ≡ Status.WriteFault → SinkRose (K.state sink.old) (K.state sink.new) }
+    ensures source { SourceFaults (S.state source.old) (S.state source.new) }
+    ensures sink { (K.state sink.old).faults ≤ (K.state sink.new).faults }
+{
+    let Ok(machine) = made else {
+        a_run_may_end_without_memory::<Lines<M>>();
+        return Status::Memory;
+    };
+    let mut lines = Lines::new(machine);
+    let exit = run(alloc, &mut lines, source, sink);
+    account_status(exit, lines.shows_forged())
+}
+
 /// Reads a script from the source, and writes to the sink what became of the chosen stories.
 fn explain<S: Source, K: Sink>(
     alloc: Global,
@@ -224,12 +250,7 @@ fn explain<S: Source, K: Sink>(
     ensures source { SourceFaults (S.state source.old) (S.state source.new) }
     ensures sink { (K.state sink.old).faults ≤ (K.state sink.new).faults }
 {
-    let Ok(mut explain) = Explain::new(alloc, chosen) else {
-        a_run_may_end_without_memory::<Explain>();
-        return Status::Memory;
-    };
-    let exit = run(alloc, &mut explain, source, sink);
-    account_status(exit, explain.is_forged())
+    account(alloc, Explain::new(alloc, chosen), source, sink)
 }
 
 /// Reads a script from the source, and writes to the sink a page that shows its run.
@@ -240,12 +261,7 @@ fn page<S: Source, K: Sink>(alloc: Global, source: &mut S, sink: &mut K) -> Stat
     ensures source { SourceFaults (S.state source.old) (S.state source.new) }
     ensures sink { (K.state sink.old).faults ≤ (K.state sink.new).faults }
 {
-    let Ok(mut page) = Page::new(alloc) else {
-        a_run_may_end_without_memory::<Page>();
-        return Status::Memory;
-    };
-    let exit = run(alloc, &mut page, source, sink);
-    account_status(exit, page.is_forged())
+    account(alloc, Page::new(alloc), source, sink)
 }
 
 /// Reads a script from the source, and writes to the sink what Wireshark reads of its run.
@@ -261,12 +277,7 @@ fn capture<S: Source, K: Sink>(
     ensures source { SourceFaults (S.state source.old) (S.state source.new) }
     ensures sink { (K.state sink.old).faults ≤ (K.state sink.new).faults }
 {
-    let Ok(mut capture) = Capture::new(alloc, wanted) else {
-        a_run_may_end_without_memory::<Capture>();
-        return Status::Memory;
-    };
-    let exit = run(alloc, &mut capture, source, sink);
-    account_status(exit, capture.shows_forged())
+    account(alloc, Capture::new(alloc, wanted), source, sink)
 }
 
 /// Writes a text, and answers `done` where all of it was written.

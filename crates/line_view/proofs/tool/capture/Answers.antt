@@ -1,56 +1,12 @@
-use Rattle.std.proofs.Common.{◌≡◌, ℕ, ap, refl, ◌∙◌}
-use Rattle.line_rules.specs.Runs.{Entry}
-use Rattle.script_lines.specs.declared.machine.Exit.TheVariants as exits
-use Rattle.line_view.proofs.AccountRunning.{account_read, account_write}
+use Rattle.std.proofs.Common.{refl}
 use Rattle.line_view.proofs.Recorded.{recorded_world}
-use Rattle.line_view.proofs.StatusNames.{status_names}
-use Rattle.line_view.specs.Capturing.{Capturing, after_entry, end_of, shows_forged, nothing_captured, refused_text}
-use Rattle.line_view.specs.declared.status.Status.TheVariants as status
-use Rattle.line_view.specs.Tool.{account_status}
+use Rattle.line_view.specs.Capturing.{Capturing, nothing_captured, rules}
+use Rattle.line_view.specs.RunMachines.{FollowsRun}
 use Rattle.line_view.proofs.tool.capture.Goals as goal
-
-keeps : (row : ℕ) (entry : Entry) (m : Capturing) → (after_entry row entry m).run.world ≡ entry.after
-keeps row entry m = recorded_world row entry m.run
-
-pub returns-in_default-clause-captures : goal.returns-in_default-clause-captures
-returns-in_default-clause-captures g c =
-    let first : Capturing = nothing_captured c.args.wanted in
-    let source = g.S.Source.state c.args.source.now in
-    let sink = g.K.Sink.state c.args.sink.now in
-    let drives = c.a_run_may_end_without_memory.ensures first source sink in
-    record {
-      exit = exits.Memory;
-      last = first;
-      drives = drives;
-      status = refl;
-      named = status_names (λ (m : Capturing). m.run.world) after_entry refused_text end_of keeps first refl source source sink sink
-          drives.b drives.w first exits.Memory (shows_forged first) status.Memory drives.comes refl;
-    }
 
 pub returns-clause-captures : goal.returns-clause-captures
 returns-clause-captures g c =
-    let drives = rw c.in-Ok.ensures at c.run-exit.ensures.drives in
-    let status : c.account_status.result ≡ account_status c.run-exit.result (shows_forged c.run-exit.new.machine)
-    = c.account_status.ensures ∙ ap (account_status c.run-exit.result) c.shows_forged.ensures in
-    record {
-      exit = c.run-exit.result;
-      last = c.run-exit.new.machine;
-      drives = drives;
-      status = status;
-      named = status_names (λ (m : Capturing). m.run.world) after_entry refused_text end_of keeps (nothing_captured c.args.wanted) refl
-          (g.S.Source.state c.args.source.now) (g.S.Source.state c.run-exit.new.source) (g.K.Sink.state c.args.sink.now)
-          (g.K.Sink.state c.run-exit.new.sink) drives.b drives.w c.run-exit.new.machine c.run-exit.result (shows_forged c.run-exit.new.machine)
-          c.account_status.result drives.comes status;
-    }
-
-pub returns-clause-read : goal.returns-clause-read
-returns-clause-read g c = λ is. account_read (returns-clause-captures g c) is
-
-pub returns-clause-write : goal.returns-clause-write
-returns-clause-write g c = λ is. account_write (returns-clause-captures g c) is
-
-pub returns-clause-source : goal.returns-clause-source
-returns-clause-source g c = c.run-exit.ensures.drives.source
-
-pub returns-clause-sink : goal.returns-clause-sink
-returns-clause-sink g c = c.run-exit.ensures.drives.sink_later
+    let first : Capturing = nothing_captured c.args.wanted in
+    let follows : FollowsRun rules first
+    = record { begins = refl; entries = λ row entry m. recorded_world row entry m.run; quiet = λ m content. tt } in
+    c.account.ensures.accounts first c.new.ensures follows

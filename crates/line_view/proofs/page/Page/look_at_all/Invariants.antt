@@ -1,6 +1,6 @@
 use Rattle.std.proofs.Common.{◌≡◌}
 use Rattle.line_view.specs.Paging.{looked_at_all}
-use Rattle.line_view.proofs.page.Pager.look_at_all.Given as goal
+use Rattle.line_view.proofs.page.Page.look_at_all.Given as goal
 
 -- the nodes so far
 abbrev pub invariant-loop-node : goal.invariant-loop-node

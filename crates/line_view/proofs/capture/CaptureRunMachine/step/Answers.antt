@@ -1,11 +1,11 @@
 use Rattle.std.proofs.Common.{◌≡◌, true, false}
 use Rattle.std.specs.Prelude.{is_some}
 use Rattle.script_runs.specs.Takings.{event_taking}
-use Rattle.line_view.specs.Capturing.{Capturing, after_entry}
+use Rattle.line_view.specs.Capturing.{Capturing, rules}
 use Rattle.line_view.specs.Recordings.{Recording}
 use Rattle.line_view.proofs.Captured.{entry_captured}
 use Rattle.line_view.proofs.Machines.{refused}
-use Rattle.line_view.proofs.capture.Capturer.step.Goals as goal
+use Rattle.line_view.proofs.capture.CaptureRunMachine.step.Goals as goal
 
 pub returns-then-is_some : goal.returns-then-is_some
 returns-then-is_some c =
@@ -16,7 +16,7 @@ returns-then-is_some c =
       keys = c.self.inside.keys;
     } in
     let there : is_some c.in_ok-refusal.refusal ≡ true = cc in
-    rw (← c.self.view_is) (refused after_entry (λ (run : Recording). record m { run = run }) c.args.row m.run c.step.new.self c.args.event.now
+    rw (← c.self.view_is) (refused rules (λ (run : Recording). record m { run = run }) c.args.row m.run c.step.new.self c.args.event.now
     (event_taking c.self.inside.run.world c.args.event.now) c.in_ok-refusal.refusal c.in_ok-refusal.ensures there)
 
 pub returns : goal.returns

@@ -1,17 +1,17 @@
 use Rattle.std.proofs.Common.{◌≡◌, true, false}
 use Rattle.std.specs.Prelude.{is_some}
 use Rattle.script_runs.specs.Takings.{event_taking}
-use Rattle.line_view.specs.Explaining.{Explaining, after_entry}
+use Rattle.line_view.specs.Explaining.{Explaining, rules}
 use Rattle.line_view.specs.Recordings.{Recording}
 use Rattle.line_view.proofs.Explained.{entry_told}
 use Rattle.line_view.proofs.Machines.{refused}
-use Rattle.line_view.proofs.explain.Explainer.step.Goals as goal
+use Rattle.line_view.proofs.explain.ExplainRunMachine.step.Goals as goal
 
 pub returns-then-is_some : goal.returns-then-is_some
 returns-then-is_some c =
     let m : Explaining = record { chosen = c.self.inside.chosen; run = c.self.inside.run; told = c.self.inside.teller } in
     let there : is_some c.in_ok-refusal.refusal ≡ true = cc in
-    rw (← c.self.view_is) (refused after_entry (λ (run : Recording). record m { run = run }) c.args.row m.run c.step.new.self c.args.event.now
+    rw (← c.self.view_is) (refused rules (λ (run : Recording). record m { run = run }) c.args.row m.run c.step.new.self c.args.event.now
     (event_taking c.self.inside.run.world c.args.event.now) c.in_ok-refusal.refusal c.in_ok-refusal.ensures there)
 
 pub returns : goal.returns

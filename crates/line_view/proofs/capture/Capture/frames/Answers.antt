@@ -1,8 +1,8 @@
 use Rattle.std.proofs.Common.{◌≡◌, ap, ◌∙◌}
 use Rattle.line_view.specs.Capturing.{Capturing, octets_of}
-use Rattle.line_view.specs.declared.capture.Capturer.TheInside.{Inside}
+use Rattle.line_view.specs.declared.capture.Capture.TheInside.{Inside}
 use Rattle.line_view.proofs.Captured.{frames_written}
-use Rattle.line_view.proofs.capture.Capturer.frames.Goals as goal
+use Rattle.line_view.proofs.capture.Capture.frames.Goals as goal
 
 pub returns : goal.returns
 returns c =

@@ -1,17 +1,17 @@
 use Rattle.std.proofs.Common.{◌≡◌, true, false}
 use Rattle.std.specs.Prelude.{is_some}
 use Rattle.script_runs.specs.Takings.{event_taking}
-use Rattle.line_view.specs.Paging.{Paging, after_entry}
+use Rattle.line_view.specs.Paging.{Paging, rules}
 use Rattle.line_view.specs.Recordings.{Recording}
 use Rattle.line_view.proofs.Machines.{refused}
 use Rattle.line_view.proofs.Paged.{entry_told}
-use Rattle.line_view.proofs.page.Pager.step.Goals as goal
+use Rattle.line_view.proofs.page.PageRunMachine.step.Goals as goal
 
 pub returns-then-is_some : goal.returns-then-is_some
 returns-then-is_some c =
     let p : Paging = record { run = c.self.inside.run; told = c.self.inside.teller; remarks = c.self.inside.remarks; pasts = c.self.inside.pasts } in
     let there : is_some c.in_ok-refusal.refusal ≡ true = cc in
-    rw (← c.self.view_is) (refused after_entry (λ (run : Recording). record p { run = run }) c.args.row p.run c.step.new.self c.args.event.now
+    rw (← c.self.view_is) (refused rules (λ (run : Recording). record p { run = run }) c.args.row p.run c.step.new.self c.args.event.now
     (event_taking c.self.inside.run.world c.args.event.now) c.in_ok-refusal.refusal c.in_ok-refusal.ensures there)
 
 pub returns : goal.returns

@@ -1,8 +1,0 @@
-use Rattle.std.proofs.Common.{sym, ◌∙◌}
-use Rattle.line_view.proofs.Paged.{page_quiet}
-use Rattle.line_view.proofs.page.PageLineMachine.take.Goals as goal
-
-pub returns-in-Quiet : goal.returns-in-Quiet
-returns-in-Quiet g c =
-    page_quiet c.args.self.now c.self.inside.pager c.take_quiet.new.self c.args.number c.args.line.now c.args.kind c.take_quiet.result c.self.view_is
-    c.in-Text.is (sym c.read_line.ensures.value ∙ c.in-Quiet.is) (c.take_quiet.ensures c.args.number)

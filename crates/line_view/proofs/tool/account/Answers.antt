@@ -1,0 +1,62 @@
+use Rattle.std.proofs.Common.{◌≡◌, ap, refl, subst, ◌∙◌}
+use Rattle.plc_base.specs.Streams.{SourceState, SinkState}
+use Rattle.script_lines.specs.declared.machine.Exit.TheVariants as exits
+use Rattle.script_lines.specs.Clauses.{Drives}
+use Rattle.line_view.proofs.AccountRunning.{account_read, account_write}
+use Rattle.line_view.proofs.StatusNames.{status_names}
+use Rattle.line_view.specs.declared.status.Status.TheVariants as status
+use Rattle.line_view.specs.RunMachines.{outcome_by}
+use Rattle.line_view.specs.Tool.{account_status}
+use Rattle.line_view.proofs.tool.account.Goals as goal
+
+pub returns-in_default-clause-accounts : goal.returns-in_default-clause-accounts
+returns-in_default-clause-accounts g c = λ first is follows.
+    let rules = g.M.RunMachine.rules in
+    let source : SourceState = g.S.Source.state c.args.source.now in
+    let sink : SinkState = g.K.Sink.state c.args.sink.now in
+    let drives = c.a_run_may_end_without_memory.ensures first source sink in
+    record {
+      exit = exits.Memory;
+      last = first;
+      drives = drives;
+      status = refl;
+      named = status_names rules first follows source source sink sink drives.b drives.w first exits.Memory (rules.shows_forged first) status.Memory
+          drives.comes refl;
+    }
+
+pub returns-clause-accounts : goal.returns-clause-accounts
+returns-clause-accounts g c = λ first is follows.
+    let rules = g.M.RunMachine.rules in
+    let source0 : SourceState = g.S.Source.state c.args.source.now in
+    let source1 : SourceState = g.S.Source.state c.run-exit.new.source in
+    let sink0 : SinkState = g.K.Sink.state c.args.sink.now in
+    let sink1 : SinkState = g.K.Sink.state c.run-exit.new.sink in
+    let last : g.row.M.Denot = c.run-exit.new.machine in
+    let same : c.in-Ok.machine ≡ first = rw c.in-Ok.is at is in
+    let drives : Drives (outcome_by rules first) last source0 source1 sink0 sink1 c.run-exit.result
+    = subst (λ (m : g.row.M.Denot). Drives (outcome_by rules m) last source0 source1 sink0 sink1 c.run-exit.result) (c.new-lines.ensures ∙ same)
+    c.run-exit.ensures.drives in
+    let status : c.account_status.result ≡ account_status c.run-exit.result (rules.shows_forged last)
+    = c.account_status.ensures ∙ ap (account_status c.run-exit.result) c.shows_forged.ensures in
+    record {
+      exit = c.run-exit.result;
+      last = last;
+      drives = drives;
+      status = status;
+      named = status_names rules first follows source0 source1 sink0 sink1 drives.b drives.w last c.run-exit.result (rules.shows_forged last)
+          c.account_status.result drives.comes status;
+    }
+
+pub returns-clause-read : goal.returns-clause-read
+returns-clause-read g c = λ is.
+    account_read c.run-exit.result c.shows_forged.result c.account_status.result c.run-exit.ensures.drives c.account_status.ensures is
+
+pub returns-clause-write : goal.returns-clause-write
+returns-clause-write g c = λ is.
+    account_write c.run-exit.result c.shows_forged.result c.account_status.result c.run-exit.ensures.drives c.account_status.ensures is
+
+pub returns-clause-source : goal.returns-clause-source
+returns-clause-source g c = c.run-exit.ensures.drives.source
+
+pub returns-clause-sink : goal.returns-clause-sink
+returns-clause-sink g c = c.run-exit.ensures.drives.sink_later
