@@ -149,6 +149,9 @@ const USAGE: &[u8; 58] = b"usage: line_replay replay [-q] | show | vectors | dri
 /// meters, 1 to 60, whose events are one function of N, and writes what was counted in it. Other words write the usage line. These
 /// three read nothing, and the first and the last of them never answer Memory.
 ///
+/// Where a write fails, or memory runs out once lines were taken, the report of a script breaks off in that of one line: those of all lines before it were
+/// written whole, and at most 8,192 octets after that line were read.
+///
 /// Where no read of the source and no write of the sink is to fail, and the sink has room for the whole text, neither count of
 /// faults changes, so that neither fault comes.
 pub fn run_tool<S: Source, K: Sink>(

@@ -1,11 +1,11 @@
 -- What holds of a whole check: its first fault is the first bad line, and its text is that of its faults.
-use Rattle.std.proofs.Common.{◌≡◌, ℕ, ◌+◌, ◌<◌, Bool, true, false, not, List, [], ◌∷◌, ◌++◌, length, Option, None, Some, sym, ap, ◌∙◌, refl}
+use Rattle.std.proofs.Common.{◌≡◌, ℕ, ◌+◌, Bool, true, false, not, List, [], ◌∷◌, ◌++◌, Option, None, Some, sym, ap, ◌∙◌, refl}
 use Rattle.std.proofs.Common.{append_assoc, arith}
 use Rattle.std.specs.Prelude.{◌||◌, if◌then◌else◌, is_some, nat_lt, min}
 use Rattle.std.proofs.lemmas.Bool.{lt-ltb}
 use Rattle.std.proofs.lemmas.List.{append-nil}
 use Rattle.line_events.specs.declared.event.Event.{Event}
-use Rattle.line_rules.specs.Worlds.{World, start}
+use Rattle.line_rules.specs.Worlds.{World}
 use Rattle.line_script.specs.declared.reading.Reading.{Reading}
 use Rattle.line_script.specs.declared.reading.Reading.TheVariants.{Quiet, NoForm, Reads}
 use Rattle.line_script.specs.declared.report.Reason.TheVariants as reasons
@@ -15,11 +15,11 @@ use Rattle.script_faults.specs.Forms.{has_reading}
 use Rattle.script_faults.specs.LineFindings.{line_finding}
 use Rattle.script_faults.proofs.LineTold.{found_where}
 use Rattle.script_lines.specs.Lines.{Content, Text, Long, TooMuch, Line, lines}
-use Rattle.script_lines.specs.Outcomes.{Takes, Stops, Bad, Ended, Open, Outcome, outcome_turn, outcome_from, StopsShortOf}
+use Rattle.script_lines.specs.Outcomes.{Bad, Ended, Outcome, outcome_turn, outcome_from, StopsShortOf}
 use Rattle.script_runs.specs.Takings.{Taking, Skipped, Taken, Refused, event_taking, reading_taking, taking, BadLine, bad_by, first_bad_from, first_bad}
 use Rattle.line_view.specs.Checking.{Checking, checking, Look, Nothing, Keeps, Tells, event_look, form_by, form_look, reading_look, text_look}
 use Rattle.line_view.specs.Checking.{long_finding, input_finding}
-use Rattle.line_view.specs.Checking.{seen, taken_after, after, counted, bad_text, look_text, end_of, turn_by, turn_of, outcome, is_bad}
+use Rattle.line_view.specs.Checking.{seen, taken_after, after, counted, bad_text, end_of, turn_by, turn_of, outcome, is_bad}
 use Rattle.line_view.specs.Checked.{Fault, faults_by, faults_on, faults_from, faults, first_of, faults_text, closing_on, closing_from, closing}
 
 no_truth : false ≡ true → ⊥

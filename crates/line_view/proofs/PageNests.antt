@@ -8,7 +8,6 @@ use Rattle.script_lines.specs.Lines.{Content, Line, lines}
 use Rattle.script_lines.specs.Outcomes.{Turn, Skips, Takes, Stops, Outcome, StopsShortOf, outcome_turn, outcome_from}
 use Rattle.script_lines.specs.Clauses.{Comes}
 use Rattle.script_runs.specs.Takings.{Taking, Skipped, Taken, Refused, taking}
-use Rattle.line_script.specs.declared.report.Reason.{Reason}
 use Rattle.line_stories.specs.Stories.{Stories, stories_of}
 use Rattle.line_tale.specs.Verdicts.{ends_of}
 use Rattle.run_pages.specs.Pages.{IsPage, Sheet}
@@ -17,7 +16,6 @@ use Rattle.story_accounts.specs.Indexes.{index_of}
 use Rattle.line_view.specs.BadLines.{bad_words}
 use Rattle.line_view.specs.declared.bad_line.BadLine.{BadLine}
 use Rattle.line_view.specs.declared.status.Status.{Status}
-use Rattle.line_view.specs.declared.status.Status.TheVariants as status
 use Rattle.line_view.specs.Paging.{Paging, chart_run, is_forged, nothing_paged, page_text, paged, rules, sheet_with}
 use Rattle.line_view.specs.RunMachines.{end_of, turn_by, turn_of}
 use Rattle.line_view.specs.Tool.{Accounts, IsWhole, account_status}

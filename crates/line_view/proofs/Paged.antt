@@ -1,5 +1,5 @@
 -- What an event does to a page: it is recorded, has its sentence, and the nodes that it may have changed are looked at.
-use Rattle.std.proofs.Common.{◌≡◌, ℕ, ◌+◌, ◌-◌, zero, suc, Bool, true, false, List, [], ◌∷◌, Option, None, Some, refl, sym, ap}
+use Rattle.std.proofs.Common.{◌≡◌, ℕ, ◌+◌, ◌-◌, zero, suc, Bool, true, false, List, Option, None, Some, refl, sym, ap}
 use Rattle.std.proofs.Common.{◌∙◌, length, arith}
 use Rattle.std.specs.Prelude.{IfSome, if◌then◌else◌, is_some}
 use Rattle.node_rules.specs.Memory.{Node}

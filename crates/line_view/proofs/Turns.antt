@@ -5,7 +5,7 @@ use Rattle.std.proofs.lemmas.Grind.{common_steps}
 use Rattle.plc_base.specs.Streams.{SinkState, WritePlan, PlansRoomFor}
 use Rattle.script_lines.specs.declared.text_output.StopReason.{StopReason}
 use Rattle.script_lines.specs.declared.text_output.StopReason.TheVariants as reasons
-use Rattle.script_lines.specs.Outcomes.{Turn, Takes, Stops}
+use Rattle.script_lines.specs.Outcomes.{Turn, Stops}
 use Rattle.script_lines.specs.Clauses.{IsWritten, StopsBy, StopsWith, Turned, TurnedBy, turn_text}
 use Rattle.script_lines.proofs.Turned.{taken, written_stop, written_short}
 use Rattle.line_view.specs.Checking.{Checking, Look, after, look_text, end_of, turn_by, stop_by}

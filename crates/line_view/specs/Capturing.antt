@@ -1,5 +1,5 @@
 -- What `capture`, `keys` and `addresses` write of a script.
-use Rattle.std.specs.Prelude.{ℕ, Bool, true, false, nat_lt, List, [], ◌∷◌, ◌++◌, bytes_eq, codes, length, map, Option, if◌then◌else◌}
+use Rattle.std.specs.Prelude.{ℕ, Bool, true, false, nat_lt, List, [], ◌∷◌, ◌++◌, bytes_eq, length, map, if◌then◌else◌}
 use Rattle.std.specs.List.{list_any}
 use Rattle.script_lines.specs.Outcomes.{Outcome, Skips}
 use Rattle.pcapng.specs.Blocks.{capture}

@@ -2,7 +2,6 @@
 use Rattle.std.specs.Prelude.{ℕ, ◌+◌, ◌-◌, ◌==◌, ◌∷◌, ◌++◌, [], Bool, true, false, List, Option, None, Some, codes, length, take, min, if◌then◌else◌}
 use Rattle.std.specs.Prelude.{nat_lt, unwrap_or}
 use Rattle.std.specs.Option.{option_map}
-use Rattle.plc_base.specs.declared.address.Eui.{Eui}
 use Rattle.line_events.specs.declared.event.Event.{Event}
 use Rattle.line_events.specs.declared.event.Event.TheVariants as events
 use Rattle.line_rules.specs.Worlds.{World, start, flight_at}

@@ -1,5 +1,5 @@
 -- What `explain` writes of a script.
-use Rattle.std.specs.Prelude.{◌≡◌, ℕ, Bool, nat_lt, List, [], ◌∷◌, ◌++◌, codes, length, Option, None, Some}
+use Rattle.std.specs.Prelude.{ℕ, Bool, nat_lt, List, [], ◌∷◌, ◌++◌, codes, length, Option, None, Some}
 use Rattle.script_lines.specs.Outcomes.{Outcome, Skips}
 use Rattle.sentence_parts.specs.declared.part.Part.TheVariants.{Words, Number}
 use Rattle.sentence_parts.specs.Parts.{parts_text}

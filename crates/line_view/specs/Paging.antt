@@ -1,5 +1,5 @@
 -- What `page` writes of a script.
-use Rattle.std.specs.Prelude.{◌≡◌, ℕ, ◌-◌, zero, suc, min, Bool, true, false, nat_lt, List, [], ◌∷◌, ◌++◌, length, Option, None, Some, if◌then◌else◌}
+use Rattle.std.specs.Prelude.{ℕ, ◌-◌, zero, suc, min, Bool, true, false, nat_lt, List, [], ◌∷◌, ◌++◌, length, Option, None, Some, if◌then◌else◌}
 use Rattle.script_lines.specs.Lines.{Content, Text, Long, TooMuch}
 use Rattle.script_lines.specs.Outcomes.{Outcome, Takes}
 use Rattle.node_rules.specs.Memory.{Node}

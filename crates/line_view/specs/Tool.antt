@@ -23,7 +23,7 @@ use Rattle.line_view.specs.declared.capture.Wanted.{Wanted}
 use Rattle.line_view.specs.declared.capture.Wanted.TheVariants as wants
 use Rattle.line_view.specs.Capturing.{captured, shows_forged}
 use Rattle.run_pages.specs.Pages.{IsPage}
-use Rattle.line_view.specs.Paging.{Paging, paged, is_forged as is_page_forged}
+use Rattle.line_view.specs.Paging.{paged, is_forged as is_page_forged}
 use Rattle.line_view.specs.Checked.{faults, first_of, faults_text, closing}
 
 -- what Wireshark reads, if a word asks for that

@@ -1,4 +1,4 @@
-use Rattle.line_view.proofs.Captured.{flight_more, flights_all}
+use Rattle.line_view.proofs.Captured.{flight_more}
 use Rattle.line_view.proofs.capture.flown.Goals as goal
 
 pub loop-i-preserved : goal.loop-i-preserved

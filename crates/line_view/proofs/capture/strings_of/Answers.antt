@@ -1,4 +1,4 @@
-use Rattle.line_view.proofs.Captured.{string_more, strings_all}
+use Rattle.line_view.proofs.Captured.{string_more}
 use Rattle.line_view.proofs.capture.strings_of.Goals as goal
 
 pub loop-place-preserved : goal.loop-place-preserved

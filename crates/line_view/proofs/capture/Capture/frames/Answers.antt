@@ -1,4 +1,4 @@
-use Rattle.std.proofs.Common.{◌≡◌, ap, ◌∙◌}
+use Rattle.std.proofs.Common.{ap, ◌∙◌}
 use Rattle.line_view.specs.Capturing.{Capturing, octets_of}
 use Rattle.line_view.specs.declared.capture.Capture.TheInside.{Inside}
 use Rattle.line_view.proofs.Captured.{frames_written}
