@@ -355,8 +355,9 @@ impl Packets {
     ) -> Result<(), AllocError>
         requires run { IsRun (run_of run.now) }
         requires events { AreEvents events.now }
-        ensures { OnOk result (Adds self.old.out.items self.new.out.items
+        ensures adds { OnOk result (Adds self.old.out.items self.new.out.items
             (captures.packets_from self.old.tap (run_of run.now) fates.now start events.now)) }
+        ensures tap { self.new.tap ≡ self.old.tap }
     {
         let mut place = Place::start();
         for told in events {
@@ -369,8 +370,9 @@ impl Packets {
     /// The packets of a run, in the order of the events, by what became of its flights.
     pub fn push_events(&mut self, run: &Recording<'_>, fates: &[Fate]) -> Result<(), AllocError>
         requires { IsRun (run_of run.now) }
-        ensures { OnOk result (Adds self.old.out.items self.new.out.items
+        ensures adds { OnOk result (Adds self.old.out.items self.new.out.items
             (captures.packets_from self.old.tap (run_of run.now) fates.now start run.now.tale.now.events.items)) }
+        ensures tap { self.new.tap ≡ self.old.tap }
     {
         self.push_each(run, fates, run.tale.events.as_slice())
     }

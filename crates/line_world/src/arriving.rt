@@ -169,12 +169,20 @@ impl Line {
         let done = self.number_done(reported.done);
         let happenings = self.node_outcome(node, reported.answer);
         self.count(reported, forged);
+        // Written out, since `..happenings` would copy it for each frame that comes.
         Happenings {
+            answer: reported.answer,
             forged,
             up: handed(node, &reported.up),
+            bup: None,
+            agent: None,
+            path: None,
+            grant: None,
             took: taker(node, reported.took),
             done,
-            ..happenings
+            shown: None,
+            first_flight: happenings.first_flight,
+            flights: happenings.flights,
         }
     }
 

@@ -23,8 +23,8 @@ loop-told-preserved c =
       number = ap (λ (p : Place). p.number) after.after ∙ ap (λ (n : ℕ). n + 1) loop.invariant.number;
     }
 
-pub returns : goal.returns
-returns c =
+pub returns-clause-adds : goal.returns-clause-adds
+returns-clause-adds c =
     let loop = c.loop-told in
     loop.invariant.adds loop.self.out.items
     (no_event loop.self.out.items loop.self.tap (run_of c.args.run.now) c.args.fates.now loop.place c.args.events.now loop.told-index
