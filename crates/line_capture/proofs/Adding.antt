@@ -1,8 +1,8 @@
 -- Blocks that are added one after the other.
-use Rattle.std.proofs.Common.{◌≡◌, ◌≤◌, ◌<◌, ◌^◌, ℕ, ◌+◌, ◌*◌, List, [], ◌∷◌, ◌++◌, length, refl, sym, ap, ◌∙◌, arith, append_assoc, append-nil, length-append}
+use Rattle.std.proofs.Common.{◌≡◌, ◌≤◌, ◌<◌, ◌^◌, ℕ, List, [], ◌∷◌, ◌++◌, length, refl, sym, ap, ◌∙◌, arith, append_assoc, append-nil, length-append}
 use Rattle.std.specs.Prelude.{Some}
 use Rattle.pcapng.specs.Blocks.{Block, BlockOption, Section, Interface, Packet, AreBlocks, IsBlock, SECTION, INTERFACE, PACKET, block_spelling, capture, ended}
-use Rattle.pcapng.specs.Blocks.{interface_body, options_spelling, packet_body, packet_length, padding_length, section_body, spelling}
+use Rattle.pcapng.specs.Blocks.{interface_body, options_spelling, packet_body, section_body, spelling}
 use Rattle.pcapng.specs.Reading.{blocks_in}
 use Rattle.pcapng.specs.declared.options.Direction.{Direction}
 use Rattle.pcapng.proofs.Lengths.{length_of_block, length_of_ended, length_of_interface, length_of_packet, length_of_section}

@@ -1,9 +1,8 @@
 -- What is said of the arrivals of a flight.
 use Rattle.std.proofs.Common.{◌≡◌, ◌≤◌, ◌<◌, ◌&&◌, ℕ, zero, suc, Bool, true, false, ◌+◌, ◌-◌, List, [], ◌∷◌, ◌++◌, length, drop, refl, sym, ap, subst, ◌∙◌}
-use Rattle.std.proofs.Common.{append-nil, arith, get_or, if◌then◌else◌, length-append, nat_lt}
+use Rattle.std.proofs.Common.{append-nil, arith, get_or, if◌then◌else◌, nat_lt}
 use Rattle.std.specs.Prelude.{All}
 use Rattle.std.proofs.lemmas.Bool.{ltb-true}
-use Rattle.std.proofs.lemmas.Grind.{common_steps}
 use Rattle.std.proofs.lemmas.List.Elements.{All-append, All-nil, All-same}
 use Rattle.pcapng.specs.Blocks.{BlockOption, options_spelling}
 use Rattle.line_capture.specs.declared.fate.Arrival.{Arrival}

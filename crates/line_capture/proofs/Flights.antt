@@ -1,7 +1,7 @@
 -- The flights of a run are the packets of its capture.
 use Rattle.std.proofs.Common.{◌≡◌, ◌≤◌, ◌<◌, ◌==◌, ℕ, zero, suc, Bool, true, false, ◌+◌, ◌-◌, List, [], ◌∷◌, ◌++◌, length, drop, replicate, Option, None}
-use Rattle.std.proofs.Common.{Some, refl, sym, ap, subst, ◌∙◌}
-use Rattle.std.proofs.Common.{arith, append_assoc, append-nil, slice_get, slice_set, if◌then◌else◌}
+use Rattle.std.proofs.Common.{Some, refl, sym, ap, ◌∙◌}
+use Rattle.std.proofs.Common.{arith, append_assoc, append-nil, slice_get, if◌then◌else◌}
 use Rattle.std.specs.Prelude.{All}
 use Rattle.std.proofs.lemmas.Grind.{common_steps}
 use Rattle.std.proofs.lemmas.List.{length-replicate, length-set}
@@ -16,10 +16,10 @@ use Rattle.line_tale.specs.Lists.{changed_at, changed_place}
 use Rattle.line_tale.specs.Tales.{numbered}
 use Rattle.line_capture.specs.FateValues.{FateValue}
 use Rattle.line_capture.specs.Fates.{arrived, fates_by, fates_from, fates_of, lost, no_fate}
-use Rattle.line_capture.specs.Captures.{Run, event_packets, flights_packets, flown_packets, heard_packets, packets, packets_from, sent_packet, flown_notes}
+use Rattle.line_capture.specs.Captures.{Run, flights_packets, flown_packets, heard_packets, packets, packets_from, sent_packet, flown_notes}
 use Rattle.line_capture.specs.Captures.{where_some}
 use Rattle.line_capture.specs.Places.{place_after, start, time_at}
-use Rattle.line_capture.specs.Laws.{FlightsAreCaptured, Frame, HasNoInjection, IsNoInjection, IsWhole, flights_of, frames_flown, frames_of}
+use Rattle.line_capture.specs.Laws.{FlightsAreCaptured, Frame, HasNoInjection, IsNoInjection, flights_of, frames_flown, frames_of}
 
 -- # There is a fate for each flight
 

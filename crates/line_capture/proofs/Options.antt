@@ -2,7 +2,7 @@
 use Rattle.std.proofs.Common.{◌≡◌, ◌≤◌, ℕ, ◌+◌, ◌*◌, List, [], ◌∷◌, ◌++◌, length, refl, sym, ap, ◌∙◌, arith, append_assoc, append-nil, length-append}
 use Rattle.std.specs.Prelude.{All}
 use Rattle.std.proofs.lemmas.List.Elements.{All-append, All-cons, All-head, All-nil, All-tail}
-use Rattle.pcapng.specs.Blocks.{BlockOption, AreOptions, option_spelling, options_spelling, padding_length}
+use Rattle.pcapng.specs.Blocks.{BlockOption, AreOptions, option_spelling, options_spelling}
 use Rattle.pcapng.proofs.Lengths.{length_of_option}
 use Rattle.line_capture.specs.Sentences.{AreFew, IsSmall}
 

@@ -1,6 +1,6 @@
 -- The times of packets rise.
-use Rattle.std.proofs.Common.{◌≡◌, ◌≤◌, ◌<◌, ◌^◌, ℕ, zero, suc, Bool, true, false, ◌+◌, ◌*◌, List, [], ◌∷◌, ◌++◌, length, Option, None, Some, refl, sym}
-use Rattle.std.proofs.Common.{ap, subst, ◌∙◌, arith}
+use Rattle.std.proofs.Common.{◌≡◌, ◌≤◌, ◌<◌, ℕ, zero, suc, Bool, true, false, ◌+◌, ◌*◌, List, [], ◌∷◌, ◌++◌, length, Option, None, Some, refl, sym}
+use Rattle.std.proofs.Common.{ap, subst, arith}
 use Rattle.std.specs.Prelude.{All}
 use Rattle.std.proofs.lemmas.List.Elements.{All-head, All-tail}
 use Rattle.pcapng.specs.Blocks.{Block, Section, Interface, Packet}
@@ -14,7 +14,7 @@ use Rattle.line_capture.specs.Captures.{Run, event_packets, flights_packets, flo
 use Rattle.line_capture.specs.Captures.{delivered_notes, flown_notes, heard_packet, injected_notes, sent_packet}
 use Rattle.line_tale.specs.declared.told.TaleFlight.{TaleFlight}
 use Rattle.line_tale.specs.Tales.{numbered}
-use Rattle.line_capture.specs.Places.{AreEvents, HasAct, IsAct, IsPlace, clock_after, place_after, since_after, start, time_at}
+use Rattle.line_capture.specs.Places.{HasAct, IsAct, IsPlace, clock_after, place_after, since_after, start, time_at}
 use Rattle.line_capture.specs.Laws.{HasCount, Rise, RiseFrom, TimesRise, times_of}
 use Rattle.line_capture.proofs.Walks.{after_is, start_is}
 

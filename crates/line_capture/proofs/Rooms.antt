@@ -1,15 +1,14 @@
 -- How many octets a packet and its options have at most.
-use Rattle.std.proofs.Common.{◌≡◌, ◌≤◌, ◌<◌, ◌^◌, ◌==◌, ℕ, Bool, true, false, ◌+◌, ◌-◌, List, [], ◌∷◌, ◌++◌, length, arith, length-append, sym, subst}
+use Rattle.std.proofs.Common.{◌≡◌, ◌≤◌, ◌<◌, ◌^◌, ◌==◌, ℕ, Bool, true, false, ◌-◌, List, ◌++◌, length, arith, length-append, sym, subst}
 use Rattle.std.proofs.Common.{Some, None, if◌then◌else◌, slice_get}
 use Rattle.std.specs.Prelude.{All}
 use Rattle.std.proofs.lemmas.List.Elements.{All-get_or}
 use Rattle.std.proofs.lemmas.Option.{get_or_from_slice_get, none-some, slice_get_within}
 use Rattle.byteorder.specs.Endian.{little_bytes}
-use Rattle.pcapng.specs.Blocks.{FLAGS, direction_number, option_spelling, options_spelling, packet_length, padding_length}
-use Rattle.pcapng.specs.declared.options.Direction.{Direction}
+use Rattle.pcapng.specs.Blocks.{FLAGS, option_spelling, packet_length}
 use Rattle.pcapng.proofs.Lengths.{length_of_option}
 use Rattle.line_tale.specs.Tales.{numbered}
-use Rattle.line_capture.specs.Captures.{IsFrame, direction_notes, tap_heard, tap_sent}
+use Rattle.line_capture.specs.Captures.{IsFrame, tap_heard, tap_sent}
 
 pub heard_short : (tap : Bool) (cost : ℕ) → length (tap_heard tap cost) ≤ 20
 heard_short false cost = omega arith

@@ -1,5 +1,5 @@
 -- Which sentences fit an option of a block.
-use Rattle.std.proofs.Common.{◌≡◌, ◌≤◌, ◌<◌, ◌^◌, ℕ, ◌+◌, ◌*◌, List, [], ◌∷◌, ◌++◌, length, arith, length-append, subst, sym}
+use Rattle.std.proofs.Common.{◌≡◌, ◌≤◌, ◌<◌, ◌^◌, ℕ, ◌*◌, List, [], ◌∷◌, ◌++◌, length, arith, length-append, subst, sym}
 use Rattle.std.specs.Prelude.{All, Bool, codes, false, true, ⊤}
 use Rattle.std.specs.Fmt.{decimal}
 use Rattle.std.proofs.lemmas.List.Elements.{All-cons, All-head, All-nil, All-tail}

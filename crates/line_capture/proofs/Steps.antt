@@ -2,7 +2,7 @@
 use Rattle.std.proofs.Common.{◌≡◌, ◌≤◌, ◌<◌, ℕ, zero, suc, Bool, true, ◌+◌, ◌-◌, List, [], ◌∷◌, ◌++◌, length, drop, Option, Some, refl, sym, ap, subst, ◌∙◌}
 use Rattle.std.proofs.Common.{arith, get_or}
 use Rattle.plc_base.specs.declared.address.Eui.{Eui}
-use Rattle.pcapng.specs.Blocks.{Block, BlockOption, IsBlock, spelling}
+use Rattle.pcapng.specs.Blocks.{Block}
 use Rattle.line_script.specs.declared.report.Totals.{Totals}
 use Rattle.line_tale.specs.declared.told.TaleEvent.{TaleEvent}
 use Rattle.line_tale.specs.declared.told.TaleFlight.{TaleFlight}
@@ -14,7 +14,7 @@ use Rattle.line_capture.specs.Captures.{heard_packet, heard_packets, injected_no
 use Rattle.line_capture.specs.Captures.{section, sent_packet, where_some}
 use Rattle.line_capture.specs.Fates.{fates_of}
 use Rattle.line_capture.specs.Places.{place_after, start, time_at}
-use Rattle.line_capture.proofs.Adding.{adds_none, adds_one, adds_then}
+use Rattle.line_capture.proofs.Adding.{adds_none, adds_then}
 use Rattle.line_capture.proofs.Lists.{next, past}
 
 -- # Nodes

@@ -1,17 +1,14 @@
 -- What a capture of a run holds: the blocks of `pcapng`, as a function of what was recorded of the run.
 use Rattle.std.specs.Prelude.{◌≡◌, ◌≤◌, All, ℕ, ◌+◌, ◌-◌, ◌==◌, Bool, true, false, List, [], ◌∷◌, ◌++◌, codes, length, zero, suc, Option, None, Some}
 use Rattle.std.specs.Prelude.{if◌then◌else◌}
-use Rattle.hex.specs.Hex.{encode_lower}
 use Rattle.byteorder.specs.Endian.{little_bytes}
 use Rattle.plc_base.specs.declared.address.Eui.{Eui}
 use Rattle.pcapng.specs.Blocks.{BlockOption, Block, Section, Interface, Packet, APPLICATION, NAME, DESCRIPTION, RESOLUTION, FLAGS, COMMENT, AreBlocks}
 use Rattle.pcapng.specs.Blocks.{direction_number, capture}
 use Rattle.pcapng.specs.declared.options.Direction.{Direction}
 use Rattle.pcapng.specs.declared.options.Direction.TheVariants.{Inbound, Outbound}
-use Rattle.sentence_parts.specs.declared.part.Part.{Part}
 use Rattle.sentence_parts.specs.declared.part.Part.TheVariants.{Words, Number, Place as At}
 use Rattle.sentence_parts.specs.declared.part.Who.TheVariants.{Device}
-use Rattle.sentence_parts.specs.Parts.{parts_text}
 use Rattle.line_script.specs.declared.report.Totals.{Totals}
 use Rattle.line_tale.specs.declared.act.Act.{Act}
 use Rattle.line_tale.specs.declared.act.Act.TheVariants as acts

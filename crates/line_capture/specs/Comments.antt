@@ -4,7 +4,6 @@ use Rattle.line_events.specs.declared.event.Answer.{Answer}
 use Rattle.line_events.specs.declared.event.Answer.TheVariants as answers
 use Rattle.line_script.specs.AnswerWords.{answer_word, verdict_word}
 use Rattle.pcapng.specs.Blocks.{BlockOption}
-use Rattle.sentence_parts.specs.declared.part.Part.{Part}
 use Rattle.sentence_parts.specs.declared.part.Part.TheVariants.{Words, Number}
 use Rattle.line_capture.specs.declared.fate.Arrival.{Arrival}
 use Rattle.line_capture.specs.FateValues.{FateValue}

@@ -4,7 +4,6 @@ use Rattle.line_tale.specs.declared.act.Act.{Act}
 use Rattle.line_tale.specs.declared.act.Act.TheVariants as acts
 use Rattle.line_tale.specs.declared.told.TaleEvent.{TaleEvent}
 use Rattle.line_tale.specs.Lists.{changed_at}
-use Rattle.line_capture.specs.declared.fate.Arrival.{Arrival}
 use Rattle.line_capture.specs.FateValues.{FateValue}
 
 abbrev pub no_fate : FateValue

@@ -1,5 +1,5 @@
 -- Where a walk over the events of a run is, and the time of what happens there.
-use Rattle.std.specs.Prelude.{◌≡◌, ℕ, ◌+◌, ◌*◌, ◌<◌, ◌≤◌, List, length, All, ⊤}
+use Rattle.std.specs.Prelude.{ℕ, ◌+◌, ◌*◌, ◌<◌, ◌≤◌, List, length, All, ⊤}
 use Rattle.line_tale.specs.declared.act.Act.{Act}
 use Rattle.line_tale.specs.declared.act.Act.TheVariants as acts
 use Rattle.line_tale.specs.declared.told.TaleEvent.{TaleEvent}

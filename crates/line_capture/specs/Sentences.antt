@@ -1,6 +1,6 @@
 -- Sentences as options of a block, and which fit there.
-use Rattle.std.specs.Prelude.{◌≡◌, ℕ, ◌≤◌, ◌<◌, ◌^◌, List, [], ◌∷◌, length, All}
-use Rattle.pcapng.specs.Blocks.{BlockOption, COMMENT, NAME, DESCRIPTION}
+use Rattle.std.specs.Prelude.{ℕ, ◌≤◌, ◌<◌, ◌^◌, List, [], ◌∷◌, length, All}
+use Rattle.pcapng.specs.Blocks.{BlockOption, COMMENT}
 use Rattle.sentence_parts.specs.declared.part.Part.{Part}
 use Rattle.sentence_parts.specs.Parts.{part_text, parts_text}
 

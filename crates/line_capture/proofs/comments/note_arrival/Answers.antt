@@ -1,4 +1,4 @@
-use Rattle.std.proofs.Common.{◌≡◌, ◌≤◌, ◌++◌, ℕ, List, length, arith}
+use Rattle.std.proofs.Common.{◌++◌, arith}
 use Rattle.std.specs.Prelude.{codes}
 use Rattle.line_script.specs.AnswerWords.{answer_word, verdict_word}
 use Rattle.line_capture.specs.Comments.{forged_words}

@@ -1,6 +1,5 @@
-use Rattle.std.proofs.Common.{◌≡◌, ◌≤◌, ◌<◌, ◌++◌, ℕ, List, length, arith}
-use Rattle.pcapng.specs.Blocks.{options_spelling}
-use Rattle.line_capture.specs.Comments.{arrivals_notes, meant_from}
+use Rattle.std.proofs.Common.{◌<◌, length, arith}
+use Rattle.line_capture.specs.Comments.{arrivals_notes}
 use Rattle.line_capture.proofs.Arrivals.{arrival_bound, arrival_counted, arrival_noted, arrival_small, arrivals_counted, arrivals_noted, arrivals_small}
 use Rattle.line_capture.proofs.comments.note_arrivals.Goals as goal
 

@@ -1,4 +1,4 @@
-use Rattle.std.proofs.Common.{◌≡◌, ◌≤◌, ◌-◌, ℕ, List, length, arith}
+use Rattle.std.proofs.Common.{arith}
 use Rattle.line_capture.proofs.Sentences.{sentence, short_numbered, short_words}
 use Rattle.line_capture.proofs.comments.note_end.Goals as goal
 

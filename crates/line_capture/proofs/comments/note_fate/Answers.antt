@@ -1,4 +1,3 @@
-use Rattle.std.proofs.Common.{◌≡◌, ◌-◌, ℕ, List, length}
 use Rattle.line_capture.proofs.Arrivals.{fate_noted, few_of_fate}
 use Rattle.line_capture.proofs.comments.note_fate.Goals as goal
 

@@ -1,4 +1,3 @@
-use Rattle.std.proofs.Common.{◌≡◌, ℕ, List}
 use Rattle.line_capture.proofs.Adding.{adds_reads}
 use Rattle.line_capture.proofs.file.capture_file.Goals as goal
 

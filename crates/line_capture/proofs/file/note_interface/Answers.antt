@@ -1,4 +1,4 @@
-use Rattle.std.proofs.Common.{◌≡◌, ◌≤◌, ◌-◌, ◌++◌, ◌∷◌, [], ℕ, List, codes, length, arith}
+use Rattle.std.proofs.Common.{◌++◌, ◌∷◌, [], codes, arith}
 use Rattle.sentence_parts.specs.declared.part.Part.TheVariants.{Number, Words}
 use Rattle.pcapng.specs.Blocks.{BlockOption, NAME, RESOLUTION}
 use Rattle.line_capture.specs.Captures.{description_notes}

@@ -1,4 +1,4 @@
-use Rattle.std.proofs.Common.{◌≡◌, ◌≤◌, ℕ, List, length, arith}
+use Rattle.std.proofs.Common.{◌≡◌, length, arith}
 use Rattle.line_capture.proofs.Sentences.{sentence, short_device, short_numbered, short_words}
 use Rattle.line_capture.proofs.file.note_meter.Goals as goal
 

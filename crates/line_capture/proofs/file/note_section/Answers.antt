@@ -1,5 +1,5 @@
-use Rattle.std.proofs.Common.{◌≡◌, ◌++◌, ◌∷◌, ◌∙◌, [], ℕ, List, codes, arith}
-use Rattle.pcapng.specs.Blocks.{APPLICATION, BlockOption, options_spelling}
+use Rattle.std.proofs.Common.{◌++◌, ◌∷◌, ◌∙◌, [], codes, arith}
+use Rattle.pcapng.specs.Blocks.{APPLICATION, BlockOption}
 use Rattle.line_capture.specs.Captures.{remark_notes, totals_notes}
 use Rattle.line_capture.proofs.Options.{few_one, few_then, one_option, options_begun, options_then}
 use Rattle.line_capture.proofs.file.note_section.Goals as goal

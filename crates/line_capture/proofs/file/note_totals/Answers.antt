@@ -1,4 +1,4 @@
-use Rattle.std.proofs.Common.{◌≡◌, ◌≤◌, ◌++◌, ◌∷◌, [], ℕ, List, codes, length, subst, arith}
+use Rattle.std.proofs.Common.{◌≡◌, ◌++◌, ◌∷◌, [], List, codes, subst, arith}
 use Rattle.std.specs.Prelude.{OnOk}
 use Rattle.pcapng.specs.Blocks.{options_spelling}
 use Rattle.sentence_parts.specs.declared.part.Part.{Part}

@@ -1,4 +1,3 @@
-use Rattle.std.proofs.Common.{◌≡◌, ℕ, List, length}
 use Rattle.line_capture.specs.Captures.{run_of}
 use Rattle.line_capture.proofs.Steps.{file_added}
 use Rattle.line_capture.proofs.file.push_blocks.Goals as goal

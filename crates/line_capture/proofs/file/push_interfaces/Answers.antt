@@ -1,4 +1,4 @@
-use Rattle.std.proofs.Common.{◌≡◌, ℕ, List, arith}
+use Rattle.std.proofs.Common.{arith}
 use Rattle.line_capture.proofs.Steps.{no_node, node_added}
 use Rattle.line_capture.proofs.file.push_interfaces.Goals as goal
 

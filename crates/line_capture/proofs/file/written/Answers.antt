@@ -1,4 +1,4 @@
-use Rattle.std.proofs.Common.{◌≡◌, [], Bool, ℕ, List, subst}
+use Rattle.std.proofs.Common.{[], Bool, ℕ, List, subst}
 use Rattle.line_capture.specs.Captures.{Adds, blocks, run_of}
 use Rattle.line_capture.proofs.file.written.Goals as goal
 

@@ -1,4 +1,4 @@
-use Rattle.std.proofs.Common.{◌≡◌, ◌<◌, ◌^◌, ℕ, List, length, ap, arith}
+use Rattle.std.proofs.Common.{ℕ, List, length, ap, arith}
 use Rattle.line_capture.proofs.Sentences.{few_said, sentence_octets}
 use Rattle.line_capture.proofs.notes.Notes.comment.Goals as goal
 

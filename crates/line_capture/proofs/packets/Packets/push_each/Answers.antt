@@ -1,4 +1,4 @@
-use Rattle.std.proofs.Common.{◌≡◌, ◌≤◌, ◌<◌, ◌+◌, ◌∙◌, ℕ, List, length, ap, refl, arith}
+use Rattle.std.proofs.Common.{◌<◌, ◌+◌, ◌∙◌, ℕ, length, ap, refl, arith}
 use Rattle.line_capture.specs.declared.place.Place.{Place}
 use Rattle.line_capture.specs.Captures.{run_of}
 use Rattle.line_capture.proofs.Steps.{event_added, no_event}

@@ -1,4 +1,3 @@
-use Rattle.std.proofs.Common.{◌≡◌, ℕ, List}
 use Rattle.line_capture.specs.Captures.{run_of}
 use Rattle.line_capture.proofs.Steps.{event_whole}
 use Rattle.line_capture.proofs.packets.Packets.push_event.Goals as goal

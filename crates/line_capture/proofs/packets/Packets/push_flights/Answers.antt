@@ -1,4 +1,4 @@
-use Rattle.std.proofs.Common.{◌≡◌, ◌≤◌, ◌<◌, ◌∙◌, ℕ, List, refl, arith}
+use Rattle.std.proofs.Common.{◌<◌, ◌∙◌, refl, arith}
 use Rattle.line_capture.specs.Captures.{run_of}
 use Rattle.line_capture.proofs.Steps.{all_flights, flight_added, no_flight}
 use Rattle.line_capture.proofs.packets.Packets.push_flights.Goals as goal

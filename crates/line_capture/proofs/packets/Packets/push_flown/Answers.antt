@@ -1,4 +1,4 @@
-use Rattle.std.proofs.Common.{◌≡◌, ◌<◌, ◌^◌, ◌+◌, ◌∙◌, ℕ, List, length, ap, arith}
+use Rattle.std.proofs.Common.{◌≡◌, ◌+◌, ◌∙◌, ℕ, List, length, ap, arith}
 use Rattle.pcapng.specs.declared.options.Direction.TheVariants.{Outbound}
 use Rattle.line_capture.specs.Captures.{flown_notes, run_of, tap_sent}
 use Rattle.line_capture.specs.Places.{time_at}

@@ -1,4 +1,4 @@
-use Rattle.std.proofs.Common.{◌≡◌, ◌<◌, ◌^◌, ◌+◌, ℕ, List, length, ap, arith, refl}
+use Rattle.std.proofs.Common.{◌+◌, ℕ, List, length, ap, arith, refl}
 use Rattle.pcapng.specs.declared.options.Direction.TheVariants.{Inbound}
 use Rattle.line_capture.specs.Captures.{injected_notes, run_of, tap_heard}
 use Rattle.line_capture.specs.Places.{time_at}

@@ -1,6 +1,6 @@
-use Rattle.std.proofs.Common.{◌≡◌, ◌∙◌, List, ℕ}
-use Rattle.line_capture.specs.Captures.{tap_heard, tap_sent}
-use Rattle.line_capture.proofs.Rooms.{heard_short, packet_fits, sent_short}
+use Rattle.std.proofs.Common.{◌∙◌}
+use Rattle.line_capture.specs.Captures.{tap_sent}
+use Rattle.line_capture.proofs.Rooms.{packet_fits, sent_short}
 use Rattle.line_capture.proofs.packets.Packets.push_outbound.Goals as goal
 
 pub push-requires : goal.push-requires

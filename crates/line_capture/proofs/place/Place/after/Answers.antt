@@ -1,4 +1,4 @@
-use Rattle.std.proofs.Common.{◌≡◌, ◌≤◌, ◌<◌, arith}
+use Rattle.std.proofs.Common.{arith}
 use Rattle.line_capture.proofs.Walks.{clock_low, injected_low, since_low}
 use Rattle.line_capture.proofs.place.Place.after.Goals as goal
 

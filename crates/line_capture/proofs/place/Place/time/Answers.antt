@@ -1,4 +1,4 @@
-use Rattle.std.proofs.Common.{◌≡◌, ◌<◌, ◌^◌, arith}
+use Rattle.std.proofs.Common.{arith}
 use Rattle.line_capture.proofs.Walks.{time_low}
 use Rattle.line_capture.proofs.place.Place.time.Goals as goal
 
