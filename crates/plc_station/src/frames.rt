@@ -168,6 +168,29 @@ impl<K: Keeper + Drop> Station<K> {
         }
     }
 
+    // Takes octets that came as a frame.
+    fn accept_octets<'a>(
+        &mut self,
+        octets: &[u8],
+        payload: &'a mut FrameBuf,
+    ) -> Result<Accepted<'a>, FrameRefusal>
+        requires agrees { Agrees self.old }
+        ensures halted { IfNone self.old.memory ((result ≡ Err FrameRefusal.Halted) × (self.new ≡ self.old)) }
+        ensures carries { IfSome self.old.memory
+            (λ l. Carries self.old (accepting.accept l self.old.eui
+            (arrived network octets.now)) result nothing self.new) }
+        ensures after { After self.old self.new }
+        ensures fits { IfOk result (λ got. Fits got) }
+    {
+        if self.halted {
+            return Err(FrameRefusal::Halted);
+        }
+        match read_frame(octets) {
+            Err(_) => Err(FrameRefusal::Malformed),
+            Ok(raw) => self.accept_raw(&raw, payload),
+        }
+    }
+
     /// Takes octets that came as a frame: opens them, and keeps the counter of a sealed frame as the mark of its sender. What is
     /// inside an accepted frame replaces what `payload` held.
     ///
@@ -186,15 +209,8 @@ impl<K: Keeper + Drop> Station<K> {
         ensures fits { IfOk result (λ got. Fits got) }
         ensures waits { IfSome self.new.memory (λ l. WaitingFits l) }
     {
-        if self.halted {
-            return Err(FrameRefusal::Halted);
-        }
+        let accepted = self.accept_octets(octets, payload);
         // What waits keeps its sizes.
-        let _waiting = self.bodies.count();
-        let Ok(raw) = read_frame(octets) else {
-            return Err(FrameRefusal::Malformed);
-        };
-        let accepted = self.accept_raw(&raw, payload);
         let _waiting = self.bodies.count();
         accepted
     }

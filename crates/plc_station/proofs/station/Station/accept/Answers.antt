@@ -1,22 +1,11 @@
-use Rattle.std.proofs.Common.{Err, Option, sym, subst}
-use Rattle.node_rules.specs.declared.refusal.FrameRefusal.TheVariants.{Malformed, Store}
-use Rattle.node_rules.specs.Accepting as accepting
-use Rattle.node_rules.specs.Frames.{Arrived}
-use Rattle.node_rules.specs.Carrying.{Carries, nothing}
-use Rattle.plc_station.proofs.Carrying.{if_some, at_some, resting_carried}
-use Rattle.plc_station.proofs.Accepting.{not_arrived, arrived_is}
+use Rattle.node_rules.specs.Laws.{WaitingFits}
+use Rattle.plc_station.specs.StationReading.{station_in}
+use Rattle.plc_station.proofs.Carrying.{on_memory}
+use Rattle.plc_station.proofs.Holding.{waiting_fits}
 use Rattle.plc_station.proofs.station.Station.accept.Goals as goal
 
-pub returns-in_default-clause-carries : goal.returns-in_default-clause-carries
-returns-in_default-clause-carries g c =
-    if_some c.args.self.now.memory _
-    (λ l m. subst (λ (a : Option Arrived). Carries c.args.self.now (accepting.accept l c.args.self.now.eui a) (Err Malformed) nothing c.args.self.now)
-    (sym (not_arrived c.args.octets.now _ c.in_default.ensures.exact)) (resting_carried c.args.self.now l (Err Malformed) (Err Store) m))
-
-pub returns-clause-carries : goal.returns-clause-carries
-returns-clause-carries g c =
-    if_some c.args.self.now.memory _ (λ l m. subst
-    (λ (a : Option Arrived). Carries c.args.self.now (accepting.accept l c.args.self.now.eui a) c.accept_raw-accepted.result nothing
-    c.accept_raw-accepted.new.self)
-    (sym (arrived_is c.args.octets.now _ _ _ c.in-Ok.ensures.exact c.in-Ok.ensures.places.0 c.in-Ok.ensures.places.1 c.in-Ok.ensures.front))
-    (at_some c.args.self.now.memory _ l m c.accept_raw-accepted.ensures.carries))
+pub returns-clause-waits : goal.returns-clause-waits
+returns-clause-waits g c =
+    rw (← c.self.view_is)
+    (on_memory c.self.inside.halted (station_in c.self.inside.parts c.self.inside.bodies) WaitingFits
+    (λ _. waiting_fits (station_in c.self.inside.parts c.self.inside.bodies) c.count-waiting.ensures.sized))
