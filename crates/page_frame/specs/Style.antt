@@ -98,7 +98,7 @@ map_text =
 unfoldable pub print_text : List ℕ
 print_text =
     rules_text
-    (codes "@page{size:landscape;margin:10mm}@media print{body{zoom:.75;background:none;print-color-adjust:exact}.m,.card{overflow:visible}"
+    (codes "@page{size:landscape;margin:10mm}@media print{body{zoom:.6;background:none;print-color-adjust:exact}.m,.card{overflow:visible}"
     ∷ codes ".m,.tile,.card,summary{break-inside:avoid}h2{break-after:avoid}.high{max-height:none}}"
     ∷ [])
 

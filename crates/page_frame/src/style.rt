@@ -254,7 +254,7 @@ fn push_print_rules(out: &mut Vec<u8>) -> Result<(), AllocError>
         out,
         &[
             rule(
-                "@page{size:landscape;margin:10mm}@media print{body{zoom:.75;background:none;print-color-adjust:exact}.m,.card{overflow:visible}",
+                "@page{size:landscape;margin:10mm}@media print{body{zoom:.6;background:none;print-color-adjust:exact}.m,.card{overflow:visible}",
             ),
             rule(
                 ".m,.tile,.card,summary{break-inside:avoid}h2{break-after:avoid}.high{max-height:none}}",
