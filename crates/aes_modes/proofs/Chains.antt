@@ -69,13 +69,6 @@ chained_all-append key x a m whole =
 pub chained_all_one : (key x b : List ℕ) → length b ≡ 16 → chained_all key x b ≡ encrypted key (xor_bytes x b)
 chained_all_one key x b len = rw len (chained_one key x b len)
 
--- a text of whole blocks needs no padding
-pub chained_whole : (key x m : List ℕ) → length m % 16 ≡ 0 → chained key x m (length m / 16) ≡ chained_all key x (padded m)
-chained_whole key x m whole =
-    let none : (16 - length m % 16) % 16 ≡ 0 = omega arith in
-    let same : padded m ≡ m = rw none (append-nil m) in
-    sym (ap (chained_all key x) same)
-
 -- another text ends in a padded block
 pub chained_part : (key x m : List ℕ) → length m % 16 ≢ 0
     → encrypted key (xor_bytes (chained key x m (length m / 16)) (drop (16 * (length m / 16)) m ++ replicate (16 - (length m - 16 * (length m / 16))) 0))

@@ -24,9 +24,6 @@ MaskedTo f old new n =
     ((k : ℕ) → k < n → get_or new k 0 ≡ bit_xor (get_or old k 0) (get_or (f (k / 16)) (k % 16) 0))
     × ((k : ℕ) → n ≤ k → get_or new k 0 ≡ get_or old k 0)
 
-pub masked_none : (f : ℕ → List ℕ) (old : List ℕ) → MaskedTo f old old 0
-masked_none f old = (λ k h. absurd (omega arith), λ k h. refl)
-
 pub masked_more : (f : ℕ → List ℕ) (old mid new s : List ℕ) (i count n : ℕ) → MaskedTo f old mid (16 * i) → s ≡ f i
     → count ≤ 16
     → ((k : ℕ) → k < count → get_or new (16 * i + k) 0 ≡ bit_xor (get_or mid (16 * i + k) 0) (get_or s k 0))

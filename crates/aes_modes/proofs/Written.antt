@@ -1,5 +1,5 @@
 -- Blocks written out, and sums of bytes.
-use Rattle.std.proofs.Common.{◌≡◌, ℕ, zero, suc, ◌+◌, ◌≤◌, List, [], ◌∷◌, length, take, drop, get_or, refl, ap, ◌∙◌, arith, add-zero}
+use Rattle.std.proofs.Common.{◌≡◌, ℕ, zero, suc, ◌+◌, ◌≤◌, List, [], ◌∷◌, length, take, drop, get_or, refl, ap, ◌∙◌, arith}
 use Rattle.std.proofs.lemmas.List.{drop_more, take_all}
 use Rattle.aes_modes.specs.Cipher.{xor_bytes}
 
@@ -19,9 +19,6 @@ gets_are (suc n) k at xs h =
 -- a list of n elements is its elements
 pub spelled : (n : ℕ) (xs : List ℕ) → length xs ≡ n → gets n 0 0 xs ≡ xs
 spelled n xs len = gets_are n 0 0 xs (omega arith) ∙ take_all n xs (omega arith)
-
-pub block_at_is : (xs : List ℕ) (at : ℕ) → at + 16 ≤ length xs → get_or xs at 0 ∷ gets 15 1 at xs ≡ take 16 (drop at xs)
-block_at_is xs at h = rw add-zero at (gets_are 16 0 at xs (omega arith))
 
 pub xor_blocks_is : (a b : List ℕ) → length a ≡ 16 → length b ≡ 16 → xor_bytes (gets 16 0 0 a) (gets 16 0 0 b) ≡ xor_bytes a b
 xor_blocks_is a b la lb = λ i. xor_bytes (spelled 16 a la i) (spelled 16 b lb i)

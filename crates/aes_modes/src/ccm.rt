@@ -1,10 +1,8 @@
 //! CCM of RFC 3610 with L = 2 and tags of 4 or 8 octets, which is CCM* of IEEE 802.15.4-2006, annex B, where it encrypts
 //! and authenticates.
-ghost use Rattle.std.specs.Prelude.{◌≡◌, ◌↔◌, ℕ, ◌+◌, ◌-◌, ◌*◌, ◌/◌, ◌==◌, if◌then◌else◌, ◌<◌, ◌≤◌, ◌⊎◌, ◌++◌, length, take, IsTrue, OnOk, OnErr, IsOk};
-ghost use Rattle.aes_modes.specs.Cipher.{xor_bytes};
+ghost use Rattle.std.specs.Prelude.{◌≡◌, ◌↔◌, ◌+◌, ◌-◌, ◌*◌, ◌/◌, ◌==◌, if◌then◌else◌, ◌<◌, ◌≤◌, ◌⊎◌, length, take, IsTrue, OnOk, OnErr, IsOk};
 ghost use Rattle.aes_modes.specs.Chains.{chained_all};
-ghost use Rattle.aes_modes.specs.KeyStream.{masked};
-ghost use Rattle.aes_modes.specs.Ccm.{ccm_first_block, ccm_header_blocks, ccm_counter_block, ccm_stream_block, ccm_mac, ccm_text, ccm_tag};
+ghost use Rattle.aes_modes.specs.Ccm.{ccm_first_block, ccm_header_blocks, ccm_counter_block, ccm_text, ccm_tag};
 
 use crate::BadTag;
 use crate::blocks::{mask_block, padded_block, xor_blocks};

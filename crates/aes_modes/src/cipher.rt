@@ -1,5 +1,5 @@
 //! The cipher of FIPS 197 with 128-bit keys. A state is one register of 16 octets, and so is a round key.
-ghost use Rattle.std.specs.Prelude.{◌≡◌, ℕ, ◌+◌, ◌<◌, List, map};
+ghost use Rattle.std.specs.Prelude.{◌≡◌, ℕ, ◌<◌, List, map};
 ghost use Rattle.aes_modes.specs.Cipher.{xor_bytes, round, last_round, next_round_key, encrypted};
 ghost use Rattle.aes_modes.specs.LookUps.{unturned, unhidden};
 ghost use Rattle.aes_modes.specs.Schedule.{first_key, IsSchedule};

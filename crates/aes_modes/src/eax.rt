@@ -1,6 +1,6 @@
 //! EAX with tags of 16 octets (Bellare, Rogaway and Wagner: The EAX Mode of Operation, 2004).
-ghost use Rattle.std.specs.Prelude.{◌≡◌, ◌↔◌, ℕ, ◌+◌, ◌<◌, ◌≤◌, ◌++◌, length, OnOk, OnErr, IsOk};
-ghost use Rattle.std.specs.Int.{w128, to_be_bytes};
+ghost use Rattle.std.specs.Prelude.{◌≡◌, ◌↔◌, ◌<◌, OnOk, OnErr, IsOk};
+ghost use Rattle.std.specs.Int.{to_be_bytes};
 ghost use Rattle.aes_modes.specs.Cmac.{first_subkey};
 ghost use Rattle.aes_modes.specs.KeyStream.{masked};
 ghost use Rattle.aes_modes.specs.Eax.{numbered_mac, eax_stream_block, eax_text, eax_tag};

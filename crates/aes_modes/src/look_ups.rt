@@ -3,7 +3,7 @@
 //! The method and its lists are those of M. Hamburg, Accelerating AES with Vector Permute Instructions (2009): an octet is two halves of four
 //! bits, elements of a field of 16, in which an inverse is five look-ups. Between the rounds octets are turned: they are kept in the basis of
 //! those halves.
-ghost use Rattle.std.specs.Prelude.{◌≡◌, ℕ, ◌/◌, map, replicate, bit_and, bit_xor};
+ghost use Rattle.std.specs.Prelude.{◌≡◌, ◌/◌, map, bit_and, bit_xor};
 ghost use lib.Lanes.{zip2, Each1};
 ghost use lib.Dec.{T, leb, ltb};
 ghost use mathlib.Core.Bool.{◌||◌};

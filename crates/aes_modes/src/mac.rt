@@ -1,6 +1,6 @@
 //! Chains of blocks, and CMAC over them (RFC 4493).
-ghost use Rattle.std.specs.Prelude.{◌≡◌, ℕ, ◌+◌, ◌-◌, ◌*◌, ◌/◌, ◌<◌, ◌≤◌, ◌++◌, length, drop};
-ghost use Rattle.std.specs.Int.{w128, to_be_bytes};
+ghost use Rattle.std.specs.Prelude.{◌≡◌, ◌+◌, ◌-◌, ◌*◌, ◌/◌, ◌<◌, ◌≤◌, length, drop};
+ghost use Rattle.std.specs.Int.{to_be_bytes};
 ghost use Rattle.aes_modes.specs.Chains.{chained, chained_all, padded};
 ghost use Rattle.aes_modes.specs.Cmac.{doubled, first_subkey, last_block, cmac};
 ghost use Rattle.aes_modes.specs.Resumed.{mac_from};

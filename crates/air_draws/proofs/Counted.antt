@@ -1,7 +1,7 @@
 -- A draw more is a draw after the draws before it.
-use Rattle.std.proofs.Common.{◌≡◌, ℕ, zero, suc, ◌+◌, ◌*◌, ◌/◌, ◌^◌, ◌<◌, true, false, refl, ap, sym, ◌∙◌, arith, add-one}
-use Rattle.rand_pcg.specs.Lcg.{Lcg, next, advance, next_state, state_after}
-use Rattle.rand_pcg.specs.Pcg.{multiplier_64, pcg32}
+use Rattle.std.proofs.Common.{◌≡◌, ℕ, zero, suc, ◌+◌, refl, ap, ◌∙◌, arith, add-one}
+use Rattle.rand_pcg.specs.Lcg.{Lcg, next, next_state, state_after}
+use Rattle.rand_pcg.specs.Pcg.{multiplier_64}
 use Rattle.air_draws.specs.declared.draws.Purpose.{Purpose}
 use Rattle.air_draws.specs.Draws.{first, drawn, after, after_key}
 

@@ -1,5 +1,5 @@
 //! All that touches pointers: each function here is proved by hand.
-ghost use Rattle.std.specs.Prelude.{◌≡◌, ◌*◌, ◌^◌, ◌<◌, Bool, true, false, List, length, get_or, set, replicate, IfOk};
+ghost use Rattle.std.specs.Prelude.{◌≡◌, ◌*◌, ◌^◌, ◌<◌, true, false, get_or, set, replicate, IfOk};
 ghost use types.Logic.{sem};
 ghost use Rattle.core.specs.Mem.Slots.Ownership.{bytes_of};
 ghost use Rattle.block_pool.specs.Cells.{IsSome, place_of, index_of, LiesIn, follows_at};

@@ -1,6 +1,5 @@
 ghost use Rattle.std.specs.Prelude.{◌≡◌, ℕ, ◌+◌, ◌<◌, ◌≤◌, ◌↔◌, length, replicate, IfOk, OnErr, IsErr, slice_range};
 ghost use Rattle.std.specs.Int.{div_ceil};
-ghost use Rattle.std.specs.List.{sum_by};
 ghost use Rattle.std.specs.FinMap as map;
 ghost use Rattle.block_pool.specs.Pool.{IsChain, HasBlocks, HasChain, OthersStay, SameBlocks, chain_octets, overwrite};
 

@@ -1,5 +1,5 @@
 -- A log that is opened over records which give a log is what they give.
-use Rattle.std.proofs.Common.{◌≡◌, ℕ, ◌≤◌, ◌<◌, Option, Some, None, Ok, refl, sym, subst, arith}
+use Rattle.std.proofs.Common.{◌≡◌, ℕ, ◌<◌, Option, Some, None, Ok, refl, sym, subst, arith}
 use Rattle.std.specs.FinMap.{get}
 use Rattle.plc_base.specs.Keeper.{Records}
 use Rattle.store_tables.specs.Marks.{mark_in-rests}

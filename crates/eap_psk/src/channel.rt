@@ -1,5 +1,5 @@
 //! The protected channel: EAX under TEK (RFC 4764, 3.3).
-ghost use Rattle.std.specs.Prelude.{◌≡◌, ◌<◌, ◌≤◌, ◌+◌, ◌++◌, ℕ, length, true, false, IsTrue, MatchResult, Ok, Err};
+ghost use Rattle.std.specs.Prelude.{◌≡◌, ◌<◌, ◌≤◌, ◌+◌, ◌++◌, length, true, false, IsTrue, MatchResult, Ok, Err};
 ghost use Rattle.eap_psk.specs.Keys.{nonce_block, channel, channel_tag, channel_text};
 ghost use Rattle.eap_psk.specs.Faults.{same};
 

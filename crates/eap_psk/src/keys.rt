@@ -1,6 +1,6 @@
 //! The keys of EAP-PSK.
-ghost use Rattle.std.specs.Prelude.{◌≡◌, ◌<◌, ◌++◌, ℕ, length};
-ghost use Rattle.aes_modes.specs.Cipher.{encrypted, xor_bytes};
+ghost use Rattle.std.specs.Prelude.{◌≡◌};
+ghost use Rattle.aes_modes.specs.Cipher.{xor_bytes};
 ghost use Rattle.eap_psk.specs.Keys.{numbered_block, derived, keys_of, transient_key};
 
 use aes_modes::Aes;

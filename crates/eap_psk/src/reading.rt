@@ -1,10 +1,10 @@
 //! Reads the fields of the four messages.
-ghost use Rattle.std.specs.Prelude.{◌≡◌, ◌<◌, ◌≤◌, ◌+◌, ◌*◌, ◌++◌, ℕ, Bool, length, true, false, IsTrue, MatchResult, Ok, Err, Some, None};
+ghost use Rattle.std.specs.Prelude.{◌≡◌, ◌<◌, ◌≤◌, ◌+◌, ◌*◌, ◌++◌, length, true, false, MatchResult, Ok, Err, Some, None};
 ghost use Rattle.byteorder.specs.Endian.{big_bytes};
 ghost use Rattle.plc_base.specs.Fields.{after, octet, part};
 ghost use Rattle.joining_messages.specs.Reading.{grant_in};
 ghost use Rattle.eap_psk.specs.Messages.{First, granting_text, head};
-ghost use Rattle.eap_psk.specs.Faults.{same, is_granting, head_stands, is_first, is_second, is_third, is_fourth, first_fault};
+ghost use Rattle.eap_psk.specs.Faults.{same, is_granting, head_stands, is_first, is_second, is_third, is_fourth};
 
 use crate::fault::EapFault;
 use joining_messages::read_grant;

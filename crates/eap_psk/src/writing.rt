@@ -1,5 +1,5 @@
 //! Writes the fields of the four messages, and the texts of the two codes.
-ghost use Rattle.std.specs.Prelude.{◌≡◌, ◌<◌, ◌≤◌, ◌+◌, ◌++◌, ℕ, length};
+ghost use Rattle.std.specs.Prelude.{◌≡◌, ◌<◌, ◌≤◌, ◌+◌, ◌++◌, length};
 ghost use Rattle.eap_psk.specs.Keys.{mac_p_text, mac_s_text};
 ghost use Rattle.eap_psk.specs.Messages.{fourth_head, granting_text, head, third_head};
 

@@ -15,7 +15,7 @@ use Rattle.line_tale.specs.declared.told.TaleEvent.{TaleEvent}
 use Rattle.event_faults.specs.declared.run.Made.{Made}
 use Rattle.event_faults.specs.declared.run.Named.{Named}
 use Rattle.event_faults.specs.declared.run.Place.{Place}
-use Rattle.event_faults.specs.declared.run.Place.TheVariants.{First, Second, Third}
+use Rattle.event_faults.specs.declared.run.Place.TheVariants.{Second, Third}
 use Rattle.event_faults.specs.declared.run.Wanted.{Wanted}
 use Rattle.event_faults.specs.declared.run.Wanted.TheVariants.{Joined, Near, Lost}
 

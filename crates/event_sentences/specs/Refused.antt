@@ -1,5 +1,5 @@
 -- Why a frame or an order was refused, in words.
-use Rattle.std.specs.Prelude.{ℕ, ◌+◌, ◌==◌, Bool, true, false, List, [], ◌∷◌, codes, is_some, nat_eq, Option, None, Some, if◌then◌else◌}
+use Rattle.std.specs.Prelude.{ℕ, ◌+◌, ◌==◌, Bool, false, List, [], ◌∷◌, codes, is_some, Option, None, Some, if◌then◌else◌}
 use Rattle.std.specs.Str.{bytes_eq}
 use Rattle.plc_base.specs.declared.key.Key.{Key}
 use Rattle.node_rules.specs.declared.shown.ShownRoute.{ShownRoute}
@@ -12,7 +12,7 @@ use Rattle.frame_details.specs.declared.detail.Detail.TheVariants as details
 use Rattle.frame_words.specs.declared.gist.Gist.{Gist}
 use Rattle.frame_words.specs.declared.gist.Gist.TheVariants as gists
 use Rattle.frame_words.specs.Kinds.{kind_word}
-use Rattle.sentence_parts.specs.declared.part.Part.TheVariants.{Words, Number, Node, Place, Short}
+use Rattle.sentence_parts.specs.declared.part.Part.TheVariants.{Words, Number, Node, Short}
 use Rattle.sentence_parts.specs.Parts.{parts_text}
 use Rattle.event_sentences.specs.declared.heard.Heard.{Heard}
 use Rattle.event_sentences.specs.Reasons.{held_keys, plain_reason, plain_refusal}

@@ -1,5 +1,5 @@
 -- What is kept of a node beside what it shows.
-use Rattle.std.specs.Prelude.{ℕ, ◌==◌, Bool, List, [], Option, if◌then◌else◌}
+use Rattle.std.specs.Prelude.{ℕ, ◌==◌, Bool, List, [], if◌then◌else◌}
 use Rattle.std.specs.Ordering.{nat_cmp}
 use Rattle.std.specs.Option.{unwrap_or}
 use Rattle.std.specs.BTreeMap.{insert_entry, is_at}

@@ -1,15 +1,14 @@
 -- Two banks: what an opening reads of their heads, and what is left of them after each step.
-use Rattle.std.proofs.Common.{◌≡◌, ◌⊎◌, inl, inr, ℕ, zero, suc, ◌+◌, ◌*◌, ◌/◌, ◌-◌, ◌^◌, ◌<◌, ◌≤◌, ◌==◌, Bool, true, false, List, Option, Some, None, refl}
+use Rattle.std.proofs.Common.{◌≡◌, ◌⊎◌, inl, inr, ℕ, ◌+◌, ◌-◌, ◌<◌, ◌≤◌, Bool, true, false, Option, Some, None, refl}
 use Rattle.std.proofs.Common.{sym, subst, ap, ◌∙◌, arith}
-use Rattle.std.specs.FinMap.{insert, empty}
 use Rattle.plc_base.specs.Keeper.{Records}
-use Rattle.flash_keeper.specs.Flash.{Word, Bank, Reads, Programs, Erases, erased, head_word}
-use Rattle.flash_keeper.specs.Log.{place, mark, end, room, upto, IsCertain, AreCertain, IsBlankFrom, IsSettled, IsLeft, IsFoundBlank, IsClosable, Choice}
+use Rattle.flash_keeper.specs.Flash.{Bank, Reads, Programs, Erases, erased, head_word}
+use Rattle.flash_keeper.specs.Log.{place, mark, room, upto, IsCertain, IsSettled, IsLeft, IsFoundBlank, IsClosable, Choice}
 use Rattle.flash_keeper.specs.Log.{IsOneOf, SameBelow, SameOutside}
-use Rattle.flash_keeper.specs.Banks.{IsHeaded, IsLive, IsDead, IsPending, IsBelow, AreLeft, IsStore, AreReady, IsBeside, IsFollowed, AreChosen, AreSure}
+use Rattle.flash_keeper.specs.Banks.{IsHeaded, IsLive, IsDead, IsPending, IsBelow, AreLeft, IsStore, AreReady, IsBeside, AreChosen, AreSure}
 use Rattle.flash_keeper.specs.Banks.{IsSeen, choice_of}
-use Rattle.flash_keeper.proofs.CellLemmas.{SameFront, upto-same, upto-zero, all_certain-same}
-use Rattle.flash_keeper.proofs.LogLemmas.{one_of, settled_is_left, uncounted_cell, same_bank}
+use Rattle.flash_keeper.proofs.CellLemmas.{upto-same, all_certain-same}
+use Rattle.flash_keeper.proofs.LogLemmas.{one_of, settled_is_left, same_bank}
 
 pub some_is_none : {A : Type 0} {x : A} → Some x ≡ None → ⊥
 some_is_none e = cc
@@ -106,11 +105,6 @@ choose_later a b c g h seen other sa sb is also le (inr (n, l)) = by_spare l.bes
           )
     ]
 
--- one of the banks is read as a live one
-pub one_is_live : (a b : Bank) (c : Choice) (seen other : Option ℕ) → IsSeen a seen → IsSeen b other → seen ≡ None → other ≡ None → IsStore a b c → ⊥
-one_is_live a b c seen other sa sb is none (inl (n, l)) = some_is_none (sym (sa.live l.generation l.head) ∙ is)
-one_is_live a b c seen other sa sb is none (inr (n, l)) = some_is_none (sym (sb.live l.generation l.head) ∙ none)
-
 pub swapped_store : (a b : Bank) (c : Choice) → IsStore a b c → IsStore b a c
 swapped_store a b c (inl l) = inr l
 swapped_store a b c (inr l) = inl l
@@ -183,20 +177,6 @@ begun old b0 b1 b2 g e p q =
       q.others 2 (λ x. omega (arith, x)) ∙ p.others 2 (λ x. omega (arith, x)) ∙ e.blank refl 2,
     )
 
--- an erase that failed leaves a bank as it was, or no live one
-pub failed_erase : (old new : Bank) → Erases false old new → (new ≡ old) ⊎ IsDead new
-failed_erase old new e = elim (e.cut refl) [
-  | inl same ↦ inl same
-  | inr more ↦ (elim more [
-    | inl torn ↦ inr (inl torn)
-    | inr blank ↦ inr (inr (blank.0, blank.1 2))
-  ])
-]
-
--- a bank whose mark was not begun, after a program of another word of its head
-pub dead_after : (b0 b1 : Bank) (at word : ℕ) (ok : Bool) → at < 2 → b0.torn ≡ false → b0.words 2 ≡ Some erased → Programs at word ok b0 b1 → IsDead b1
-dead_after b0 b1 at word ok less firm unmarked p = inr (p.torn ∙ firm, p.others 2 (λ x. omega (arith, x, less)) ∙ unmarked)
-
 -- the mark of a bank is programmed, or cut short
 pub marked_log : (b0 b1 : Bank) (g n : ℕ) (ok : Bool) → IsHeaded b0 g → IsSettled b0 n → Programs 2 0 ok b0 b1
     → IsHeaded b1 g × IsSettled b1 n × (upto b1.words n ≡ upto b0.words n)
@@ -214,63 +194,14 @@ pending b0 b1 g n ok c r head log records p one =
     let all = marked_log b0 b1 (g + 1) n ok head log p in
     record { later = g + 1; newer = omega arith; head = all.0; next = n; log = all.1; stands = one_of (all.2 ∙ records) one }
 
--- a copy whose mark is whole is the live bank
-pub copied_is_ready : (live b0 b1 : Bank) (g n : ℕ) → IsLive live g → IsHeaded b0 (g + 1) → IsSettled b0 n → Programs 2 0 true b0 b1
-    → AreReady b1 live n (g + 1)
-copied_is_ready live b0 b1 g n old head log p =
-    let all = marked_log b0 b1 (g + 1) n true head log p in
-    record { head = (all.0, p.done refl); log = all.1; beside = inr (g, omega arith, old) }
-
 -- a bank that read as none is made certain
 pub quieted : (old : Bank) (g word : ℕ) (c : Choice) → Reads old 0 word → (word ≡ head_word → ⊥) → IsDead old ⊎ IsPending old g c → IsDead old
 quieted old g word c r other (inl dead) = dead
 quieted old g word c r other (inr p) = absurd (other (headed_reads old p.later word p.head r))
 
-pub erased_is_dead : (old new : Bank) → Erases true old new → IsDead new
-erased_is_dead old new e = inr (e.whole refl, e.blank refl 2)
-
-pub not_erased : (old new : Bank) (g : ℕ) (c : Choice) → Erases false old new → IsDead old ⊎ IsPending old g c → IsDead new ⊎ IsPending new g c
-not_erased old new g c e x = elim (failed_erase old new e) [
-  | inl same ↦ subst (λ (b : Bank). IsDead b ⊎ IsPending b g c) (sym same) x
-  | inr dead ↦ inl dead
-]
-
--- what an opening reads of a head
-pub seen_none_head : (bank : Bank) (word : ℕ) → Reads bank 0 word → (word ≡ head_word → ⊥) → IsSeen bank None
-seen_none_head bank word r other = record {
-  live = λ g h. absurd (other (headed_reads bank g word h.0 r));
-  dead = λ _. refl;
-  headed = λ g h. inl refl;
-}
-
-pub seen_none_mark : (bank : Bank) (word : ℕ) → Reads bank 2 word → (word ≡ 0 → ⊥) → IsSeen bank None
-seen_none_mark bank word r other = record {
-  live = λ g h. absurd (other (r.firm h.0.firm 0 h.1));
-  dead = λ _. refl;
-  headed = λ g h. inl refl;
-}
-
-pub seen_some : (bank : Bank) (head_at second first : ℕ) → Reads bank 0 head_at → head_at ≡ head_word → Reads bank 2 second → second ≡ 0 → Reads bank 1 first
-    → IsSeen bank (Some first)
-seen_some bank head_at second first r0 is r2 mark r1 = record {
-  live = λ g h. ap (λ (n : ℕ). Some n) (r1.firm h.0.firm g h.0.number);
-  dead = λ d. absurd (never d);
-  headed = λ g h. inr (ap (λ (n : ℕ). Some n) (r1.firm h.firm g h.number));
-}
-  where
-    never : IsDead bank → ⊥
-    never (inl torn) = r0.no_forgery torn refl is
-    never (inr (firm, unmarked)) = let e : second ≡ erased = r2.firm firm erased unmarked in omega (arith, e, mark)
-
 counted_test : (b : Bool) → b ≡ true → b ≡ false → ⊥
 counted_test true e f = cc
 counted_test false e f = cc
-
--- a spare bank that read as a live one, and is none
-pub counted_is_below : (spare : Bank) (g : ℕ) (counted : Bool) (c : Choice) → counted ≡ true → IsBeside spare g counted c → IsBelow spare g
-counted_is_below spare g counted c is (inl (inl dead)) = inl dead
-counted_is_below spare g counted c is (inl (inr (e, live))) = inr live
-counted_is_below spare g counted c is (inr (e, pending)) = absurd (counted_test counted is e)
 
 -- one that read as none
 pub uncounted_beside : (spare : Bank) (g : ℕ) (counted : Bool) (c : Choice) → counted ≡ false → IsBeside spare g counted c
@@ -314,10 +245,6 @@ own_left bank n c left = record {
   stands = inl refl;
   stands_next = inr refl;
 }
-
-pub below_after : (old new : Bank) (g : ℕ) → (new ≡ old) ⊎ IsDead new → IsBelow old g → IsBelow new g
-below_after old new g (inl same) below = subst (λ (b : Bank). IsBelow b g) (sym same) below
-below_after old new g (inr dead) below = inl dead
 
 -- the cell before the first blank one is certain
 pub sure_zero : (bank : Bank) (n at : ℕ) (c : Choice) → at ≡ 0 → IsLeft bank n c → IsFoundBlank bank n at → IsClosable bank at c

@@ -1,12 +1,12 @@
 -- What a cell is depends on its own words alone, and what a reading of a certain one shows.
-use Rattle.std.proofs.Common.{◌≡◌, ◌⊎◌, inl, inr, ℕ, zero, suc, ◌+◌, ◌*◌, ◌/◌, ◌%◌, ◌-◌, ◌^◌, ◌<◌, ◌≤◌, ◌==◌, ◌&&◌, not, Bool, true, false, if◌then◌else◌}
-use Rattle.std.proofs.Common.{List, [], ◌∷◌, ◌++◌, take, drop, length, Option, Some, None, refl, sym, subst, ap, ◌∙◌, arith, length-append, length-take}
+use Rattle.std.proofs.Common.{◌≡◌, ◌⊎◌, inl, inr, ℕ, zero, suc, ◌+◌, ◌/◌, ◌%◌, ◌^◌, ◌<◌, ◌≤◌, if◌then◌else◌}
+use Rattle.std.proofs.Common.{[], ◌++◌, take, Some, refl, sym, subst, ap, ◌∙◌, arith}
 use Rattle.std.specs.FinMap.{insert, empty}
 use Rattle.byteorder.specs.Endian.{big_bytes}
 use Rattle.plc_base.specs.Keeper.{Records}
-use Rattle.flash_keeper.specs.Flash.{Word, Bank, Reads, erased}
-use Rattle.flash_keeper.specs.Log.{place, mark, end, room, value, slot_at, length_at, octets_from, words_for, octets_at, begun, counts, step, upto, IsFirm}
-use Rattle.flash_keeper.specs.Log.{IsWhole, IsCertain, AreCertain, IsOpen, IsBlankFrom, holds}
+use Rattle.flash_keeper.specs.Flash.{Word}
+use Rattle.flash_keeper.specs.Log.{place, mark, end, value, slot_at, length_at, octets_from, words_for, octets_at, begun, counts, step, upto, IsFirm}
+use Rattle.flash_keeper.specs.Log.{IsWhole, IsCertain, AreCertain}
 
 -- the words of a cell are the same
 abbrev pub SameCell : (ℕ → Word) → (ℕ → Word) → ℕ → Type 0
@@ -124,31 +124,3 @@ one_more_certain w n all one = λ k le. elim (same_or_less k n le) [
       | inl e ↦ inl (ap suc e)
       | inr less ↦ inr (omega (arith, less))
     ]
-
--- a reading of the mark of a certain cell says whether it counts
-pub reads_mark : (bank : Bank) (k word : ℕ) → bank.torn ≡ false → Reads bank (mark k) word → IsCertain bank.words k → (word == 0) ≡ counts bank.words k
-reads_mark bank k word firm r x = elim x.either [
-  | inl e ↦ ap (λ (n : ℕ). n == 0) (r.firm firm erased e) ∙ sym (ap begun e)
-  | inr e ↦ ap (λ (n : ℕ). n == 0) (r.firm firm 0 e.0) ∙ sym (ap begun e.0)
-]
-
--- a certain cell that counts has a whole record
-pub whole_of_counting : (w : ℕ → Word) (k : ℕ) → IsCertain w k → counts w k ≡ true → IsWhole w k
-whole_of_counting w k x c = elim x.either [
-  | inl e ↦ absurd (true_is_not_false (sym c ∙ ap begun e))
-  | inr e ↦ e.1
-]
-  where
-    true_is_not_false : true ≡ false → ⊥
-    true_is_not_false e = cc
-
-pub length-octets_from : (w : ℕ → Word) (at n : ℕ) → length (octets_from w at n) ≡ 8 * n
-unfolding octets_from
-length-octets_from w at zero = refl
-length-octets_from w at (suc n) =
-    let front = length-octets_from w at n in
-    length-append (octets_from w at n) (big_bytes 8 (value (w (at + n)))) ∙ (let eight : length (big_bytes 8 (value (w (at + n)))) ≡ 8 = refl in omega (
-      arith,
-      front,
-      eight,
-    ))

@@ -1,11 +1,10 @@
 -- A keeper over two banks.
-use Rattle.std.proofs.Common.{◌≡◌, ◌⊎◌, inl, inr, ℕ, ◌+◌, ◌≤◌, Bool, true, false, List, Some, refl, sym, subst, ap, ◌∙◌, arith}
+use Rattle.std.proofs.Common.{◌≡◌, inl, inr, ℕ, ◌+◌, ◌≤◌, Bool, true, false, refl, arith}
 use Rattle.std.specs.Bool.{OnFalse}
-use Rattle.std.specs.FinMap.{insert}
 use Rattle.plc_base.specs.Keeper.{Records}
-use Rattle.flash_keeper.specs.Flash.{Bank, erased}
-use Rattle.flash_keeper.specs.Log.{room, mark, upto, AreCertain, IsLeft, Choice, IsOneOf}
-use Rattle.flash_keeper.specs.Banks.{AreLeft, AreReady, IsStore, IsKept, choice_of}
+use Rattle.flash_keeper.specs.Flash.{Bank}
+use Rattle.flash_keeper.specs.Log.{room, mark, upto}
+use Rattle.flash_keeper.specs.Banks.{AreLeft, AreReady, IsKept, choice_of}
 use Rattle.flash_keeper.proofs.LogLemmas.{uncounted_cell}
 use Rattle.flash_keeper.proofs.BankLemmas.{ready_is_left, n_within}
 

@@ -1,16 +1,16 @@
 -- A log after a program: a record that was written or cut short, a cell that was ended.
-use Rattle.std.proofs.Common.{◌≡◌, ◌⊎◌, inl, inr, ℕ, zero, suc, ◌+◌, ◌*◌, ◌/◌, ◌%◌, ◌-◌, ◌^◌, ◌<◌, ◌≤◌, ◌==◌, not, Bool, true, false, if◌then◌else◌, List, []}
-use Rattle.std.proofs.Common.{◌∷◌, ◌++◌, take, drop, length, Option, Some, None, refl, sym, subst, ap, ◌∙◌, arith}
+use Rattle.std.proofs.Common.{◌≡◌, ◌⊎◌, inl, inr, ℕ, zero, suc, ◌+◌, ◌*◌, ◌/◌, ◌%◌, ◌^◌, ◌<◌, ◌≤◌, Bool, true, false, if◌then◌else◌, List}
+use Rattle.std.proofs.Common.{◌++◌, take, drop, length, Some, refl, sym, subst, ap, ◌∙◌, arith}
 use Rattle.std.proofs.lemmas.List.{take-append-drop, take-take, drop-take}
-use Rattle.std.specs.FinMap.{insert, empty}
+use Rattle.std.specs.FinMap.{insert}
 use Rattle.byteorder.specs.Endian.{big_bytes}
 use Rattle.plc_base.specs.Keeper.{Records}
 use Rattle.flash_keeper.specs.Flash.{Word, Bank, Programs, erased}
 use Rattle.flash_keeper.specs.Log.{place, mark, end, room, value, slot_at, length_at, octets_from, words_for, octets_at, begun, counts, step, upto, IsFirm}
-use Rattle.flash_keeper.specs.Log.{IsWhole, IsCertain, AreCertain, IsOpen, IsBlankFrom, IsSettled, IsLeft, Choice, IsOneOf, SameOutside, SameBelow}
+use Rattle.flash_keeper.specs.Log.{IsWhole, IsOpen, IsBlankFrom, IsSettled, IsLeft, Choice, IsOneOf, SameOutside}
 use Rattle.flash_keeper.specs.Log.{IsMarkCertain}
-use Rattle.flash_keeper.proofs.CellLemmas.{SameCell, SameFront, few_words, firm-same, octets_from-same, octets_from-suc, upto-same, upto-suc, step-same}
-use Rattle.flash_keeper.proofs.CellLemmas.{whole-same, certain-same, all_certain-same, one_more_certain, cell_of_front}
+use Rattle.flash_keeper.proofs.CellLemmas.{SameFront, few_words, firm-same, octets_from-same, octets_from-suc, upto-same, upto-suc}
+use Rattle.flash_keeper.proofs.CellLemmas.{all_certain-same, one_more_certain}
 
 pub take_sum : (n m : ℕ) (xs : List ℕ) → take (n + m) xs ≡ take n xs ++ take m (drop n xs)
 take_sum n m xs =
@@ -214,25 +214,6 @@ pub left_at_end : (old new : Bank) (n slot : ℕ) (octets : List ℕ) (c : Choic
 left_at_end old new n slot octets c s fits is one two =
     left_after old new n c s fits is.same is.torn is.size (inr (is.whole, inl is.marked)) one (one_of (records_marked old new n slot octets is) two)
 
--- with its end the cell is certain
-pub settled_after : (old new : Bank) (n slot : ℕ) (octets : List ℕ) → IsSettled old n → n < room old.size → MarkedIs old new n slot octets
-    → new.words (end n) ≡ Some 0
-    → IsSettled new (n + 1)
-settled_after old new n slot octets s fits is ended =
-    let front : SameFront old.words new.words (place n) = λ i three le. is.same i (inl le) in
-    record {
-      firm = is.torn ∙ s.firm;
-      certain = one_more_certain new.words n (all_certain-same old.words new.words n front s.certain) (record {
-        ended = ended;
-        either = inr (
-          is.marked,
-          is.whole,
-        );
-      });
-      blank = λ i le. is.same i (inr (omega (arith, le))) ∙ s.blank i (omega (arith, le));
-      within = subst (λ (z : ℕ). n + 1 ≤ room z) (sym is.size) (omega (arith, fits));
-    }
-
 -- a bank stays as it is where a word is programmed that it has
 pub same_bank : (old new : Bank) (at word : ℕ) (ok : Bool) → Programs at word ok old new → old.words at ≡ Some word → new ≡ old
 same_bank old new at word ok p is = λ i. record { size = p.size i; torn = p.torn i; words = λ x. at_each x i }
@@ -251,10 +232,6 @@ same_bank old new at word ok p is = λ i. record { size = p.size i; torn = p.tor
       | inl e ↦ ap new.words e ∙ p.kept is ∙ sym is ∙ sym (ap old.words e)
       | inr apart ↦ p.others x apart
     ]
-
--- the end of a cell whose mark is certain: the records stay
-ended_front : (old new : Bank) (n : ℕ) (ok : Bool) → Programs (end n) 0 ok old new → (i : ℕ) → (i ≡ end n → ⊥) → new.words i ≡ old.words i
-ended_front old new n ok p i apart = p.others i apart
 
 pub mark_certain_stays : (old new : Bank) (n : ℕ) → ((i : ℕ) → place n ≤ i → i < end n → new.words i ≡ old.words i) → IsMarkCertain old.words n
     → IsMarkCertain new.words n
@@ -367,22 +344,6 @@ left_marked old new n c ok fits left counted p =
     again : (old.words (mark n) ≡ Some 0) ⊎ (old.words (end n) ≡ Some erased) → (new.words (mark n) ≡ Some 0) ⊎ (new.words (end n) ≡ Some erased)
     again (inl e) = inl (p.kept e)
     again (inr e) = inr (p.others (end n) (λ x. absurd (omega (arith, x))) ∙ e)
-
-pub mark_is_certain : (old new : Bank) (n : ℕ) (c : Choice) → IsLeft old n c → counts old.words n ≡ true → Programs (mark n) 0 true old new
-    → IsMarkCertain new.words n
-mark_is_certain old new n c left counted p =
-    let found = whole_of_open old.words n left.last counted in
-    let body : BodyIs old old n (slot_at old.words n) (octets_at old.words n) = record {
-      whole = found.0;
-      slot_is = refl;
-      octets_is = refl;
-      same = λ i h.
-          refl;
-      torn = refl;
-      size = refl;
-    } in
-    let stays = body_stays old old new n (slot_at old.words n) (octets_at old.words n) body (λ i le. p.others i (λ e. absurd (omega (arith, e, le)))) in
-    inr (p.done refl, stays.0)
 
 firm_of : (x : Word) (n : ℕ) → x ≡ Some n → IsFirm x
 firm_of x n e = e ∙ ap (λ (y : Word). Some (value y)) (sym e)

@@ -1,23 +1,14 @@
 -- The end of a log as an opening reads it, and a cell that was written.
-use Rattle.std.proofs.Common.{◌≡◌, ◌⊎◌, inl, inr, ℕ, zero, suc, ◌+◌, ◌*◌, ◌/◌, ◌-◌, ◌^◌, ◌<◌, ◌≤◌, Bool, true, false, List, take, length, Option, Some, None}
+use Rattle.std.proofs.Common.{◌≡◌, ◌⊎◌, inl, inr, ℕ, ◌+◌, ◌*◌, ◌^◌, ◌<◌, ◌≤◌, Bool, true, false, List, take, length, Some}
 use Rattle.std.proofs.Common.{refl, sym, subst, ap, ◌∙◌, arith}
-use Rattle.flash_keeper.specs.Flash.{Word, Bank, Programs, erased}
-use Rattle.flash_keeper.specs.Log.{place, mark, end, room, value, slot_at, octets_from, words_for, octets_at, IsFirm, IsWhole, AreCertain, IsOpen, IsLeft}
+use Rattle.flash_keeper.specs.Flash.{Bank, Programs, erased}
+use Rattle.flash_keeper.specs.Log.{place, mark, end, room, slot_at, octets_from, words_for, octets_at, IsFirm, IsWhole, IsOpen, IsLeft}
 use Rattle.flash_keeper.specs.Log.{Choice, SameOutside}
-use Rattle.flash_keeper.proofs.CellLemmas.{firm-same}
-use Rattle.flash_keeper.proofs.LogLemmas.{less_or_same, whole_body, BodyIs}
+use Rattle.flash_keeper.proofs.LogLemmas.{less_or_same, whole_body}
 
 true_is_false : (b : Bool) → b ≡ true → b ≡ false → ⊥
 true_is_false true e f = cc
 true_is_false false e f = cc
-
--- a cell that does not read as blank is not after the first one that may be written
-pub not_past : (bank : Bank) (n cell : ℕ) (c : Choice) (blank : Bool) → IsLeft bank n c → cell ≤ n + 1 → (bank.words (place cell) ≡ Some erased
-    → bank.words (end cell) ≡ Some erased → blank ≡ true) → blank ≡ false → cell + 1 ≤ n + 1
-not_past bank n cell c blank left le reads is = elim (less_or_same (n + 1) cell le) [
-  | inl less ↦ omega (arith, less)
-  | inr e ↦ absurd (true_is_false blank (reads (left.blank (place cell) (omega (arith, e))) (left.blank (end cell) (omega (arith, e)))) is)
-]
 
 -- a cell that reads as blank is the first one that may be written, or the next one
 pub found_blank : (bank : Bank) (n cell : ℕ) (c : Choice) (blank : Bool) → IsLeft bank n c → cell ≤ n + 1 → (bank.words (end cell) ≡ Some 0 → blank ≡ false)
@@ -86,11 +77,3 @@ wider b0 b1 k same = outside
     outside : (i : ℕ) → (i < place k) ⊎ (place k + 11 ≤ i) → b1.words i ≡ b0.words i
     outside i (inl le) = same i (inl le)
     outside i (inr le) = same i (inr (omega (arith, le)))
-
-pub outside_mark : (b0 b1 b2 : Bank) (k : ℕ) (ok : Bool) → SameOutside (place k) (mark k) b0 b1 → Programs (mark k) 0 ok b1 b2
-    → SameOutside (place k) (place k + 11) b0 b2
-outside_mark b0 b1 b2 k ok same p = outside
-  where
-    outside : (i : ℕ) → (i < place k) ⊎ (place k + 11 ≤ i) → b2.words i ≡ b0.words i
-    outside i (inl le) = p.others i (λ e. omega (arith, e, le)) ∙ same i (inl le)
-    outside i (inr le) = p.others i (λ e. omega (arith, e, le)) ∙ same i (inr (omega (arith, le)))

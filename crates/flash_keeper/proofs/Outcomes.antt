@@ -1,5 +1,5 @@
 -- A fact behind the outcome of a call.
-use Rattle.std.proofs.Common.{◌≡◌, Bool, true, false, Result, Ok, Err, OnOk, OnErr, IfOk, IfErr, is_ok, refl}
+use Rattle.std.proofs.Common.{◌≡◌, true, false, Result, Ok, Err, OnOk, OnErr, IfOk, IfErr, is_ok, refl}
 
 pub on_ok_of : {T E P : Type 0} (r : Result T E) → (is_ok r ≡ true → P) → OnOk r P
 on_ok_of (Ok x) f = f refl

@@ -1,11 +1,11 @@
 -- What a store holds after puts, losses of power and openings.
-use Rattle.std.proofs.Common.{◌≡◌, ◌⊎◌, inl, inr, ℕ, ◌==◌, Bool, true, false, cond, List, [], ◌∷◌, Option, Some, None, refl, sym, subst, ap, ◌∙◌, arith}
+use Rattle.std.proofs.Common.{◌≡◌, ◌⊎◌, inl, inr, ℕ, ◌==◌, Bool, true, false, cond, List, [], ◌∷◌, Option, Some, refl, sym, subst, ap, ◌∙◌, arith}
 use Rattle.std.proofs.lemmas.Bool.Decides.{nat_tests}
 use Rattle.std.specs.Ordering.{nat_cmp, eq_by_cmp}
 use Rattle.std.specs.Cmp.{nat_cmp_total}
-use Rattle.std.specs.FinMap.{get, insert, empty, get-insert, get-empty}
+use Rattle.std.specs.FinMap.{get, insert, get-insert, get-empty}
 use Rattle.plc_base.specs.Keeper.{Records}
-use Rattle.flash_keeper.specs.Banks.{FlashStore, IsLeftBy, IsOpened}
+use Rattle.flash_keeper.specs.Banks.{FlashStore}
 use Rattle.flash_keeper.specs.Runs.{Event, Put, Open, IsRun, Leaves, Holds, HoldsWhatWasPut, EachOpeningIsTheSame}
 
 get_insert : (r : Records) (s : ℕ) (o : List ℕ) (q : ℕ) → get (insert r s o) q ≡ cond (s == q) (Some o) (get r q)

@@ -1,5 +1,5 @@
 -- A bank of NOR flash: its words, what a reading of one may show, and what a program and an erase leave, also where power failed in them.
-use Rattle.std.specs.Prelude.{◌≡◌, ◌⊎◌, ℕ, ◌≤◌, ◌<◌, ◌+◌, ◌*◌, ◌/◌, ◌-◌, ◌^◌, Bool, true, false, Option, Some}
+use Rattle.std.specs.Prelude.{◌≡◌, ◌⊎◌, ℕ, Bool, true, false, Option, Some}
 
 -- What a word reads as. None after a program of it was cut short: it then reads as anything, at each reading anew.
 abbrev pub Word : Type 0

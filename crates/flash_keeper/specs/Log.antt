@@ -1,6 +1,6 @@
 -- The log in a bank: cells of words, what makes a cell count, and the records that the first cells stand for.
 use Rattle.std.specs.Prelude.{◌≡◌, ◌⊎◌, ℕ, zero, suc, ◌≤◌, ◌<◌, ◌+◌, ◌*◌, ◌/◌, ◌-◌, ◌%◌, ◌^◌, ◌==◌, Bool, true, false, not, ◌&&◌, ◌||◌, if◌then◌else◌, List}
-use Rattle.std.specs.Prelude.{[], ◌++◌, take, Option, Some, None}
+use Rattle.std.specs.Prelude.{[], ◌++◌, take, Some, None}
 use Rattle.std.specs.FinMap.{insert, empty}
 use Rattle.byteorder.specs.Endian.{big_bytes}
 use Rattle.plc_base.specs.Keeper.{Records}

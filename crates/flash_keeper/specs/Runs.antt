@@ -1,8 +1,7 @@
 -- Puts, losses of power and openings one after another, and what a store then holds.
 use Rattle.std.specs.Prelude.{◌≡◌, ◌⊎◌, ℕ, Bool, true, false, List, [], ◌∷◌, Option, Some, None}
 use Rattle.std.specs.FinMap.{get, insert, empty}
-use Rattle.plc_base.specs.Keeper.{Records}
-use Rattle.flash_keeper.specs.Log.{Choice, IsOneOf}
+use Rattle.flash_keeper.specs.Log.{Choice}
 use Rattle.flash_keeper.specs.Banks.{FlashStore, IsLeftBy, IsOpened}
 
 -- What happens to a store. A put that failed may have lost power at any moment of it; an opening that lost power changes nothing that a

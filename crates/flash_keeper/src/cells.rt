@@ -1,10 +1,10 @@
 //! The cells of a log in a bank.
-ghost use Rattle.std.specs.Prelude.{◌≡◌, ◌<◌, ◌≤◌, ◌+◌, ◌^◌, ◌⊎◌, ◌/◌, true, false, is_ok, OnOk, OnErr, IfOk, Some, take, drop, length, List, [], ℕ, ◌*◌};
-ghost use Rattle.std.specs.Prelude.{◌-◌, suc};
+ghost use Rattle.std.specs.Prelude.{◌≡◌, ◌<◌, ◌≤◌, ◌+◌, ◌^◌, ◌/◌, true, false, OnOk, OnErr, IfOk, Some, take, drop, length, ℕ, ◌*◌};
+ghost use Rattle.std.specs.Prelude.{◌-◌};
 ghost use Rattle.std.specs.FinMap as map;
 ghost use Rattle.std.specs.FinMap.{insert};
 ghost use Rattle.byteorder.specs.Endian.{big_bytes};
-ghost use Rattle.flash_keeper.specs.Flash.{erased, Bank};
+ghost use Rattle.flash_keeper.specs.Flash.{erased};
 ghost use Rattle.flash_keeper.specs.Log.{place, mark, end, room, slot_at, length_at, octets_from, octets_at, words_for, IsWhole, AreCertain, IsBlankFrom};
 ghost use Rattle.flash_keeper.specs.Log.{IsSettled, IsLeft, SameOutside, Choice, IsOneOf, SameBelow, IsOpen, IsMarkCertain, IsFoundBlank, IsClosable, upto};
 ghost use Rattle.flash_keeper.specs.Log.{holds, holds_later, counts, kept, IsFirm, IsCertain};

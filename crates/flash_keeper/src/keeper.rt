@@ -1,9 +1,9 @@
 //! The keeper.
-ghost use Rattle.std.specs.Prelude.{◌≡◌, ◌<◌, ◌≤◌, ◌+◌, ◌⊎◌, is_ok, OnOk, OnErr, IfOk, IfErr, None};
+ghost use Rattle.std.specs.Prelude.{◌≡◌, ◌<◌, ◌+◌, is_ok, OnOk, OnErr, IfOk, IfErr, None};
 ghost use Rattle.std.specs.FinMap.{insert};
 ghost use Rattle.std.specs.FinMap as map;
-ghost use Rattle.plc_base.specs.Keeper.{Store, IsSlot, Puts};
-ghost use Rattle.flash_keeper.specs.Log.{Choice, IsOneOf};
+ghost use Rattle.plc_base.specs.Keeper.{IsSlot, Puts};
+ghost use Rattle.flash_keeper.specs.Log.{Choice};
 ghost use Rattle.flash_keeper.specs.Banks.{AreChosen, IsStore, IsOpened, IsLeftBy, FlashStore};
 
 use crate::bank::FlashBank;

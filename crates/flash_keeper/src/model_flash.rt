@@ -1,6 +1,6 @@
 //! A bank of flash in memory, in which power can fail, and whose torn words read differently each time.
-ghost use Rattle.std.specs.Prelude.{◌≡◌, ◌<◌, ◌≤◌, ◌^◌, length, IfOk, is_ok, vec_len, ℕ, true, false, ◌⊎◌, Some};
-ghost use Rattle.flash_keeper.specs.Flash.{Bank, erased, head_word, Reads, Programs, Erases};
+ghost use Rattle.std.specs.Prelude.{◌≡◌, ◌<◌, ◌≤◌, ◌^◌, length, ℕ, true, false, ◌⊎◌, Some};
+ghost use Rattle.flash_keeper.specs.Flash.{erased, head_word};
 ghost use Rattle.flash_keeper.specs.Model.{bank_of, shown, word_of};
 
 use crate::bank::{ERASED, FlashBank, HEAD};

@@ -1,10 +1,10 @@
 //! Two banks: the live one with the log, and the spare one to which the log is copied when it is full.
-ghost use Rattle.std.specs.Prelude.{◌≡◌, ◌<◌, ◌≤◌, ◌+◌, ◌^◌, ◌⊎◌, ℕ, true, false, is_ok, OnOk, OnErr, IfOk, Some, None};
+ghost use Rattle.std.specs.Prelude.{◌≡◌, ◌<◌, ◌≤◌, ◌+◌, ◌⊎◌, ℕ, false, OnOk, OnErr, IfOk, Some, None};
 ghost use Rattle.std.specs.FinMap as map;
 ghost use Rattle.std.specs.FinMap.{insert};
-ghost use Rattle.flash_keeper.specs.Flash.{Bank, erased};
+ghost use Rattle.flash_keeper.specs.Flash.{erased};
 ghost use Rattle.flash_keeper.specs.Log.{room, mark, upto, Choice, IsOneOf, IsSettled, IsLeft, IsClosable, AreCertain};
-ghost use Rattle.flash_keeper.specs.Banks.{choice_of, AreLeft, AreReady, AreChosen, AreSure, IsBeside, IsStore, IsLive, IsHeaded, IsDead, IsBelow, IsPending};
+ghost use Rattle.flash_keeper.specs.Banks.{choice_of, AreLeft, AreReady, AreChosen, AreSure, IsStore, IsLive, IsHeaded, IsDead, IsBelow, IsPending};
 ghost use Rattle.flash_keeper.specs.Banks.{IsSeen};
 
 use crate::bank::{FlashBank, HEAD};

@@ -241,9 +241,6 @@ moves_remove p q es i e =
 
 -- # One after another
 
-pub moves_none : (p : PoolState) (es : List Entry) → Moves p p es es
-moves_none p es = record { free = refl; others = λ c is. (is, refl) }
-
 pub moves_both : (p q r : PoolState) (es fs gs : List Entry) → Moves p q es fs → Moves q r fs gs → Moves p r es gs
 moves_both p q r es fs gs one two = record {
   free = two.free ∙ one.free;

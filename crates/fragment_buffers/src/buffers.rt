@@ -1,7 +1,7 @@
 //! The reassemblies in chains of a pool, and the places of their pieces.
 ghost use Rattle.std.specs.Prelude.{◌≡◌, ℕ, ◌+◌, ◌*◌, ◌<◌, ◌≤◌, ◌↔◌, [], ◌∷◌, ◌++◌, length, set, take, drop, false, IsTrue, IfOk, IfSome, IfNone, fold};
 ghost use Rattle.std.specs.Int.{div_ceil};
-ghost use Rattle.std.specs.List.{list_any, remove, sum_by};
+ghost use Rattle.std.specs.List.{list_any, remove};
 ghost use Rattle.std.specs.FinMap as map;
 ghost use Rattle.std.specs.Bool.{MatchBool};
 ghost use Rattle.block_pool.specs.Pool.{IsChain, chain_octets, overwrite};

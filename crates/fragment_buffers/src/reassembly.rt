@@ -1,12 +1,12 @@
 //! The reassemblies of a node.
-ghost use Rattle.std.specs.Prelude.{◌≡◌, ℕ, ◌+◌, ◌<◌, ◌≤◌, ◌↔◌, ◌⊎◌, [], ◌∷◌, ◌++◌, length, IsErr, OnErr, IfOk, slice_set};
+ghost use Rattle.std.specs.Prelude.{◌≡◌, ◌+◌, ◌<◌, ◌≤◌, ◌↔◌, ◌⊎◌, [], ◌∷◌, ◌++◌, length, IsErr, OnErr, IfOk, slice_set};
 ghost use Rattle.std.specs.List.{remove};
-ghost use Rattle.block_pool.specs.Pool.{PoolState, IsChain, chain_octets};
+ghost use Rattle.block_pool.specs.Pool.{PoolState};
 ghost use Rattle.mesh_header.specs.Pieces.{IsPiece};
 ghost use Rattle.fragment_buffers.specs.Reassembly.{begun, placed};
 ghost use Rattle.fragment_buffers.specs.Taking.{taken, unexpired, blocks, grown};
 ghost use Rattle.fragment_buffers.specs.FirstEnd.{first_end, IsStill};
-ghost use Rattle.fragment_buffers.specs.Entries.{entry_at, blocks_used, reassembly_in, reassemblies_in, Keeps, Moves, IsBounded, IsOther};
+ghost use Rattle.fragment_buffers.specs.Entries.{entry_at, blocks_used, reassembly_in, reassemblies_in, Keeps, Moves, IsBounded};
 ghost use Rattle.fragment_buffers.specs.Answers.{answer_of, taken_of, octets_of, joined_at, settled_at, NoneIsNamed};
 
 use crate::buffers::{Buffers, REASSEMBLIES};

@@ -1,5 +1,5 @@
 //! The marks of the senders: the counter that was last admitted of each.
-ghost use Rattle.std.specs.Prelude.{◌≡◌, [], ◌≤◌, Ok, Some, None, List, is_ok, IfOk, IfErr, OnOk, OnErr, map, IsSorted, IsPermutation};
+ghost use Rattle.std.specs.Prelude.{◌≡◌, [], Ok, Some, List, is_ok, IfOk, IfErr, OnOk, OnErr, map, IsSorted, IsPermutation};
 ghost use Rattle.std.specs.Bool.{OnTrue};
 ghost use Rattle.std.specs.Ordering.{nat_cmp};
 ghost use Rattle.plc_base.specs.Keeper.{Stores, OutsideStays, IsOldOrNew};

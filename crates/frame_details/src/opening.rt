@@ -90,7 +90,7 @@ fn decrypt_raw(raw: &RawFrame<'_>, key: &Option<Key>, aes: &mut Aes, out: &mut F
 /// schedule of the key for the next frame. What `out` holds where there is no payload is not said.
 pub fn decrypt_octets(octets: &[u8], key: &Option<Key>, aes: &mut Aes, out: &mut FrameBuf) -> bool
     ensures payload { payloads.carried_of octets.now key.now ≡ payloads.held result out.new }
-    ensures opened { (payload : List ℕ) → payloads.payload_of octets.now key.now ≡ Some payload → payloads.carried_of octets.now key.now ≡ Some payload }
+    ensures opened { (p : List ℕ) → payloads.payload_of octets.now key.now ≡ Some p → payloads.carried_of octets.now key.now ≡ Some p }
 {
     match read_frame(octets) {
         Ok(raw) => decrypt_raw(&raw, key, aes, out),

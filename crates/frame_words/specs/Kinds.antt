@@ -1,6 +1,5 @@
 -- The kinds of payloads.
-use Rattle.std.specs.Prelude.{ℕ, ◌/◌, ◌==◌, ◌||◌, nat_lt, not, List, [], ◌∷◌, length, slice_index, codes, Option, None, Some, if◌then◌else◌}
-use Rattle.plc_base.specs.declared.address.Eui.{Eui}
+use Rattle.std.specs.Prelude.{ℕ, ◌/◌, ◌==◌, nat_lt, List, length, slice_index, codes, Option, None, Some, if◌then◌else◌}
 use Rattle.mesh_header.specs.declared.unit.Unit.{Unit}
 use Rattle.mesh_header.specs.declared.unit.Unit.TheVariants.{Whole, Part, Carried, Local}
 use Rattle.mesh_header.specs.Reading.{unit_in}

@@ -1,6 +1,6 @@
 //! Joining messages in words.
-ghost use Rattle.std.specs.Prelude.{◌≡◌, ◌++◌, OnOk, codes, decimal, string_bytes};
-ghost use Rattle.frame_words.specs.Words.{body_text, eap_text, joining_text, last_digits, named_text};
+ghost use Rattle.std.specs.Prelude.{◌≡◌, ◌++◌, OnOk, string_bytes};
+ghost use Rattle.frame_words.specs.Words.{body_text, eap_text, joining_text, named_text};
 
 use crate::kind::{PayloadKind, eap_kind};
 use crate::reading::join_in;

@@ -1,5 +1,5 @@
 //! Acknowledgements, broadcasts and path messages in words.
-ghost use Rattle.std.specs.Prelude.{◌≡◌, ◌++◌, OnOk, codes, decimal, string_bytes};
+ghost use Rattle.std.specs.Prelude.{◌≡◌, ◌++◌, OnOk, string_bytes};
 ghost use Rattle.frame_words.specs.Words.{ack_text, ask_text, broadcast_text, broadcast_words, head_text, left_text, path_text, path_words, walk_text};
 
 use crate::texts::{push_counted, push_named, push_place};

@@ -1,5 +1,5 @@
 //! Route messages in words.
-ghost use Rattle.std.specs.Prelude.{◌≡◌, ◌++◌, OnOk, codes, decimal, string_bytes};
+ghost use Rattle.std.specs.Prelude.{◌≡◌, ◌++◌, OnOk, string_bytes};
 ghost use Rattle.frame_words.specs.Words.{message_text, request_text, reply_text, error_text, ranked_text, route_text, told_text};
 
 use crate::reading::message_in;

@@ -1,6 +1,5 @@
 //! Numbers and addresses in a text.
-ghost use Rattle.std.specs.Prelude.{◌≡◌, ◌++◌, OnOk, codes, decimal, string_bytes};
-ghost use Rattle.hex.specs.Hex.{encode_lower};
+ghost use Rattle.std.specs.Prelude.{◌≡◌, ◌++◌, OnOk, decimal, string_bytes};
 ghost use Rattle.frame_words.specs.Words.{short_word, way_text};
 
 use itoa::Buffer;

@@ -1,7 +1,6 @@
 //! A payload in one line.
 ghost use Rattle.std.specs.Prelude.{◌≡◌, ◌≤◌, ◌++◌, OnOk, codes, decimal, length, string_bytes};
 ghost use Rattle.plc_base.specs.declared.limits.TheConstants.{LONGEST_FRAME};
-ghost use Rattle.mesh_header.specs.Pieces.{Placed};
 ghost use Rattle.frame_words.specs.Words.{command_text, datagram_text, payload_text, piece_text, unit_text};
 
 use crate::joinings::push_joining;

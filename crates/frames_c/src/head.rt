@@ -1,7 +1,7 @@
 //! The head of a frame as a struct of numbers.
 ghost use Rattle.std.specs.Prelude.{◌≡◌, MatchOption, true, false};
 ghost use Rattle.frames_c.specs.Heads.{is_sealed_head, mac_head, c_head};
-ghost use Rattle.mac_frames.specs.Grammar.{IsAllowed, IsHead, IsSealed};
+ghost use Rattle.mac_frames.specs.Grammar.{IsAllowed, IsSealed};
 
 use mac_frames::MacHead;
 use plc_base::{Destination, KeyIndex, Short};

@@ -1,5 +1,5 @@
 //! Opens a sealed frame.
-ghost use Rattle.std.specs.Prelude.{◌≡◌, ◌≢◌, ◌+◌, ◌++◌, length, take, drop, None, Some, OnOk, OnErr, MatchOption, MatchResult, IfOk, IfSome, true, false};
+ghost use Rattle.std.specs.Prelude.{◌≡◌, ◌≢◌, ◌+◌, ◌++◌, length, take, drop, None, Some, OnErr, MatchOption, MatchResult, IfOk, IfSome, true, false};
 ghost use Rattle.mac_frames.specs.Grammar.{Frame, IsSealed};
 ghost use Rattle.mac_frames.specs.Reading.{body_in, head_in};
 ghost use Rattle.mac_frames.specs.Sealing.{SealedFrame};

@@ -1,5 +1,5 @@
 //! Reads the head of a frame.
-ghost use Rattle.std.specs.Prelude.{◌≡◌, ◌≢◌, drop};
+ghost use Rattle.std.specs.Prelude.{◌≡◌, ◌≢◌};
 ghost use Rattle.mac_frames.specs.Faults.{frame_fault};
 ghost use Rattle.mac_frames.specs.Grammar.{Frame};
 ghost use Rattle.mac_frames.specs.Reading.{body_in, head_in};

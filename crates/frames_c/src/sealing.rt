@@ -1,5 +1,5 @@
 //! Seals a payload.
-ghost use Rattle.std.specs.Prelude.{◌≡◌, ◌≢◌, ◌+◌, length, take, drop, None, Some, OnOk, OnErr, MatchResult, IfOk};
+ghost use Rattle.std.specs.Prelude.{◌≡◌, ◌≢◌, ◌+◌, length, take, drop, None, Some, OnErr, MatchResult, IfOk};
 ghost use Rattle.mac_frames.specs.Sealing.{SealedFrame};
 ghost use Rattle.frames_c.specs.Exports.{seal_refusal, status_of};
 ghost use Rattle.frames_c.specs.Heads.{mac_head};

@@ -1,6 +1,6 @@
 -- A record of an entry is read back, and what a change of an entry puts and leaves.
 use Rattle.std.proofs.Common.{◌≡◌, ℕ, ◌+◌, ◌^◌, ◌<◌, Bool, true, false, cond, List, [], ◌∷◌, ◌++◌, length, take, drop, set, zero, suc, Option, Some, None}
-use Rattle.std.proofs.Common.{Result, Ok, Err, refl, ap, ◌∙◌, arith, length-append}
+use Rattle.std.proofs.Common.{refl, ap, ◌∙◌, arith, length-append}
 use Rattle.std.specs.Prelude.{◌==◌, ◌&&◌, nat_eq, slice_get}
 use Rattle.std.specs.Cmp.Lexicographic.{pointwise}
 use mathlib.Core.Bool.{beq}
@@ -9,14 +9,13 @@ use Rattle.plc_base.specs.declared.address.Eui.{Eui}
 use Rattle.store_tables.specs.SlotTables as slots
 use Rattle.std.specs.Option.{option_map, option_map_or, option_eq}
 use Rattle.store_tables.proofs.SlotTables.{place_of-set, place_of-push}
-use Rattle.group_keys.specs.declared.fault.BookFault.{BookFault}
 use Rattle.std.proofs.lemmas.Bool.Decides.{nat_tests}
 use Rattle.byteorder.specs.Endian.{big_number, big_bytes}
 use Rattle.byteorder.specs.Numbers.{big_number-reads_back}
 use Rattle.plc_base.specs.declared.key.Key.{Key}
 use Rattle.group_keys.specs.Fields.{held_in, held_octets, flag_in, flag_octet}
 use Rattle.group_keys.specs.declared.key_book.BookEntry.{BookEntry}
-use Rattle.group_keys.specs.KeyBook.{Book, entries, entry_in, entry_of, entry_behind, entry_octets, eui_number, place_of, address_of, changing_after}
+use Rattle.group_keys.specs.KeyBook.{Book, entries, entry_in, entry_of, entry_behind, entry_octets, eui_number, place_of, address_of}
 use Rattle.group_keys.specs.KeyBook.{same_entry, same_key, change_write, with_entry}
 use Rattle.group_keys.proofs.Rings.{take_front, drop_front, held_in-held_octets}
 
@@ -111,10 +110,6 @@ pub write_same : (book : Book) (entry before : BookEntry) (place : ℕ) → plac
     → same_entry before entry ≡ true → change_write book entry ≡ None
 write_same book entry before place e got same = rw (e, got, same) refl
 
-pub write_other : (book : Book) (entry before : BookEntry) (place : ℕ) → place_of book entry.eui ≡ Some place → slice_get book place ≡ Some before
-    → same_entry before entry ≡ false → change_write book entry ≡ Some (slots.entry_write entries place entry)
-write_other book entry before place e got same = rw (e, got, same) refl
-
 pub entry_same : (book : Book) (entry before : BookEntry) (place : ℕ) → place_of book entry.eui ≡ Some place → slice_get book place ≡ Some before
     → same_entry before entry ≡ true → with_entry book entry ≡ book
 entry_same book entry before place e got same =
@@ -138,10 +133,3 @@ address_kept book entry meter address e = by_place (place_of book meter) refl e
         → address_of (with_entry book entry) meter ≡ Some address
     by_place None is h = cc
     by_place (Some place) is h = ap (option_map (λ place. place + 1)) (stays place is (place_of book entry.eui) refl) ∙ h
-
--- so it keeps it over a call, done or not
-pub changing_kept : (book : Book) (change : Result BookEntry BookFault) (done : Bool) (meter : Eui) (address : ℕ) → address_of book meter ≡ Some address
-    → address_of (changing_after book change done) meter ≡ Some address
-changing_kept book (Ok entry) true meter address e = address_kept book entry meter address e
-changing_kept book (Ok entry) false meter address e = e
-changing_kept book (Err fault) done meter address e = e

@@ -1,6 +1,6 @@
 //! The fields that the records of a ring and of a book have in common.
 ghost use Rattle.std.specs.Prelude.{◌≡◌, ◌≤◌, ◌+◌, ◌++◌, length};
-ghost use Rattle.group_keys.specs.Fields.{held_in, held_octets, flag_in, flag_octet};
+ghost use Rattle.group_keys.specs.Fields.{held_in, held_octets, flag_in};
 
 use plc_base::{Key, Record};
 

@@ -1,5 +1,5 @@
 //! Reads and writes the parameter list of a grant.
-ghost use Rattle.std.specs.Prelude.{ℕ, ◌≡◌, ◌≤◌, ◌<◌, ◌+◌, ◌∷◌, ◌++◌, ◌↔◌, List, [], length, true, false, IsSome, IsTrue, IfSome, MatchOption, Some, None};
+ghost use Rattle.std.specs.Prelude.{ℕ, ◌≡◌, ◌≤◌, ◌<◌, ◌+◌, ◌∷◌, ◌++◌, ◌↔◌, List, length, true, false, IsSome, IsTrue, IfSome, MatchOption, Some, None};
 ghost use Rattle.byteorder.specs.Endian.{big_bytes};
 ghost use Rattle.plc_base.specs.Addresses.{IsAddress};
 ghost use Rattle.plc_base.specs.Faults.{ReadsWhen};

@@ -1,5 +1,5 @@
 //! Reads joining messages.
-ghost use Rattle.std.specs.Prelude.{◌≡◌, ◌≤◌, ◌<◌, ◌+◌, ◌∷◌, ◌++◌, List, [], length, IfOk, MatchResult, Some, None, Ok};
+ghost use Rattle.std.specs.Prelude.{◌≡◌, ◌≤◌, ◌<◌, ◌+◌, ◌∷◌, ◌++◌, [], length, IfOk, MatchResult, Some, None, Ok};
 ghost use Rattle.std.specs.Result.{result_ok};
 ghost use Rattle.plc_base.specs.Fields.{octet, after};
 ghost use Rattle.plc_base.specs.Faults.{ReadsUnless};

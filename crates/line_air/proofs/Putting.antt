@@ -1,5 +1,5 @@
 -- A moment that is put into a calendar stands after all that are due no later: its number is above theirs.
-use Rattle.std.proofs.Common.{◌≡◌, ◌⊎◌, inl, inr, ℕ, ◌+◌, ◌<◌, ◌≤◌, Bool, true, false, cond, ltb, eqb, List, [], ◌∷◌, length, Option, Some, None, refl, sym, ap}
+use Rattle.std.proofs.Common.{◌≡◌, inl, inr, ℕ, ◌+◌, ◌<◌, ◌≤◌, true, false, cond, ltb, List, [], ◌∷◌, length, Some, refl, sym, ap}
 use Rattle.std.proofs.Common.{◌∙◌, arith}
 use Rattle.std.proofs.lemmas.Bool.{cases_order}
 use Rattle.std.proofs.lemmas.Bool.Decides.{nat_tests}
@@ -8,9 +8,8 @@ use Rattle.std.specs.declared.cmp.Ordering.TheVariants.{Less, Equal, Greater}
 use Rattle.std.specs.Ordering.{nat_cmp, ordering_then, match_ordering}
 use Rattle.std.specs.BTreeMap.{insert_entry}
 use Rattle.std.specs.Prelude.{slice_get}
-use Rattle.line_air.specs.declared.calendar.Due.{Due}
 use Rattle.line_air.specs.declared.calendar.Moment.{Moment}
-use Rattle.line_air.specs.Calendars.{put, first_time, first_due, later}
+use Rattle.line_air.specs.Calendars.{put, first_time}
 use Rattle.line_air.specs.Numbered.{due_of, AreBefore}
 
 -- keys by their time, and then by their number

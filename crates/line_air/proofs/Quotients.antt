@@ -1,5 +1,5 @@
 -- A quotient by a number that is at least so large.
-use Rattle.std.proofs.Common.{ℕ, ◌*◌, ◌/◌, ◌%◌, ◌≤◌, ◌<◌, arith}
+use Rattle.std.proofs.Common.{ℕ, ◌*◌, ◌/◌, ◌≤◌, ◌<◌, arith}
 use Rattle.std.proofs.Math.Nat.{mul-le-mul_left}
 
 pub quotient_low : (n d low : ℕ) → 0 < low → low ≤ d → (n / d) * low ≤ n

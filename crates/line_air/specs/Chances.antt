@@ -1,5 +1,5 @@
 -- What of a frame comes by chance. Each segment is a draw of the losses.
-use Rattle.std.specs.Prelude.{ℕ, zero, suc, ◌+◌, eqb, cond, Bool, List, [], ◌∷◌, ◌++◌}
+use Rattle.std.specs.Prelude.{ℕ, zero, suc, ◌+◌, eqb, cond, List, [], ◌∷◌, ◌++◌}
 use Rattle.std.specs.List.{fold}
 use Rattle.rand_pcg.specs.Lcg.{Lcg}
 use Rattle.air_draws.specs.Draws.{happens, after}

@@ -1,5 +1,5 @@
 -- How many frames in a row from a node to another were given up, by the two nodes, where some were.
-use Rattle.std.specs.Prelude.{ℕ, ◌+◌, leb, eqb, not, ◌&&◌, cond, Bool, List, Option, Some, None}
+use Rattle.std.specs.Prelude.{ℕ, ◌+◌, leb, eqb, not, ◌&&◌, cond, Bool, List}
 use Rattle.std.specs.declared.cmp.Ordering.{Ordering}
 use Rattle.std.specs.Ordering.{nat_cmp, ordering_then}
 use Rattle.std.specs.Option.{unwrap_or}

@@ -1,5 +1,5 @@
 -- The end of a frame: whom it came to, and whether it is sent again.
-use Rattle.std.specs.Prelude.{ℕ, ◌+◌, ◌-◌, ◌*◌, ◌/◌, min, leb, ltb, eqb, not, ◌&&◌, cond, Bool, true, false, List, [], ◌∷◌, ◌++◌, Option, Some, None}
+use Rattle.std.specs.Prelude.{ℕ, ◌+◌, ◌-◌, ◌*◌, ◌/◌, min, leb, eqb, not, ◌&&◌, cond, Bool, true, false, List, [], ◌∷◌, ◌++◌, Option, Some, None}
 use Rattle.std.specs.List.{find}
 use Rattle.rand_pcg.specs.Lcg.{Lcg}
 use Rattle.air_draws.specs.Draws.{happens, after}
@@ -18,7 +18,7 @@ use Rattle.line_air.specs.declared.settings.Settings.{Settings}
 use Rattle.line_air.specs.Chances.{come, after_draws, Drawing, drawn_for_all, drawn_beside}
 use Rattle.line_air.specs.Counts.{breaks, counts_after, counts_without}
 use Rattle.line_air.specs.Disturbing.{Disturbed, is_withheld, loss_at}
-use Rattle.line_air.specs.Nodes.{NodeState, Silence, has_power, is_one, first_of, changed, with_sending, waiting_first, first_gone, silenced_by}
+use Rattle.line_air.specs.Nodes.{NodeState, has_power, is_one, first_of, changed, with_sending, waiting_first, first_gone, silenced_by}
 use Rattle.line_air.specs.Turns.{AirState}
 
 -- # What the target of a frame to one node heard

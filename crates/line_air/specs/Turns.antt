@@ -1,5 +1,5 @@
 -- What senders do: they put frames into their queues, wait, sense, and send.
-use Rattle.std.specs.Prelude.{ℕ, ◌+◌, ◌-◌, ◌*◌, ◌/◌, ◌^◌, min, ltb, eqb, not, ◌&&◌, cond, Bool, true, false, List, [], ◌∷◌, Option, Some, None, replicate}
+use Rattle.std.specs.Prelude.{ℕ, ◌+◌, ◌*◌, ◌/◌, ◌^◌, min, ltb, eqb, cond, true, false, List, [], Option, Some, None, replicate}
 use Rattle.std.specs.Prelude.{length}
 use Rattle.std.specs.List.{fold}
 use Rattle.rand_pcg.specs.Lcg.{Lcg}

@@ -1,6 +1,5 @@
 //! What disturbs the line for a time.
 ghost use Rattle.std.specs.Prelude.{◌≡◌, ◌≤◌, ◌++◌, ◌∷◌, [], eqb, ◌&&◌, OnOk, OnErr};
-ghost use Rattle.std.specs.List.{list_any};
 ghost use Rattle.line_air.specs.Disturbing.{is_during, is_noisy, louder, loss_after, loss_with, is_cut_between, is_cut, is_withheld_from, is_withheld, loss_at};
 
 use std::alloc::{AllocError, Global};

@@ -1,5 +1,5 @@
 //! A node on the air: its queue, and what it hears.
-ghost use Rattle.std.specs.Prelude.{◌≡◌, ◌<◌, IfSome, ◌∷◌, ◌++◌, [], true, false, not, length, OnOk, OnErr, position};
+ghost use Rattle.std.specs.Prelude.{◌≡◌, ◌<◌, IfSome, ◌∷◌, ◌++◌, [], true, false, length, OnOk, position};
 ghost use Rattle.std.specs.Prelude.{eqb};
 ghost use Rattle.line_air.specs.Nodes.{new_node, is_busy, may_arm, may_hear_all, without_power, disturbed_ears, hearing_more, hearing_less, is_clean};
 ghost use Rattle.line_air.specs.Nodes.{with_joined, with_power, with_armed, with_sending, with_frame, first_waiting, waiting_first, armed_with, first_gone};

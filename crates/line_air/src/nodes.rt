@@ -1,5 +1,5 @@
 //! The nodes of a line on the air, by their numbers.
-ghost use Rattle.std.specs.Prelude.{◌≡◌, [], ◌++◌, Bool, length, replicate, OnOk, IfOk};
+ghost use Rattle.std.specs.Prelude.{◌≡◌, length, replicate, OnOk, IfOk};
 ghost use Rattle.line_air.specs.Nodes.{NodeState, new_node, is_busy, may_arm, has_power, may_hear_all, is_one, first_of, queue_of, changed};
 ghost use Rattle.line_air.specs.Nodes.{with_joined, with_power, without_power, with_sending, with_armed, armed_with, waiting_first, first_gone};
 ghost use Rattle.line_air.specs.Nodes.{with_frame, hearing_more, hearing_less, hears_clean, heard_by, silenced_by};

@@ -1,5 +1,5 @@
 //! How long the first frame of a queue is on the air.
-ghost use Rattle.std.specs.Prelude.{◌≡◌, ◌≤◌, ◌<◌, ◌^◌};
+ghost use Rattle.std.specs.Prelude.{◌≡◌, ◌≤◌};
 ghost use Rattle.line_air.specs.Turns.{missing, sending_to_one, sending_of};
 
 use crate::frame::Waiting;

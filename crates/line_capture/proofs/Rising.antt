@@ -29,10 +29,6 @@ times_append (Packet interface time octets options ∷ a) b = ap (λ (t : List �
 times_append (Section options ∷ a) b = times_append a b
 times_append (Interface link options ∷ a) b = times_append a b
 
-within_order : (from to : ℕ) (a : List ℕ) → Within from to a → from ≤ to
-within_order from to [] h = h
-within_order from to (time ∷ a) h = let k = within_order time to a h.1 in let l = h.0 in omega (arith, k, l)
-
 within_lower : (lower from to : ℕ) (a : List ℕ) → lower ≤ from → Within from to a → Within lower to a
 within_lower lower from to [] l h = omega (arith, l, h)
 within_lower lower from to (time ∷ a) l h = let k = h.0 in (omega (arith, l, k), h.1)

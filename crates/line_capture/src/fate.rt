@@ -1,5 +1,5 @@
 //! What became of flights: at which events they came to whom, and whether they were lost.
-ghost use Rattle.std.specs.Prelude.{◌≡◌, ◌+◌, IfOk, OnOk, length, replicate};
+ghost use Rattle.std.specs.Prelude.{◌≡◌, ◌+◌, IfOk, OnOk, replicate};
 ghost use Rattle.line_capture.specs.Fates as spec_fates;
 
 use line_events::Answer;

@@ -1,5 +1,5 @@
 //! The packets of a capture.
-ghost use Rattle.std.specs.Prelude.{◌≡◌, ◌+◌, ◌≤◌, ◌<◌, ◌++◌, ◌^◌, [], true, OnOk, length};
+ghost use Rattle.std.specs.Prelude.{◌≡◌, ◌+◌, ◌<◌, ◌++◌, ◌^◌, [], true, OnOk, length};
 ghost use Rattle.std.specs.Option.{option_copied};
 ghost use Rattle.pcapng.specs.Blocks.{PACKET, block_spelling, ended, options_spelling, packet_body, packet_length};
 ghost use Rattle.line_tale.specs.Tales.{numbered};

@@ -1,14 +1,12 @@
 -- A meter that is allowed has the address of the report in the coordinator's book, and no other event has an admission.
-use Rattle.std.proofs.Common.{◌≡◌, ◌≢◌, ◌⊎◌, inl, inr, ⊎_elim, ℕ, ◌+◌, Bool, true, false, not, List, [], ◌∷◌, ◌++◌, length, set, Option, Some, None}
+use Rattle.std.proofs.Common.{◌≡◌, ◌⊎◌, inl, inr, ⊎_elim, ℕ, ◌+◌, Bool, true, false, not, List, [], ◌∷◌, ◌++◌, length, set, Option, Some, None}
 use Rattle.std.proofs.Common.{Result, Ok, Err, refl, sym, ap, ◌∙◌, subst}
 use Rattle.std.specs.Prelude.{IfSome, is_some, slice_get, ◌==◌, if◌then◌else◌}
 use Rattle.std.specs.Option.{option_and_then, option_map, option_map_or}
-use Rattle.std.proofs.lemmas.Bool.{eqb-false}
 use Rattle.std.proofs.lemmas.List.Elements.{All-head, All-tail}
 use Rattle.std.proofs.lemmas.Option.{same_Some}
 use Rattle.plc_base.specs.declared.address.Eui.{Eui}
 use Rattle.plc_base.specs.declared.key.Key.{Key}
-use Rattle.store_tables.specs.SlotTables as slots
 use Rattle.store_tables.proofs.LookUps.{entry_push, entry_set, place_push}
 use Rattle.store_tables.proofs.SlotTables.{place_of-set, slice_get-set}
 use Rattle.group_keys.specs.declared.key_book.BookEntry.{BookEntry}
@@ -21,7 +19,7 @@ use Rattle.node_rules.specs.declared.refusal.SendRefusal.TheVariants as sends
 use Rattle.node_rules.specs.Calls as calls
 use Rattle.node_rules.specs.Ciphers.{Ciphers}
 use Rattle.node_rules.specs.Coordinators.{allow as allow_plan, changed, orders as order_ends, with_book_entry, without_session}
-use Rattle.node_rules.specs.Drafts.{Draft, choose, empty_draft, refused, sealing}
+use Rattle.node_rules.specs.Drafts.{choose, empty_draft, refused, sealing}
 use Rattle.node_rules.specs.Memory.{Memory, Role, Coordinator, Meter, Node}
 use Rattle.node_rules.specs.MemoryDrafts.{in_memory, with_memory_by}
 use Rattle.node_rules.specs.NodeSteps.{NodeStep, acts, answering, of_station}
@@ -41,12 +39,10 @@ use Rattle.reach_rules.specs.declared.refusal.ScanRefusal.{ScanRefusal}
 use Rattle.reach_rules.specs.declared.refusal.ScanRefusal.TheVariants as scan_faults
 use Rattle.reach_rules.specs.Beacons.{begin_scan, choose_agent, hear_discovery}
 use Rattle.reach_rules.specs.Broadcasts.{broadcast}
-use Rattle.reach_rules.specs.CheckedReplies.{message_of}
 use Rattle.reach_rules.specs.PathAsking.{ask_path}
 use Rattle.reach_rules.specs.ReachingNodes.{Beside}
-use Rattle.reach_rules.specs.Receiving.{NeighbourCommand, hear_command}
+use Rattle.reach_rules.specs.Receiving.{hear_command}
 use Rattle.line_events.specs.declared.event.Answer.{Answer}
-use Rattle.line_events.specs.declared.event.Answer.TheVariants as answers
 use Rattle.line_events.specs.declared.event.Event.{Event}
 use Rattle.line_events.specs.declared.event.Event.TheVariants as events
 use Rattle.line_events.specs.declared.event.StepFault.TheVariants as faults
@@ -54,18 +50,16 @@ use Rattle.line_events.specs.Events.{AreEvents, IsEvent}
 use Rattle.node_rules.specs.declared.heard.Accepted.{Accepted}
 use Rattle.line_rules.specs.Answers.{Reception, command_word, discovery_word, drop_word, order_word, scan_word, sent_word}
 use Rattle.line_rules.specs.Further.{adds_frames, asks_by, beside_at, chooses_by, discovers_by, line_step, reaches, scans_by, sends_nothing}
-use Rattle.line_rules.specs.Further.{acknowledged, acknowledging}
-use Rattle.line_rules.specs.Runs.{Entry, IsLineRun, IsRun, events_of}
+use Rattle.line_rules.specs.Further.{acknowledging}
+use Rattle.line_rules.specs.Runs.{Entry, IsRun, events_of}
 use Rattle.line_rules.specs.Steps.{Step, node_outcome, admission_by, allow, allowed, allowed_word, has_begun, identity, is_taken, note_by, on_node, psk_of}
-use Rattle.line_rules.specs.Steps.{running_world}
 use Rattle.line_rules.specs.Steps.{sent_if}
 use Rattle.line_rules.specs.Steps.{tag_of, world_after}
 use Rattle.line_rules.specs.Worlds.{World, Trace, node_at, start}
-use Rattle.line_laws.specs.AdmittedRight.{AreAdmittedRight, EveryAdmissionIsRight, IsAdmission, IsAdmittedRight, address_in, is_admitted}
-use Rattle.line_laws.specs.IssuedRight.{is_allowed_in}
+use Rattle.line_laws.specs.AdmittedRight.{AreAdmittedRight, EveryAdmissionIsRight, IsAdmission, IsAdmittedRight, is_admitted}
 use Rattle.line_laws.proofs.FurtherEvents.{Finds, IsAnswered, IsChecked, IsCommand, IsFurtherStep, IsHeard, IsPlain, IsUnbelieved, Looks, Old, Picks, Puts}
 use Rattle.line_laws.proofs.FurtherEvents.{Seeks, Spreads, Takes, TurnsOn, Unread, checks_so, further_step_is, outcome_of_command, hearing, taker}
-use Rattle.line_laws.proofs.IssueNodes.{Whole, acts_whole}
+use Rattle.line_laws.proofs.IssueNodes.{acts_whole}
 use Rattle.line_laws.proofs.ReachWords.{Quiet, ask_quiet, breaks_quiet, broadcast_quiet, choice_quiet, drop_quiet, frame_quiet, hears_quiet, lost_quiet}
 use Rattle.line_laws.proofs.ReachWords.{not_admitted, order_quiet, restart_quiet, sent_quiet, word_quiet}
 use Rattle.line_laws.proofs.ShutBook.{allowed_eui}

@@ -1,5 +1,5 @@
 -- The law that a joining that is done was taken before, with the same random values.
-use Rattle.std.proofs.Common.{◌≡◌, suc, false, List, [], ◌∷◌, ◌++◌, Option, Some, None, Ok, Err, refl}
+use Rattle.std.proofs.Common.{◌≡◌, suc, false, List, ◌++◌, Option, Some, None, Ok, Err, refl}
 use Rattle.std.specs.Prelude.{IfSome}
 use Rattle.line_rules.specs.Worlds.{World, Pairing}
 use Rattle.line_rules.specs.Steps.{Step}

@@ -144,9 +144,6 @@ confirmed_on w v taken c on e = subst (Each (TagTaken v.nodes taken)) (sym e)
     (subst (λ l. Each (TagTaken v.nodes l) w.made) (append-nil taken)
     (each_weaker (TagTaken w.nodes taken) (TagTaken v.nodes (taken ++ [])) (tag_on w.nodes v.nodes taken [] on) w.made c))
 
-pub stays_there : (nodes : List Node) → Lasts nodes nodes
-stays_there nodes n x is = record { node = x; is = is; eui = refl }
-
 set_lasts : (nodes : List Node) (number : ℕ) (x y : Node) → slice_get nodes number ≡ Some x → y.eui ≡ x.eui → Lasts nodes (slice_set nodes number y)
 set_lasts nodes number x y there eui n z is = ⊎_elim
     (λ (e : n ≡ number).

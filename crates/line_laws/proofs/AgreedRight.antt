@@ -5,7 +5,6 @@ use Rattle.std.specs.Option.{option_map, option_map_or}
 use Rattle.std.proofs.lemmas.List.Elements.{All-cons, All-nil}
 use Rattle.plc_base.specs.Grant.{Granted}
 use Rattle.plc_base.specs.declared.address.Eui.{Eui}
-use Rattle.plc_base.specs.declared.key.Key.{Key}
 use Rattle.plc_base.specs.declared.tags.PairTag.{PairTag}
 use Rattle.eap_psk.specs.Faults.{first_fault}
 use Rattle.eap_psk.specs.Messages.{granting_text}
@@ -26,11 +25,11 @@ use Rattle.node_rules.specs.Hearing.{dropped}
 use Rattle.node_rules.specs.Laws.{IsCutOff, IsWhole}
 use Rattle.node_rules.specs.Memory.{StationMemory, Memory, MeterSession, SessionWay, ByAgent, ByCommand, Role, Coordinator, Meter, Node, address_of}
 use Rattle.node_rules.specs.MemoryDrafts.{Unread, goes_down, goes_up, in_memory, oldest, on_station, packet_fault, unread, with_memory_by, with_pair_tags}
-use Rattle.node_rules.specs.MemoryDrafts.{is_commanded, with_station}
+use Rattle.node_rules.specs.MemoryDrafts.{with_station}
 use Rattle.node_rules.specs.Meters as meters
 use Rattle.node_rules.specs.Meters.{Hearing, Identity, activated, carries_down, carry_down, carry_up, challenged, declined, drop_it, ends, hear_join}
 use Rattle.node_rules.specs.Meters.{hear_join_in}
-use Rattle.node_rules.specs.Meters.{hear_near, hear_order, heard_by, hear_meter, kicked, reply, reply_with, says, take, take_by, take_with, takes}
+use Rattle.node_rules.specs.Meters.{hear_near, hear_order, heard_by, hear_meter, reply, reply_with, says, take, take_by, take_with, takes}
 use Rattle.node_rules.specs.Meters.{with_session}
 use Rattle.node_rules.specs.NodeSteps.{NodeStep, acts, answering, left_by, of_station, stays}
 use Rattle.node_rules.specs.Plans.{Plan, carry_out, resting}
@@ -49,16 +48,14 @@ use Rattle.node_rules.specs.declared.refusal.Dropped.TheVariants.{BadUnit, NoSes
 use Rattle.node_rules.specs.declared.refusal.SendRefusal.TheVariants as sends
 use Rattle.node_rules.proofs.MemoryDraftShapes.{whole}
 use Rattle.node_rules.proofs.Writing.{clean}
-use Rattle.line_events.specs.Events.{IsEvent}
 use Rattle.line_events.specs.declared.event.Event.{Event}
 use Rattle.line_rules.specs.Answers.{CompletedJoining, Reception, coordinator_reception, meter_reception, sent_word, station_reception}
 use Rattle.line_rules.specs.Forgery.{accepting}
-use Rattle.line_rules.specs.Further.{line_step}
 use Rattle.line_rules.specs.Runs.{Entry}
 use Rattle.line_rules.specs.Steps.{Step, node_outcome, done_by, hearing_step, identity, is_taken, note_by, sent_if, tag_of}
 use Rattle.line_rules.specs.Worlds.{Pairing, Trace, World, start}
-use Rattle.line_laws.specs.AgreedRight.{EveryAgreementIsSaid, Fourth, HasTag, IsAgreedRight, IsDoneUnder, IsTakenUnder, SaysFourth, SaysThird, Third}
-use Rattle.line_laws.specs.Keyed.{Among, Here, Later}
+use Rattle.line_laws.specs.AgreedRight.{EveryAgreementIsSaid, Fourth, IsAgreedRight, IsDoneUnder, IsTakenUnder, Third}
+use Rattle.line_laws.specs.Keyed.{Here, Later}
 use Rattle.line_laws.specs.Owed.{KeepsRanges}
 use Rattle.node_rules.specs.Drafts.{UnsealedUnit}
 use Rattle.pan_discovery.specs.declared.message.Discovery.{Discovery}

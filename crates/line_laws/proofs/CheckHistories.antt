@@ -6,9 +6,7 @@ use Rattle.std.proofs.lemmas.Bool.{and_parts, or_left, or_right}
 use Rattle.std.proofs.lemmas.List.Folds.{list_any-append}
 use Rattle.neighbour_checks.specs.declared.tables.OpenCheck.{OpenCheck}
 use Rattle.neighbour_checks.specs.declared.tables.ListedNeighbour.{ListedNeighbour}
-use Rattle.neighbour_checks.specs.History as checking
-use Rattle.neighbour_checks.specs.History.{Acknowledgement, History, Reply, Tick, after_history, ends, lets_go}
-use Rattle.neighbour_checks.specs.Laws.{entry_after}
+use Rattle.neighbour_checks.specs.History.{Acknowledgement, History, Reply, Tick, after_history}
 use Rattle.neighbour_checks.specs.Neighbours.{Neighbours, check_of, is_listed_at, is_open_at, listed_from, may_begin, newly_listed, nobody, waits_for}
 use Rattle.neighbour_checks.proofs.Histories.{nobody_at_the_start, one_more_entry}
 use Rattle.line_laws.specs.CheckHistories.{Begins, IsListed, IsOpen, Lists, StaysListed, StaysOpen}

@@ -1,5 +1,5 @@
 -- A command for the neighbours that comes, and is not forged, is that of a flight, and a node that hears it is as it was.
-use Rattle.std.proofs.Common.{⊎_elim, ◌≡◌, ℕ, Bool, true, false, List, [], ◌∷◌, Option, Some, None, Result, Ok, Err, refl, sym, ap, ◌∙◌, subst}
+use Rattle.std.proofs.Common.{⊎_elim, ◌≡◌, ℕ, Bool, true, false, List, Option, Some, None, Result, Ok, Err, refl, sym, ap, ◌∙◌, subst}
 use Rattle.std.specs.Prelude.{◌==◌, ◌&&◌, ◌||◌, not, All, if◌then◌else◌, slice_get}
 use Rattle.std.specs.Option.{option_map_or}
 use Rattle.std.proofs.lemmas.Bool.{eqb-true}
@@ -35,10 +35,9 @@ use Rattle.node_rules.specs.Laws.{IsWhole, IsCutOff}
 use Rattle.node_rules.proofs.Writing.{clean}
 use Rattle.reach_rules.specs.Receiving.{NeighbourCommand, command_of, command_on, command_with}
 use Rattle.line_rules.specs.Answers.{Reception, coordinator_reception, meter_reception}
-use Rattle.line_events.specs.declared.event.Event.{Event}
 use Rattle.line_rules.specs.Forgery.{accepting}
 use Rattle.line_rules.specs.Steps.{forged_by, hearing_step, identity}
-use Rattle.line_rules.specs.Worlds.{World, Flight, node_at}
+use Rattle.line_rules.specs.Worlds.{World, Flight}
 use Rattle.line_laws.proofs.Answered.{acts_answered}
 use Rattle.line_laws.proofs.CoordinatorCalls.{accept_failed}
 use Rattle.line_laws.proofs.CustodyDeliver.{flown}

@@ -1,14 +1,11 @@
 -- Events that bring no datagram keep custody: restarts, links that break, joining, leaving, random values and orders.
-use Rattle.std.proofs.Common.{◌≡◌, ℕ, ◌≤◌, ◌<◌, Bool, List, [], Some, None, Result, Ok, Err, refl, subst, arith}
-use Rattle.std.specs.Prelude.{slice_get, All}
-use Rattle.std.proofs.lemmas.List.{append-nil}
+use Rattle.std.proofs.Common.{◌≡◌, ℕ, ◌<◌, [], Result, Ok, Err, refl, arith}
 use Rattle.plc_base.specs.Keeper.{Records}
 use Rattle.plc_base.specs.declared.address.Eui.{Eui}
 use Rattle.plc_base.specs.declared.key.Key.{Key}
 use Rattle.plc_base.specs.declared.key.Rand.{Rand}
 use Rattle.plc_base.specs.declared.keeper.BadStore.{BadStore}
 use Rattle.line_events.specs.declared.event.Answer.{Answer}
-use Rattle.node_rules.specs.Ciphers.{Ciphers}
 use Rattle.node_rules.specs.Memory.{StationMemory, Memory, Node, Role, Coordinator, Meter}
 use Rattle.node_rules.specs.Plans.{resting}
 use Rattle.node_rules.specs.Calls as calls
@@ -25,41 +22,16 @@ use Rattle.routing_set.specs.RoutingSet as routing
 use Rattle.routing_set.specs.OwnNumber as own_number
 use Rattle.node_rules.specs.Drafts.{tag_slot}
 use Rattle.node_rules.specs.StoreReading.{tag_in, reading, station_of, memory_of, remembering}
-use Rattle.node_rules.specs.NodeSteps.{NodeStep}
-use Rattle.line_rules.specs.Steps.{node_outcome, world_after, restarts, memory_by, flights_of}
-use Rattle.line_rules.specs.Worlds.{Flight, World}
-use Rattle.line_events.specs.declared.happenings.Handed.{Handed}
-use Rattle.node_rules.specs.Ciphers.{OpensWhatItSeals}
+use Rattle.line_rules.specs.Steps.{restarts, memory_by}
 use Rattle.line_laws.specs.Custody.{keeps}
-use Rattle.line_laws.specs.Places.{node_keeps, places, issued, IsInCustody, OneNode, LiveFalls}
+use Rattle.line_laws.specs.Places.{node_keeps}
 use Rattle.line_laws.proofs.Made.{RingWord}
 use Rattle.line_laws.proofs.MeterForms.{RingCause, joins_is, leaves_is}
 use Rattle.line_laws.proofs.CoordinatorForms as coordinator
 use Rattle.line_laws.proofs.CallForms as forms
 use Rattle.line_laws.proofs.NodeCalls.{NoGrant, NoPair, NoEui, NoWord, call_given, no_some}
-use Rattle.line_laws.proofs.RangeFrames.{IsSent}
 use Rattle.line_laws.proofs.CustodyPlans.{BringsIn, up_by, BodiesKept, plan_kept, DidKeep}
 use Rattle.line_laws.proofs.CustodyCalls.{SaysNoDatagram, meter_says, coordinator_says, CoordinatorWord, Says, Draws, Activates, AnyEui, AnyPair}
-use Rattle.line_laws.proofs.CustodyWorld.{custody_after, sent_flies}
-
--- # An event that brings nothing
-
--- what one node did, where nothing came and nothing is sent out anew
-pub acted_in_custody : (ciphers : Ciphers) (live : World → Flight → Bool) → OpensWhatItSeals ciphers → (w : World) (number : ℕ) (x : Node)
-    → slice_get w.nodes number ≡ Some x → (d : NodeStep Answer) (before : List Handed) → IsInCustody ciphers live w before → All IsSent d.frames
-    → ((n i : ℕ) → 0 < n → DidKeep n i 0 (λ (a : Answer). 0) x d) → LiveFalls live w (node_outcome ciphers w number d).0 None
-    → IsInCustody ciphers live (node_outcome ciphers w number d).0 before
-unfolding world_after
-acted_in_custody ciphers live opens w number x here d before held sent kept falls = record {
-  at_most = λ n i some.
-      let v : World = (node_outcome ciphers w number d).0 in
-      let k = (kept n i some).kept in
-      let fly = sent_flies ciphers opens n i number d.frames sent in
-      let node : OneNode w v x d.node (flights_of ciphers number d) = record { number = number; here = here; nodes = refl; flights = refl } in
-      subst (λ (us : List Handed). places ciphers live n i v us ≤ issued n v.sends) (append-nil before)
-      (custody_after ciphers live n i w v x d.node (flights_of ciphers number d) before [] None 0 node falls (record { kept = omega arith }) (omega arith)
-      (held.at_most n i some));
-}
 
 -- # Restarts
 

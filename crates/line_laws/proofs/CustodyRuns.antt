@@ -29,7 +29,7 @@ use Rattle.node_rules.specs.NodeSteps.{acts, left_by, of_station, stays}
 use Rattle.node_rules.specs.Plans.{Plan, carry_out}
 use Rattle.line_events.specs.Events.{IsEvent}
 use Rattle.line_rules.specs.Forgery.{Comes, OfFlight, OfScript, accepting}
-use Rattle.line_rules.specs.Runs.{Entry, one_of, send_at}
+use Rattle.line_rules.specs.Runs.{Entry, send_at}
 use Rattle.line_rules.specs.SafeRuns.{WasSent, IsNew}
 use Rattle.line_rules.specs.Steps.{Step, arrives, deliver, inject, has_begun, hearing_step, identity, is_taken, note_by, step}
 use Rattle.line_rules.specs.Traces.{ComesTo, is_up}
@@ -49,7 +49,6 @@ use Rattle.line_laws.proofs.CustodyTaking.{TakesHome}
 use Rattle.line_laws.proofs.CustodyWhole.{OneSend}
 use Rattle.line_laws.proofs.CustodyWorld.{up_itself, ups_differ}
 use Rattle.line_laws.proofs.FlightFolds.{came_octets}
-use Rattle.line_laws.proofs.IssueRuns.{kept}
 use Rattle.line_laws.proofs.IssueNodes.{RingOk, Nought}
 use Rattle.line_laws.proofs.IssueWorlds.{IsMeter, Keyed}
 use Rattle.line_laws.proofs.Made.{RingWord}

@@ -51,7 +51,7 @@ use Rattle.line_laws.proofs.CoordinatorCalls.{accept_ok, accept_failed, accepted
 use Rattle.line_laws.proofs.StoreMarks.{accept_is}
 use Rattle.line_laws.proofs.Answered.{acts_answered}
 use Rattle.line_laws.proofs.Senders.{IsFrom, AreFrom}
-use Rattle.line_laws.proofs.HeadsSaid.{spelled_well, sealed_sender_is, up_nonce, down_nonce}
+use Rattle.line_laws.proofs.HeadsSaid.{sealed_sender_is, up_nonce, down_nonce}
 use Rattle.line_laws.proofs.Worlds.{NodeFits, FlightFits, WorldOk, within as place_within, at_place}
 use Rattle.line_laws.proofs.StepsOk.{hears_ok}
 use Rattle.line_laws.proofs.NodesOk.{coordinator_acts}
@@ -111,11 +111,6 @@ module _ (ciphers : Ciphers) (P : Flight → Type 0) (sent : (number : ℕ) (f :
 
 pub lost_spelled : (ciphers : Ciphers) (f : Flight) → IsSpelled ciphers f → IsSpelled ciphers (record f { lost = true })
 lost_spelled ciphers f h = record { sealed = h.sealed; plain = h.plain }
-
--- every flight is what its key says
-pub spelled_step : (ciphers : Ciphers) (w : World) (event : Event) (s : Step) → IsStep ciphers w event s → All (IsSpelled ciphers) w.flights
-    → AllOf ciphers (IsSpelled ciphers) (spelled_well ciphers) (lost_spelled ciphers) s
-spelled_step ciphers w event s is all = every_flight ciphers (IsSpelled ciphers) (spelled_well ciphers) (lost_spelled ciphers) w event s is all
 
 -- # Who sent a flight
 

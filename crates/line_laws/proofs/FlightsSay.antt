@@ -1,9 +1,8 @@
 -- What is said of the unit of each flight, as the nodes that open it read it: what nodes without further reach send says nothing that is asked
 -- of commands for the neighbours.
-use Rattle.std.proofs.Common.{◌≡◌, ℕ, ◌+◌, ◌-◌, Bool, true, false, List, [], ◌∷◌, ◌++◌, length, Option, Some, None, Result, Ok, Err, refl, sym, ap, ◌∙◌, subst}
-use Rattle.std.specs.Prelude.{All, ◌==◌, if◌then◌else◌, map, slice_get, slice_set}
+use Rattle.std.proofs.Common.{◌≡◌, ℕ, ◌+◌, ◌-◌, Bool, true, false, List, [], ◌∷◌, Some, None, Result, Ok, Err, refl, sym, ap, ◌∙◌, subst}
+use Rattle.std.specs.Prelude.{All, ◌==◌, if◌then◌else◌, map, slice_get}
 use Rattle.std.proofs.lemmas.Bool.{or_parts}
-use Rattle.std.proofs.lemmas.List.{append-nil}
 use Rattle.std.proofs.lemmas.List.Elements.{All-nil, All-cons, All-head, All-tail, All-append, All-set, All-weaker}
 use Rattle.std.proofs.lemmas.Option.{same_Some, none-some}
 use Rattle.plc_base.specs.declared.key.Key.{Key}
@@ -53,7 +52,6 @@ use Rattle.line_laws.proofs.OctetRuns.{WorldSpeaks}
 use Rattle.line_laws.proofs.OldUnits.{IsOldFrame, IsOldUnit, call_old, hears_old}
 use Rattle.line_laws.proofs.Quiet.{accept_quiet, acts_quiet, depot_quiet, install_quiet, near_quiet}
 use Rattle.line_laws.proofs.RangeFrames.{IsSent}
-use Rattle.line_laws.proofs.RangePlans.{DidRanged}
 use Rattle.line_laws.proofs.RangeRuns.{call_ranged, heard_did}
 use Rattle.line_laws.proofs.Readings.{network_ranges}
 use Rattle.line_laws.proofs.Worlds.{at_place}

@@ -1,6 +1,6 @@
 -- Every event of a line with further reach keeps that each fourth packet's tag is of a taking, unless it is forged; and what it issues is what
 -- it issues without further reach.
-use Rattle.std.proofs.Common.{◌≡◌, ℕ, ◌+◌, true, false, List, ◌++◌, Some, None, Ok, Err, append-nil, refl, sym, ap, ◌∙◌, subst}
+use Rattle.std.proofs.Common.{◌≡◌, ℕ, true, false, List, ◌++◌, Some, None, Ok, Err, append-nil, refl, sym, ap, ◌∙◌, subst}
 use Rattle.std.specs.Prelude.{All, IfSome}
 use Rattle.pan_discovery.specs.declared.message.Discovery.{Discovery}
 use Rattle.node_rules.specs.declared.refusal.FrameRefusal.TheVariants as frames

@@ -1,5 +1,5 @@
 -- A broadcast and an ask keep all that the laws rest on: what holds of a world says whom they go to, and that they may be sealed.
-use Rattle.std.proofs.Common.{◌≡◌, ℕ, List, [], ◌∷◌, Some, Err, subst, arith}
+use Rattle.std.proofs.Common.{◌≡◌, ℕ, [], ◌∷◌, Some, Err, subst, arith}
 use Rattle.std.specs.Prelude.{IfSome}
 use Rattle.path_requests.specs.declared.message.PathMessage.TheVariants.{Ask}
 use Rattle.node_rules.specs.Memory.{Memory, Node}

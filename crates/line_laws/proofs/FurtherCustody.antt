@@ -1,5 +1,5 @@
 -- Every event of a line with further reach keeps where the octets of each datagram are, unless it is forged: its moves carry none.
-use Rattle.std.proofs.Common.{⊎_elim, inl, inr, ◌≡◌, ◌⊎◌, ℕ, ◌+◌, ◌-◌, ◌≤◌, ◌<◌, Bool, true, false, cond, List, [], ◌∷◌, ◌++◌, length, Option, Some, None}
+use Rattle.std.proofs.Common.{⊎_elim, inl, inr, ◌≡◌, ◌⊎◌, ℕ, ◌+◌, ◌≤◌, ◌<◌, Bool, true, false, cond, List, [], ◌∷◌, ◌++◌, length, Option, Some, None}
 use Rattle.std.proofs.Common.{Result, Ok, Err, append-nil, refl, sym, ap, ◌∙◌, subst, arith}
 use Rattle.std.specs.Prelude.{if◌then◌else◌, map, All, AllPairs, IfSome, slice_get}
 use Rattle.std.specs.List.{sum_by}

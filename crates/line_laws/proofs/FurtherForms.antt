@@ -1,12 +1,10 @@
 -- How the plans of further rules are made: nothing is done, or the log and the counter are stored and at most one command goes out. So each
 -- keeps memory and records, whatever becomes of its writes.
-use Rattle.std.proofs.Common.{zero-le, ◌≡◌, ◌⊎◌, inl, inr, ℕ, ◌+◌, ◌-◌, ◌≤◌, ◌<◌, Bool, true, false, List, [], ◌∷◌, ◌++◌, length, Option, Some, None, Result}
+use Rattle.std.proofs.Common.{zero-le, ◌≡◌, ◌⊎◌, inl, inr, ℕ, ◌+◌, ◌≤◌, Bool, true, false, List, [], ◌∷◌, ◌++◌, length, Option, Some, None, Result}
 use Rattle.std.proofs.Common.{Ok, Err, refl, arith}
-use Rattle.std.specs.Prelude.{All, nat_lt, nat_le, if◌then◌else◌, ◌==◌, ◌||◌}
+use Rattle.std.specs.Prelude.{nat_lt, if◌then◌else◌, ◌==◌}
 use Rattle.std.specs.Option.{option_map_or}
 use Rattle.std.proofs.lemmas.Bool.{ltb-false}
-use Rattle.std.proofs.lemmas.List.{length-append}
-use Rattle.std.proofs.lemmas.List.Elements.{All-nil, All-cons}
 use Rattle.plc_base.specs.Keeper.{Write}
 use Rattle.store_tables.specs.Writes.{puts_of}
 use Rattle.store_tables.specs.Numberings.{passes, limit_write, raised}
@@ -20,12 +18,11 @@ use Rattle.path_requests.specs.declared.message.PathMessage.TheVariants.{Ask}
 use Rattle.path_requests.specs.Messages.{path_spelling}
 use Rattle.node_rules.specs.Drafts.{Draft, Ends, UnsealedUnit, counters_left, empty_draft, refused, sealed, sealed_by, sealing, checked, choose}
 use Rattle.node_rules.specs.Frames.{to_all}
-use Rattle.node_rules.specs.Memory.{StationMemory, Memory, Role, address_of, station_route}
+use Rattle.node_rules.specs.Memory.{Memory, Role, address_of, station_route}
 use Rattle.node_rules.specs.MemoryDrafts.{in_memory, with_station}
 use Rattle.node_rules.specs.Plans.{Plan, resting}
 use Rattle.reach_rules.specs.declared.refusal.BroadcastRefusal.{BroadcastRefusal}
 use Rattle.reach_rules.specs.declared.refusal.BroadcastRefusal.TheVariants as broadcasts
-use Rattle.reach_rules.specs.declared.refusal.AskRefusal.{AskRefusal}
 use Rattle.reach_rules.specs.declared.refusal.AskRefusal.TheVariants as asks
 use Rattle.reach_rules.specs.declared.heard.CommandHeard.{CommandHeard}
 use Rattle.reach_rules.specs.declared.heard.CommandHeard.TheVariants as heard_of

@@ -1,16 +1,13 @@
 -- What holds of a line of nodes holds after the events of further reach.
-use Rattle.std.proofs.Common.{zero-le, ◌≡◌, ℕ, ◌+◌, ◌≤◌, ◌<◌, Bool, true, false, List, [], ◌∷◌, ◌++◌, length, get_or, Option, Some, None, Result, Ok, Err, refl}
+use Rattle.std.proofs.Common.{zero-le, ◌≡◌, ℕ, ◌<◌, true, false, List, [], ◌∷◌, ◌++◌, length, get_or, Option, Some, None, Err, refl}
 use Rattle.std.proofs.Common.{sym, subst, arith}
-use Rattle.std.specs.Prelude.{All, AllPairs, IfSome}
+use Rattle.std.specs.Prelude.{IfSome}
 use Rattle.std.proofs.lemmas.List.Elements.{All-push}
 use Rattle.std.proofs.lemmas.List.Quantifiers.{all_pairs_push}
 use Rattle.pan_discovery.specs.declared.message.Discovery.{Discovery}
 use Rattle.node_rules.specs.Ciphers.{Ciphers}
-use Rattle.node_rules.specs.Drafts.{UnsealedUnit}
 use Rattle.node_rules.specs.Memory.{Memory, Node}
-use Rattle.node_rules.specs.NodeSteps.{NodeStep, acts}
 use Rattle.node_rules.specs.Plans.{Plan}
-use Rattle.reach_rules.specs.declared.refusal.BroadcastRefusal.{BroadcastRefusal}
 use Rattle.reach_rules.specs.declared.refusal.BroadcastRefusal.TheVariants as broadcasts
 use Rattle.reach_rules.specs.declared.refusal.AskRefusal.TheVariants as asks
 use Rattle.node_rules.specs.MemoryDrafts.{in_memory}
@@ -24,15 +21,14 @@ use Rattle.reach_rules.specs.Broadcasts.{broadcast}
 use Rattle.reach_rules.specs.PathAsking.{ask_path}
 use Rattle.line_rules.specs.Answers.{discovery_word, scan_word}
 use Rattle.line_events.specs.declared.event.Answer.{Answer}
-use Rattle.line_rules.specs.Further.{beside_at, beside_after, commanded, has_reached, broadcasts_by, asks_by, scans_by, discovers_by, has_discovered}
-use Rattle.line_rules.specs.Further.{beacon_taken, scanning, discovery_flight, discovery_flights, reaches, with_beside}
+use Rattle.line_rules.specs.Further.{beside_at, commanded, broadcasts_by, asks_by, scans_by, discovers_by, has_discovered}
+use Rattle.line_rules.specs.Further.{beacon_taken, scanning, discovery_flight, reaches, with_beside}
 use Rattle.line_rules.specs.Nonces.{CounterRises, NonceParts, nonce_parts}
 use Rattle.line_rules.specs.Steps.{running_world, world_after}
 use Rattle.line_rules.specs.Worlds.{World, Flight, Noticed, Trace, node_at}
 use Rattle.line_laws.specs.FurtherLines.{LineHolds, LogFits, CallsKeepTheLine, CommandsKeepTheLine, DiscoveryKeepsTheLine}
-use Rattle.line_laws.specs.Lines.{IsBelow, NodeOk, Rising, WorldOk, frontier}
+use Rattle.line_laws.specs.Lines.{IsBelow, NodeOk, WorldOk, frontier}
 use Rattle.line_laws.specs.Owed.{KeepsRanges}
-use Rattle.line_laws.specs.Sizes.{IsMemorySized}
 use Rattle.line_laws.proofs.FurtherForms.{AnyUnits, IsFurther, ask_is, broadcast_is, command_is, further_ok}
 use Rattle.mac_frames.specs.Grammar.{IsTarget}
 use Rattle.node_rules.specs.Frames.{to_all}

@@ -1,5 +1,5 @@
 -- Every event of a line with further reach keeps ranks and routes, unless it is forged: no stored rank falls, and valid routes lead nearer.
-use Rattle.std.proofs.Common.{⊎_elim, inl, ◌≡◌, ◌≢◌, ◌⊎◌, ℕ, Bool, true, false, List, [], ◌∷◌, ◌++◌, Option, Some, None, Result, Ok, Err}
+use Rattle.std.proofs.Common.{⊎_elim, inl, ◌≡◌, ◌≢◌, ℕ, Bool, true, false, List, [], ◌∷◌, ◌++◌, Option, Some, None, Result, Ok, Err}
 use Rattle.std.proofs.Common.{refl, sym, ap, ◌∙◌, subst, arith}
 use Rattle.std.specs.Prelude.{if◌then◌else◌, All, slice_get, slice_set}
 use Rattle.std.specs.Option.{option_and_then}

@@ -1,11 +1,9 @@
 -- What a plan of further rules keeps, account by account: it stores its log and its counter, and sends at most one command.
-use Rattle.std.proofs.Common.{zero-le, ◌≡◌, ℕ, ◌+◌, ◌≤◌, List, [], ◌∷◌, ◌++◌, length, Option, Some, None, refl, arith}
+use Rattle.std.proofs.Common.{zero-le, ◌≡◌, ℕ, ◌≤◌, List, [], ◌∷◌, length, Option, Some, None, refl, arith}
 use Rattle.std.specs.Prelude.{All, IfSome}
 use Rattle.std.specs.List.{sum_by}
-use Rattle.std.specs.Option.{option_map, option_map_or}
+use Rattle.std.specs.Option.{option_map_or}
 use Rattle.std.proofs.lemmas.List.Elements.{All-nil, All-cons}
-use Rattle.plc_base.specs.Grant.{Granted}
-use Rattle.plc_base.specs.Keeper.{Write}
 use Rattle.store_tables.specs.Writes.{puts_of}
 use Rattle.plc_base.specs.declared.key.Key.{Key}
 use Rattle.frame_counters.specs.SendCounter as counter
@@ -13,7 +11,6 @@ use Rattle.group_keys.specs.KeyBook as books
 use Rattle.group_keys.specs.KeyRing as ring
 use Rattle.mac_frames.specs.Grammar.{IsTarget}
 use Rattle.mesh_header.specs.declared.unit.Unit.{Unit as MeshUnit}
-use Rattle.routing_set.specs.RoutingSet as routing
 use Rattle.routing_set.specs.declared.rank.Rank.{Rank}
 use Rattle.node_rules.specs.Drafts.{Ends, UnsealedUnit, sealed_units, sealed_by, sealing_key}
 use Rattle.node_rules.specs.Frames.{Sent}
@@ -21,7 +18,7 @@ use Rattle.node_rules.specs.Memory.{Memory, Coordinator, address_of}
 use Rattle.node_rules.specs.Plans.{Plan, resting}
 use Rattle.line_laws.specs.Custody.{sent_is}
 use Rattle.line_laws.specs.InCustody.{StationIsTrue}
-use Rattle.line_laws.specs.Later.{IsOfLog, MayBeSealed}
+use Rattle.line_laws.specs.Later.{MayBeSealed}
 use Rattle.line_laws.specs.Ranges.{IsOut, IsStationRanged}
 use Rattle.line_laws.specs.Sends.{SentAs}
 use Rattle.line_laws.specs.Stores.{IsReadable}

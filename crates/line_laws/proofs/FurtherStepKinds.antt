@@ -1,38 +1,13 @@
 -- How an event of a line with further reach is made: of what nodes without it do, and of moves after that.
-use Rattle.std.proofs.Common.{⊎_elim, zero-le, inl, inr, ◌≡◌, ◌≢◌, ℕ, ◌+◌, ◌≤◌, ◌<◌, Bool, true, false, List, [], ◌∷◌, ◌++◌, length, get_or, take, Option, Some}
-use Rattle.std.proofs.Common.{None, Result, Ok, Err, refl, sym, ap, ◌∙◌, subst, arith}
-use Rattle.std.specs.Prelude.{if◌then◌else◌, All, IfSome, IsSome, is_some, ◌==◌, ◌||◌, nat_lt, slice_get, slice_set, map}
-use Rattle.std.specs.List.{list_any}
-use Rattle.std.specs.Option.{option_map, option_map_or}
-use Rattle.std.proofs.lemmas.Bool.{ltb-false}
-use Rattle.std.proofs.lemmas.List.{append_assoc, length-append}
+use Rattle.std.proofs.Common.{⊎_elim, inr, ◌≡◌, ◌≢◌, ℕ, ◌+◌, ◌≤◌, Bool, true, false, List, [], ◌∷◌, ◌++◌, length, Option, Some}
+use Rattle.std.proofs.Common.{None, Result, Ok, Err, refl, sym, ◌∙◌, subst, arith}
+use Rattle.std.specs.Prelude.{if◌then◌else◌, All, IsSome, is_some, ◌==◌, map}
+use Rattle.std.specs.Option.{option_map_or}
 use Rattle.std.proofs.lemmas.List.Elements.{All-append, All-cons, All-nil}
-use Rattle.plc_base.specs.declared.tags.PairTag.{PairTag}
 use Rattle.store_tables.proofs.SlotTables.{slice_get-set}
-use Rattle.store_tables.proofs.MarkEntries.{keep_write-within, room_has}
-use Rattle.plc_base.proofs.Faults.{then_none}
 use Rattle.plc_base.specs.declared.keeper.BadStore.{BadStore}
 use Rattle.plc_base.specs.declared.key.Key.{Key}
-use Rattle.plc_base.specs.Keeper.{Records, Write}
-use Rattle.store_tables.specs.LeadingPuts.{Reads}
-use Rattle.store_tables.specs.Writes.{puts_of}
-use Rattle.broadcast_log.specs.declared.broadcast.Broadcast.{Broadcast}
-use Rattle.broadcast_log.specs.declared.fault.LogFault.{LogFault}
-use Rattle.broadcast_log.specs.declared.fault.LogFault.TheVariants as log_faults
-use Rattle.broadcast_log.specs.Laws.{IsLogIn}
-use Rattle.broadcast_log.specs.Log.{Log, log_at_rest, opened}
-use Rattle.broadcast_log.specs.OriginMarks.{keep_write, room_for}
-use Rattle.broadcast_log.proofs.Reopening.{reopens}
-use Rattle.mesh_header.specs.declared.unit.Unit.{Unit as MeshUnit}
-use Rattle.mesh_header.specs.declared.unit.Unit.TheVariants as units
-use Rattle.mesh_header.specs.Reading.{unit_in}
-use Rattle.loadng_messages.specs.declared.message.Message.{Message}
-use Rattle.loadng_messages.specs.declared.message.Message.TheVariants.{Rreq, Rrep, Rerr}
-use Rattle.neighbour_checks.specs.Acks.{ack_spelling}
 use Rattle.node_rules.specs.declared.heard.Accepted.{Accepted}
-use Rattle.node_rules.specs.declared.heard.Path.{Path}
-use Rattle.node_rules.specs.declared.heard.Path.TheVariants as paths
-use Rattle.node_rules.specs.declared.heard.Heard.TheVariants as heard_words
 use Rattle.node_rules.specs.declared.heard.Reply.{Reply}
 use Rattle.node_rules.specs.declared.refusal.Dropped.TheVariants as drops
 use Rattle.node_rules.specs.declared.refusal.FrameRefusal.{FrameRefusal}
@@ -41,71 +16,53 @@ use Rattle.node_rules.specs.declared.refusal.LocalRefusal.{LocalRefusal}
 use Rattle.node_rules.specs.declared.refusal.LocalRefusal.TheVariants as locals
 use Rattle.node_rules.specs.Accepting.{accept}
 use Rattle.node_rules.specs.Ciphers.{Ciphers}
-use Rattle.node_rules.specs.Coordinators as coordinator_rules
 use Rattle.node_rules.specs.Meters as meters
-use Rattle.node_rules.specs.Drafts.{alone, choose as choose_plan, counters_left, empty_draft, goes, refused, sealed, sealing}
 use Rattle.node_rules.specs.Frames.{arrived}
-use Rattle.node_rules.specs.Hearing.{Hearing, hear, hear_command, hear_over_mesh, hear_sealed, drop_it, hear_unit_in}
-use Rattle.node_rules.specs.Memory.{StationMemory, Memory, Node, Role, Coordinator, Meter, address_of, node_address}
-use Rattle.node_rules.specs.MemoryDrafts.{in_memory, unread, with_station}
-use Rattle.node_rules.specs.Neighbours.{local_draft, local_ends, send_local}
-use Rattle.node_rules.specs.NodeSteps.{NodeStep, acts, answering, left_by, of_station, stays}
-use Rattle.node_rules.specs.Plans.{Plan, carry_out, resting, within}
+use Rattle.node_rules.specs.Memory.{Memory, Node, node_address}
+use Rattle.node_rules.specs.MemoryDrafts.{in_memory}
+use Rattle.node_rules.specs.NodeSteps.{NodeStep, acts, left_by, of_station, stays}
+use Rattle.node_rules.specs.Plans.{Plan, carry_out, resting}
 use Rattle.node_rules.specs.Replies.{reply_among}
-use Rattle.node_rules.specs.Tables.{HasShortTables}
-use Rattle.node_rules.proofs.ReplyFrames.{coordinators_replies_few, meters_replies_few}
-use Rattle.reach_rules.specs.declared.refusal.ReachDropped.{ReachDropped}
 use Rattle.reach_rules.specs.declared.refusal.ReachDropped.TheVariants as reach_drops
 use Rattle.reach_rules.specs.declared.refusal.BroadcastRefusal.TheVariants as broadcasts
 use Rattle.reach_rules.specs.declared.refusal.AskRefusal.TheVariants as asks
 use Rattle.reach_rules.specs.declared.refusal.ChooseRefusal.TheVariants as choices
 use Rattle.reach_rules.specs.declared.refusal.ChooseRefusal.{ChooseRefusal}
-use Rattle.pan_discovery.specs.Agents.{kth_of}
-use Rattle.reach_rules.specs.Beacons.{ChosenAgent, Discovering, begin_scan, choose_agent, choosing_ends, hear_discovery, is_discovery, joins_by}
-use Rattle.reach_rules.specs.Broadcasts.{broadcast, broadcast_fault, mark_fault}
-use Rattle.reach_rules.specs.CheckedReplies.{acknowledges, checks_after, message_of}
+use Rattle.reach_rules.specs.Beacons.{ChosenAgent, Discovering, begin_scan, choose_agent, hear_discovery, is_discovery}
+use Rattle.reach_rules.specs.Broadcasts.{broadcast}
+use Rattle.reach_rules.specs.CheckedReplies.{acknowledges, message_of}
 use Rattle.reach_rules.specs.PathAsking.{ask_path}
-use Rattle.reach_rules.specs.ReachingNodes.{Beside, nothing_beside, restarted, restarted_by, tick_beside}
-use Rattle.reach_rules.specs.Receiving.{NeighbourCommand, command_of, command_on, command_with, hear_command as hear_neighbours}
+use Rattle.reach_rules.specs.ReachingNodes.{Beside, restarted, tick_beside}
+use Rattle.reach_rules.specs.Receiving.{NeighbourCommand, command_of, hear_command as hear_neighbours}
 use Rattle.line_events.specs.declared.event.Answer.{Answer}
 use Rattle.line_events.specs.declared.event.Answer.TheVariants as answers
 use Rattle.line_events.specs.declared.event.Event.{Event}
 use Rattle.line_events.specs.declared.event.Event.TheVariants as events
 use Rattle.line_events.specs.declared.event.StepFault.{StepFault}
 use Rattle.line_events.specs.declared.event.StepFault.TheVariants as faults
-use Rattle.line_rules.specs.Answers.{Reception, coordinator_reception, frame_word, meter_reception, only}
+use Rattle.line_rules.specs.Answers.{Reception, only}
 use Rattle.line_events.specs.Events.{IsEvent, IsLineOctets}
-use Rattle.line_rules.specs.Further.{line_step, checks, bcast, broadcasts_by, path, asks_by, scan, scans_by, choose, choice_word, chooses_by, discovers_by}
+use Rattle.line_rules.specs.Further.{line_step, checks, bcast, broadcasts_by, path, asks_by, scan, scans_by, choose, chooses_by, discovers_by}
 use Rattle.line_rules.specs.Further.{discovery_flights, commanded, checked, acknowledged_if, acknowledged, acknowledging, adds_frames, sends_nothing}
 use Rattle.line_rules.specs.Further.{unbelieved, hearing_outcome_by, further_hearing_outcome, is_dropped, accepted_further, comes, delivers, injects, ticks}
 use Rattle.line_rules.specs.Further.{after_ok, due}
-use Rattle.line_rules.specs.Further.{with_check, restarts_by, restarts_further, beside_at, reaches, with_beside, of_memory}
-use Rattle.line_rules.specs.Logs.{AreLogged, HaveShortTables, LogIn, LogsKept}
-use Rattle.line_rules.specs.Steps.{Step, set_up, running_world, world_after, node_outcome, ticked, flights_of, happenings, trace_of, has_begun, takes_setup}
+use Rattle.line_rules.specs.Further.{with_check, restarts_by, restarts_further, beside_at, reaches, with_beside}
+use Rattle.line_rules.specs.Logs.{LogIn, LogsKept}
+use Rattle.line_rules.specs.Steps.{Step, set_up, running_world, world_after, node_outcome, ticked, happenings, trace_of, has_begun, takes_setup}
 use Rattle.line_rules.specs.Steps.{once_begun, in_setup}
-use Rattle.line_rules.specs.Steps.{on_node, on_meter, psk_of, identity, on_flight, hearing_step, hearing_outcome, received, forged_by, note_by, restarts, tick}
+use Rattle.line_rules.specs.Steps.{on_node, on_meter, psk_of, identity, on_flight, hearing_step, hearing_outcome, note_by, restarts, tick}
 use Rattle.line_rules.specs.Steps.{step}
-use Rattle.line_rules.specs.Worlds.{World, Flight, Trace, node_at, flight_at, is_forged_tag}
+use Rattle.line_rules.specs.Worlds.{World, Flight, Trace, node_at, flight_at}
 use Rattle.line_rules.proofs.LogSteps.{logged_at}
-use Rattle.line_laws.specs.FurtherLines.{LineHolds, LineStepsHold, LogFits, LogsFit, StepHolds, TablesAreShort}
-use Rattle.line_laws.specs.Later.{IsOfLog}
-use Rattle.line_laws.specs.Keyed.{Each}
-use Rattle.line_laws.specs.Lines.{FlightFits, IsBelow, NodeOk, Rising, WorldOk, frontier}
-use Rattle.line_laws.specs.Live.{marks_of}
+use Rattle.line_laws.specs.FurtherLines.{LogFits}
+use Rattle.line_laws.specs.Lines.{FlightFits, NodeOk, WorldOk}
 use Rattle.line_laws.specs.Owed.{AreOctets, KeepsRanges}
-use Rattle.line_laws.specs.Sizes.{IsMemorySized}
-use Rattle.line_laws.specs.Stores.{IsKept}
 use Rattle.line_laws.proofs.Answered.{acts_answered}
 use Rattle.line_laws.proofs.CoordinatorCalls.{accept_failed, accept_ok, accepted_routes}
-use Rattle.line_laws.proofs.Frontiers.{numbered_le, numbered_lower, same_low}
 use Rattle.line_laws.proofs.FurtherForms.{AnyUnits, IsFurther, Goes, Rests, further_ok}
-use Rattle.line_laws.proofs.FurtherLines.{calls_keep, commands_keep, discovery_keeps}
-use Rattle.line_laws.proofs.MarkOrder.{raised_same, raised_trans}
-use Rattle.line_laws.proofs.NodeCalls.{RoutesFit, join_ok}
-use Rattle.line_laws.proofs.Nodes.{DidOk, PlanOk, acts_ok, node_kept, ring_readable, sealed_few}
+use Rattle.line_laws.proofs.Nodes.{DidOk, acts_ok, ring_readable}
 use Rattle.node_rules.proofs.Writing.{clean}
 use Rattle.node_rules.specs.Laws.{IsCutOff, IsWhole}
-use Rattle.line_laws.proofs.Quiet.{acts_quiet, accept_quiet}
 use Rattle.line_laws.proofs.StoreMarks.{accept_is}
 use Rattle.line_laws.proofs.Worlds.{at_place, counts_ok, ok_after, within as place_within}
 use Rattle.pan_discovery.specs.declared.message.Discovery.{Discovery}
@@ -125,8 +82,7 @@ use Rattle.line_rules.specs.Worlds.{Noticed, nothing_further}
 use Rattle.std.proofs.lemmas.List.{append-nil}
 use Rattle.std.proofs.lemmas.Bool.{eqb-false}
 use Rattle.line_laws.specs.Later.{flown as flown_world}
-use Rattle.line_laws.proofs.StepKinds as step_kinds
-use Rattle.line_laws.proofs.StepKinds.{IsStep, Ticks, Restarts, Hears, TurnsDown, step_is}
+use Rattle.line_laws.proofs.StepKinds.{IsStep, step_is}
 use Rattle.line_laws.proofs.StepKinds.{Fails as OldFails}
 use Rattle.line_laws.proofs.FlightFolds.{came_octets}
 use Rattle.line_laws.proofs.StepsOk.{StepGood, Taken, tick_good}

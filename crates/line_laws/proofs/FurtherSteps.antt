@@ -1,9 +1,8 @@
 -- What holds of a line of nodes holds after every event of a line with further reach, and no more than 24 frames are sent.
-use Rattle.std.proofs.Common.{⊎_elim, zero-le, inl, inr, ◌≡◌, ◌≢◌, ℕ, ◌+◌, ◌≤◌, ◌<◌, Bool, true, false, List, [], ◌∷◌, ◌++◌, length, get_or, take, Option, Some}
+use Rattle.std.proofs.Common.{⊎_elim, zero-le, inr, ◌≡◌, ℕ, ◌+◌, ◌≤◌, ◌<◌, Bool, true, false, List, [], ◌∷◌, ◌++◌, length, Option, Some}
 use Rattle.std.proofs.Common.{None, Result, Ok, Err, refl, sym, ap, ◌∙◌, subst, arith}
-use Rattle.std.specs.Prelude.{if◌then◌else◌, All, IfSome, IsSome, is_some, ◌==◌, ◌||◌, nat_lt, slice_get, slice_set, map}
-use Rattle.std.specs.List.{list_any}
-use Rattle.std.specs.Option.{option_map, option_map_or}
+use Rattle.std.specs.Prelude.{if◌then◌else◌, All, IfSome, IsSome, is_some, ◌==◌, nat_lt, map}
+use Rattle.std.specs.Option.{option_map_or}
 use Rattle.std.proofs.lemmas.Bool.{ltb-false}
 use Rattle.std.proofs.lemmas.List.{append_assoc, length-append}
 use Rattle.std.proofs.lemmas.List.Elements.{All-cons, All-head, All-nil, All-tail}
@@ -13,14 +12,12 @@ use Rattle.store_tables.proofs.MarkEntries.{keep_write-within, room_has}
 use Rattle.plc_base.proofs.Faults.{then_none}
 use Rattle.plc_base.specs.declared.keeper.BadStore.{BadStore}
 use Rattle.plc_base.specs.declared.key.Key.{Key}
-use Rattle.plc_base.specs.Keeper.{Records, Write}
-use Rattle.store_tables.specs.LeadingPuts.{Reads}
+use Rattle.plc_base.specs.Keeper.{Write}
 use Rattle.store_tables.specs.Writes.{puts_of}
-use Rattle.broadcast_log.specs.declared.broadcast.Broadcast.{Broadcast}
 use Rattle.broadcast_log.specs.declared.fault.LogFault.{LogFault}
 use Rattle.broadcast_log.specs.declared.fault.LogFault.TheVariants as log_faults
 use Rattle.broadcast_log.specs.Laws.{IsLogIn}
-use Rattle.broadcast_log.specs.Log.{Log, log_at_rest, opened}
+use Rattle.broadcast_log.specs.Log.{Log}
 use Rattle.broadcast_log.specs.OriginMarks.{keep_write, room_for}
 use Rattle.broadcast_log.proofs.Reopening.{reopens}
 use Rattle.mesh_header.specs.declared.unit.Unit.{Unit as MeshUnit}
@@ -45,16 +42,14 @@ use Rattle.node_rules.specs.Coordinators as coordinator_rules
 use Rattle.node_rules.specs.Meters as meters
 use Rattle.node_rules.specs.Drafts.{alone, choose as choose_plan, counters_left, empty_draft, goes, refused, sealed, sealing}
 use Rattle.node_rules.specs.Frames.{arrived}
-use Rattle.node_rules.specs.Hearing.{Hearing, hear, hear_command, hear_over_mesh, hear_sealed, drop_it, hear_unit_in}
+use Rattle.node_rules.specs.Hearing.{Hearing, hear, hear_sealed, drop_it, hear_unit_in}
 use Rattle.node_rules.specs.Memory.{StationMemory, Memory, Node, Role, Coordinator, Meter, address_of, node_address}
 use Rattle.node_rules.specs.MemoryDrafts.{in_memory, unread, with_station}
-use Rattle.node_rules.specs.Neighbours.{local_draft, local_ends, send_local}
+use Rattle.node_rules.specs.Neighbours.{local_draft, local_ends}
 use Rattle.node_rules.specs.NodeSteps.{NodeStep, acts, answering, left_by, of_station, stays}
 use Rattle.node_rules.specs.Plans.{Plan, carry_out, resting, within}
 use Rattle.node_rules.specs.Replies.{reply_among}
-use Rattle.node_rules.specs.Tables.{HasShortTables}
 use Rattle.node_rules.proofs.ReplyFrames.{coordinators_replies_few, meters_replies_few}
-use Rattle.reach_rules.specs.declared.refusal.ReachDropped.{ReachDropped}
 use Rattle.reach_rules.specs.declared.refusal.ReachDropped.TheVariants as reach_drops
 use Rattle.reach_rules.specs.declared.refusal.BroadcastRefusal.TheVariants as broadcasts
 use Rattle.reach_rules.specs.declared.refusal.AskRefusal.TheVariants as asks
@@ -63,38 +58,36 @@ use Rattle.reach_rules.specs.declared.refusal.ChooseRefusal.{ChooseRefusal}
 use Rattle.pan_discovery.specs.Agents.{kth_of}
 use Rattle.reach_rules.specs.Beacons.{ChosenAgent, begin_scan, choose_agent, choosing_ends, hear_discovery, is_discovery, joins_by}
 use Rattle.reach_rules.specs.Broadcasts.{broadcast, broadcast_fault, mark_fault}
-use Rattle.reach_rules.specs.CheckedReplies.{acknowledges, checks_after, message_of}
+use Rattle.reach_rules.specs.CheckedReplies.{acknowledges, message_of}
 use Rattle.reach_rules.specs.PathAsking.{ask_path}
-use Rattle.reach_rules.specs.ReachingNodes.{Beside, nothing_beside, restarted, restarted_by, tick_beside}
+use Rattle.reach_rules.specs.ReachingNodes.{Beside, restarted, restarted_by, tick_beside}
 use Rattle.reach_rules.specs.Receiving.{NeighbourCommand, command_of, command_on, command_with, hear_command as hear_neighbours}
 use Rattle.line_events.specs.declared.event.Answer.{Answer}
 use Rattle.line_events.specs.declared.event.Answer.TheVariants as answers
 use Rattle.line_events.specs.declared.event.Event.{Event}
 use Rattle.line_events.specs.declared.event.Event.TheVariants as events
-use Rattle.line_events.specs.declared.event.StepFault.{StepFault}
 use Rattle.line_events.specs.declared.event.StepFault.TheVariants as faults
 use Rattle.line_rules.specs.Answers.{Reception, coordinator_reception, frame_word, meter_reception, only}
 use Rattle.line_events.specs.Events.{IsEvent}
-use Rattle.line_rules.specs.Further.{line_step, checks, bcast, broadcasts_by, path, asks_by, scan, scans_by, choose, choice_word, chooses_by, discovers_by}
+use Rattle.line_rules.specs.Further.{line_step, checks, bcast, broadcasts_by, path, asks_by, scan, scans_by, choose, chooses_by, discovers_by}
 use Rattle.line_rules.specs.Further.{discovery_flights, commanded, checked, acknowledged_if, acknowledged, acknowledging, adds_frames, sends_nothing}
 use Rattle.line_rules.specs.Further.{unbelieved, hearing_outcome_by, further_hearing_outcome, is_dropped, accepted_further, comes, delivers, injects, ticks}
 use Rattle.line_rules.specs.Further.{after_ok, due}
 use Rattle.line_rules.specs.Further.{with_check, restarts_by, restarts_further, beside_at, reaches, with_beside, of_memory}
-use Rattle.line_rules.specs.Logs.{AreLogged, HaveShortTables, LogIn, LogsKept}
-use Rattle.line_rules.specs.Steps.{Step, set_up, running_world, world_after, flights_of, happenings, trace_of, has_begun, takes_setup, once_begun, in_setup}
+use Rattle.line_rules.specs.Logs.{LogIn, LogsKept}
+use Rattle.line_rules.specs.Steps.{Step, set_up, running_world, world_after, flights_of, happenings, trace_of, once_begun}
 use Rattle.line_rules.specs.Steps.{on_node}
 use Rattle.line_rules.specs.Steps.{on_meter}
-use Rattle.line_rules.specs.Steps.{psk_of, identity, on_flight, hearing_step, hearing_outcome, received, forged_by, note_by, restarts, tick, step}
-use Rattle.line_rules.specs.Worlds.{World, Flight, Trace, node_at, flight_at, is_forged_tag}
+use Rattle.line_rules.specs.Steps.{psk_of, identity, hearing_step, hearing_outcome, forged_by, note_by, restarts, tick}
+use Rattle.line_rules.specs.Worlds.{World, Flight, Trace, node_at, flight_at}
 use Rattle.line_rules.proofs.LogSteps.{logged_at}
 use Rattle.line_laws.specs.FurtherLines.{LineHolds, LineStepsHold, LogFits, LogsFit, StepHolds, TablesAreShort}
 use Rattle.line_laws.specs.Later.{IsOfLog}
 use Rattle.line_laws.specs.Keyed.{Each}
-use Rattle.line_laws.specs.Lines.{FlightFits, IsBelow, NodeOk, Rising, WorldOk, frontier}
+use Rattle.line_laws.specs.Lines.{FlightFits, IsBelow, NodeOk, WorldOk, frontier}
 use Rattle.line_laws.specs.Live.{marks_of}
 use Rattle.line_laws.specs.Owed.{AreOctets, KeepsRanges}
 use Rattle.line_laws.specs.Sizes.{IsMemorySized}
-use Rattle.line_laws.specs.Stores.{IsKept}
 use Rattle.line_laws.proofs.Answered.{acts_answered}
 use Rattle.line_laws.proofs.CoordinatorCalls.{accept_failed, accept_ok, accepted_routes}
 use Rattle.line_laws.proofs.Frontiers.{numbered_le, numbered_lower, same_low}
@@ -108,7 +101,7 @@ use Rattle.node_rules.specs.Laws.{IsCutOff, IsWhole}
 use Rattle.line_laws.proofs.Quiet.{acts_quiet, accept_quiet}
 use Rattle.line_laws.proofs.NodesOk as steps_below
 use Rattle.line_laws.proofs.StepsOk as steps
-use Rattle.line_laws.proofs.StepsOk.{StepGood, Fails, Taken, CountsFlights, hears_ok, none_more, after_more, after_none}
+use Rattle.line_laws.proofs.StepsOk.{StepGood, Fails, Taken, hears_ok, none_more, after_more, after_none}
 use Rattle.line_laws.proofs.NodesOk.{resting_ok, true_false}
 use Rattle.line_laws.proofs.StoreMarks.{accept_is}
 use Rattle.line_laws.proofs.Worlds.{at_place, counts_ok, ok_after, within as place_within}

@@ -8,7 +8,6 @@ use Rattle.std.proofs.lemmas.List.Elements.{All-head, All-nil, All-push, All-tai
 use Rattle.node_rules.specs.Ciphers.{network}
 use Rattle.node_rules.proofs.NetworkOpens.{network_opens_again}
 use Rattle.line_events.specs.declared.event.Event.{Event}
-use Rattle.line_events.specs.declared.event.Event.TheVariants as events
 use Rattle.line_events.specs.declared.happenings.Handed.{Handed}
 use Rattle.line_events.specs.Events.{AreEvents, IsEvent}
 use Rattle.line_rules.specs.Runs.{Entry, IsRun, events_of, one_of, sends as sends_of, ups as ups_of}

@@ -15,7 +15,6 @@ use Rattle.frame_counters.specs.PeerMarks as marks
 use Rattle.group_keys.specs.KeyRing as ring
 use Rattle.group_keys.specs.declared.key_book.BookEntry.{BookEntry}
 use Rattle.group_keys.specs.KeyBook as book
-use Rattle.eap_psk.specs.declared.server.Agreed.{Agreed}
 use Rattle.routing_set.specs.declared.rank.Rank.{Rank}
 use Rattle.routing_set.specs.RoutingSet as routing
 use Rattle.routing_set.specs.OwnNumber as own_number
@@ -62,7 +61,7 @@ use Rattle.line_laws.proofs.CoordinatorCalls.{admitted_fits, heard_euis}
 use Rattle.line_laws.proofs.AddressPuts.{Away, RingWrites, writes_append, counter_away, made_rung}
 use Rattle.line_laws.proofs.AddressBook.{Grows, Grown, station_grown, plan_grown, grows_entry}
 use Rattle.line_laws.proofs.IssueWords.{Each, made_tags}
-use Rattle.line_laws.proofs.IssueMeters.{Held, same_here, From, PeerIs, MeterPlan}
+use Rattle.line_laws.proofs.IssueMeters.{Held, same_here, From}
 use Rattle.line_laws.proofs.IssueCoordinator.{CoordinatorTag, CoordinatorTags, plan_rung, keyed_in, done_in, coordinator_hears, says_tags}
 use Rattle.line_laws.proofs.IssueNodes.{Nought, CoordinatorPlan}
 use Rattle.line_laws.proofs.Untagged.{allow_untagged, depot_untagged, rekey_untagged, activate_self_untagged, challenge_untagged, activate_untagged}
@@ -110,14 +109,6 @@ pub record Quietly (m : Memory) {A : Type 0} (p : Plan Memory A) : Type 1 where
 held_in : (eui : Eui) (opened : _) (x : ring.Ring) → From eui x opened x
 held_in eui opened None = tt
 held_in eui opened (Some g) = Held g refl (same_here g)
-
-pub quiet_meter : {A : Type 0} (eui : Eui) (took : Option Agreed) (m : Memory) (p : Plan Memory A) → Quietly m p → PeerIs eui m.session
-    → IfSome m.station.ring IsReadable → MeterPlan eui m.station.ring took p
-quiet_meter eui took m p q session reads = record {
-  puts = q.ring (From eui m.station.ring p.opened) tt (held_in eui p.opened m.station.ring) reads;
-  session = subst (PeerIs eui) (sym q.session) session;
-  made = subst (Each _) (sym q.made) tt;
-}
 
 pub quiet_coordinator : {A : Type 0} (b : book.Book) (keyed : Option SentGrant) (m : Memory) (p : Plan Memory A) → Quietly m p → Nought m.station.ring
     → IfSome m.station.ring IsReadable → CoordinatorPlan b m keyed p

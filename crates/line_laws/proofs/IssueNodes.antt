@@ -49,8 +49,6 @@ use Rattle.line_laws.proofs.IssueMeters.{IsSame, Held, Opened, From, PeerIs, Met
 use Rattle.line_laws.proofs.IssueCoordinator.{CoordinatorTag, ServerMac, Third}
 pub use Rattle.line_laws.specs.Keyed.{IsGivenTo, GivenAt, GrantOk, RingOk, TextOk, TagOk, MeterOk, Nought, CoordinatorOk}
 
--- # What was given
-
 -- # It stays so
 
 given_more : (given more : List Issued) (eui : Eui) (index : ℕ) (k : Option Key) → GivenAt given eui index k → GivenAt (given ++ more) eui index k

@@ -5,7 +5,6 @@ use Rattle.std.specs.Prelude.{All, IfSome, slice_get}
 use Rattle.std.specs.Int.{bytes_high_first}
 use Rattle.std.proofs.lemmas.Bool.{cases_eq}
 use Rattle.std.proofs.lemmas.Option.{slice_get-get_or}
-use Rattle.std.proofs.lemmas.List.Elements.{All-head, All-tail}
 use Rattle.plc_base.proofs.NumbersOfOctets.{bytes_high_first-big_from}
 use Rattle.plc_base.specs.declared.address.Eui.{Eui}
 use Rattle.plc_base.specs.declared.key.Key.{Key}
@@ -15,7 +14,7 @@ use Rattle.line_events.specs.Events.{IsEui}
 use Rattle.node_rules.specs.Memory.{Memory, Role, Coordinator, Meter, Node}
 use Rattle.line_rules.specs.Worlds.{World, Issued, Trace, node_at, start}
 use Rattle.line_rules.specs.Steps.{Step}
-use Rattle.line_rules.specs.Runs.{Entry, all_of, issued}
+use Rattle.line_rules.specs.Runs.{Entry, all_of}
 use Rattle.line_rules.specs.SafeRuns.{IsIssued, HoldsIssued, HasIssuedKeys, HasOnlyIssuedKeys}
 use Rattle.line_laws.specs.Stores.{IsKept}
 use Rattle.line_laws.proofs.Keeping.{Left}
@@ -48,10 +47,6 @@ place_of one given (Later y rest a) = let p = place_of one rest a in record { pl
 each_at : (P : Issued → Type 0) (one : Issued) (given : List Issued) → Among one given → Each P given → P one
 each_at P one given (Here rest) h = h.0
 each_at P one given (Later y rest a) h = each_at P one rest a h.1
-
-each_from : (P : Issued → Type 0) (xs : List Issued) → All P xs → Each P xs
-each_from P [] h = tt
-each_from P (x ∷ xs) h = (All-head P x xs h, each_from P xs (All-tail P x xs h))
 
 abbrev pub IsNamed : Issued → Type 0
 IsNamed i = IsEui i.eui

@@ -1,7 +1,6 @@
 -- Every meter to which keys are issued is named by an EUI of 8 octets.
-use Rattle.std.proofs.Common.{◌≡◌, ℕ, Bool, true, false, List, [], ◌∷◌, ◌+◌, ◌++◌, Option, Some, None, Result, Ok, Err, refl, sym, subst}
+use Rattle.std.proofs.Common.{◌≡◌, ℕ, Bool, true, false, List, ◌+◌, ◌++◌, Option, Some, None, Result, Ok, Err, refl, sym, subst}
 use Rattle.std.specs.Prelude.{All}
-use Rattle.std.proofs.lemmas.List.Elements.{All-nil, All-cons}
 use Rattle.plc_base.specs.declared.address.Eui.{Eui}
 use Rattle.plc_base.specs.declared.key.Key.{Key}
 use Rattle.plc_base.specs.Grant.{Granted}
@@ -27,7 +26,6 @@ use Rattle.line_events.specs.declared.event.Event.{Event}
 use Rattle.line_rules.specs.Answers.{Reception, meter_reception, coordinator_reception}
 use Rattle.line_events.specs.Events.{IsEvent}
 use Rattle.line_rules.specs.Forgery.{Comes, accepting}
-use Rattle.line_rules.specs.Runs.{Entry}
 use Rattle.line_rules.specs.Worlds.{World, Issued, Trace, node_at}
 use Rattle.line_rules.specs.Steps.{Step, identity, hearing_step, note_by, issued_at, issued_by, issued_of, sent_if, is_taken, tag_of, node_outcome}
 use Rattle.line_laws.specs.Stores.{HasEui, IsNamed}
@@ -50,10 +48,6 @@ use Rattle.line_laws.proofs.StepKinds.{Loses, Ticks, Restarts, Cuts}
 -- the meter of an issue has an EUI of 8 octets
 abbrev pub IssueNamed : Issued → Type 0
 IssueNamed i = HasEui i.eui
-
--- so have all of a run
-abbrev pub IssuedAreNamed : List Entry → Type 0
-IssuedAreNamed entries = All (λ (x : Entry). All IssueNamed x.trace.issued) entries
 
 keys_named : (eui : Eui) (g : Granted) → HasEui eui → Each IssueNamed (issued_by eui g)
 keys_named eui g named = by_keys g.key0 g.key1
@@ -142,7 +136,3 @@ module _ (ciphers : Ciphers) (fits : KeepsRanges ciphers) (w : World) (ok : Worl
   names event s (Ticks seconds) = tt
   names event s (Restarts number x there) = tt
   names event s (Cuts number nth keeps_new x there) = tt
-
-all_of_each : (xs : List Issued) → Each IssueNamed xs → All IssueNamed xs
-all_of_each [] h = All-nil IssueNamed
-all_of_each (x ∷ xs) h = All-cons IssueNamed x xs h.0 (all_of_each xs h.1)

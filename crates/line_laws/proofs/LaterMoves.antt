@@ -1,14 +1,11 @@
 -- What else a further rule may do to a world: a frame of discovery flies, flights are not sent after all, and what only further rules see changes.
-use Rattle.std.proofs.Common.{zero-le, inl, inr, ◌≡◌, ◌≢◌, ◌⊎◌, ℕ, zero, suc, ◌+◌, ◌≤◌, ◌<◌, Bool, true, false, List, [], ◌∷◌, ◌++◌, length, get_or, drop, take}
-use Rattle.std.proofs.Common.{Option, Some, None, refl, sym, ap, ◌∙◌, subst, arith}
-use Rattle.std.specs.Prelude.{All, AllPairs, IfSome, slice_get}
+use Rattle.std.proofs.Common.{inl, inr, ◌≡◌, ℕ, ◌≤◌, ◌<◌, Bool, true, false, List, [], ◌∷◌, ◌++◌, length, get_or, drop}
+use Rattle.std.proofs.Common.{Option, Some, None, refl, sym, subst, arith}
+use Rattle.std.specs.Prelude.{All, IfSome}
 use Rattle.std.specs.List.{sum_by}
-use Rattle.std.proofs.lemmas.List.Elements.{All-nil, All-cons, All-append, All-push}
+use Rattle.std.proofs.lemmas.List.Elements.{All-nil, All-cons, All-push}
 use Rattle.std.proofs.lemmas.List.Quantifiers.{all_pairs_push}
 use Rattle.std.proofs.lemmas.List.Sums.{sum_by-append, sum_by-cons}
-use Rattle.plc_base.specs.declared.address.Eui.{Eui}
-use Rattle.plc_base.specs.declared.key.Key.{Key}
-use Rattle.group_keys.specs.KeyBook as books
 use Rattle.mac_frames.specs.Reading.{head_in}
 use Rattle.plc_base.specs.Fields.{octet}
 use Rattle.pan_discovery.specs.declared.message.Discovery.{Discovery}
@@ -16,27 +13,24 @@ use Rattle.pan_discovery.specs.declared.message.Discovery.TheVariants.{Request, 
 use Rattle.pan_discovery.specs.Messages.{IsDiscovery, discovery_spelling}
 use Rattle.node_rules.specs.Ciphers.{network}
 use Rattle.node_rules.specs.Memory.{Node}
-use Rattle.reach_rules.specs.ReachingNodes.{Beside}
 use Rattle.line_rules.specs.Further.{discovery_flight}
-use Rattle.line_rules.specs.Nonces.{CounterRises, HasSender, NonceParts, IsDiscoveryFrame, IsSpelled, nonce_in_head, nonce_parts}
+use Rattle.line_rules.specs.Nonces.{CounterRises, HasSender, NonceParts, IsSpelled, nonce_in_head, nonce_parts}
 use Rattle.line_rules.specs.Worlds.{World, Flight, Issued, Pairing, Sending, node_at}
 use Rattle.line_events.specs.declared.happenings.Handed.{Handed}
 use Rattle.line_laws.specs.InCustody.{Custody, FlightIsOf, SentUnder}
-use Rattle.line_laws.specs.Keyed.{AtHome, Keyed}
-use Rattle.line_laws.specs.Later.{DiscoveringKeeps, GoesOn, Holds, KeepsInTurn, KeepsOn, UnsentHolds, flown, unsent}
+use Rattle.line_laws.specs.Keyed.{AtHome}
+use Rattle.line_laws.specs.Later.{DiscoveringKeeps, GoesOn, Holds, flown}
 use Rattle.line_laws.specs.SealedUnits.{Discovers, IsFlight}
 use Rattle.line_laws.specs.Lines.{FlightFits, IsBelow, Rising, WorldOk, frontier}
-use Rattle.line_laws.specs.Live.{IsLater, MarksRise, live, marks_of}
-use Rattle.line_laws.specs.Loops.{RanksRise}
+use Rattle.line_laws.specs.Live.{live}
 use Rattle.line_laws.specs.Owed.{AreOctets}
-use Rattle.line_laws.specs.Places.{LiveFalls, live_is, places}
+use Rattle.line_laws.specs.Places.{LiveFalls, live_is}
 use Rattle.line_laws.specs.Ranked.{FlightBacked, IsNearer, IsPlain, IsSealedUnit, RoutingHolds, homes_of}
 use Rattle.routing_set.specs.declared.rank.Rank.{Rank}
 use Rattle.line_laws.proofs.CustodyCalls.{zero_weight}
 use Rattle.std.specs.Prelude.{cond}
 use Rattle.line_laws.specs.Places.{flight_is}
 use Rattle.line_laws.specs.Sends.{SentAs}
-use Rattle.line_laws.specs.Tags.{TagOf}
 use Rattle.line_laws.proofs.Homed as homed
 use Rattle.line_laws.proofs.CustodySteps.{falls_on}
 use Rattle.line_laws.proofs.LiveRuns.{none_falls}

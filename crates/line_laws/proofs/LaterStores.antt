@@ -1,5 +1,5 @@
 -- What a plan does that stores the log of broadcasts: its slots are read by no other part of a node.
-use Rattle.std.proofs.Common.{◌≡◌, inl, inr, ℕ, ◌≤◌, ◌<◌, List, [], ◌∷◌, refl, arith}
+use Rattle.std.proofs.Common.{inl, inr, ℕ, ◌≤◌, ◌<◌, List, [], ◌∷◌, refl, arith}
 use Rattle.std.specs.FinMap.{insert}
 use Rattle.plc_base.specs.Keeper.{Records, Write}
 use Rattle.group_keys.specs.KeyBook as books

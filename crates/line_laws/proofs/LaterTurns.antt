@@ -1,14 +1,12 @@
 -- What is kept from one world to the next is kept from the first to the last; and what is kept where flights are not sent after all, and
 -- where only that changes which further rules see.
-use Rattle.std.proofs.Common.{inl, inr, ◌≡◌, ℕ, ◌+◌, ◌≤◌, ◌<◌, Bool, true, false, List, [], ◌∷◌, ◌++◌, length, get_or, drop, take, Option, Some, None, refl}
-use Rattle.std.proofs.Common.{sym, ap, ◌∙◌, subst, arith}
-use Rattle.std.specs.Prelude.{All, AllPairs, IfSome, slice_get}
-use Rattle.std.specs.List.{sum_by}
+use Rattle.std.proofs.Common.{inl, inr, ◌≡◌, ℕ, ◌≤◌, ◌<◌, Bool, true, List, length, get_or, Some, None, refl}
+use Rattle.std.proofs.Common.{sym, ◌∙◌, subst, arith}
+use Rattle.std.specs.Prelude.{All, AllPairs}
 use Rattle.std.proofs.Math.Seq.{drop-length}
 use Rattle.std.proofs.lemmas.List.{get_or-take, length-take-le}
 use Rattle.std.proofs.lemmas.List.Elements.{All-nil, All-take}
 use Rattle.std.proofs.lemmas.List.Sums.{sum_by-take-drop}
-use Rattle.plc_base.specs.declared.address.Eui.{Eui}
 use Rattle.node_rules.specs.Ciphers.{network}
 use Rattle.node_rules.specs.Memory.{Node}
 use Rattle.reach_rules.specs.ReachingNodes.{Beside}
@@ -16,16 +14,15 @@ use Rattle.line_rules.specs.Nonces.{CounterRises, HasSender, IsSpelled}
 use Rattle.line_rules.specs.Worlds.{World, Flight, Issued, Pairing, Sending, node_at}
 use Rattle.line_events.specs.declared.happenings.Handed.{Handed}
 use Rattle.line_laws.specs.InCustody.{Custody, FlightIsOf, SentUnder}
-use Rattle.line_laws.specs.Keyed.{AtHome, Keyed}
-use Rattle.line_laws.specs.Later.{BesideKeeps, GoesOn, Holds, KeepsInTurn, KeepsOn, UnsentHolds, unsent}
+use Rattle.line_laws.specs.Keyed.{AtHome}
+use Rattle.line_laws.specs.Later.{BesideKeeps, GoesOn, Holds, KeepsInTurn, UnsentHolds, unsent}
 use Rattle.line_laws.specs.SealedUnits.{IsFlight}
-use Rattle.line_laws.specs.Lines.{FlightFits, IsBelow, Rising, WorldOk, frontier}
+use Rattle.line_laws.specs.Lines.{FlightFits, IsBelow, Rising, frontier}
 use Rattle.line_laws.specs.Live.{IsLater, MarksRise, live}
 use Rattle.line_laws.specs.Loops.{RanksRise, stored}
 use Rattle.line_laws.specs.Places.{LiveFalls, live_is}
 use Rattle.line_laws.specs.Ranked.{FlightBacked, IsNearer, IsPlain, IsSealedUnit, RoutingHolds, homes_of}
 use Rattle.routing_set.specs.declared.rank.Rank.{Rank}
-use Rattle.line_laws.specs.Shut.{ShutAt}
 use Rattle.line_laws.specs.Sends.{SentAs}
 use Rattle.routing_set.specs.RoutingSet as routing
 use Rattle.line_laws.proofs.Homed as homed

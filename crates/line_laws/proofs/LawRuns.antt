@@ -4,9 +4,7 @@ use Rattle.std.specs.Prelude.{All, AllPairs, IfSome, IsOk}
 use Rattle.std.proofs.lemmas.List.{append_assoc}
 use Rattle.std.proofs.lemmas.List.Elements.{All-append, All-cons, All-head, All-nil, All-push, All-tail, All-weaker}
 use Rattle.node_rules.specs.Ciphers.{Ciphers, network}
-use Rattle.node_rules.specs.Memory.{Memory, Node, Role, node_route}
-use Rattle.node_rules.specs.StoreReading.{memory_of}
-use Rattle.plc_base.specs.Keeper.{Records}
+use Rattle.node_rules.specs.Memory.{Memory, Node, node_route}
 use Rattle.line_events.specs.declared.event.Answer.TheVariants as answers
 use Rattle.line_events.specs.declared.event.Event.{Event}
 use Rattle.line_events.specs.declared.event.Event.TheVariants as events

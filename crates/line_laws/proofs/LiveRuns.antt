@@ -1,5 +1,5 @@
 -- No flight comes to life again before an event is forged, and the flight that a node opens was live and is live no more.
-use Rattle.std.proofs.Common.{◌≡◌, ◌≢◌, ⊎_elim, ℕ, suc, ◌<◌, ◌^◌, Bool, true, false, not, List, [], ◌∷◌, ◌++◌, length, Option, Some, None, Result, Ok, Err}
+use Rattle.std.proofs.Common.{◌≡◌, ◌≢◌, ⊎_elim, ℕ, suc, ◌<◌, ◌^◌, Bool, true, false, not, List, [], ◌∷◌, length, Option, Some, None, Result, Ok, Err}
 use Rattle.std.proofs.Common.{refl, sym, ap, ◌∙◌, subst, arith}
 use Rattle.std.specs.Prelude.{All, if◌then◌else◌, ◌==◌, ◌&&◌, ◌||◌, is_some, slice_get, slice_set, take}
 use Rattle.std.specs.List.{list_any}
@@ -60,7 +60,6 @@ use Rattle.line_laws.proofs.AddressWorlds.{one_meter, above_nought, meter_addres
 use Rattle.line_laws.proofs.FlightFolds.{came_octets}
 use Rattle.line_laws.proofs.IssueNodes.{acts_whole}
 use Rattle.line_laws.proofs.IssueWorlds.{Keyed, IsMeter}
-use Rattle.line_laws.proofs.IssueRuns.{kept}
 use Rattle.line_laws.proofs.StepKinds.{step_is}
 use Rattle.line_laws.proofs.BookGrowth.{Goes, GoesBy, goes}
 

@@ -1,5 +1,5 @@
 -- No run has a loop before it is forged.
-use Rattle.std.proofs.Common.{◌≡◌, inl, inr, ℕ, ◌≤◌, ◌<◌, false, List, [], ◌∷◌, ◌++◌, length, Option, Some, None, Ok, Err, refl, sym, ap, ◌∙◌, subst, arith}
+use Rattle.std.proofs.Common.{◌≡◌, inl, inr, ℕ, ◌≤◌, ◌<◌, false, List, length, Option, Some, None, Ok, Err, refl, sym, ap, ◌∙◌, subst, arith}
 use Rattle.std.proofs.lemmas.Option.{same_Some, none-some}
 use Rattle.std.proofs.lemmas.List.Elements.{All-nil, All-weaker}
 use Rattle.plc_base.specs.declared.key.Key.{Key}
@@ -24,7 +24,7 @@ use Rattle.line_laws.specs.Owed.{KeepsRanges}
 use Rattle.line_laws.proofs.Worlds.{WorldOk, within}
 use Rattle.line_laws.proofs.HomeGrants.{WasLeft, LeftBy, depot_left, depot_booked}
 use Rattle.line_laws.proofs.Homes.{homes_of, meter_home, at_length}
-use Rattle.line_laws.proofs.IssueRuns.{kept, start_keyed}
+use Rattle.line_laws.proofs.IssueRuns.{start_keyed}
 use Rattle.line_laws.proofs.IssueWorlds.{Keyed}
 use Rattle.line_laws.proofs.RankSaid.{MessageBacked, UnitBacked, Says, IsWhole, IsPart, IsCarried, IsOther}
 use Rattle.line_laws.proofs.RouteParts as parts

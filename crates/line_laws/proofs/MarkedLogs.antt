@@ -1,14 +1,12 @@
 -- What a node has handed up of broadcasts is among what its log has admitted, over restarts and failed writes.
-use Rattle.std.proofs.Common.{⊎_elim, inl, inr, zero-le, ◌≡◌, ◌≢◌, ◌⊎◌, ℕ, zero, suc, ◌+◌, ◌^◌, ◌≤◌, ◌<◌, Bool, true, false, List, [], ◌∷◌, ◌++◌, length}
-use Rattle.std.proofs.Common.{Option, Some, None, Result, Ok, Err, refl, sym, ap, ◌∙◌, subst, arith}
-use Rattle.std.specs.Prelude.{if◌then◌else◌, ◌==◌, All, IfSome, is_some, map, nat_lt, slice_get, slice_set, unwrap_or}
-use Rattle.std.specs.FinMap.{get, get-empty, insert}
-use Rattle.std.specs.Option.{option_map, option_map_or}
+use Rattle.std.proofs.Common.{inl, inr, zero-le, ◌≡◌, ◌⊎◌, ℕ, suc, ◌^◌, ◌<◌, Bool, true, false, List, [], ◌∷◌, ◌++◌, length}
+use Rattle.std.proofs.Common.{Option, Some, None, Result, Ok, Err, refl, sym, subst, arith}
+use Rattle.std.specs.Prelude.{if◌then◌else◌, ◌==◌, All, IfSome, is_some, nat_lt}
+use Rattle.std.specs.FinMap.{get-empty, insert}
+use Rattle.std.specs.Option.{option_map_or}
 use Rattle.std.specs.Ordering.{nat_cmp}
-use Rattle.std.proofs.lemmas.Bool.{eqb-false, eqb-true}
 use Rattle.std.proofs.lemmas.List.{append-nil}
 use Rattle.std.proofs.lemmas.List.Elements.{All-nil, All-cons, All-head, All-tail, All-append, All-weaker}
-use Rattle.std.proofs.lemmas.Option.{same_Some, none-some}
 use Rattle.store_tables.specs.AdmittedNumbers.{Admitted}
 use Rattle.plc_base.specs.declared.address.Eui.{Eui}
 use Rattle.plc_base.specs.declared.keeper.BadStore.{BadStore}
@@ -19,12 +17,10 @@ use Rattle.store_tables.specs.SlotTables.{slot_of}
 use Rattle.store_tables.specs.Writes.{Written, puts_of, write}
 use Rattle.plc_base.proofs.Faults.{then_none, when_none}
 use Rattle.store_tables.proofs.LeadingPuts.{leads_append, leads_beside, leads_one, left_by}
-use Rattle.store_tables.proofs.SlotTables.{slice_get-map, slice_get-set, slice_get-set_other}
 use Rattle.broadcast_log.specs.declared.broadcast.Broadcast.{Broadcast}
 use Rattle.broadcast_log.specs.declared.fault.LogFault.{LogFault}
 use Rattle.broadcast_log.specs.declared.fault.LogFault.TheVariants as log_faults
 use Rattle.broadcast_log.specs.Grammar.{Spells, spelling}
-use Rattle.broadcast_log.specs.Laws.{IsLogIn}
 use Rattle.broadcast_log.specs.Log.{Log, admitted_log, numbered_log, opened}
 use Rattle.broadcast_log.specs.NextNumber.{is_spent, number_put}
 use Rattle.broadcast_log.specs.OriginMarks.{keep_write, marks, room_for}
@@ -34,7 +30,7 @@ use Rattle.broadcast_log.proofs.Reopening.{reopens}
 use Rattle.broadcast_log.proofs.Spellings.{broadcast_spelled}
 use Rattle.frame_counters.specs.SendCounter as counter
 use Rattle.neighbour_checks.specs.Acks.{ack_in}
-use Rattle.neighbour_checks.specs.Neighbours.{acked_after, is_awaited}
+use Rattle.neighbour_checks.specs.Neighbours.{is_awaited}
 use Rattle.pan_discovery.specs.Agents.{kth_of}
 use Rattle.path_requests.specs.declared.message.PathMessage.{PathMessage}
 use Rattle.path_requests.specs.declared.message.PathMessage.TheVariants.{Ask}
@@ -47,7 +43,7 @@ use Rattle.path_requests.specs.Taking.{taken}
 use Rattle.node_rules.specs.declared.refusal.Dropped.TheVariants as drops
 use Rattle.node_rules.specs.Drafts.{Draft, Ends, checked, choose, counters_left, empty_draft, refused, sealed, sealing}
 use Rattle.node_rules.specs.Frames.{to_all}
-use Rattle.node_rules.specs.LogSlots.{IsBesideLog, LeavesLog, SameLog}
+use Rattle.node_rules.specs.LogSlots.{IsBesideLog, SameLog}
 use Rattle.node_rules.specs.Memory.{Memory, Node, Role, address_of, station_route}
 use Rattle.node_rules.specs.MemoryDrafts.{in_memory}
 use Rattle.node_rules.specs.Meters as meters
@@ -68,8 +64,7 @@ use Rattle.reach_rules.specs.Broadcasts.{admits_broadcast, broadcast, broadcast_
 use Rattle.reach_rules.specs.Broadcasts.{hear_broadcast_in, hop_less, mark_fault, own_broadcast, with_broadcast_mark, with_broadcast_number}
 use Rattle.reach_rules.specs.CheckedReplies.{hear_acknowledgement_in}
 use Rattle.reach_rules.specs.PathAsking.{ask_ends, ask_path, asks_by, asks_from, follows_path, hear_path_in, next_toward, path_word}
-use Rattle.reach_rules.specs.ReachingNodes.{Beside, Reaching, drop_it, in_reach, nothing_beside, reach_ends, remembers, restarted_by, adds_local}
-use Rattle.reach_rules.specs.ReachingNodes.{with_checks}
+use Rattle.reach_rules.specs.ReachingNodes.{Beside, Reaching, drop_it, in_reach, nothing_beside, reach_ends, restarted_by, adds_local}
 use Rattle.reach_rules.specs.Receiving.{NeighbourCommand, hear_command, hear_command_at}
 use Rattle.line_events.specs.declared.happenings.BroadcastUp.{BroadcastUp}
 use Rattle.line_rules.specs.Further.{beside_after, broadcast_up, reaches, with_beside, without_log}

@@ -1,11 +1,11 @@
 -- What each node of a world has handed up of broadcasts is among what its log has admitted, at every event.
-use Rattle.std.proofs.Common.{⊎_elim, inl, inr, ◌≡◌, ◌≢◌, ◌⊎◌, ℕ, zero, suc, ◌+◌, ◌-◌, ◌≤◌, ◌<◌, Bool, true, false, List, [], ◌∷◌, ◌++◌, length, Option, Some}
+use Rattle.std.proofs.Common.{◌≡◌, ◌≢◌, ℕ, zero, suc, ◌+◌, ◌-◌, ◌<◌, Bool, true, false, List, [], ◌∷◌, ◌++◌, length, Option, Some}
 use Rattle.std.proofs.Common.{None, Result, Ok, Err, refl, sym, ap, ◌∙◌, subst, arith}
-use Rattle.std.specs.Prelude.{if◌then◌else◌, ◌==◌, All, IfSome, is_some, map, slice_get, slice_set, unwrap_or}
-use Rattle.std.specs.Option.{option_map, option_map_or}
+use Rattle.std.specs.Prelude.{if◌then◌else◌, ◌==◌, All, IfSome, is_some, map, slice_get, slice_set}
+use Rattle.std.specs.Option.{option_map}
 use Rattle.std.proofs.lemmas.Bool.{eqb-false, eqb-true}
 use Rattle.std.proofs.lemmas.List.{append-nil}
-use Rattle.std.proofs.lemmas.Option.{same_Some, none-some}
+use Rattle.std.proofs.lemmas.Option.{same_Some}
 use Rattle.store_tables.proofs.SlotTables.{slice_get-map, slice_get-push_other, slice_get-push, slice_get-set, slice_get-set_other}
 use Rattle.node_rules.specs.declared.heard.Accepted.{Accepted}
 use Rattle.node_rules.specs.declared.heard.Reply.{Reply}
@@ -22,7 +22,6 @@ use Rattle.node_rules.specs.Accepting.{accept}
 use Rattle.node_rules.specs.Calls as calls
 use Rattle.node_rules.specs.Ciphers.{Ciphers, network}
 use Rattle.node_rules.specs.Coordinators as coordinator_rules
-use Rattle.node_rules.specs.Drafts.{empty_draft}
 use Rattle.node_rules.specs.Frames.{arrived}
 use Rattle.node_rules.specs.LogSlots.{IsBesideLog, LeavesLog}
 use Rattle.node_rules.specs.Memory.{Memory, Node, Role, Coordinator, Meter}
@@ -48,7 +47,7 @@ use Rattle.reach_rules.specs.CheckedReplies.{acknowledges, checks_after, message
 use Rattle.reach_rules.specs.PathAsking.{ask_path}
 use Rattle.reach_rules.specs.ReachingNodes.{Beside, Reaching, nothing_beside, tick_beside}
 use Rattle.reach_rules.specs.Receiving.{NeighbourCommand, command_of, hear_command}
-use Rattle.line_rules.specs.Answers.{Reception, coordinator_reception, meter_reception, only, sent_word}
+use Rattle.line_rules.specs.Answers.{Reception, coordinator_reception, meter_reception, sent_word}
 use Rattle.line_events.specs.declared.event.Answer.{Answer}
 use Rattle.line_events.specs.declared.event.Answer.TheVariants as answers
 use Rattle.line_events.specs.declared.event.Event.{Event}
@@ -63,17 +62,16 @@ use Rattle.line_rules.specs.Steps.{offered_near, running_world, restarts}
 use Rattle.line_rules.specs.Steps.{sent_if, set_up, tag_of, ticked, world_after, trace_of}
 use Rattle.line_rules.specs.Worlds.{Trace, World, node_at}
 use Rattle.line_rules.proofs.LogPlans.{accept_short, acts_short, leave_leaves, random_leaves, acknowledging_leaves}
-use Rattle.line_rules.proofs.LogSteps.{Quiet, acts_quiet, quiet_on, quiet_same}
+use Rattle.line_rules.proofs.LogSteps.{Quiet, acts_quiet, quiet_on}
 use Rattle.plc_base.specs.Fields.{AreOctets}
 use Rattle.plc_base.specs.Grant.{Granted}
 use Rattle.broadcast_log.specs.Log.{Log}
-use Rattle.plc_base.specs.declared.address.Eui.{Eui}
 use Rattle.line_laws.specs.Lines.{FlightFits, WorldOk}
 use Rattle.line_laws.proofs.Readings.{network_ranges}
 use Rattle.line_laws.proofs.FurtherSteps.{tables_short}
 use Rattle.line_laws.proofs.FurtherLogs.{commands_fit}
-use Rattle.line_laws.proofs.MarkedLogs.{Marked, MarkedIn, PlanMarks, ask_marks, blank_marks, broadcast_marks, choice_marks, command_marks, further_marks}
-use Rattle.line_laws.proofs.MarkedLogs.{others_marks, quiet_marks, restart_marks, nothing_more}
+use Rattle.line_laws.proofs.MarkedLogs.{MarkedIn, PlanMarks, ask_marks, blank_marks, broadcast_marks, choice_marks, command_marks, further_marks}
+use Rattle.line_laws.proofs.MarkedLogs.{others_marks, quiet_marks, restart_marks}
 use Rattle.line_laws.proofs.ReachHistory.{aside, aside_more, aside_other, aside_set, aside_ticked, beside_within}
 use Rattle.line_laws.proofs.ReachSteps.{Asks, Bcasts, Checked, Chooses, Commands, Discovers, Fails, Hears, IsAccepted, IsOther, IsReachStep, Known, Opens}
 use Rattle.line_laws.proofs.ReachSteps.{Restarts, Rests, Scans, Ticks, Unbelieves, after_accepting, heard_node}

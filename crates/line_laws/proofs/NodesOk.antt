@@ -1,7 +1,7 @@
 -- What a node does by itself, and a new node, is as a line needs it.
-use Rattle.std.proofs.Common.{◌≡◌, ℕ, zero, suc, ◌+◌, ◌-◌, ◌≤◌, ◌<◌, ◌^◌, Bool, true, false, not, [], length, Option, Some}
+use Rattle.std.proofs.Common.{◌≡◌, ℕ, zero, suc, ◌+◌, ◌≤◌, ◌<◌, ◌^◌, Bool, true, false, not, [], length, Option, Some}
 use Rattle.std.proofs.Common.{None, refl, sym, ap, subst, arith}
-use Rattle.std.specs.Prelude.{All, IfSome, nat_lt, replicate, get_or}
+use Rattle.std.specs.Prelude.{IfSome, nat_lt, replicate, get_or}
 use Rattle.std.specs.List.{filter}
 use Rattle.std.specs.Option.{option_map}
 use Rattle.std.specs.Ordering.{nat_cmp}
@@ -21,14 +21,14 @@ use Rattle.fragment_buffers.specs.Taking as pieces
 use Rattle.fragment_buffers.specs.Reassembly.{Reassembly}
 use Rattle.std.proofs.lemmas.List.Filters.{length-filter_both, sum_by-filter_both}
 use Rattle.node_rules.specs.Memory.{StationMemory, Body, Memory, Role, Coordinator, Meter, CoordinatorSession, Node}
-use Rattle.node_rules.specs.Plans.{Plan, resting, within}
+use Rattle.node_rules.specs.Plans.{Plan, resting}
 use Rattle.node_rules.specs.Calls as calls
 use Rattle.node_rules.specs.Meters as meters
 use Rattle.node_rules.specs.Coordinators as coordinator_rules
 use Rattle.node_rules.specs.StoreReading.{blank_station, blank_routing, tag_in}
 use Rattle.node_rules.specs.Laws.{IsShort}
 use Rattle.line_rules.specs.Steps.{blank_node, restarts, memory_by, ticked}
-use Rattle.node_rules.specs.NodeSteps.{NodeStep, acts, stays, answering}
+use Rattle.node_rules.specs.NodeSteps.{NodeStep, acts, answering}
 use Rattle.line_laws.specs.Stores.{IsStationKept, BookKept, IsNamed, IsKept}
 use Rattle.line_laws.specs.Sizes.{IsAnyLoad, IsStationSized, IsMemorySized}
 use Rattle.line_laws.specs.Owed.{AreOctets}
@@ -38,7 +38,7 @@ use Rattle.line_laws.proofs.SizeFold.{stays_sized}
 use Rattle.line_laws.proofs.Restarting.{Again, again}
 use Rattle.line_laws.proofs.Nodes.{PlanOk, NodeOk, DidOk, acts_ok}
 use Rattle.line_laws.specs.Live.{marks_of}
-use Rattle.line_laws.proofs.MarkOrder.{Raised, raised_same}
+use Rattle.line_laws.proofs.MarkOrder.{Raised}
 use Rattle.line_laws.proofs.MarkWrites.{away_leads}
 use Rattle.line_laws.proofs.MarkNodes.{AreCovered, marks_held, restart_raised}
 use Rattle.line_laws.proofs.Frontiers.{next_of, frontier, same_low}
@@ -48,10 +48,6 @@ use Rattle.frame_counters.proofs.Limits.{stored_limit-kept}
 
 pub answering_ok : {A B : Type 0} (x : Node) (reads : A → B) (d : NodeStep A) → DidOk x d → DidOk x (answering reads d)
 answering_ok x reads d h = record { node = h.node; role = h.role; eui = h.eui; few = h.few; rises = h.rises; from = h.from; marked = h.marked }
-
-stays_ok : {A : Type 0} (x : Node) (answer : A) → NodeOk x → DidOk x (stays x answer)
-stays_ok x answer ok =
-    record { node = ok; role = refl; eui = refl; few = omega arith; rises = same_low (frontier x); from = tt; marked = raised_same (marks_of x) }
 
 -- a plan of the coordinator, at node 0
 pub coordinator_acts : {A : Type 0} (x : Node) (halted : A) (plan : Memory → Plan Memory A) → x.role ≡ Coordinator → NodeOk x

@@ -1,5 +1,5 @@
 -- Every event of a run of the network keeps that what nodes hold and what flies is octets.
-use Rattle.std.proofs.Common.{◌≡◌, ℕ, ◌+◌, ◌-◌, ◌<◌, ◌≤◌, Bool, true, false, List, [], ◌∷◌, Some, None, Result, Ok, Err, refl, sym, ap, ◌∙◌, subst, arith}
+use Rattle.std.proofs.Common.{◌≡◌, ℕ, ◌+◌, ◌-◌, ◌<◌, Bool, true, false, List, [], Some, None, Result, Ok, Err, refl, sym, ap, ◌∙◌, subst, arith}
 use Rattle.std.specs.Prelude.{All, IfSome, ◌==◌, if◌then◌else◌, slice_get}
 use Rattle.std.proofs.lemmas.List.Elements.{All-nil, All-push, All-set, All-append, All-map, All-weaker}
 use Rattle.std.proofs.lemmas.Option.{same_Some}

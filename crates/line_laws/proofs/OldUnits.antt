@@ -1,9 +1,9 @@
 -- What nodes without further reach seal: route messages, and what goes over the mesh. So none of it is a command for the neighbours.
-use Rattle.std.proofs.Common.{⊎_elim, ◌≡◌, ℕ, ◌+◌, Bool, true, false, List, [], ◌∷◌, ◌++◌, length, Option, Some, None, Result, Err, refl, sym, subst}
-use Rattle.std.specs.Prelude.{if◌then◌else◌, All, map, ◌==◌, nat_le, ⊤}
+use Rattle.std.proofs.Common.{⊎_elim, ◌≡◌, ℕ, ◌+◌, Bool, true, false, List, [], ◌∷◌, length, Option, Some, None, Result, Err, refl, sym, subst}
+use Rattle.std.specs.Prelude.{if◌then◌else◌, All, map, nat_le}
 use Rattle.std.specs.List.{filter, flat_map}
 use Rattle.std.specs.Option.{option_map_or}
-use Rattle.std.proofs.lemmas.List.Elements.{All-nil, All-cons, All-head, All-tail, All-append, All-map, All-push}
+use Rattle.std.proofs.lemmas.List.Elements.{All-nil, All-cons, All-head, All-tail, All-append, All-push}
 use Rattle.plc_base.specs.declared.address.Eui.{Eui}
 use Rattle.plc_base.specs.declared.key.Key.{Key}
 use Rattle.plc_base.specs.declared.key.Rand.{Rand}
@@ -16,9 +16,7 @@ use Rattle.joining_messages.specs.declared.message.JoinMessage.{JoinMessage}
 use Rattle.fragment_buffers.specs.Fragmentation.{pieces_cut}
 use Rattle.node_rules.specs.declared.heard.Accepted.{Accepted}
 use Rattle.node_rules.specs.declared.refusal.CoordinatorRefusal.{CoordinatorRefusal}
-use Rattle.node_rules.specs.declared.refusal.CoordinatorRefusal.TheVariants as orders
 use Rattle.node_rules.specs.declared.refusal.Dropped.TheVariants as drops
-use Rattle.node_rules.specs.Accepting.{accept}
 use Rattle.node_rules.specs.Calls as calls
 use Rattle.node_rules.specs.Ciphers.{Ciphers}
 use Rattle.node_rules.specs.Coordinators as coordinators
@@ -30,10 +28,9 @@ use Rattle.node_rules.specs.Hearing.{dropped}
 use Rattle.node_rules.specs.Joining.{command_of}
 use Rattle.node_rules.specs.Memory.{StationMemory, Memory, Node, Body, Load, Datagram, Command, Role, Coordinator, Meter}
 use Rattle.node_rules.specs.MemoryDrafts.{give_random, given_ends, goes_down, goes_up, in_memory, on_station, station_part, with_memory_by, with_pair_tags}
-use Rattle.node_rules.specs.MemoryDrafts.{with_station}
 use Rattle.node_rules.specs.Meters as meters
-use Rattle.node_rules.specs.NodeSteps.{NodeStep, acts, answering, changing, left_by, of_station, stays}
-use Rattle.node_rules.specs.Plans.{Plan, Outcome, carry_out, resting}
+use Rattle.node_rules.specs.NodeSteps.{NodeStep, acts, answering, left_by, of_station, stays}
+use Rattle.node_rules.specs.Plans.{Plan, carry_out, resting}
 use Rattle.node_rules.specs.Laws.{IsWhole, IsCutOff}
 use Rattle.node_rules.proofs.MemoryDraftShapes.{whole}
 use Rattle.node_rules.proofs.Writing.{clean}

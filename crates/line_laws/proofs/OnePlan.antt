@@ -1,6 +1,6 @@
 -- A plan that is followed by another one does what both do, one after the other.
 use Rattle.std.proofs.Common.{◌≡◌, ℕ, Bool, true, false, List, [], ◌++◌, Option, Some, None, Result, Ok, Err, refl, sym, ap, ◌∙◌, append-nil, subst}
-use Rattle.std.specs.Prelude.{if◌then◌else◌, is_some, length, ◌==◌}
+use Rattle.std.specs.Prelude.{if◌then◌else◌, ◌==◌}
 use Rattle.std.specs.Option.{option_map_or}
 use Rattle.plc_base.specs.declared.address.Eui.{Eui}
 use Rattle.mesh_header.specs.declared.unit.Unit.{Unit as MeshUnit}
@@ -11,28 +11,26 @@ use Rattle.node_rules.specs.declared.heard.Accepted.{Accepted}
 use Rattle.node_rules.specs.declared.heard.Heard.TheVariants as heard_words
 use Rattle.node_rules.specs.declared.heard.Path.{Path}
 use Rattle.node_rules.specs.declared.heard.Path.TheVariants as paths
-use Rattle.node_rules.specs.declared.heard.Reply.{Reply}
 use Rattle.node_rules.specs.declared.refusal.Dropped.TheVariants as drops
 use Rattle.node_rules.specs.Ciphers.{Ciphers}
 use Rattle.node_rules.specs.Coordinators as coordinator_rules
 use Rattle.node_rules.specs.Meters as meters
 use Rattle.node_rules.specs.Drafts.{choose as choose_plan}
 use Rattle.node_rules.specs.Hearing.{Hearing, drop_it, hear, hear_sealed, hear_unit_in}
-use Rattle.node_rules.specs.declared.refusal.LocalRefusal.{LocalRefusal}
 use Rattle.node_rules.specs.declared.refusal.LocalRefusal.TheVariants as locals
 use Rattle.node_rules.specs.Memory.{StationMemory, Memory, Node, Role, Coordinator, Meter, Stored, address_of}
 use Rattle.node_rules.specs.MemoryDrafts.{in_memory, unread, with_station}
 use Rattle.node_rules.specs.NodeSteps.{NodeStep, acts, answering, stays, left_by}
 use Rattle.node_rules.specs.Plans.{Plan, carry_out, finished, halted as cut_off, outcome_of, resting, within}
-use Rattle.reach_rules.specs.CheckedReplies.{acknowledged, acknowledges, is_unbelieved, message_of, with_check}
-use Rattle.reach_rules.specs.ReachingNodes.{Beside, ReachHeard, command_answer, followed_by, known_answer, known_plan}
+use Rattle.reach_rules.specs.CheckedReplies.{acknowledged, acknowledges, message_of, with_check}
+use Rattle.reach_rules.specs.ReachingNodes.{ReachHeard, command_answer, followed_by, known_answer, known_plan}
 use Rattle.reach_rules.specs.ReachingNodes.{drop_it as drop_reach}
 use Rattle.node_rules.specs.Replies.{reply_among}
 use Rattle.reach_rules.specs.Receiving.{NeighbourCommand, command_of, command_on, command_with, hear_by, hear_command, hear_reaching}
 use Rattle.reach_rules.specs.declared.refusal.ReachDropped.{ReachDropped}
 use Rattle.reach_rules.specs.declared.refusal.ReachDropped.TheVariants as reach_drops
 use Rattle.line_rules.specs.Answers.{Reception, coordinator_reception, meter_reception}
-use Rattle.line_rules.specs.Further.{acknowledging, reaches, with_beside}
+use Rattle.line_rules.specs.Further.{reaches, with_beside}
 use Rattle.line_rules.specs.Steps.{hearing_step, identity}
 use Rattle.line_laws.specs.OnePlan.{AcknowledgesInTurn, ChecksInTurn, CommandsInTurn, IsInTurn, IsSameMove, OthersInTurn}
 use Rattle.line_laws.proofs.FurtherForms.{AnyUnits, Goes, IsFurther, Rests}

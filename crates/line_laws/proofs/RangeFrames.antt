@@ -1,6 +1,6 @@
 -- The frames of a plan are letters in their ranges, and plain frames; and so are the flights that they become.
 use Rattle.std.proofs.Common.{◌≡◌, ℕ, ◌+◌, ◌-◌, ◌≤◌, List, [], ◌∷◌, ◌++◌, length, Option, Some, None, refl, sym, subst, arith}
-use Rattle.std.specs.Prelude.{All, IfSome, ⊤}
+use Rattle.std.specs.Prelude.{All, IfSome}
 use Rattle.std.specs.Option.{option_map_or}
 use Rattle.std.proofs.lemmas.Option.{same_Some}
 use Rattle.std.proofs.lemmas.List.Elements.{All-nil, All-cons, All-head, All-tail, All-append, All-map, All-push, All-weaker}
@@ -19,7 +19,7 @@ use Rattle.node_rules.specs.Coordinators.{with_book_entry}
 use Rattle.node_rules.specs.NodeSteps.{NodeStep}
 use Rattle.line_rules.specs.Steps.{flight_by, flights_of}
 use Rattle.line_laws.specs.Stores.{IsReadable}
-use Rattle.line_laws.specs.SealedUnits.{IsSealedUnit, GoesUp, GoesDown, IsFlight, AreFlights}
+use Rattle.line_laws.specs.SealedUnits.{GoesUp, GoesDown, IsFlight, AreFlights}
 use Rattle.line_laws.specs.Ranges.{IsStationRanged, IsOut}
 use Rattle.line_laws.proofs.Made.{RingWord, Given, Made, Starts, Ranks, Numbers, Tags as TagsOn, Rings, Idles, Loses, Goes, Sends, Waits, Leaves}
 use Rattle.line_laws.proofs.NodeCalls.{no_some}

@@ -30,13 +30,6 @@ length-hops hops rest = by_size (nat_lt hops 15)
     by_size true = omega arith
     by_size false = omega arith
 
-few_hops : (hops : ℕ) → (if nat_lt hops 15 then 1 else 2) ≤ 2
-few_hops hops = by_size (nat_lt hops 15)
-  where
-    by_size : (b : Bool) → (if b then 1 else 2) ≤ 2
-    by_size true = omega arith
-    by_size false = omega arith
-
 -- one hop less is no longer
 less_hops : (hops : ℕ) (rest : List ℕ) → length (hops_then (hops - 1) rest) ≤ length (hops_then hops rest)
 less_hops hops rest = rw (length-hops (hops - 1) rest, length-hops hops rest) (by_size (nat_lt (hops - 1) 15) (nat_lt hops 15) refl refl)

@@ -1,8 +1,8 @@
 -- What came to a node in a frame, and what it then says of it.
 use Rattle.std.proofs.Common.{◌≡◌, ⊎_elim, ℕ, ◌+◌, Bool, true, false, List, [], ◌∷◌, ◌++◌, length, Option, Some, None, Result, Ok, Err, refl, sym, ap, ◌∙◌}
 use Rattle.std.proofs.Common.{subst}
-use Rattle.std.specs.Prelude.{nat_lt, ◌==◌, ◌&&◌, if◌then◌else◌, IfSome, is_some}
-use Rattle.std.specs.Option.{option_map, option_map_or}
+use Rattle.std.specs.Prelude.{nat_lt, ◌==◌, if◌then◌else◌, IfSome}
+use Rattle.std.specs.Option.{option_map_or}
 use Rattle.std.proofs.lemmas.Bool.{eqb-true}
 use Rattle.std.proofs.lemmas.Option.{same_Some}
 use Rattle.plc_base.specs.declared.key.Key.{Key}
@@ -43,11 +43,11 @@ use Rattle.reach_rules.specs.declared.heard.CommandHeard.{CommandHeard}
 use Rattle.reach_rules.specs.declared.heard.CommandHeard.TheVariants as heard_of
 use Rattle.reach_rules.specs.declared.refusal.ReachDropped.{ReachDropped}
 use Rattle.reach_rules.specs.declared.refusal.ReachDropped.TheVariants as reach_drops
-use Rattle.reach_rules.specs.Broadcasts.{admits_broadcast, broadcast_fault, goes_further, hear_broadcast, hear_broadcast_in, mark_fault, with_broadcast_mark}
+use Rattle.reach_rules.specs.Broadcasts.{admits_broadcast, broadcast_fault, hear_broadcast, hear_broadcast_in, mark_fault}
 use Rattle.reach_rules.specs.CheckedReplies.{hear_acknowledgement, hear_acknowledgement_in}
-use Rattle.reach_rules.specs.PathAsking.{follows_path, hear_path, hear_path_in, next_toward, path_word}
-use Rattle.reach_rules.specs.ReachingNodes.{Beside, Reaching, drop_it, in_reach, reach_ends, remembers, adds_local, with_checks}
-use Rattle.reach_rules.specs.Receiving.{NeighbourCommand, command_of, command_on, command_with, hear_command, hear_command_at}
+use Rattle.reach_rules.specs.PathAsking.{follows_path, hear_path, hear_path_in, next_toward}
+use Rattle.reach_rules.specs.ReachingNodes.{Beside, Reaching, drop_it, in_reach, reach_ends, remembers, with_checks}
+use Rattle.reach_rules.specs.Receiving.{NeighbourCommand, command_of, command_on, hear_command, hear_command_at}
 use Rattle.line_events.specs.declared.event.Event.{Event}
 use Rattle.line_rules.specs.Forgery.{Comes, accepting}
 use Rattle.line_rules.specs.Further.{with_beside}

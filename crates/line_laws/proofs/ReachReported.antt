@@ -7,8 +7,6 @@ use Rattle.std.proofs.Math.Seq.{drop-append_seam}
 use Rattle.std.proofs.lemmas.List.{append_assoc, map-append}
 use Rattle.std.proofs.lemmas.List.Elements.{All-head, All-tail}
 use Rattle.std.proofs.lemmas.Option.{same_Some}
-use Rattle.plc_base.specs.declared.key.Key.{Key}
-use Rattle.mesh_header.specs.declared.unit.Unit.{Unit as MeshUnit}
 use Rattle.mesh_header.specs.declared.unit.Unit.TheVariants as units
 use Rattle.loadng_messages.specs.declared.message.Message.{Message}
 use Rattle.loadng_messages.specs.declared.message.Message.TheVariants.{Rreq, Rrep, Rerr}
@@ -32,12 +30,11 @@ use Rattle.node_rules.specs.Memory.{StationMemory, Memory, Node, Role, address_o
 use Rattle.node_rules.specs.MemoryDrafts.{in_memory}
 use Rattle.node_rules.specs.NodeSteps.{NodeStep, acts, answering, of_station}
 use Rattle.node_rules.specs.Plans.{resting}
-use Rattle.node_rules.specs.Drafts.{checked as checked_plan, counters_left, refused, sealed, sealing}
+use Rattle.node_rules.specs.Drafts.{refused}
 use Rattle.node_rules.specs.Replies.{first_of, reply_among, reply_of, reply_with, route_message}
 use Rattle.reach_rules.specs.declared.heard.CommandHeard.{CommandHeard}
 use Rattle.reach_rules.specs.declared.heard.CommandHeard.TheVariants as heard_of
 use Rattle.reach_rules.specs.declared.heard.DiscoveryHeard.{DiscoveryHeard}
-use Rattle.reach_rules.specs.declared.heard.DiscoveryHeard.TheVariants as discovered
 use Rattle.reach_rules.specs.declared.refusal.DiscoveryDropped.{DiscoveryDropped}
 use Rattle.reach_rules.specs.declared.refusal.DiscoveryDropped.TheVariants as discovery_drops
 use Rattle.reach_rules.specs.declared.refusal.ReachDropped.{ReachDropped}
@@ -56,33 +53,32 @@ use Rattle.reach_rules.specs.Broadcasts.{broadcast, broadcast_ends, broadcast_fr
 use Rattle.reach_rules.specs.CheckedReplies.{message_of}
 use Rattle.reach_rules.specs.ReachingNodes.{Beside, Reaching}
 use Rattle.reach_rules.specs.Receiving.{NeighbourCommand, command_of, hear_command}
-use Rattle.line_rules.specs.Answers.{Reception, ask_word, broadcast_word, command_word, discovery_word, frame_word, order_word, scan_word, sent_word}
+use Rattle.line_rules.specs.Answers.{Reception, broadcast_word, command_word, discovery_word, order_word, scan_word, sent_word}
 use Rattle.line_events.specs.declared.event.Answer.{Answer}
-use Rattle.line_events.specs.declared.event.Answer.TheVariants as answers
 use Rattle.line_events.specs.declared.event.Event.{Event}
 use Rattle.line_events.specs.declared.event.Event.TheVariants as events
 use Rattle.line_events.specs.Events.{AreEvents, IsEvent}
 use Rattle.line_rules.specs.Further.{acknowledged_by, acknowledged_if, acknowledging, adds_frames, beacon_taken, beside_at, broadcast_sent, broadcast_up}
 use Rattle.line_rules.specs.Further.{broadcasts_by, checked, commanded, discovers_by, due, has_discovered, line_step, path_line, reaches, replied, scanning}
-use Rattle.line_rules.specs.Further.{scans_by, sends_nothing, with_beside, with_check}
+use Rattle.line_rules.specs.Further.{sends_nothing, with_beside, with_check}
 use Rattle.line_rules.specs.Logs.{LogsKept}
 use Rattle.line_rules.specs.Runs.{Entry, IsRun, events_of, one_of}
-use Rattle.line_rules.specs.Steps.{Step, node_outcome, allowed_word, flight_by, flights_of, happenings, hearing_outcome, identity, is_taken, note_by}
-use Rattle.line_rules.specs.Steps.{running_world, sent_if, tag_of}
-use Rattle.line_rules.specs.Steps.{trace_of, world_after}
+use Rattle.line_rules.specs.Steps.{Step, node_outcome, allowed_word, flight_by, flights_of, hearing_outcome, identity, is_taken, note_by}
+use Rattle.line_rules.specs.Steps.{sent_if, tag_of}
+use Rattle.line_rules.specs.Steps.{world_after}
 use Rattle.line_rules.specs.Forgery.{Comes}
 use Rattle.line_rules.specs.FurtherRuns.{broadcasts}
 use Rattle.line_rules.specs.Worlds.{Acknowledged, Broadcasting, Flight, Noticed, Trace, World, start}
 use Rattle.line_laws.specs.FurtherLines.{HoldsAfter}
-use Rattle.line_laws.specs.ReachTraces.{AckCame, AreReachReported, BeaconCame, BroadcastCame, FrameCame, EveryBroadcastIsListed, EveryEventIsReported, HasFrame}
-use Rattle.line_laws.specs.ReachTraces.{IsReachReported, ListsBroadcasts, ReplyFlew, WalkCame, as_bcast, is_acked, is_acknowledged, is_beacon, is_beaconed}
+use Rattle.line_laws.specs.ReachTraces.{AckCame, AreReachReported, BroadcastCame, FrameCame, EveryBroadcastIsListed, EveryEventIsReported, HasFrame}
+use Rattle.line_laws.specs.ReachTraces.{IsReachReported, ListsBroadcasts, WalkCame, as_bcast, is_acked, is_acknowledged, is_beacon, is_beaconed}
 use Rattle.line_laws.specs.ReachTraces.{is_bup}
-use Rattle.line_laws.specs.ReachTraces.{is_path, is_scan, is_scanning, is_sent, link_of, sent_to_all, to_all_of}
+use Rattle.line_laws.specs.ReachTraces.{is_path, is_scan, is_scanning, link_of, sent_to_all, to_all_of}
 use Rattle.line_laws.proofs.FurtherOctets.{every_run_holds}
 use Rattle.line_laws.proofs.ReachCame.{Says, acts_says, command_came, command_said}
 use Rattle.line_laws.proofs.ReachSteps.{Asks, Bcasts, Checked, Chooses, Commands, Discovers, Fails, Hears, IsAccepted, IsReachStep, Known, Opens, Restarts}
 use Rattle.line_laws.proofs.ReachSteps.{Rests, Scans as Begins, Ticks, Unbelieves, after_accepting, heard_node, reach_step_is}
-use Rattle.line_laws.proofs.ReachWords.{IsUnsent, NotNew, Quiet, Unreported, ask_quiet, breaks_quiet, broadcast_quiet, choice_quiet, frame_quiet, hears_quiet}
+use Rattle.line_laws.proofs.ReachWords.{IsUnsent, NotNew, Quiet, ask_quiet, breaks_quiet, broadcast_quiet, choice_quiet, frame_quiet, hears_quiet}
 use Rattle.line_laws.proofs.ReachWords.{idle_quiet, lost_quiet, none_new, not_new, order_quiet, reach_unreported, restart_quiet, sent_quiet, unsent_answer}
 use Rattle.line_laws.proofs.ReachWords.{unsent_event, unsent_octets, unsent_word, unreported, word_quiet}
 use Rattle.line_laws.proofs.StepKinds as old

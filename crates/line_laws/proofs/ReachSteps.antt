@@ -1,18 +1,15 @@
 -- What an event of a line with further reach is, with all that its rule tested: one case for each way.
-use Rattle.std.proofs.Common.{◌≡◌, ◌≢◌, ℕ, ◌+◌, ◌≤◌, Bool, true, false, List, Option, Some, None, Result, Ok, Err, refl, sym, ◌∙◌}
-use Rattle.std.specs.Prelude.{if◌then◌else◌, ◌==◌, ◌||◌, map}
+use Rattle.std.proofs.Common.{◌≡◌, ℕ, ◌+◌, ◌≤◌, Bool, true, false, List, Option, Some, None, Result, Ok, Err, refl, sym, ◌∙◌}
+use Rattle.std.specs.Prelude.{if◌then◌else◌, ◌==◌, map}
 use Rattle.std.specs.Option.{option_map_or}
 use Rattle.std.proofs.lemmas.Option.{same_Some}
 use Rattle.plc_base.specs.declared.keeper.BadStore.{BadStore}
 use Rattle.plc_base.specs.declared.key.Key.{Key}
 use Rattle.node_rules.specs.declared.heard.Accepted.{Accepted}
 use Rattle.node_rules.specs.declared.refusal.FrameRefusal.{FrameRefusal}
-use Rattle.node_rules.specs.declared.refusal.FrameRefusal.TheVariants as frames
-use Rattle.node_rules.specs.Accepting.{accept}
 use Rattle.node_rules.specs.Ciphers.{Ciphers}
-use Rattle.node_rules.specs.Frames.{arrived}
 use Rattle.node_rules.specs.Memory.{Memory, Node, node_address}
-use Rattle.node_rules.specs.NodeSteps.{NodeStep, acts, of_station}
+use Rattle.node_rules.specs.NodeSteps.{NodeStep, acts}
 use Rattle.reach_rules.specs.Beacons.{is_discovery}
 use Rattle.reach_rules.specs.ReachingNodes.{Beside, restarted, tick_beside}
 use Rattle.reach_rules.specs.Receiving.{NeighbourCommand, command_of}
@@ -22,7 +19,7 @@ use Rattle.line_events.specs.declared.event.Event.{Event}
 use Rattle.line_events.specs.declared.event.Event.TheVariants as events
 use Rattle.line_events.specs.declared.event.StepFault.{StepFault}
 use Rattle.line_events.specs.declared.event.StepFault.TheVariants as faults
-use Rattle.line_rules.specs.Answers.{Reception, frame_word}
+use Rattle.line_rules.specs.Answers.{Reception}
 use Rattle.line_events.specs.Events.{IsEvent, IsLineOctets}
 use Rattle.line_rules.specs.Forgery.{Comes, OfFlight, OfScript, accepting}
 use Rattle.line_rules.specs.FurtherRuns.{is_restart_of, is_tick}
@@ -33,8 +30,8 @@ use Rattle.line_rules.specs.Further.{ticks, unbelieved}
 use Rattle.line_rules.specs.Logs.{LogsKept}
 use Rattle.line_rules.specs.Steps.{Step, happenings, has_begun, hearing_outcome, hearing_step, in_setup, note_by, on_flight, on_meter, on_node, once_begun}
 use Rattle.line_rules.specs.Steps.{psk_of, running_world, set_up}
-use Rattle.line_rules.specs.Steps.{takes_setup, tick, ticked, world_after, trace_of}
-use Rattle.line_rules.specs.Worlds.{World, Trace, Flight, flight_at, node_at}
+use Rattle.line_rules.specs.Steps.{takes_setup, tick, ticked, trace_of}
+use Rattle.line_rules.specs.Worlds.{World, Flight, flight_at, node_at}
 use Rattle.line_laws.specs.ReachTraces.{link_of}
 use Rattle.line_laws.proofs.FurtherSteps.{restarts_read}
 use Rattle.line_laws.proofs.StepKinds.{IsBrought, IsStep, TurnsDown, step_is}

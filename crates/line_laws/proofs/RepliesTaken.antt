@@ -1,19 +1,16 @@
 -- A reply to one node is learned, sent on or refused; so the word of what a node made of it says whether its own rule refused it.
-use Rattle.std.proofs.Common.{◌≡◌, ℕ, Bool, true, false, List, length, Option, Some, None, Result, Ok, Err, refl, sym, ap, ◌∙◌, subst}
+use Rattle.std.proofs.Common.{◌≡◌, ℕ, Bool, true, false, List, length, Option, Some, None, Result, Ok, Err, refl, sym, subst}
 use Rattle.std.specs.Prelude.{if◌then◌else◌, is_ok, nat_lt, ◌==◌}
 use Rattle.std.specs.Option.{option_and_then, option_map_or}
 use Rattle.plc_base.specs.declared.key.Key.{Key}
 use Rattle.mesh_header.specs.declared.unit.Unit.{Unit as MeshUnit}
 use Rattle.mesh_header.specs.declared.unit.Unit.TheVariants as units
 use Rattle.mesh_header.specs.Reading.{unit_in}
-use Rattle.loadng_messages.specs.declared.message.Message.{Message}
 use Rattle.loadng_messages.specs.declared.message.Message.TheVariants.{Rrep}
 use Rattle.loadng_messages.specs.Reading.{message_in}
 use Rattle.routing_set.specs.declared.rank.Rank.{Rank}
-use Rattle.node_rules.specs.declared.heard.Accepted.{Accepted}
 use Rattle.node_rules.specs.declared.heard.Heard.{Heard}
 use Rattle.node_rules.specs.declared.heard.Heard.TheVariants as heard_words
-use Rattle.node_rules.specs.declared.heard.Path.{Path}
 use Rattle.node_rules.specs.declared.heard.Path.TheVariants as paths
 use Rattle.node_rules.specs.declared.refusal.Dropped.{Dropped}
 use Rattle.node_rules.specs.declared.refusal.Dropped.TheVariants as drops
@@ -21,12 +18,11 @@ use Rattle.node_rules.specs.Coordinators as coordinator_rules
 use Rattle.node_rules.specs.Drafts.{Draft, alone, checked, choose, counters_left, refused, sealed, sealing}
 use Rattle.node_rules.specs.Hearing.{Hearing, drop_it, dropped, ends, hear, hear_command, hear_message_in, hear_reply, hear_reply_for, hear_sealed}
 use Rattle.node_rules.specs.Hearing.{hear_unit_in, learns, passes_on, rank_fault, rank_over}
-use Rattle.node_rules.specs.Memory.{StationMemory, Memory, address_of, next_hop}
+use Rattle.node_rules.specs.Memory.{StationMemory, address_of, next_hop}
 use Rattle.node_rules.specs.MemoryDrafts.{unread}
 use Rattle.node_rules.specs.Meters as meters
 use Rattle.node_rules.specs.Plans.{resting}
 use Rattle.node_rules.specs.Replies.{route_message}
-use Rattle.reach_rules.specs.CheckedReplies.{message_of}
 use Rattle.line_rules.specs.Answers.{coordinator_reception, drop_word, meter_reception}
 use Rattle.line_rules.specs.Further.{is_reply_taken}
 use Rattle.line_laws.specs.OnePlan.{RepliesTakenAlike}

@@ -23,8 +23,6 @@ use Rattle.line_laws.proofs.Homed.{Homes}
 use Rattle.line_laws.specs.Ranked.{via}
 pub use Rattle.line_laws.specs.Ranked.{At, Own, Nearer, IsNearer, FlightBacked, IsPlain, IsSealedUnit, GoodRoute, RanksHold, RoutesHold, RoutingHolds}
 
--- # The parts
-
 -- # Steps
 
 -- a node has the account since the world before, or it is new and knows nothing

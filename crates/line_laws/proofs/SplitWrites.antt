@@ -1,17 +1,14 @@
 -- A plan whose writes come in two parts does what two plans do, one after the other: the first stores its part, and the second does the rest.
-use Rattle.std.proofs.Common.{◌≡◌, Bool, true, false, List, [], ◌∷◌, ◌++◌, Option, Some, None, refl, sym, ap, ◌∙◌}
+use Rattle.std.proofs.Common.{◌≡◌, Bool, true, false, List, [], ◌∷◌, ◌++◌, Option, Some, None, refl}
 use Rattle.std.specs.Prelude.{if◌then◌else◌}
-use Rattle.std.specs.Option.{option_map_or}
 use Rattle.plc_base.specs.declared.address.Eui.{Eui}
 use Rattle.plc_base.specs.declared.keeper.Cut.{Cut}
-use Rattle.plc_base.specs.declared.tags.PairTag.{PairTag}
 use Rattle.plc_base.specs.Keeper.{Records, Write, succeeds, cut_after, records_after}
 use Rattle.store_tables.specs.Writes.{Written, write}
-use Rattle.node_rules.specs.Frames.{Sent}
 use Rattle.node_rules.specs.Memory.{Memory, Node, Role, Stored}
 use Rattle.node_rules.specs.Composing.{behind}
-use Rattle.node_rules.specs.NodeSteps.{NodeStep, acts, stays, left_by}
-use Rattle.node_rules.specs.Plans.{Plan, Outcome, carry_out, outcome_of, finished, halted}
+use Rattle.node_rules.specs.NodeSteps.{acts, left_by}
+use Rattle.node_rules.specs.Plans.{Plan, carry_out, outcome_of}
 use Rattle.line_laws.specs.Later.{IsSplit, PlansSplit}
 use Rattle.line_laws.proofs.LaterStores.{storing}
 

@@ -1,14 +1,12 @@
 -- Each step of an ask that the history has was taken by a node over a valid next hop: by the one that its line names, or by one that heard the ask.
-use Rattle.std.proofs.Common.{◌≡◌, ⊎_elim, ◌⊎◌, inl, inr, ℕ, ◌+◌, Bool, true, false, List, [], ◌∷◌, ◌++◌, length, Option, Some, None, Result, Ok, Err, refl}
+use Rattle.std.proofs.Common.{◌≡◌, ⊎_elim, ◌⊎◌, inl, inr, ℕ, Bool, true, false, List, [], ◌∷◌, length, Option, Some, None, Result, Ok, Err, refl}
 use Rattle.std.proofs.Common.{sym, ap, ◌∙◌, subst}
 use Rattle.std.specs.Prelude.{All, IfSome, nat_lt, ◌==◌, is_some, if◌then◌else◌}
 use Rattle.std.specs.Option.{option_and_then, option_map, option_map_or}
 use Rattle.std.proofs.lemmas.Bool.{eqb-true}
 use Rattle.std.proofs.lemmas.List.Elements.{All-head, All-tail}
-use Rattle.std.proofs.lemmas.Option.{same_Some}
 use Rattle.mesh_header.specs.declared.unit.Unit.TheVariants as units
 use Rattle.broadcast_log.specs.declared.broadcast.Broadcast.{Broadcast}
-use Rattle.broadcast_log.specs.Grammar.{spelling}
 use Rattle.broadcast_log.specs.Reading.{broadcast_in}
 use Rattle.neighbour_checks.specs.Acks.{ack_in}
 use Rattle.neighbour_checks.specs.Neighbours.{acked_after, is_awaited}
@@ -26,8 +24,7 @@ use Rattle.node_rules.specs.declared.heard.Accepted.{Accepted}
 use Rattle.node_rules.specs.declared.heard.Reply.{Reply}
 use Rattle.node_rules.specs.declared.refusal.Dropped.TheVariants as drops
 use Rattle.node_rules.specs.Ciphers.{network}
-use Rattle.node_rules.specs.Drafts.{Draft, Ends, checked as checked_plan, choose, counters_left, empty_draft, refused, sealed, sealing}
-use Rattle.node_rules.specs.Frames.{to_all}
+use Rattle.node_rules.specs.Drafts.{Draft, checked as checked_plan, choose, counters_left, empty_draft, refused, sealed, sealing}
 use Rattle.node_rules.specs.Laws.{IsCutOff, IsWhole}
 use Rattle.node_rules.specs.Memory.{StationMemory, Memory, Node, address_of, next_hop, node_address, node_route, station_route}
 use Rattle.node_rules.specs.MemoryDrafts.{in_memory}
@@ -41,7 +38,7 @@ use Rattle.reach_rules.specs.declared.refusal.AskRefusal.{AskRefusal}
 use Rattle.reach_rules.specs.declared.refusal.AskRefusal.TheVariants as ask_faults
 use Rattle.reach_rules.specs.declared.refusal.ReachDropped.{ReachDropped}
 use Rattle.reach_rules.specs.declared.refusal.ReachDropped.TheVariants as reach_drops
-use Rattle.reach_rules.specs.Broadcasts.{admits_broadcast, broadcast_fault, goes_further, hear_broadcast, hear_broadcast_in, hop_less, with_broadcast_mark}
+use Rattle.reach_rules.specs.Broadcasts.{admits_broadcast, broadcast_fault, goes_further, hear_broadcast, hear_broadcast_in, with_broadcast_mark}
 use Rattle.reach_rules.specs.CheckedReplies.{hear_acknowledgement, hear_acknowledgement_in, message_of}
 use Rattle.reach_rules.specs.PathAsking.{ask_ends, ask_path, asks_by as asks_over, asks_from, follows_path, hear_path, hear_path_in, next_toward, path_word}
 use Rattle.reach_rules.specs.ReachingNodes.{Beside, Reaching, drop_it, in_reach, reach_ends, remembers, adds_local, with_checks}
@@ -55,7 +52,7 @@ use Rattle.line_rules.specs.Further.{reaches, sends_nothing, step_by, with_besid
 use Rattle.line_rules.specs.Logs.{LogsKept}
 use Rattle.line_rules.specs.Runs.{Entry, IsRun, events_of}
 use Rattle.line_rules.specs.Steps.{Step, hearing_outcome, running_world, world_after}
-use Rattle.line_rules.specs.Worlds.{Further, Stepping, Trace, World, node_at, nothing_further, start}
+use Rattle.line_rules.specs.Worlds.{Further, Trace, World, node_at, start}
 use Rattle.line_laws.specs.FurtherLines.{HoldsAfter}
 use Rattle.line_laws.specs.ReachTraces.{FrameCame}
 use Rattle.line_laws.specs.StepsTaken.{AreStepsTaken, AskCame, AskSent, EveryStepIsTaken, IsStepTaken}

@@ -47,10 +47,6 @@ Untagged p = (p.made ≡ []) × (p.opened ≡ [])
 commanded_bare : (to : ℕ) (join : JoinMessage) (now : ℕ) (d : Draft Memory) → Bare d → Bare (is_commanded to join now d)
 commanded_bare to join now d e = let l = commanded_leaves (λ r. ⊤) to join now d in (l.made ∙ e.0, l.opened ∙ e.1)
 
--- whether something is left or not does not matter
-sealing_untagged : {H F : Type 0} (ends : Ends F) (d : Draft Memory) (answer : H) → Bare d → Untagged (sealing in_memory ends d answer)
-sealing_untagged ends d answer e = e
-
 sealed_untagged : {H F : Type 0} (ends : Ends F) (m : Memory) (d : Draft Memory) (answer : H) → Bare d → Untagged (sealed in_memory ends m d answer)
 unfolding sealed resting
 sealed_untagged ends m d answer e = by_test (nat_lt (counters_left m.station) (length d.units))

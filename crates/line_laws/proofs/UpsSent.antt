@@ -1,5 +1,5 @@
 -- What was still owed of custody, for the network: so what is handed up was sent, and nothing is handed up twice.
-use Rattle.std.proofs.Common.{◌≡◌, List, [], ◌∷◌, ◌++◌, Ok}
+use Rattle.std.proofs.Common.{◌≡◌, List, Ok}
 use Rattle.node_rules.specs.Ciphers.{network}
 use Rattle.line_events.specs.Events.{IsEvent}
 use Rattle.line_rules.specs.Runs.{Entry, issued}

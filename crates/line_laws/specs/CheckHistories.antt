@@ -1,6 +1,6 @@
 -- Who is listed and which acknowledgements are awaited, said of the history of a node's replies, acknowledgements and ticks; and that the answers
 -- Blacklisted, Acked and NotAwaited come exactly so.
-use Rattle.std.specs.Prelude.{◌≡◌, ◌↔◌, ℕ, true, false, List, [], ◌∷◌, ◌++◌, Option, Some, Ok}
+use Rattle.std.specs.Prelude.{◌≡◌, ◌↔◌, ℕ, true, false, List, [], ◌∷◌, ◌++◌, Some, Ok}
 use Rattle.plc_base.specs.declared.key.Key.{Key}
 use Rattle.mesh_header.specs.declared.unit.Unit.TheVariants as units
 use Rattle.loadng_messages.specs.declared.message.Message.TheVariants.{Rreq}

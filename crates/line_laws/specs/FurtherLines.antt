@@ -1,5 +1,5 @@
 -- What holds of a line of nodes, forged or not, holds after the events of further reach.
-use Rattle.std.specs.Prelude.{◌≡◌, ℕ, ◌+◌, ◌≤◌, ◌<◌, true, All, length, Ok, List, [], ◌∷◌, Option, Some, None, Err}
+use Rattle.std.specs.Prelude.{◌≡◌, ℕ, ◌+◌, ◌≤◌, true, All, length, Ok, List, Option, Some, None, Err}
 use Rattle.store_tables.specs.Writes.{puts_of}
 use Rattle.broadcast_log.specs.declared.broadcast.Broadcast.{Broadcast}
 use Rattle.broadcast_log.specs.OriginMarks.{keep_write}

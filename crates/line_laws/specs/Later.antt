@@ -24,7 +24,7 @@ use Rattle.node_rules.specs.Plans.{Plan}
 use Rattle.reach_rules.specs.ReachingNodes.{Beside}
 use Rattle.line_rules.specs.Nonces.{HasSender, IsSpelled}
 use Rattle.line_rules.specs.Steps.{running_world, world_after}
-use Rattle.line_rules.specs.Worlds.{World, Flight, Issued, Pairing, Sending, node_at, start}
+use Rattle.line_rules.specs.Worlds.{World, Issued, Pairing, Sending, node_at, start}
 use Rattle.line_rules.specs.Further.{discovery_flight}
 use Rattle.line_events.specs.declared.happenings.Handed.{Handed}
 use Rattle.line_laws.specs.Agreed.{Confirmed}

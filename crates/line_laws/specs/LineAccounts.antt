@@ -1,6 +1,6 @@
 -- What holds of each event of a line with further reach, as of a line without it: for any ciphers that keep their ranges, in any world in which
 -- the line holds, what flies is octets, and the log of each node is what its store gives.
-use Rattle.std.specs.Prelude.{◌≡◌, ◌≢◌, ◌↔◌, ◌&&◌, not, ℕ, ◌<◌, Bool, true, false, All, List, [], ◌∷◌, ◌++◌, length, drop, Some, None, Ok, Err}
+use Rattle.std.specs.Prelude.{◌≡◌, ◌≢◌, ◌↔◌, ℕ, ◌<◌, Bool, true, false, All, List, ◌++◌, length, drop, Some, None, Ok, Err}
 use Rattle.plc_base.specs.declared.address.Eui.{Eui}
 use Rattle.plc_base.specs.declared.key.Key.{Key}
 use Rattle.mac_frames.specs.Reading.{head_in}

@@ -1,5 +1,5 @@
 -- What holds of every run of the network.
-use Rattle.std.specs.Prelude.{All, List, [], ◌∷◌}
+use Rattle.std.specs.Prelude.{All, List, []}
 use Rattle.plc_base.specs.Fields.{AreOctets}
 use Rattle.node_rules.specs.Ciphers.{Ciphers, network}
 use Rattle.line_rules.specs.Agreement.{KeysAgree, KickedStaysOut}
@@ -9,7 +9,7 @@ use Rattle.line_rules.specs.Nonces.{CountersRise, NoncesDiffer, AreSpelled, AreA
 use Rattle.line_rules.specs.Runs.{Entry, IsRun, IsLineRun, last_world}
 use Rattle.line_rules.specs.SafeRuns.{IsAlwaysSized, IsSafe, RestartsAreAnswered}
 use Rattle.line_rules.specs.Traces.{CountsRight, AreTracedRight}
-use Rattle.line_rules.specs.Worlds.{World, Flight, start}
+use Rattle.line_rules.specs.Worlds.{Flight, start}
 use Rattle.line_laws.specs.AdmittedRight.{AreAdmittedRight}
 use Rattle.line_laws.specs.AgreedRight.{IsAgreedRight}
 use Rattle.line_laws.specs.CheckHistories.{AreCheckedRight}

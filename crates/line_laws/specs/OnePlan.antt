@@ -1,6 +1,6 @@
 -- The one plan by which a node with further reach hears a frame (`reach_rules`), and the two moves that the line makes of it: they leave the same node
 -- and send the same, whichever write fails.
-use Rattle.std.specs.Prelude.{◌≡◌, ℕ, Bool, true, false, List, [], ◌++◌, is_ok, is_some, Some, None, Result, Err}
+use Rattle.std.specs.Prelude.{◌≡◌, ℕ, Bool, true, false, [], ◌++◌, is_ok, is_some, Some, None, Result, Err}
 use Rattle.plc_base.specs.declared.key.Key.{Key}
 use Rattle.loadng_messages.specs.declared.message.Message.TheVariants.{Rrep}
 use Rattle.node_rules.specs.declared.heard.Accepted.{Accepted}

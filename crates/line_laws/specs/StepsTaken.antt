@@ -1,5 +1,5 @@
 -- The steps that asks for a path took, each with the node that took it.
-use Rattle.std.specs.Prelude.{◌≡◌, ◌⊎◌, ℕ, true, false, List, [], ◌∷◌, Option, Some, IfSome}
+use Rattle.std.specs.Prelude.{◌≡◌, ◌⊎◌, ℕ, true, false, List, [], ◌∷◌, Some, IfSome}
 use Rattle.mesh_header.specs.declared.unit.Unit.TheVariants as units
 use Rattle.path_requests.specs.declared.message.PathMessage.TheVariants.{Ask}
 use Rattle.path_requests.specs.Reading.{path_in}

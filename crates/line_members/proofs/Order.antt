@@ -1,5 +1,5 @@
 -- The next agent is the first of those that come after the last one.
-use Rattle.std.proofs.Common.{◌≡◌, ℕ, zero, suc, ltb, eqb, ◌&&◌, ◌||◌, cond, Bool, true, false, List, [], ◌∷◌, Option, Some, None, refl, sym, ap, subst, ◌∙◌}
+use Rattle.std.proofs.Common.{◌≡◌, ℕ, zero, suc, ltb, eqb, ◌&&◌, ◌||◌, cond, true, false, List, [], ◌∷◌, Option, Some, None, sym, ap, subst, ◌∙◌}
 use Rattle.std.proofs.Common.{arith}
 use Rattle.std.proofs.lemmas.Bool.{cond_both, cond-true}
 use Rattle.std.proofs.lemmas.Bool.Decides.{nat_tests}
@@ -9,7 +9,7 @@ use Rattle.line_place.specs.declared.link.Link.{Link}
 use Rattle.line_place.specs.Rows.{hearers}
 use Rattle.line_members.specs.declared.agents.Agent.{Agent}
 use Rattle.line_members.specs.declared.member.Member.{Member}
-use Rattle.line_members.specs.Agents.{Precedes, IsFirstAfter, AgentsComeInOrder, agent_at, is_after, is_before, first_of_two, best_with, best_step, next_agent}
+use Rattle.line_members.specs.Agents.{Precedes, AgentsComeInOrder, agent_at, is_after, is_before, best_with, best_step, next_agent}
 
 -- # The order
 

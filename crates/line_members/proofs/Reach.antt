@@ -1,5 +1,5 @@
 -- The agent whose turn it is, is within reach: a joined neighbour with power, in both directions.
-use Rattle.std.proofs.Common.{◌≡◌, ℕ, zero, suc, ◌+◌, ◌*◌, ◌%◌, eqb, ◌&&◌, cond, Bool, true, false, List, [], ◌∷◌, Option, Some, None, refl, sym, ap, ◌∙◌}
+use Rattle.std.proofs.Common.{◌≡◌, ℕ, zero, suc, ◌+◌, ◌*◌, eqb, ◌&&◌, cond, Bool, true, false, List, [], ◌∷◌, Option, Some, None, refl, sym, ap, ◌∙◌}
 use Rattle.std.proofs.lemmas.Bool.{and_parts, cond_both, eqb-true}
 use Rattle.std.specs.Prelude.{IfSome, slice_get, find, option_map}
 use Rattle.std.specs.List.{fold}
@@ -8,7 +8,7 @@ use Rattle.line_place.specs.Rows.{hearers}
 use Rattle.line_members.specs.declared.agents.Agent.{Agent}
 use Rattle.line_members.specs.declared.member.Member.{Member}
 use Rattle.line_members.specs.Members.{member_at}
-use Rattle.line_members.specs.Agents.{IsWithinReach, cost_to, agent_by, agent_over, agent_at, is_after, is_before, first_of_two, best_with, best_step}
+use Rattle.line_members.specs.Agents.{IsWithinReach, cost_to, agent_over, agent_at, is_after, is_before, best_with, best_step}
 use Rattle.line_members.specs.Agents.{next_agent, nth_agent}
 
 -- an agent that was found is within reach

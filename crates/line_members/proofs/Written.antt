@@ -1,5 +1,5 @@
 -- A message is read as it was written.
-use Rattle.std.proofs.Common.{◌≡◌, ℕ, ◌+◌, ◌*◌, ◌-◌, ◌/◌, ◌%◌, ◌^◌, ◌<◌, ◌≤◌, List, ◌∷◌, ◌++◌, Some, length, replicate, ◌∙◌, arith}
+use Rattle.std.proofs.Common.{◌≡◌, ℕ, ◌+◌, ◌*◌, ◌-◌, ◌/◌, ◌%◌, ◌^◌, ◌<◌, List, ◌∷◌, ◌++◌, Some, length, replicate, ◌∙◌, arith}
 use Rattle.std.proofs.lemmas.Bool.{le-leb, cond-true}
 use Rattle.line_members.specs.declared.messages.Kind.{Kind}
 use Rattle.line_members.specs.declared.messages.Kind.TheVariants.{Reading, Reply, Ask, Receipt}

@@ -1,5 +1,5 @@
 -- The datagrams of the owner: what it is, the meter and the round in two octets each, and octets that fill it up.
-use Rattle.std.specs.Prelude.{◌≡◌, ◌<◌, ℕ, zero, suc, ◌+◌, ◌*◌, ◌/◌, ◌%◌, ◌-◌, ◌^◌, min, max, eqb, leb, cond, List, [], ◌∷◌, ◌++◌, length, replicate, get_or}
+use Rattle.std.specs.Prelude.{◌≡◌, ◌<◌, ℕ, ◌+◌, ◌*◌, ◌/◌, ◌%◌, ◌-◌, ◌^◌, max, eqb, leb, cond, List, [], ◌∷◌, ◌++◌, length, replicate, get_or}
 use Rattle.std.specs.Prelude.{Option, Some, None}
 use Rattle.line_members.specs.declared.messages.Kind.{Kind}
 use Rattle.line_members.specs.declared.messages.Kind.TheVariants.{Reading, Reply, Ask, Receipt}

@@ -1,6 +1,6 @@
 //! The readings, by their meter and round.
 ghost use Rattle.std.specs.Prelude.{◌≡◌, [], OnOk, OnErr};
-ghost use Rattle.line_members.specs.Asked.{no_reading, reading_at, with_reading};
+ghost use Rattle.line_members.specs.Asked.{reading_at, with_reading};
 
 use std::alloc::{AllocError, Global};
 use std::collections::BTreeMap;

@@ -1,5 +1,5 @@
 //! What the owner knows of its nodes.
-ghost use Rattle.std.specs.Prelude.{◌≡◌, ◌∷◌, map, replicate, length, IfOk};
+ghost use Rattle.std.specs.Prelude.{◌≡◌, map, length, IfOk};
 ghost use Rattle.line_members.specs.Members.{no_member, new_member, more, is_chosen, member_at, with_member, nth_of, unpolled, phase_before};
 ghost use Rattle.line_members.specs.Members.{waits_for_key, all_wait};
 

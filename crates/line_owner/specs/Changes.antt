@@ -1,10 +1,9 @@
 -- How the group key of a line is changed.
-use Rattle.std.specs.Prelude.{ℕ, ◌+◌, ◌-◌, ◌^◌, min, eqb, ltb, leb, cond, Bool, true, false, length, Option, None, Some, is_some}
+use Rattle.std.specs.Prelude.{ℕ, ◌+◌, ◌-◌, ◌^◌, min, eqb, leb, cond, Bool, true, false, length, Option, None, Some, is_some}
 use Rattle.air_draws.specs.Draws.{below, key_octets}
 use Rattle.plan_tables.specs.declared.tables.Order.{Order as Way}
 use Rattle.plan_tables.specs.declared.tables.Order.TheVariants.{CoordinatorFirst, CoordinatorLast, MeterByMeter}
 use Rattle.line_members.specs.declared.member.Choice.TheVariants.{Waiting, Challenged, Settled}
-use Rattle.line_members.specs.declared.member.Member.{Member}
 use Rattle.line_members.specs.declared.member.Phase.{Phase}
 use Rattle.line_members.specs.declared.member.Phase.TheVariants.{Out, Waits, Open, Done, Unreached}
 use Rattle.line_owner.specs.declared.owner.Change.{Change}

@@ -3,11 +3,9 @@ use Rattle.std.specs.Prelude.{ℕ, ◌+◌, leb, ◌||◌, cond, true, false, Li
 use Rattle.air_draws.specs.Draws.{below}
 use Rattle.line_place.specs.declared.link.Link.{Link}
 use Rattle.line_members.specs.declared.agents.Agent.{Agent}
-use Rattle.line_members.specs.declared.member.Member.{Member}
-use Rattle.line_members.specs.declared.acts.Act.TheVariants.{Step, Put, Do, Say}
-use Rattle.line_members.specs.declared.acts.Acts.TheVariants.{One, Two, Four}
-use Rattle.line_members.specs.declared.acts.Command.TheVariants.{Join, Leave}
-use Rattle.line_members.specs.declared.acts.Saying.TheVariants.{Leaves}
+use Rattle.line_members.specs.declared.acts.Act.TheVariants.{Step, Put, Do}
+use Rattle.line_members.specs.declared.acts.Acts.TheVariants.{One, Four}
+use Rattle.line_members.specs.declared.acts.Command.TheVariants.{Join}
 use Rattle.line_members.specs.declared.acts.Task.TheVariants.{TryJoin, Give}
 use Rattle.line_members.specs.Members.{more, member_at}
 use Rattle.line_members.specs.Agents.{agent_of_turn}

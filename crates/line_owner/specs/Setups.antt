@@ -1,12 +1,12 @@
 -- How a line is set up: its nodes, and what is put on the calendar before it begins.
-use Rattle.std.specs.Prelude.{ℕ, ◌+◌, ◌-◌, ◌*◌, ◌^◌, min, max, ltb, leb, cond, Bool, List, length}
+use Rattle.std.specs.Prelude.{ℕ, ◌-◌, ◌*◌, ◌^◌, min, max, ltb, leb, cond, Bool, length}
 use Rattle.air_draws.specs.Draws.{below, key_octets}
 use Rattle.plan_tables.specs.declared.tables.Way.{Way}
 use Rattle.plan_tables.specs.declared.tables.Way.TheVariants.{Push, Poll as PollWay}
 use Rattle.line_owner.specs.declared.settings.Settings.{Settings}
 use Rattle.line_members.specs.declared.acts.Act.TheVariants.{Step, Put, Do}
 use Rattle.line_members.specs.declared.acts.Acts.{Acts}
-use Rattle.line_members.specs.declared.acts.Acts.TheVariants.{Nothing, One, Two, Three}
+use Rattle.line_members.specs.declared.acts.Acts.TheVariants.{One, Two, Three}
 use Rattle.line_members.specs.declared.acts.Command.TheVariants.{Coordinator, Meter, Depot, Allow}
 use Rattle.line_members.specs.declared.acts.Task.TheVariants.{Make, Enter, DrawJoins, PutRounds, DrawReads, TryJoin, Read, Refresh, BeginPolls}
 use Rattle.line_members.specs.Members.{more}

@@ -1,5 +1,5 @@
 -- The owner of a line, and what a turn of it leaves and brings.
-use Rattle.std.specs.Prelude.{ℕ, ◌-◌, ◌*◌, ltb, eqb, cond, true, false, List, Option}
+use Rattle.std.specs.Prelude.{ℕ, ◌-◌, ltb, eqb, cond, true, false, List, Option}
 use Rattle.rand_pcg.specs.Lcg.{Lcg}
 use Rattle.air_draws.specs.Draws.{after, after_key, key_octets}
 use Rattle.line_members.specs.declared.asked.Reading.{Reading}
@@ -7,12 +7,11 @@ use Rattle.line_members.specs.declared.member.Member.{Member}
 use Rattle.line_owner.specs.declared.owner.Polls.{Polls}
 use Rattle.line_owner.specs.declared.owner.Change.{Change}
 use Rattle.line_owner.specs.declared.settings.Settings.{Settings}
-use Rattle.line_members.specs.declared.acts.Act.{Act}
-use Rattle.line_members.specs.declared.acts.Act.TheVariants.{Step, Put, Do, Dark}
+use Rattle.line_members.specs.declared.acts.Act.TheVariants.{Step, Put, Dark}
 use Rattle.line_members.specs.declared.acts.Acts.{Acts}
 use Rattle.line_members.specs.declared.acts.Acts.TheVariants.{Nothing, One, Two}
 use Rattle.line_members.specs.declared.acts.Command.TheVariants.{Rand, Restart}
-use Rattle.line_members.specs.declared.acts.Task.TheVariants.{Fail, Restore, TryJoin}
+use Rattle.line_members.specs.declared.acts.Task.TheVariants.{Restore, TryJoin}
 use Rattle.line_members.specs.Members.{member_at, with_member}
 use Rattle.line_members.specs.Asked.{with_reading}
 use Rattle.line_members.specs.Times.{micros, later}

@@ -1,8 +1,7 @@
 -- What the owner does at each task, after each command, and at what it notices.
-use Rattle.std.specs.Prelude.{ℕ, ◌+◌, ◌-◌, cond, true, false, List}
+use Rattle.std.specs.Prelude.{ℕ, true, false, List}
 use Rattle.line_place.specs.declared.link.Link.{Link}
-use Rattle.line_members.specs.declared.member.Member.{Member}
-use Rattle.line_members.specs.declared.acts.Act.TheVariants.{Step, Put, Do, Say}
+use Rattle.line_members.specs.declared.acts.Act.TheVariants.{Do, Say}
 use Rattle.line_members.specs.declared.acts.Acts.{Acts}
 use Rattle.line_members.specs.declared.acts.Acts.TheVariants.{Nothing, One, Two}
 use Rattle.line_members.specs.declared.acts.Command.{Command}

@@ -1,8 +1,8 @@
 //! How the group key of a line is changed.
 ghost use Rattle.std.specs.Prelude.{◌≡◌};
-ghost use Rattle.line_owner.specs.Changes.{begins_change, change_acts, has_drawn, opens_challenges, with_phase, begins_orders, challenges_next_of};
+ghost use Rattle.line_owner.specs.Changes.{begins_change, change_acts, has_drawn, opens_challenges, with_phase, begins_orders};
 ghost use Rattle.line_owner.specs.Changes.{challenges_next};
-ghost use Rattle.line_owner.specs.Changes.{is_open_in, is_open, challenge_again, challenge_acts, challenges, done_acts, ends_challenge, orders_of, orders};
+ghost use Rattle.line_owner.specs.Changes.{is_open_in, is_open, challenge_acts, challenges, done_acts, ends_challenge, orders};
 ghost use Rattle.line_owner.specs.Changes.{ends_change};
 
 use crate::owner::{Change, Owner};

@@ -1,6 +1,6 @@
 //! The owner of a line, between its turns.
 ghost use Rattle.std.specs.Prelude.{◌≡◌, ◌<◌, ◌+◌, IfOk, map, None, [], OnOk};
-ghost use Rattle.air_draws.specs.Draws.{below, after, after_key, key_octets, first};
+ghost use Rattle.air_draws.specs.Draws.{below, after, key_octets, first};
 ghost use Rattle.line_members.specs.Members.{member_at, new_member};
 ghost use Rattle.line_members.specs.Asked.{reading_at};
 ghost use Rattle.line_owner.specs.States.{with_node, with_asked, gives, spends, fails, fails_at_write, off_after_write, restores, timed, keyed};

@@ -1,5 +1,5 @@
 -- What one round gives, and what is known once no node is new.
-use Rattle.std.proofs.Common.{◌≡◌, ◌≢◌, ◌⊎◌, inl, inr, ℕ, zero, suc, ◌+◌, ◌<◌, ◌≤◌, Bool, true, false, cond, List, [], ◌∷◌, ◌++◌, Option, Some, None, length}
+use Rattle.std.proofs.Common.{◌≡◌, ◌≢◌, ◌⊎◌, inl, inr, ℕ, zero, suc, ◌+◌, ◌<◌, ◌≤◌, true, false, cond, List, [], ◌∷◌, ◌++◌, Option, Some, None, length}
 use Rattle.std.proofs.Common.{get_or, set, replicate, refl, sym, ap, subst, ◌∙◌, arith, length-append, add-one, rules, tests}
 use Rattle.std.proofs.lemmas.Bool.{cases_eq, cases_lt}
 use Rattle.std.proofs.lemmas.Bool.Decides.{nat_tests}
@@ -11,7 +11,7 @@ use Rattle.std.specs.Prelude.{slice_get, ◌==◌}
 use Rattle.std.specs.List.{count_by, Contains}
 use Rattle.line_place.specs.declared.link.Link.{Link}
 use Rattle.line_place.specs.Rows.{hearers}
-use Rattle.line_place.specs.Hops.{IsLinkTo, Reaches, HasPath, AreHops, AllHavePaths, is_none, IsReachedBy, IsWider, AreAtMost}
+use Rattle.line_place.specs.Hops.{IsLinkTo, Reaches, HasPath, AreHops, is_none, IsReachedBy, IsWider, AreAtMost}
 
 -- # Lists by place
 
@@ -115,25 +115,6 @@ has_some_hops hops next node round (Some n) here some = has_hops hops next node 
 pub no_hops_yet : (so_far : Option ℕ) → is_none so_far ≡ true → so_far ≡ None
 no_hops_yet None none = refl
 no_hops_yet (Some n) none = cc
-
-pub is_no_node : (hops : List (Option ℕ)) (next : List ℕ) (node round : ℕ) → slice_get hops node ≡ None →
-    IsWider round (λ b. b ≡ node) hops next hops next
-is_no_node hops next node round here =
-    record {
-      size = refl;
-      kept = λ b m e. e;
-      fresh = λ b m e. inl e;
-      all = λ b same within. absurd (not_there b same within);
-      still_listed = λ b c. c;
-      newly_listed = λ b c. inl c;
-      count = refl;
-    }
-  where
-    not_there : (b : ℕ) → b ≡ node → b < length hops → ⊥
-    not_there b same within =
-        let there : slice_get hops b ≡ None = ap (slice_get hops) same ∙ here in
-        let have : slice_get hops b ≡ Some (get_or hops b None) = slice_get-get_or hops b None within in
-        cc
 
 -- # One after the other
 

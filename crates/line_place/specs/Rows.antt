@@ -1,5 +1,5 @@
 -- The links of a place: for each node those that its frames take, in ascending order of the hearer.
-use Rattle.std.specs.Prelude.{ℕ, zero, suc, ◌+◌, ◌-◌, ◌*◌, ◌/◌, min, Option, Some, None, Bool, true, false, eqb, cond, List, [], ◌∷◌, ◌++◌, length, slice_get}
+use Rattle.std.specs.Prelude.{ℕ, zero, suc, ◌+◌, ◌-◌, ◌*◌, ◌/◌, min, Option, Some, None, eqb, cond, List, [], ◌∷◌, ◌++◌, slice_get}
 use Rattle.std.specs.Prelude.{map, filter, find}
 use Rattle.line_place.specs.declared.link.Link.{Link}
 use Rattle.line_place.specs.declared.link.Losses.{Losses}

@@ -1,6 +1,6 @@
 -- The first key that a table may not have.
 use Rattle.std.specs.Prelude.{ℕ, ◌+◌, ◌-◌, ◌^◌, nat_lt, nat_eq, List, [], ◌∷◌, length, Bool}
-use Rattle.std.specs.Prelude.{true, false, ◌||◌, if◌then◌else◌, Option, None, Some, option_map, Result, Ok, Err}
+use Rattle.std.specs.Prelude.{false, ◌||◌, if◌then◌else◌, Option, None, Some, option_map, Result, Ok, Err}
 use Rattle.std.specs.Str.{bytes_eq, chars}
 use Rattle.std.specs.Option.{option_and_then}
 use Rattle.strsim.specs.Edits.{levenshtein_row}
@@ -18,7 +18,7 @@ use Rattle.plan_tables.specs.declared.incidents.WhatKind.{WhatKind}
 use Rattle.plan_tables.specs.declared.incidents.WhatKind.TheVariants as incidents
 use Rattle.line_plan.specs.declared.unknown.Unknown.{Unknown}
 use Rattle.plan_fields.specs.Keys.{key_word, keys_of}
-use Rattle.plan_fields.specs.Faults.{TableAt, get_at}
+use Rattle.plan_fields.specs.Faults.{get_at}
 use Rattle.plan_tables.specs.Places.{kind_at}
 use Rattle.plan_tables.specs.Incidents.{what_at}
 use Rattle.plan_tables.specs.Links.{listed}

@@ -1,5 +1,5 @@
 //! Frames in hexadecimal, one a line, and what each is: a beacon request, a beacon, or a MAC frame.
-ghost use Rattle.std.specs.Prelude.{◌≡◌, ◌≤◌, length, IfOk, string_bytes, List, ℕ};
+ghost use Rattle.std.specs.Prelude.{◌≡◌, length, IfOk, string_bytes, ℕ};
 ghost use Rattle.line_replay.specs.Shown.{frame_line, kind_word, payload_word, plain_text, head_text, fault_text, mac_frame_text, discovery_text};
 ghost use Rattle.line_replay.specs.Shown.{frame_text, shown_text, frames_text};
 ghost use Rattle.line_replay.specs.Shown.{show_turn, show_stops};

@@ -1,14 +1,13 @@
 -- The history of a world goes on by each event that is taken.
-use Rattle.std.proofs.Common.{◌≡◌, ◌+◌, ◌<◌, List, [], ◌∷◌, ◌++◌, Ok, refl, sym, subst, ap, ◌∙◌}
+use Rattle.std.proofs.Common.{◌≡◌, ◌+◌, ◌<◌, List, [], ◌∷◌, ◌++◌, Ok, refl, sym, subst}
 use Rattle.std.specs.Prelude.{All}
 use Rattle.std.proofs.lemmas.List.Elements.{All-nil, All-cons, All-head, All-tail}
-use Rattle.line_events.specs.declared.event.Event.{Event}
 use Rattle.line_events.specs.declared.event.TheConstants.{MAX_EVENTS}
 use Rattle.line_events.specs.Events.{IsEvent, AreEvents}
 use Rattle.node_rules.specs.Ciphers.{Ciphers, network}
 use Rattle.line_rules.specs.Worlds.{World, start}
 use Rattle.line_rules.specs.Further.{line_step}
-use Rattle.line_rules.specs.Runs.{Entry, IsRun, IsLineRun, IsHistory, last_world, events_of, TheStartIsReached, HistoriesGoOn}
+use Rattle.line_rules.specs.Runs.{Entry, IsRun, last_world, events_of, TheStartIsReached, HistoriesGoOn}
 
 pub start_reached : TheStartIsReached
 start_reached = record { run = record { events = All-nil IsEvent; run = tt }; ends = refl }

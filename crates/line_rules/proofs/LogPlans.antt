@@ -1,16 +1,15 @@
 -- What each plan writes of the log.
-use Rattle.std.proofs.Common.{inl, inr, ◌≡◌, ◌≢◌, ℕ, ◌+◌, ◌≤◌, ◌<◌, Bool, true, false, List, [], ◌∷◌, ◌++◌, length, Option, Some, None, Result, Ok, Err, refl}
-use Rattle.std.proofs.Common.{sym, ap, ◌∙◌, subst, arith}
-use Rattle.std.specs.Prelude.{if◌then◌else◌, ◌==◌, ◌||◌, nat_lt, nat_le, All, AllPairs, ◌^◌, set}
+use Rattle.std.proofs.Common.{inl, ◌≡◌, ◌≢◌, ℕ, ◌+◌, ◌≤◌, ◌<◌, Bool, true, false, List, [], ◌∷◌, ◌++◌, length, Option, Some, None, Result, Ok, Err, refl}
+use Rattle.std.proofs.Common.{ap, subst, arith}
+use Rattle.std.specs.Prelude.{if◌then◌else◌, ◌==◌, nat_lt, nat_le, All, AllPairs, ◌^◌, set}
 use Rattle.std.specs.Option.{option_map, option_map_or}
 use Rattle.std.specs.FinMap.{get-empty}
 use Rattle.std.specs.Ordering.{nat_cmp}
 use Rattle.std.proofs.lemmas.Bool.{eqb-false}
 use Rattle.std.proofs.lemmas.List.{length-append, length-set}
-use Rattle.std.proofs.lemmas.List.Elements.{All-nil, All-cons, All-append}
+use Rattle.std.proofs.lemmas.List.Elements.{All-nil, All-cons}
 use Rattle.std.proofs.lemmas.Option.{same_Some}
 use Rattle.plc_base.specs.Fields.{AreOctets}
-use Rattle.plc_base.specs.Keeper.{Write}
 use Rattle.store_tables.specs.Writes.{Written, write, puts_of}
 use Rattle.plc_base.specs.declared.key.Rand.{Rand}
 use Rattle.plc_base.specs.declared.address.Eui.{Eui}
@@ -25,15 +24,13 @@ use Rattle.broadcast_log.specs.declared.broadcast.Broadcast.{Broadcast}
 use Rattle.broadcast_log.specs.declared.fault.LogFault.{LogFault}
 use Rattle.broadcast_log.specs.declared.fault.LogFault.TheVariants as log_faults
 use Rattle.broadcast_log.specs.Grammar.{Spells, spelling}
-use Rattle.broadcast_log.specs.Laws.{IsLogIn}
-use Rattle.broadcast_log.specs.Log.{Log, admitted_log, numbered_log}
-use Rattle.broadcast_log.specs.NextNumber.{is_spent, limit_in, number_put}
+use Rattle.broadcast_log.specs.Log.{admitted_log}
+use Rattle.broadcast_log.specs.NextNumber.{is_spent, limit_in}
 use Rattle.store_tables.specs.SlotTables.{slot_of}
 use Rattle.broadcast_log.specs.OriginMarks.{keep_write, marks as log_marks, room_for}
 use Rattle.broadcast_log.specs.Reading.{broadcast_in}
 use Rattle.broadcast_log.proofs.Leading.{admission_leads, number_leads}
 use Rattle.broadcast_log.proofs.Spellings.{broadcast_spelled}
-use Rattle.store_tables.specs.LeadingPuts.{PutsLead, Reads}
 use Rattle.path_requests.specs.declared.message.PathMessage.{PathMessage}
 use Rattle.path_requests.specs.declared.step.PathStep.{PathStep}
 use Rattle.path_requests.specs.declared.step.PathStep.TheVariants.{Forward, Answer, Done}
@@ -41,41 +38,37 @@ use Rattle.path_requests.specs.declared.step.PathRefusal.{PathRefusal}
 use Rattle.path_requests.specs.Reading.{path_in}
 use Rattle.path_requests.specs.Taking.{taken}
 use Rattle.neighbour_checks.specs.Acks.{ack_in}
-use Rattle.neighbour_checks.specs.Neighbours.{is_awaited, acked_after}
 use Rattle.node_rules.specs.declared.heard.Reply.{Reply}
 use Rattle.node_rules.specs.Accepting.{Accepting, accept, marking}
 use Rattle.node_rules.specs.Ciphers.{network}
-use Rattle.node_rules.specs.declared.heard.Accepted.{Accepted}
-use Rattle.node_rules.specs.declared.refusal.FrameRefusal.{FrameRefusal}
 use Rattle.node_rules.specs.declared.refusal.Dropped.TheVariants as drops_by
 use Rattle.node_rules.specs.Neighbours.{local_draft, local_ends}
 use Rattle.neighbour_checks.specs.Acks.{ack_spelling}
-use Rattle.node_rules.specs.Drafts.{Draft, Ends, alone, goes, UnsealedUnit, counters_left, empty_draft, refused, sealed, sealing, checked, choose}
+use Rattle.node_rules.specs.Drafts.{Draft, Ends, alone, goes, counters_left, empty_draft, refused, sealed, sealing, checked, choose}
 use Rattle.node_rules.specs.Frames.{Arrived, to_all}
 use Rattle.node_rules.specs.LogSlots.{IsBesideLog, LeavesLog}
 use Rattle.node_rules.specs.Memory.{StationMemory, Memory, Node, Role, address_of, station_route}
 use Rattle.node_rules.specs.MemoryDrafts.{give_random, in_memory}
 use Rattle.node_rules.specs.Meters as meters
-use Rattle.node_rules.specs.NodeSteps.{NodeStep, acts, stays, left_by}
+use Rattle.node_rules.specs.NodeSteps.{acts, stays, left_by}
 use Rattle.node_rules.specs.Plans.{Plan, carry_out, finished, halted as cut_off, resting}
 use Rattle.node_rules.specs.Tables.{HasShortTables}
-use Rattle.node_rules.proofs.LogPuts.{stations_leave_log, meters_leave_log}
+use Rattle.node_rules.proofs.LogPuts.{meters_leave_log}
 use Rattle.reach_rules.specs.declared.heard.CommandHeard.{CommandHeard}
 use Rattle.reach_rules.specs.declared.refusal.ReachDropped.{ReachDropped}
 use Rattle.reach_rules.specs.declared.refusal.ReachDropped.TheVariants as reach_drops
 use Rattle.reach_rules.specs.declared.refusal.BroadcastRefusal.{BroadcastRefusal}
 use Rattle.reach_rules.specs.declared.refusal.BroadcastRefusal.TheVariants as broadcast_faults
 use Rattle.reach_rules.specs.declared.refusal.AskRefusal.TheVariants as asks_of
-use Rattle.reach_rules.specs.ReachingNodes.{Beside, Reaching, in_reach, nothing_beside, reach_ends, drop_it, remembers, adds_local, with_checks}
-use Rattle.reach_rules.specs.CheckedReplies.{acknowledges, hear_acknowledgement, hear_acknowledgement_in}
+use Rattle.reach_rules.specs.ReachingNodes.{Beside, Reaching, in_reach, nothing_beside, reach_ends, drop_it, adds_local}
+use Rattle.reach_rules.specs.CheckedReplies.{acknowledges, hear_acknowledgement_in}
 use Rattle.reach_rules.specs.Broadcasts.{broadcast, broadcast_from, broadcast_ends, broadcast_fault, datagram_fault, own_broadcast, with_broadcast_number}
-use Rattle.reach_rules.specs.Broadcasts.{with_broadcast_mark, hop_less, goes_further, admits_broadcast, hear_broadcast, hear_broadcast_in, mark_fault}
-use Rattle.reach_rules.specs.PathAsking.{ask_path, asks_from, asks_by, ask_ends, follows_path, hear_path, hear_path_in, next_toward, send_path}
+use Rattle.reach_rules.specs.Broadcasts.{with_broadcast_mark, hop_less, goes_further, admits_broadcast, hear_broadcast_in, mark_fault}
+use Rattle.reach_rules.specs.PathAsking.{ask_path, asks_from, asks_by, ask_ends, follows_path, hear_path_in, next_toward}
 use Rattle.reach_rules.specs.Receiving.{NeighbourCommand, hear_command, hear_command_at}
 use Rattle.reach_rules.specs.Beacons.{choose_agent, choosing_ends, joins_by}
 use Rattle.pan_discovery.specs.Agents.{kth_of}
 use Rattle.line_rules.specs.Steps.{blank_node}
-use Rattle.line_rules.specs.Logs.{LogIn}
 use Rattle.line_rules.proofs.LogSteps.{NodeIn, Leads, others_lead, then_others}
 use Rattle.node_rules.proofs.CallShapes.{IsAdmitted, AcceptShape, Stays, Marks, accept_shape}
 

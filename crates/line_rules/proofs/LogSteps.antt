@@ -1,30 +1,29 @@
 -- Each kind of event keeps the logs: what nodes without further reach write leaves them, and what further rules write leads from one log to
 -- another.
-use Rattle.std.proofs.Common.{inl, inr, ◌≡◌, ◌≢◌, ℕ, zero, suc, Bool, true, false, List, [], ◌∷◌, ◌++◌, length, Option, Some, None, Result, Ok, Err, refl, sym}
+use Rattle.std.proofs.Common.{inl, inr, ◌≡◌, ℕ, zero, suc, Bool, true, false, List, [], ◌∷◌, ◌++◌, Option, Some, None, Result, Ok, Err, refl, sym}
 use Rattle.std.proofs.Common.{ap, ◌∙◌, subst, arith}
 use Rattle.std.specs.Prelude.{if◌then◌else◌, slice_get, slice_set, is_some, map, unwrap_or, All}
-use Rattle.std.specs.Option.{option_map, option_map_or}
-use Rattle.std.specs.FinMap.{get, insert}
+use Rattle.std.specs.Option.{option_map_or}
+use Rattle.std.specs.FinMap.{insert}
 use Rattle.std.proofs.lemmas.Option.{same_Some}
 use Rattle.plc_base.specs.declared.keeper.BadStore.{BadStore}
-use Rattle.plc_base.specs.declared.keeper.Cut.{Cut}
 use Rattle.plc_base.specs.Keeper.{Records, Write}
-use Rattle.store_tables.specs.Writes.{Written, write, puts_of}
+use Rattle.store_tables.specs.Writes.{Written, write}
 use Rattle.store_tables.specs.SlotTables.{slot_of}
-use Rattle.store_tables.specs.LeadingPuts.{Reads, PutsLead, Prefixes, Left}
+use Rattle.store_tables.specs.LeadingPuts.{Reads, PutsLead, Left}
 use Rattle.store_tables.proofs.LeadingPuts.{leads_append, leads_beside, left_by}
 use Rattle.broadcast_log.specs.Log.{Log, opened}
-use Rattle.broadcast_log.specs.NextNumber.{limit_in, limit_slot}
+use Rattle.broadcast_log.specs.NextNumber.{limit_in}
 use Rattle.broadcast_log.specs.OriginMarks.{marks}
 use Rattle.broadcast_log.specs.Laws.{IsLogIn}
 use Rattle.broadcast_log.proofs.Reopening.{opened_in}
 use Rattle.node_rules.specs.Memory.{Memory, Node}
-use Rattle.node_rules.specs.LogSlots.{SameLog, IsLogSlot, IsBesideLog, LeavesLog}
+use Rattle.node_rules.specs.LogSlots.{SameLog, IsBesideLog, LeavesLog}
 use Rattle.node_rules.specs.NodeSteps.{NodeStep, acts, stays, left_by as node_left}
 use Rattle.node_rules.specs.Plans.{Plan, Outcome, carry_out, outcome_of, finished, halted as cut_off}
 use Rattle.node_rules.proofs.LogPuts.{carrying_out_leaves_log, same_put}
-use Rattle.reach_rules.specs.ReachingNodes.{Beside, Reaching, nothing_beside, tick_beside, restarted, restarted_by}
-use Rattle.line_rules.specs.Further.{beside_at, beside_after, reaches, with_beside, without_log}
+use Rattle.reach_rules.specs.ReachingNodes.{Beside, Reaching, nothing_beside, restarted, restarted_by}
+use Rattle.line_rules.specs.Further.{beside_after, reaches, with_beside, without_log}
 use Rattle.line_rules.specs.Logs.{LogIn, AreLogged}
 
 -- # Lists of logs

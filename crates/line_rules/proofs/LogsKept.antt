@@ -1,10 +1,9 @@
 -- The walk over the kinds of events.
-use Rattle.std.proofs.Common.{◌≡◌, ◌≢◌, ℕ, ◌+◌, ◌≤◌, Bool, true, false, not, List, [], ◌∷◌, ◌++◌, length, Option, Some, None, Result, Ok, Err, refl, sym, ap}
-use Rattle.std.proofs.Common.{◌∙◌, subst, arith}
+use Rattle.std.proofs.Common.{◌≡◌, ℕ, ◌+◌, Bool, true, false, not, List, [], length, Option, Some, None, Result, Ok, Err, refl, sym}
+use Rattle.std.proofs.Common.{subst, arith}
 use Rattle.std.specs.Prelude.{if◌then◌else◌, ◌==◌, ◌||◌, nat_lt, slice_get, slice_set, is_some, map, unwrap_or, All}
 use Rattle.std.specs.List.{list_any}
-use Rattle.std.specs.Option.{option_map, option_map_or}
-use Rattle.std.proofs.lemmas.Bool.{ltb-false}
+use Rattle.std.specs.Option.{option_map_or}
 use Rattle.std.proofs.lemmas.List.Elements.{All-nil}
 use Rattle.std.proofs.lemmas.Option.{same_Some}
 use Rattle.plc_base.specs.declared.address.Eui.{Eui}
@@ -16,7 +15,6 @@ use Rattle.line_events.specs.declared.event.Event.{Event}
 use Rattle.line_events.specs.declared.event.Event.TheVariants as events
 use Rattle.line_events.specs.declared.event.Answer.{Answer}
 use Rattle.line_events.specs.declared.event.Answer.TheVariants as answers
-use Rattle.line_events.specs.declared.event.StepFault.{StepFault}
 use Rattle.line_events.specs.declared.event.StepFault.TheVariants as faults
 use Rattle.node_rules.specs.declared.heard.Accepted.{Accepted}
 use Rattle.node_rules.specs.declared.heard.Reply.{Reply}
@@ -25,7 +23,6 @@ use Rattle.node_rules.specs.declared.refusal.CoordinatorRefusal.TheVariants as o
 use Rattle.node_rules.specs.declared.refusal.Dropped.TheVariants as drops
 use Rattle.node_rules.specs.declared.refusal.FrameRefusal.{FrameRefusal}
 use Rattle.node_rules.specs.declared.refusal.FrameRefusal.TheVariants as frames
-use Rattle.node_rules.specs.declared.refusal.LocalRefusal.{LocalRefusal}
 use Rattle.node_rules.specs.Ciphers.{Ciphers}
 use Rattle.node_rules.specs.LogSlots.{IsBesideLog, LeavesLog}
 use Rattle.node_rules.specs.Memory.{StationMemory, Memory, Node, Role, Coordinator, Meter, node_address}
@@ -40,7 +37,7 @@ use Rattle.node_rules.specs.Frames.{arrived}
 use Rattle.plc_base.specs.Fields.{AreOctets}
 use Rattle.node_rules.specs.declared.refusal.LocalRefusal.TheVariants as locals
 use Rattle.reach_rules.specs.CheckedReplies.{acknowledges, checks_after, message_of}
-use Rattle.node_rules.specs.StoreReading.{blank_station, first_grant, memory_of, remembering}
+use Rattle.node_rules.specs.StoreReading.{blank_station, first_grant, remembering}
 use Rattle.node_rules.specs.Tables.{HasShortTables}
 use Rattle.node_rules.proofs.LogPuts.{stations_leave_log, meters_leave_log, coordinators_leave_log}
 use Rattle.reach_rules.specs.declared.refusal.ReachDropped.TheVariants as reach_drops
@@ -54,18 +51,17 @@ use Rattle.reach_rules.specs.PathAsking.{ask_path}
 use Rattle.reach_rules.specs.Receiving.{NeighbourCommand, command_of, hear_command}
 use Rattle.node_rules.specs.MemoryDrafts.{in_memory}
 use Rattle.line_rules.specs.Answers.{Reception, only, coordinator_reception, meter_reception}
-use Rattle.line_rules.specs.Forgery.{Comes, OfFlight, OfScript, accepting}
+use Rattle.line_rules.specs.Forgery.{OfFlight, OfScript, accepting}
 use Rattle.line_rules.specs.Worlds.{World, Flight, Trace, node_at, flight_at, is_forged_tag}
 use Rattle.line_rules.specs.Steps.{Step, set_up, running_world, world_after, node_outcome, has_begun, takes_setup, once_begun, in_setup, on_node, on_meter}
-use Rattle.line_rules.specs.Steps.{made_node}
 use Rattle.line_rules.specs.Steps.{blank_node}
-use Rattle.line_rules.specs.Steps.{coordinator_node, is_known, coordinator, meter, depot, depot_by, provisioned, psk_of, near, near_by, keeps_rank, ranks_full}
+use Rattle.line_rules.specs.Steps.{is_known, coordinator, meter, depot, depot_by, provisioned, psk_of, near, near_by, keeps_rank, ranks_full}
 use Rattle.line_rules.specs.Steps.{offered_near, preset, allow, allowed, rand, join, joins_by, leave, send, sends_by, sent_if, breaks, breaks_by, received}
-use Rattle.line_rules.specs.Steps.{on_flight, lose, tick, ticked, restart, cut, show, rekey, challenge, activate, activate_at, kick, step, hearing_step}
+use Rattle.line_rules.specs.Steps.{on_flight, lose, tick, ticked, cut, show, rekey, challenge, activate, activate_at, kick, hearing_step}
 use Rattle.line_rules.specs.Steps.{hearing_outcome}
 use Rattle.line_rules.specs.Steps.{identity, note_by, forged_by, restarts, trace_of, happenings}
-use Rattle.line_rules.specs.Further.{line_step, checks, bcast, broadcasts_by, path, asks_by, scan, scans_by, choose, chooses_by, discovers_by, commanded}
-use Rattle.line_rules.specs.Further.{checked, acknowledged_if, acknowledged, acknowledging, hearing_outcome_by, further_hearing_outcome, is_dropped}
+use Rattle.line_rules.specs.Further.{line_step, checks, bcast, path, asks_by, scan, scans_by, choose, chooses_by, discovers_by, commanded}
+use Rattle.line_rules.specs.Further.{checked, acknowledged_if, acknowledging, hearing_outcome_by, further_hearing_outcome, is_dropped}
 use Rattle.line_rules.specs.Further.{accepted_further, comes}
 use Rattle.line_rules.specs.Further.{delivers, injects, ticks, after_ok, due, with_check, restarts_by, restarts_further, beside_at, set_beside, reaches}
 use Rattle.line_rules.specs.Logs.{LogIn, AreLogged, LogsKept, HaveShortTables, CommandsAreOctets, LineStepsKeepLogs, LogsKeptAtFirst}

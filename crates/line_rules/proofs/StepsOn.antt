@@ -35,13 +35,13 @@ use Rattle.line_rules.specs.Steps.{provisioned, ticked, Step, set_up, running_wo
 use Rattle.line_rules.specs.Steps.{on_node, on_meter}
 use Rattle.line_rules.specs.Steps.{made_node, is_known, coordinator, meter, depot, depot_by, psk_of, near, near_by, preset, allow, allowed, rand, join}
 use Rattle.line_rules.specs.Steps.{joins_by, leave, send, sends_by, sent_if, breaks, breaks_by, deliver, inject, arrives, accepted_by, received, on_flight}
-use Rattle.line_rules.specs.Steps.{lose, tick, restart, cut, show, rekey, challenge, activate, activate_at, kick, step, node_trace, hearing_step}
-use Rattle.line_rules.specs.Steps.{hearing_outcome, forged_by}
-use Rattle.line_rules.specs.Steps.{note_by, restarts}
-use Rattle.line_rules.specs.Further.{line_step, checks, bcast, broadcasts_by, path, asks_by, scan, scans_by, has_discovered, choose, chooses_by, discovers_by}
-use Rattle.line_rules.specs.Further.{commanded, checked, acknowledged_if, acknowledged, acknowledging, hearing_outcome_by, further_hearing_outcome, is_dropped}
+use Rattle.line_rules.specs.Steps.{lose, tick, restart, cut, show, rekey, challenge, activate, activate_at, kick, step, hearing_step}
+use Rattle.line_rules.specs.Steps.{hearing_outcome}
+use Rattle.line_rules.specs.Steps.{note_by}
+use Rattle.line_rules.specs.Further.{line_step, checks, bcast, path, asks_by, scan, scans_by, choose, chooses_by, discovers_by}
+use Rattle.line_rules.specs.Further.{checked, acknowledged_if, acknowledged, hearing_outcome_by, further_hearing_outcome, is_dropped}
 use Rattle.line_rules.specs.Further.{accepted_further}
-use Rattle.line_rules.specs.Further.{comes, delivers, injects, ticks, after_ok, restarts_by, restarts_further, beside_at, set_beside}
+use Rattle.line_rules.specs.Further.{comes, delivers, injects, ticks, after_ok, restarts_by, restarts_further}
 use Rattle.node_rules.specs.NodeSteps.{NodeStep, acts}
 use Rattle.line_rules.specs.Laws.{SameFlight, KeepsFlights, GoesOn, StepsGoOn, LineStepsGoOn}
 

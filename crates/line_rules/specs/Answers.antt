@@ -41,8 +41,6 @@ use Rattle.reach_rules.specs.declared.refusal.AskRefusal.{AskRefusal}
 use Rattle.reach_rules.specs.declared.refusal.AskRefusal.TheVariants as asks
 use Rattle.reach_rules.specs.declared.refusal.ScanRefusal.{ScanRefusal}
 use Rattle.reach_rules.specs.declared.refusal.ScanRefusal.TheVariants as scans
-use Rattle.reach_rules.specs.declared.refusal.ChooseRefusal.{ChooseRefusal}
-use Rattle.reach_rules.specs.declared.refusal.ChooseRefusal.TheVariants as choices
 
 -- # Refusals
 

@@ -1,8 +1,7 @@
 -- What an event does where nodes have further reach: checks of neighbours, broadcasts, beacons and path requests. It is what a line without
 -- these does (`Steps`), and what a node's further rules add to it (`reach_rules`).
-use Rattle.std.specs.Prelude.{ℕ, ◌+◌, Bool, true, false, ◌==◌, ◌&&◌, ◌||◌, List, [], ◌∷◌, ◌++◌, length, map, is_some, unwrap_or, slice_get, slice_set, Option}
+use Rattle.std.specs.Prelude.{ℕ, ◌+◌, Bool, true, false, ◌&&◌, List, [], ◌∷◌, ◌++◌, length, map, is_some, unwrap_or, slice_get, slice_set, Option}
 use Rattle.std.specs.Prelude.{Some, None, Result, Ok, Err, if◌then◌else◌}
-use Rattle.std.specs.List.{list_any}
 use Rattle.std.specs.Option.{option_map, option_map_or}
 use Rattle.plc_base.specs.declared.key.Key.{Key}
 use Rattle.plc_base.specs.declared.keeper.BadStore.{BadStore}
@@ -27,7 +26,7 @@ use Rattle.node_rules.specs.declared.refusal.LocalRefusal.{LocalRefusal}
 use Rattle.node_rules.specs.declared.refusal.LocalRefusal.TheVariants as locals
 use Rattle.node_rules.specs.Ciphers.{Ciphers}
 use Rattle.node_rules.specs.Frames.{arrived}
-use Rattle.node_rules.specs.Memory.{StationMemory, Memory, Node, node_address, node_route}
+use Rattle.node_rules.specs.Memory.{Memory, Node, node_address, node_route}
 use Rattle.node_rules.specs.MemoryDrafts.{in_memory}
 use Rattle.node_rules.specs.NodeSteps.{NodeStep, acts, stays, of_station, answering}
 use Rattle.node_rules.specs.Plans.{Plan, within}
@@ -56,7 +55,6 @@ use Rattle.line_events.specs.declared.event.Event.{Event}
 use Rattle.line_events.specs.declared.event.Event.TheVariants as events
 use Rattle.line_events.specs.declared.event.Answer.{Answer}
 use Rattle.line_events.specs.declared.event.Answer.TheVariants as answers
-use Rattle.line_events.specs.declared.event.StepFault.{StepFault}
 use Rattle.line_events.specs.declared.event.StepFault.TheVariants as faults
 use Rattle.line_events.specs.declared.happenings.AgentLine.{AgentLine}
 use Rattle.line_events.specs.declared.happenings.BroadcastUp.{BroadcastUp}
@@ -65,9 +63,8 @@ use Rattle.line_rules.specs.Answers.{Reception, only, frame_word, command_word, 
 use Rattle.line_rules.specs.Steps.{Step, set_up, running_world, world_after, node_trace, happenings, trace_of, once_begun, in_setup, on_node, on_meter}
 use Rattle.line_rules.specs.Steps.{on_flight, node_outcome}
 use Rattle.line_rules.specs.Steps.{psk_of}
-use Rattle.line_rules.specs.Steps.{identity, hearing_step, hearing_outcome, received, forged_by, note_by, restarts, restart, tick, step}
-use Rattle.line_rules.specs.Worlds.{World, Flight, Trace, Broadcasting, Stepping, Noticed, Replied, Acknowledged, Scans, Heard, Further, nothing_further}
-use Rattle.line_rules.specs.Worlds.{node_at}
+use Rattle.line_rules.specs.Steps.{identity, hearing_step, hearing_outcome, received, forged_by, note_by, restarts, tick, step}
+use Rattle.line_rules.specs.Worlds.{World, Flight, Trace, Broadcasting, Stepping, Noticed, Replied, Acknowledged, Scans, Heard, nothing_further}
 
 -- # What stands beside the memory
 

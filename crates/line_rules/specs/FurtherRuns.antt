@@ -1,7 +1,6 @@
 -- What further reach promises of runs: broadcasts are handed up once and as they were sent, reported paths were walked, and checks and
 -- scans are what their histories say.
 use Rattle.std.specs.Prelude.{◌≡◌, ◌≢◌, ℕ, ◌==◌, Bool, true, false, List, [], ◌∷◌, ◌++◌, All, Option, Some, None, IfSome, Ok, slice_get, if◌then◌else◌}
-use Rattle.std.specs.Option.{option_map_or}
 use Rattle.broadcast_log.specs.Log.{Log, log_at_rest, opened}
 use Rattle.neighbour_checks.specs.History as checking
 use Rattle.pan_discovery.specs.History as scanning

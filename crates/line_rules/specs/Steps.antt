@@ -8,7 +8,6 @@ use Rattle.plc_base.specs.declared.address.Eui.{Eui}
 use Rattle.plc_base.specs.declared.key.Key.{Key}
 use Rattle.plc_base.specs.declared.key.Rand.{Rand}
 use Rattle.plc_base.specs.declared.keeper.BadStore.{BadStore}
-use Rattle.plc_base.specs.declared.out_frame.OutFrame.{OutFrame}
 use Rattle.plc_base.specs.Grant.{Granted}
 use Rattle.routing_set.specs.RoutingSet as routing
 use Rattle.line_events.specs.declared.event.Event.{Event}

@@ -2,7 +2,7 @@
 //!
 //! Two look-ups make the digits of the high and of the low four bits of 16 octets, and a shuffle puts them in turn. The digits go straight into the text:
 //! no text of their own is allocated, zeroed and copied.
-ghost use Rattle.std.specs.Prelude.{◌≡◌, ◌++◌, ◌/◌, ◌<◌, ℕ, OnOk, bit_and, length, map, string_bytes};
+ghost use Rattle.std.specs.Prelude.{◌≡◌, ◌++◌, ◌/◌, ◌<◌, OnOk, bit_and, length, map, string_bytes};
 ghost use Rattle.hex.specs.Hex.{encode_lower};
 ghost use Rattle.line_script.specs.Digits.{all_digits, entry, high_digit, low_digit};
 ghost use lib.Lanes.{Each1};

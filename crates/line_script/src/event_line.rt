@@ -1,5 +1,5 @@
 //! The line of an event: what [`crate::read_line`] reads as that event.
-ghost use Rattle.std.specs.Prelude.{◌≡◌, ◌++◌, OnOk, codes, decimal, string_bytes, Bool};
+ghost use Rattle.std.specs.Prelude.{◌≡◌, ◌++◌, OnOk, codes, decimal, string_bytes};
 ghost use Rattle.hex.specs.Hex.{encode_lower};
 ghost use Rattle.line_script.specs.Kinds.{kind_word};
 ghost use Rattle.line_script.specs.Lines.{kept_word, line_of, spaced};

@@ -1,7 +1,6 @@
 //! The words of a line, and what each stands for.
-ghost use Rattle.std.specs.Prelude.{◌≡◌, ◌==◌, ◌<◌, ◌≤◌, ◌/◌, ℕ, length, position, IfSome};
+ghost use Rattle.std.specs.Prelude.{◌≡◌, ◌==◌, ◌<◌, ◌≤◌, ◌/◌, length, position, IfSome};
 ghost use Rattle.std.specs.Option.{option_map};
-ghost use Rattle.std.specs.Result.{result_ok};
 ghost use Rattle.line_script.specs.Words.{Field, field, digit_more, number_from, number, number_within, cost, eui, sixteen_octets, hex_octets};
 ghost use Rattle.line_script.specs.Words.{keeps_new};
 

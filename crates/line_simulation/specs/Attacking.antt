@@ -6,12 +6,10 @@ use Rattle.line_events.specs.declared.event.Answer.{Answer}
 use Rattle.line_events.specs.declared.event.Answer.TheVariants as answers
 use Rattle.line_events.specs.declared.event.Event.TheVariants as events
 use Rattle.line_members.specs.declared.acts.Notice.TheVariants as notices
-use Rattle.line_place.specs.declared.link.Link.{Link}
 use Rattle.plc_base.specs.declared.address.Eui.{Eui}
 use Rattle.line_simulation.specs.declared.facts.Facts.{Facts}
 use Rattle.line_simulation.specs.declared.remarks.Remark.TheVariants as remarks
 use Rattle.line_simulation.specs.declared.simulation.Kept.{Kept}
-use Rattle.line_simulation.specs.declared.work.Work.{Work}
 use Rattle.line_simulation.specs.declared.work.Work.TheVariants as works
 use Rattle.line_simulation.specs.Books.{eui_of}
 use Rattle.line_simulation.specs.Endings.{cost_between, event_cost}

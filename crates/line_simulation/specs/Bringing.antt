@@ -29,7 +29,6 @@ use Rattle.line_simulation.specs.declared.facts.Facts.{Facts}
 use Rattle.line_simulation.specs.declared.facts.Granted.{Granted}
 use Rattle.line_simulation.specs.declared.remarks.Remark.TheVariants as remarks
 use Rattle.line_simulation.specs.declared.simulation.Flown.{Flown}
-use Rattle.line_simulation.specs.declared.work.Work.{Work}
 use Rattle.line_simulation.specs.declared.work.Work.TheVariants as works
 use Rattle.line_simulation.specs.Books.{Addresses, granted, outline_of}
 use Rattle.line_simulation.specs.Recorders.{Recorder}

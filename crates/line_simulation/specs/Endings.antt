@@ -27,7 +27,6 @@ use Rattle.line_simulation.specs.declared.facts.Facts.{Facts}
 use Rattle.line_simulation.specs.declared.remarks.Remark.TheVariants as remarks
 use Rattle.line_simulation.specs.declared.simulation.Flown.{Flown}
 use Rattle.line_simulation.specs.declared.simulation.Kept.{Kept}
-use Rattle.line_simulation.specs.declared.work.Work.{Work}
 use Rattle.line_simulation.specs.declared.work.Work.TheVariants as works
 use Rattle.line_simulation.specs.Bringing.{flown_or, with_air}
 use Rattle.line_simulation.specs.Recorders.{Recorder}

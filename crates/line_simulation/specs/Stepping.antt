@@ -4,7 +4,6 @@ use Rattle.line_events.specs.declared.event.Event.{Event}
 use Rattle.line_events.specs.declared.event.Event.TheVariants as events
 use Rattle.line_simulation.specs.declared.facts.Facts.{Facts}
 use Rattle.line_simulation.specs.declared.remarks.Remark.{Remark}
-use Rattle.line_simulation.specs.declared.work.Work.{Work}
 use Rattle.line_simulation.specs.declared.work.Work.TheVariants as works
 use Rattle.line_simulation.specs.Recorders.{Recorder, Recorded, Taken, Refused, Full, Remarked, Written, Unwritten}
 use Rattle.line_simulation.specs.RemarkTexts.{remark_text}

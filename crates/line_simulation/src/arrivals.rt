@@ -11,8 +11,7 @@ ghost use Rattle.line_simulation.specs.Endings.{with_facts, all_brought, deliver
 ghost use Rattle.line_simulation.specs.Endings.{ended_by, ending_at, has_ended};
 ghost use Rattle.line_simulation.specs.Endings.{route_broken};
 ghost use Rattle.line_simulation.specs.Runs.{Ends, answer_of};
-ghost use Rattle.line_simulation.specs.Simulations.{state_of, with_sky, to_do};
-ghost use Rattle.line_simulation.specs.Stepping.{remarked};
+ghost use Rattle.line_simulation.specs.Simulations.{state_of, with_sky};
 
 use crate::facts::Facts;
 use crate::recording::Recording;

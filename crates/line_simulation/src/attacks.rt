@@ -1,9 +1,7 @@
 //! What attackers do.
-ghost use Rattle.std.specs.Prelude.{◌≡◌, ◌++◌, ◌∷◌, [], filter, IfOk, length, OnOk, Some, None};
-ghost use Rattle.std.specs.Option.{option_copied};
-ghost use Rattle.plc_base.specs.declared.address.Eui.{Eui as EuiOctets};
+ghost use Rattle.std.specs.Prelude.{◌≡◌, IfOk, OnOk, Some, None};
 ghost use Rattle.line_events.specs.declared.event.Event.TheVariants as events;
-ghost use Rattle.line_simulation.specs.Attacking.{flight_injected, drawn_flight, flight_drawn, replayed, is_kept_from, with_release, with_releases, kept_count};
+ghost use Rattle.line_simulation.specs.Attacking.{flight_injected, drawn_flight, flight_drawn, replayed, with_release, with_releases, kept_count};
 ghost use Rattle.line_simulation.specs.Attacking.{kept_from_others};
 ghost use Rattle.line_simulation.specs.Attacking.{without_kept, released, join_octets, is_challenged, challenged_if, if_found, join_forged};
 ghost use Rattle.line_simulation.specs.declared.work.Work.TheVariants as works;

@@ -1,5 +1,5 @@
 //! Who a frame is for.
-ghost use Rattle.std.specs.Prelude.{◌≡◌, ◌+◌, length, min, IfOk, OnOk};
+ghost use Rattle.std.specs.Prelude.{◌≡◌, ◌+◌, min, IfOk, OnOk};
 ghost use Rattle.line_simulation.specs.Books.{first_addresses, eui_of, granted, joined, target_by_address, target_by_eui, kind_of, outlined, outline_by};
 ghost use Rattle.line_simulation.specs.Books.{outline_of};
 

@@ -1,10 +1,10 @@
 //! What the owner does.
-ghost use Rattle.std.specs.Prelude.{◌≡◌, ◌<◌, ◌∷◌, [], IfOk, OnOk, length, replicate};
+ghost use Rattle.std.specs.Prelude.{◌≡◌, ◌<◌, ◌∷◌, [], IfOk, OnOk};
 ghost use Rattle.line_air.specs.Ends.{with_node};
 ghost use Rattle.line_air.specs.Nodes.{without_power};
 ghost use Rattle.line_events.specs.declared.event.Event.TheVariants as events;
 ghost use Rattle.line_members.specs.Messages.{message_octets};
-ghost use Rattle.line_simulation.specs.Acting.{job_put, reading_octets, index_of, event_of, told, air_before, before_command, air_after, book_after};
+ghost use Rattle.line_simulation.specs.Acting.{job_put, reading_octets, index_of, event_of, told, before_command, air_after, book_after};
 ghost use Rattle.line_simulation.specs.Acting.{after_command};
 ghost use Rattle.line_simulation.specs.Acting.{brought_by, command_stepped, commanded, poll_tried, task_put, queue_length, darkened, acted, told_by};
 ghost use Rattle.line_simulation.specs.Books.{eui_of};

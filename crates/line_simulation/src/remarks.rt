@@ -1,5 +1,5 @@
 //! The remarks of a script: what its events cannot say.
-ghost use Rattle.std.specs.Prelude.{◌≡◌, codes, string_bytes, IfOk};
+ghost use Rattle.std.specs.Prelude.{◌≡◌, string_bytes, IfOk};
 ghost use Rattle.line_simulation.specs.RemarkTexts.{loss_word, command_text, saying_text, given_up_word, target_text, reason_text, given_up_text, remark_text};
 ghost use Rattle.line_simulation.specs.RemarkTexts.{title_text};
 ghost use Rattle.line_simulation.specs.Runs.{Ends};

@@ -1,5 +1,5 @@
 //! The stories of a tale, while it is gone through.
-ghost use Rattle.std.specs.Prelude.{◌≡◌, ◌++◌, ◌∷◌, IfOk, OnErr, OnOk, length};
+ghost use Rattle.std.specs.Prelude.{◌≡◌, IfOk, OnOk, length};
 ghost use Rattle.line_tale.specs.Tales.{numbered};
 ghost use Rattle.line_tale.specs.Kinds as story_kinds;
 ghost use Rattle.line_tale.specs.Lists.{changed_at};

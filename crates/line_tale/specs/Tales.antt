@@ -1,5 +1,5 @@
 -- The record of a run: each event with the line that asked for it and how it ended, and each flight with whom it is for and what it is about.
-use Rattle.std.specs.Prelude.{ℕ, ◌+◌, ◌-◌, ◌==◌, List, [], ◌∷◌, length, take, drop, slice_get, Option, None, Some, if◌then◌else◌}
+use Rattle.std.specs.Prelude.{ℕ, ◌-◌, ◌==◌, List, take, drop, slice_get, Option, None, Some, if◌then◌else◌}
 use Rattle.frame_words.specs.declared.gist.Gist.{Gist}
 use Rattle.frame_words.specs.declared.gist.Gist.TheVariants as gists
 use Rattle.frame_words.specs.declared.kind.PayloadKind.{PayloadKind}

@@ -1,6 +1,5 @@
 //! The ends of stories: their last flights, and the first with the datagram that did not go on.
-ghost use Rattle.std.specs.Prelude.{◌≡◌, IfOk, OnOk, drop, length, replicate};
-ghost use Rattle.line_tale.specs.Lists.{changed_at};
+ghost use Rattle.std.specs.Prelude.{◌≡◌, IfOk};
 ghost use Rattle.line_tale.specs.Verdicts as spec_verdicts;
 
 use crate::lot::{Fate, Lot};

@@ -59,9 +59,6 @@ pub flights_all : (w : World) (list : List (List ℕ)) (n : ℕ) → n ≡ lengt
 flights_all w list n count is =
     let same = length-map w.flights (λ (f : Flight). f.octets) in is ∙ take_all n (octets_of w) (omega (arith, count, same))
 
-pub strings_all : (strings list : List (List ℕ)) (n : ℕ) → n ≡ length strings → list ≡ take n strings → list ≡ strings
-strings_all strings list n count is = is ∙ take_all n strings (omega (arith, count))
-
 -- # Keys
 
 no_truth : false ≡ true → ⊥

@@ -1,5 +1,5 @@
 -- What the calls of a check leave, and what a whole check says.
-use Rattle.std.specs.Prelude.{◌≡◌, ℕ, ◌∷◌, ◌++◌, [], Bool, List, Option, None, Some, Result, Ok, Err, if◌then◌else◌, nat_lt}
+use Rattle.std.specs.Prelude.{◌≡◌, ℕ, ◌∷◌, ◌++◌, [], Bool, List, Option, None, Some, Result, Ok, Err, if◌then◌else◌}
 use Rattle.line_script.specs.declared.report.Reason.{Reason}
 use Rattle.line_script.specs.declared.report.Reason.TheVariants as reasons
 use Rattle.script_findings.specs.Findings.{Told}
@@ -64,10 +64,6 @@ faults json octets ended = faults_from (checking json) (lines octets ended)
 abbrev pub first_of : List Fault → Option BadLine
 first_of [] = None
 first_of (f ∷ fs) = Some (record { number = f.number; reason = f.reason })
-
--- the first bad line that a check has seen
-abbrev pub first_seen : Checking → Option BadLine
-first_seen c = if nat_lt 0 c.bad then Some (record { number = c.first; reason = c.reason }) else None
 
 -- what is written of faults after so many others
 abbrev pub faults_text : Bool → ℕ → List Fault → List ℕ

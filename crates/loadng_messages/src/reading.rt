@@ -1,10 +1,10 @@
 //! Reads route messages.
-ghost use Rattle.std.specs.Prelude.{◌≡◌, ◌≤◌, ◌<◌, ◌+◌, ◌∷◌, List, [], length, IfOk, MatchResult, Some, None, Ok};
+ghost use Rattle.std.specs.Prelude.{◌≡◌, ◌≤◌, ◌<◌, ◌+◌, ◌∷◌, [], IfOk, MatchResult, Some, None, Ok};
 ghost use Rattle.std.specs.Result.{result_ok};
 ghost use Rattle.byteorder.specs.Endian.{big_bytes};
 ghost use Rattle.plc_base.specs.Fields.{Stands, octet, after};
 ghost use Rattle.plc_base.specs.Faults.{ReadsUnless, cut_off};
-ghost use Rattle.loadng_messages.specs.Grammar.{IsNumber, IsMessage, Spells};
+ghost use Rattle.loadng_messages.specs.Grammar.{IsNumber, Spells};
 ghost use Rattle.loadng_messages.specs.declared.message.Message.{Message};
 ghost use Rattle.loadng_messages.specs.Reading.{message_in};
 ghost use Rattle.loadng_messages.specs.Faults.{number_fault, long, message_fault};

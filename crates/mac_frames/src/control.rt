@@ -1,5 +1,5 @@
 //! The frame control: the first two octets of a header (IEEE 802.15.4-2006, section 7.2.1.1).
-ghost use Rattle.std.specs.Prelude.{◌≡◌, ◌≤◌, ◌<◌, ◌+◌, ◌∷◌, List, [], length, MatchResult, Some, None};
+ghost use Rattle.std.specs.Prelude.{◌≡◌, ◌≤◌, ◌<◌, ◌+◌, ◌∷◌, length};
 ghost use Rattle.plc_base.specs.Fields.{after};
 ghost use Rattle.plc_base.specs.Faults.{ReadsUnless};
 ghost use Rattle.mac_frames.specs.Grammar.{high_control, low_control};

@@ -1,8 +1,8 @@
 //! Reads frames.
-ghost use Rattle.std.specs.Prelude.{◌≡◌, ◌≤◌, ◌<◌, ◌≢◌, ◌^◌, ◌+◌, ◌∷◌, ◌++◌, ℕ, List, [], true, false, length, take, reverse, IfOk, IsOkAnd, MatchResult, Some};
+ghost use Rattle.std.specs.Prelude.{◌≡◌, ◌≤◌, ◌<◌, ◌+◌, ◌∷◌, ◌++◌, ℕ, List, true, false, length, take, IfOk, IsOkAnd, MatchResult, Some};
 ghost use Rattle.std.specs.Prelude.{None, Ok};
 ghost use Rattle.byteorder.specs.Endian.{little_bytes};
-ghost use Rattle.plc_base.specs.Fields.{after, little_two};
+ghost use Rattle.plc_base.specs.Fields.{after};
 ghost use Rattle.plc_base.specs.Addresses.{IsAddress};
 ghost use Rattle.plc_base.specs.Faults.{ReadsUnless};
 ghost use Rattle.mac_frames.specs.Reading.{head_in, body_in};

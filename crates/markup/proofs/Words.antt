@@ -1,12 +1,12 @@
 -- The words of elements and attributes, followed octet by octet.
-use Rattle.std.proofs.Common.{◌≡◌, ℕ, Bool, true, false, List, [], ◌∷◌, ◌++◌, refl}
+use Rattle.std.proofs.Common.{◌≡◌, ℕ, true, false, List, [], ◌∷◌, ◌++◌, refl}
 use Rattle.markup.specs.declared.names.Element.{Element}
 use Rattle.markup.specs.declared.names.Element.TheVariants as E
 use Rattle.markup.specs.declared.names.Attribute.{Attribute}
 use Rattle.markup.specs.declared.names.Attribute.TheVariants as A
 use Rattle.markup.specs.Names.{element_word, attribute_word, is_leaf, is_raw}
 use Rattle.markup.specs.Writing.{tag_start, end_tag}
-use Rattle.markup.specs.Nesting.{Mode, Content, Raw, Opening, Naming, Quoted, Place, at_mode, content, raw, inside, reached, is_leaf_word}
+use Rattle.markup.specs.Nesting.{Content, Raw, Opening, Naming, Quoted, at_mode, content, raw, inside, reached, is_leaf_word}
 
 -- the name of a start tag
 pub word_opens : (element : Element) (os : List (List ℕ)) → reached (content os) (tag_start element) ≡ at_mode (Opening (element_word element)) os

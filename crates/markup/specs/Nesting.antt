@@ -1,6 +1,6 @@
 -- A page, octet by octet: what a reader of HTML is in the middle of, and which elements are open. It is stricter than HTML: every
 -- element is closed, each attribute has a value in double quotes, and a sign that has a meaning stands nowhere else.
-use Rattle.std.specs.Prelude.{◌≡◌, ℕ, ◌==◌, ◌&&◌, ◌||◌, nat_le, nat_lt, Bool, true, false, not, List, [], ◌∷◌, ◌++◌, codes, if◌then◌else◌}
+use Rattle.std.specs.Prelude.{◌≡◌, ℕ, ◌==◌, ◌&&◌, ◌||◌, nat_le, Bool, List, [], ◌∷◌, ◌++◌, codes, if◌then◌else◌}
 use Rattle.std.specs.Str.{bytes_eq}
 
 -- # Where a reader is

@@ -1,6 +1,5 @@
 //! Tags.
-ghost use Rattle.std.specs.Prelude.{◌≡◌, ◌++◌, ◌∷◌, [], OnOk, true, false};
-ghost use Rattle.std.specs.Fmt.{decimal};
+ghost use Rattle.std.specs.Prelude.{◌≡◌, ◌++◌, ◌∷◌, [], OnOk};
 ghost use Rattle.markup.specs.Writing.{attribute_start, attribute_text, end_tag, number_text, tag_start};
 
 use crate::escape::{push_number, push_text};

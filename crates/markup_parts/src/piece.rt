@@ -1,5 +1,5 @@
 //! Pieces of markup.
-ghost use Rattle.std.specs.Prelude.{◌≡◌, ◌++◌, OnOk, decimal};
+ghost use Rattle.std.specs.Prelude.{◌≡◌, ◌++◌, OnOk};
 ghost use Rattle.markup_parts.specs.Pieces.{piece_text, pieces_text};
 
 use itoa::Buffer;

@@ -1,6 +1,5 @@
 //! Mesh headers.
-ghost use Rattle.std.specs.Prelude.{ℕ, ◌≡◌, ◌≤◌, ◌<◌, ◌+◌, ◌∷◌, ◌++◌, List, [], length, IfOk, MatchResult, Some, None, Ok};
-ghost use Rattle.byteorder.specs.Endian.{big_bytes};
+ghost use Rattle.std.specs.Prelude.{ℕ, ◌≡◌, ◌≤◌, ◌<◌, ◌+◌, ◌∷◌, ◌++◌, List, length, Ok};
 ghost use Rattle.plc_base.specs.Fields.{octet, after};
 ghost use Rattle.plc_base.specs.Faults.{ReadsUnless};
 ghost use Rattle.mesh_header.specs.Grammar.{IsMesh, header_length, hops_then, mesh_then};

@@ -1,5 +1,5 @@
 //! Reads units.
-ghost use Rattle.std.specs.Prelude.{◌≡◌, ◌≤◌, ◌<◌, ◌∷◌, List, [], length, IfOk, MatchResult, Some, None, Ok};
+ghost use Rattle.std.specs.Prelude.{◌≡◌, ◌≤◌, ◌<◌, ◌∷◌, length, IfOk, MatchResult, Some, None, Ok};
 ghost use Rattle.std.specs.Result.{result_ok};
 ghost use Rattle.plc_base.specs.Fields.{octet, after};
 ghost use Rattle.mesh_header.specs.Grammar.{Spells, spelled_length};

@@ -1,5 +1,5 @@
 //! Writes units.
-ghost use Rattle.std.specs.Prelude.{ℕ, ◌≡◌, ◌≤◌, ◌+◌, ◌++◌, List, [], length};
+ghost use Rattle.std.specs.Prelude.{ℕ, ◌≡◌, ◌≤◌, ◌+◌, ◌++◌, List, length};
 ghost use Rattle.mesh_header.specs.Pieces.{IsPiece};
 ghost use Rattle.mesh_header.specs.Grammar.{IsAllowed, IsUnit, Spells, spelled_length, piece_spelling, spelling};
 ghost use Rattle.plc_base.specs.declared.limits.TheConstants.{LONGEST_FRAME};

@@ -1,8 +1,8 @@
 -- A run of the program: what was answered so far, and how it ends.
-use Rattle.std.proofs.Common.{◌≡◌, ◌≢◌, ◌⊎◌, inl, inr, ℕ, ◌+◌, ◌-◌, ◌^◌, ◌<◌, ◌≤◌, List, [], ◌∷◌, ◌++◌, length, Result, Ok, Err, refl, sym, ap, subst, ◌∙◌}
+use Rattle.std.proofs.Common.{◌≡◌, ◌≢◌, inl, inr, ℕ, ◌+◌, ◌≤◌, List, [], ◌++◌, length, Result, Ok, Err, refl, sym, subst}
 use Rattle.std.proofs.Common.{arith, length-append}
 use Rattle.std.proofs.lemmas.List.{append_assoc, append-nil}
-use Rattle.std.specs.Io.KnownBytes.{Consumes, Keeps}
+use Rattle.std.specs.Io.KnownBytes.{Consumes}
 use Rattle.std.proofs.KnownBytes.{Consumes-nil, Consumes-trans}
 use Rattle.plc_base.specs.declared.streams.Failed.{Failed}
 use Rattle.plc_base.specs.Streams.{SourceState, SinkState, SourceFaults, SourceRose, SinkRose, HasWritten}
@@ -19,7 +19,7 @@ use Rattle.host_calls.proofs.Writing.{all, behind}
 use Rattle.host_calls.proofs.Writing as writing
 use Rattle.meter_host.specs.declared.serving.Outcome.{Outcome}
 use Rattle.meter_host.specs.declared.serving.Outcome.TheVariants.{Ended, Unusable, Usage, Memory, ReadFault, WriteFault}
-use Rattle.meter_host.specs.Serving.{Phase, Loads, Runs, Closed, Turn, Answered, begins, goes_on, HasAnswered, GaveNone, ClosedAs, EndsAs, Serves}
+use Rattle.meter_host.specs.Serving.{Phase, Runs, Closed, Turn, Answered, begins, goes_on, HasAnswered, GaveNone, ClosedAs, EndsAs, Serves}
 use Rattle.meter_host.specs.Calling.{NotOpened, Answers, puts_in}
 use Rattle.meter_host.specs.Serving.{outcome_of, taken_by, Refuses, Opens, Says, IsToOpen, IsTaken, TakesIn}
 use Rattle.host_items.specs.Reading.{HasFailed}

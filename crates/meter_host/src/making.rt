@@ -1,5 +1,5 @@
 //! What each call makes the meter do.
-ghost use Rattle.std.specs.Prelude.{◌≡◌, Some, Ok, IsSome};
+ghost use Rattle.std.specs.Prelude.{◌≡◌, Ok, IsSome};
 ghost use Rattle.std.specs.Option.{option_map};
 ghost use Rattle.node_rules.specs.Calls as calls;
 ghost use Rattle.node_rules.specs.Meters as meters;

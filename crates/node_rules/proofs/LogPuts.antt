@@ -1,25 +1,18 @@
 -- No plan writes a slot of the log of broadcasts.
-use Rattle.std.proofs.Common.{◌≡◌, ◌≢◌, ◌⊎◌, inl, inr, ◌<◌, ◌≤◌, refl, sym, ◌∙◌, ℕ, Bool, true, false, List, [], length, Option, Some, None, Result, Ok, Err}
+use Rattle.std.proofs.Common.{◌≢◌, ◌⊎◌, inl, inr, ◌<◌, ◌≤◌, refl, sym, ◌∙◌, List, [], Some, None}
 use Rattle.std.proofs.Common.{arith}
-use Rattle.std.specs.Prelude.{All, is_some}
+use Rattle.std.specs.Prelude.{All}
 use Rattle.std.proofs.lemmas.List.Elements.{All-nil, All-cons}
-use Rattle.plc_base.specs.declared.key.Rand.{Rand}
-use Rattle.plc_base.specs.Grant.{Granted}
 use Rattle.plc_base.specs.Keeper.{Write}
 use Rattle.frame_counters.specs.SendCounter as counter
-use Rattle.group_keys.specs.declared.fault.RingFault.{RingFault}
-use Rattle.group_keys.specs.declared.fault.RingFault.TheVariants as ring_faults
 use Rattle.group_keys.specs.KeyBook as book
 use Rattle.group_keys.specs.KeyRing as ring
 use Rattle.routing_set.specs.OwnNumber as own_number
-use Rattle.node_rules.specs.Memory.{StationMemory, Memory}
-use Rattle.node_rules.specs.Plans.{Plan, resting, within}
-use Rattle.node_rules.specs.Accepting.{Accepting, marking}
-use Rattle.node_rules.specs.Drafts.{Draft, StationPlace, Ends, alone, empty_draft, with_rank, with_ring, choose}
-use Rattle.node_rules.specs.MemoryDrafts.{in_memory, with_station, with_memory_by, given_ends, give_random}
+use Rattle.node_rules.specs.Memory.{StationMemory}
+use Rattle.node_rules.specs.Plans.{within}
+use Rattle.node_rules.specs.Drafts.{alone, empty_draft}
+use Rattle.node_rules.specs.MemoryDrafts.{in_memory}
 use Rattle.node_rules.specs.Calls as calls
-use Rattle.node_rules.specs.Neighbours.{local_ends, local_draft, send_local}
-use Rattle.node_rules.specs.Coordinators as coordinator_rules
 use Rattle.node_rules.specs.Tables.{HasShortTables}
 use Rattle.node_rules.specs.LogSlots.{IsBesideLog, IsLogSlot, SameLog, StationsLeaveLog, MetersLeaveLog, CoordinatorsLeaveLog, CarryingOutLeavesLog}
 use Rattle.node_rules.proofs.Tables.{Keep, carried_keeps}
@@ -27,11 +20,10 @@ use Rattle.node_rules.proofs.TablePlans.{plan_puts, accept_puts, local_puts, nea
 use Rattle.plc_base.specs.Keeper.{Records}
 use Rattle.store_tables.proofs.StoreLemmas.{get-insert_other}
 use Rattle.std.specs.FinMap.{get, insert}
-use Rattle.node_rules.proofs.Shapes.{Shape, Rests, Keeps, Ended, checked_shape, choose_shape, sealed_shape}
-use Rattle.node_rules.proofs.TablePuts.{Membership, RingOf, PutOf, OfFloors, OfNumber, OfRing, OfMark, OfRank, OfEntry, AnyMembership, Any, AreOf, Puts, Does}
-use Rattle.node_rules.proofs.TablePuts.{begun_puts, ranked_puts, ringed_puts, goes_puts, counter_of, mark_of, both, begins, remembers, quiet_does}
+use Rattle.node_rules.proofs.TablePuts.{Membership, PutOf, OfFloors, OfNumber, OfRing, OfMark, OfRank, OfEntry, AnyMembership, Any, AreOf}
+use Rattle.node_rules.proofs.TablePuts.{begun_puts, begins}
 use Rattle.node_rules.proofs.HearingShapes.{hear_shape}
-use Rattle.node_rules.proofs.CallShapes.{AcceptShape, Stays, Marks, accept_shape, send_shape, send_command_shape}
+use Rattle.node_rules.proofs.CallShapes.{accept_shape, send_shape, send_command_shape}
 use Rattle.node_rules.proofs.MeterShapes.{meter_shape, joins_shape, leaves_shape}
 use Rattle.node_rules.proofs.CoordinatorShapes.{HomeOf, coordinator_shape, allow_shape, depot_shape, rekey_shape, activate_self_shape, challenge_shape}
 use Rattle.node_rules.proofs.CoordinatorShapes.{activate_shape, kick_shape}

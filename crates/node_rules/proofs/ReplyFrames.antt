@@ -16,9 +16,9 @@ use Rattle.node_rules.specs.declared.heard.Heard.{Heard}
 use Rattle.node_rules.specs.declared.refusal.Dropped.TheVariants.{BadUnit}
 use Rattle.node_rules.specs.Memory.{StationMemory, address_of, next_hop}
 use Rattle.node_rules.specs.Plans.{resting}
-use Rattle.node_rules.specs.Drafts.{alone, choose, empty_draft, with_rank, leave, goes, sealed_by}
-use Rattle.node_rules.specs.Hearing.{Hearing, dropped, drop_it, hear_reply, hear_reply_for, hear_message, hear_message_in, hear_command, hear_sealed}
-use Rattle.node_rules.specs.Hearing.{hear_plain, is_joining, hear_unit, hear_unit_in, hear, rank_over}
+use Rattle.node_rules.specs.Drafts.{alone, choose, empty_draft, with_rank, leave, sealed_by}
+use Rattle.node_rules.specs.Hearing.{Hearing, dropped, drop_it, hear_reply, hear_reply_for, hear_message, hear_message_in, hear_sealed}
+use Rattle.node_rules.specs.Hearing.{hear_plain, is_joining, hear_unit_in, hear, rank_over}
 use Rattle.node_rules.specs.Laws.{WaitingFits, RepliesAreFew, AMetersRepliesAreFew, ACoordinatorsRepliesAreFew}
 use Rattle.node_rules.specs.Meters as meters
 use Rattle.node_rules.specs.Coordinators as coordinator_rules

@@ -98,10 +98,6 @@ pub record IsSought (strings : List (List ℕ)) (octets : List ℕ) (from number
   pub chain : 0 < number → slice_get (map chain_of strings) (number - 1) ≡ Some (chain_of octets)
   pub none : (k : ℕ) → number ≤ k → k < from → slice_get strings k ≡ Some octets → ⊥
 
-pub sought_first : (strings : List (List ℕ)) (octets : List ℕ) (from : ℕ) → (0 < from → slice_get (map chain_of strings) (from - 1) ≡ Some (chain_of octets))
-    → IsSought strings octets from from
-sought_first strings octets from chain = record { upto = omega arith; chain = chain; none = λ k low high _. absurd (omega (arith, low, high)) }
-
 -- the number before in the chain
 pub sought_before : (strings : List (List ℕ)) (octets : List ℕ) (from number before : ℕ) → IsSought strings octets from number → 0 < number
     → from ≤ length strings

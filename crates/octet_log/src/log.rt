@@ -1,5 +1,5 @@
 //! The log of octet strings, and the last of those that are the same.
-ghost use Rattle.std.specs.Prelude.{All, ◌≡◌, ◌<◌, ◌≤◌, ◌-◌, ◌++◌, ◌∷◌, [], max, Some, IsTrue, ◌↔◌, IsOk, OnOk, OnErr, length, map, take, slice_get};
+ghost use Rattle.std.specs.Prelude.{◌≡◌, ◌<◌, ◌≤◌, ◌-◌, ◌++◌, ◌∷◌, [], max, Some, IsTrue, ◌↔◌, IsOk, OnOk, OnErr, length, map, take, slice_get};
 ghost use Rattle.std.specs.Option.{ForSome, option_copied};
 ghost use Rattle.octet_log.specs.Keeping.{chain_by, chain_of, ending};
 ghost use Rattle.octet_log.specs.Logs.{IsLast};

@@ -14,9 +14,6 @@ use Rattle.pan_discovery.specs.Agents.{rank, without, firsts, agents_of, is_know
 same_test : (a b : ℕ) → (a == b) ≡ (b == a)
 same_test a b = grind (arith, common_steps)
 
-other_true : (a b : ℕ) → (a == b) ≡ true → a ≡ b
-other_true a b e = eqb-true a b e
-
 without_twice : (n : ℕ) (xs : List Agent) → without n (without n xs) ≡ without n xs
 without_twice n [] = refl
 without_twice n (x ∷ xs) = by_test (without_twice n xs) (x.address == n) refl

@@ -1,5 +1,5 @@
 //! Reads path messages.
-ghost use Rattle.std.specs.Prelude.{◌≡◌, ◌≤◌, ◌<◌, ◌+◌, ◌*◌, ◌++◌, ◌∷◌, ◌↔◌, List, [], length, IfSome, IsSome, Some, true, false, not, ◌&&◌, if◌then◌else◌};
+ghost use Rattle.std.specs.Prelude.{◌≡◌, ◌≤◌, ◌<◌, ◌+◌, ◌*◌, ◌++◌, ◌∷◌, [], length, IfSome, Some, true, false, not, ◌&&◌, if◌then◌else◌};
 ghost use Rattle.plc_base.specs.Addresses.{is_address};
 ghost use Rattle.plc_base.specs.Faults.{ReadsWhen};
 ghost use Rattle.plc_base.specs.Fields.{octet, two};

@@ -1,9 +1,9 @@
 -- How many octets the parts of a block have.
-use Rattle.std.proofs.Common.{◌≡◌, ◌≤◌, ◌<◌, ◌%◌, ℕ, ◌+◌, ◌-◌, List, [], ◌∷◌, ◌++◌, length, take, refl, sym, ap, ◌∙◌, arith, length-append}
+use Rattle.std.proofs.Common.{◌≡◌, ◌%◌, ℕ, ◌+◌, ◌-◌, List, [], ◌∷◌, ◌++◌, length, take, refl, arith, length-append}
 use Rattle.std.proofs.lemmas.List.{length-take}
 use Rattle.byteorder.specs.Endian.{little_bytes}
-use Rattle.pcapng.specs.Blocks.{BlockOption, Block, Section, Interface, Packet, SECTION, INTERFACE, PACKET, padding, padding_length, option_spelling}
-use Rattle.pcapng.specs.Blocks.{options_spelling, ended, block_spelling, section_body, section_head, interface_body, packet_body, packet_front, spelling}
+use Rattle.pcapng.specs.Blocks.{BlockOption, Section, Interface, Packet, SECTION, INTERFACE, PACKET, padding, padding_length, option_spelling}
+use Rattle.pcapng.specs.Blocks.{options_spelling, ended, block_spelling, section_body, interface_body, packet_body, packet_front}
 use Rattle.pcapng.specs.Laws.{CapturesAreAligned}
 
 pub length_of_padding : (n : ℕ) → length (padding n) ≡ padding_length n

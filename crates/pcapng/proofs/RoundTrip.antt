@@ -1,16 +1,16 @@
 -- The blocks that octets spell are read out of them.
-use Rattle.std.proofs.Common.{◌≡◌, ◌≤◌, ◌<◌, ◌^◌, ◌*◌, ◌/◌, ◌%◌, ◌==◌, ℕ, zero, suc, Bool, true, false, ◌+◌, ◌-◌, List, [], ◌∷◌, ◌++◌, length, Option, Some}
-use Rattle.std.proofs.Common.{None, refl, sym, ap, subst, ◌∙◌, arith, append_assoc, length-append, nat_le}
+use Rattle.std.proofs.Common.{◌≡◌, ◌≤◌, ◌<◌, ◌^◌, ◌/◌, ◌%◌, ◌==◌, ℕ, zero, suc, true, false, ◌+◌, ◌-◌, List, [], ◌∷◌, ◌++◌, length, Option, Some}
+use Rattle.std.proofs.Common.{refl, ap, ◌∙◌, arith, append_assoc, length-append, nat_le}
 use Rattle.std.proofs.Math.Nat.{div-add-mod'}
 use Rattle.std.proofs.lemmas.Grind.{common_steps}
 use Rattle.byteorder.specs.Endian.{little_bytes}
-use Rattle.pcapng.specs.Blocks.{BlockOption, Block, Section, Interface, Packet, SECTION, INTERFACE, PACKET, padding, padding_length, option_spelling}
+use Rattle.pcapng.specs.Blocks.{BlockOption, Block, Section, Interface, Packet, PACKET, padding, padding_length, option_spelling}
 use Rattle.pcapng.specs.Blocks.{options_spelling, ended, block_spelling, section_body, interface_body, packet_body, packet_front, kind_of, body_of, spelling}
 use Rattle.pcapng.specs.Blocks.{capture, AreOptions, IsBlock, AreBlocks}
-use Rattle.pcapng.specs.Reading.{number_then, part_then, choose, where_true, and_then, options_end, options_within, options_in, section_in, interface_in}
-use Rattle.pcapng.specs.Reading.{packet_in, body_in, block_then, blocks_within, blocks_in}
+use Rattle.pcapng.specs.Reading.{number_then, choose, and_then, options_within, options_in, section_in, interface_in}
+use Rattle.pcapng.specs.Reading.{packet_in, body_in, block_then, blocks_within}
 use Rattle.pcapng.specs.Laws.{CapturesAreReadBack}
-use Rattle.pcapng.proofs.Lengths.{length_of_padding, length_of_block, length_of_section, length_of_interface, length_of_packet, length_of_ended}
+use Rattle.pcapng.proofs.Lengths.{length_of_padding, length_of_block, length_of_packet, length_of_ended}
 use Rattle.pcapng.proofs.Lengths.{length_of_option}
 use Rattle.pcapng.proofs.Parts.{number_behind, part_behind, where_behind, choose_no, and_behind, leb_true}
 

@@ -1,5 +1,5 @@
 -- The blocks of a capture, and the one spelling of each (draft-ietf-opsawg-pcapng, sections 3 and 4), little-endian.
-use Rattle.std.specs.Prelude.{◌≡◌, ◌<◌, ◌^◌, ◌/◌, ◌%◌, ℕ, ◌+◌, ◌-◌, List, [], ◌∷◌, ◌++◌, length, take, ⊤}
+use Rattle.std.specs.Prelude.{◌<◌, ◌^◌, ◌/◌, ◌%◌, ℕ, ◌+◌, ◌-◌, List, [], ◌∷◌, ◌++◌, length, take, ⊤}
 use Rattle.byteorder.specs.Endian.{little_bytes}
 use Rattle.pcapng.specs.declared.options.Direction.{Direction}
 use Rattle.pcapng.specs.declared.options.Direction.TheVariants.{Inbound, Outbound}

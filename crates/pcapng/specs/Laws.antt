@@ -1,6 +1,6 @@
 -- What is spelled is read back.
-use Rattle.std.specs.Prelude.{◌≡◌, ℕ, ◌%◌, List, length, Some}
-use Rattle.pcapng.specs.Blocks.{Block, IsBlock, AreBlocks, spelling, capture}
+use Rattle.std.specs.Prelude.{◌≡◌, ◌%◌, List, length, Some}
+use Rattle.pcapng.specs.Blocks.{Block, AreBlocks, spelling, capture}
 use Rattle.pcapng.specs.Reading.{blocks_in}
 
 -- the blocks that octets spell are read out of them

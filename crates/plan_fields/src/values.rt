@@ -1,5 +1,5 @@
 //! Values as numbers: times and chances.
-ghost use Rattle.std.specs.Prelude.{◌≡◌, ◌<◌, ◌≤◌, ℕ, length, IfSome, position, ◌==◌};
+ghost use Rattle.std.specs.Prelude.{◌≡◌, ◌<◌, ◌≤◌, length, IfSome, position, ◌==◌};
 ghost use Rattle.toml.specs.View.{view};
 ghost use Rattle.plan_fields.specs.Values.{digit_more, number_from, number_of, clock_time, sixty, unit, timed, seconds_of, longest};
 ghost use Rattle.plan_fields.specs.Values.{hundredths_of, decimals, whole_number, number_up_to, number_from_one_to};

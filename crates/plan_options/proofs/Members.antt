@@ -13,8 +13,7 @@ use Rattle.toml.specs.declared.value.Value.{Value}
 use Rattle.toml.specs.Data.{Data, table, Members, member, get_member}
 use Rattle.toml.specs.View.{view, members_view}
 use Rattle.plan_options.specs.declared.options.OptionFault.{OptionFault}
-use Rattle.plan_options.specs.declared.options.OptionFault.TheVariants.{Form, NoValue, NoTable, Memory}
-use Rattle.plan_options.specs.Options.{with_member, inner_of, with_inner, split_at_first, with_parts, with_path, with_option, with_options, IsChange, ◌>>=◌}
+use Rattle.plan_options.specs.Options.{with_member, inner_of, with_inner, split_at_first, with_parts, with_path, with_option, with_options, ◌>>=◌}
 
 abbrev Entry : Type 0
 Entry = String Global × Value
@@ -129,19 +128,6 @@ refused_by : (options : List (String Global)) (nth : ℕ) (a b : String Global) 
     → nth < length options / 2 → with_option (2 * nth + 1) name word old ≡ Err fault → rest_of nth options old ≡ Err fault
 refused_by options nth a b name word old fault is-a is-b is-name is-word there is =
     next_by options nth a b name word old (Err fault) is-a is-b is-name is-word (omega (arith, there)) is
-
--- an option that is refused
-pub one_refused : (options : List (String Global)) (nth : ℕ) (a b : String Global) (name word : List ℕ) (old : Members)
-    (whole : Result Members OptionFault) (fault : OptionFault) → rest_of nth options old ≡ whole
-    → a ≡ get_or options (2 * nth) a → b ≡ get_or options (2 * nth + 1) b → name ≡ string_bytes a → word ≡ string_bytes b
-    → nth < length options / 2 → IsChange (with_option (2 * nth + 1) name word old) (Err fault) → IsChange whole (Err fault)
-one_refused options nth a b name word old whole (Form place) kept is-a is-b is-name is-word there is =
-    sym kept ∙ refused_by options nth a b name word old (Form place) is-a is-b is-name is-word there is
-one_refused options nth a b name word old whole (NoValue place) kept is-a is-b is-name is-word there is =
-    sym kept ∙ refused_by options nth a b name word old (NoValue place) is-a is-b is-name is-word there is
-one_refused options nth a b name word old whole (NoTable place) kept is-a is-b is-name is-word there is =
-    sym kept ∙ refused_by options nth a b name word old (NoTable place) is-a is-b is-name is-word there is
-one_refused options nth a b name word old whole Memory kept is-a is-b is-name is-word there is = tt
 
 -- fewer than two words change nothing
 no_more : (place : ℕ) (options : List (String Global)) (old : Members) → length options < 2 → with_options place options old ≡ Ok old

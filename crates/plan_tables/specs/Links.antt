@@ -1,5 +1,5 @@
 -- Measured links, as rows of numbers.
-use Rattle.std.specs.Prelude.{ℕ, zero, suc, ◌==◌, ◌&&◌, ◌||◌, nat_lt, max, Bool, true, false, if◌then◌else◌, List, [], ◌∷◌, ◌++◌, Option, None, Some, is_some}
+use Rattle.std.specs.Prelude.{ℕ, ◌==◌, ◌&&◌, ◌||◌, nat_lt, max, Bool, true, if◌then◌else◌, List, [], ◌∷◌, ◌++◌, Option, None, Some, is_some}
 use Rattle.std.specs.Prelude.{Result, length, ◌-◌, slice_get}
 use Rattle.toml.specs.Data.{Data, Items, no_items, item, at, as_array}
 use Rattle.line_place.specs.declared.link.Costs.{Costs}

@@ -40,8 +40,3 @@ ReadsUnless fault result property = MatchResult result (λ value. (fault ≡ Non
 -- The same by a test: a value with this property is read where the test holds, and else none.
 abbrev pub ReadsWhen : {V : Type 0} → Bool → Option V → (V → Type 0) → Type 0
 ReadsWhen test result property = MatchOption result (test ≡ false) (λ value. (test ≡ true) × property value)
-
--- The same where else this fault is answered.
-abbrev pub ReadsOr : {V F : Type 0} → F → Bool → Result V F → (V → Type 0) → Type 0
-ReadsOr fault test result property =
-    MatchResult result (λ value. (test ≡ true) × property value) (λ e. (test ≡ false) × (e ≡ fault))

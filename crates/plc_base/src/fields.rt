@@ -1,5 +1,5 @@
 //! Reads fields at their places; the octets of numbers.
-ghost use Rattle.std.specs.Prelude.{◌≡◌, ◌≤◌, ◌<◌, ◌+◌, ◌/◌, ◌∷◌, List, [], length, reverse, MatchResult};
+ghost use Rattle.std.specs.Prelude.{◌≡◌, ◌≤◌, ◌<◌, ◌+◌, ◌/◌, ◌∷◌, [], length, reverse, MatchResult};
 ghost use Rattle.byteorder.specs.Endian.{big_bytes, little_bytes};
 ghost use Rattle.plc_base.specs.Addresses.{IsAddress};
 ghost use Rattle.plc_base.specs.Faults.{ReadsUnless, address_fault};

@@ -1,5 +1,5 @@
 //! What a joining node is given.
-ghost use Rattle.std.specs.Prelude.{◌≡◌, ◌≤◌, true, is_some, Some};
+ghost use Rattle.std.specs.Prelude.{◌≡◌, true, is_some, Some};
 ghost use Rattle.plc_base.specs.Grant.{key_at, keyed};
 
 use crate::{Key, KeyIndex, Short};

@@ -1,14 +1,10 @@
 -- What hearing a frame comes to, by what it is.
 use Rattle.std.proofs.Common.{◌≡◌, ◌⊎◌, inl, inr, ℕ, Bool, true, false, List, Option, Some, None, Ok, Err, refl}
 use Rattle.std.specs.Prelude.{◌==◌}
-use Rattle.plc_base.specs.Grant.{Granted}
 use Rattle.plc_base.specs.declared.key.Key.{Key}
 use Rattle.plc_base.specs.declared.address.Eui.{Eui}
-use Rattle.plc_base.specs.declared.fields.Fault.{Fault}
-use Rattle.loadng_messages.specs.declared.fault.MessageFaultKind.{MessageFaultKind}
 use Rattle.loadng_messages.specs.declared.message.Message.{Message}
 use Rattle.loadng_messages.specs.declared.message.Message.TheVariants.{Rreq, Rrep, Rerr}
-use Rattle.loadng_messages.specs.Faults.{message_fault}
 use Rattle.loadng_messages.specs.Reading.{message_in}
 use Rattle.mesh_header.specs.declared.unit.Mesh.{Mesh}
 use Rattle.mesh_header.specs.declared.unit.Unit.{Unit as MeshUnit}
@@ -25,10 +21,6 @@ use Rattle.node_rules.specs.Plans.{resting}
 use Rattle.node_rules.specs.Drafts.{choose, refused}
 use Rattle.node_rules.specs.Hearing.{dropped, hear_message, hear_command, hear_over_mesh, hear_sealed, hear_unit_in, is_joining, hear_request, hear_reply}
 use Rattle.node_rules.specs.Hearing.{hear_error, rank_over}
-
-pub message_none : (octets : List ℕ) (e : Fault MessageFaultKind) → message_fault octets ≡ Some e → message_in octets ≡ None
-unfolding message_in
-message_none octets e is = rw is refl
 
 -- # A command
 
@@ -53,10 +45,6 @@ unfolding choose
 local_is l own by all code body cost now one two = rw (← one, ← two) refl
 
 -- # A unit of a sealed frame
-
-pub sealed_local : (l : StationMemory) (own by : ℕ) (all : Bool) (u : MeshUnit) (code : ℕ) (body : List ℕ) (cost note now : ℕ) → u ≡ Local code body
-    → hear_command l own by all code body cost now ≡ hear_sealed l own by all u cost note now
-sealed_local l own by all u code body cost note now is = rw is refl
 
 -- a unit that goes over the mesh
 abbrev pub IsOverMesh : MeshUnit → Type 0
@@ -83,11 +71,6 @@ mesh_one l own by all u cost note now (inr (inr (mesh, body, is))) a = rw (is, �
 pub no_unit : (l : StationMemory) (path : Path) (o : Option MeshUnit) (cost note now : ℕ) → None ≡ o
     → refused {H = Heard} dropped l BadUnit ≡ hear_unit_in l path o cost note now
 no_unit l path o cost note now e = rw (← e) refl
-
-pub unit_sealed : (l : StationMemory) (path : Path) (o : Option MeshUnit) (u : MeshUnit) (from : ℕ) (all : Bool) (key : Key) (g : Granted) (cost note now : ℕ)
-    → Some u ≡ o → path ≡ paths.Sealed from all key → Some g ≡ l.ring
-    → hear_sealed l g.address from all u cost note now ≡ hear_unit_in l path o cost note now
-unit_sealed l path o u from all key g cost note now e p r = rw (← e, p, ← r) refl
 
 pub unit_unjoined : (l : StationMemory) (path : Path) (o : Option MeshUnit) (u : MeshUnit) (from : ℕ) (all : Bool) (key : Key) (cost note now : ℕ) → Some u ≡ o
     → path ≡ paths.Sealed from all key → None ≡ l.ring

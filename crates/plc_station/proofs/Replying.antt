@@ -157,10 +157,6 @@ dropped_quiet : (l : StationMemory) (reason : Dropped) → reply_among (drop_it 
 unfolding resting
 dropped_quiet l reason = refl
 
-rest_quiet : (l : StationMemory) (a b : Result Heard Dropped) → reply_among (resting l a b).frames ≡ None
-unfolding resting
-rest_quiet l a b = refl
-
 forward_quiet : (l : StationMemory) (own : ℕ) (mesh : Mesh) (unit : MeshUnit) (note : ℕ) → route_message unit ≡ None
     → reply_among (forward l own mesh unit note).frames ≡ None
 unfolding goes empty_draft

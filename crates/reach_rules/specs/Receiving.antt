@@ -8,16 +8,14 @@ use Rattle.mesh_header.specs.Reading.{unit_in}
 use Rattle.node_rules.specs.declared.heard.Accepted.{Accepted}
 use Rattle.node_rules.specs.declared.heard.Path.{Path}
 use Rattle.node_rules.specs.declared.heard.Path.TheVariants as paths
-use Rattle.node_rules.specs.declared.heard.Heard.{Heard}
 use Rattle.node_rules.specs.declared.heard.MeterHeard.{MeterHeard}
 use Rattle.node_rules.specs.declared.heard.CoordinatorHeard.{CoordinatorHeard}
 use Rattle.node_rules.specs.declared.refusal.Dropped.{Dropped}
 use Rattle.node_rules.specs.declared.refusal.Dropped.TheVariants.{BadUnit}
-use Rattle.node_rules.specs.Memory.{StationMemory, Memory, address_of}
+use Rattle.node_rules.specs.Memory.{Memory, address_of}
 use Rattle.node_rules.specs.Plans.{Plan, within}
-use Rattle.node_rules.specs.Drafts.{StationPlace, alone, choose}
+use Rattle.node_rules.specs.Drafts.{StationPlace, choose}
 use Rattle.node_rules.specs.MemoryDrafts.{in_memory}
-use Rattle.node_rules.specs.Hearing.{hear}
 use Rattle.node_rules.specs.Meters as meters
 use Rattle.node_rules.specs.Coordinators as coordinator_rules
 use Rattle.reach_rules.specs.declared.refusal.ReachDropped.{ReachDropped}
@@ -89,12 +87,7 @@ abbrev pub hear_reaching : {M H : Type 0} → StationPlace M → (checks_on : Bo
     → Plan M (Result H Dropped) → Plan (Reaching M) (Result (ReachHeard H) ReachDropped)
 hear_reaching h checks_on x got now p = hear_by h checks_on x got now p (command_of got)
 
--- # Stations, meters and the coordinator
-
--- what a station makes of it
-abbrev pub station_hearing : (checks_on : Bool) → Reaching StationMemory → Accepted → (cost note now : ℕ)
-    → Plan (Reaching StationMemory) (Result (ReachHeard Heard) ReachDropped)
-station_hearing checks_on x got cost note now = hear_reaching alone checks_on x got now (hear x.memory got cost note now)
+-- # Meters and the coordinator
 
 -- what a meter makes of it
 abbrev pub meter_hearing : meters.Identity → (checks_on : Bool) → Reaching Memory → Accepted → (cost note now : ℕ)

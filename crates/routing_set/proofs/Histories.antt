@@ -147,8 +147,3 @@ pub now_is_above : (first now : Routing) (records : Records) → Leads first (So
 now_is_above first now records history dest =
     let h = holds first (Some now) records history in
     subst (λ (r : Routing). IsAtLeast (held r dest) (held first dest)) (sym h.live) (h.above dest)
-
--- and so does what the records give
-pub records_are_above : (first now : Routing) (was : Option Routing) (records : Records) → Leads first was records → opened records ≡ Ok now → (dest : ℕ)
-    → IsAtLeast (held now dest) (held first dest)
-records_are_above first now was records history e dest = now_is_above first now records (restarts was now records history e) dest

@@ -152,34 +152,6 @@ one_put old entries ok s t kept stored either same = record {
     by_either (inl h) = inl (record { floors = floors; ranks = h })
     by_either (inr h) = inr (inr (record { floors = floors; ranks = h }))
 
--- floors were put, and then ranks
-pub two_puts : (old : Routing) (floors : List ℕ) (entries : List RoutingEntry) (ok : Bool) (s m t : Records) → AgreesWith old s
-    → floors_in (get m floor_slot) ≡ Some floors → SameOutside 5 5 s m → OnTrue ok (slots.IsStored ranks entries t)
-    → slots.IsStored ranks old.entries t ⊎ slots.IsStored ranks entries t → SameOutside 0x0200 0x023F m t
-    → Keeps old (record old { floors = floors }) (record { entries = entries; floors = floors }) ok s t
-two_puts old floors entries ok s m t kept raised first stored either second =
-    let half : AgreesWith (record old { floors = floors })
-    m = record { floors = raised; ranks = stored_elsewhere ranks old.entries s m 5 5 kept.ranks first (inl (omega arith)) } in
-    let k = one_put (record old { floors = floors }) entries ok m t half stored either second in
-    record {
-      kept = k.kept;
-      either = inr (by_either k.either);
-      elsewhere = λ slot ne outside. k.elsewhere slot ne outside ∙ first slot (apart_from slot ne outside);
-    }
-  where
-    by_either : AgreesWith (record old { floors = floors }) t ⊎ AgreesWith (record old { floors = floors }) t
-        ⊎ AgreesWith (record { entries = entries; floors = floors }) t
-        → AgreesWith (record old { floors = floors }) t ⊎ AgreesWith (record { entries = entries; floors = floors }) t
-    by_either (inl h) = inl h
-    by_either (inr h) = h
-
-    apart_from : (slot : ℕ) → slot ≢ 5 → (slot < 0x0200) ⊎ (0x023F < slot) → (slot < 5) ⊎ (5 < slot)
-    apart_from slot ne outside = by_order (cases_lt slot 5)
-      where
-        by_order : (slot < 5) ⊎ (5 ≤ slot) → (slot < 5) ⊎ (5 < slot)
-        by_order (inl low) = inl low
-        by_order (inr high) = inr (omega arith)
-
 -- the put of the floors failed
 pub no_put : (old after : Routing) (floors : List ℕ) (s t : Records) → AgreesWith old s
     → (floors_in (get t floor_slot) ≡ Some old.floors) ⊎ (floors_in (get t floor_slot) ≡ Some floors)
@@ -297,14 +269,6 @@ gone_goes_on r gone e place ok s m t at first second =
     subst (λ ws. Wrote s ws ok t) (sym (writes_gone r gone e place at))
     (wrote_then s m t (floors_due r.floors (Some gone)) (slots.entry_write ranks place e ∷ []) ok first
     (wrote_last m t (slots.entry_write ranks place e) ok second))
-
-pub gone_keeps : (r : Routing) (gone e : RoutingEntry) (place : ℕ) (ok : Bool) (s m t : Records) → place_of r.entries gone.address ≡ Some place → AgreesWith r s
-    → floors_in (get m floor_slot) ≡ Some (raised r.floors gone) → SameOutside 5 5 s m → OnTrue ok (slots.IsStored ranks (set r.entries place e) t)
-    → slots.IsStored ranks r.entries t ⊎ slots.IsStored ranks (set r.entries place e) t → SameOutside 0x0200 0x023F m t
-    → Keeps r (half_of r (Some gone)) (after_of r (Some gone) e) ok s t
-gone_keeps r gone e place ok s m t at kept floors first stored either second =
-    subst (λ (a : Routing). Keeps r (half_of r (Some gone)) a ok s t) (sym (after_gone r gone e place at))
-    (two_puts r (raised r.floors gone) (set r.entries place e) ok s m t kept floors first stored either second)
 
 pub err_not_ok : {T E : Type 0} (r : Result T E) → is_err r ≡ true → is_ok r ≡ false
 err_not_ok (Ok t) h = cc

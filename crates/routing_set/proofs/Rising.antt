@@ -253,9 +253,6 @@ entered_routes r e now h room dest =
 
 -- # Routes that end
 
-after_test : (test : RoutingEntry → Bool) → RoutingEntry → RoutingEntry
-after_test test e = cond (test e) (without_route e) e
-
 test_address : (test : Bool) (e : RoutingEntry) → (cond test (without_route e) e).address ≡ e.address
 test_address true e = refl
 test_address false e = refl

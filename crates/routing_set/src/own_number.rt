@@ -2,7 +2,7 @@
 ghost use Rattle.std.specs.Prelude.{◌≡◌, ◌+◌, ◌<◌, ◌≤◌, IfOk, OnOk, OnErr, is_ok, Ok};
 ghost use Rattle.std.specs.Bool.{OnTrue};
 ghost use Rattle.plc_base.specs.Keeper.{Stores, OutsideStays, IsOldOrNew};
-ghost use Rattle.routing_set.specs.OwnNumber.{Numbering, AgreesWith, IsOldLimitOrAgrees, limit_at, opened, numbering_at, limit_write, advance_write, advanced};
+ghost use Rattle.routing_set.specs.OwnNumber.{Numbering, AgreesWith, IsOldLimitOrAgrees, opened, numbering_at, limit_write, advance_write, advanced};
 ghost use Rattle.routing_set.specs.OwnNumber.{next_result, next_write, next_after, is_stored, preset_result};
 
 use crate::NumberFault;

@@ -7,11 +7,11 @@ ghost use Rattle.plc_base.specs.Keeper.{Records};
 ghost use Rattle.store_tables.specs.Writes.{Wrote};
 ghost use Rattle.store_tables.specs.SlotTables.{IsTable, IsGapless, IsReading, read_into};
 ghost use Rattle.store_tables.specs.OpenFaults.{IsOpened, IsFault};
-ghost use Rattle.routing_set.specs.Ranks.{beats, rank_by};
+ghost use Rattle.routing_set.specs.Ranks.{rank_by};
 ghost use Rattle.routing_set.specs.Endings.{takes};
 ghost use Rattle.routing_set.specs.FirstEnd.{first_end, IsStill};
 ghost use Rattle.routing_set.specs.RoutingSet.{Routing, ranks, AgreesWith, IsSomeOffered, IsBad, SameElsewhere, opened, at_rest, place_of, rank_of, route_of};
-ghost use Rattle.routing_set.specs.RoutingSet.{next_of, held, floor_of, is_better, is_full, is_fresh, first_to_go, offered, half_offered, offer_writes};
+ghost use Rattle.routing_set.specs.RoutingSet.{next_of, held, floor_of, is_better, is_full, is_fresh, first_to_go, offered, offer_writes};
 ghost use Rattle.routing_set.specs.RoutingSet.{entered, half_entered, entry_writes, Keeps, writes_of, half_of, after_of, offer_result, offer_puts, offer_after};
 ghost use Rattle.routing_set.specs.RoutingSet.{is_stored, ended, without_next, without_next_to, expired, empty_routing};
 

@@ -1,5 +1,5 @@
 //! The lines of a source, through a window.
-ghost use Rattle.std.specs.Prelude.{◌≡◌, ◌+◌, ◌<◌, ◌≤◌, ◌++◌, [], length, take, IfOk, false};
+ghost use Rattle.std.specs.Prelude.{◌≡◌, ◌+◌, ◌<◌, ◌≤◌, [], length, take, IfOk, false};
 ghost use Rattle.plc_base.specs.Streams.{ReadFaults};
 ghost use Rattle.script_lines.specs.Lines.{NoFeed};
 ghost use Rattle.script_lines.specs.Windows.{window_after};

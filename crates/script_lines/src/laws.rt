@@ -1,6 +1,6 @@
 //! What the definition of lines means.
 ghost use Rattle.std.specs.Prelude.{◌≡◌, ◌≤◌, Bool, List, ℕ, ◌++◌, length, map};
-ghost use Rattle.script_lines.specs.Lines.{Content, Line, content_of, lines, NoFeed, NoFeeds, script, rest_line};
+ghost use Rattle.script_lines.specs.Lines.{Line, content_of, lines, NoFeed, NoFeeds, script, rest_line};
 
 /// The lines of a script that is not too long are those that its line feeds end, and the rest at the end of input.
 pub fn lines_of_a_script()

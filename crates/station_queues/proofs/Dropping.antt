@@ -1,17 +1,11 @@
 -- Dropping the items of a list that fail a test, one after another.
-use Rattle.std.proofs.Common.{◌≡◌, ℕ, zero, suc, ◌+◌, ◌<◌, ◌≤◌, Bool, true, false, List, [], ◌∷◌, ◌++◌, length, get_or, take, drop, refl, sym, ap, ◌∙◌, arith}
+use Rattle.std.proofs.Common.{◌≡◌, ℕ, zero, suc, ◌+◌, ◌<◌, ◌≤◌, Bool, true, List, [], ◌∷◌, ◌++◌, length, get_or, take, drop, refl, sym, ap, ◌∙◌, arith}
 use Rattle.std.specs.Prelude.{if◌then◌else◌}
-use Rattle.std.specs.List.{remove, filter}
+use Rattle.std.specs.List.{filter}
 
 -- the first i of them, and of the rest those that pass
 abbrev pub kept_so_far : {X : Type 0} → (X → Bool) → List X → ℕ → List X
 kept_so_far p xs i = take i xs ++ filter p (drop i xs)
-
-pub gone_at : {X : Type 0} (p : X → Bool) (xs : List X) (i : ℕ) (d : X) → i < length xs → false ≡ p (get_or xs i d)
-    → kept_so_far p xs i ≡ kept_so_far p (remove xs i) i
-gone_at {X} p [] i d lt e = absurd (omega arith)
-gone_at {X} p (x ∷ xs) zero d lt e = ap (λ (b : Bool). if b then x ∷ filter p xs else filter p xs) (sym e)
-gone_at {X} p (x ∷ xs) (suc i) d lt e = ap (λ ys. x ∷ ys) (gone_at p xs i d (omega arith) e)
 
 stays_suc : {X : Type 0} (p : X → Bool) (xs : List X) (i : ℕ) (d : X) → i < length xs → true ≡ p (get_or xs i d) → kept_so_far p xs i ≡ kept_so_far p xs (suc i)
 stays_suc {X} p [] i d lt e = absurd (omega arith)

@@ -1,9 +1,8 @@
 -- How units are sealed one after another.
-use Rattle.std.proofs.Common.{◌≡◌, ℕ, zero, suc, ◌+◌, ◌<◌, ◌≤◌, ◌*◌, ◌%◌, not, List, [], ◌∷◌, ◌++◌, length, map, take, drop, get_or, Some, refl, sym, ap, subst}
+use Rattle.std.proofs.Common.{◌≡◌, ℕ, zero, suc, ◌+◌, ◌<◌, ◌≤◌, ◌*◌, ◌%◌, not, List, [], ◌∷◌, ◌++◌, length, map, take, drop, get_or, Some, refl, sym, ap}
 use Rattle.std.proofs.Common.{◌∙◌, arith}
 use Rattle.std.specs.Prelude.{◌==◌, nat_le}
 use Rattle.std.specs.List.{slice_get, range_with_len}
-use Rattle.std.specs.Int.{div_ceil}
 use Rattle.std.proofs.Math.Seq.{take-suc}
 use Rattle.std.proofs.lemmas.Bool.{cond-false, lt-leb}
 use Rattle.std.proofs.lemmas.List.{length-map, take_all}
@@ -138,9 +137,3 @@ piece-short datagram tag k = length-take-at-most 368 (drop (368 * k) datagram)
     length-take-at-most zero xs = omega arith
     length-take-at-most (suc n) [] = omega arith
     length-take-at-most (suc n) (x ∷ xs) = omega (arith, length-take-at-most n xs)
-
-pub pieces-few : (n : ℕ) → 376 ≤ n → n ≤ 1280 → pieces_of n ≤ 4
-pieces-few n long fits = subst (λ k. k ≤ 4) (sym (cond-false (nat_le n 375) 1 (div_ceil n 368) (lt-leb n 375 (omega arith)))) (few n fits)
-  where
-    few : (m : ℕ) → m ≤ 1280 → div_ceil m 368 ≤ 4
-    few m h = omega arith

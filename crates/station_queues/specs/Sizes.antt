@@ -1,5 +1,5 @@
 -- How much a node gathers, and how much waits at it.
-use Rattle.std.specs.Prelude.{ℕ, ◌≤◌, length}
+use Rattle.std.specs.Prelude.{◌≤◌, length}
 use Rattle.std.specs.List.{All}
 use Rattle.fragment_buffers.specs.Loads.{Load, Datagram, Command}
 use Rattle.fragment_buffers.specs.Taking.{blocks_held}

@@ -1,5 +1,5 @@
 //! Seals the units of a step.
-ghost use Rattle.std.specs.Prelude.{◌≡◌, ◌≢◌, ◌+◌, ◌<◌, ◌≤◌, ◌++◌, ◌∷◌, [], None, length, map};
+ghost use Rattle.std.specs.Prelude.{◌≡◌, ◌+◌, ◌<◌, ◌≤◌, ◌++◌, ◌∷◌, [], None, length, map};
 ghost use Rattle.mesh_header.specs.declared.unit.Unit.TheVariants as mesh;
 ghost use Rattle.mesh_header.specs.Grammar.{IsAllowed, spelled_length};
 ghost use Rattle.fragment_buffers.specs.Fragmentation.{pieces_of, pieces_cut};

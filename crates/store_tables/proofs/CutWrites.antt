@@ -74,9 +74,3 @@ slot_stays slot (p ∷ ps) cut r away =
         → get (after_first p ps cut r b).records slot ≡ get r slot
     by_success true more = more ∙ first
     by_success false more = first
-
--- puts at other slots, all made
-pub all_put-elsewhere : (slot : ℕ) (ps : List Write) (r : Records) → AreElsewhere slot ps → get (all_put ps r) slot ≡ get r slot
-all_put-elsewhere slot [] r away = refl
-all_put-elsewhere slot (p ∷ ps) r away =
-    all_put-elsewhere slot ps (insert r p.slot p.octets) (λ i d lt. away (suc i) d (omega arith)) ∙ written_other p slot r true (away 0 p (omega arith))

@@ -6,7 +6,7 @@ use Rattle.std.proofs.lemmas.Bool.Decides.{nat_tests}
 use Rattle.std.specs.FinMap.{insert}
 use Rattle.byteorder.specs.Endian.{big_bytes, big_number}
 use Rattle.byteorder.specs.Numbers.{big_number-reads_back, length-bytes_high_first}
-use Rattle.plc_base.specs.Keeper.{Records, Store, Stores, SameOutside}
+use Rattle.plc_base.specs.Keeper.{Records, Store, Stores}
 use Rattle.store_tables.specs.NumberSlots.{number_in, stored_number, number_write, reading}
 use Rattle.store_tables.specs.declared.number_slot.NumberSlot.{NumberSlot}
 use Rattle.store_tables.proofs.StoreLemmas.{get-insert_same}
@@ -44,8 +44,3 @@ pub number_either : (at : NumberSlot) (old new : Records) (number : ℕ) → num
     → (stored_number at new ≡ stored_number at old) ⊎ (stored_number at new ≡ Some number)
 number_either at old new number fits least (inl same) = inl (ap (stored_number at) same)
 number_either at old new number fits least (inr written) = inr (ap (stored_number at) written ∙ stored-insert at old number fits least)
-
--- it stays where other slots are put
-pub number_elsewhere : (at : NumberSlot) (old new : Records) (first last : ℕ) → SameOutside first last old new → (at.slot < first) ⊎ (last < at.slot)
-    → stored_number at new ≡ stored_number at old
-number_elsewhere at old new first last same apart = ap (number_in at) (same at.slot apart)

@@ -251,13 +251,6 @@ module _ (keys places : List ℕ) where
 
 -- # Tables
 
-pub none_ordered : IsOrder [] []
-none_ordered = record {
-  rising = record { within = λ k d lt. absurd (omega arith); rises = λ i j d lt last. absurd (omega arith) };
-  whole = λ q lt. absurd (omega arith);
-  counted = refl;
-}
-
 pub slot_fits : (slot : ℕ) → IsSlot slot → slot < 65536
 slot_fits slot (inl h) = omega (arith, h.1)
 slot_fits slot (inr (inl h)) = omega (arith, h.1)

@@ -4,12 +4,11 @@ use Rattle.std.proofs.Common.{set, refl, sym, ap, subst, ◌∙◌, arith, lengt
 use Rattle.std.proofs.lemmas.Bool.{cases_eq, cases_lt}
 use Rattle.std.proofs.lemmas.Bool.Decides.{nat_tests}
 use Rattle.std.proofs.lemmas.Grind.{common_steps}
-use Rattle.std.proofs.lemmas.List.{length-set, length-map, get_or-set_same, get_or-set_other, get_or_append_left, append-nil, drop_all, take_all}
+use Rattle.std.proofs.lemmas.List.{length-set, length-map, get_or-set_same, get_or-set_other, get_or_append_left}
 use Rattle.std.proofs.lemmas.List.Quantifiers.{all_pairs_push, position-Some}
 use Rattle.std.proofs.lemmas.List.Sums.{fails_before_first, position_or_len_is}
 use Rattle.std.proofs.lemmas.Option.{slice_get-get_or}
 use Rattle.std.specs.Prelude.{slice_get, is_some, IfSome, MatchOption, nat_lt, ◌==◌}
-use Rattle.std.specs.List.{refill}
 use Rattle.std.specs.Option.{option_map}
 use Rattle.std.specs.FinMap.{get, insert}
 use Rattle.plc_base.specs.Keeper.{Records, SameOutside}
@@ -48,12 +47,6 @@ pub slice_get-map : {A : Type 0} (f : A → A) (table : List A) (q : ℕ) → sl
 slice_get-map f [] q = refl
 slice_get-map f (p ∷ table) zero = refl
 slice_get-map f (p ∷ table) (suc q) = slice_get-map f table q
-
--- a write through the slice of the elements
-pub refill-set : {X : Type 0} (xs : List X) (i : ℕ) (y : X) → refill (length xs) xs (set xs i y) ≡ set xs i y
-refill-set xs i y =
-    rw (length-set xs i y, drop_all (length xs) xs (omega arith), append-nil (set xs i y))
-    (take_all (length xs) (set xs i y) (omega (arith, length-set xs i y)))
 
 -- # Keys
 

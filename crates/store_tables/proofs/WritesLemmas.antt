@@ -51,11 +51,6 @@ wrote_append_stop s t ws vs a = record { by = writes_stop s t ws vs a.by }
 
 -- # The cut of some puts
 
-faults_rise : (s t : Store) (ws : List Write) (done : Bool) → Writes s ws done t → s.faults ≤ t.faults
-faults_rise s t [] done h = omega (arith, ap (λ (k : Store). k.faults) h.1)
-faults_rise s t (w ∷ ws) done (true, mid, p, rest, u) = omega (arith, p.faults, faults_rise mid t ws done rest)
-faults_rise s t (w ∷ ws) done (false, mid, p, u, stop) = omega (arith, p.faults, ap (λ (k : Store). k.faults) stop.1)
-
 rises : (s t : Store) (ws : List Write) (done : Bool) → Writes s ws done t → OnFalse done (Rose s.faults t.faults)
 rises s t ws true h = tt
 rises s t [] false h = absurd (cc)

@@ -1,5 +1,5 @@
 //! A table of marks by address: the number that was last admitted of each.
-ghost use Rattle.std.specs.Prelude.{◌≡◌, ◌≤◌, [], true, is_ok, IfOk, IfErr, OnOk, OnErr};
+ghost use Rattle.std.specs.Prelude.{◌≡◌, [], true, is_ok, IfOk, IfErr, OnOk, OnErr};
 ghost use Rattle.plc_base.specs.Keeper.{Stores, OutsideStays, IsOldOrNew};
 ghost use Rattle.store_tables.specs.SlotTables.{IsTable, IsGapless, IsReading, IsBad, Reopens, ReopensInto, last_of, opened, read_into};
 ghost use Rattle.store_tables.specs.OpenFaults.{IsOpened, IsFault};

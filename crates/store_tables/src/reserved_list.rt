@@ -1,5 +1,5 @@
 //! A list whose memory is reserved once.
-ghost use Rattle.std.specs.Prelude.{◌≡◌, ◌==◌, ◌<◌, ◌≤◌, ◌∷◌, ◌++◌, [], length, set, IfOk, get_or};
+ghost use Rattle.std.specs.Prelude.{◌≡◌, ◌<◌, ◌≤◌, ◌∷◌, ◌++◌, [], length, set, IfOk, get_or};
 ghost use Rattle.std.specs.List.{insert, remove};
 
 use std::alloc::{AllocError, Global};

@@ -1,5 +1,5 @@
 //! Chains side by side in one pool: octets across the ends of blocks, chains given back in another order.
-ghost use Rattle.std.specs.Prelude.{◌≡◌, ◌≤◌, ◌<◌, ◌+◌, ℕ, length, IfOk};
+ghost use Rattle.std.specs.Prelude.{◌≡◌, ◌≤◌, ◌<◌, ℕ, length, IfOk};
 ghost use Rattle.block_pool.specs.Pool.{IsChain, chain_octets};
 
 use block_pool::{Chain, Pool};

@@ -1,7 +1,5 @@
 -- A text that was made, by another name.
-use Rattle.std.proofs.Common.{◌≡◌, List, ℕ, IfOk, OnOk, ◌++◌, Result, subst, string_bytes}
-use Rattle.std.specs.Prelude.{String}
-use Rattle.std.specs.Prelude.{Ok, Err}
+use Rattle.std.proofs.Common.{◌≡◌, List, ℕ, IfOk, OnOk, ◌++◌, Result, subst}
 
 -- a text of its own
 pub says : {S E : Type 0} (bytes : S → List ℕ) (r : Result S E) {x y : List ℕ} → x ≡ y → IfOk r (λ (t : S). bytes t ≡ x) → IfOk r (λ (t : S). bytes t ≡ y)

@@ -1,5 +1,5 @@
 //! Numbers of events and flights, in lists by story and by flight.
-ghost use Rattle.std.specs.Prelude.{◌≡◌, ◌-◌, ◌++◌, ◌∷◌, [], IfOk, OnOk, length, slice_get};
+ghost use Rattle.std.specs.Prelude.{◌≡◌, ◌-◌, [], IfOk, OnOk, length, slice_get};
 ghost use Rattle.line_tale.specs.Lists.{changed_at};
 ghost use Rattle.line_tale.specs.Tales.{numbered};
 ghost use Rattle.story_accounts.specs.Indexes as indexes;

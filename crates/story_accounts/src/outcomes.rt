@@ -1,5 +1,5 @@
 //! What became of a story, in words.
-ghost use Rattle.std.specs.Prelude.{◌≡◌, ◌++◌, ◌-◌, IfOk, OnOk, length, string_bytes};
+ghost use Rattle.std.specs.Prelude.{◌≡◌, ◌++◌, ◌-◌, IfOk, OnOk, string_bytes};
 ghost use Rattle.story_accounts.specs.Outcomes as outcomes;
 
 use crate::account::Account;

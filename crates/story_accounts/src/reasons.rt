@@ -1,5 +1,5 @@
 //! Why stories failed, and how often.
-ghost use Rattle.std.specs.Prelude.{◌≡◌, ◌++◌, ◌-◌, IfOk, OnOk, length, string_bytes};
+ghost use Rattle.std.specs.Prelude.{◌≡◌, ◌++◌, ◌-◌, IfOk, OnOk, string_bytes};
 ghost use Rattle.story_accounts.specs.Sections as sections;
 
 use crate::account::Account;

@@ -1,5 +1,5 @@
 //! The text of a story, and of a section of stories.
-ghost use Rattle.std.specs.Prelude.{◌≡◌, ◌++◌, IfOk, OnOk, length, string_bytes};
+ghost use Rattle.std.specs.Prelude.{◌≡◌, ◌++◌, IfOk, OnOk, string_bytes};
 ghost use Rattle.story_accounts.specs.Sections as sections;
 
 use crate::account::{Account, is_ok};

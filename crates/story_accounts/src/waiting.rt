@@ -1,6 +1,5 @@
 //! How the wait of a datagram ended that no flight carries, and what a story waits behind.
-ghost use Rattle.std.specs.Prelude.{◌≡◌, ◌&&◌, ◌==◌, ◌<◌, ◌^◌, IfOk, drop, string_bytes};
-ghost use Rattle.line_tale.specs.Kinds as story_kinds;
+ghost use Rattle.std.specs.Prelude.{◌≡◌, ◌&&◌, ◌==◌, ◌<◌, ◌^◌, IfOk, string_bytes};
 ghost use Rattle.story_accounts.specs.Outcomes as outcomes;
 
 use crate::account::Account;

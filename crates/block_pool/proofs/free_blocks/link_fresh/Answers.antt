@@ -1,4 +1,4 @@
-use Rattle.std.proofs.Common.{◌≡◌, ◌+◌, ◌-◌, refl, subst, arith, ℕ}
+use Rattle.std.proofs.Common.{◌≡◌, ◌+◌, ◌-◌, refl, subst, arith}
 use Rattle.block_pool.specs.Region.{IsFresh}
 use Rattle.block_pool.proofs.Contents.{grows_none, grows_more}
 use Rattle.block_pool.proofs.free_blocks.link_fresh.Goals as goal

@@ -1,7 +1,7 @@
-use Rattle.std.proofs.Common.{◌≡◌, ◌⊎◌, inl, inr, ℕ, zero, suc, ◌+◌, ◌*◌, ◌/◌, ◌-◌, ◌<◌, ◌≤◌, ◌&&◌, ◌||◌, Bool, true, false, cond, List, [], ◌∷◌, ◌++◌, take}
-use Rattle.std.proofs.Common.{drop, length, Option, Some, None, refl, sym, subst, ap, ◌∙◌, arith, length-append}
+use Rattle.std.proofs.Common.{◌≡◌, ℕ, ◌+◌, ◌<◌, ◌++◌}
+use Rattle.std.proofs.Common.{length, sym, ap, ◌∙◌, arith, length-append}
 use Rattle.byteorder.specs.Endian.{big_bytes}
-use Rattle.flash_keeper.specs.Log.{place, value, octets_from, length_at, words_for}
+use Rattle.flash_keeper.specs.Log.{place, value, length_at, words_for}
 use Rattle.flash_keeper.proofs.CellLemmas.{octets_from-suc, octets_from-zero}
 use Rattle.flash_keeper.proofs.cells.body_of.Goals as goal
 

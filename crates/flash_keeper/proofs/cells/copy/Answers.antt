@@ -1,4 +1,4 @@
-use Rattle.std.proofs.Common.{◌≡◌, ◌∙◌, ℕ, sym, ap, refl, arith}
+use Rattle.std.proofs.Common.{◌≡◌, ◌∙◌, sym, ap, refl, arith}
 use Rattle.flash_keeper.specs.Log.{kept}
 use Rattle.flash_keeper.proofs.CellLemmas.{upto-zero}
 use Rattle.flash_keeper.proofs.CopyLemmas.{kept-zero, kept-all}

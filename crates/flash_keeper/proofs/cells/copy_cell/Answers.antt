@@ -1,6 +1,6 @@
-use Rattle.std.proofs.Common.{◌≡◌, ◌∙◌, ℕ, ◌+◌, ◌-◌, Bool, true, false, sym, ap}
+use Rattle.std.proofs.Common.{◌∙◌, ℕ, ◌+◌, ◌-◌, sym, ap}
 use Rattle.std.specs.FinMap.{insert}
-use Rattle.flash_keeper.specs.Log.{holds_later, counts}
+use Rattle.flash_keeper.specs.Log.{holds_later}
 use Rattle.flash_keeper.proofs.CopyLemmas.{kept-uncounted, kept-replaced, kept-counted}
 use Rattle.flash_keeper.proofs.cells.copy_cell.Goals as goal
 

@@ -1,5 +1,5 @@
-use Rattle.std.proofs.Common.{◌≡◌, ℕ, ◌+◌, Bool, true, is_ok, subst, ap}
-use Rattle.flash_keeper.specs.Flash.{Bank, Programs}
+use Rattle.std.proofs.Common.{◌≡◌, ℕ, ◌+◌, Bool, is_ok, subst, ap}
+use Rattle.flash_keeper.specs.Flash.{Programs}
 use Rattle.flash_keeper.specs.Log.{end}
 use Rattle.flash_keeper.proofs.Outcomes.{on_ok_of}
 use Rattle.flash_keeper.proofs.LogLemmas.{settled_ended, left_ended}

@@ -1,7 +1,7 @@
-use Rattle.std.proofs.Common.{◌≡◌, ◌⊎◌, inl, inr, ℕ, zero, suc, ◌+◌, ◌*◌, ◌/◌, ◌-◌, ◌<◌, ◌≤◌, ◌&&◌, ◌||◌, Bool, true, false, cond, List, [], ◌∷◌, ◌++◌, take}
-use Rattle.std.proofs.Common.{drop, length, Option, Some, None, refl, sym, subst, ap, ◌∙◌, arith, length-append}
+use Rattle.std.proofs.Common.{◌≡◌, ℕ, ◌+◌, ◌-◌, Bool, cond, List}
+use Rattle.std.proofs.Common.{Some, sym, ap, ◌∙◌, arith}
 use Rattle.std.specs.FinMap as map
-use Rattle.flash_keeper.specs.Log.{upto, holds, octets_at}
+use Rattle.flash_keeper.specs.Log.{upto, octets_at}
 use Rattle.flash_keeper.proofs.CopyLemmas.{get_upto, get_upto-zero}
 use Rattle.flash_keeper.proofs.cells.find.Goals as goal
 

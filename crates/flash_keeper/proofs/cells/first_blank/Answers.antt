@@ -1,4 +1,4 @@
-use Rattle.std.proofs.Common.{◌<◌, arith}
+use Rattle.std.proofs.Common.{arith}
 use Rattle.flash_keeper.proofs.OpeningLemmas.{found_blank, found_none}
 use Rattle.flash_keeper.proofs.cells.first_blank.Goals as goal
 

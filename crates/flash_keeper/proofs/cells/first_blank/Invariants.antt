@@ -1,4 +1,4 @@
-use Rattle.std.proofs.Common.{◌≡◌, ◌≤◌, ◌+◌, ◌-◌, ℕ}
+use Rattle.std.proofs.Common.{◌≤◌, ◌+◌, ◌-◌, ℕ}
 use Rattle.flash_keeper.specs.Log.{IsLeft, Choice}
 use Rattle.flash_keeper.proofs.cells.first_blank.Given as goal
 

@@ -1,6 +1,6 @@
-use Rattle.std.proofs.Common.{◌≡◌, ◌⊎◌, inl, inr, ℕ, zero, suc, ◌+◌, ◌*◌, ◌/◌, ◌-◌, ◌<◌, ◌≤◌, ◌&&◌, ◌||◌, Bool, true, false, cond, List, [], ◌∷◌, ◌++◌, take}
-use Rattle.std.proofs.Common.{drop, length, Option, Some, None, refl, sym, subst, ap, ◌∙◌, arith, length-append}
-use Rattle.flash_keeper.specs.Log.{holds, holds_later}
+use Rattle.std.proofs.Common.{◌+◌, ◌-◌, ◌<◌, ◌||◌, Bool}
+use Rattle.std.proofs.Common.{sym, ap, ◌∙◌, arith}
+use Rattle.flash_keeper.specs.Log.{holds_later}
 use Rattle.flash_keeper.proofs.CopyLemmas.{holds_later-suc, holds_later-end}
 use Rattle.flash_keeper.proofs.cells.is_replaced.Goals as goal
 

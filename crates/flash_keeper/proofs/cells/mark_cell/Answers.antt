@@ -1,5 +1,5 @@
 use Rattle.std.proofs.Common.{◌≡◌, ℕ, ◌+◌, is_ok, subst, ap}
-use Rattle.flash_keeper.specs.Flash.{Bank, Programs}
+use Rattle.flash_keeper.specs.Flash.{Programs}
 use Rattle.flash_keeper.specs.Log.{mark}
 use Rattle.flash_keeper.proofs.LogLemmas.{left_marked}
 use Rattle.flash_keeper.proofs.cells.mark_cell.Goals as goal

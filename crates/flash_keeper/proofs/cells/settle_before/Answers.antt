@@ -1,4 +1,4 @@
-use Rattle.std.proofs.Common.{◌≡◌, ◌<◌, ◌-◌, ◌+◌, ℕ, true, arith}
+use Rattle.std.proofs.Common.{◌≡◌, ◌<◌, true, arith}
 use Rattle.flash_keeper.proofs.Outcomes.{both_if_ok, under_ok, one_err}
 use Rattle.flash_keeper.proofs.BankLemmas.{sure_zero, sure_before, torn_before, left_before}
 use Rattle.flash_keeper.proofs.cells.settle_before.Goals as goal

@@ -1,6 +1,3 @@
-use Rattle.std.proofs.Common.{◌≡◌, ℕ, ◌+◌, ◌*◌, true, is_ok, arith, subst}
-use Rattle.flash_keeper.specs.Flash.{Bank, Programs}
-use Rattle.flash_keeper.specs.Log.{place}
 use Rattle.flash_keeper.proofs.Outcomes.{both_ok}
 use Rattle.flash_keeper.proofs.OpeningLemmas.{body_written, outside_head, outside_body}
 use Rattle.flash_keeper.proofs.cells.write_body.Goals as goal

@@ -1,9 +1,8 @@
-use Rattle.std.proofs.Common.{◌≡◌, ◌∙◌, ℕ, ◌+◌, Bool, true, false, is_ok, subst, ap, sym}
-use Rattle.flash_keeper.specs.Flash.{Bank, Programs}
-use Rattle.flash_keeper.specs.Log.{place, mark, end}
-use Rattle.flash_keeper.proofs.Outcomes.{on_ok_of, on_err_of, on_err}
-use Rattle.flash_keeper.proofs.LogLemmas.{BodyIs, MarkedIs, left_at_body, left_at_mark, left_at_end, marked_cell, records_marked, settled_after}
-use Rattle.flash_keeper.proofs.OpeningLemmas.{wider, outside_mark}
+use Rattle.std.proofs.Common.{◌∙◌, ℕ, ◌+◌, true, is_ok, subst, ap, sym}
+use Rattle.flash_keeper.specs.Flash.{Programs}
+use Rattle.flash_keeper.specs.Log.{mark, end}
+use Rattle.flash_keeper.proofs.Outcomes.{on_ok_of, on_err}
+use Rattle.flash_keeper.proofs.LogLemmas.{BodyIs, left_at_body, left_at_mark, left_at_end, marked_cell, records_marked}
 use Rattle.flash_keeper.proofs.cells.write_cell.Goals as goal
 
 pub returns-in_err-write_body-clause-left : goal.returns-in_err-write_body-clause-left

@@ -1,8 +1,7 @@
-use Rattle.std.proofs.Common.{◌≡◌, ◌⊎◌, inl, inr, ℕ, zero, suc, ◌+◌, ◌*◌, ◌/◌, ◌-◌, ◌<◌, ◌≤◌, ◌&&◌, ◌||◌, Bool, true, false, cond, List, [], ◌∷◌, ◌++◌, take}
-use Rattle.std.proofs.Common.{drop, length, Option, Some, None, refl, sym, subst, ap, ◌∙◌, arith, length-append}
-use Rattle.byteorder.specs.Endian.{big_bytes}
+use Rattle.std.proofs.Common.{◌≡◌, ℕ, ◌+◌, true}
+use Rattle.std.proofs.Common.{refl, subst, ap, ◌∙◌, arith}
 use Rattle.flash_keeper.specs.Flash.{Programs}
-use Rattle.flash_keeper.specs.Log.{place, mark, octets_from}
+use Rattle.flash_keeper.specs.Log.{place}
 use Rattle.flash_keeper.proofs.CellLemmas.{octets_from-zero}
 use Rattle.flash_keeper.proofs.LogLemmas.{one_more_word}
 use Rattle.flash_keeper.proofs.cells.write_words.Goals as goal

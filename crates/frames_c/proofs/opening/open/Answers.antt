@@ -1,7 +1,6 @@
-use Rattle.std.proofs.Common.{◌≡◌, ◌+◌, length, ℕ, sym, ap, ◌∙◌, arith}
+use Rattle.std.proofs.Common.{length, sym, ap, ◌∙◌, arith}
 use Rattle.frames_c.proofs.Lengths.{sealed_length, when_ok}
 use Rattle.frames_c.proofs.opening.open.Goals as goal
-use Rattle.frames_c.proofs.opening.open.Goals.{After-octets}
 
 pub copy_to-requires : goal.copy_to-requires
 copy_to-requires c =

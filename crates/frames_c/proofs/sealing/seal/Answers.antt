@@ -1,6 +1,4 @@
-use Rattle.std.proofs.Common.{◌≡◌, ◌+◌, ◌++◌, length, take, drop, ℕ, sym, ap, ◌∙◌, subst, arith}
-use Rattle.mac_frames.specs.Sealing.{SealedFrame}
-use Rattle.frames_c.specs.Heads.{mac_head}
+use Rattle.std.proofs.Common.{◌≡◌, length, take, drop, sym, ap, ◌∙◌, arith}
 use Rattle.frames_c.proofs.Lengths.{sealed_length, front, same_frame}
 use Rattle.frames_c.proofs.sealing.seal.Goals as goal
 

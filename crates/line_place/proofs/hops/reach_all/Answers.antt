@@ -1,4 +1,4 @@
-use Rattle.std.proofs.Common.{get_or, arith}
+use Rattle.std.proofs.Common.{get_or}
 use Rattle.std.proofs.lemmas.Option.{slice_get-get_or}
 use Rattle.line_place.specs.declared.link.Link.{Link}
 use Rattle.line_place.proofs.Widening.{none_reached, links_begin, links_go_on, links_end}

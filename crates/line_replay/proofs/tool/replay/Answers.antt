@@ -1,5 +1,4 @@
-use Rattle.std.proofs.Common.{ℕ, Bool, List, false, refl, sym}
-use Rattle.line_laws.specs.Network.{IsRight}
+use Rattle.std.proofs.Common.{false, refl, sym}
 use Rattle.line_rules.specs.Worlds.{start}
 use Rattle.script_lines.specs.declared.machine.Exit.TheVariants as exits
 use Rattle.line_replay.proofs.Running.{entries_run, ran_of, whole_exit, read_cause, write_cause}

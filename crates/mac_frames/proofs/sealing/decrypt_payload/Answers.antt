@@ -1,4 +1,4 @@
-use Rattle.std.proofs.Common.{◌≡◌, ◌++◌, ◌-◌, length, sym, ◌∙◌, arith}
+use Rattle.std.proofs.Common.{◌++◌, ◌-◌, length, sym, ◌∙◌, arith}
 use Rattle.std.proofs.lemmas.List.{take-append-drop}
 use Rattle.aes_modes.specs.Ccm.{ccm_text}
 use Rattle.mac_frames.specs.Sealing.{payload_in}

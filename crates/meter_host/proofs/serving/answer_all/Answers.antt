@@ -1,6 +1,3 @@
-use Rattle.std.proofs.Common.{refl, subst, List, ℕ}
-use Rattle.host_calls.specs.Answers.{answer_text}
-use Rattle.meter_host.specs.Calling.{Answers}
 use Rattle.meter_host.specs.Serving.{Runs}
 use Rattle.meter_host.proofs.Serves.{begun, one_more_call, ends_calling}
 use Rattle.meter_host.proofs.serving.answer_all.Goals as goal

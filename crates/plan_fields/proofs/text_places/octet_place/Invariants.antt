@@ -1,4 +1,4 @@
-use Rattle.std.proofs.Common.{◌≡◌, ◌+◌, ◌≤◌, drop, take}
+use Rattle.std.proofs.Common.{◌≡◌, ◌+◌, ◌≤◌, drop}
 use Rattle.plan_fields.specs.TextPlaces.{walked}
 use Rattle.plan_fields.proofs.text_places.octet_place.Given as goal
 

@@ -1,4 +1,3 @@
-use Rattle.std.proofs.Common.{sym, ap}
 use Rattle.script_findings.specs.Texts.{column}
 use Rattle.script_findings.proofs.finding.push_spot.Goals as goal
 

@@ -1,5 +1,4 @@
 use Rattle.std.proofs.Common.{[], ◌∷◌, string_bytes}
-use Rattle.sentence_parts.specs.declared.part.Part.TheVariants.{Node, Number, Words}
 use Rattle.sentence_parts.specs.Parts.{parts_text}
 use Rattle.story_accounts.specs.Outcomes.{aged_text}
 use Rattle.story_accounts.proofs.Saying.{says}

@@ -1,4 +1,4 @@
-use Rattle.std.proofs.Common.{◌≡◌, ◌∙◌, None}
+use Rattle.std.proofs.Common.{◌∙◌, None}
 use Rattle.flash_keeper.proofs.KeeperLemmas.{nothing_else}
 use Rattle.flash_keeper.proofs.keeper.FlashKeeper.format.Goals as goal
 

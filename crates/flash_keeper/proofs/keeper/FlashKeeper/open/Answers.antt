@@ -1,6 +1,4 @@
-use Rattle.std.proofs.Common.{◌≡◌, ◌≤◌, ◌<◌, Bool, true, false, ℕ, arith}
-use Rattle.flash_keeper.specs.Log.{Choice}
-use Rattle.flash_keeper.specs.Banks.{IsStore, AreChosen}
+use Rattle.std.proofs.Common.{arith}
 use Rattle.flash_keeper.proofs.Outcomes.{one_if_ok, one_if_err}
 use Rattle.flash_keeper.proofs.BankLemmas.{choose_one, choose_later, swapped_store}
 use Rattle.flash_keeper.proofs.keeper.FlashKeeper.open.Goals as goal

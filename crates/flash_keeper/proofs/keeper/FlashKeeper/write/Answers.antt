@@ -1,4 +1,4 @@
-use Rattle.std.proofs.Common.{◌≡◌, ◌∙◌, ap}
+use Rattle.std.proofs.Common.{◌∙◌, ap}
 use Rattle.std.specs.FinMap.{insert}
 use Rattle.flash_keeper.specs.Banks.{FlashStore}
 use Rattle.flash_keeper.proofs.KeeperLemmas.{nothing_else}

@@ -1,4 +1,4 @@
-use Rattle.std.proofs.Common.{◌≡◌, ◌<◌, ◌≤◌, ◌⊎◌, inl, inr, ℕ, Some, length, arith}
+use Rattle.std.proofs.Common.{inl, inr, arith}
 use Rattle.std.proofs.lemmas.Bool.{cases_lt}
 use Rattle.flash_keeper.proofs.ModelLemmas.{shown_past}
 use Rattle.flash_keeper.proofs.model_flash.ModelFlash.blank.Goals as goal

@@ -1,4 +1,4 @@
-use Rattle.std.proofs.Common.{◌≡◌, ◌∙◌, ◌⊎◌, inl, inr, true, false, length, ap}
+use Rattle.std.proofs.Common.{◌≡◌, ◌∙◌, inl, inr, true, false, length, ap}
 use Rattle.flash_keeper.specs.Model.{bank_of}
 use Rattle.flash_keeper.proofs.model_flash.ModelFlashFlashBank.erase.Goals as goal
 

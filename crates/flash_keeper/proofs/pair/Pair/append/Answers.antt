@@ -1,4 +1,4 @@
-use Rattle.std.proofs.Common.{◌≡◌, ◌∙◌, ◌+◌, inl, inr, refl, sym}
+use Rattle.std.proofs.Common.{◌∙◌, inl, inr, refl, sym}
 use Rattle.std.specs.FinMap.{insert}
 use Rattle.flash_keeper.specs.Log.{upto, Choice}
 use Rattle.flash_keeper.proofs.Outcomes.{on_err}

@@ -1,4 +1,4 @@
-use Rattle.std.proofs.Common.{◌≡◌, Bool, is_ok, subst}
+use Rattle.std.proofs.Common.{Bool, subst}
 use Rattle.flash_keeper.specs.Flash.{Programs}
 use Rattle.flash_keeper.proofs.Outcomes.{on_ok_of, on_err_of}
 use Rattle.flash_keeper.proofs.BankLemmas.{confirmed, unconfirmed}

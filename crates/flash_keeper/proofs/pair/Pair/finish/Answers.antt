@@ -1,4 +1,4 @@
-use Rattle.std.proofs.Common.{◌≡◌, ◌∙◌, ◌-◌, ℕ, inl, inr, refl, sym, arith}
+use Rattle.std.proofs.Common.{◌∙◌, ◌-◌, inl, refl, sym, arith}
 use Rattle.flash_keeper.proofs.Outcomes.{on_err, one_ok, one_err, both_err}
 use Rattle.flash_keeper.proofs.LogLemmas.{one_of}
 use Rattle.flash_keeper.proofs.BankLemmas.{live-same, n_within, store_left, ready_of, store_of}

@@ -1,4 +1,4 @@
-use Rattle.std.proofs.Common.{◌≡◌, ◌<◌, inl, arith}
+use Rattle.std.proofs.Common.{◌<◌, inl, arith}
 use Rattle.flash_keeper.specs.Log.{room}
 use Rattle.flash_keeper.proofs.Outcomes.{on_err}
 use Rattle.flash_keeper.proofs.BankLemmas.{full_is_settled}

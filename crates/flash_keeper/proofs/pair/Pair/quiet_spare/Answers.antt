@@ -1,4 +1,4 @@
-use Rattle.std.proofs.Common.{inl, inr}
+use Rattle.std.proofs.Common.{inl}
 use Rattle.flash_keeper.proofs.Outcomes.{one_ok, one_err}
 use Rattle.flash_keeper.proofs.BankLemmas.{uncounted_beside, still_left}
 use Rattle.flash_keeper.proofs.pair.Pair.quiet_spare.Goals as goal

@@ -1,4 +1,4 @@
-use Rattle.std.proofs.Common.{◌≡◌, ◌∙◌, ◌+◌, inl, inr, true, false, ap}
+use Rattle.std.proofs.Common.{◌∙◌, ◌+◌, inr, true, false, ap}
 use Rattle.flash_keeper.specs.Log.{upto}
 use Rattle.flash_keeper.proofs.Outcomes.{on_err}
 use Rattle.flash_keeper.proofs.BankLemmas.{pending, marked_log}

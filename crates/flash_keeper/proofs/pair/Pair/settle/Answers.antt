@@ -1,4 +1,4 @@
-use Rattle.std.proofs.Common.{◌≡◌, sym, subst}
+use Rattle.std.proofs.Common.{sym, subst}
 use Rattle.flash_keeper.specs.Flash.{Bank}
 use Rattle.flash_keeper.specs.Log.{IsLeft}
 use Rattle.flash_keeper.proofs.Outcomes.{on_err, one_ok, one_err}

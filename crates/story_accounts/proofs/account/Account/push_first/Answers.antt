@@ -1,5 +1,5 @@
 use Rattle.std.proofs.Common.{[], ◌∷◌, ◌∙◌, ap, string_bytes}
-use Rattle.sentence_parts.specs.declared.part.Part.TheVariants.{Node, Number, Words}
+use Rattle.sentence_parts.specs.declared.part.Part.TheVariants.{Number, Words}
 use Rattle.sentence_parts.specs.Parts.{parts_text}
 use Rattle.story_accounts.specs.Sections.{first_text}
 use Rattle.story_accounts.proofs.Saying.{appends}
