@@ -6,7 +6,7 @@ use Rattle.plc_base.specs.declared.keeper.Cut.{Cut}
 use Rattle.plc_base.specs.declared.keeper.BadStore.{BadStore}
 use Rattle.plc_base.specs.declared.out_frame.Out.{Out}
 use Rattle.plc_base.specs.Keeper.{Records}
-use Rattle.node_rules.specs.Memory.{Memory, Role}
+use Rattle.node_rules.specs.Memory.{Memory, Node, Role}
 use Rattle.node_rules.specs.NodeSteps.{NodeStep, acts, left_by}
 use Rattle.node_rules.specs.Plans.{Plan, Outcome, carry_out}
 use Rattle.node_rules.specs.States.{State}
@@ -17,7 +17,7 @@ use Rattle.node_rules.proofs.Tables.{writes_keep_tables}
 use Rattle.line_events.specs.declared.event.Answer.{Answer}
 use Rattle.line_events.specs.declared.event.Answer.TheVariants as answers
 use Rattle.line_world.specs.Nodes.{cut_ahead, node_in}
-use Rattle.line_world.specs.NodeOutcomes.{Took}
+use Rattle.line_world.specs.NodeOutcomes.{given_by}
 use Rattle.line_world.specs.Soundness.{NodeAgreesWith, IsSound}
 
 -- # What is there
@@ -37,6 +37,14 @@ node_is : (role : Role) (y : State Memory) (eui : Eui) (records : Records) (cut 
     → y.eui ≡ eui → y.store.records ≡ records → y.store.known_cut ≡ Some cut → y.memory ≡ memory
     → node_in role y ≡ record { role = role; eui = eui; store = record { records = records; cut = cut }; memory = memory }
 node_is role y eui records cut memory e r t m = λ i. record { role = role; eui = e i; store = record { records = r i; cut = cut_ahead (t i) }; memory = m i }
+
+-- # Steps of one node
+
+-- A node took this step: this is what it answered and gave out, and what became of it.
+pub record Took {A : Type 0} (step : NodeStep A) (answer : A) (out : Out) (node : Node) : Type 0 where
+  pub answer_is : answer ≡ step.answer
+  pub out_is : out ≡ given_by step
+  pub node_is : node ≡ step.node
 
 -- # One plan
 

@@ -47,7 +47,7 @@ use Rattle.line_flights.specs.declared.flights.Origin.{Origin}
 use Rattle.line_flights.specs.Flown.{Flown, not_lost}
 use Rattle.line_world.specs.declared.nodes.reception.Reception as receiving
 use Rattle.line_world.specs.NodeOutcomes.{Did}
-use Rattle.line_world.specs.Receiving.{Received, ReportsReception, handed_up}
+use Rattle.line_world.specs.Receiving.{Received, handed_up}
 use Rattle.line_events.specs.declared.event.StepFault.TheVariants as faults
 use Rattle.line_events.specs.declared.event.TheConstants.{MAX_EVENTS}
 use Rattle.line_events.specs.declared.happenings.Happenings.{Happenings}
@@ -55,18 +55,14 @@ use Rattle.line_events.specs.declared.event.Answer.TheVariants as answers
 use Rattle.line_rules.specs.Answers.{CompletedJoining, Reception, Up, coordinator_reception, frame_word, meter_reception, only}
 use Rattle.line_rules.specs.Forgery.{accepting}
 use Rattle.line_rules.specs.Further.{accepted_further, acknowledged_if, checked, comes, commanded, discovers_by, due, hearing_outcome_by}
-use Rattle.line_rules.specs.Further.{further_hearing_outcome, injects}
-use Rattle.line_rules.specs.Further.{is_dropped, unbelieved, with_check}
-use Rattle.line_rules.specs.Further.{delivers as delivers_by}
+use Rattle.line_rules.specs.Further.{further_hearing_outcome, injects, is_dropped, unbelieved, with_check, delivers as delivers_by}
 use Rattle.line_rules.specs.Logs.{AreLogged, LogsKept}
 use Rattle.line_rules.proofs.LogSteps.{Quiet, acts_quiet, log_at, logged_at, quiet_in, set_node}
 use Rattle.line_rules.specs.Worlds.{Flight, Pairing, Trace, World, flight_at, is_forged_tag, node_at}
 use Rattle.line_rules.specs.Steps.{Step, done_by, forged_by, handed_by, happenings, hearing_outcome, has_begun, hearing_step, identity, note_by, number_if}
-use Rattle.line_rules.specs.Steps.{number_of, on_flight}
-use Rattle.line_rules.specs.Steps.{running_world, received, reception_trace, world_after, trace_of}
+use Rattle.line_rules.specs.Steps.{number_of, on_flight, running_world, received, reception_trace, world_after, trace_of}
 use Rattle.line_world.specs.Arrivals.{outcome_of_checked, outcome_of_arrival, done_in, forged_in, handed_in, outcome_of_further, outcome_of_hearing, in_run}
-use Rattle.line_world.specs.Arrivals.{left_of, note_in, outcome_of_reception}
-use Rattle.line_world.specs.Arrivals.{reception_happenings, taker_in, outcome_of_unbelieved}
+use Rattle.line_world.specs.Arrivals.{left_of, note_in, outcome_of_reception, reception_happenings, taker_in, outcome_of_unbelieved}
 use Rattle.line_world.specs.Arrivals.{outcome_of_command as heard_by_command}
 use Rattle.line_world.specs.Bounds.{IsBounded}
 use Rattle.line_world.specs.Discovering.{discovered_by, discovered_in}

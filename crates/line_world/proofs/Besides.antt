@@ -1,5 +1,5 @@
 -- What stands beside the nodes, as events leave it.
-use Rattle.std.proofs.Common.{◌≡◌, ℕ, suc, ◌<◌, ◌≤◌, Bool, true, List, [], ◌∷◌, length, Option, Some, None, Result, Ok, Err, refl, sym, ap, subst, ◌∙◌}
+use Rattle.std.proofs.Common.{◌≡◌, ℕ, suc, ◌<◌, ◌≤◌, Bool, true, List, [], ◌∷◌, length, Some, Result, Ok, Err, refl, sym, ap, subst, ◌∙◌}
 use Rattle.std.specs.Prelude.{IfSome, slice_get, slice_set}
 use Rattle.plc_base.specs.declared.keeper.BadStore.{BadStore}
 use Rattle.plc_base.specs.declared.out_frame.Out.{Out}
@@ -15,7 +15,6 @@ use Rattle.node_rules.specs.Plans.{Plan}
 use Rattle.reach_rules.specs.ReachingNodes.{Beside, Reaching, restarted, restarted_by}
 use Rattle.line_events.specs.declared.event.Answer.{Answer}
 use Rattle.line_events.specs.declared.happenings.Happenings.{Happenings}
-use Rattle.line_events.specs.declared.event.StepFault.{StepFault}
 use Rattle.line_events.specs.declared.event.TheConstants.{MAX_EVENTS}
 use Rattle.line_rules.specs.Further.{after_ok, beside_after, beside_at, has_reached, reaches, restarts_by, set_beside}
 use Rattle.line_rules.specs.Logs.{AreLogged, LogsKept}

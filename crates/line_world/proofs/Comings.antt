@@ -22,7 +22,7 @@ use Rattle.node_rules.specs.Ciphers.{network}
 use Rattle.node_rules.specs.Frames.{Arrived, arrived, arrived_with}
 use Rattle.node_rules.specs.Memory.{Memory, Node}
 use Rattle.node_rules.specs.NodeSteps.{acts, left_by, of_station, stays}
-use Rattle.node_rules.specs.Plans.{Plan, carry_out, finished, halted, outcome_of, resting}
+use Rattle.node_rules.specs.Plans.{Plan, carry_out, finished, halted, resting}
 use Rattle.reach_rules.specs.Beacons.{is_discovery, frame_type}
 use Rattle.reach_rules.specs.Receiving.{NeighbourCommand, command_of}
 use Rattle.line_flights.specs.Flown.{not_lost}
@@ -34,8 +34,7 @@ use Rattle.line_events.specs.declared.happenings.Happenings.{Happenings}
 use Rattle.line_rules.specs.Forgery.{Comes, OfFlight, OfScript, accepting}
 use Rattle.line_rules.specs.Further.{line_step}
 use Rattle.line_rules.specs.Logs.{CommandsAreOctets, LogsKept}
-use Rattle.line_rules.specs.Steps.{Step}
-use Rattle.line_rules.specs.Worlds.{Flight, Trace, World, flight_at, node_at}
+use Rattle.line_rules.specs.Worlds.{Flight, World, flight_at, node_at}
 use Rattle.line_rules.proofs.LogsKept.{logs_kept}
 use Rattle.line_world.specs.Arrivals.{BringsOctets}
 use Rattle.line_world.specs.Soundness.{AreShort}

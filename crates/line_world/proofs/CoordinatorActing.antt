@@ -1,7 +1,7 @@
 -- What the coordinator did is the step that the rules of the line have, and it is sound still.
 use Rattle.std.proofs.Common.{◌≡◌, ℕ, Bool, true, false, ◌++◌, [], ◌∷◌, length, Option, Some, None, Result, Ok, Err, refl, sym, ap, subst, ◌∙◌, arith}
 use Rattle.std.specs.Prelude.{if◌then◌else◌, nat_lt, All, IfSome, IfNone, IsSome}
-use Rattle.std.specs.Option.{option_map, option_map_or, option_and_then}
+use Rattle.std.specs.Option.{option_map, option_and_then}
 use Rattle.std.specs.FinMap.{get}
 use Rattle.std.proofs.lemmas.List.Elements.{All-nil, All-cons}
 use Rattle.plc_base.specs.declared.key.Rand.{Rand}
@@ -14,7 +14,6 @@ use Rattle.frame_counters.specs.SendCounter.{passes, limit_write, raised}
 use Rattle.group_keys.specs.KeyRing.{Ring, ring_at, ring_slot}
 use Rattle.node_rules.specs.declared.refusal.RandomFault.{RandomFault}
 use Rattle.node_rules.specs.declared.refusal.RandomFault.TheVariants.{RandomsFull}
-use Rattle.node_rules.specs.Agreement.{Agrees, AgreesWith}
 use Rattle.node_rules.specs.Carrying.{Carries, nothing}
 use Rattle.node_rules.specs.Ciphers.{network}
 use Rattle.node_rules.specs.Coordinators as rules
@@ -35,10 +34,9 @@ use Rattle.coordinator.specs.CoordinatorStates.{CoordinatorState, memory_in, nod
 use Rattle.line_rules.specs.Steps.{memory_by, restart_word, restarts, ticked}
 use Rattle.line_events.specs.declared.event.Answer.{Answer}
 use Rattle.line_world.specs.Nodes.{node_in, stored_in, of_coordinator}
-use Rattle.line_world.specs.NodeOutcomes.{Took}
 use Rattle.line_world.specs.Soundness.{NodeAgreesWith, IsSoundCoordinator}
-use Rattle.line_world.proofs.Acting.{took, known_after, tables_after, StayedHalted, Places, IsRestartWord}
-use Rattle.line_world.proofs.LentStations.{StationPlan, StationStayed, StationCarries, IsOwnPlan, lent, lent_took, lent_sound, node_says, same_home}
+use Rattle.line_world.proofs.Acting.{Took, took, known_after, tables_after, StayedHalted, Places, IsRestartWord}
+use Rattle.line_world.proofs.LentStations.{same_home}
 
 -- # Agreement
 

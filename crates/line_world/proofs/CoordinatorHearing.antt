@@ -33,12 +33,11 @@ use Rattle.meter_node.specs.MeterStates.{MeterState, memory_with}
 use Rattle.coordinator.specs.CoordinatorAgreement.{CoordinatorAgrees}
 use Rattle.coordinator.specs.CoordinatorStates.{CoordinatorState, memory_in, node_of, identity_of}
 use Rattle.line_world.specs.declared.nodes.reception.Reception.{Reception}
-use Rattle.line_world.specs.NodeOutcomes.{Took}
 use Rattle.line_world.specs.Nodes.{of_coordinator, of_meter}
 use Rattle.line_world.specs.Receiving.{MayHear, CameTo, ReportsReception}
 use Rattle.line_world.specs.Soundness.{IsSoundCoordinator}
 use Rattle.line_world.proofs.AcceptingSteps.{meter_may_hear}
-use Rattle.line_world.proofs.Acting.{at, not_none}
+use Rattle.line_world.proofs.Acting.{Took, at, not_none}
 use Rattle.line_world.proofs.CoordinatorActing.{with_its, own_took, ringless_sound}
 use Rattle.line_world.proofs.ReportedReplies.{messages_unread, parts_of, there_is, reply_is}
 

@@ -1,5 +1,5 @@
 -- Frames of discovery that are heard, scans, and meters that choose an agent.
-use Rattle.std.proofs.Common.{◌≡◌, ◌≢◌, ◌%◌, slice_index_or, ℕ, zero, suc, ◌<◌, ◌≤◌, Bool, true, false, not, ◌&&◌, ◌||◌, List, [], ◌∷◌, ◌++◌, length, map}
+use Rattle.std.proofs.Common.{◌≡◌, ◌≢◌, ◌%◌, slice_index_or, ℕ, zero, suc, ◌<◌, ◌≤◌, Bool, true, false, not, ◌&&◌, ◌||◌, List, [], ◌∷◌, length}
 use Rattle.std.proofs.Common.{Option, Some, None, Result, Ok, Err, refl, sym, ap, subst, ◌∙◌, if◌then◌else◌, arith}
 use Rattle.std.specs.Prelude.{◌==◌, nat_eq, nat_lt, IfSome, is_some, slice_get, unwrap_or}
 use Rattle.std.specs.Option.{option_and_then, option_map, option_map_or}
@@ -9,22 +9,18 @@ use Rattle.std.proofs.lemmas.Option.{get_or_from_slice_get, slice_get_within}
 use Rattle.plc_base.specs.declared.address.TheConstants.{PAN}
 use Rattle.plc_base.specs.declared.key.Key.{Key}
 use Rattle.plc_base.specs.declared.out_frame.Out.{Out}
-use Rattle.plc_base.specs.declared.out_frame.OutFrame.{OutFrame}
 use Rattle.plc_base.specs.Fields.{octet}
 use Rattle.plc_base.specs.Grant.{Granted}
-use Rattle.store_tables.specs.Writes.{Written, write}
-use Rattle.store_tables.specs.Writes.{puts_of}
+use Rattle.store_tables.specs.Writes.{Written, write, puts_of}
 use Rattle.joining_messages.specs.declared.message.JoinBody.TheVariants as body
 use Rattle.node_rules.specs.Joining.{message}
 use Rattle.pan_discovery.specs.declared.message.Discovery.{Discovery}
 use Rattle.pan_discovery.specs.declared.message.Discovery.TheVariants as discoveries
-use Rattle.pan_discovery.specs.Messages.{discovery_spelling}
 use Rattle.pan_discovery.specs.Agents.{kth_of}
 use Rattle.pan_discovery.specs.History.{Scanned, begun}
 use Rattle.node_rules.specs.declared.refusal.JoinRefusal.{JoinRefusal}
 use Rattle.node_rules.specs.declared.refusal.JoinRefusal.TheVariants as joins
 use Rattle.node_rules.specs.Accepting.{is_own}
-use Rattle.node_rules.specs.Carrying.{nothing}
 use Rattle.node_rules.specs.Ciphers.{network}
 use Rattle.node_rules.specs.Drafts.{choose as choose_plan, empty_draft, refused, sealing}
 use Rattle.node_rules.specs.Memory.{ByAgent, Memory, Node, Role, StationMemory, address_of, node_address}
@@ -39,8 +35,7 @@ use Rattle.reach_rules.specs.declared.refusal.ChooseRefusal.TheVariants as choic
 use Rattle.reach_rules.specs.declared.refusal.DiscoveryDropped.TheVariants as drops
 use Rattle.reach_rules.specs.declared.refusal.ScanRefusal.TheVariants as scan_faults
 use Rattle.reach_rules.specs.Beacons.{ChosenAgent, Discovering, begin_scan, choose_agent, choosing_ends, chosen, cost_to_coordinator, hear_beacon, hear_request}
-use Rattle.reach_rules.specs.Beacons.{joins_by}
-use Rattle.reach_rules.specs.Beacons.{takes_beacon, takes_beacons}
+use Rattle.reach_rules.specs.Beacons.{joins_by, takes_beacon, takes_beacons}
 use Rattle.reach_rules.specs.Beacons as beacons
 use Rattle.reach_rules.specs.ReachingNodes.{Beside, Reaching, nothing_beside}
 use Rattle.line_events.specs.declared.event.Answer.{Answer}
@@ -50,9 +45,9 @@ use Rattle.line_events.specs.declared.event.TheConstants.{MAX_EVENTS}
 use Rattle.line_events.specs.declared.happenings.AgentLine.{AgentLine}
 use Rattle.line_events.specs.declared.happenings.Happenings.{Happenings}
 use Rattle.line_rules.specs.Answers.{discovery_word, join_word}
-use Rattle.line_rules.specs.Further.{agent_line, beacon_taken, beside_after, beside_at, choice_word, choose, chooses_by, discovery_flight, discovery_flights}
+use Rattle.line_rules.specs.Further.{agent_line, beacon_taken, beside_after, beside_at, choice_word, choose, chooses_by, discovery_flights}
 use Rattle.line_rules.specs.Further.{has_discovered, has_reached, reaches, scan, scanning, scans_by, set_beside, with_beside, without_log}
-use Rattle.line_rules.specs.Steps.{flight_by, happenings, identity, psk_of, running_world, node_trace, world_after}
+use Rattle.line_rules.specs.Steps.{happenings, identity, psk_of, running_world, node_trace, world_after}
 use Rattle.line_rules.specs.Worlds.{Noticed, Trace, World}
 use Rattle.line_world.specs.Bounds.{IsBounded}
 use Rattle.line_world.specs.Discovering.{HearsBeacon, TakesBeacon, flies_in, joins_in, taken_by}
@@ -62,8 +57,7 @@ use Rattle.line_world.specs.Steps.{Steps}
 use Rattle.line_world.proofs.HeardCommands.{beside_same, set_same}
 use Rattle.line_world.proofs.Orders.{IsMeter, Runs, at_meter}
 use Rattle.line_world.proofs.Settings.{bounded_beside}
-use Rattle.line_world.proofs.Taking.{IsThere, after, bounded_by, is_taken_so, node_acted}
-use Rattle.line_world.proofs.Taking.{begun as begun_so}
+use Rattle.line_world.proofs.Taking.{IsThere, after, bounded_by, is_taken_so, node_acted, begun as begun_so}
 
 -- # Octets of discovery
 
@@ -86,16 +80,6 @@ pub other_type : (octets : List ℕ) → length octets ≢ 0 → slice_index_or 
 other_type octets some other = sym (octets_by octets false (slice_index_or octets 0 0 % 8 == 3) some (ne_eqb _ 0 other) refl)
 
 -- # What flies
-
--- what gives out this frame alone
-abbrev pub frame_out : Discovery → OutFrame
-frame_out frame = record { octets = discovery_spelling frame; note = 0; key = None }
-
-pub flies_so : (w : World) (number : ℕ) (frame : Discovery) (out : Out) → out ≡ record nothing { frames = frame_out frame ∷ [] }
-    → record (running_world w) { flights = w.flights ++ map (flight_by number) out.frames; made = w.made ++ out.tags.made } ≡ flies_in w number (Some frame)
-flies_so w number frame out is =
-    (λ i. record (running_world w) { flights = w.flights ++ map (flight_by number) (is i).frames; made = w.made ++ (is i).tags.made })
-    ∙ ap (λ ts. record (running_world w) { flights = w.flights ++ discovery_flight number frame ∷ []; made = ts }) (append-nil w.made)
 
 -- the bounds after a frame that flew, if one did
 flies_bounded : (w : World) (number : ℕ) (frame : Option Discovery) → IsBounded w → w.events < MAX_EVENTS → IsBounded (flies_in w number frame)

@@ -45,16 +45,14 @@ use Rattle.line_events.specs.declared.event.Answer.TheVariants as answers
 use Rattle.line_events.specs.declared.event.TheConstants.{MAX_EVENTS}
 use Rattle.line_events.specs.declared.happenings.Happenings.{Happenings}
 use Rattle.line_rules.specs.Answers.{Reception, command_word, coordinator_reception, meter_reception, only}
-use Rattle.line_rules.specs.Further.{beside_after, beside_at, broadcast_up, command_trace}
-use Rattle.line_rules.specs.Further.{has_reached, path_line, reaches, set_beside}
+use Rattle.line_rules.specs.Further.{beside_after, beside_at, broadcast_up, command_trace, has_reached, path_line, reaches, set_beside}
 use Rattle.line_rules.specs.Logs.{LogIn}
 use Rattle.line_rules.specs.Steps.{flight_by, hearing_step, identity, number_of, received, world_after}
 use Rattle.line_rules.specs.Worlds.{Trace, World, is_forged_tag}
 use Rattle.line_rules.proofs.LogSteps.{NodeIn, Quiet, acts_quiet}
 use Rattle.line_world.specs.declared.nodes.command.Commanded.{Commanded}
 use Rattle.line_world.specs.declared.nodes.reception.Reception as receiving
-use Rattle.line_world.specs.Arrivals.{done_in, in_run, left_of, reception_happenings, outcome_of_unbelieved}
-use Rattle.line_world.specs.Arrivals.{outcome_of_command as heard_by_command}
+use Rattle.line_world.specs.Arrivals.{done_in, in_run, left_of, reception_happenings, outcome_of_unbelieved, outcome_of_command as heard_by_command}
 use Rattle.line_world.specs.Bounds.{IsBounded}
 use Rattle.line_world.specs.NodeOutcomes.{given_by}
 use Rattle.line_world.specs.Reaching.{DidAfter, IsLogOf, ReachedCommand, given_after}

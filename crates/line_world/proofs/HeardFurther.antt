@@ -10,8 +10,7 @@ use Rattle.line_flights.specs.declared.flights.Origin.{Origin}
 use Rattle.line_events.specs.declared.happenings.Happenings.{Happenings}
 use Rattle.line_rules.specs.Further.{beside_at, is_dropped}
 use Rattle.line_rules.specs.Worlds.{Trace, World}
-use Rattle.line_world.specs.Arrivals.{outcome_of_checked, outcome_of_further, outcome_of_hearing, outcome_of_unbelieved}
-use Rattle.line_world.specs.Arrivals.{outcome_of_command as heard_by_command}
+use Rattle.line_world.specs.Arrivals.{outcome_of_checked, outcome_of_further, outcome_of_hearing, outcome_of_unbelieved, outcome_of_command as heard_by_command}
 use Rattle.line_world.specs.Steps.{Steps}
 use Rattle.line_world.proofs.Hearings.{command_heard}
 

@@ -24,11 +24,10 @@ use Rattle.line_rules.specs.Steps.{hearing_step}
 use Rattle.meter_node.specs.Hearing.{CameUp}
 use Rattle.meter_node.specs.MeterStates.{MeterState, memory_with, node_of, identity_of}
 use Rattle.line_world.specs.declared.nodes.reception.Reception.{Reception}
-use Rattle.line_world.specs.NodeOutcomes.{Took}
 use Rattle.line_world.specs.Nodes.{of_meter}
 use Rattle.line_world.specs.Receiving.{MayHear, CameTo, ReportsReception}
 use Rattle.line_world.specs.Soundness.{IsSoundMeter}
-use Rattle.line_world.proofs.Acting.{at, not_none}
+use Rattle.line_world.proofs.Acting.{Took, at, not_none}
 use Rattle.line_world.proofs.MeterActing.{meter_took, meter_sound}
 use Rattle.line_world.proofs.ReportedReplies.{messages_unread, parts_of, there_is, reply_is}
 

@@ -30,16 +30,16 @@ use Rattle.line_rules.specs.Further.{reaches}
 use Rattle.coordinator.specs.CoordinatorStates.{CoordinatorState}
 use Rattle.meter_node.specs.MeterStates.{MeterState}
 use Rattle.line_world.specs.declared.nodes.command.Commanded.{Commanded}
-use Rattle.line_world.specs.NodeOutcomes.{Did, Took}
+use Rattle.line_world.specs.NodeOutcomes.{Did}
 use Rattle.line_world.specs.Nodes.{node_in, nodes_in}
-use Rattle.line_world.specs.Reaching.{DidAfter, IsLogOf, Reached, ReachedCommand, Reaches, ReachesCommand, ReachesFirst, ReachedFirst, ReportsCommand}
-use Rattle.line_world.specs.Reaching.{TookAfter, TookAlone}
+use Rattle.line_world.specs.Reaching.{DidAfter, IsLogOf, ReachedCommand, Reaches, ReachesCommand, ReachesFirst, ReachedFirst, ReportsCommand}
 use Rattle.line_world.specs.Receiving.{MayHear}
 use Rattle.line_world.specs.Soundness.{AreSound, IsSound, NodeAgreesWith}
+use Rattle.line_world.proofs.Acting.{Took}
 use Rattle.line_world.proofs.CoordinatorActing as coordinators
 use Rattle.line_world.proofs.LentFurther.{command_lent}
-use Rattle.line_world.proofs.LentReaches.{AreLent, Added, adds, after_sound, after_took, alone_took, first_sound, first_took, log_of_station, marks_short}
-use Rattle.line_world.proofs.LentReaches.{node_halted, station_has}
+use Rattle.line_world.proofs.LentReaches.{AreLent, Added, TookAfter, adds, after_sound, after_took, alone_took, first_sound, first_took, log_of_station}
+use Rattle.line_world.proofs.LentReaches.{marks_short, node_halted, station_has}
 use Rattle.line_world.proofs.LentStations.{StationPlan, StationStayed, StationCarries, IsOwnPlan, holder, lent, lent_took, lent_sound, node_says}
 use Rattle.line_world.proofs.MeterActing as meters
 use Rattle.line_world.proofs.NumberedNodes as numbers

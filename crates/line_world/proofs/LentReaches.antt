@@ -12,7 +12,7 @@ use Rattle.node_rules.specs.Carrying.{Carries, nothing}
 use Rattle.node_rules.specs.Memory.{StationMemory, Memory, Node, Role}
 use Rattle.node_rules.specs.MemoryDrafts.{with_station}
 use Rattle.node_rules.specs.Neighbours.{CarriesAfter, followed}
-use Rattle.node_rules.specs.NodeSteps.{acts}
+use Rattle.node_rules.specs.NodeSteps.{NodeStep, acts}
 use Rattle.node_rules.specs.Plans.{Plan, within}
 use Rattle.node_rules.specs.States.{State}
 use Rattle.node_rules.proofs.Composing.{carries_within}
@@ -22,13 +22,35 @@ use Rattle.node_rules.specs.Drafts.{alone}
 use Rattle.neighbour_checks.specs.Acks.{ack_spelling}
 use Rattle.reach_rules.specs.CheckedReplies.{acknowledges}
 use Rattle.reach_rules.specs.ReachingNodes.{Beside, Reaching}
-use Rattle.line_rules.specs.Further.{beside_after, with_beside, without_log}
+use Rattle.line_rules.specs.Further.{beside_after, reaches, with_beside, without_log}
 use Rattle.line_world.specs.Nodes.{node_in}
-use Rattle.line_world.specs.Reaching.{Reaches, ReachesFirst, TookAfter, TookAlone, TookFirst, beside_left, of_held}
+use Rattle.line_world.specs.Reaching.{Reaches, ReachesFirst, beside_left, given_after, of_held}
 use Rattle.line_world.specs.Soundness.{IsSound}
-use Rattle.line_world.proofs.Acting.{took}
+use Rattle.line_world.proofs.Acting.{Took, took}
 use Rattle.line_world.proofs.LentFurther.{Lent, node_side, station_side, owns_apart, places_apart}
 use Rattle.line_world.proofs.LentStations.{StationPlan, StationStayed, StationCarries, IsOwnPlan, holder, lent, lent_took, lent_sound, over, stays_lent}
+
+-- # What one node did
+
+-- A node carried out a plan of its further rules, first in its step.
+pub record TookFirst {A : Type 0} (x : Node) (b : Beside) (halted : A)
+    (plan : Reaching Memory → Plan (Reaching Memory) A) (answer : A) (out : Out) (node : Node) (c : Beside) : Type 0 where
+  pub took : Took (reaches x b halted plan) answer out node
+  pub beside : c ≡ beside_after x b plan (reaches x b halted plan).node
+
+-- The same after what was given out before.
+pub record TookAfter {A : Type 0} (x : Node) (b : Beside) (halted : A)
+    (plan : Reaching Memory → Plan (Reaching Memory) A) (answer : A) (before out : Out) (node : Node) (c : Beside) : Type 0 where
+  pub answer_is : answer ≡ (reaches x b halted plan).answer
+  pub out_is : out ≡ given_after before (reaches x b halted plan)
+  pub node_is : node ≡ (reaches x b halted plan).node
+  pub beside : c ≡ beside_after x b plan (reaches x b halted plan).node
+
+-- It took this step, after what was given out before, and nothing stands beside it.
+pub record TookAlone {A : Type 0} (step : NodeStep A) (answer : A) (before out : Out) (node : Node) : Type 0 where
+  pub answer_is : answer ≡ step.answer
+  pub out_is : out ≡ given_after before step
+  pub node_is : node ≡ step.node
 
 -- # After what was given out before
 

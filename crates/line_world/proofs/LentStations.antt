@@ -35,9 +35,8 @@ use Rattle.coordinator.specs.CoordinatorAgreement.{HasCoordinatorAddress}
 use Rattle.line_events.specs.declared.event.Answer.{Answer}
 use Rattle.line_events.specs.declared.event.Answer.TheVariants as answers
 use Rattle.line_world.specs.Nodes.{node_in, stored_in}
-use Rattle.line_world.specs.NodeOutcomes.{Took}
 use Rattle.line_world.specs.Soundness.{NodeAgreesWith, IsSound}
-use Rattle.line_world.proofs.Acting.{took, known_after, tables_after, short_tables, StayedHalted}
+use Rattle.line_world.proofs.Acting.{Took, took, known_after, tables_after, short_tables, StayedHalted}
 
 -- the node over a station, by the memory beside it
 abbrev pub holder : Memory → State StationMemory → State Memory

@@ -2,7 +2,7 @@
 use Rattle.std.proofs.Common.{◌≡◌, ℕ, Option, Some, None, Result, Ok, Err, refl, sym, ap, subst, ◌∙◌}
 use Rattle.std.specs.Prelude.{IfSome, IfNone, IsSome}
 use Rattle.std.specs.Result.{result_ok}
-use Rattle.std.specs.Option.{option_map, option_map_or}
+use Rattle.std.specs.Option.{option_map}
 use Rattle.plc_base.specs.declared.keeper.BadStore.{BadStore}
 use Rattle.plc_base.specs.declared.key.Key.{Key}
 use Rattle.plc_base.specs.declared.out_frame.Out.{Out}
@@ -21,10 +21,8 @@ use Rattle.meter_node.specs.Reading.{read_answer}
 use Rattle.line_rules.specs.Steps.{memory_by, restart_word, restarts, ticked}
 use Rattle.line_events.specs.declared.event.Answer.{Answer}
 use Rattle.line_world.specs.Nodes.{stored_in, node_in, of_meter}
-use Rattle.line_world.specs.NodeOutcomes.{Took}
 use Rattle.line_world.specs.Soundness.{NodeAgreesWith, IsSoundMeter}
-use Rattle.line_world.proofs.Acting.{took, known_after, tables_after, StayedHalted, Places, not_some, IsRestartWord}
-use Rattle.line_world.proofs.LentStations.{StationPlan, StationStayed, StationCarries, IsOwnPlan, lent, lent_took, lent_sound, node_says}
+use Rattle.line_world.proofs.Acting.{Took, took, known_after, tables_after, StayedHalted, Places, not_some, IsRestartWord}
 
 -- the pair key says nothing of the tables
 pub gapless_of_meter : (a b : Key) (records : Records) → HasGaplessTables (Meter a) records → HasGaplessTables (Meter b) records

@@ -10,9 +10,10 @@ use Rattle.node_rules.specs.Memory.{Node}
 use Rattle.node_rules.specs.NodeSteps.{NodeStep}
 use Rattle.coordinator.specs.CoordinatorStates.{CoordinatorState}
 use Rattle.meter_node.specs.MeterStates.{MeterState}
-use Rattle.line_world.specs.NodeOutcomes.{Did, Took}
+use Rattle.line_world.specs.NodeOutcomes.{Did}
 use Rattle.line_world.specs.Nodes.{nodes_in, of_coordinator, of_meter}
 use Rattle.line_world.specs.Soundness.{AreSound, IsSoundCoordinator, IsSoundMeter}
+use Rattle.line_world.proofs.Acting.{Took}
 use Rattle.line_world.proofs.Places.{found_in, sound_in}
 
 -- # A meter

@@ -40,8 +40,7 @@ use Rattle.line_rules.specs.Further.{without_log}
 use Rattle.line_world.specs.declared.nodes.command.Commanded.{Commanded}
 use Rattle.line_world.specs.declared.nodes.station_further.PathHeard.{PathHeard}
 use Rattle.line_world.specs.Reaching.{EndsCheck, Reaches, ReachesCommand, ReachesFirst, ReportsCommand, answer_as, beside_left, check_ended, of_held}
-use Rattle.line_world.specs.Reaching.{path_heard}
-use Rattle.line_world.specs.Reaching.{ended_by}
+use Rattle.line_world.specs.Reaching.{path_heard, ended_by}
 use Rattle.line_world.proofs.FurtherPlans.{asks_hop, before_stays, checks_alone, ends_awaited, ends_unawaited, none_stayed, own_of, sealed_answer, sent_after}
 use Rattle.line_world.proofs.FurtherPlans.{sent_first, some_is, local_answer}
 

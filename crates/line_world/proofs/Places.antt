@@ -9,9 +9,8 @@ use Rattle.std.proofs.lemmas.List.{map-set, length-map}
 use Rattle.std.proofs.lemmas.Option.{slice_get-map, slice_get_read}
 use Rattle.routing_set.proofs.Endings.{map_length, map_step, map_whole}
 use Rattle.node_rules.specs.Memory.{StationMemory, Memory, Node, address_of, node_address}
-use Rattle.coordinator.specs.CoordinatorStates.{CoordinatorState, memory_in}
 use Rattle.meter_node.specs.MeterStates.{MeterState, memory_with}
-use Rattle.line_world.specs.Nodes.{of_coordinator, of_meter}
+use Rattle.line_world.specs.Nodes.{of_meter}
 use Rattle.line_world.specs.Soundness.{IsSoundMeter}
 
 -- the meter at a place, as a node
@@ -35,15 +34,6 @@ pub address_is : (x : MeterState) (r : Option ℕ) → r ≡ option_and_then add
 address_is x r e = e ∙ by x.station.memory
   where
     by : (o : Option StationMemory) → option_and_then address_of o ≡ option_and_then (λ (m : Memory). address_of m.station) (option_map (memory_with x) o)
-    by None = refl
-    by (Some l) = refl
-
--- and that of the coordinator
-pub its_address_is : (x : CoordinatorState) (r : Option ℕ) → r ≡ option_and_then address_of x.station.memory → r ≡ node_address (of_coordinator x)
-its_address_is x r e = e ∙ by x.station.memory
-  where
-    by : (o : Option StationMemory)
-        → option_and_then address_of o ≡ option_and_then (λ (m : Memory). address_of m.station) (option_map (memory_in x.randoms x.sessions x.book) o)
     by None = refl
     by (Some l) = refl
 

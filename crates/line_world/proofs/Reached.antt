@@ -1,5 +1,5 @@
 -- A world that has a history has one after an event, which is one entry longer where the event was taken.
-use Rattle.std.proofs.Common.{◌≡◌, ◌<◌, ◌∷◌, [], ◌++◌, ◌+◌, Result, Ok, Err, sym, subst}
+use Rattle.std.proofs.Common.{◌<◌, ◌∷◌, [], ◌++◌, ◌+◌, Result, Ok, Err, sym, subst}
 use Rattle.node_rules.specs.Ciphers.{network}
 use Rattle.line_events.specs.declared.event.Event.{Event}
 use Rattle.line_events.specs.declared.event.TheConstants.{MAX_EVENTS}

@@ -203,9 +203,6 @@ first_of (x ∷ xs) is = (x, refl)
 pub first_there : (w : World) → true ≡ takes_setup w → (c : Node) × (node_at w 0 ≡ Some c)
 first_there w takes = first_of w.nodes (and_first (has_begun w) (not w.running) takes)
 
-pub setup_begun : (w : World) → true ≡ takes_setup w → 0 < length w.nodes
-setup_begun w takes = let c = first_there w takes in slice_get_within w.nodes 0 c.0 c.1
-
 pub uncut_at : (xs : List Node) (n : ℕ) (x : Node) → All IsUncut xs → slice_get xs n ≡ Some x → IsUncut x
 uncut_at xs n x all at = subst IsUncut (get_or_from_slice_get xs n x x at) (all n x (slice_get_within xs n x at))
 

@@ -42,8 +42,7 @@ use Rattle.node_rules.specs.Calls.{idled}
 use Rattle.node_rules.specs.Ciphers.{network}
 use Rattle.node_rules.specs.Coordinators as coordinators
 use Rattle.node_rules.specs.Drafts.{Draft, StationPlace, Ends, body_goes, checked, choose, empty_draft, goes, is_awaited, sealed_units, seeks, seeks_once}
-use Rattle.node_rules.specs.Drafts.{sealed_by}
-use Rattle.node_rules.specs.Drafts.{sealing_key, sets_out, waits, with_own_number, with_ring}
+use Rattle.node_rules.specs.Drafts.{sealed_by, sealing_key, sets_out, waits, with_own_number, with_ring}
 use Rattle.node_rules.specs.Frames.{Sent, Up, Down, to_all}
 use Rattle.node_rules.specs.Hearing as stations
 use Rattle.node_rules.specs.Hearing.{dropped}

@@ -63,18 +63,15 @@ use Rattle.line_events.specs.declared.event.StepFault.{StepFault}
 use Rattle.line_events.specs.declared.event.StepFault.TheVariants as faults
 use Rattle.line_events.specs.declared.happenings.Happenings.{Happenings}
 use Rattle.line_rules.specs.Answers.{Reception}
-use Rattle.line_rules.specs.Further.{accepted_further, acknowledged_if, acknowledging, adds_frames, after_ok, asks_by, bcast, beside_after, beside_at}
-use Rattle.line_rules.specs.Further.{checked, checks, chooses_by, choose as choose_event, comes, commanded, delivers, discovers_by, due, has_reached}
-use Rattle.line_rules.specs.Further.{hearing_outcome_by, further_hearing_outcome, injects, is_dropped, line_step, path, restarts_by, restarts_further, scan}
-use Rattle.line_rules.specs.Further.{scans_by}
+use Rattle.line_rules.specs.Further.{accepted_further, acknowledged_if, acknowledging, adds_frames, after_ok, asks_by, bcast, beside_after, beside_at, checked}
+use Rattle.line_rules.specs.Further.{checks, chooses_by, choose as choose_event, comes, commanded, delivers, discovers_by, due, has_reached, hearing_outcome_by}
+use Rattle.line_rules.specs.Further.{further_hearing_outcome, injects, is_dropped, line_step, path, restarts_by, restarts_further, scan, scans_by}
 use Rattle.line_rules.specs.Further.{sends_nothing, set_beside, ticks, with_check}
 use Rattle.line_rules.specs.Forgery.{accepting}
 use Rattle.line_rules.specs.Steps.{Step, activate, activate_at, allow, allowed, breaks, breaks_by, challenge, coordinator, cut, depot, depot_by, happenings}
 use Rattle.line_rules.specs.Steps.{has_begun, hearing_step, hearing_outcome, identity, in_setup, is_known, join, joins_by, keeps_rank, kick, leave, lose, meter}
-use Rattle.line_rules.specs.Steps.{near, near_by}
-use Rattle.line_rules.specs.Steps.{note_by, on_flight, on_meter, on_node, once_begun, preset, psk_of, rand, running_world, ranks_full, rekey, send, sends_by}
-use Rattle.line_rules.specs.Steps.{sent_if}
-use Rattle.line_rules.specs.Steps.{set_up, show, takes_setup, tick, ticked, world_after, trace_of}
+use Rattle.line_rules.specs.Steps.{near, near_by, note_by, on_flight, on_meter, on_node, once_begun, preset, psk_of, rand, running_world, ranks_full, rekey}
+use Rattle.line_rules.specs.Steps.{send, sends_by, sent_if, set_up, show, takes_setup, tick, ticked, world_after, trace_of}
 use Rattle.line_rules.specs.Worlds.{Flight, Trace, World, flight_at, node_at}
 use Rattle.line_world.specs.Bounds.{HasNoChecks, NoneChecked}
 use Rattle.line_world.specs.Steps.{Gives}

@@ -13,14 +13,13 @@ use Rattle.node_rules.specs.declared.refusal.LocalRefusal.TheVariants as locals
 use Rattle.node_rules.specs.declared.refusal.FrameRefusal.{FrameRefusal}
 use Rattle.node_rules.specs.Ciphers.{Ciphers, network}
 use Rattle.node_rules.specs.Memory.{Node}
-use Rattle.node_rules.specs.NodeSteps.{NodeStep}
+use Rattle.node_rules.specs.NodeSteps.{NodeStep, stays}
 use Rattle.line_flights.specs.declared.flights.Origin.{Origin}
 use Rattle.line_world.specs.declared.nodes.reception.HandedUp.{HandedUp}
 use Rattle.line_world.specs.declared.nodes.reception.Reception as receiving
 use Rattle.line_world.specs.Reaching.{given_after}
 use Rattle.line_events.specs.declared.happenings.Handed.{Handed}
 use Rattle.line_events.specs.declared.happenings.Happenings.{Happenings}
-use Rattle.node_rules.specs.NodeSteps.{stays}
 use Rattle.reach_rules.specs.CheckedReplies.{checks_after}
 use Rattle.reach_rules.specs.Receiving.{NeighbourCommand, command_of}
 use Rattle.line_events.specs.declared.event.Event.{Event}

@@ -8,8 +8,7 @@ use Rattle.plc_base.specs.declared.key.Key.{Key}
 use Rattle.plc_base.specs.declared.key.Rand.{Rand}
 use Rattle.plc_base.specs.Keeper.{Records}
 use Rattle.group_keys.specs.KeyBook.{Book, book_code}
-use Rattle.node_rules.specs.Memory.{StationMemory, MeterSession, CoordinatorSession, Memory}
-use Rattle.node_rules.specs.Memory.{Role, Coordinator, Meter, Stored, Node}
+use Rattle.node_rules.specs.Memory.{StationMemory, MeterSession, CoordinatorSession, Memory, Role, Coordinator, Meter, Stored, Node}
 use Rattle.node_rules.specs.MemoryCodes.{station_code}
 use Rattle.node_rules.specs.States.{eui_code}
 use Rattle.meter_node.specs.Sessions as meter_sessions

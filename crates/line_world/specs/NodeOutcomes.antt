@@ -17,9 +17,3 @@ pub record Did {A : Type 0} (step : NodeStep A) (old : List Node) (number : ℕ)
   pub answer_is : answer ≡ step.answer
   pub out_is : out ≡ given_by step
   pub nodes_are : new ≡ slice_set old number step.node
-
--- A node took this step: this is what it answered and gave out, and what became of it.
-pub record Took {A : Type 0} (step : NodeStep A) (answer : A) (out : Out) (node : Node) : Type 0 where
-  pub answer_is : answer ≡ step.answer
-  pub out_is : out ≡ given_by step
-  pub node_is : node ≡ step.node

@@ -28,7 +28,7 @@ use Rattle.line_world.specs.declared.nodes.command.Commanded.{Commanded}
 use Rattle.line_world.specs.declared.nodes.station_broadcasts.BroadcastRef.{BroadcastRef}
 use Rattle.line_world.specs.declared.nodes.station_further.PathHeard.{PathHeard}
 use Rattle.line_world.specs.declared.nodes.station_further.PathHeard.TheVariants as paths
-use Rattle.line_world.specs.NodeOutcomes.{Did, Took, given_by}
+use Rattle.line_world.specs.NodeOutcomes.{Did, given_by}
 
 -- # Answers
 
@@ -146,19 +146,6 @@ pub record ReachedFirst {A : Type 0} (x : Node) (b : Beside) (halted : A)
   pub did : Did (reaches x b halted plan) old number answer out new
   pub beside : c ≡ beside_after x b plan (reaches x b halted plan).node
 
--- One node did so: what the coordinator says of itself.
-pub record TookFirst {A : Type 0} (x : Node) (b : Beside) (halted : A)
-    (plan : Reaching Memory → Plan (Reaching Memory) A) (answer : A) (out : Out) (node : Node) (c : Beside) : Type 0 where
-  pub took : Took (reaches x b halted plan) answer out node
-  pub beside : c ≡ beside_after x b plan (reaches x b halted plan).node
-
-pub record TookAfter {A : Type 0} (x : Node) (b : Beside) (halted : A)
-    (plan : Reaching Memory → Plan (Reaching Memory) A) (answer : A) (before out : Out) (node : Node) (c : Beside) : Type 0 where
-  pub answer_is : answer ≡ (reaches x b halted plan).answer
-  pub out_is : out ≡ given_after before (reaches x b halted plan)
-  pub node_is : node ≡ (reaches x b halted plan).node
-  pub beside : c ≡ beside_after x b plan (reaches x b halted plan).node
-
 -- A node heard a command, and this is reported of it.
 pub record ReachedCommand (x : Node) (b : Beside) (c : NeighbourCommand) (old : List Node) (number : ℕ) (reported : Commanded)
     (before out : Out) (new : List Node) (left : Beside) : Type 0 where
@@ -169,9 +156,3 @@ pub record ReachedCommand (x : Node) (b : Beside) (c : NeighbourCommand) (old : 
 -- the log of a node that is not halted is what its store gives
 abbrev pub IsLogOf : Beside → Node → Type 0
 IsLogOf b x = IfSome x.memory (λ _. AgreesWith b.log x.store.records)
-
--- One node took this step, after what was given out before, and nothing stands beside it.
-pub record TookAlone {A : Type 0} (step : NodeStep A) (answer : A) (before out : Out) (node : Node) : Type 0 where
-  pub answer_is : answer ≡ step.answer
-  pub out_is : out ≡ given_after before step
-  pub node_is : node ≡ step.node

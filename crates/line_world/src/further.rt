@@ -12,8 +12,7 @@ ghost use Rattle.line_events.specs.declared.event.TheConstants.{MAX_EVENTS};
 ghost use Rattle.line_rules.specs.Answers as words;
 ghost use Rattle.line_rules.specs.Further as further;
 ghost use Rattle.line_rules.specs.Logs.{LogsKept};
-ghost use Rattle.line_world.specs.Arrivals.{Acknowledges, outcome_of_further, outcome_of_command, in_run, is_stored, outcome_of_unbelieved};
-ghost use Rattle.line_world.specs.Arrivals.{with_check_of};
+ghost use Rattle.line_world.specs.Arrivals.{Acknowledges, outcome_of_further, outcome_of_command, in_run, is_stored, outcome_of_unbelieved, with_check_of};
 ghost use Rattle.line_world.specs.Bounds.{IsBounded};
 ghost use Rattle.line_world.specs.Lines.{HasRoom, world_of};
 ghost use Rattle.line_world.specs.Reaching as reaching;
@@ -22,7 +21,7 @@ ghost use Rattle.line_world.specs.Steps.{Steps, has_address};
 ghost use Rattle.plc_base.specs.declared.limits.TheConstants.{MOST_FRAMES};
 
 use crate::line::Line;
-use crate::nodes::{CommandRef, command_on, only};
+use crate::nodes::{CommandRef, command_on, reception_of};
 use line_events::{Answer, Happenings, StepFault};
 use line_flights::Origin;
 use loadng_messages::{Message, read_message};
@@ -272,7 +271,7 @@ impl Line {
     {
         self.out.clear();
         let forged = self.is_forged(origin);
-        self.received(node, forged, &only(Answer::Blacklisted, None))
+        self.received(node, forged, &reception_of(Answer::Blacklisted, None))
     }
 
     // A node hears a command for its neighbours.
@@ -382,7 +381,7 @@ impl Line {
         );
         let forged = self.is_forged(origin);
         if !self.acknowledged(node, due(&got.path, message, reported.answer)) {
-            return self.received(node, forged, &only(Answer::Store, None));
+            return self.received(node, forged, &reception_of(Answer::Store, None));
         }
         self.begin_check(node, reply_of(message, reported.replied));
         self.received(node, forged, &reported)

@@ -1,9 +1,8 @@
 //! What is said of an event, and what a node's call changes in the world.
-ghost use Rattle.std.specs.Prelude.{◌≡◌, ◌+◌, ◌++◌, ◌<◌, ◌≤◌, ◌&&◌, not, true, length, map, Ok, OnOk, OnErr, nat_lt};
+ghost use Rattle.std.specs.Prelude.{◌≡◌, ◌+◌, ◌++◌, ◌<◌, ◌≤◌, true, length, map, OnOk, OnErr};
 ghost use Rattle.line_events.specs.declared.event.TheConstants.{MAX_EVENTS};
 ghost use Rattle.line_events.specs.declared.event.StepFault.TheVariants as faults;
 ghost use Rattle.line_rules.specs.Steps as rules;
-ghost use Rattle.line_world.specs.Bounds.{IsBounded};
 ghost use Rattle.line_world.specs.Finding.{found, found_meter};
 ghost use Rattle.line_world.specs.Lines.{HasRoom, world_of};
 ghost use Rattle.plc_base.specs.declared.limits.TheConstants.{MOST_FRAMES};

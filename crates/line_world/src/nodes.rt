@@ -3,7 +3,7 @@
 //!
 //! Each call of [`Nodes`] names a node, and takes the step that the rules of the nodes give for it, whichever writes of its
 //! keeper fail.
-ghost use Rattle.std.specs.Prelude.{◌≡◌, ◌≤◌, ◌<◌, [], length, nat_lt, not, drop, position, IfSome, Some, slice_get};
+ghost use Rattle.std.specs.Prelude.{◌≡◌, ◌≤◌, ◌<◌, [], length, nat_lt, not, position, IfSome, Some, slice_get};
 ghost use Rattle.std.specs.List.{list_any};
 ghost use Rattle.node_rules.specs.Memory as memory;
 ghost use Rattle.node_rules.specs.Accepting.{same_eui};
@@ -29,7 +29,7 @@ mod time;
 pub(crate) use command::{CommandRef, command_on};
 use coordinator::Coordinator;
 use meter_node::Meter;
-pub(crate) use node_receptions::only;
+pub(crate) use node_receptions::reception_of;
 use plc_base::{Eui, Key, MemKeeper, Short};
 pub(crate) use reception::{HandedUp, Reception};
 use std::alloc::Global;

@@ -1,6 +1,5 @@
 //! What the operator orders at the coordinator.
-ghost use Rattle.std.specs.Prelude.{◌≡◌, ◌==◌, ◌<◌, ◌≤◌, true, false, not};
-ghost use Rattle.node_rules.specs.Calls as calls;
+ghost use Rattle.std.specs.Prelude.{◌≡◌, ◌==◌, ◌<◌, true, false, not};
 ghost use Rattle.node_rules.specs.Ciphers.{network};
 ghost use Rattle.line_events.specs.declared.event.TheConstants.{MAX_EVENTS};
 ghost use Rattle.line_rules.specs.Answers as words;

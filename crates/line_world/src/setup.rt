@@ -3,7 +3,6 @@ ghost use Rattle.std.specs.Prelude.{◌≡◌, ◌<◌, ◌≤◌, ◌||◌, ◌
 ghost use Rattle.node_rules.specs.Calls as calls;
 ghost use Rattle.node_rules.specs.Ciphers.{network};
 ghost use Rattle.line_events.specs.declared.event.TheConstants.{MAX_EVENTS};
-ghost use Rattle.line_rules.specs.Answers as words;
 ghost use Rattle.line_rules.specs.Steps as rules;
 ghost use Rattle.line_world.specs.Bounds.{IsBounded};
 ghost use Rattle.line_world.specs.Lines.{world_of};

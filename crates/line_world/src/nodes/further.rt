@@ -1,5 +1,5 @@
 //! What the nodes of a line do about acknowledgements, broadcasts, beacons and path requests.
-ghost use Rattle.std.specs.Prelude.{◌≡◌, ◌<◌, ◌≤◌, ◌+◌, length, Ok, Err, IfSome, IsSome, Some, None, if◌then◌else◌, is_some, not, slice_get};
+ghost use Rattle.std.specs.Prelude.{◌≡◌, ◌<◌, ◌≤◌, length, Err, IfSome, IsSome, Some, None, if◌then◌else◌, is_some, not, slice_get};
 ghost use Rattle.std.specs.Option.{option_and_then, option_map};
 ghost use Rattle.node_rules.specs.MemoryDrafts.{in_memory};
 ghost use Rattle.node_rules.specs.NodeSteps.{acts};
@@ -9,15 +9,14 @@ ghost use Rattle.reach_rules.specs.Broadcasts as broadcast_rules;
 ghost use Rattle.reach_rules.specs.CheckedReplies.{acknowledges};
 ghost use Rattle.reach_rules.specs.PathAsking.{ask_path};
 ghost use Rattle.reach_rules.specs.ReachingNodes.{restarted};
-ghost use Rattle.line_world.specs.Reaching.{DidAfter, IsLogOf, ReachedCommand, ReachedFirst};
-ghost use Rattle.line_world.specs.Reaching.{command_of};
+ghost use Rattle.line_world.specs.Reaching.{DidAfter, IsLogOf, ReachedCommand, ReachedFirst, command_of};
 ghost use Rattle.plc_base.specs.declared.limits.TheConstants.{MOST_FRAMES};
 
 use crate::beside::Beside;
 use crate::nodes::Nodes;
 use crate::nodes::command::{CommandRef, Commanded};
 use crate::nodes::station_broadcasts::broadcast_at;
-use crate::nodes::station_further::{acknowledge_at, ask_at, hear_command_at, only};
+use crate::nodes::station_further::{acknowledge_at, ask_at, commanded_of, hear_command_at};
 use line_events::Answer;
 use node_rules::{LocalRefusal, Reply};
 use plc_base::{BadStore, FrameBuf, Out, Short};
@@ -206,7 +205,7 @@ impl Nodes {
             );
         }
         let Some(coordinator) = &mut self.coordinator else {
-            return only(Answer::Store);
+            return commanded_of(Answer::Store);
         };
         hear_command_at(0, coordinator.station(), beside, command, buffer, out)
     }

@@ -7,7 +7,7 @@ ghost use Rattle.line_rules.specs.Steps.{hearing_step};
 ghost use Rattle.line_world.specs.Receiving.{MayHear, Received};
 
 use crate::nodes::Nodes;
-use crate::nodes::node_receptions::{only, reception_of_coordinator, reception_of_meter};
+use crate::nodes::node_receptions::{reception_of, reception_of_coordinator, reception_of_meter};
 use crate::nodes::reception::Reception;
 use crate::nodes::station_further::reply_of;
 use line_events::Answer;
@@ -41,7 +41,7 @@ impl Nodes {
             return reception_of_meter(&heard, replied);
         }
         let Some(coordinator) = &mut self.coordinator else {
-            return only(Answer::Store, None);
+            return reception_of(Answer::Store, None);
         };
         let heard = coordinator.hear(got, cost, note, now, datagram, out);
         let replied = reply_of(coordinator.last_reply());

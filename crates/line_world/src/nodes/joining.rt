@@ -1,5 +1,5 @@
 //! What a meter does about its joining, and the random values of every node.
-ghost use Rattle.std.specs.Prelude.{◌≡◌, ◌≤◌, ◌<◌, length, Ok, Err, IfSome, IsSome, slice_get};
+ghost use Rattle.std.specs.Prelude.{◌≤◌, ◌<◌, length, Ok, Err, IfSome, IsSome, slice_get};
 ghost use Rattle.node_rules.specs.Carrying.{nothing};
 ghost use Rattle.node_rules.specs.Ciphers.{network};
 ghost use Rattle.node_rules.specs.MemoryDrafts as drafts;

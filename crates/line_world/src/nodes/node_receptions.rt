@@ -9,7 +9,7 @@ use node_rules::{CoordinatorHeard, Dropped, Heard, MeterHeard, Reply};
 use plc_base::OctetRef;
 
 // A word, the reply that the station sent last, and nothing beside them.
-pub(crate) fn only(answer: Answer, replied: Option<Reply>) -> Reception<'static>
+pub(crate) fn reception_of(answer: Answer, replied: Option<Reply>) -> Reception<'static>
     ensures value { result ≡ record { answer = answer; up = None; took = false; done = None; replied = replied } }
     ensures reports { ReportsReception result (rules.only answer) }
 {
@@ -66,15 +66,15 @@ fn reception_of_station<'a>(heard: &Heard<'a>, replied: Option<Reply>) -> Recept
             done: None,
             replied,
         },
-        Heard::Held => only(Answer::Held, replied),
-        Heard::Relayed => only(Answer::Relayed, replied),
-        Heard::Answered => only(Answer::Answered, replied),
-        Heard::Learned => only(Answer::Learned, replied),
-        Heard::Broken => only(Answer::Broken, replied),
-        Heard::Reported => only(Answer::Reported, replied),
+        Heard::Held => reception_of(Answer::Held, replied),
+        Heard::Relayed => reception_of(Answer::Relayed, replied),
+        Heard::Answered => reception_of(Answer::Answered, replied),
+        Heard::Learned => reception_of(Answer::Learned, replied),
+        Heard::Broken => reception_of(Answer::Broken, replied),
+        Heard::Reported => reception_of(Answer::Reported, replied),
         // A node reads each joining command by itself, and no line of a script sends the commands 03, 04 and 05.
-        Heard::Joining { .. } => only(Answer::BadUnit, replied),
-        Heard::Local { .. } => only(Answer::BadUnit, replied),
+        Heard::Joining { .. } => reception_of(Answer::BadUnit, replied),
+        Heard::Local { .. } => reception_of(Answer::BadUnit, replied),
     }
 }
 
@@ -85,8 +85,8 @@ fn meter_words<'a>(heard: &MeterHeard<'a>, replied: Option<Reply>) -> Reception<
 {
     match heard {
         MeterHeard::Station(heard) => reception_of_station(heard, replied),
-        MeterHeard::Carried => only(Answer::Carried, replied),
-        MeterHeard::Replied => only(Answer::Replied, replied),
+        MeterHeard::Carried => reception_of(Answer::Carried, replied),
+        MeterHeard::Replied => reception_of(Answer::Replied, replied),
         MeterHeard::Took(_) => Reception {
             answer: Answer::Took,
             up: None,
@@ -94,10 +94,10 @@ fn meter_words<'a>(heard: &MeterHeard<'a>, replied: Option<Reply>) -> Reception<
             done: None,
             replied,
         },
-        MeterHeard::Noted => only(Answer::Noted, replied),
-        MeterHeard::Declined => only(Answer::Declined, replied),
-        MeterHeard::Left => only(Answer::Left, replied),
-        MeterHeard::Activated => only(Answer::Activated, replied),
+        MeterHeard::Noted => reception_of(Answer::Noted, replied),
+        MeterHeard::Declined => reception_of(Answer::Declined, replied),
+        MeterHeard::Left => reception_of(Answer::Left, replied),
+        MeterHeard::Activated => reception_of(Answer::Activated, replied),
     }
 }
 
@@ -111,7 +111,7 @@ pub(crate) fn reception_of_meter<'a>(
 {
     match heard {
         Ok(heard) => meter_words(heard, replied),
-        Err(reason) => only(drop_word(*reason), replied),
+        Err(reason) => reception_of(drop_word(*reason), replied),
     }
 }
 
@@ -122,8 +122,8 @@ fn coordinator_words<'a>(heard: &CoordinatorHeard<'a>, replied: Option<Reply>) -
 {
     match heard {
         CoordinatorHeard::Station(heard) => reception_of_station(heard, replied),
-        CoordinatorHeard::Challenged => only(Answer::Challenged, replied),
-        CoordinatorHeard::Keyed { .. } => only(Answer::Keyed, replied),
+        CoordinatorHeard::Challenged => reception_of(Answer::Challenged, replied),
+        CoordinatorHeard::Keyed { .. } => reception_of(Answer::Keyed, replied),
         CoordinatorHeard::Done { eui, .. } => Reception {
             answer: Answer::Done,
             up: None,
@@ -131,7 +131,7 @@ fn coordinator_words<'a>(heard: &CoordinatorHeard<'a>, replied: Option<Reply>) -
             done: Some(*eui),
             replied,
         },
-        CoordinatorHeard::Declined => only(Answer::Declined, replied),
+        CoordinatorHeard::Declined => reception_of(Answer::Declined, replied),
     }
 }
 
@@ -145,6 +145,6 @@ pub(crate) fn reception_of_coordinator<'a>(
 {
     match heard {
         Ok(heard) => coordinator_words(heard, replied),
-        Err(reason) => only(drop_word(*reason), replied),
+        Err(reason) => reception_of(drop_word(*reason), replied),
     }
 }

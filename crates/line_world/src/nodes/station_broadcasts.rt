@@ -14,11 +14,11 @@ ghost use Rattle.node_rules.specs.Memory.{address_of};
 ghost use Rattle.plc_base.specs.Keeper.{Stores};
 ghost use Rattle.reach_rules.specs.declared.refusal.ReachDropped.TheVariants.{Known};
 ghost use Rattle.reach_rules.specs.Broadcasts as broadcast_rules;
-ghost use Rattle.line_world.specs.Reaching.{Reaches, ReachesCommand, ReachesFirst, ReportsCommand, broadcast_of, handed_up, ended_by};
+ghost use Rattle.line_world.specs.Reaching.{Reaches, ReachesCommand, ReachesFirst, ReportsCommand, broadcast_of, handed_up};
 
 use crate::beside::Beside;
 use crate::nodes::command::{CommandRef, Commanded};
-use crate::nodes::station_further::{dropped_word, ended_by, only, send_local, sent_on};
+use crate::nodes::station_further::{commanded_of, dropped_word, ended_by, send_local, sent_on};
 use broadcast_log::{BroadcastLog, LogFault, read_broadcast};
 use line_events::{Answer, BroadcastUp};
 use node_rules::Dropped;
@@ -300,7 +300,7 @@ fn broadcast_reported<'a>(
             }),
             path: None,
         },
-        Err(reason) => only(dropped_word(reason)),
+        Err(reason) => commanded_of(dropped_word(reason)),
     }
 }
 
@@ -325,10 +325,10 @@ pub(crate) fn broadcast_command<'a>(
     ensures agrees { Agrees station.new }
 {
     if !command.to_all {
-        return only(Answer::BadUnit);
+        return commanded_of(Answer::BadUnit);
     }
     let Some(broadcast) = broadcast_in(command.body.octets()) else {
-        return only(Answer::BadUnit);
+        return commanded_of(Answer::BadUnit);
     };
     let heard = hear_broadcast(own, station, beside, &broadcast, buffer, out);
     broadcast_reported(heard, number, &broadcast)

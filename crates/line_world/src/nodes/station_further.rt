@@ -1,5 +1,5 @@
 //! What a station does about path requests, acknowledgements and the commands that it hears, halted or not.
-ghost use Rattle.std.specs.Prelude.{◌≡◌, ◌≢◌, ◌<◌, ◌≤◌, ◌∷◌, [], length, is_some, Ok, Err, Some, None, IfNone, IfSome, IfOk, IsSome, if◌then◌else◌};
+ghost use Rattle.std.specs.Prelude.{◌≡◌, ◌≢◌, ◌<◌, ◌≤◌, ◌∷◌, [], length, is_some, Ok, Err, Some, None, IfNone, IfSome, IsSome, if◌then◌else◌};
 ghost use Rattle.std.specs.Option.{option_map};
 ghost use Rattle.broadcast_log.specs.Log.{empty_log, AgreesWith};
 ghost use Rattle.node_rules.specs.declared.refusal.Dropped.TheVariants as drops;
@@ -351,7 +351,7 @@ fn hear_path(
 // # What the report says of a command
 
 // A command that led to nothing but a word.
-pub(crate) fn only(answer: Answer) -> Commanded<'static>
+pub(crate) fn commanded_of(answer: Answer) -> Commanded<'static>
     ensures { result ≡ record { answer = answer; bup = None; path = None } }
 {
     Commanded {
@@ -381,8 +381,8 @@ fn acknowledgement_reported(heard: Result<(), ReachDropped>, number: u16) -> Com
     ensures { ReportsCommand result number (answer_as (λ _. commands.Acked) heard) }
 {
     match heard {
-        Ok(()) => only(Answer::Acked),
-        Err(reason) => only(dropped_word(reason)),
+        Ok(()) => commanded_of(Answer::Acked),
+        Err(reason) => commanded_of(dropped_word(reason)),
     }
 }
 
@@ -391,8 +391,8 @@ fn path_words(heard: PathHeard, number: u16) -> Commanded<'static>
     ensures { ReportsCommand result number (Ok (path_heard heard)) }
 {
     match heard {
-        PathHeard::Relayed => only(Answer::Relayed),
-        PathHeard::Answered => only(Answer::Answered),
+        PathHeard::Relayed => commanded_of(Answer::Relayed),
+        PathHeard::Answered => commanded_of(Answer::Answered),
         PathHeard::Path { walk } => Commanded {
             answer: Answer::Path,
             bup: None,
@@ -407,7 +407,7 @@ fn path_reported(heard: Result<PathHeard, ReachDropped>, number: u16) -> Command
 {
     match heard {
         Ok(heard) => path_words(heard, number),
-        Err(reason) => only(dropped_word(reason)),
+        Err(reason) => commanded_of(dropped_word(reason)),
     }
 }
 
@@ -442,7 +442,7 @@ fn hear_command<'a>(
         let heard = hear_path(own, station, beside, command, buffer, out);
         return path_reported(heard, number);
     }
-    only(Answer::BadUnit)
+    commanded_of(Answer::BadUnit)
 }
 
 // A command is heard at the node of this number. What goes out comes after what `out` has, and `buffer` is overwritten.
@@ -463,10 +463,10 @@ pub(crate) fn hear_command_at<'a>(
 {
     if station.halted() {
         out.clear();
-        return only(Answer::Store);
+        return commanded_of(Answer::Store);
     }
     let Some(own) = station.ring().joined() else {
-        return only(Answer::BadUnit);
+        return commanded_of(Answer::BadUnit);
     };
     hear_command(number, own, station, beside, command, buffer, out)
 }

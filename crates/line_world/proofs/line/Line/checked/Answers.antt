@@ -115,9 +115,9 @@ returns-then-not-acknowledged c =
     c.received.ensures.frames c.received.ensures.tags c.is_forged-forged.ensures c.acknowledged.result c.if-not-acknowledged.true
     c.acknowledged.ensures.acknowledges
     (c.received.ensures.reported ∙ ap (λ (r : Reception). reception_happenings (world_of c.acknowledged.new.self) c.args.node c.acknowledged.new.self.out
-    c.is_forged-forged.result r) c.only.ensures.value)
+    c.is_forged-forged.result r) c.reception_of.ensures.value)
     (c.received.ensures.world ∙ ap (λ (r : Reception). left_of (world_of c.acknowledged.new.self) c.args.node c.acknowledged.new.self.out
-    c.is_forged-forged.result r) c.only.ensures.value))
+    c.is_forged-forged.result r) c.reception_of.ensures.value))
 
 pub returns : goal.returns
 returns c =

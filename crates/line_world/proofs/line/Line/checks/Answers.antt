@@ -4,7 +4,7 @@ use Rattle.std.specs.Prelude.{if◌then◌else◌}
 use Rattle.line_events.specs.declared.event.StepFault.TheVariants as faults
 use Rattle.line_events.specs.declared.event.Answer.TheVariants as answers
 use Rattle.line_rules.specs.Further.{checks}
-use Rattle.line_rules.specs.Steps.{Step, happenings, set_up, trace_of}
+use Rattle.line_rules.specs.Steps.{happenings, set_up, trace_of}
 use Rattle.line_rules.specs.Worlds.{World}
 use Rattle.line_world.specs.Bounds.{IsBounded}
 use Rattle.line_world.specs.Lines.{world_of}

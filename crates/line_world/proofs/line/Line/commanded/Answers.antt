@@ -1,5 +1,5 @@
 -- A node hears a command for its neighbours.
-use Rattle.std.proofs.Common.{◌≡◌, ◌<◌, ℕ, length, Option, None, Some, Ok, true, sym, subst}
+use Rattle.std.proofs.Common.{◌≡◌, ◌<◌, ℕ, length, Option, Some, Ok, true, sym, subst}
 use Rattle.std.specs.Prelude.{IfSome}
 use Rattle.node_rules.specs.Ciphers.{network}
 use Rattle.node_rules.specs.Memory.{Node}

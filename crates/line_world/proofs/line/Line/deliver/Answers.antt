@@ -1,11 +1,8 @@
 -- A flight comes to a node.
-use Rattle.std.proofs.Common.{◌≡◌, ◌∙◌, ◌<◌, ℕ, List, length, Result, Ok, Err, true, false, refl, sym, ap, subst}
-use Rattle.std.specs.Prelude.{IfOk}
+use Rattle.std.proofs.Common.{◌≡◌, ◌∙◌, ℕ, Result, Ok, Err, true, refl, sym, ap, subst}
 use Rattle.std.proofs.lemmas.Result.{err_from_is_err_and}
 use Rattle.line_flights.specs.Flown.{flight_in, not_lost}
-use Rattle.node_rules.specs.declared.heard.Accepted.{Accepted}
 use Rattle.node_rules.specs.Ciphers.{network}
-use Rattle.node_rules.specs.Memory.{Node}
 use Rattle.line_events.specs.declared.event.StepFault.{StepFault}
 use Rattle.line_events.specs.declared.event.StepFault.TheVariants as faults
 use Rattle.line_rules.specs.Worlds.{World}
@@ -16,8 +13,7 @@ use Rattle.line_world.specs.Lines.{world_of}
 use Rattle.line_world.specs.Steps.{Steps}
 use Rattle.line_world.proofs.Taking.{not_found, steps_as, unreserved}
 use Rattle.line_world.proofs.Arrivals.{Flies, brings_octets, came_discovery, came_to, deliver_taken, flies, flies_none, found_still, no_flight, none_copied}
-use Rattle.line_world.proofs.Arrivals.{some_copied, still_bounded, still_logged, still_many, still_within}
-use Rattle.line_world.proofs.Arrivals.{delivers as delivers_octets}
+use Rattle.line_world.proofs.Arrivals.{some_copied, still_bounded, still_logged, still_many, still_within, delivers as delivers_octets}
 use Rattle.line_world.proofs.Comings.{discovery_gets, flight_brings}
 use Rattle.line_world.proofs.line.Line.deliver.Goals as goal
 

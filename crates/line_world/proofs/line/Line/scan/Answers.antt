@@ -1,13 +1,12 @@
 -- A meter begins to scan.
-use Rattle.std.proofs.Common.{◌≡◌, ◌∙◌, ◌<◌, ℕ, Bool, true, false, not, List, length, Option, Some, None, Ok, Err, refl, sym, ap, subst}
+use Rattle.std.proofs.Common.{◌≡◌, ◌∙◌, ◌<◌, ℕ, true, false, not, List, length, Option, Some, Ok, Err, sym, ap, subst}
 use Rattle.std.specs.Prelude.{IfSome, is_ok, is_some, slice_get, slice_set}
 use Rattle.std.proofs.lemmas.Result.{err_from_is_err_and}
-use Rattle.pan_discovery.specs.History.{Scanned, begun}
+use Rattle.pan_discovery.specs.History.{begun}
 use Rattle.pan_discovery.specs.declared.message.Discovery.TheVariants as discoveries
 use Rattle.node_rules.specs.Memory.{Memory, Node, node_address}
 use Rattle.reach_rules.specs.declared.refusal.ScanRefusal.TheVariants as scan_faults
 use Rattle.reach_rules.specs.Beacons.{begin_scan}
-use Rattle.reach_rules.specs.ReachingNodes.{Beside}
 use Rattle.line_events.specs.declared.event.Answer.TheVariants as answers
 use Rattle.line_events.specs.declared.event.StepFault.{StepFault}
 use Rattle.line_rules.specs.Answers.{scan_word}
@@ -19,7 +18,7 @@ use Rattle.line_world.specs.Lines.{world_of}
 use Rattle.line_world.proofs.Calling.{beside_found}
 use Rattle.line_world.proofs.Discoveries.{address_in, discovery_sends, discovery_stays, joined_in, memory_in, none_in, scan_at, scan_begins, scan_joined}
 use Rattle.line_world.proofs.Orders.{IsMeter, Runs, is_meter, meter_begun, meter_not_found, of_found, only_said, reserved, still_runs}
-use Rattle.line_world.proofs.Taking.{IsThere, steps_as, unreserved}
+use Rattle.line_world.proofs.Taking.{steps_as, unreserved}
 use Rattle.line_world.proofs.line.Line.scan.Goals as goal
 
 pub returns-in_err-number : goal.returns-in_err-number

@@ -4,7 +4,6 @@ use Rattle.line_events.specs.declared.event.StepFault.{StepFault}
 use Rattle.std.proofs.lemmas.Result.{err_from_is_err_and}
 use Rattle.node_rules.specs.Showing.{shown_of}
 use Rattle.line_events.specs.declared.event.Answer.TheVariants as answers
-use Rattle.line_events.specs.declared.happenings.Happenings.{Happenings}
 use Rattle.line_rules.specs.Steps.{happenings, running_world, show, trace_of}
 use Rattle.line_world.specs.Lines.{world_of}
 use Rattle.line_world.proofs.Taking.{steps_as, begun, at_node, is_there, holds_there, only_ran, not_found, has_coordinator}

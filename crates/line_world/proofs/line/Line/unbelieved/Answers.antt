@@ -21,6 +21,6 @@ returns c =
     c.received.ensures.tags x.1
     c.clear.ensures c.is_forged-forged.ensures
     (c.received.ensures.reported ∙ ap (λ (r : Reception). reception_happenings w c.args.node c.clear.new.self
-    c.is_forged-forged.result r) c.only.ensures.value)
+    c.is_forged-forged.result r) c.reception_of.ensures.value)
     (c.received.ensures.world ∙ ap (λ (r : Reception). left_of w c.args.node c.clear.new.self
-    c.is_forged-forged.result r) c.only.ensures.value))
+    c.is_forged-forged.result r) c.reception_of.ensures.value))

@@ -1,5 +1,5 @@
 -- What the station of a node did, the node of its number did.
-use Rattle.std.proofs.Common.{Ok, Err, arith}
+use Rattle.std.proofs.Common.{arith}
 use Rattle.node_rules.specs.Carrying.{nothing}
 use Rattle.node_rules.specs.Plans.{resting}
 use Rattle.line_events.specs.declared.event.Answer.TheVariants as answers

@@ -1,5 +1,4 @@
 -- The coordinator is made.
-use Rattle.std.proofs.Common.{ap, ◌∙◌}
 use Rattle.line_world.proofs.CoordinatorOpening.{made, made_sound, may_begin, no_gaps}
 use Rattle.line_world.proofs.Making.{first_node}
 use Rattle.line_world.proofs.nodes.Nodes.make_coordinator.Goals as goal

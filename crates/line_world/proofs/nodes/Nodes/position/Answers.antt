@@ -1,8 +1,7 @@
 -- The first node with an EUI.
-use Rattle.std.proofs.Common.{◌≡◌, ℕ, List, Option, Some, None, false, sym, ap, ◌∙◌}
+use Rattle.std.proofs.Common.{◌≡◌, List, Some, None, false, sym, ap, ◌∙◌}
 use Rattle.std.specs.Prelude.{◌==◌, position}
 use Rattle.std.proofs.lemmas.Bool.{ne_eqb}
-use Rattle.plc_base.specs.declared.address.Eui.{Eui}
 use Rattle.group_keys.specs.KeyBook.{eui_number}
 use Rattle.meter_node.specs.MeterStates.{MeterState}
 use Rattle.node_rules.specs.Accepting.{same_eui}

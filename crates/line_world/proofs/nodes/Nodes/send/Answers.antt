@@ -1,5 +1,5 @@
 -- What the station of a node did, the node of its number did.
-use Rattle.std.proofs.Common.{Ok, Err, arith}
+use Rattle.std.proofs.Common.{Err, arith}
 use Rattle.node_rules.specs.Calls as calls
 use Rattle.node_rules.specs.declared.refusal.SendRefusal.TheVariants as sends
 use Rattle.line_world.proofs.LentStations.{sends_own}

@@ -10,4 +10,4 @@ returns-in-Ok-clause-reports c = rw c.in-Ok.is c.meter_words.ensures.reports
 
 pub returns-in-Err-clause-reports : goal.returns-in-Err-clause-reports
 returns-in-Err-clause-reports c =
-    rw c.in-Err.is (subst (λ (w : Answer). ReportsReception c.only.result (rules.only w)) c.drop_word.ensures c.only.ensures.reports)
+    rw c.in-Err.is (subst (λ (w : Answer). ReportsReception c.reception_of.result (rules.only w)) c.drop_word.ensures c.reception_of.ensures.reports)

@@ -15,7 +15,7 @@ returns-then-not-command-clause-reaches c =
     let s = c.args.station.now in
     let b = c.args.beside.now in
     let h = held_by s.memory c.requires.running in
-    rw c.only.ensures (dropped_command s b (λ y. hear_broadcast alone y c.args.own c.args.command.now.to_all c.args.command.now.body) c.args.number h.0
+    rw c.commanded_of.ensures (dropped_command s b (λ y. hear_broadcast alone y c.args.own c.args.command.now.to_all c.args.command.now.body) c.args.number h.0
     c.args.out.now h.1
     (to_one h.0 b c.args.own c.args.command.now.to_all c.args.command.now.body c.if-not-command.true))
 
@@ -24,7 +24,8 @@ returns-in_default-clause-reaches c =
     let s = c.args.station.now in
     let b = c.args.beside.now in
     let h = held_by s.memory c.requires.running in
-    rw c.only-in_default.ensures (dropped_command s b (λ y. hear_broadcast alone y c.args.own c.args.command.now.to_all c.args.command.now.body) c.args.number
+    rw c.commanded_of-in_default.ensures
+    (dropped_command s b (λ y. hear_broadcast alone y c.args.own c.args.command.now.to_all c.args.command.now.body) c.args.number
     h.0 c.args.out.now h.1
     (no_broadcast h.0 b c.args.own c.args.command.now.to_all c.args.command.now.body c.if-not-command.false
     (ap broadcast_in (sym c.octets.ensures) ∙ sym c.in_default.ensures.value)))

@@ -36,7 +36,8 @@ returns-clause-reaches c =
     let s = c.args.station.now in
     let b = c.args.beside.now in
     let m = held_by s.memory c.requires.running in
-    dropped_after s b (λ y. hear_command_at alone y c.args.own (command_of c.args.command.now)) m.0 (Known BadUnit) c.only.result c.args.number c.args.out.now
+    dropped_after s b (λ y. hear_command_at alone y c.args.own (command_of c.args.command.now)) m.0 (Known BadUnit) c.commanded_of.result c.args.number
+    c.args.out.now
     m.1
     (by_none (record { memory = m.0; beside = b }) c.args.own (command_of c.args.command.now) c.if-command-eq3.false c.if-command-eq4.false
-    c.if-command-eq5.false) c.only.ensures
+    c.if-command-eq5.false) c.commanded_of.ensures

@@ -18,7 +18,7 @@ returns-then-halted-clause-reaches c =
     let b = c.args.beside.now in
     record {
       answer = Err (Known Store);
-      reports = only_dropped c.only.result c.args.number (Known Store) c.only.ensures;
+      reports = only_dropped c.commanded_of.result c.args.number (Known Store) c.commanded_of.ensures;
       reaches =
           subst (λ (o : Out). Reaches s b (Err (Known Store)) (λ y. hear_command alone y (command_of c.args.command.now)) (Err (Known Store)) c.args.out.now o s
           b) (sym c.clear.ensures)
@@ -31,6 +31,7 @@ returns-in_default-clause-reaches c =
     let s = c.args.station.now in
     let b = c.args.beside.now in
     let m = held_by s.memory (subst (λ (h : Bool). MatchBool h (s.memory ≡ None) (IsSome s.memory)) c.if-halted.false c.halted.ensures) in
-    dropped_after s b (λ y. hear_command alone y (command_of c.args.command.now)) m.0 (Known BadUnit) c.only-in_default.result c.args.number c.args.out.now m.1
+    dropped_after s b (λ y. hear_command alone y (command_of c.args.command.now)) m.0 (Known BadUnit) c.commanded_of-in_default.result c.args.number
+    c.args.out.now m.1
     (heard_unjoined m.0 b (command_of c.args.command.now) (owned s c.ring.result.now c.joined.result m.0 m.1 c.ring.ensures c.joined.ensures ∙ c.in_default.is))
-    c.only-in_default.ensures
+    c.commanded_of-in_default.ensures

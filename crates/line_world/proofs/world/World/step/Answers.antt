@@ -1,9 +1,7 @@
 -- The world's invariant after an event.
 use Rattle.std.proofs.Common.{◌<◌, sym, subst}
 use Rattle.line_events.specs.declared.event.TheConstants.{MAX_EVENTS}
-use Rattle.line_rules.specs.Further.{line_step}
 use Rattle.line_rules.specs.Worlds.{World}
-use Rattle.node_rules.specs.Ciphers.{network}
 use Rattle.line_world.specs.Lines.{world_of}
 use Rattle.line_world.proofs.Besides.{beside_long}
 use Rattle.line_world.proofs.Comings.{still_kept}
