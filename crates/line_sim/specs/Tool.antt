@@ -1,5 +1,5 @@
 -- What the program's call says.
-use Rattle.std.specs.Prelude.{◌≡◌, ◌≤◌, ◌⊎◌, ℕ, Bool, true, not, List, [], ◌∷◌, length, String, codes, string_bytes, bytes_eq}
+use Rattle.std.specs.Prelude.{◌≡◌, ◌≤◌, ◌⊎◌, ℕ, Bool, true, not, List, [], ◌∷◌, length, String, codes, string_bytes, bytes_eq, IsUtf8}
 use Rattle.std.specs.Prelude.{if◌then◌else◌, nat_lt, Option, Some, None, All, AllPairs}
 use Rattle.std.specs.Option.{option_and_then}
 use Rattle.std.specs.declared.alloc.Global.{Global}
@@ -78,54 +78,63 @@ pub record Writes (text : List ℕ) (done : Status) (sink0 sink1 : SinkState) (r
   pub wrote : Appends sink0.taken sink1.taken part
   pub ends : ((result ≡ done) × (part ≡ text)) ⊎ ((result ≡ status.WriteFault) × SinkRose sink0 sink1)
 
--- A script that a run left was written. The status says whether an event was forged, and else whether the run went on to the end of its time.
-pub record WritesRun (injects : Bool) (ran : Ran Recorded) (sink0 sink1 : SinkState) (result : Status) : Type 0 where
+-- What is written of a run with a script: the script, or counts of the run, of which nothing is said but that they are UTF-8.
+abbrev pub IsTextOf : Mode → (script text : List ℕ) → Type 0
+IsTextOf modes.Run script text = text ≡ script
+IsTextOf modes.Measure script text = IsUtf8 text
+
+-- What was asked for of a run was written. The status says whether an event of the run is forged, and else whether it went on to the end of its time.
+pub record WritesRun (mode : Mode) (injects : Bool) (ran : Ran Recorded) (sink0 sink1 : SinkState) (result : Status) : Type 0 where
   pub script : List ℕ
   pub world : World
   pub run : IsRun (not injects) script world
   pub whole : Bool
   pub left : IsLeftBy ran script world whole
-  pub written : Writes script (status_of whole world.forged) sink0 sink1 result
+  pub text : List ℕ
+  pub text_is : IsTextOf mode script text
+  pub written : Writes text (status_of whole world.forged) sink0 sink1 result
 
--- What became of a simulation: the script of its run was written, or nothing was.
-pub data EndsRun (injects : Bool) (s : Simulated Recorded) (sink0 sink1 : SinkState) (result : Status) : Type 0 where
-  Written : WritesRun injects (whole_run (world_recorder injects) s) sink0 sink1 result → EndsRun injects s sink0 sink1 result
-  NotRun : result ≡ status.Memory → sink1 ≡ sink0 → EndsRun injects s sink0 sink1 result
+-- What became of a run: what was asked for was written of it, or nothing was, since memory ran out in the run or after it.
+pub data EndsRun (mode : Mode) (injects : Bool) (ran : Ran Recorded) (sink0 sink1 : SinkState) (result : Status) : Type 0 where
+  Written : WritesRun mode injects ran sink0 sink1 result → EndsRun mode injects ran sink0 sink1 result
+  NotWritten : result ≡ status.Memory → sink1 ≡ sink0 → EndsRun mode injects ran sink0 sink1 result
 
 -- The simulation of a plan before its run: there is no other.
 pub record IsOnlyFirst (plan : Plan) (first : Simulated Recorded) : Type 0 where
   pub is_first : IsFirst plan new_recorder first
   pub only : (other : Simulated Recorded) → IsFirst plan new_recorder other → other ≡ first
 
--- What became of the run of a plan: the script of its one simulation was written, or the line that says why there is none; or nothing was.
-pub data Ends (injects : Bool) (plan : Plan) (sink0 sink1 : SinkState) (result : Status) : Type 0 where
-  Simulates : (first : Simulated Recorded) → IsOnlyFirst plan first → EndsRun injects first sink0 sink1 result → Ends injects plan sink0 sink1 result
-  Apart : IsApart plan.seed plan.place plan.place.kind → Writes apart_text status.BadDescription sink0 sink1 result → Ends injects plan sink0 sink1 result
-  OutOfMemory : result ≡ status.Memory → sink1 ≡ sink0 → Ends injects plan sink0 sink1 result
+-- What became of a plan: what was asked for was written of the one run of its one simulation, or the line that says why there is none; or nothing was.
+pub data Ends (mode : Mode) (injects : Bool) (plan : Plan) (sink0 sink1 : SinkState) (result : Status) : Type 0 where
+  Simulates : (first : Simulated Recorded) → IsOnlyFirst plan first
+      → EndsRun mode injects (whole_run (world_recorder injects) first) sink0 sink1 result → Ends mode injects plan sink0 sink1 result
+  Apart : IsApart plan.seed plan.place plan.place.kind → Writes apart_text status.BadDescription sink0 sink1 result
+      → Ends mode injects plan sink0 sink1 result
+  OutOfMemory : result ≡ status.Memory → sink1 ≡ sink0 → Ends mode injects plan sink0 sink1 result
 
--- What became of the run of a plan: where it describes no attacker, no line of the script injects octets.
-abbrev pub EndsPlan : Plan → SinkState → SinkState → Status → Type 0
-EndsPlan plan sink0 sink1 result = Ends (has_attackers plan.incidents) plan sink0 sink1 result
+-- What became of a plan: where it describes no attacker, no line of the script injects octets.
+abbrev pub EndsPlan : Mode → Plan → SinkState → SinkState → Status → Type 0
+EndsPlan mode plan sink0 sink1 result = Ends mode (has_attackers plan.incidents) plan sink0 sink1 result
 
--- What became of a call that asks for a script, with these options.
-pub data Runs (options : List (String Global)) (source0 source1 : SourceState) (sink0 sink1 : SinkState) (result : Status) : Type 0 where
+-- What became of a call that asks for a script or counts, with these options.
+pub data Runs (mode : Mode) (options : List (String Global)) (source0 source1 : SourceState) (sink0 sink1 : SinkState) (result : Status) : Type 0 where
   -- the text that the source gave is a description, and with the options it gives the plan that was run
-  Described : (plan : Plan) → IsDescribed source0 source1 options plan → EndsPlan plan sink0 sink1 result
-      → Runs options source0 source1 sink0 sink1 result
+  Described : (plan : Plan) → IsDescribed source0 source1 options plan → EndsPlan mode plan sink0 sink1 result
+      → Runs mode options source0 source1 sink0 sink1 result
   -- the description or an option is bad, and the line that says what is wrong was written, with the status of a bad description
   Bad : (line : List ℕ) → IsBad source0 source1 options line → Writes line status.BadDescription sink0 sink1 result
-      → Runs options source0 source1 sink0 sink1 result
+      → Runs mode options source0 source1 sink0 sink1 result
   -- the source failed, and nothing was written
-  NotRead : result ≡ status.ReadFault → SourceRose source0 source1 → sink1 ≡ sink0 → Runs options source0 source1 sink0 sink1 result
+  NotRead : result ≡ status.ReadFault → SourceRose source0 source1 → sink1 ≡ sink0 → Runs mode options source0 source1 sink0 sink1 result
   -- there was not enough memory, and nothing was written
-  NoMemory : result ≡ status.Memory → sink1 ≡ sink0 → Runs options source0 source1 sink0 sink1 result
+  NoMemory : result ≡ status.Memory → sink1 ≡ sink0 → Runs mode options source0 source1 sink0 sink1 result
 
 -- The usage line was written, and nothing was read.
 pub record WritesUsage (source0 source1 : SourceState) (sink0 sink1 : SinkState) (result : Status) : Type 0 where
   pub written : Writes usage_text status.Usage sink0 sink1 result
   pub unread : source1 ≡ source0
 
--- What became of a call, by what its words ask for: a script, or the usage line where they ask for nothing. Of counts nothing is said.
+-- What became of a call, by what its words ask for: a script or counts, or the usage line where they ask for nothing.
 abbrev pub Answers : Option Asked → SourceState → SourceState → SinkState → SinkState → Status → Type 0
 Answers None source0 source1 sink0 sink1 result = WritesUsage source0 source1 sink0 sink1 result
-Answers (Some asked) source0 source1 sink0 sink1 result = asked.mode ≡ modes.Run → Runs asked.options source0 source1 sink0 sink1 result
+Answers (Some asked) source0 source1 sink0 sink1 result = Runs asked.mode asked.options source0 source1 sink0 sink1 result

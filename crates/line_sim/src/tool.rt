@@ -1,9 +1,10 @@
 //! All that the program does.
 ghost use Rattle.std.specs.Prelude.{◌≡◌, nat_lt};
 ghost use Rattle.line_simulation.specs.Simulations.{state_of};
-ghost use Rattle.line_simulation.specs.Turning.{Ran};
+ghost use Rattle.line_simulation.specs.Turning.{Ran, whole_run};
 ghost use Rattle.line_sim.specs.Recorders.{Recorded};
-ghost use Rattle.line_sim.specs.Tool.{status_of, Writes, WritesRun, EndsRun, Ends, EndsPlan, Runs, Answers, asked_by};
+ghost use Rattle.line_sim.specs.Recording.{world_recorder};
+ghost use Rattle.line_sim.specs.Tool.{status_of, Writes, EndsRun, Ends, EndsPlan, Runs, Answers, asked_by};
 
 use crate::command::{Mode, command_of};
 use crate::recorder::Recorder;
@@ -43,29 +44,24 @@ fn status_of(whole: bool, forged: u32) -> Status
     }
 }
 
-// Writes the script of a run that went on to the end of its time, or did not.
-fn write_script<const INJECTS: usize, K: Sink>(
-    recorder: &Recorder<INJECTS>,
-    whole: bool,
-    sink: &mut K,
-) -> Status
-    ensures { (ran : Ran Recorded) → ran.whole ≡ whole → ran.simulated.recorder ≡ recorder.now
-        → WritesRun (nat_lt 0 INJECTS) ran (K.state sink.old) (K.state sink.new) result }
-{
-    let done = status_of(whole, recorder.forged());
-    write_text(sink, recorder.script(), done)
-}
-
-// Writes the counts of a run that went on to the end of its time, or did not.
-fn write_summary<const INJECTS: usize, K: Sink>(
+// Writes what is asked for of a run that went on to the end of its time, or did not.
+fn write_run<const INJECTS: usize, K: Sink>(
+    mode: Mode,
     simulation: &mut Simulation<Recorder<INJECTS>>,
     whole: bool,
     sink: &mut K,
-) -> Status {
+) -> Status
+    ensures { (ran : Ran Recorded) → ran.whole ≡ whole → ran.simulated ≡ state_of simulation.old
+        → EndsRun mode (nat_lt 0 INJECTS) ran (K.state sink.old) (K.state sink.new) result }
+{
+    let script = simulation.recording.script();
     let done = status_of(whole, simulation.recording.forged());
-    match simulation.summary(whole) {
-        Ok(text) => write_text(sink, text.as_bytes(), done),
-        Err(AllocError) => Status::Memory,
+    match mode {
+        Mode::Run => write_text(sink, script, done),
+        Mode::Measure => match simulation.summary(whole) {
+            Ok(counts) => write_text(sink, counts.as_str().as_bytes(), done),
+            Err(AllocError) => Status::Memory,
+        },
     }
 }
 
@@ -75,15 +71,13 @@ fn run_line<const INJECTS: usize, K: Sink>(
     simulation: &mut Simulation<Recorder<INJECTS>>,
     sink: &mut K,
 ) -> Status
-    ensures { mode ≡ Mode.Run → EndsRun (nat_lt 0 INJECTS) (state_of simulation.old) (K.state sink.old) (K.state sink.new) result }
+    ensures { EndsRun mode (nat_lt 0 INJECTS) (whole_run (world_recorder (nat_lt 0 INJECTS)) (state_of simulation.old))
+        (K.state sink.old) (K.state sink.new) result }
 {
     let Ok(whole) = simulation.run_whole() else {
         return Status::Memory;
     };
-    match mode {
-        Mode::Run => write_script(&simulation.recording, whole, sink),
-        Mode::Measure => write_summary(simulation, whole, sink),
-    }
+    write_run(mode, simulation, whole, sink)
 }
 
 // Runs the line of a plan over a recorder, which records injections or not, and writes what is asked for.
@@ -93,7 +87,7 @@ fn run_over<const INJECTS: usize, K: Sink>(
     plan: Plan,
     sink: &mut K,
 ) -> Status
-    ensures { mode ≡ Mode.Run → Ends (nat_lt 0 INJECTS) plan (K.state sink.old) (K.state sink.new) result }
+    ensures { Ends mode (nat_lt 0 INJECTS) plan (K.state sink.old) (K.state sink.new) result }
 {
     let recorder: Recorder<INJECTS> = match Recorder::new(alloc) {
         Ok(recorder) => recorder,
@@ -108,7 +102,7 @@ fn run_over<const INJECTS: usize, K: Sink>(
 
 /// Runs the line of a plan, and writes what is asked for. Where the plan has no attackers, no event injects octets.
 pub fn run_plan<K: Sink>(alloc: Global, mode: Mode, plan: Plan, sink: &mut K) -> Status
-    ensures { mode ≡ Mode.Run → EndsPlan plan (K.state sink.old) (K.state sink.new) result }
+    ensures { EndsPlan mode plan (K.state sink.old) (K.state sink.new) result }
 {
     if has_attackers(plan.incidents.incidents()) {
         return run_over::<1, K>(alloc, mode, plan, sink);
@@ -124,8 +118,7 @@ fn simulate<S: Source, K: Sink>(
     source: &mut S,
     sink: &mut K,
 ) -> Status
-    ensures { mode ≡ Mode.Run
-        → Runs options.now (S.state source.old) (S.state source.new) (K.state sink.old) (K.state sink.new) result }
+    ensures { Runs mode options.now (S.state source.old) (S.state source.new) (K.state sink.old) (K.state sink.new) result }
 {
     match read_plan(alloc, source, options) {
         Ok(plan) => run_plan(alloc, mode, plan, sink),
@@ -145,8 +138,8 @@ pub fn run_tool<S: Source, K: Sink>(
     source: &mut S,
     sink: &mut K,
 ) -> Status
-    // For `run` and options: the script was written of a run of the plan that the description gives with the options, or a line that says why there is none.
-    // For other words, the usage line.
+    // For `run` and options the script was written of the run of the plan that the description gives with the options, for `measure` and options counts of that
+    // run; or a line that says why there is none. For other words, the usage line.
     ensures runs { Answers (asked_by words.now) (S.state source.old) (S.state source.new) (K.state sink.old) (K.state sink.new) result }
 {
     match command_of(words) {

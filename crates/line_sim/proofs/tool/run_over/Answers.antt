@@ -11,9 +11,9 @@ pub returns-in-Ok-Simulation : goal.returns-in-Ok-Simulation
 returns-in-Ok-Simulation g c =
     let is_first = subst (λ (r : Recorded). IsFirst c.args.plan r (state_of c.in-Ok-Simulation.simulation)) c.in-Ok.ensures
     (rw c.in-Ok-Simulation.field-0-is at c.in-Ok-Simulation.ensures) in
-    λ run. Simulates (state_of c.in-Ok-Simulation.simulation)
+    Simulates (state_of c.in-Ok-Simulation.simulation)
     (record {
       is_first = is_first;
       only = λ other is. firsts_are_one c.args.plan new_recorder (state_of c.in-Ok-Simulation.simulation) other is_first is;
     })
-    (c.run_line.ensures run)
+    c.run_line.ensures

@@ -5,10 +5,10 @@ use Rattle.line_sim.proofs.tool.run_plan.Goals as goal
 
 pub returns-then-has_attackers : goal.returns-then-has_attackers
 returns-then-has_attackers g c =
-    λ run. subst (λ (b : Bool). Ends b c.args.plan (g.K.Sink.state c.args.sink.now) (g.K.Sink.state c.run_over.new.sink) c.run_over.result)
-    (c.if-has_attackers.ensures ∙ ap has_attackers c.incidents.ensures) (c.run_over.ensures run)
+    subst (λ (b : Bool). Ends c.args.mode b c.args.plan (g.K.Sink.state c.args.sink.now) (g.K.Sink.state c.run_over.new.sink) c.run_over.result)
+    (c.if-has_attackers.ensures ∙ ap has_attackers c.incidents.ensures) c.run_over.ensures
 
 pub returns : goal.returns
 returns g c =
-    λ run. subst (λ (b : Bool). Ends b c.args.plan (g.K.Sink.state c.args.sink.now) (g.K.Sink.state c.run_over-2.new.sink) c.run_over-2.result)
-    (c.if-has_attackers.ensures ∙ ap has_attackers c.incidents.ensures) (c.run_over-2.ensures run)
+    subst (λ (b : Bool). Ends c.args.mode b c.args.plan (g.K.Sink.state c.args.sink.now) (g.K.Sink.state c.run_over-2.new.sink) c.run_over-2.result)
+    (c.if-has_attackers.ensures ∙ ap has_attackers c.incidents.ensures) c.run_over-2.ensures

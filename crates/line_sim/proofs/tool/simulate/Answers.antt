@@ -2,9 +2,9 @@ use Rattle.line_sim.specs.Tool.{Described, Bad}
 use Rattle.line_sim.proofs.tool.simulate.Goals as goal
 
 pub returns-in-Ok : goal.returns-in-Ok
-returns-in-Ok g c = λ run. Described c.in-Ok.plan c.in-Ok.ensures.plan (c.run_plan.ensures run)
+returns-in-Ok g c = Described c.in-Ok.plan c.in-Ok.ensures.plan c.run_plan.ensures
 
 pub returns-in-Err-Bad : goal.returns-in-Err-Bad
 returns-in-Err-Bad g c =
-    λ _. Bad _ (rw c.in-Err-Bad.field-0-is at c.in-Err-Bad.ensures.refused)
+    Bad _ (rw c.in-Err-Bad.field-0-is at c.in-Err-Bad.ensures.refused)
     (rw c.in-Err-Bad.field-0-is at (rw c.as_bytes.ensures.value at c.write_text.ensures))
