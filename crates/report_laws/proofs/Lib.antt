@@ -1,0 +1,12 @@
+pub mod WordLists
+pub mod AnswersRead
+pub mod FieldsRead
+pub mod LinesRead
+pub mod OneReport
+pub mod ReportTexts
+pub mod Ranges
+pub mod LineOrder
+pub mod SameNodes
+pub mod OneOutcome
+pub mod OneRun
+pub mod WorkedLines

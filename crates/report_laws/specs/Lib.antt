@@ -1,0 +1,4 @@
+pub mod ReportLines
+pub mod Reports
+pub mod Runs
+pub mod Laws
