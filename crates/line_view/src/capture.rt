@@ -1,5 +1,5 @@
 //! `capture`, `keys` and `addresses`: a run for Wireshark.
-ghost use Rattle.std.specs.Prelude.{◌≡◌, ◌++◌, ◌∷◌, ◌≤◌, All, IfOk, OnOk, [], length, Some, option_to_list, true};
+ghost use Rattle.std.specs.Prelude.{◌≡◌, ◌↔◌, ◌++◌, ◌∷◌, ◌≤◌, All, IfOk, OnOk, [], length, Some, option_to_list, true};
 ghost use Rattle.std.specs.Option.{option_copied};
 ghost use Rattle.line_capture.specs.Captures.{IsFrame, run_of};
 ghost use Rattle.line_capture.specs.Places.{AreEvents, HasAct, IsAct};
@@ -110,7 +110,7 @@ fn keep_injected(log: &mut OctetLog, event: &Event<'_>) -> Result<(), AllocError
 }
 
 fn is_act(act: &Act) -> bool
-    ensures { result ≡ true → IsAct act.now }
+    ensures { result ≡ true ↔ IsAct act.now }
 {
     match act {
         Act::Tick { seconds } => *seconds >= 1 && *seconds <= 86_400,
@@ -119,7 +119,7 @@ fn is_act(act: &Act) -> bool
 }
 
 fn are_acts(events: &[TaleEvent]) -> bool
-    ensures { result ≡ true → All HasAct events.now }
+    ensures { result ≡ true ↔ All HasAct events.now }
 {
     for told in events {
         if !is_act(&told.act) {
@@ -131,7 +131,7 @@ fn are_acts(events: &[TaleEvent]) -> bool
 
 // Whether events are in the ranges of a script. Those of a run are.
 fn are_events(events: &[TaleEvent]) -> bool
-    ensures { result ≡ true → AreEvents events.now }
+    ensures { result ≡ true ↔ AreEvents events.now }
 {
     events.len() <= MAX_EVENTS as usize && are_acts(events)
 }
