@@ -18,6 +18,7 @@ use line_air::Frame;
 use line_events::Answer;
 use line_figures::FrameKind;
 use line_members::{Act, Acts, Command, Kind, Notice, Outcome, Task};
+use plan_tables::Way;
 use std::alloc::AllocError;
 
 // How many hops the flights of an event have behind them: what is relayed goes on.
@@ -243,7 +244,8 @@ impl<R: Recording> Simulation<R> {
         match message.kind {
             Kind::Reading if came.node == 0 => {
                 readings.came(message.node, message.round, self.time, hops)?;
-                if self.polled {
+                // Where the coordinator asks for readings, it knows of each that comes.
+                if self.plan.owner.readings.way == Way::Poll {
                     readings.known(message.node, message.round, self.time)?;
                 }
                 Ok(())

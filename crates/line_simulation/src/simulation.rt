@@ -56,6 +56,4 @@ pub struct Simulation<R: Recording> {
     pub figures: Figures,
     /// When each node sent last.
     pub sent_at: Vec<u64>,
-    /// Whether the coordinator asks for readings.
-    pub polled: bool,
 }

@@ -15,7 +15,7 @@ use line_members::Asked;
 use line_owner::Owner;
 use line_place::{Field, Layout, Place, Scattering};
 use line_plan::Plan;
-use plan_tables::{AirPlan, Incident, Kind, PlacePlan, PlannedRate, Way, What};
+use plan_tables::{AirPlan, Incident, Kind, PlacePlan, PlannedRate, What};
 use std::alloc::{AllocError, Global};
 
 fn rate_of(rate: PlannedRate) -> Rate
@@ -196,7 +196,6 @@ impl<R: Recording> Simulation<R> {
             attack: Draws::new(plan.seed, Purpose::Attack),
             figures: Figures::new(alloc),
             sent_at,
-            polled: plan.owner.readings.way == Way::Poll,
             plan,
         }))
     }
