@@ -1,0 +1,15 @@
+pub mod Acting
+pub mod Sealing
+pub mod Accepting
+pub mod Hearing
+pub mod Delivering
+pub mod Sending
+pub mod Routes
+pub mod UnitFates
+pub mod SendFates
+pub mod PieceFates
+pub mod BodyFates
+pub mod EventFates
+pub mod PiecesHeard
+pub mod LineFates
+pub mod BodyEvents

@@ -1,0 +1,167 @@
+-- A node sends a datagram that fits one frame, by a valid route.
+use Rattle.std.proofs.Common.{◌≡◌, ◌≢◌, ℕ, ◌+◌, ◌<◌, ◌≤◌, true, false, List, [], ◌∷◌, ◌++◌, length, map, Some, None, Result, Ok, Err, refl, sym}
+use Rattle.std.proofs.Common.{ap, subst, ◌∙◌, arith}
+use Rattle.std.specs.Prelude.{if◌then◌else◌, nat_lt, nat_le, is_some, slice_set, ◌==◌, ◌||◌}
+use Rattle.std.specs.Option.{option_map, option_map_or}
+use Rattle.std.proofs.lemmas.Bool.{ne_eqb, le-ltb, le-leb, lt-ltb}
+use Rattle.plc_base.specs.Faults.{◌then◌, ◌when◌}
+use Rattle.plc_base.specs.declared.key.Key.{Key}
+use Rattle.plc_base.specs.Grant.{Granted}
+use Rattle.mesh_header.specs.declared.unit.Unit.TheVariants as units
+use Rattle.fragment_buffers.specs.Fragmentation.{pieces_cut}
+use Rattle.fragment_buffers.specs.Loads.{all_go, own_mesh}
+use Rattle.node_rules.specs.declared.heard.SentHow.{SentHow}
+use Rattle.node_rules.specs.declared.heard.SentHow.TheVariants as how_of
+use Rattle.node_rules.specs.declared.refusal.SendRefusal.{SendRefusal}
+use Rattle.node_rules.specs.declared.refusal.SendRefusal.TheVariants as refusals
+use Rattle.node_rules.specs.Accepting.{is_own}
+use Rattle.node_rules.specs.Calls.{Sending, how, lacking, send, send_fault, send_from, sending_ends, tag_taken}
+use Rattle.node_rules.specs.Ciphers.{Ciphers}
+use Rattle.node_rules.specs.Drafts.{Draft, OfRoom, OfNumbers, alone, body_goes, checked, counters_left, empty_draft, is_awaited, lack, no_room}
+use Rattle.node_rules.specs.Drafts.{numbers_spent}
+use Rattle.node_rules.specs.Drafts.{refused, sealed, sealed_by, sealed_units, sealing, sealing_key, sets_out, with_next_tag}
+use Rattle.node_rules.specs.Frames.{Sent, Sealed, spelled}
+use Rattle.node_rules.specs.Memory.{StationMemory, Memory, Node, Datagram, next_hop, node_address}
+use Rattle.node_rules.specs.NodeSteps.{NodeStep, acts, answering, of_station}
+use Rattle.line_events.specs.declared.event.Answer.{Answer}
+use Rattle.line_events.specs.declared.event.Answer.TheVariants as answers
+use Rattle.line_events.specs.declared.event.Event.TheVariants as events
+use Rattle.line_events.specs.declared.event.StepFault.TheVariants as faults
+use Rattle.line_rules.specs.Answers.{sent_word}
+use Rattle.line_rules.specs.Further.{line_step}
+use Rattle.line_rules.specs.Steps as steps
+use Rattle.line_rules.specs.Steps.{flight_by, has_begun, is_taken, node_outcome, on_node, sending, sends_by, sent_if, tag_of, world_after}
+use Rattle.line_rules.specs.Worlds.{World, Trace, node_at}
+use Rattle.line_progress.proofs.Acting.{acts_whole}
+use Rattle.line_progress.proofs.Accepting.{own_is}
+use Rattle.line_progress.proofs.Delivering.{within}
+
+-- What a station does about a datagram: it goes out in these frames.
+pub record SendsIt (p : Sending) (frames : List Sent) : Type 0 where
+  pub answer_is : p.answer ≡ Ok how_of.Sent
+  pub frames_is : p.frames ≡ frames
+
+module _ (l : StationMemory) (g : Granted) (ring : l.ring ≡ Some g) (dest hop : ℕ) (away : g.address ≢ dest) (route : next_hop l dest ≡ Some hop)
+    (left : nat_lt (counters_left l) 1 ≡ false) (k : Key) (keyed : sealing_key g ≡ Some k) (datagram : List ℕ) (some : 0 < length datagram)
+    (few : length datagram ≤ 375) (note now : ℕ) where
+  sets : sets_out g.address dest note (Datagram datagram l.next_tag) now (empty_draft l)
+      ≡ body_goes g.address hop dest note (Datagram datagram l.next_tag) (empty_draft l)
+  unfolding empty_draft
+  sets = rw route refl
+
+  none_lacks : lack l dest (length datagram) ≡ None
+  unfolding lack
+  none_lacks =
+      λ i. if is_some (route i) then None
+      else (Some OfRoom when no_room l (length datagram)
+      then Some OfNumbers when (if is_awaited l dest then false else numbers_spent l))
+
+  no_fault : send_fault l dest datagram ≡ None
+  no_fault =
+      let n : ℕ = length datagram in
+      let zero_not : (n == 0) ≡ false = ne_eqb n 0 (λ e. absurd (omega arith)) in
+      let big_not : nat_lt 1280 n ≡ false = le-ltb 1280 n (omega arith) in
+      let own_not : is_own l dest ≡ false = own_is l g ring dest ∙ ne_eqb g.address dest away in
+      λ i. Some refusals.BadSize when (zero_not i || big_not i)
+      then Some refusals.ToSelf when own_not i
+      then option_map lacking (none_lacks i)
+
+  -- the draft of the one unit
+  abbrev drafted : Draft StationMemory
+  drafted = record {
+    puts = [];
+    memory = l;
+    units = record { to = hop; unit = units.Whole (own_mesh g.address dest) datagram; note = note } ∷ [];
+    plain = [];
+    made = [];
+    opened = [];
+  }
+
+  small : nat_le (length datagram) 375 ≡ true
+  small = le-leb (length datagram) 375 few
+
+  body_is : body_goes g.address hop dest note (Datagram datagram l.next_tag) (empty_draft l) ≡ drafted
+  unfolding body_goes empty_draft
+  body_is =
+      λ i. record drafted {
+        units = all_go hop note
+            (if small i then units.Whole (own_mesh g.address dest) datagram ∷ []
+            else map (λ piece. units.Part (own_mesh g.address dest) piece) (pieces_cut datagram l.next_tag));
+      }
+
+  plan_is : send l dest datagram note now ≡ sealing alone sending_ends drafted how_of.Sent
+  unfolding checked sealed
+  plan_is =
+      (λ i. option_map_or (λ own. send_from l own dest datagram note now) (option_map (λ (g : Granted). g.address) (ring i))
+      (refused sending_ends l refusals.NotJoined))
+      ∙ (λ i. checked sending_ends l (no_fault i)
+      (sealed alone sending_ends l (sets_out g.address dest note (Datagram datagram l.next_tag) now (tag_taken datagram (empty_draft l))) (how l dest)))
+      ∙ (λ i. sealed alone sending_ends l
+      (sets_out g.address dest note (Datagram datagram l.next_tag) now (if small i then empty_draft l else with_next_tag (empty_draft l))) (how l dest))
+      ∙ (λ i. sealed alone sending_ends l (sets i) (how l dest))
+      ∙ (λ i. sealed alone sending_ends l (body_is i) (how l dest))
+      ∙ (λ i. if left i then refused sending_ends l sending_ends.spent else sealing alone sending_ends drafted (how l dest))
+      ∙ (λ i. sealing alone sending_ends drafted (if is_some (route i) then how_of.Sent else how_of.Waiting))
+
+  pub sends_it : SendsIt (send l dest datagram note now) (Sealed (record {
+    to = hop;
+    from = g.address;
+    counter = l.counter.next;
+    index = g.active;
+    key = k;
+    unit = units.Whole (own_mesh g.address dest) datagram;
+    note = note;
+  }) ∷ [])
+  sends_it = record {
+    answer_is = ap (λ (p : Sending). p.answer) plan_is;
+    frames_is =
+        ap (λ (p : Sending). p.frames) plan_is
+        ∙ (λ i. sealed_by (ring i) l.counter.next drafted.units)
+        ∙ (λ i. option_map_or (λ key. sealed_units g key l.counter.next drafted.units) (keyed i) []);
+  }
+
+-- # In the world
+
+-- The datagram is out: its frames fly.
+pub record Leaves (ciphers : Ciphers) (w : World) (number : ℕ) (frames : List Sent) (r : World × Trace) : Type 0 where
+  pub node : Node
+  pub nodes : r.0.nodes ≡ slice_set w.nodes number node
+  pub flights : r.0.flights ≡ w.flights ++ map (λ (frame : Sent). flight_by number (spelled ciphers frame)) frames
+  pub events : r.0.events ≡ w.events + 1
+  pub answer_is : r.1.happenings.answer ≡ answers.Sent
+  pub up_is : r.1.happenings.up ≡ None
+
+module _ (ciphers : Ciphers) (w : World) (from to : ℕ) (datagram : List ℕ) where
+  leaves : (tag : ℕ) (d : NodeStep Answer) (frames : List Sent) → d.answer ≡ answers.Sent → d.frames ≡ frames
+      → Leaves ciphers w from frames (sending ciphers w from to datagram tag d)
+  unfolding world_after
+  leaves tag d frames a f =
+      subst (λ b. Leaves ciphers w from frames (sent_if w from to datagram tag b (node_outcome ciphers w from d))) (sym (ap is_taken a)) (record {
+        node = d.node;
+        nodes = refl;
+        flights = ap (λ (fs : List Sent). w.flights ++ map (λ (frame : Sent). flight_by from (spelled ciphers frame)) fs) f;
+        events = refl;
+        answer_is = a;
+        up_is = refl;
+      })
+
+  module _ (x y : Node) (dest : ℕ) (there : node_at w from ≡ Some x) (target : node_at w to ≡ Some y) (address : node_address y ≡ Some dest) where
+    pub steps_so : line_step ciphers w (events.Send from to datagram) ≡ Ok (sends_by ciphers w from to datagram x (Some dest))
+    unfolding steps.send
+    steps_so =
+        let begun : has_begun w ≡ true = lt-ltb 0 (length w.nodes) (within w.nodes from x there) in
+        (λ i. if begun i then on_node w from (λ a. on_node w to (λ b. Ok (sends_by ciphers w from to datagram a (node_address b))))
+        else Err faults.Setup)
+        ∙ (λ i. option_map_or (λ a. on_node w to (λ b. Ok (sends_by ciphers w from to datagram a (node_address b)))) (there i) (Err faults.Node))
+        ∙ (λ i. option_map_or (λ b. Ok (sends_by ciphers w from to datagram x (node_address b))) (target i) (Err faults.Node))
+        ∙ (λ i. Ok (sends_by ciphers w from to datagram x (address i)))
+
+    pub it_leaves : (m : Memory) → x.memory ≡ Some m → x.store.cut ≡ None → (frames : List Sent)
+        → SendsIt (send m.station dest datagram (w.sends + 1) w.clock) frames
+        → Leaves ciphers w from frames (sends_by ciphers w from to datagram x (Some dest))
+    it_leaves m runs spared frames s =
+        let plan = λ (n : Memory). of_station n (send n.station dest datagram (w.sends + 1) w.clock) in
+        let did = acts_whole x m (Err refusals.Halted) plan runs spared in
+        leaves (tag_of x) (answering sent_word (acts x (Err refusals.Halted) plan)) frames
+        (ap (λ (d : NodeStep (Result SentHow SendRefusal)). sent_word d.answer) did ∙ ap sent_word s.answer_is)
+        (ap (λ (d : NodeStep (Result SentHow SendRefusal)). d.frames) did ∙ s.frames_is)

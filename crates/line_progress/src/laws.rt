@@ -1,0 +1,62 @@
+//! Laws of progress: each carried by a function that does nothing.
+ghost use Rattle.line_progress.specs.Arrival.{DatagramsArrive};
+ghost use Rattle.line_progress.specs.Fates.{BodiesHaveFates, DeliveriesHaveFates, FramesLeaveBodies, HearingKeepsPieces, PiecesHaveFates, SendEventsHaveFates};
+ghost use Rattle.line_progress.specs.Fates.{SendsHaveFates};
+ghost use Rattle.line_progress.specs.Fates.{TicksHaveFates, TimeComesToAll, UnitsHaveFates};
+
+/// A datagram of 1 to 375 octets that is sent along a route of at most 14 links that hold, and each flight of which comes to the next node,
+/// is handed up at the last one with the same octets, after one delivery for each link.
+pub fn datagrams_arrive()
+    ensures { DatagramsArrive }
+{}
+
+/// A datagram that is to be sent goes out whole, waits for a route, or is refused.
+pub fn sends_have_fates()
+    ensures { SendsHaveFates }
+{}
+
+/// A unit of a datagram that a node has accepted is handed up, taken in as a piece, sent on, or ends with a reason.
+pub fn units_have_fates()
+    ensures { UnitsHaveFates }
+{}
+
+/// A piece that is held is held still where another one comes, or is handed up with it, unless that one overlaps its reassembly.
+pub fn pieces_have_fates()
+    ensures { PiecesHaveFates }
+{}
+
+/// A body that waits for a route waits still where a frame is heard, or leaves with all its units.
+pub fn bodies_have_fates()
+    ensures { BodiesHaveFates }
+{}
+
+/// Whatever power is lost, an event in which a node accepts a unit of a datagram hands it up, holds it, sends it on in one flight more, or
+/// is answered with one of six words that end it.
+pub fn deliveries_have_fates()
+    ensures { DeliveriesHaveFates }
+{}
+
+/// A station that hears a frame changes no reassembly but by the rule of reassembly.
+pub fn hearing_keeps_pieces()
+    ensures { HearingKeepsPieces }
+{}
+
+/// Time ends only the bodies that have waited for 30 seconds, and the reassemblies that began 60 seconds ago.
+pub fn ticks_have_fates()
+    ensures { TicksHaveFates }
+{}
+
+/// Whatever power is lost, an event in which a node that runs is to send a datagram has its units fly, lets it wait, or does not take it.
+pub fn send_events_have_fates()
+    ensures { SendEventsHaveFates }
+{}
+
+/// A tick is the tick of each node that runs.
+pub fn time_comes_to_all()
+    ensures { TimeComesToAll }
+{}
+
+/// Whatever power is lost, a body that waits at a node that accepts a frame waits still, or all its units fly, or the node halts.
+pub fn frames_leave_bodies()
+    ensures { FramesLeaveBodies }
+{}

@@ -1,0 +1,10 @@
+//! That a datagram arrives where links hold: laws over the definitions of `line_rules`.
+#![tactic(auto)]
+
+mod laws;
+
+pub use laws::{
+    bodies_have_fates, datagrams_arrive, deliveries_have_fates, frames_leave_bodies,
+    hearing_keeps_pieces, pieces_have_fates, send_events_have_fates, sends_have_fates,
+    ticks_have_fates, time_comes_to_all, units_have_fates,
+};
