@@ -12,6 +12,7 @@ REASONS = {
     "test entry": "Rust passes a test no handle of the runtime: std::test::check makes one",
     "program entry": "Rust passes main no handle of the runtime: it is made there",
     "to_vec with an allocator": "Rust's own to_vec of a slice is found before that of a trait, so the trait's has another name",
+    "collect with an allocator": "so is Rust's own collect of an iterator",
     "root lines": "no_std, the name std for the shim over core and alloc, and no warning of what only a contract used",
     "prelude line": "names that Rattle has everywhere: Vec, String, HostRuntime, AllocGlobal",
     "patch": "a text of patches.json, with its reason there",
@@ -54,16 +55,17 @@ def entries(ts, tally):
             insert(ts, body + 1, f"\n    let {words[0]} = HostRuntime::of_process();")
 
 
-def slices(ts, tally):
-    """`.to_vec(alloc)`"""
+def allocations(ts, tally):
+    """`.to_vec(alloc)` and `.collect(alloc)`"""
     for i in range(len(ts) - 1, -1, -1):
-        if ts[i].gone or ts[i].text != "to_vec" or ts[step(ts, i, -1)].text != ".":
+        if ts[i].gone or ts[i].text not in ("to_vec", "collect") or ts[step(ts, i, -1)].text != ".":
             continue
         opening = step(ts, i)
         if ts[opening].text == "(" and solid(ts[opening + 1 : closing(ts, opening)]):
-            tally["to_vec with an allocator"] += 1
+            name = ts[i].text
+            tally[f"{name} with an allocator"] += 1
             ts[i].gone = True
-            insert(ts, i, "to_vec_in")
+            insert(ts, i, f"{name}_in")
 
 
 def patches(ts, name, tally):
@@ -144,7 +146,7 @@ def is_outer_comment(t):
 def all_of_them(ts, name, is_root, tally):
     """Every rewrite but the checks at the border."""
     entries(ts, tally)
-    slices(ts, tally)
+    allocations(ts, tally)
     patches(ts, name, tally)
     frames(ts, name, tally)
     head(ts, is_root, tally)

@@ -131,6 +131,9 @@ class Rewrites(unittest.TestCase):
     def test_to_vec_is_the_one_with_an_allocator(self):
         self.assertEqual(code("fn f() { a.to_vec(alloc); a.to_vec(); }"), words("fn f() { a.to_vec_in(alloc); a.to_vec(); }"))
 
+    def test_collect_is_the_one_with_an_allocator(self):
+        self.assertEqual(code("fn f() { a.collect(alloc); a.collect(); }"), words("fn f() { a.collect_in(alloc); a.collect(); }"))
+
     def test_a_function_of_frames_json_has_a_frame_of_its_own_on_bare_metal(self):
         with mock.patch.dict(rewrites.FRAMES, {"some/src/some.rt": ["f", "g"]}):
             text = code("impl A {\n    /// It.\n    pub(crate) fn f() {}\n}\n\n#[inline(always)]\nfn g() {}\nfn h() {}")

@@ -12,7 +12,12 @@ LIBRARIES = {
     "memchr": 'memchr = { version = "2", default-features = false }',
     "itoa": 'itoa = { version = "1", default-features = false }',
     "hex": 'hex = { package = "rattle_hex", path = "../../shims/hex" }',
+    "rand_core": 'rand_core = { package = "rattle_rand_core", path = "../../shims/rand_core" }',
+    "rand_pcg": 'rand_pcg = { version = "0.3", default-features = false }',
+    "serde": 'serde = { version = "1", default-features = false, features = ["derive"] }',
+    "serde_json": 'serde_json = { package = "rattle_serde_json", path = "../../shims/serde_json" }',
     "strsim": 'strsim = { package = "rattle_strsim", path = "../../shims/strsim" }',
+    "toml": 'toml = { package = "rattle_toml", path = "../../shims/toml" }',
 }
 # What the example of a firmware is made from.
 FIRMWARE = {"meter_node", "coordinator"}

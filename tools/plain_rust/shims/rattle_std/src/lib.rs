@@ -13,6 +13,7 @@ pub mod collections;
 #[cfg(feature = "std")]
 mod hosted;
 mod macros;
+pub mod num;
 pub mod simd;
 pub mod string;
 pub mod test;
@@ -23,7 +24,7 @@ pub mod dialect {
     pub use crate::boxed::Box;
     pub use crate::process::{AllocGlobal, HostRuntime};
     pub use crate::string::String;
-    pub use crate::vec::{SliceExt, Vec};
+    pub use crate::vec::{IteratorExt, SliceExt, Vec};
 }
 
 pub mod process {
