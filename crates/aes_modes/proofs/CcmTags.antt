@@ -1,6 +1,6 @@
 -- The blocks under a tag of CCM.
 use Rattle.std.proofs.Common.{◌≡◌, ℕ, zero, suc, ◌+◌, ◌-◌, ◌%◌, ◌<◌, ◌≤◌, eqb, List, [], ◌∷◌, ◌++◌, length, take, drop, replicate, refl, sym, ap, ◌∙◌, ◌⊎◌, inl}
-use Rattle.std.proofs.Common.{inr, arith}
+use Rattle.std.proofs.Common.{inr, arith, if◌then◌else◌, ◌==◌, ◌*◌, ◌/◌}
 use Rattle.std.specs.Int.{w16, to_be_bytes}
 use Rattle.std.proofs.lemmas.Bool.{cond-true, cond-false, eq-eqb, ne_eqb, cases_eq}
 use Rattle.std.proofs.lemmas.List.{append-nil, append_assoc, take_all, drop_all, length-append, length-drop, length-replicate, length-take-le, take-append-drop}
@@ -104,3 +104,7 @@ pub head_block : (high low k c : ℕ) (ys : List ℕ) → k ≡ c
     → high ∷ low ∷ (ys ++ drop k (replicate 14 0)) ≡ (high ∷ low ∷ []) ++ ys ++ replicate (14 - c) 0
 head_block high low k c ys e =
     ap (λ (z : List ℕ). high ∷ low ∷ (ys ++ z)) (drop-replicate k 14 0 ∙ ap (λ (n : ℕ). replicate (14 - n) 0) e)
+
+pub first_block_by_length : (n : ℕ) (nonce header m k : List ℕ) → length m ≡ length k → ccm_first_block n nonce header m ≡ ccm_first_block n nonce header k
+first_block_by_length n nonce header m k len =
+    λ i. ((if length header == 0 then 0 else 64) + 8 * ((n - 2) / 2) + 1) ∷ nonce ++ to_be_bytes w16 (len i)

@@ -11,3 +11,9 @@ pub mod Written
 pub mod Schedule
 pub mod Opened
 pub mod CipherOctets
+pub mod Lanes
+pub mod Words
+pub mod SlicedRounds
+pub mod Packing
+pub mod SlicedSchedule
+pub mod Beside

@@ -18,17 +18,17 @@ shifted s = refl
 
 -- # Sums
 
-turn0 : (p q r s : ℕ) → bit_xor (bit_xor p q) (bit_xor r s) ≡ bit_xor (bit_xor (bit_xor p q) r) s
+pub turn0 : (p q r s : ℕ) → bit_xor (bit_xor p q) (bit_xor r s) ≡ bit_xor (bit_xor (bit_xor p q) r) s
 turn0 p q r s = sym (xor_assoc (bit_xor p q) r s)
 
-turn3 : (p q r s : ℕ) → bit_xor (bit_xor p q) (bit_xor r s) ≡ bit_xor (bit_xor (bit_xor q r) s) p
+pub turn3 : (p q r s : ℕ) → bit_xor (bit_xor p q) (bit_xor r s) ≡ bit_xor (bit_xor (bit_xor q r) s) p
 turn3 p q r s =
     xor_assoc p q (bit_xor r s) ∙ ap (bit_xor p) (sym (xor_assoc q r s)) ∙ xor_comm p (bit_xor (bit_xor q r) s)
 
-turn2 : (p q r s : ℕ) → bit_xor (bit_xor p q) (bit_xor r s) ≡ bit_xor (bit_xor (bit_xor r s) p) q
+pub turn2 : (p q r s : ℕ) → bit_xor (bit_xor p q) (bit_xor r s) ≡ bit_xor (bit_xor (bit_xor r s) p) q
 turn2 p q r s = xor_comm (bit_xor p q) (bit_xor r s) ∙ turn0 r s p q
 
-turn1 : (p q r s : ℕ) → bit_xor (bit_xor p q) (bit_xor r s) ≡ bit_xor (bit_xor (bit_xor s p) q) r
+pub turn1 : (p q r s : ℕ) → bit_xor (bit_xor p q) (bit_xor r s) ≡ bit_xor (bit_xor (bit_xor s p) q) r
 turn1 p q r s = xor_comm (bit_xor p q) (bit_xor r s) ∙ turn3 r s p q
 
 pub swapped : (p q r s : ℕ) → bit_xor (bit_xor p q) (bit_xor r s) ≡ bit_xor (bit_xor p r) (bit_xor q s)

@@ -71,7 +71,7 @@ module _ (f : ℕ → List ℕ) (blocks : (i : ℕ) → length (f i) ≡ 16) whe
   unfolding masked
   length-masked m = length-xor_bytes m _ (room m)
 
-  get_or-masked : (m : List ℕ) (k : ℕ) → k < length m
+  pub get_or-masked : (m : List ℕ) (k : ℕ) → k < length m
       → get_or (masked f m) k 0 ≡ bit_xor (get_or m k 0) (get_or (f (k / 16)) (k % 16) 0)
   unfolding masked
   get_or-masked m k low =

@@ -10,3 +10,4 @@ pub mod LookUps
 pub mod Rounds
 pub mod Schedule
 pub mod Resumed
+pub mod Sliced

@@ -4,15 +4,15 @@ ghost use Rattle.std.specs.Prelude.{◌≡◌, ◌↔◌, ◌+◌, ◌-◌, ◌*
 ghost use Rattle.aes_modes.specs.Chains.{chained_all};
 ghost use Rattle.aes_modes.specs.Ccm.{ccm_first_block, ccm_header_blocks, ccm_counter_block, ccm_text, ccm_tag};
 
-use crate::BadTag;
 use crate::blocks::{mask_block, padded_block, xor_blocks};
-use crate::cipher::Aes;
 use crate::compare::is_same;
 use crate::mac::absorb;
+use crate::pairs::{open_text, seal_text};
+use crate::{Aes, BadTag};
 
 /// The counter block A_i (RFC 3610, section 2.3).
 #[inline(always)]
-fn counter(nonce: &[u8; 13], i: usize) -> [u8; 16]
+pub(crate) fn counter(nonce: &[u8; 13], i: usize) -> [u8; 16]
     requires { i < 65536 }
     ensures { result ≡ ccm_counter_block nonce.now i }
 {
@@ -106,19 +106,6 @@ fn absorb_header(aes: &Aes, x: &mut [u8; 16], header: &[u8])
     absorb(aes, x, &header[count..]);
 }
 
-/// The tag for `tag_len` octets before it is cut to them: the CBC-MAC with S_0 added (section 2.3). `text` is the plain text.
-fn whole_tag(aes: &Aes, nonce: &[u8; 13], header: &[u8], text: &[u8], tag_len: usize) -> [u8; 16]
-    requires header { length header.now < 65280 }
-    requires text { length text.now < 65536 }
-    requires tag { (tag_len ≡ 4) ⊎ (tag_len ≡ 8) }
-    ensures { take tag_len result ≡ ccm_tag tag_len aes.now nonce.now header.now text.now }
-{
-    let mut x = aes.encrypt_block(&first_block(nonce, header, text, tag_len));
-    absorb_header(aes, &mut x, header);
-    absorb(aes, &mut x, text);
-    xor_blocks(&x, &aes.encrypt_block(&counter(nonce, 0)))
-}
-
 /// Encrypts `text` in place, and fills `tag` with the tag of the nonce, the header and the plain text.
 ///
 /// The header has fewer than 65,280 octets and is authenticated and not encrypted; the text has at most 65,535; the tag
@@ -131,9 +118,39 @@ pub fn ccm_seal(aes: &Aes, nonce: &[u8; 13], header: &[u8], text: &mut [u8], tag
     ensures tag { tag.new ≡ ccm_tag (length tag.old) aes.now nonce.now header.now text.old }
 {
     let tag_len = tag.len();
-    let whole = whole_tag(aes, nonce, header, text, tag_len);
+    let (begun, first) = aes.encrypt_two(
+        &first_block(nonce, header, text, tag_len),
+        &counter(nonce, 0),
+    );
+    let mut x = begun;
+    absorb_header(aes, &mut x, header);
+    seal_text(aes, nonce, &mut x, text);
+    let whole = xor_blocks(&x, &first);
     tag.copy_from_slice(&whole[..tag_len]);
-    ccm_mask(aes, nonce, text);
+}
+
+/// Decrypts `text` in place. The answer is the tag for `tag_len` octets before it is cut to them.
+fn opened_tag(
+    aes: &Aes,
+    nonce: &[u8; 13],
+    header: &[u8],
+    text: &mut [u8],
+    tag_len: usize,
+) -> [u8; 16]
+    requires header { length header.now < 65280 }
+    requires text { length text.old < 65536 }
+    requires tag { (tag_len ≡ 4) ⊎ (tag_len ≡ 8) }
+    ensures text { text.new ≡ ccm_text aes.now nonce.now text.old }
+    ensures tag { take tag_len result ≡ ccm_tag tag_len aes.now nonce.now header.now text.new }
+{
+    let (begun, stream) = aes.encrypt_two(
+        &first_block(nonce, header, text, tag_len),
+        &counter(nonce, 1),
+    );
+    let mut x = begun;
+    absorb_header(aes, &mut x, header);
+    let first = open_text(aes, nonce, &mut x, &stream, text);
+    xor_blocks(&x, &first)
 }
 
 /// Whether `whole` begins with `tag`. All octets of `tag` are compared, wherever they differ first.
@@ -166,8 +183,7 @@ pub fn ccm_open(
     ensures opened { OnOk result (text.new ≡ ccm_text aes.now nonce.now text.old) }
     ensures unchanged { OnErr result (text.new ≡ text.old) }
 {
-    ccm_mask(aes, nonce, text);
-    let whole = whole_tag(aes, nonce, header, text, tag.len());
+    let whole = opened_tag(aes, nonce, header, text, tag.len());
     if !is_tag(&whole, tag) {
         ccm_mask(aes, nonce, text);
         return Err(BadTag);

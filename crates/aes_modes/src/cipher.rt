@@ -88,6 +88,15 @@ impl Aes {
         let s = last_round(s, Simd::from_array(k[10]));
         s.to_array()
     }
+
+    /// Both encrypted blocks. Where blocks are sliced, two cost what one does.
+    #[inline(always)]
+    pub fn encrypt_two(&self, x: &[u8; 16], y: &[u8; 16]) -> ([u8; 16], [u8; 16])
+        ensures first { result.0 ≡ encrypted self.now x.now }
+        ensures second { result.1 ≡ encrypted self.now y.now }
+    {
+        (self.encrypt_block(x), self.encrypt_block(y))
+    }
 }
 
 /// AddRoundKey (section 5.1.4).

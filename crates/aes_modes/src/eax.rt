@@ -5,11 +5,10 @@ ghost use Rattle.aes_modes.specs.Cmac.{first_subkey};
 ghost use Rattle.aes_modes.specs.KeyStream.{masked};
 ghost use Rattle.aes_modes.specs.Eax.{numbered_mac, eax_stream_block, eax_text, eax_tag};
 
-use crate::BadTag;
 use crate::blocks::{mask_block, xor_blocks};
-use crate::cipher::Aes;
 use crate::compare::is_same;
 use crate::mac::{first_subkey, mac_from};
+use crate::{Aes, BadTag};
 
 /// OMAC^t: the CMAC of a block with `number`, and `text`. `subkey` is K1.
 fn numbered_mac(aes: &Aes, subkey: u128, number: u8, text: &[u8]) -> [u8; 16]

@@ -7,10 +7,9 @@ ghost use Rattle.aes_modes.specs.Ccm.{ccm_tag};
 ghost use Rattle.aes_modes.specs.Laws.{BlocksAreOctets, CcmLengths, CcmTagsAreOctets, CcmTextsAreOctets, CcmTextsComeBack, CcmTextsDiffer, CmacsAreOctets};
 ghost use Rattle.aes_modes.specs.Laws.{EaxLengths, EaxTagsAreOctets, EaxTextsAreOctets, EaxTextsComeBack, EaxTextsDiffer};
 
-use crate::BadTag;
 use crate::ccm::{ccm_open, ccm_seal};
-use crate::cipher::Aes;
 use crate::eax::{eax_open, eax_seal};
+use crate::{Aes, BadTag};
 
 /// Seals a text with CCM and opens it with the tag that this gave: it opens, and is what it was.
 pub fn ccm_seal_and_open(

@@ -27,6 +27,9 @@ mod eax;
 pub mod laws;
 mod look_ups;
 mod mac;
+mod pairs;
+mod seam;
+mod sliced;
 
 pub use bad_tag::BadTag;
 pub use ccm::{ccm_mask, ccm_open, ccm_seal};
@@ -34,3 +37,5 @@ pub use cipher::Aes;
 pub use compare::is_same;
 pub use eax::{eax_open, eax_seal};
 pub use mac::cmac;
+pub use seam::{BlockCipher, chain_over};
+pub use sliced::SlicedAes;

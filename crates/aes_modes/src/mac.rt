@@ -5,8 +5,8 @@ ghost use Rattle.aes_modes.specs.Chains.{chained, chained_all, padded};
 ghost use Rattle.aes_modes.specs.Cmac.{doubled, first_subkey, last_block, cmac};
 ghost use Rattle.aes_modes.specs.Resumed.{mac_from};
 
+use crate::Aes;
 use crate::blocks::{block_at, padded_block, xor_blocks};
-use crate::cipher::Aes;
 
 /// Takes the first `count` blocks of `text`, all whole, into `x`.
 ///

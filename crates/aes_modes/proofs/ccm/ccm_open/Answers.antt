@@ -7,4 +7,4 @@ pub returns-then-not-is_tag-clause-unchanged : goal.returns-then-not-is_tag-clau
 returns-then-not-is_tag-clause-unchanged c =
     let key = c.args.aes.now in
     let nonce = c.args.nonce.now in
-    c.ccm_mask-then-not-is_tag.ensures ∙ ap (ccm_text key nonce) c.ccm_mask.ensures ∙ ccm_text-twice key nonce c.args.text.now
+    c.ccm_mask.ensures ∙ ap (ccm_text key nonce) c.opened_tag-whole.ensures.text ∙ ccm_text-twice key nonce c.args.text.now

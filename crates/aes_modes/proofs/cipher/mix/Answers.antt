@@ -1,7 +1,7 @@
 use Rattle.std.proofs.Common.{◌≡◌, map, bit_xor, ◌∙◌}
 use lib.Lanes.{zip2}
 use Rattle.aes_modes.specs.LookUps.{entry}
-use Rattle.aes_modes.specs.Rounds.{own, next, last}
+use Rattle.aes_modes.specs.Rounds.{own, next}
 use Rattle.aes_modes.specs.declared.cipher.TheConstants.{ROW_AFTER}
 use Rattle.aes_modes.proofs.Mixing.{mixed_is}
 use Rattle.aes_modes.proofs.cipher.mix.Goals as goal
