@@ -1,4 +1,4 @@
--- The law that a meter that was kicked stays out.
+-- The laws that a meter that was kicked stays out, and one that is shut out.
 use Rattle.std.proofs.Common.{◌≡◌, ◌≢◌, ⊎_elim, ℕ, zero, suc, true, false, List, [], ◌∷◌, ◌++◌, Option, Some, None, refl, sym, ap, ◌∙◌, subst, arith}
 use Rattle.std.specs.Prelude.{All, IfSome, slice_get}
 use Rattle.std.proofs.lemmas.Bool.{cases_eq, eqb-true}
@@ -18,7 +18,7 @@ use Rattle.line_events.specs.declared.event.Event.{Event}
 use Rattle.line_events.specs.declared.event.Event.TheVariants as events
 use Rattle.node_rules.specs.Ciphers.{Ciphers, network}
 use Rattle.node_rules.specs.Memory.{Memory, Role, Coordinator, Meter, Node}
-use Rattle.line_laws.specs.Kicked.{EveryKickedMeterStaysOut}
+use Rattle.line_laws.specs.Kicked.{EveryKickedMeterStaysOut, EveryShutOutMeterStaysOut, IsShutOut}
 use Rattle.line_laws.specs.LineAccounts.{ShutIn}
 use Rattle.line_laws.specs.Owed.{KeepsRanges}
 use Rattle.line_laws.proofs.FurtherAgrees.{line_keys_other, line_keys_stood, line_names}
@@ -239,6 +239,52 @@ module _ (ciphers : Ciphers) (fits : KeepsRanges ciphers) (number : ℕ) (key : 
       (out_from x.after (given ++ x.trace.issued) later gone all xs after rest k l.1 (All-tail IsHonest x (xs ++ k ∷ after) honest) kicked other
       (All-tail (HoldsNot 0 key) x (xs ++ k ∷ []) never))
 
+  -- # Shut out by the book
+
+  abbrev IsOutAfter : Entry → Type 0
+  IsOutAfter x = IsShutOut number x.after
+
+  -- the meter of a world in which it is shut out, where it has none of the keys that were issued
+  out_of : (w : World) (given : List Issued) → Now w given → (o : IsShutOut number w) → Each (NotTo key o.meter.eui) given → IsOut number key w given
+  out_of w given now o none = record { now = now; meter = o.meter; there = o.there; shut = o.book; running = o.running; none = none }
+
+  -- an event after which it is still shut out
+  shut_on : (w : World) (given : List Issued) (x : Entry) → IsOut number key w given → Lawful ciphers w x → IsHonest x → IsShutOut number x.after
+      → IsOut number key x.after (given ++ x.trace.issued)
+  shut_on w given x out l honest o =
+      let same = eui_stays ciphers fits key w given out.now x l number out.meter o.meter out.there o.there in
+      out_of x.after (given ++ x.trace.issued) (next ciphers fits key w given out.now x l honest) o
+      (subst (λ (u : Eui). Each (NotTo key u) (given ++ x.trace.issued)) (sym same)
+      (each_append (NotTo key out.meter.eui) given x.trace.issued out.none (issues_other ciphers fits key w given out.now x l out.meter.eui out.shut
+      out.running)))
+
+  stays_shut : (w : World) (given : List Issued) → number ≢ 0 → IsOut number key w given → (after rest : List Entry) → AreLawful ciphers w (after ++ rest)
+      → NoneForged after → All IsOutAfter after → All (HoldsNot number key) after
+  stays_shut w given ne out [] rest l honest shut = All-nil (HoldsNot number key)
+  stays_shut w given ne out (x ∷ xs) rest l honest shut =
+      let o = shut_on w given x out l.0 (All-head IsHonest x xs honest) (All-head IsOutAfter x xs shut) in
+      All-cons (HoldsNot number key) x xs (out_holds_none number key x.after (given ++ x.trace.issued) ne o)
+      (stays_shut x.after (given ++ x.trace.issued) ne o xs rest l.1 (All-tail IsHonest x xs honest) (All-tail IsOutAfter x xs shut))
+
+  shut_from : (w : World) (given : List Issued) → Now w given → (NodeHasKey w 0 key → ⊥) → Each (NotThis key) given
+      → (before after rest : List Entry) (k : Entry) → AreLawful ciphers w (before ++ k ∷ after ++ rest)
+      → NoneForged (before ++ k ∷ after) → IsShutOut number k.after → All IsOutAfter after → NeverStood key (before ++ k ∷ [])
+      → All (HoldsNot number key) (before ++ k ∷ after)
+  shut_from w given now absent none [] after rest k l honest out shut never =
+      let all = each_append (NotThis key) given k.trace.issued none (issues_none ciphers fits key w given now k l.0 absent) in
+      let later = next ciphers fits key w given now k l.0 (All-head IsHonest k after honest) in
+      let o = out_of k.after (given ++ k.trace.issued) later out
+      (each_weaker (NotThis key) (NotTo key out.meter.eui) (λ i h e. h) (given ++ k.trace.issued) all) in
+      All-cons (HoldsNot number key) k after (out_holds_none number key k.after (given ++ k.trace.issued) out.other o)
+      (stays_shut k.after (given ++ k.trace.issued) out.other o after rest l.1 (All-tail IsHonest k after honest) shut)
+  shut_from w given now absent none (x ∷ xs) after rest k l honest out shut never =
+      let later = next ciphers fits key w given now x l.0 (All-head IsHonest x (xs ++ k ∷ after) honest) in
+      let all = each_append (NotThis key) given x.trace.issued none (issues_none ciphers fits key w given now x l.0 absent) in
+      let gone = All-head (HoldsNot 0 key) x (xs ++ k ∷ []) never in
+      All-cons (HoldsNot number key) x (xs ++ k ∷ after) (nobody_holds x.after (given ++ x.trace.issued) later key number gone all)
+      (shut_from x.after (given ++ x.trace.issued) later gone all xs after rest k l.1 (All-tail IsHonest x (xs ++ k ∷ after) honest) out shut
+      (All-tail (HoldsNot 0 key) x (xs ++ k ∷ []) never))
+
 -- # Every run
 
 start_now : Now start []
@@ -248,3 +294,8 @@ pub every_kick : EveryKickedMeterStaysOut
 every_kick entries r number before after rest k key split honest kicked other never =
     out_from network network_ranges number key start [] start_now (λ h. h) tt before after rest k
     (subst (AreLawful network start) split (lawful network network_ranges entries r (every_flight entries r))) honest kicked other never
+
+pub every_shut_out : EveryShutOutMeterStaysOut
+every_shut_out entries r number before after rest k key split honest out shut never =
+    shut_from network network_ranges number key start [] start_now (λ h. h) tt before after rest k
+    (subst (AreLawful network start) split (lawful network network_ranges entries r (every_flight entries r))) honest out shut never

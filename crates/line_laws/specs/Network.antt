@@ -17,6 +17,7 @@ use Rattle.line_laws.specs.Live.{MarksAlwaysRise, FlightsAlwaysFall}
 use Rattle.line_laws.specs.Once.{AcceptsOnce, AcceptedOnce}
 use Rattle.line_laws.specs.Issued.{IsIssuedAfter}
 use Rattle.line_laws.specs.IssuedRight.{AreIssuedRight}
+use Rattle.line_laws.specs.Kicked.{ShutOutStaysOut}
 use Rattle.line_laws.specs.Laws.{FlightsAreOctets, StoresAreReadable}
 use Rattle.line_laws.specs.Loops.{AreLoopFree, RestartsEndRoutes}
 use Rattle.line_laws.specs.ReachTraces.{AreReachReported, ListsBroadcasts}
@@ -49,6 +50,7 @@ pub record IsRight (entries : List Entry) : Type 0 where
   pub keys : IsIssuedAfter [] entries
   pub issued : AreIssuedRight start entries
   pub kicked : KickedStaysOut entries
+  pub shut : ShutOutStaysOut entries
   pub routes : AreLoopFree start entries
   pub counted : CountsRight start entries
   pub traced : AreTracedRight start entries

@@ -6,7 +6,7 @@ ghost use Rattle.line_laws.specs.FurtherLines.{EveryRunHolds};
 ghost use Rattle.line_laws.specs.FurtherState.{EveryIssuedKeyStood, EveryRunIsRanged};
 ghost use Rattle.line_laws.specs.Issued.{EveryJoiningAgrees, OnlyIssuedKeys};
 ghost use Rattle.line_laws.specs.IssuedRight.{EveryKeyIsIssuedRight};
-ghost use Rattle.line_laws.specs.Kicked.{EveryKickedMeterStaysOut};
+ghost use Rattle.line_laws.specs.Kicked.{EveryKickedMeterStaysOut, EveryShutOutMeterStaysOut};
 ghost use Rattle.line_laws.specs.Laws.{EveryAddressDiffers, EveryCountIsRight, EveryCounterRises, EveryFlightIsAFrame, EveryFlightIsOctets};
 ghost use Rattle.line_laws.specs.Laws.{EveryFlightIsSpelled, EveryForgeryIsReported, EveryNetworkRunIsSized, EveryNonceDiffers};
 ghost use Rattle.line_laws.specs.Laws.{EveryRestartIsAnswered, EveryRunIsSized, EverySenderIsRight, EveryStoreIsReadable, EveryTraceIsRight};
@@ -118,6 +118,14 @@ pub fn only_issued_keys()
 #[tactic(auto)]
 pub fn every_kicked_meter_stays_out()
     ensures { EveryKickedMeterStaysOut }
+{}
+
+/// In every run of the network, before its first forged event, over restarts and failed writes: a meter that the coordinator's book does not
+/// allow after an event, and after each of the next ones, holds after none of them a key that had not stood in the coordinator's ring up to that
+/// event. So it is also of a kick whose write failed and is there after the restart.
+#[tactic(auto)]
+pub fn every_shut_out_meter_stays_out()
+    ensures { EveryShutOutMeterStaysOut }
 {}
 
 /// In every run, before its first forged event, a joining that is done was taken by that meter before, with the same random values.

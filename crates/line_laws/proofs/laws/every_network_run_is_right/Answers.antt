@@ -9,7 +9,7 @@ use Rattle.line_laws.proofs.FurtherRestarts.{every_size}
 use Rattle.line_laws.proofs.FurtherStates.{every_issued_right}
 use Rattle.line_laws.proofs.FurtherUps.{every_up}
 use Rattle.line_laws.proofs.KeyedRuns.{every_address, every_fall, every_joining, every_nonce, only_issued}
-use Rattle.line_laws.proofs.KickRuns.{every_kick}
+use Rattle.line_laws.proofs.KickRuns.{every_kick, every_shut_out}
 use Rattle.line_laws.proofs.LawRuns.{every_count, every_counter, every_forgery, every_mark, every_restart, every_store, every_restart_ends, every_send}
 use Rattle.line_laws.proofs.LawRuns.{every_sender, every_spelling, every_tag, every_trace}
 use Rattle.line_laws.proofs.OnceRuns.{every_frame, every_node}
@@ -43,6 +43,7 @@ returns c = λ entries run. record {
   keys = only_issued network network_ranges entries run (every_flight entries run);
   issued = every_issued_right entries run;
   kicked = every_kick entries run;
+  shut = every_shut_out entries run;
   routes = loop_free entries run;
   counted = every_count network entries run;
   traced = every_trace network entries run;
