@@ -192,3 +192,4 @@ pub mod BroadcastRuns
 pub mod LineRuns
 pub mod KeyedRuns
 pub mod ReachRuns
+pub mod HoldsRuns

@@ -33,3 +33,4 @@ pub mod ReachTraces
 pub mod CheckHistories
 pub mod StepsTaken
 pub mod OnePlan
+pub mod Invariant

@@ -17,6 +17,7 @@ use Rattle.line_laws.specs.Live.{MarksAlwaysRise, FlightsAlwaysFall}
 use Rattle.line_laws.specs.Once.{AcceptsOnce, AcceptedOnce}
 use Rattle.line_laws.specs.Issued.{IsIssuedAfter}
 use Rattle.line_laws.specs.IssuedRight.{AreIssuedRight}
+use Rattle.line_laws.specs.Invariant.{HoldsThroughout}
 use Rattle.line_laws.specs.Kicked.{ShutOutStaysOut}
 use Rattle.line_laws.specs.Laws.{FlightsAreOctets, StoresAreReadable}
 use Rattle.line_laws.specs.Loops.{AreLoopFree, RestartsEndRoutes}
@@ -68,6 +69,7 @@ pub record IsRight (entries : List Entry) : Type 0 where
   pub listed : ListsBroadcasts entries
   pub checked : AreCheckedRight entries
   pub steps : AreStepsTaken start entries
+  pub throughout : HoldsThroughout entries
 
 -- so it is of every run of the network
 abbrev pub EveryNetworkRunIsRight : Type 0

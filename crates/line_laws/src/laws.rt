@@ -3,6 +3,7 @@ ghost use Rattle.line_laws.specs.AdmittedRight.{EveryAdmissionIsRight};
 ghost use Rattle.line_laws.specs.AgreedRight.{EveryAgreementIsSaid};
 ghost use Rattle.line_laws.specs.CheckHistories.{EveryCheckIsRight};
 ghost use Rattle.line_laws.specs.FurtherLines.{EveryRunHolds};
+ghost use Rattle.line_laws.specs.Invariant.{EveryRunHoldsThroughout};
 ghost use Rattle.line_laws.specs.FurtherState.{EveryIssuedKeyStood, EveryRunIsRanged};
 ghost use Rattle.line_laws.specs.Issued.{EveryJoiningAgrees, OnlyIssuedKeys};
 ghost use Rattle.line_laws.specs.IssuedRight.{EveryKeyIsIssuedRight};
@@ -225,6 +226,15 @@ pub fn every_datagram_was_sent()
 #[tactic(auto)]
 pub fn every_run_holds()
     ensures { EveryRunHolds }
+{}
+
+/// In every run of the network, up to its first forged event, over restarts, failed writes and presets: the world after each event holds, with the keys
+/// that were issued, the sends and the joinings that were taken and what was handed up until then. So each node has one address for the whole run, no node
+/// keeps a rank of its own, the next hop of a valid route has a better rank, counters are below the stored limit, and of each octet of a send at most one copy
+/// may still come.
+#[tactic(auto)]
+pub fn every_run_holds_throughout()
+    ensures { EveryRunHoldsThroughout }
 {}
 
 /// In every run of the network, before its first forged event, over restarts and failed writes: what every node holds is in its ranges, and what

@@ -9,6 +9,7 @@ use Rattle.line_laws.proofs.FurtherRestarts.{every_size}
 use Rattle.line_laws.proofs.FurtherStates.{every_issued_right}
 use Rattle.line_laws.proofs.FurtherUps.{every_up}
 use Rattle.line_laws.proofs.KeyedRuns.{every_address, every_fall, every_joining, every_nonce, only_issued}
+use Rattle.line_laws.proofs.HoldsRuns.{every_run_throughout}
 use Rattle.line_laws.proofs.KickRuns.{every_kick, every_shut_out}
 use Rattle.line_laws.proofs.LawRuns.{every_count, every_counter, every_forgery, every_mark, every_restart, every_store, every_restart_ends, every_send}
 use Rattle.line_laws.proofs.LawRuns.{every_sender, every_spelling, every_tag, every_trace}
@@ -61,4 +62,5 @@ returns c = λ entries run. record {
   listed = every_list entries run;
   checked = every_check entries run;
   steps = every_step entries run;
+  throughout = every_run_throughout entries run;
 }
