@@ -100,7 +100,8 @@ module _ (home : ℕ → ℕ) (apart : (i j : ℕ) → home i ≡ home j → i �
       where
         all_noted : (p : Option Handed) → AfterIt w x.event (ups_of before) x.after p → All IsNoted (ups_of before ++ option_to_list p)
         all_noted None h = subst (All IsNoted) (sym (append-nil (ups_of before))) g.noted
-        all_noted (Some u) h = All-push IsNoted (ups_of before) u g.noted (noted network network_opens_again network_ranges live (λ w f e. e) home apart sent rises
+        all_noted (Some u) h =
+            All-push IsNoted (ups_of before) u g.noted (noted network network_opens_again network_ranges live (λ w f e. e) home apart sent rises
             some w x.event u (h.handed u refl))
 
     -- what it hands up was sent, and not handed up before

@@ -2,6 +2,7 @@
 use Rattle.std.proofs.Common.{ℕ, Bool, true, List}
 use Rattle.plc_base.specs.Streams.{SourceState, SinkState}
 use Rattle.line_laws.specs.Network.{IsRight}
+use Rattle.run_laws.specs.RunLaws.{IsLawful}
 use Rattle.line_replay.specs.Replay.{entries, is_forged, outcome}
 use Rattle.line_replay.specs.Tool.{Ran, Replays}
 use Rattle.line_replay.specs.declared.status.Status.{Status}
@@ -10,8 +11,8 @@ use Rattle.line_replay.proofs.Quieting.{report_quieted}
 
 pub replays_of : (quiet : Bool) {source0 source1 : SourceState} {sink0 sink1 : SinkState} {s : Status}
     → Ran is_forged (outcome quiet) source0 source1 sink0 sink1 s → ((octets : List ℕ) (e : Bool) → IsRight (entries octets e))
-    → Replays quiet source0 source1 sink0 sink1 s
-replays_of quiet ran right = record {
+    → ((octets : List ℕ) (e : Bool) → IsLawful (entries octets e)) → Replays quiet source0 source1 sink0 sink1 s
+replays_of quiet ran right lawful = record {
   ran = ran;
   by_entries = report_by_entries quiet ran.drives.b;
   quieted = λ e. report_quieted ran.drives.b e;
@@ -19,5 +20,6 @@ replays_of quiet ran right = record {
   bad = last_is ran.drives.b;
   run = entries_run ran.drives.b;
   holds = λ e. right ran.drives.b e;
+  lawful = λ e. lawful ran.drives.b e;
   named = names quiet ran (right ran.drives.b true).counted;
 }

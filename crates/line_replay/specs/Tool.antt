@@ -14,6 +14,7 @@ use Rattle.script_lines.specs.Outcomes.{Outcome, BreaksOff, MayBreakOff}
 use Rattle.script_lines.specs.Clauses.{Drives}
 use Rattle.node_rules.specs.Ciphers.{network}
 use Rattle.line_laws.specs.Network.{IsRight}
+use Rattle.run_laws.specs.RunLaws.{IsLawful}
 use Rattle.line_script.specs.Words.{number_within}
 use Rattle.line_replay.specs.declared.tool.Command.{Command}
 use Rattle.line_replay.specs.declared.tool.Command.TheVariants.{Replay, Show, Vectors, Drill}
@@ -110,6 +111,7 @@ pub record Replays (quiet : Bool) (source0 source1 : SourceState) (sink0 sink1 :
   pub run : (e : Bool) → IsLineRun network (entries ran.drives.b e)
   -- all that the laws of every run say of it
   pub holds : (e : Bool) → IsRight (entries ran.drives.b e)
+  pub lawful : (e : Bool) → IsLawful (entries ran.drives.b e)
   -- the status names a forged event exactly where there is one
   pub named : Names result (forged_in (entries ran.drives.b true))
 

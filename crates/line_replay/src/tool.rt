@@ -16,6 +16,7 @@ use crate::status::Status;
 use line_laws::every_network_run_is_right;
 use line_script::number_within;
 use plc_base::{Sink, Source, write_all};
+use run_laws::every_run_is_lawful;
 use script_lines::{Exit, a_run_may_end_without_memory, run};
 use standard_vectors::vectors_text;
 use std::alloc::{AllocError, Global};
@@ -46,6 +47,7 @@ fn replay<S: Source, K: Sink>(alloc: Global, quiet: bool, source: &mut S, sink: 
     ensures sink { (K.state sink.old).faults ≤ (K.state sink.new).faults }
 {
     every_network_run_is_right();
+    every_run_is_lawful();
     let Ok(mut replay) = Replay::new(alloc, quiet) else {
         a_run_may_end_without_memory::<Replay>();
         return Status::Memory;

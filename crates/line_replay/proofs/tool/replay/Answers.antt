@@ -12,12 +12,14 @@ returns-in_default-clause-replays g c =
     let first : Playing = record { quiet = c.args.quiet; world = start } in
     replays_of c.args.quiet (ran_of is_forged (outcome c.args.quiet) exits.Memory first false status.Memory refl refl
     (c.a_run_may_end_without_memory.ensures first _ _)) (λ b e. c.every_network_run_is_right.ensures (entries b e) (entries_run b e))
+    (λ b e. c.every_run_is_lawful.ensures (entries b e) (entries_run b e))
 
 pub returns-clause-replays : goal.returns-clause-replays
 returns-clause-replays g c =
     let ran = ran_of is_forged (outcome c.args.quiet) c.run-exit.result c.run-exit.new.machine c.is_forged.result c.status_of.result c.status_of.ensures
     (sym c.is_forged.ensures) (rw c.in-Ok.ensures at c.run-exit.ensures.drives) in
     replays_of c.args.quiet ran (λ b e. c.every_network_run_is_right.ensures (entries b e) (entries_run b e))
+    (λ b e. c.every_run_is_lawful.ensures (entries b e) (entries_run b e))
 
 pub returns-clause-whole : goal.returns-clause-whole
 returns-clause-whole g c = λ whole. c.run-exit.ensures.whole (whole_exit c.run-exit.result c.is_forged.result c.status_of.result c.status_of.ensures whole)

@@ -1,0 +1,8 @@
+-- The laws, side by side.
+use Rattle.run_laws.proofs.laws.every_run_is_lawful.Goals as goal
+
+pub returns : goal.returns
+returns c entries run = record {
+  chosen = c.every_choice_is_right.ensures entries run;
+  beside = c.tables_beside_keep_their_sizes.ensures entries run;
+}

@@ -1,0 +1,3 @@
+pub mod Choices
+pub mod BesideSizes
+pub mod RunLaws

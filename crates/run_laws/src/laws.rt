@@ -1,0 +1,35 @@
+//! Laws of runs: each stands as the contract of a function that does nothing.
+ghost use Rattle.run_laws.specs.Choices.{EveryChoiceIsRight};
+ghost use Rattle.run_laws.specs.BesideSizes.{TablesBesideKeepTheirSizes};
+ghost use Rattle.run_laws.specs.RunLaws.{EveryRunIsLawful};
+
+use line_laws::{every_history_is_kept, every_log_is_kept};
+use line_rules::it_starts_with_nothing_further;
+use neighbour_checks::laws::at_most_64;
+
+/// In every run of the network, forged or not, over restarts and failed writes: a `choose` line is answered Asked exactly where an agent is reported. It is the
+/// k-th cheapest of all senders of beacons that the meter heard since its scan began, with its least total, and the session of the meter is by it.
+pub fn every_choice_is_right()
+    ensures { EveryChoiceIsRight }
+{
+    it_starts_with_nothing_further();
+    every_history_is_kept();
+}
+
+/// In every run of the network, forged or not, over restarts and failed writes, after each event: a node has at most 64 open checks and listed neighbours
+/// together, at most 16 agents in its scan, and, where it runs, at most 32 origins of broadcasts.
+pub fn tables_beside_keep_their_sizes()
+    ensures { TablesBesideKeepTheirSizes }
+{
+    every_history_is_kept();
+    every_log_is_kept();
+    at_most_64();
+}
+
+/// In every run of the network these laws hold.
+pub fn every_run_is_lawful()
+    ensures { EveryRunIsLawful }
+{
+    every_choice_is_right();
+    tables_beside_keep_their_sizes();
+}

@@ -1,0 +1,11 @@
+//! Laws of the runs of a network beside those of `line_laws`, on which they stand: what an event of a run says of the events before it.
+//!
+//! - A meter that chooses joins by the k-th cheapest agent that it heard ([`every_choice_is_right`]).
+//! - What a node keeps beside its memory passes no size ([`tables_beside_keep_their_sizes`]).
+//!
+//! [`every_run_is_lawful`] has them in one record, which `line_replay` says of its run.
+#![tactic(auto)]
+
+mod laws;
+
+pub use laws::{every_choice_is_right, every_run_is_lawful, tables_beside_keep_their_sizes};
