@@ -28,7 +28,6 @@ pub mod laws;
 mod look_ups;
 mod mac;
 mod pairs;
-mod seam;
 mod sliced;
 
 pub use bad_tag::BadTag;
@@ -37,5 +36,4 @@ pub use cipher::Aes;
 pub use compare::is_same;
 pub use eax::{eax_open, eax_seal};
 pub use mac::cmac;
-pub use seam::{BlockCipher, chain_over};
 pub use sliced::SlicedAes;
