@@ -3,7 +3,7 @@ use Rattle.std.proofs.Common.{◌≡◌, ℕ, ◌+◌, ◌*◌, ◌<◌, ◌≤�
 use Rattle.std.proofs.lemmas.List.{get_or-drop, get_or-take, length-take-le, ext_get_or, length-drop}
 use Rattle.std.proofs.lemmas.Bool.{cond-true, cond-false, eq-eqb, ne_eqb}
 use Rattle.std.proofs.Common.{eqb}
-use Rattle.aes_modes.specs.Sliced.{following}
+use Rattle.aes_modes.specs.Pairs.{following}
 use Rattle.aes_modes.specs.KeyStream.{masked}
 use Rattle.aes_modes.proofs.Streams.{MaskedTo, get_or-masked, length-masked}
 

@@ -8,7 +8,7 @@ use Rattle.std.proofs.lemmas.Nat.Bits.{bit_at-lt}
 use lib.Lanes.{zip2, Each1}
 use Rattle.aes_modes.specs.Field.{product, s_box}
 use Rattle.aes_modes.specs.Cipher.{round, last_round}
-use Rattle.aes_modes.specs.Sliced.{octet, lane, octet_at, state, from_row, mixed_octet}
+use Rattle.aes_modes.specs.Sliced.{octet, lane, octet_at, state, shifted_from, mixed_octet}
 use Rattle.aes_modes.proofs.LookUps.{at}
 use Rattle.aes_modes.proofs.Lanes.{both_xor}
 use Rattle.aes_modes.proofs.Rounds.{swapped, turn0, turn1, turn2, turn3}
@@ -206,25 +206,25 @@ mixing q r0 r1 r2 r3 r4 r5 r6 r7 u0 u1 u2 u3 u4 u5 u6 u7 len er0 er1 er2 er3 er4
     (own p) (after p low) two (octet_at_low q p len) (octet_at_low q (p1 p) len)
 
 abbrev boxed : List ℕ → ℕ → ℕ
-boxed q p = s_box (octet_at q (from_row p))
+boxed q p = s_box (octet_at q (shifted_from p))
 
 round_at : (q s h m k r : List ℕ)
     → ((p : ℕ) → p < 32 → octet_at s p ≡ s_box (octet_at q p))
-    → ((p : ℕ) → p < 32 → octet_at h p ≡ octet_at s (from_row p))
+    → ((p : ℕ) → p < 32 → octet_at h p ≡ octet_at s (shifted_from p))
     → ((p : ℕ) → p < 32 → octet_at m p ≡ mixed_octet (octet_at h p) (octet_at h (p1 p)) (octet_at h (p2 p)) (octet_at h (p3 p)))
     → ((p : ℕ) → p < 32 → octet_at r p ≡ bit_xor (octet_at m p) (octet_at k p))
     → (p : ℕ) → p < 32 → octet_at r p ≡ bit_xor (mixed_octet (boxed q p) (boxed q (p1 p)) (boxed q (p2 p)) (boxed q (p3 p))) (octet_at k p)
 round_at q s h m k r es eh em er p low =
-    let one : (j : ℕ) → j < 32 → octet_at h j ≡ boxed q j = λ j l. eh j l ∙ es (from_row j) (omega (arith, l)) in
+    let one : (j : ℕ) → j < 32 → octet_at h j ≡ boxed q j = λ j l. eh j l ∙ es (shifted_from j) (omega (arith, l)) in
     er p low ∙ (λ i. bit_xor (em p low i) (octet_at k p))
     ∙ (λ i. bit_xor (mixed_octet (one p low i) (one (p1 p) (omega arith) i) (one (p2 p) (omega arith) i) (one (p3 p) (omega arith) i)) (octet_at k p))
 
 last_at : (q s h k r : List ℕ)
     → ((p : ℕ) → p < 32 → octet_at s p ≡ s_box (octet_at q p))
-    → ((p : ℕ) → p < 32 → octet_at h p ≡ octet_at s (from_row p))
+    → ((p : ℕ) → p < 32 → octet_at h p ≡ octet_at s (shifted_from p))
     → ((p : ℕ) → p < 32 → octet_at r p ≡ bit_xor (octet_at h p) (octet_at k p))
     → (p : ℕ) → p < 32 → octet_at r p ≡ bit_xor (boxed q p) (octet_at k p)
-last_at q s h k r es eh er p low = er p low ∙ (λ i. bit_xor ((eh p low ∙ es (from_row p) (omega (arith, low))) i) (octet_at k p))
+last_at q s h k r es eh er p low = er p low ∙ (λ i. bit_xor ((eh p low ∙ es (shifted_from p) (omega (arith, low))) i) (octet_at k p))
 
 round_0 : (q k r : List ℕ) → ((p : ℕ) → p < 32 → octet_at r p ≡ bit_xor (mixed_octet (boxed q p) (boxed q (p1 p)) (boxed q (p2 p)) (boxed q (p3 p)))
     (octet_at k p)) → state 0 r ≡ round (state 0 k) (state 0 q)
@@ -316,7 +316,7 @@ last_1 q k r e = λ i.
 
 pub round_of : (q s h m k r : List ℕ)
     → ((p : ℕ) → p < 32 → octet_at s p ≡ s_box (octet_at q p))
-    → ((p : ℕ) → p < 32 → octet_at h p ≡ octet_at s (from_row p))
+    → ((p : ℕ) → p < 32 → octet_at h p ≡ octet_at s (shifted_from p))
     → ((p : ℕ) → p < 32 → octet_at m p ≡ mixed_octet (octet_at h p) (octet_at h (p1 p)) (octet_at h (p2 p)) (octet_at h (p3 p)))
     → ((p : ℕ) → p < 32 → octet_at r p ≡ bit_xor (octet_at m p) (octet_at k p))
     → (b : ℕ) → b < 2 → state b r ≡ round (state b k) (state b q)
@@ -326,7 +326,7 @@ round_of q s h m k r es eh em er (suc (suc b)) low = absurd (omega (arith, low))
 
 pub last_of : (q s h k r : List ℕ)
     → ((p : ℕ) → p < 32 → octet_at s p ≡ s_box (octet_at q p))
-    → ((p : ℕ) → p < 32 → octet_at h p ≡ octet_at s (from_row p))
+    → ((p : ℕ) → p < 32 → octet_at h p ≡ octet_at s (shifted_from p))
     → ((p : ℕ) → p < 32 → octet_at r p ≡ bit_xor (octet_at h p) (octet_at k p))
     → (b : ℕ) → b < 2 → state b r ≡ last_round (state b k) (state b q)
 last_of q s h k r es eh er zero low = last_0 q k r (last_at q s h k r es eh er)

@@ -6,7 +6,7 @@ use Rattle.std.specs.Int.Bits.{xor_zero_r, xor_assoc}
 use Rattle.std.proofs.lemmas.Nat.Bits.{bit_at_and, bit_at-lt}
 use Rattle.aes_modes.specs.Field.{s_box}
 use Rattle.aes_modes.specs.Cipher.{xor_bytes, round, round_key, round_constant, next_round_key, state_after}
-use Rattle.aes_modes.specs.Sliced.{octet_at, state, IsSliced, IsConstant}
+use Rattle.aes_modes.specs.Sliced.{octet_at, state, IsSlicedSchedule, IsRoundConstant}
 use Rattle.aes_modes.proofs.Words.{at_32, shl_high}
 use Rattle.aes_modes.proofs.Schedule.{round_key-zero, next_round_key_is}
 
@@ -88,7 +88,7 @@ Step k s t w constant x o y u r c =
     × ((p : ℕ) → p < 32 → p % 8 < 2 → octet_at t p ≡ octet_at s ((p + 14) % 32))
     × ((p : ℕ) → p < 32 → 2 ≤ p % 8 → octet_at t p ≡ 0)
     × ((p : ℕ) → p < 32 → octet_at w p ≡ bit_xor (octet_at k p) (octet_at t p))
-    × IsConstant c constant
+    × IsRoundConstant c constant
     × ((p : ℕ) → p < 32 → octet_at x p ≡ bit_xor (octet_at w p) (octet_at constant p))
     × ((p : ℕ) → p < 32 → 2 ≤ p % 8 → octet_at o p ≡ octet_at x (p - 2))
     × ((p : ℕ) → p < 32 → p % 8 < 2 → octet_at o p ≡ 0)
@@ -337,7 +337,8 @@ one_of c f e = ap (λ (g : ℕ). c * g) e ∙ omega arith
 none_of : (c f : ℕ) → f ≡ 0 → c * f ≡ 0
 none_of c f e = ap (λ (g : ℕ). c * g) e ∙ omega arith
 
-pub constant_is : (c : ℕ) (ws : List ℕ) → map (octet_at ws) (range_with_len 0 32) ≡ map (λ (p : ℕ). c * first_two p) (range_with_len 0 32) → IsConstant c ws
+pub constant_is : (c : ℕ) (ws : List ℕ) → map (octet_at ws) (range_with_len 0 32) ≡ map (λ (p : ℕ). c * first_two p) (range_with_len 0 32)
+    → IsRoundConstant c ws
 constant_is c ws e =
     let all : (p : ℕ) → p < 32 → octet_at ws p ≡ c * first_two p = at_32 (octet_at ws) (λ (p : ℕ). c * first_two p) e in
     (λ p low. all p (omega (arith, low)) ∙ one_of c (first_two p) (omega (arith, low)), λ p low h. all p low ∙ none_of c (first_two p) (omega (arith, h)))
@@ -356,7 +357,7 @@ first_key_at key k e f (suc (suc b)) low = absurd (omega (arith, low))
 
 pub all_keys : (key k0 k1 k2 k3 k4 k5 k6 k7 k8 k9 k10 : List ℕ) → Key_at key 0 k0 → Key_at key 1 k1 → Key_at key 2 k2 → Key_at key 3 k3
     → Key_at key 4 k4 → Key_at key 5 k5 → Key_at key 6 k6 → Key_at key 7 k7 → Key_at key 8 k8 → Key_at key 9 k9 → Key_at key 10 k10
-    → IsSliced key (k0 ∷ k1 ∷ k2 ∷ k3 ∷ k4 ∷ k5 ∷ k6 ∷ k7 ∷ k8 ∷ k9 ∷ k10 ∷ [])
+    → IsSlicedSchedule key (k0 ∷ k1 ∷ k2 ∷ k3 ∷ k4 ∷ k5 ∷ k6 ∷ k7 ∷ k8 ∷ k9 ∷ k10 ∷ [])
 all_keys key k0 k1 k2 k3 k4 k5 k6 k7 k8 k9 k10 e0 e1 e2 e3 e4 e5 e6 e7 e8 e9 e10 zero low = e0
 all_keys key k0 k1 k2 k3 k4 k5 k6 k7 k8 k9 k10 e0 e1 e2 e3 e4 e5 e6 e7 e8 e9 e10 (suc zero) low = e1
 all_keys key k0 k1 k2 k3 k4 k5 k6 k7 k8 k9 k10 e0 e1 e2 e3 e4 e5 e6 e7 e8 e9 e10 (suc (suc zero)) low = e2

@@ -7,7 +7,7 @@ use Rattle.std.proofs.lemmas.List.FromFn.{get_or-map-range_with_len}
 use Rattle.std.proofs.lemmas.Nat.{shr-shr}
 use Rattle.std.proofs.lemmas.Bool.{cases_lt}
 use Rattle.std.proofs.lemmas.Nat.Bits.{bit_at_xor, bit_at_and, bit_at_or, bit_at-lt, bit_at-zero, bit_at_cat_low, bit_at_cat_high, bit_at_above}
-use Rattle.aes_modes.specs.Sliced.{from_row, crossed_first, crossed_second}
+use Rattle.aes_modes.specs.Sliced.{shifted_from, crossed_first, crossed_second}
 
 pub bit_shr : (x n p : ℕ) → bit_at (x / 2 ^ n) p ≡ bit_at x (n + p)
 bit_shr x n p = ap (λ (y : ℕ). y % 2) (shr-shr x n p)
@@ -101,7 +101,7 @@ at_32 f g same p low =
 abbrev rows : ℕ → ℕ
 rows x = exchanged (exchanged x 0x33003300 2) 0x030f0c00 4
 
-each_row : (x : ℕ) → map (λ (p : ℕ). bit_at (rows x) p) (range_with_len 0 32) ≡ map (λ (p : ℕ). bit_at x (from_row p)) (range_with_len 0 32)
+each_row : (x : ℕ) → map (λ (p : ℕ). bit_at (rows x) p) (range_with_len 0 32) ≡ map (λ (p : ℕ). bit_at x (shifted_from p)) (range_with_len 0 32)
 each_row x =
     let y = exchanged x 0x33003300 2 in
     λ i.
@@ -166,8 +166,8 @@ each_row x =
     ∷ (keep_high y 0x030f0c00 4 31 (omega arith) (omega arith) (omega arith) refl refl ∙ down x 0x33003300 2 31 (omega arith) (omega arith) (omega
     arith) refl refl) i ∷ []
 
-pub rows_at : (x p : ℕ) → p < 32 → bit_at (rows x) p ≡ bit_at x (from_row p)
-rows_at x p low = at_32 (λ (p : ℕ). bit_at (rows x) p) (λ (p : ℕ). bit_at x (from_row p)) (each_row x) p low
+pub rows_at : (x p : ℕ) → p < 32 → bit_at (rows x) p ≡ bit_at x (shifted_from p)
+rows_at x p low = at_32 (λ (p : ℕ). bit_at (rows x) p) (λ (p : ℕ). bit_at x (shifted_from p)) (each_row x) p low
 
 -- # Turning by rows
 

@@ -7,6 +7,7 @@ pub mod Eax
 pub mod Ccm
 pub mod Laws
 pub mod LookUps
+pub mod Pairs
 pub mod Rounds
 pub mod Schedule
 pub mod Resumed

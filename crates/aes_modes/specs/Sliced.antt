@@ -1,4 +1,4 @@
--- The S-box as a circuit of 113 gates (Boyar and Peralta), over words or over single bits.
+-- AES of two blocks in eight words: word j has bit j of each octet of both states.
 use Rattle.std.specs.Prelude.{◌≡◌, ◌<◌, ◌≤◌, slice_index_or, ℕ, ◌+◌, ◌*◌, ◌-◌, ◌/◌, ◌%◌, ◌==◌, List, [], ◌∷◌, map, bit_xor, bit_and}
 use mathlib.Core.Bool.{cond}
 use Rattle.std.specs.List.{range_with_len}
@@ -6,7 +6,8 @@ use Rattle.aes_modes.specs.Field.{product}
 use Rattle.aes_modes.specs.Cipher.{round_key}
 use Rattle.std.specs.Int.{bit_at}
 
--- the outputs, lowest bit first; ones has a 1 wherever the inputs may have one
+-- the S-box as a circuit of 113 gates (Boyar and Peralta), over words or over single bits: u7 is the lowest bit of the input, and the outputs
+-- begin with the lowest; ones has a 1 wherever the inputs may have one
 unfoldable pub circuit : ℕ → ℕ → ℕ → ℕ → ℕ → ℕ → ℕ → ℕ → ℕ → List ℕ
 circuit ones u7 u6 u5 u4 u3 u2 u1 u0 =
     let y14 = bit_xor u3 u5 in
@@ -129,43 +130,41 @@ abbrev pub octet : List ℕ → ℕ
 octet [] = 0
 octet (b ∷ bs) = b + 2 * octet bs
 
--- bit i of each word
+-- bit i of each of the words
 abbrev pub lane : ℕ → List ℕ → List ℕ
 lane i ws = map (λ (w : ℕ). bit_at w i) ws
 
--- row r and column c of block b is bit 8 r + 2 c + b of each word: the state of block b
+-- where octet k of block b stands in each word: it is row k mod 4 of column k / 4
 abbrev pub place : ℕ → ℕ → ℕ
 place b k = 8 * (k % 4) + 2 * (k / 4) + b
 
+-- the octet that stands at bit p of the words
 abbrev pub octet_at : List ℕ → ℕ → ℕ
 octet_at ws p = octet (lane p ws)
 
+-- the 16 octets of block b
 abbrev pub state : ℕ → List ℕ → List ℕ
 state b ws = map (λ (k : ℕ). octet_at ws (place b k)) (range_with_len 0 16)
 
 -- where ShiftRows takes a bit of a word from
-abbrev pub from_row : ℕ → ℕ
-from_row p = 8 * (p / 8) + (p % 8 + 2 * (p / 8)) % 8
+abbrev pub shifted_from : ℕ → ℕ
+shifted_from p = 8 * (p / 8) + (p % 8 + 2 * (p / 8)) % 8
 
 -- MixColumns of one octet, from it and those of the three rows after it
 abbrev pub mixed_octet : ℕ → ℕ → ℕ → ℕ → ℕ
 mixed_octet a b c d = bit_xor (bit_xor (product 2 a) (product 3 b)) (bit_xor c d)
 
--- bits of two words after those of the first at places whose bit n is set have gone to the second, and the others of the second to the first
+-- two words after an exchange of the bits of the first at places whose bit n is set with those of the second at the others: bit p of each
 abbrev pub crossed_first : ℕ → ℕ → ℕ → ℕ → ℕ
 crossed_first n a b p = cond (p / n % 2 == 0) (bit_at a p) (bit_at b (p - n))
 
 abbrev pub crossed_second : ℕ → ℕ → ℕ → ℕ → ℕ
 crossed_second n a b p = cond (p / n % 2 == 0) (bit_at a (n + p)) (bit_at b p)
 
--- the round keys of a key, each for both blocks
-abbrev pub IsSliced : List ℕ → List (List ℕ) → Type 0
-IsSliced key keys = (n : ℕ) → n < 11 → (b : ℕ) → b < 2 → state b (slice_index_or keys n []) ≡ round_key key n
+-- the round keys of a key, each sliced, the same for both blocks
+abbrev pub IsSlicedSchedule : List ℕ → List (List ℕ) → Type 0
+IsSlicedSchedule key keys = (n : ℕ) → n < 11 → (b : ℕ) → b < 2 → state b (slice_index_or keys n []) ≡ round_key key n
 
 -- the constant of a round, in the first row of the first column of both blocks
-abbrev pub IsConstant : ℕ → List ℕ → Type 0
-IsConstant c ws = ((p : ℕ) → p < 2 → octet_at ws p ≡ c) × ((p : ℕ) → p < 32 → 2 ≤ p → octet_at ws p ≡ 0)
-
--- the number of the stream block beside block i of a chain of so many blocks
-abbrev pub following : ℕ → ℕ → ℕ
-following i blocks = cond (i == blocks) 0 (i + 1)
+abbrev pub IsRoundConstant : ℕ → List ℕ → Type 0
+IsRoundConstant c ws = ((p : ℕ) → p < 2 → octet_at ws p ≡ c) × ((p : ℕ) → p < 32 → 2 ≤ p → octet_at ws p ≡ 0)

@@ -7,7 +7,7 @@ ghost use Rattle.aes_modes.specs.Ccm.{ccm_first_block, ccm_header_blocks, ccm_co
 use crate::blocks::{mask_block, padded_block, xor_blocks};
 use crate::compare::is_same;
 use crate::mac::absorb;
-use crate::pairs::{open_text, seal_text};
+use crate::pairs::{chain_and_encrypt, decrypt_and_chain, mask_pairs};
 use crate::{Aes, BadTag};
 
 /// The counter block A_i (RFC 3610, section 2.3).
@@ -31,6 +31,10 @@ pub fn ccm_mask(aes: &Aes, nonce: &[u8; 13], text: &mut [u8])
     requires { length text.old < 65536 }
     ensures { text.new ≡ ccm_text aes.now nonce.now text.old }
 {
+    if Aes::MAKES_PAIRS {
+        mask_pairs(aes, nonce, text);
+        return;
+    }
     let count = text.len() / 16;
     'whole: for i in 0..count {
         let stream = aes.encrypt_block(&counter(nonce, i + 1));
@@ -106,6 +110,48 @@ fn absorb_header(aes: &Aes, x: &mut [u8; 16], header: &[u8])
     absorb(aes, x, &header[count..]);
 }
 
+/// The tag for `tag_len` octets before it is cut to them: the CBC-MAC with S_0 added (section 2.3). `text` is the plain text.
+fn whole_tag(aes: &Aes, nonce: &[u8; 13], header: &[u8], text: &[u8], tag_len: usize) -> [u8; 16]
+    requires header { length header.now < 65280 }
+    requires text { length text.now < 65536 }
+    requires tag { (tag_len ≡ 4) ⊎ (tag_len ≡ 8) }
+    ensures { take tag_len result ≡ ccm_tag tag_len aes.now nonce.now header.now text.now }
+{
+    let mut x = aes.encrypt_block(&first_block(nonce, header, text, tag_len));
+    absorb_header(aes, &mut x, header);
+    absorb(aes, &mut x, text);
+    xor_blocks(&x, &aes.encrypt_block(&counter(nonce, 0)))
+}
+
+/// Encrypts `text` in place. Returns the tag of the plain text, as [`whole_tag`] does.
+fn sealed_tag(
+    aes: &Aes,
+    nonce: &[u8; 13],
+    header: &[u8],
+    text: &mut [u8],
+    tag_len: usize,
+) -> [u8; 16]
+    requires header { length header.now < 65280 }
+    requires text { length text.old < 65536 }
+    requires tag { (tag_len ≡ 4) ⊎ (tag_len ≡ 8) }
+    ensures text { text.new ≡ ccm_text aes.now nonce.now text.old }
+    ensures tag { take tag_len result ≡ ccm_tag tag_len aes.now nonce.now header.now text.old }
+{
+    if !Aes::MAKES_PAIRS {
+        let whole = whole_tag(aes, nonce, header, text, tag_len);
+        ccm_mask(aes, nonce, text);
+        return whole;
+    }
+    let (begun, first) = aes.encrypt_two(
+        &first_block(nonce, header, text, tag_len),
+        &counter(nonce, 0),
+    );
+    let mut x = begun;
+    absorb_header(aes, &mut x, header);
+    chain_and_encrypt(aes, nonce, &mut x, text);
+    xor_blocks(&x, &first)
+}
+
 /// Encrypts `text` in place, and fills `tag` with the tag of the nonce, the header and the plain text.
 ///
 /// The header has fewer than 65,280 octets and is authenticated and not encrypted; the text has at most 65,535; the tag
@@ -118,18 +164,11 @@ pub fn ccm_seal(aes: &Aes, nonce: &[u8; 13], header: &[u8], text: &mut [u8], tag
     ensures tag { tag.new ≡ ccm_tag (length tag.old) aes.now nonce.now header.now text.old }
 {
     let tag_len = tag.len();
-    let (begun, first) = aes.encrypt_two(
-        &first_block(nonce, header, text, tag_len),
-        &counter(nonce, 0),
-    );
-    let mut x = begun;
-    absorb_header(aes, &mut x, header);
-    seal_text(aes, nonce, &mut x, text);
-    let whole = xor_blocks(&x, &first);
+    let whole = sealed_tag(aes, nonce, header, text, tag_len);
     tag.copy_from_slice(&whole[..tag_len]);
 }
 
-/// Decrypts `text` in place. The answer is the tag for `tag_len` octets before it is cut to them.
+/// Decrypts `text` in place. Returns the tag of the plain text, as [`whole_tag`] does.
 fn opened_tag(
     aes: &Aes,
     nonce: &[u8; 13],
@@ -143,13 +182,17 @@ fn opened_tag(
     ensures text { text.new ≡ ccm_text aes.now nonce.now text.old }
     ensures tag { take tag_len result ≡ ccm_tag tag_len aes.now nonce.now header.now text.new }
 {
+    if !Aes::MAKES_PAIRS {
+        ccm_mask(aes, nonce, text);
+        return whole_tag(aes, nonce, header, text, tag_len);
+    }
     let (begun, stream) = aes.encrypt_two(
         &first_block(nonce, header, text, tag_len),
         &counter(nonce, 1),
     );
     let mut x = begun;
     absorb_header(aes, &mut x, header);
-    let first = open_text(aes, nonce, &mut x, &stream, text);
+    let first = decrypt_and_chain(aes, nonce, &mut x, &stream, text);
     xor_blocks(&x, &first)
 }
 

@@ -29,6 +29,9 @@ impl Model for Aes {
 }
 
 impl Aes {
+    /// Whether [`Aes::encrypt_two`] makes two blocks at the cost of one.
+    pub const MAKES_PAIRS: bool = false;
+
     /// Expands the key (FIPS 197, section 5.2).
     pub fn new(key: &Key) -> Aes
         ensures { result ≡ key.now.0 }
@@ -89,7 +92,7 @@ impl Aes {
         s.to_array()
     }
 
-    /// Both encrypted blocks. Where blocks are sliced, two cost what one does.
+    /// Both encrypted blocks, one after the other.
     #[inline(always)]
     pub fn encrypt_two(&self, x: &[u8; 16], y: &[u8; 16]) -> ([u8; 16], [u8; 16])
         ensures first { result.0 ≡ encrypted self.now x.now }

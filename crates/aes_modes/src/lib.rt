@@ -1,6 +1,9 @@
 //! AES-128 and the modes that the network uses: CMAC, EAX and CCM*.
 //!
-//! - [`Aes`] is a key with its schedule: `new` makes it for a key, `renew` where the key is another one, `encrypt_block` is the cipher of FIPS 197.
+//! - [`Aes`] is a key with its schedule: `new` makes it for a key, `renew` where the key is another one, `encrypt_block` is the cipher of FIPS 197,
+//!   and `encrypt_two` that of two blocks. It looks octets up by byte shuffles.
+//! - [`SlicedAes`] is the same with bitwise operations on words alone, two blocks at once. The modes run over `Aes`; the crates in plain Rust name
+//!   `SlicedAes` so where the processor has no byte shuffle.
 //! - [`cmac`] gives the tag of a text (RFC 4493). [`eax_seal`] and [`eax_open`] serve the protected channel of EAP-PSK.
 //! - [`ccm_seal`] and [`ccm_open`] serve frames: a nonce of 13 octets, a header that is authenticated alone, a tag of 4 or 8 octets.
 //!   [`ccm_mask`] decrypts without a look at the tag, for whoever knows that a text was sealed so.
@@ -28,7 +31,6 @@ pub mod laws;
 mod look_ups;
 mod mac;
 mod pairs;
-mod seam;
 mod sliced;
 
 pub use bad_tag::BadTag;
@@ -37,5 +39,4 @@ pub use cipher::Aes;
 pub use compare::is_same;
 pub use eax::{eax_open, eax_seal};
 pub use mac::cmac;
-pub use seam::{BlockCipher, chain_over};
 pub use sliced::SlicedAes;

@@ -1,15 +1,43 @@
-//! A block of a chain beside one of a key stream, for a cipher that makes two blocks at once.
+//! Two blocks of a key stream, or one of a chain beside one of a key stream, for a cipher that makes two at once.
 ghost use Rattle.std.specs.Prelude.{◌≡◌, ◌≤◌, ◌<◌, ◌+◌, length};
 ghost use Rattle.aes_modes.specs.Chains.{chained_all, padded};
 ghost use Rattle.aes_modes.specs.Ccm.{ccm_stream_block, ccm_text};
-ghost use Rattle.aes_modes.specs.Sliced.{following};
+ghost use Rattle.aes_modes.specs.Pairs.{following};
 
 use crate::Aes;
 use crate::blocks::{block_at, mask_block, padded_block, xor_blocks};
 use crate::ccm::counter;
 
-/// Takes `text`, with zeros up to a whole block, into `x`, and encrypts it in place.
-pub(crate) fn seal_text(aes: &Aes, nonce: &[u8; 13], x: &mut [u8; 16], text: &mut [u8])
+/// Encrypts or decrypts `text` in place: adds the key stream from S_1 on to it (RFC 3610, section 2.3), two blocks at once.
+pub(crate) fn mask_pairs(aes: &Aes, nonce: &[u8; 13], text: &mut [u8])
+    requires { length text.old < 65536 }
+    ensures { text.new ≡ ccm_text aes.now nonce.now text.old }
+{
+    let pairs = text.len() / 32;
+    'pairs: for i in 0..pairs {
+        let number = 2 * i + 1;
+        let (one, two) = aes.encrypt_two(&counter(nonce, number), &counter(nonce, number + 1));
+        mask_block(text, 16 * (2 * i), 16, &one);
+        mask_block(text, 16 * (2 * i + 1), 16, &two);
+    }
+    let count = 2 * pairs;
+    let rest = text.len() % 32;
+    if rest == 0 {
+        return;
+    }
+    if rest <= 16 {
+        let stream = aes.encrypt_block(&counter(nonce, count + 1));
+        mask_block(text, 16 * count, rest, &stream);
+        return;
+    }
+    let number = count + 1;
+    let (one, two) = aes.encrypt_two(&counter(nonce, number), &counter(nonce, number + 1));
+    mask_block(text, 16 * count, 16, &one);
+    mask_block(text, 16 * (count + 1), rest - 16, &two);
+}
+
+/// Takes `text`, with zeros up to a whole block, into the chain `x`, and encrypts it in place.
+pub(crate) fn chain_and_encrypt(aes: &Aes, nonce: &[u8; 13], x: &mut [u8; 16], text: &mut [u8])
     requires { length text.old < 65536 }
     ensures chain { x.new ≡ chained_all aes.now x.old (padded text.old) }
     ensures text { text.new ≡ ccm_text aes.now nonce.now text.old }
@@ -41,8 +69,8 @@ fn following(i: usize, blocks: usize) -> usize
     if i == blocks { 0 } else { i + 1 }
 }
 
-/// Decrypts `text` in place, and takes it, with zeros up to a whole block, into `x`. `first` is S_1, and the answer is S_0.
-pub(crate) fn open_text(
+/// Decrypts `text` in place, and takes what it is then, with zeros up to a whole block, into the chain `x`. `first` is S_1; the answer is S_0.
+pub(crate) fn decrypt_and_chain(
     aes: &Aes,
     nonce: &[u8; 13],
     x: &mut [u8; 16],

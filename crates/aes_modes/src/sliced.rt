@@ -1,18 +1,19 @@
-//! AES of two blocks in eight words of 32 bits, for processors without byte shuffles.
+//! AES-128 of two blocks in eight words of 32 bits, for processors without byte shuffles.
 //!
-//! Bit i of word j is bit j of an octet: the octet in row r and column c of block b is bit 8 r + 2 c + b of each word. SubBytes is a circuit of
-//! 113 gates on whole words (J. Boyar, R. Peralta: A small depth-16 circuit for the AES S-box, 2012).
+//! Word j has bit j of each of the 32 octets of both states: that of the octet in row r and column c of block b is its bit 8 r + 2 c + b. So the rows are
+//! the octets of a word, and an operation on words is one on all octets at once. SubBytes is a circuit of 113 gates on whole words (J. Boyar, R. Peralta:
+//! A small depth-16 circuit for the AES S-box, 2012). Nothing is looked up, and no address and no branch depends on a key or a block.
 ghost use Rattle.std.specs.Prelude.{◌-◌, ◌≤◌, ◌≡◌, ℕ, ◌+◌, ◌*◌, ◌%◌, ◌/◌, ◌<◌, List, [], ◌∷◌, ◌++◌, slice_index, bit_xor};
 ghost use Rattle.std.specs.Int.{bit_at, w32, to_le_bytes};
 ghost use Rattle.aes_modes.specs.Field.{s_box};
 ghost use Rattle.aes_modes.specs.Cipher.{round, last_round, next_round_key, encrypted};
-ghost use Rattle.aes_modes.specs.Sliced.{IsSliced, IsConstant, circuit, crossed_first, crossed_second, octet_at, state, from_row, mixed_octet};
+ghost use Rattle.aes_modes.specs.Sliced.{IsSlicedSchedule, IsRoundConstant, circuit, crossed_first, crossed_second, octet_at, state, shifted_from, mixed_octet};
 
 use crate::compare::is_same;
 use plc_base::Key;
 use std::marker::Model;
 
-/// The S-box (FIPS 197, section 5.1.1) of 32 octets, by a circuit; `u7` has their lowest bits.
+/// The S-box (FIPS 197, section 5.1.1) of 32 octets, by a circuit. `u7` has their lowest bits, `u0` their highest; the answer has the lowest first.
 #[inline(always)]
 fn circuit(u7: u32, u6: u32, u5: u32, u4: u32, u3: u32, u2: u32, u1: u32, u0: u32) -> [u32; 8]
     ensures circuit { result ≡ circuit 4294967295 u7 u6 u5 u4 u3 u2 u1 u0 }
@@ -154,7 +155,7 @@ fn sub_bytes(q: [u32; 8]) -> [u32; 8]
 /// The bits of each octet of `x`, as ShiftRows (section 5.1.2) moves them.
 #[inline(always)]
 fn shift_word(x: u32) -> u32
-    ensures { (p : ℕ) → p < 32 → bit_at result p ≡ bit_at x (from_row p) }
+    ensures { (p : ℕ) → p < 32 → bit_at result p ≡ bit_at x (shifted_from p) }
 {
     let t = (x ^ (x >> 2)) & 0x3300_3300;
     let y = x ^ t ^ (t << 2);
@@ -165,7 +166,7 @@ fn shift_word(x: u32) -> u32
 /// ShiftRows (section 5.1.2) of both blocks.
 #[inline(always)]
 fn shift_rows(q: [u32; 8]) -> [u32; 8]
-    ensures { (p : ℕ) → p < 32 → octet_at result p ≡ octet_at q (from_row p) }
+    ensures { (p : ℕ) → p < 32 → octet_at result p ≡ octet_at q (shifted_from p) }
 {
     let [q0, q1, q2, q3, q4, q5, q6, q7] = q;
     [
@@ -180,7 +181,7 @@ fn shift_rows(q: [u32; 8]) -> [u32; 8]
     ]
 }
 
-/// `x` turned by a row: the row after each row.
+/// The bits of `x`, each row with what the row after it had.
 #[inline(always)]
 fn row_after(x: u32) -> u32
     ensures { (p : ℕ) → p < 32 → bit_at result p ≡ bit_at x ((p + 8) % 32) }
@@ -188,7 +189,7 @@ fn row_after(x: u32) -> u32
     x.rotate_right(8)
 }
 
-/// `x` turned by two rows.
+/// The bits of `x`, each row with what the second row after it had.
 #[inline(always)]
 fn two_rows_after(x: u32) -> u32
     ensures { (p : ℕ) → p < 32 → bit_at result p ≡ bit_at x ((p + 16) % 32) }
@@ -231,9 +232,9 @@ fn mix_columns(q: [u32; 8]) -> [u32; 8]
     ]
 }
 
-/// The sums of the words.
+/// AddRoundKey (section 5.1.4) of both blocks: each word with that of the key added.
 #[inline(always)]
-fn add_words(q: [u32; 8], k: &[u32; 8]) -> [u32; 8]
+fn xor_words(q: [u32; 8], k: &[u32; 8]) -> [u32; 8]
     ensures { (p : ℕ) → p < 32 → octet_at result p ≡ bit_xor (octet_at q p) (octet_at k.now p) }
 {
     let [q0, q1, q2, q3, q4, q5, q6, q7] = q;
@@ -250,20 +251,20 @@ fn add_words(q: [u32; 8], k: &[u32; 8]) -> [u32; 8]
     ]
 }
 
-/// A round (section 5.1) of both blocks.
+/// A round (section 5.1) of both blocks, with the round key of each.
 #[inline(always)]
 fn sliced_round(q: [u32; 8], k: &[u32; 8]) -> [u32; 8]
     ensures { (b : ℕ) → b < 2 → state b result ≡ round (state b k.now) (state b q) }
 {
-    add_words(mix_columns(shift_rows(sub_bytes(q))), k)
+    xor_words(mix_columns(shift_rows(sub_bytes(q))), k)
 }
 
-/// The last round (section 5.1) of both blocks.
+/// The last round (section 5.1) of both blocks, with the round key of each.
 #[inline(always)]
 fn sliced_last_round(q: [u32; 8], k: &[u32; 8]) -> [u32; 8]
     ensures { (b : ℕ) → b < 2 → state b result ≡ last_round (state b k.now) (state b q) }
 {
-    add_words(shift_rows(sub_bytes(q)), k)
+    xor_words(shift_rows(sub_bytes(q)), k)
 }
 
 /// The bits of `a` at places whose bit 1 is set, and those of `b` at the others, change places.
@@ -296,9 +297,11 @@ fn cross_4(a: u32, b: u32) -> (u32, u32)
     (a ^ (t << 4), b ^ t)
 }
 
-/// Words and places change places: bit p of word s comes from bit 8 (p / 8) + s of word p % 8.
+/// Each square of eight bits in eight words is transposed: bit p of word s comes from bit 8 (p / 8) + s of word p % 8.
+///
+/// Between the octets of two blocks and their sliced form this is the way there and the way back.
 #[inline(always)]
-fn turn_bits(q: [u32; 8]) -> [u32; 8]
+fn transpose(q: [u32; 8]) -> [u32; 8]
     ensures w0 { (p : ℕ) → p < 32 → bit_at (slice_index result 0) p ≡ bit_at (slice_index q (p % 8)) (8 * (p / 8) + 0) }
     ensures w1 { (p : ℕ) → p < 32 → bit_at (slice_index result 1) p ≡ bit_at (slice_index q (p % 8)) (8 * (p / 8) + 1) }
     ensures w2 { (p : ℕ) → p < 32 → bit_at (slice_index result 2) p ≡ bit_at (slice_index q (p % 8)) (8 * (p / 8) + 2) }
@@ -323,7 +326,7 @@ fn turn_bits(q: [u32; 8]) -> [u32; 8]
     [r, s, t, u, v, w, x, y]
 }
 
-/// The word of four octets, the lowest first.
+/// The word of four octets, the lowest first: a column of a state.
 #[inline(always)]
 fn word(a: u8, b: u8, c: u8, d: u8) -> u32
     ensures { to_le_bytes w32 result ≡ a ∷ b ∷ c ∷ d ∷ [] }
@@ -331,12 +334,12 @@ fn word(a: u8, b: u8, c: u8, d: u8) -> u32
     u32::from_le_bytes([a, b, c, d])
 }
 
-/// Two blocks in eight words.
+/// The sliced form of two blocks. Their columns alternate in the words that are transposed.
 fn pack(x: &[u8; 16], y: &[u8; 16]) -> [u32; 8]
     ensures first { state 0 result ≡ x.now }
     ensures second { state 1 result ≡ y.now }
 {
-    turn_bits([
+    transpose([
         word(x[0], x[1], x[2], x[3]),
         word(y[0], y[1], y[2], y[3]),
         word(x[4], x[5], x[6], x[7]),
@@ -362,19 +365,19 @@ fn octets(a: u32, b: u32, c: u32, d: u32) -> [u8; 16]
     ]
 }
 
-/// The two blocks of eight words.
+/// The two blocks of a sliced form.
 fn unpack(q: [u32; 8]) -> ([u8; 16], [u8; 16])
     ensures first { result.0 ≡ state 0 q }
     ensures second { result.1 ≡ state 1 q }
 {
-    let t = turn_bits(q);
+    let t = transpose(q);
     (
         octets(t[0], t[2], t[4], t[6]),
         octets(t[1], t[3], t[5], t[7]),
     )
 }
 
-/// RotWord (section 5.2) of the last column, in the place of the first.
+/// RotWord (section 5.2) of the last column, in the place of the first, and zeros in the other columns.
 #[inline(always)]
 fn last_column_word(x: u32) -> u32
     ensures inside { (p : ℕ) → p < 32 → p % 8 < 2 → bit_at result p ≡ bit_at x ((p + 14) % 32) }
@@ -383,7 +386,7 @@ fn last_column_word(x: u32) -> u32
     x.rotate_right(14) & 0x0303_0303
 }
 
-/// The same of eight words.
+/// [`last_column_word`] of eight words.
 #[inline(always)]
 fn last_column(q: [u32; 8]) -> [u32; 8]
     ensures inside { (p : ℕ) → p < 32 → p % 8 < 2 → octet_at result p ≡ octet_at q ((p + 14) % 32) }
@@ -401,7 +404,7 @@ fn last_column(q: [u32; 8]) -> [u32; 8]
     ]
 }
 
-/// For each column the one before it.
+/// Each column with what the one before it had, and the first with zeros.
 #[inline(always)]
 fn column_before_word(x: u32) -> u32
     ensures inside { (p : ℕ) → p < 32 → 2 ≤ p % 8 → bit_at result p ≡ bit_at x (p - 2) }
@@ -410,7 +413,7 @@ fn column_before_word(x: u32) -> u32
     (x << 2) & 0xfcfc_fcfc
 }
 
-/// The same of eight words.
+/// [`column_before_word`] of eight words.
 #[inline(always)]
 fn column_before(q: [u32; 8]) -> [u32; 8]
     ensures inside { (p : ℕ) → p < 32 → 2 ≤ p % 8 → octet_at result p ≡ octet_at q (p - 2) }
@@ -428,48 +431,53 @@ fn column_before(q: [u32; 8]) -> [u32; 8]
     ]
 }
 
-/// For each column the one two before it.
+/// Each column with what the second one before it had, and the first two with zeros.
 #[inline(always)]
-fn two_before_word(x: u32) -> u32
+fn two_columns_before_word(x: u32) -> u32
     ensures inside { (p : ℕ) → p < 32 → 4 ≤ p % 8 → bit_at result p ≡ bit_at x (p - 4) }
     ensures outside { (p : ℕ) → p < 32 → p % 8 < 4 → bit_at result p ≡ 0 }
 {
     (x << 4) & 0xf0f0_f0f0
 }
 
-/// The same of eight words.
+/// [`two_columns_before_word`] of eight words.
 #[inline(always)]
-fn two_before(q: [u32; 8]) -> [u32; 8]
+fn two_columns_before(q: [u32; 8]) -> [u32; 8]
     ensures inside { (p : ℕ) → p < 32 → 4 ≤ p % 8 → octet_at result p ≡ octet_at q (p - 4) }
     ensures outside { (p : ℕ) → p < 32 → p % 8 < 4 → octet_at result p ≡ 0 }
 {
     [
-        two_before_word(q[0]),
-        two_before_word(q[1]),
-        two_before_word(q[2]),
-        two_before_word(q[3]),
-        two_before_word(q[4]),
-        two_before_word(q[5]),
-        two_before_word(q[6]),
-        two_before_word(q[7]),
+        two_columns_before_word(q[0]),
+        two_columns_before_word(q[1]),
+        two_columns_before_word(q[2]),
+        two_columns_before_word(q[3]),
+        two_columns_before_word(q[4]),
+        two_columns_before_word(q[5]),
+        two_columns_before_word(q[6]),
+        two_columns_before_word(q[7]),
     ]
 }
 
-/// The round key after `k` (section 5.2), for both blocks; `constant` is that of its round.
-fn sliced_step(k: [u32; 8], constant: [u32; 8]) -> [u32; 8]
-    ensures { (c : ℕ) → IsConstant c constant → (b : ℕ) → b < 2 → state b result ≡ next_round_key c (state b k) }
+/// The round key after `k` (section 5.2), for both blocks. `constant` is that of its round, in the first octet of each block.
+///
+/// Each column of it is the sum of those up to it: the column before each is added, and then the second before each.
+fn sliced_next_round_key(k: [u32; 8], constant: [u32; 8]) -> [u32; 8]
+    ensures { (c : ℕ) → IsRoundConstant c constant → (b : ℕ) → b < 2 → state b result ≡ next_round_key c (state b k) }
 {
     let t = last_column(sub_bytes(k));
-    let w = add_words(k, &t);
-    let x = add_words(w, &constant);
-    let y = add_words(x, &column_before(x));
-    add_words(y, &two_before(y))
+    let w = xor_words(k, &t);
+    let x = xor_words(w, &constant);
+    let y = xor_words(x, &column_before(x));
+    xor_words(y, &two_columns_before(y))
 }
 
-/// AES-128 under one key, of one or two blocks at once. It takes 368 octets.
+/// AES-128 under one key, with its round keys (FIPS 197, section 5), for one or two blocks at once.
+///
+/// A contract sees the 16 octets of the key. It takes 368 octets, and making one costs about what encrypting a block does.
 #[derive(Drop)]
 pub struct SlicedAes {
     key: [u8; 16],
+    // Each of the eleven round keys sliced, the same for both blocks.
     keys: [[u32; 8]; 11],
 }
 
@@ -478,25 +486,28 @@ impl Model for SlicedAes {
 
     ghost view = { λ a. a.key };
 
-    ghost invariant = { λ a. IsSliced a.key a.keys };
+    ghost invariant = { λ a. IsSlicedSchedule a.key a.keys };
 }
 
 impl SlicedAes {
+    /// Whether [`SlicedAes::encrypt_two`] makes two blocks at the cost of one.
+    pub const MAKES_PAIRS: bool = true;
+
     /// Expands the key (FIPS 197, section 5.2).
     pub fn new(key: &Key) -> SlicedAes
         ensures { result ≡ key.now.0 }
     {
         let k0 = pack(&key.0, &key.0);
-        let k1 = sliced_step(k0, [3, 0, 0, 0, 0, 0, 0, 0]);
-        let k2 = sliced_step(k1, [0, 3, 0, 0, 0, 0, 0, 0]);
-        let k3 = sliced_step(k2, [0, 0, 3, 0, 0, 0, 0, 0]);
-        let k4 = sliced_step(k3, [0, 0, 0, 3, 0, 0, 0, 0]);
-        let k5 = sliced_step(k4, [0, 0, 0, 0, 3, 0, 0, 0]);
-        let k6 = sliced_step(k5, [0, 0, 0, 0, 0, 3, 0, 0]);
-        let k7 = sliced_step(k6, [0, 0, 0, 0, 0, 0, 3, 0]);
-        let k8 = sliced_step(k7, [0, 0, 0, 0, 0, 0, 0, 3]);
-        let k9 = sliced_step(k8, [3, 3, 0, 3, 3, 0, 0, 0]);
-        let k10 = sliced_step(k9, [0, 3, 3, 0, 3, 3, 0, 0]);
+        let k1 = sliced_next_round_key(k0, [3, 0, 0, 0, 0, 0, 0, 0]);
+        let k2 = sliced_next_round_key(k1, [0, 3, 0, 0, 0, 0, 0, 0]);
+        let k3 = sliced_next_round_key(k2, [0, 0, 3, 0, 0, 0, 0, 0]);
+        let k4 = sliced_next_round_key(k3, [0, 0, 0, 3, 0, 0, 0, 0]);
+        let k5 = sliced_next_round_key(k4, [0, 0, 0, 0, 3, 0, 0, 0]);
+        let k6 = sliced_next_round_key(k5, [0, 0, 0, 0, 0, 3, 0, 0]);
+        let k7 = sliced_next_round_key(k6, [0, 0, 0, 0, 0, 0, 3, 0]);
+        let k8 = sliced_next_round_key(k7, [0, 0, 0, 0, 0, 0, 0, 3]);
+        let k9 = sliced_next_round_key(k8, [3, 3, 0, 3, 3, 0, 0, 0]);
+        let k10 = sliced_next_round_key(k9, [0, 3, 3, 0, 3, 3, 0, 0]);
         SlicedAes {
             key: key.0,
             keys: [k0, k1, k2, k3, k4, k5, k6, k7, k8, k9, k10],
@@ -512,12 +523,12 @@ impl SlicedAes {
         }
     }
 
-    /// Both encrypted blocks (section 5.1).
+    /// Both encrypted blocks (section 5.1), at the cost of one.
     pub fn encrypt_two(&self, x: &[u8; 16], y: &[u8; 16]) -> ([u8; 16], [u8; 16])
         ensures first { result.0 ≡ encrypted self.now x.now }
         ensures second { result.1 ≡ encrypted self.now y.now }
     {
-        let mut q = add_words(pack(x, y), &self.keys[0]);
+        let mut q = xor_words(pack(x, y), &self.keys[0]);
         'rounds: for i in 0..9 {
             let next = sliced_round(q, &self.keys[i + 1]);
             q = next;
@@ -525,7 +536,7 @@ impl SlicedAes {
         unpack(sliced_last_round(q, &self.keys[10]))
     }
 
-    /// The encrypted block (section 5.1).
+    /// The encrypted block (section 5.1). It costs what two do.
     pub fn encrypt_block(&self, block: &[u8; 16]) -> [u8; 16]
         ensures { result ≡ encrypted self.now block.now }
     {

@@ -1,7 +1,7 @@
 //! Vectors from the standards themselves.
 
 use aes_modes::laws::{ccm_seal_and_open, eax_seal_and_open};
-use aes_modes::{Aes, BadTag, ccm_open, ccm_seal, cmac, eax_open, eax_seal};
+use aes_modes::{Aes, BadTag, SlicedAes, ccm_open, ccm_seal, cmac, eax_open, eax_seal};
 use hex::FromHex;
 use plc_base::Key;
 use std::process::Abort;
@@ -18,11 +18,15 @@ struct Sealed {
     tag: &'static str,
 }
 
-fn cipher(key: &str) -> Result<Aes, Fail> {
-    Ok(Aes::new(&Key(<[u8; 16]>::from_hex(key)?)))
+fn key_of(digits: &str) -> Result<Key, Fail> {
+    Ok(Key(<[u8; 16]>::from_hex(digits)?))
 }
 
-/// FIPS 197, appendices B and C.1.
+fn cipher(key: &str) -> Result<Aes, Fail> {
+    Ok(Aes::new(&key_of(key)?))
+}
+
+/// FIPS 197, appendices B and C.1, by both forms of the cipher.
 #[test]
 fn blocks_of_fips_197(rt: HostRuntime) -> Result<(), Fail> {
     for (key, block, encrypted) in [
@@ -37,8 +41,43 @@ fn blocks_of_fips_197(rt: HostRuntime) -> Result<(), Fail> {
             "69c4e0d86a7b0430d8cdb78070b4c55a",
         ),
     ] {
-        let answer = cipher(key)?.encrypt_block(&<[u8; 16]>::from_hex(block)?);
-        assert_eq!(rt; answer, <[u8; 16]>::from_hex(encrypted)?, "at {block}");
+        let clear = <[u8; 16]>::from_hex(block)?;
+        let wanted = <[u8; 16]>::from_hex(encrypted)?;
+        let answer = cipher(key)?.encrypt_block(&clear);
+        assert_eq!(rt; answer, wanted, "at {block}");
+        let sliced = SlicedAes::new(&key_of(key)?).encrypt_block(&clear);
+        assert_eq!(rt; sliced, wanted, "sliced, at {block}");
+    }
+    Ok(())
+}
+
+/// NIST SP 800-38A, F.1.1: four blocks under one key, two at once, by both forms of the cipher.
+#[test]
+fn pairs_of_sp_800_38a(rt: HostRuntime) -> Result<(), Fail> {
+    let key = key_of("2b7e151628aed2a6abf7158809cf4f3c")?;
+    let aes = Aes::new(&key);
+    let sliced = SlicedAes::new(&key);
+    for (x, y, first, second) in [
+        (
+            "6bc1bee22e409f96e93d7e117393172a",
+            "ae2d8a571e03ac9c9eb76fac45af8e51",
+            "3ad77bb40d7a3660a89ecaf32466ef97",
+            "f5d3d58503b9699de785895a96fdbaaf",
+        ),
+        (
+            "30c81c46a35ce411e5fbc1191a0a52ef",
+            "f69f2445df4f9b17ad2b417be66c3710",
+            "43b1cd7f598ece23881b00e3ed030688",
+            "7b0c785e27e8ad3f8223207104725dd4",
+        ),
+    ] {
+        let one = <[u8; 16]>::from_hex(x)?;
+        let two = <[u8; 16]>::from_hex(y)?;
+        let wanted = [<[u8; 16]>::from_hex(first)?, <[u8; 16]>::from_hex(second)?];
+        let (a, b) = aes.encrypt_two(&one, &two);
+        assert_eq!(rt; [a, b], wanted, "at {x}");
+        let (c, d) = sliced.encrypt_two(&one, &two);
+        assert_eq!(rt; [c, d], wanted, "sliced, at {x}");
     }
     Ok(())
 }

@@ -2,7 +2,7 @@ use Rattle.std.proofs.Common.{◌≡◌, ◌*◌, ◌+◌}
 use Rattle.aes_modes.specs.Chains.{chained}
 use Rattle.aes_modes.specs.Ccm.{ccm_stream_block}
 use Rattle.aes_modes.proofs.Streams.{MaskedTo}
-use Rattle.aes_modes.proofs.pairs.seal_text.Given as goal
+use Rattle.aes_modes.proofs.pairs.chain_and_encrypt.Given as goal
 
 abbrev pub invariant-whole : goal.invariant-whole
 invariant-whole l =

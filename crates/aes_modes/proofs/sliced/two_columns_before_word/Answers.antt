@@ -1,5 +1,5 @@
 use Rattle.aes_modes.proofs.SlicedSchedule.{two_in, two_out}
-use Rattle.aes_modes.proofs.sliced.two_before_word.Goals as goal
+use Rattle.aes_modes.proofs.sliced.two_columns_before_word.Goals as goal
 
 pub returns-clause-inside : goal.returns-clause-inside
 returns-clause-inside c = two_in c.args.x

@@ -7,7 +7,7 @@ use Rattle.aes_modes.specs.Ccm.{ccm_stream_block, ccm_text}
 use Rattle.aes_modes.proofs.Chains.{length-encrypted, chained_none, chained_more, chained_part, chained-append}
 use Rattle.aes_modes.proofs.Streams.{MaskedTo, masked_more, masked_all}
 use Rattle.aes_modes.proofs.Beside.{masked_block, following_some, following_last}
-use Rattle.aes_modes.proofs.pairs.open_text.Goals as goal
+use Rattle.aes_modes.proofs.pairs.decrypt_and_chain.Goals as goal
 
 pub whole-init : goal.whole-init
 whole-init c = (

@@ -1,7 +1,7 @@
 use Rattle.std.proofs.Common.{ℕ, ◌+◌, ◌*◌, ◌/◌, ◌%◌, [], ◌∷◌, slice_index, ◌∙◌, arith}
 use Rattle.std.specs.Int.{bit_at}
 use Rattle.aes_modes.proofs.Words.{at_32}
-use Rattle.aes_modes.proofs.sliced.turn_bits.Goals as goal
+use Rattle.aes_modes.proofs.sliced.transpose.Goals as goal
 
 pub returns-clause-w0 : goal.returns-clause-w0
 returns-clause-w0 c =

@@ -1,9 +1,9 @@
 use Rattle.std.proofs.Common.{◌≡◌, ◌*◌, ◌+◌, ◌<◌}
 use Rattle.aes_modes.specs.Chains.{chained}
 use Rattle.aes_modes.specs.Ccm.{ccm_stream_block, ccm_text}
-use Rattle.aes_modes.specs.Sliced.{following}
+use Rattle.aes_modes.specs.Pairs.{following}
 use Rattle.aes_modes.proofs.Streams.{MaskedTo}
-use Rattle.aes_modes.proofs.pairs.open_text.Given as goal
+use Rattle.aes_modes.proofs.pairs.decrypt_and_chain.Given as goal
 
 abbrev pub invariant-whole : goal.invariant-whole
 invariant-whole l =

@@ -5,7 +5,7 @@ use Rattle.aes_modes.specs.Ccm.{ccm_stream_block, ccm_text}
 use Rattle.aes_modes.proofs.Chains.{length-encrypted, chained_none, chained_more, chained_part}
 use Rattle.aes_modes.proofs.Streams.{MaskedTo, masked_more, masked_all}
 use Rattle.aes_modes.proofs.Beside.{same_rest}
-use Rattle.aes_modes.proofs.pairs.seal_text.Goals as goal
+use Rattle.aes_modes.proofs.pairs.chain_and_encrypt.Goals as goal
 
 pub whole-init : goal.whole-init
 whole-init c = (sym (chained_none c.args.aes.now c.args.x.now c.args.text.now), (λ k low. absurd (omega (arith, low)), λ k high. refl))

@@ -1,20 +1,20 @@
-use Rattle.std.proofs.Common.{length, take, ap, ◌∙◌, arith}
+use Rattle.std.proofs.Common.{take, ap, ◌∙◌, arith}
 use Rattle.aes_modes.specs.Cipher.{xor_bytes, encrypted}
 use Rattle.aes_modes.specs.Chains.{chained_all, padded}
 use Rattle.aes_modes.specs.Ccm.{ccm_header_blocks, ccm_tag}
 use Rattle.aes_modes.proofs.CcmTags.{ccm_mac_is}
-use Rattle.aes_modes.proofs.ccm.ccm_seal.Goals as goal
+use Rattle.aes_modes.proofs.ccm.sealed_tag.Goals as goal
 
 pub returns-clause-tag : goal.returns-clause-tag
 unfolding ccm_tag
 returns-clause-tag c =
     let key = c.args.aes.now in
-    let n = length c.args.tag.now in
+    let n = c.args.tag_len in
     let head = ccm_header_blocks c.args.header.now in
     let text = padded c.args.text.now in
     let e1 = c.encrypt_two.ensures.first ∙ (λ i. encrypted key (c.first_block.ensures i)) in
     let e2 = c.absorb_header.ensures ∙ (λ i. chained_all key (e1 i) head) in
-    let e3 = c.seal_text.ensures.chain ∙ (λ i. chained_all key (e2 i) text)
+    let e3 = c.chain_and_encrypt.ensures.chain ∙ (λ i. chained_all key (e2 i) text)
     ∙ ccm_mac_is n key c.args.nonce.now c.args.header.now c.args.text.now (omega arith) in
     let e4 = c.encrypt_two.ensures.second ∙ (λ i. encrypted key (c.counter.ensures i)) in
-    c.copy_from_slice.ensures.after ∙ ap (take n) (c.xor_blocks-whole.ensures ∙ (λ i. xor_bytes (e3 i) (e4 i)))
+    ap (take n) (c.xor_blocks.ensures ∙ (λ i. xor_bytes (e3 i) (e4 i)))

@@ -1,0 +1,19 @@
+use Rattle.std.proofs.Common.{take, ap, ◌∙◌, arith}
+use Rattle.aes_modes.specs.Cipher.{xor_bytes, encrypted}
+use Rattle.aes_modes.specs.Chains.{chained_all, padded}
+use Rattle.aes_modes.specs.Ccm.{ccm_header_blocks, ccm_tag}
+use Rattle.aes_modes.proofs.CcmTags.{ccm_mac_is}
+use Rattle.aes_modes.proofs.ccm.whole_tag.Goals as goal
+
+pub returns : goal.returns
+unfolding ccm_tag
+returns c =
+    let key = c.args.aes.now in
+    let head = ccm_header_blocks c.args.header.now in
+    let text = padded c.args.text.now in
+    let e1 = c.encrypt_block-x.ensures ∙ (λ i. encrypted key (c.first_block.ensures i)) in
+    let e2 = c.absorb_header.ensures ∙ (λ i. chained_all key (e1 i) head) in
+    let e3 = c.absorb.ensures ∙ (λ i. chained_all key (e2 i) text)
+    ∙ ccm_mac_is c.args.tag_len key c.args.nonce.now c.args.header.now c.args.text.now (omega arith) in
+    let e4 = c.encrypt_block.ensures ∙ (λ i. encrypted key (c.counter.ensures i)) in
+    ap (take c.args.tag_len) (c.xor_blocks.ensures ∙ (λ i. xor_bytes (e3 i) (e4 i)))
