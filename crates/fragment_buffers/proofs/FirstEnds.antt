@@ -35,7 +35,8 @@ none_expires (r ∷ held) time now lt h =
 
 pub still_unexpired : (held : List Reassembly) (time now : ℕ) → IsStill time held → IsStill time (unexpired held now)
 unfolding unexpired
-still_unexpired held time now h = All-filter (λ (r : Reassembly). is_within REASSEMBLY_TIME now r.since) (λ (r : Reassembly). time ≤ r.since + REASSEMBLY_TIME) held h
+still_unexpired held time now h =
+    All-filter (λ (r : Reassembly). is_within REASSEMBLY_TIME now r.since) (λ (r : Reassembly). time ≤ r.since + REASSEMBLY_TIME) held h
 
 -- # A piece comes
 
@@ -52,14 +53,16 @@ grown_lasts : (b : Bool) (r anew : Reassembly) (p : PlacedPiece) (time : ℕ) �
 grown_lasts true r anew p time old new = new
 grown_lasts false r anew p time old new = old
 
-still_joined : (b : Bool) (r anew : Reassembly) (p : PlacedPiece) (rest : List Reassembly) (time : ℕ) → time ≤ r.since + REASSEMBLY_TIME → time ≤ anew.since + REASSEMBLY_TIME
+still_joined : (b : Bool) (r anew : Reassembly) (p : PlacedPiece) (rest : List Reassembly) (time : ℕ) → time ≤ r.since + REASSEMBLY_TIME
+    → time ≤ anew.since + REASSEMBLY_TIME
     → IsStill time rest
     → IsStill time (cond b (record { held = r ∷ rest; outcome = Held }) (settled (datagram_of (grown r anew p)) (grown r anew p) rest)).held
 still_joined true r anew p rest time old new h = more time r rest old h
 still_joined false r anew p rest time old new h =
     still_settled (datagram_of (grown r anew p)) (grown r anew p) rest time (grown_lasts (overlaps r.pieces p) r anew p time old new) h
 
-still_named : (b : Bool) (r anew : Reassembly) (p : PlacedPiece) (rest : List Reassembly) (time : ℕ) → time ≤ r.since + REASSEMBLY_TIME → time ≤ anew.since + REASSEMBLY_TIME
+still_named : (b : Bool) (r anew : Reassembly) (p : PlacedPiece) (rest : List Reassembly) (time : ℕ) → time ≤ r.since + REASSEMBLY_TIME
+    → time ≤ anew.since + REASSEMBLY_TIME
     → IsStill time rest
     → IsStill time (taken_in rest anew p).held → IsStill time (cond b (joined r anew p rest) (behind r (taken_in rest anew p))).held
 still_named true r anew p rest time old new h then = still_joined (repeats r.pieces p) r anew p rest time old new h

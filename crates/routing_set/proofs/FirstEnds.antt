@@ -51,7 +51,8 @@ still_unrouted time entries h = λ k d lt. subst (Lasts time) (sym (h k d lt)) t
 -- # A tick
 
 -- a route that lasts is not old before
-not_old : (time now : ℕ) (route : Option Route) → now < time → Lasts time route → option_map_or (λ r. not (is_within ROUTE_VALID_TIME now r.offered)) route false ≡ false
+not_old : (time now : ℕ) (route : Option Route) → now < time → Lasts time route
+    → option_map_or (λ r. not (is_within ROUTE_VALID_TIME now r.offered)) route false ≡ false
 not_old time now None lt h = refl
 not_old time now (Some r) lt h = ap not (lt-ltb now (r.offered + ROUTE_VALID_TIME) (omega (arith, lt, h)))
 

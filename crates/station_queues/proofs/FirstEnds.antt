@@ -63,7 +63,8 @@ still_pushed h b time first is s =
     let before : first ≤ time = omega (arith, is, one.0) in
     record {
       gathered = still_sooner first time h.reassemblies before s.gathered;
-      waiting = All-push (λ (x : Body). first ≤ x.since + WAITING_TIME) h.waiting b (wait_sooner first time h.waiting before s.waiting) (omega (arith, is, one.1));
+      waiting =
+          All-push (λ (x : Body). first ≤ x.since + WAITING_TIME) h.waiting b (wait_sooner first time h.waiting before s.waiting) (omega (arith, is, one.1));
     }
 
 -- # Something goes

@@ -13,7 +13,8 @@ end_by time w = earlier_end WAITING_TIME time w.since
 -- when the first of what is held ends, 2^64 - 1 where nothing is
 unfoldable pub first_end : Held → ℕ
 first_end h =
-    fold (λ time b. earlier_end WAITING_TIME time b.since) (fold (λ time r. earlier_end REASSEMBLY_TIME time r.since) 18446744073709551615 h.reassemblies) h.waiting
+    fold (λ time b. earlier_end WAITING_TIME time b.since) (fold (λ time r. earlier_end REASSEMBLY_TIME time r.since) 18446744073709551615 h.reassemblies)
+    h.waiting
 
 -- Neither a reassembly nor a body that waits ends before a time.
 pub record IsStill (time : ℕ) (h : Held) : Type 0 where

@@ -10,7 +10,8 @@ abbrev pub invariant-loop-index : goal.invariant-loop-index
 invariant-loop-index l = record {
   within : l.index ≤ length l.self.waiting;
   gathered : l.self.reassemblies ≡ l.fn.self.reassemblies;
-  kept : filter (λ (b : Body). is_within WAITING_TIME l.now b.since) l.fn.self.waiting ≡ kept_so_far (λ (b : Body). is_within WAITING_TIME l.now b.since) l.self.waiting l.index;
+  kept : filter (λ (b : Body). is_within WAITING_TIME l.now b.since) l.fn.self.waiting
+      ≡ kept_so_far (λ (b : Body). is_within WAITING_TIME l.now b.since) l.self.waiting l.index;
 }
 
 abbrev pub decreases-loop-index : goal.decreases-loop-index
