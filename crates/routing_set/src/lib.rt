@@ -35,6 +35,6 @@ mod routing_set;
 
 pub use entry::{ROUTE_FRESH_TIME, ROUTE_VALID_TIME, Route, RoutingEntry};
 pub use fault::{NumberFault, OfferFault, Offered};
-pub use own_number::OwnNumber;
+pub use own_number::{OWN_NUMBERS_AHEAD, OwnNumber};
 pub use rank::Rank;
 pub use routing_set::RoutingSet;
