@@ -19,6 +19,7 @@ use Rattle.broadcast_log.specs.NextNumber.{Numbering, limit_at, limit_in, limit_
 use Rattle.broadcast_log.specs.OriginMarks.{Marks, marks, keep_write, kept_after}
 use Rattle.broadcast_log.specs.Log.{Log, numbered_log, admitted_log}
 use Rattle.broadcast_log.specs.Laws.{IsLogIn, NumbersLead, AdmissionsLead}
+use Rattle.broadcast_log.specs.declared.log.TheConstants.{BROADCASTS_AHEAD}
 
 -- both parts are what the records give
 both : (log : Log) (r : Records) → IsCountingIn limit_at log.numbering r → AreMarksIn 0x0300 32 log.marks r → IsLogIn log r
@@ -45,8 +46,8 @@ marks_beside t r octets h = record {
 number_leaves : (t : Marks) (n : Numbering) → Leaves (AreMarksIn 0x0300 32 t) (puts_of (number_put n))
 number_leaves t n = by_due (passes n 1)
   where
-    by_due : (b : Bool) → Leaves (AreMarksIn 0x0300 32 t) (puts_of (cond b (limit_write limit_at (raised limit_at 32 n.limit)) None))
-    by_due true = (λ r h. marks_beside t r (big_bytes 4 (raised limit_at 32 n.limit)) h, tt)
+    by_due : (b : Bool) → Leaves (AreMarksIn 0x0300 32 t) (puts_of (cond b (limit_write limit_at (raised limit_at BROADCASTS_AHEAD n.limit)) None))
+    by_due true = (λ r h. marks_beside t r (big_bytes 4 (raised limit_at BROADCASTS_AHEAD n.limit)) h, tt)
     by_due false = tt
 
 -- a number that is left is below the last one
@@ -59,7 +60,7 @@ number_leads log left = leads_when IsLogIn log (numbered_log log) (puts_of (numb
     (λ n s q p. both (record log { numbering = n }) s q p)
     (λ n s h. (numbering_part (record log { numbering = n }) s h, marks_part (record log { numbering = n }) s h))
     log.numbering (numbered log.numbering) (puts_of (number_put log.numbering)) (number_leaves log.marks log.numbering)
-    (reservations_lead limit_at 32 log.numbering 1 (omega arith) (left_below log.numbering r (numbering_part log r k) left)))
+    (reservations_lead limit_at BROADCASTS_AHEAD log.numbering 1 (omega arith) (left_below log.numbering r (numbering_part log r k) left)))
 
 -- # The marks
 

@@ -21,10 +21,11 @@ use Rattle.broadcast_log.specs.OriginMarks.{Marks, marks, room_for}
 use Rattle.broadcast_log.specs.Log.{Log, log_of, opened}
 use Rattle.broadcast_log.specs.Runs.{Runs, begins, numbers, loses_number, admits, loses_mark, restarts, elsewhere}
 use Rattle.broadcast_log.specs.Laws.{EachIsAdmittedOnce, EachIsGivenOnce}
+use Rattle.broadcast_log.specs.declared.log.TheConstants.{BROADCASTS_AHEAD}
 
 -- Both parts of a log.
 record Holds (given : List ℕ) (before : List Admitted) (was : Option Log) (records : Records) : Type 0 where
-  numbering : HoldsGiven limit_at 32 given (option_map (λ l. l.numbering) was) records
+  numbering : HoldsGiven limit_at BROADCASTS_AHEAD given (option_map (λ l. l.numbering) was) records
   marks : HoldsAdmitted 0x0300 32 before (option_map (λ l. l.marks) was) records
 
 -- a log that was opened has both parts opened
@@ -50,15 +51,16 @@ room_by before table records origin number h room =
     room_has 0x0300 32 Old OriginsFull table origin number sound.short room
 
 -- a number that is left is below the last one
-left_below : (given : List ℕ) (n : Numbering) (records : Records) → HoldsGiven limit_at 32 given (Some n) records → is_spent n ≡ false → n.next + 1 ≤ 4294967295
+left_below : (given : List ℕ) (n : Numbering) (records : Records) → HoldsGiven limit_at BROADCASTS_AHEAD given (Some n) records → is_spent n ≡ false
+    → n.next + 1 ≤ 4294967295
 left_below given n records h left = let other = eqb-false n.next 4294967295 left in omega (arith, h.reads.fits, h.live.0, h.live.1)
 
 -- one number is a run of one
-given_one : (given : List ℕ) (n : Numbering) (records : Records) → HoldsGiven limit_at 32 ((n.next + 0) ∷ given) (Some (numbered n)) records
-    → HoldsGiven limit_at 32 (n.next ∷ given) (Some (numbered n)) records
+given_one : (given : List ℕ) (n : Numbering) (records : Records) → HoldsGiven limit_at BROADCASTS_AHEAD ((n.next + 0) ∷ given) (Some (numbered n)) records
+    → HoldsGiven limit_at BROADCASTS_AHEAD (n.next ∷ given) (Some (numbered n)) records
 given_one given n records h =
     let same : n.next + 0 ≡ n.next = omega arith in
-    subst (λ (k : ℕ). HoldsGiven limit_at 32 (k ∷ given) (Some (numbered n)) records) same h
+    subst (λ (k : ℕ). HoldsGiven limit_at BROADCASTS_AHEAD (k ∷ given) (Some (numbered n)) records) same h
 
 -- a put at one part's slots leaves the other part's
 marks_stay : (old new : Records) → SameOutside limit_slot limit_slot old new → (place : ℕ) → place < 32
@@ -72,31 +74,32 @@ holds : (given : List ℕ) (before : List Admitted) (was : Option Log) (records 
 holds given before was records (begins log r e fits gapless) =
     let o = both_opened log r e in
     record {
-      numbering = given_begins limit_at 32 log.numbering r o.numbering (record { fits = fits; low = omega arith });
+      numbering = given_begins limit_at BROADCASTS_AHEAD log.numbering r o.numbering (record { fits = fits; low = omega arith });
       marks = admitted_begins 0x0300 32 log.marks r o.marks gapless;
     }
 holds given before was records (numbers g b log old new earlier left stores) =
     let h = holds g b (Some log) old.records earlier in
     record {
       numbering = given_one g log.numbering new.records
-          (given_more limit_at 32 g log.numbering 1 old new h.numbering (omega arith) (left_below g log.numbering old.records h.numbering left) stores);
+          (given_more limit_at BROADCASTS_AHEAD g log.numbering 1 old new h.numbering (omega arith) (left_below g log.numbering old.records h.numbering left)
+          stores);
       marks = admitted_elsewhere 0x0300 32 b (Some log.marks) old.records new.records h.marks
-          (marks_stay old.records new.records (reserve_write-elsewhere limit_at 32 log.numbering 1 old new true stores));
+          (marks_stay old.records new.records (reserve_write-elsewhere limit_at BROADCASTS_AHEAD log.numbering 1 old new true stores));
     }
 holds given before was records (loses_number g b log old new earlier left stores) =
     let h = holds g b (Some log) old.records earlier in
     record {
-      numbering = given_lost limit_at 32 g log.numbering 1 old new h.numbering stores;
+      numbering = given_lost limit_at BROADCASTS_AHEAD g log.numbering 1 old new h.numbering stores;
       marks = admitted_none 0x0300 32 b (Some log.marks) new.records
           (admitted_elsewhere 0x0300 32 b (Some log.marks) old.records new.records h.marks
-          (marks_stay old.records new.records (reserve_write-elsewhere limit_at 32 log.numbering 1 old new false stores)));
+          (marks_stay old.records new.records (reserve_write-elsewhere limit_at BROADCASTS_AHEAD log.numbering 1 old new false stores)));
     }
 holds given before was records (admits g b log origin number old new earlier short fits room stores) =
     let h = holds g b (Some log) old.records earlier in
     let sound : slots.IsTable marks log.marks = admitted_sound 0x0300 32 b log.marks old.records h.marks in
     let free = room_by b log.marks old.records origin number h.marks room in
     record {
-      numbering = given_elsewhere limit_at 32 g (Some log.numbering) old.records new.records h.numbering
+      numbering = given_elsewhere limit_at BROADCASTS_AHEAD g (Some log.numbering) old.records new.records h.numbering
           (limit_stays old.records new.records (keep_write-elsewhere 0x0300 32 log.marks origin number old new true sound free stores));
       marks = admitted_more 0x0300 32 b log.marks origin number old new h.marks short fits free stores;
     }
@@ -105,8 +108,8 @@ holds given before was records (loses_mark g b log origin number old new earlier
     let sound : slots.IsTable marks log.marks = admitted_sound 0x0300 32 b log.marks old.records h.marks in
     let free = room_by b log.marks old.records origin number h.marks room in
     record {
-      numbering = given_none limit_at 32 g (Some log.numbering) new.records
-          (given_elsewhere limit_at 32 g (Some log.numbering) old.records new.records h.numbering
+      numbering = given_none limit_at BROADCASTS_AHEAD g (Some log.numbering) new.records
+          (given_elsewhere limit_at BROADCASTS_AHEAD g (Some log.numbering) old.records new.records h.numbering
           (limit_stays old.records new.records (keep_write-elsewhere 0x0300 32 log.marks origin number old new false sound free stores)));
       marks = admitted_lost 0x0300 32 b log.marks origin number old new h.marks short fits free stores;
     }
@@ -114,13 +117,13 @@ holds given before was records (restarts g b w log r earlier e) =
     let h = holds g b w r earlier in
     let o = both_opened log r e in
     record {
-      numbering = given_restarts limit_at 32 g (option_map (λ l. l.numbering) w) log.numbering r h.numbering o.numbering;
+      numbering = given_restarts limit_at BROADCASTS_AHEAD g (option_map (λ l. l.numbering) w) log.numbering r h.numbering o.numbering;
       marks = admitted_restarts 0x0300 32 b (option_map (λ l. l.marks) w) log.marks r h.marks o.marks;
     }
 holds given before was records (elsewhere g b w old new earlier stay) =
     let h = holds g b w old earlier in
     record {
-      numbering = given_elsewhere limit_at 32 g (option_map (λ l. l.numbering) w) old new h.numbering stay.limit;
+      numbering = given_elsewhere limit_at BROADCASTS_AHEAD g (option_map (λ l. l.numbering) w) old new h.numbering stay.limit;
       marks = admitted_elsewhere 0x0300 32 b (option_map (λ l. l.marks) w) old new h.marks stay.marks;
     }
 

@@ -5,6 +5,7 @@ use Rattle.plc_base.specs.Keeper.{Records, Write}
 use Rattle.store_tables.specs.Numberings as numbers
 use Rattle.store_tables.specs.declared.number_slot.NumberSlot.{NumberSlot}
 use Rattle.plc_base.specs.declared.keeper.BadStore.{BadStore}
+use Rattle.broadcast_log.specs.declared.log.TheConstants.{BROADCASTS_AHEAD}
 
 -- The limit that is stored, which no number that was given out reaches, and the number that comes next.
 abbrev pub Numbering : Type 0
@@ -32,11 +33,11 @@ LimitAgrees numbering records = numbers.AgreesWith limit_at numbering records
 
 -- what is stored before the next number is given out: a higher limit, where the number equals the limit
 abbrev pub number_put : Numbering → Option Write
-number_put numbering = numbers.reserve_write limit_at 32 numbering 1
+number_put numbering = numbers.reserve_write limit_at BROADCASTS_AHEAD numbering 1
 
 -- the numbering after the next number was given out
 abbrev pub numbered : Numbering → Numbering
-numbered numbering = numbers.reserved limit_at 32 numbering 1
+numbered numbering = numbers.reserved limit_at BROADCASTS_AHEAD numbering 1
 
 -- whether no number is left
 abbrev pub is_spent : Numbering → Bool

@@ -28,6 +28,6 @@ mod writing;
 
 pub use broadcast::{Broadcast, BroadcastBuf};
 pub use fault::LogFault;
-pub use log::{BroadcastLog, OriginMark};
+pub use log::{BROADCASTS_AHEAD, BroadcastLog, OriginMark};
 pub use reading::read_broadcast;
 pub use writing::write_broadcast;

@@ -18,6 +18,9 @@ use std::alloc::{AllocError, Global};
 use std::marker::Model;
 use store_tables::{Mark, MarkTable, Numbering, OpenFault};
 
+/// How far the limit that is stored is raised ahead of the numbers of broadcasts that are given out (a rule of this network).
+pub const BROADCASTS_AHEAD: u32 = 32;
+
 /// One origin: the number that was last admitted of it, and the mark that is stored, which is no lower.
 pub type OriginMark = Mark<0x0300, 32>;
 
@@ -30,7 +33,7 @@ pub type OriginMark = Mark<0x0300, 32>;
 /// log may not be used until it is opened again.
 #[derive(Drop, Debug)]
 pub struct BroadcastLog {
-    numbering: Numbering<6, 4, 0, 32>,
+    numbering: Numbering<6, 4, 0, BROADCASTS_AHEAD>,
     marks: MarkTable<0x0300, 32>,
 }
 
@@ -121,7 +124,7 @@ impl BroadcastLog {
         self.marks.entries()
     }
 
-    /// Gives out the number of the next broadcast. Where it equals the limit, the smaller of limit + 32 and 4,294,967,295 is
+    /// Gives out the number of the next broadcast. Where it equals the limit, the smaller of limit + `BROADCASTS_AHEAD` and 4,294,967,295 is
     /// stored first.
     ///
     /// NumberSpent exactly where none is left. Store where that put failed. After each error the log is as it was.
@@ -160,7 +163,7 @@ impl BroadcastLog {
     }
 
     /// Admits a broadcast: `number` is then the mark of its origin. Where the origin is new or `number` is above its stored
-    /// mark, the smaller of number + 63 and 4,294,967,295 is stored first.
+    /// mark, the smaller of number + `MARKS_AHEAD` and 4,294,967,295 is stored first.
     ///
     /// Old and OriginsFull exactly as `room` answers them, and Store where that put failed. After each error the log is as it
     /// was.

@@ -6,6 +6,7 @@ use Rattle.plc_base.specs.declared.address.Eui.{Eui}
 use Rattle.node_rules.specs.Memory.{CoordinatorSession}
 use Rattle.node_rules.specs.Coordinators.{is_of}
 use Rattle.node_rules.specs.Calls.{is_within}
+use Rattle.node_rules.specs.declared.session_time.TheConstants.{SESSION_TIME}
 
 -- the session of a meter, if one is open
 abbrev pub session_in : List CoordinatorSession → Eui → Option CoordinatorSession
@@ -24,6 +25,6 @@ ended eui sessions = filter (λ s. not (is_of eui s)) sessions
 abbrev pub is_full_for : List CoordinatorSession → Eui → Bool
 is_full_for sessions eui = if is_some (session_in sessions eui) then false else nat_lt 7 (length sessions)
 
--- the sessions that were opened fewer than 120 seconds ago
+-- the sessions whose time has not passed
 abbrev pub unexpired : ℕ → List CoordinatorSession → List CoordinatorSession
-unexpired now sessions = filter (λ (s : CoordinatorSession). is_within 120 now s.since) sessions
+unexpired now sessions = filter (λ (s : CoordinatorSession). is_within SESSION_TIME now s.since) sessions

@@ -133,7 +133,7 @@ impl<K: Keeper + Drop> Coordinator<K> {
         self.station.into_keeper()
     }
 
-    /// Ends what is old at a time in seconds: what its station ends, and the sessions that were opened 120 seconds ago or before. A
+    /// Ends what is old at a time in seconds: what its station ends, and the sessions that were opened `SESSION_TIME` ago or before. A
     /// halted one stays as it is.
     pub fn tick(&mut self, now: u64)
         requires holds { CoordinatorAgrees (node_of self.old) }

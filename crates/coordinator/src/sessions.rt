@@ -2,11 +2,12 @@
 ghost use Rattle.std.specs.Prelude.{◌≡◌, ◌<◌, ◌≤◌, false, [], position, length, Some, None};
 ghost use Rattle.plc_base.specs.Times as times;
 ghost use Rattle.node_rules.specs.Coordinators.{is_of};
+ghost use Rattle.node_rules.specs.declared.session_time.TheConstants.{SESSION_TIME};
 ghost use Rattle.coordinator.specs.Tables.{session_in, placed, ended, is_full_for, unexpired};
 
 use arrayvec::ArrayVec;
 use eap_psk::Server;
-use node_rules::Way;
+use node_rules::{SESSION_TIME, Way};
 use plc_base::{Eui, Rand, is_within};
 use std::marker::Model;
 
@@ -52,11 +53,11 @@ impl ServerSession {
         self.server.eui.number() == eui.number()
     }
 
-    // Whether 120 seconds have not passed since it was opened.
+    // Whether the time of a session has not passed since it was opened.
     fn lasts(&self, now: u64) -> bool
-        ensures { result ≡ times.is_within 120 now self.now.since }
+        ensures { result ≡ times.is_within SESSION_TIME now self.now.since }
     {
-        is_within(120, now, self.since)
+        is_within(SESSION_TIME, now, self.since)
     }
 }
 
@@ -134,7 +135,7 @@ impl Sessions {
         self.items.retain(|session| !session.is_of(eui));
     }
 
-    /// Ends the sessions that were opened 120 seconds ago or before.
+    /// Ends the sessions that were opened `SESSION_TIME` ago or before.
     pub(crate) fn expire(&mut self, now: u64)
         ensures { self.new ≡ unexpired now self.old }
     {

@@ -13,6 +13,7 @@ use Rattle.fragment_buffers.specs.Reassembly.{gathered, datagram_of}
 use Rattle.fragment_buffers.specs.Taking.{Taking, same_name, has_room, grown, settled, joined, taken_in, taken, unexpired}
 use Rattle.fragment_buffers.specs.Laws.{no_piece, AreApart, WholeIsOfItsPieces, GapIsInNoPiece, PiecesStayApart}
 use Rattle.fragment_buffers.proofs.Places.{none_passes}
+use Rattle.fragment_buffers.specs.declared.times.TheConstants.{REASSEMBLY_TIME}
 
 -- # Whole
 
@@ -137,5 +138,5 @@ unfolding taken unexpired
 stay_apart held origin piece note now all = (
   cond_both (has_room held (begun origin piece note now)) _ _ (λ (t : Taking). All AreApart t.held)
       (λ _. apart_taken_in held (begun origin piece note now) (placed piece) all (apart_alone origin piece note now)) (λ _. all),
-  All-filter (λ r. nat_lt now (r.since + 60)) AreApart held all,
+  All-filter (λ r. nat_lt now (r.since + REASSEMBLY_TIME)) AreApart held all,
 )

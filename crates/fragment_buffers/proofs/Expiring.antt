@@ -7,6 +7,7 @@ use Rattle.std.specs.List.{remove}
 use Rattle.fragment_buffers.specs.Reassembly.{Reassembly}
 use Rattle.fragment_buffers.specs.Taking.{unexpired}
 use Rattle.fragment_buffers.specs.Answers.{nothing}
+use Rattle.fragment_buffers.specs.declared.times.TheConstants.{REASSEMBLY_TIME}
 
 take_remove : (xs : List Reassembly) (i : ℕ) → take i (remove xs i) ≡ take i xs
 take_remove [] zero = refl
@@ -23,21 +24,21 @@ drop_remove (x ∷ xs) (suc i) lt = drop_remove xs i (omega arith)
 abbrev pub kept_so_far : List Reassembly → ℕ → ℕ → List Reassembly
 kept_so_far held i now = take i held ++ unexpired (drop i held) now
 
-pub expired_at : (held : List Reassembly) (i now : ℕ) → i < length held → (get_or held i nothing).since + 60 ≤ now
+pub expired_at : (held : List Reassembly) (i now : ℕ) → i < length held → (get_or held i nothing).since + REASSEMBLY_TIME ≤ now
     → kept_so_far held i now ≡ kept_so_far (remove held i) i now
 unfolding unexpired
 expired_at held i now lt old =
     ap (λ rs. take i held ++ unexpired rs now) (drop_more held i nothing lt)
-    ∙ ap (λ rs. take i held ++ rs) (cond-false _ _ _ (le-ltb now ((get_or held i nothing).since + 60) old))
+    ∙ ap (λ rs. take i held ++ rs) (cond-false _ _ _ (le-ltb now ((get_or held i nothing).since + REASSEMBLY_TIME) old))
     ∙ ap (λ rs. take i held ++ unexpired rs now) (ap (λ n. drop n held) (add-one i) ∙ sym (drop_remove held i lt))
     ∙ ap (λ rs. rs ++ unexpired (drop i (remove held i)) now) (sym (take_remove held i))
 
-pub unexpired_at : (held : List Reassembly) (i now : ℕ) → i < length held → now < (get_or held i nothing).since + 60
+pub unexpired_at : (held : List Reassembly) (i now : ℕ) → i < length held → now < (get_or held i nothing).since + REASSEMBLY_TIME
     → kept_so_far held i now ≡ kept_so_far held (i + 1) now
 unfolding unexpired
 unexpired_at held i now lt young =
     ap (λ rs. take i held ++ unexpired rs now) (drop_more held i nothing lt)
-    ∙ ap (λ rs. take i held ++ rs) (cond-true _ _ _ (lt-ltb now ((get_or held i nothing).since + 60) young))
+    ∙ ap (λ rs. take i held ++ rs) (cond-true _ _ _ (lt-ltb now ((get_or held i nothing).since + REASSEMBLY_TIME) young))
     ∙ sym (append_assoc (take i held) (get_or held i nothing ∷ []) (unexpired (drop (i + 1) held) now))
     ∙ ap (λ rs. rs ++ unexpired (drop (i + 1) held) now) (sym (take_more held i nothing lt))
 

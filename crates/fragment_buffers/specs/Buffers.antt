@@ -6,6 +6,7 @@ use Rattle.fragment_buffers.specs.declared.piece_span.PieceSpan.{PieceSpan}
 use Rattle.fragment_buffers.specs.declared.buffers.Buffer.{Buffer}
 use Rattle.fragment_buffers.specs.declared.buffers.Buffers.TheInside.{Inside}
 use Rattle.fragment_buffers.specs.Entries.{Entry, IsEntry}
+use Rattle.fragment_buffers.specs.declared.times.TheConstants.{REASSEMBLY_TIME}
 
 -- the entry with these places
 abbrev pub entry_of : Buffer → List PieceSpan → Entry
@@ -31,7 +32,7 @@ is_named origin size tag b = (origin == b.origin) && ((size == b.size) && (tag =
 
 -- the earlier of a time and of when one expires
 abbrev pub end_before : ℕ → Buffer → ℕ
-end_before time b = earlier_end 60 time b.since
+end_before time b = earlier_end REASSEMBLY_TIME time b.since
 
 -- how many pieces they have
 abbrev pub pieces_in : List Buffer → ℕ

@@ -5,6 +5,7 @@ use Rattle.std.specs.List.{list_any, filter, sum_by}
 use Rattle.plc_base.specs.Times.{is_within}
 use Rattle.mesh_header.specs.Pieces.{Placed}
 use Rattle.fragment_buffers.specs.Reassembly.{PlacedPiece, Reassembly, placed, begun, datagram_of, repeats, overlaps}
+use Rattle.fragment_buffers.specs.declared.times.TheConstants.{REASSEMBLY_TIME}
 
 -- what comes of a piece
 pub data Outcome : Type 0 where
@@ -68,6 +69,6 @@ taken held origin piece note now =
     let anew = begun origin piece note now in
     if has_room held anew then taken_in held anew (placed piece) else record { held = held; outcome = Full }
 
--- those that began less than 60 seconds ago
+-- those whose time to gather has not passed
 unfoldable pub unexpired : List Reassembly → (now : ℕ) → List Reassembly
-unexpired held now = filter (λ r. is_within 60 now r.since) held
+unexpired held now = filter (λ r. is_within REASSEMBLY_TIME now r.since) held

@@ -5,6 +5,7 @@ use Rattle.std.specs.Coded.{Coded, code_by, coded×, coded_ℕ}
 use Rattle.plc_base.specs.Times.{is_within}
 use Rattle.fragment_buffers.specs.Taking.{blocks}
 use Rattle.fragment_buffers.specs.Loads.{Load, load_octets, load_code, UnsealedUnit, units_of, units_in, all_go}
+use Rattle.fragment_buffers.specs.declared.times.TheConstants.{WAITING_TIME}
 
 -- A body that waits for a route to an address, from a time on.
 pub record Body : Type 0 where
@@ -40,9 +41,9 @@ no_room_in bodies octets = if nat_lt (length bodies) 8 then nat_lt 80 (waiting_b
 
 -- # Time
 
--- the bodies that have waited for less than 30 seconds
+-- the bodies that have not waited for the whole time
 abbrev pub still_waiting : ℕ → List Body → List Body
-still_waiting now bodies = filter (λ (b : Body). is_within 30 now b.since) bodies
+still_waiting now bodies = filter (λ (b : Body). is_within WAITING_TIME now b.since) bodies
 
 -- # Leaving
 

@@ -6,6 +6,7 @@ ghost use Rattle.std.specs.FinMap as map;
 ghost use Rattle.std.specs.Bool.{MatchBool};
 ghost use Rattle.block_pool.specs.Pool.{IsChain, chain_octets, overwrite};
 ghost use Rattle.mesh_header.specs.Pieces.{IsPiece};
+ghost use Rattle.fragment_buffers.specs.declared.times.TheConstants.{REASSEMBLY_TIME};
 ghost use Rattle.fragment_buffers.specs.Answers.{has_name};
 ghost use Rattle.fragment_buffers.specs.Buffers.{entry_of, pieces_in, buffer_at, is_named, end_before};
 ghost use Rattle.fragment_buffers.specs.Entries.{Entry, IsEntry, IsPlace, reassembly_in, place_of, same_place, meet, IsCovered, HasGap, entry_at, blocks_used};
@@ -14,6 +15,7 @@ ghost use Rattle.fragment_buffers.specs.Reassembly.{begun, placed};
 ghost use Rattle.fragment_buffers.specs.Steps.{Begins, Changes};
 ghost use Rattle.fragment_buffers.specs.Taking.{blocks, grown};
 
+use crate::REASSEMBLY_TIME;
 use crate::piece_span::{PieceSpan, cover_all, has_place, overlap};
 use block_pool::{Chain, Pool};
 use mesh_header::Piece;
@@ -76,18 +78,18 @@ impl Buffer {
         origin == self.origin && size == self.size && tag == self.tag
     }
 
-    // Whether it began at least 60 seconds ago.
+    // Whether it began at least `REASSEMBLY_TIME` ago.
     fn has_expired(&self, now: u64) -> bool
-        ensures { IsTrue result ↔ (self.now.since + 60 ≤ now) }
+        ensures { IsTrue result ↔ (self.now.since + REASSEMBLY_TIME ≤ now) }
     {
-        !is_within(60, now, self.since)
+        !is_within(REASSEMBLY_TIME, now, self.since)
     }
 
     // The earlier of a time and of when it expires.
     fn end_by(&self, time: u64) -> u64
         ensures { result ≡ end_before time self.now }
     {
-        earlier_end(60, time, self.since)
+        earlier_end(REASSEMBLY_TIME, time, self.since)
     }
 
     // Reads the datagram's octets, as they stand in the chain, into an empty buffer.
@@ -205,10 +207,10 @@ impl Buffers {
         first_end(&self.buffers)
     }
 
-    /// Whether one began at least 60 seconds ago.
+    /// Whether one began at least `REASSEMBLY_TIME` ago.
     pub(crate) fn has_expired(&self, index: usize, now: u64) -> bool
         requires { index < length self.now }
-        ensures { IsTrue result ↔ ((entry_at self.now index).since + 60 ≤ now) }
+        ensures { IsTrue result ↔ ((entry_at self.now index).since + REASSEMBLY_TIME ≤ now) }
     {
         self.buffers[index].has_expired(now)
     }

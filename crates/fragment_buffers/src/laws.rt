@@ -21,7 +21,7 @@ pub fn the_pieces_of_a_datagram_come_together()
 {}
 
 /// A piece that overlaps another one begins its reassembly anew, with its own note and time: of three pieces of a datagram the
-/// second and the third make it whole, and the second alone would have ended 60 seconds after it came.
+/// second and the third make it whole, and the second alone would have ended `REASSEMBLY_TIME` after it came.
 pub fn an_overlap_begins_anew()
     ensures { OverlapBeginsAnew }
 {}

@@ -16,7 +16,7 @@
 //!   ([`the_pieces_of_a_datagram_come_together`], [`placed_pieces_never_overlap`], [`other_chains_keep_reassemblies`]).
 //! - A tag is stored before it is used, so it is new also after a loss of power (`tag`, `store`, `kept`).
 //!
-//! It holds 8 reassemblies of 60 seconds each. Opening takes memory for the places of their pieces, 2,560 octets, and no other call takes any
+//! It holds 8 reassemblies, each for [`REASSEMBLY_TIME`]. Opening takes memory for the places of their pieces, 2,560 octets, and no other call takes any
 //! but blocks of the pool; there is no `unsafe`. A piece that overlaps
 //! another one begins its reassembly anew. Times are the caller's, in seconds. `specs/Loads.antt` says which units a datagram or a command
 //! goes out as, and `specs/Waiting.antt` what waits for a route; the crates above carry that out.
@@ -28,6 +28,7 @@ mod laws;
 mod next_tag;
 mod piece_span;
 mod reassembly;
+mod times;
 
 pub use fragmentation::{piece_at, pieces};
 pub use laws::{
@@ -38,3 +39,4 @@ pub use laws::{
 pub use next_tag::NextTag;
 pub use piece_span::PieceSpan;
 pub use reassembly::{BufferFull, Reassembly, Taken};
+pub use times::{REASSEMBLY_TIME, WAITING_TIME};

@@ -112,7 +112,7 @@ impl Reassembly {
         }
     }
 
-    /// Drops the reassemblies that began at least 60 seconds before `now`, and gives their chains back.
+    /// Drops the reassemblies that began at least `REASSEMBLY_TIME` before `now`, and gives their chains back.
     pub fn expire(&mut self, pool: &mut Pool, now: u64)
         requires keeps { Keeps pool.old self.old }
         ensures gathered { reassemblies_in pool.new self.new ≡ unexpired (reassemblies_in pool.old self.old) now }

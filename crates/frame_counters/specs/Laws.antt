@@ -8,6 +8,7 @@ use Rattle.store_tables.specs.LeadingPuts.{PutsLead}
 use Rattle.frame_counters.specs.declared.fault.PeerFault.TheVariants.{Store}
 use Rattle.frame_counters.specs.SendCounter as counters
 use Rattle.frame_counters.specs.PeerMarks as marks
+use Rattle.frame_counters.specs.declared.send_counter.TheConstants.{COUNTERS_AHEAD}
 
 -- A reservation of no counter puts nothing and leaves the counter as it was.
 pub record IsNoReservation (counting : counters.Counting) : Type 0 where
@@ -24,7 +25,7 @@ IsCounterIn counting records = numbers.IsCountingIn counters.limit_at counting r
 -- Whatever becomes of the put of a reservation, some counter is what the records give.
 abbrev pub ReservationsLead : Type 0
 ReservationsLead =
-    (counting : counters.Counting) (count : ℕ) → count ≤ 1024 → counting.next + count ≤ 4294967295
+    (counting : counters.Counting) (count : ℕ) → count ≤ COUNTERS_AHEAD → counting.next + count ≤ 4294967295
     → PutsLead IsCounterIn counting (puts_of (counters.reserve_write counting count)) (counters.reserved counting count)
 
 -- Whether a counter would be admitted is asked without a put: the answer is never a failed one.

@@ -8,6 +8,7 @@ use Rattle.store_tables.specs.declared.number_slot.NumberSlot.{NumberSlot}
 use Rattle.plc_base.specs.declared.keeper.BadStore.{BadStore}
 use Rattle.frame_counters.specs.declared.fault.CounterFault.{CounterFault}
 use Rattle.frame_counters.specs.declared.fault.CounterFault.TheVariants.{Spent, Store}
+use Rattle.frame_counters.specs.declared.send_counter.TheConstants.{COUNTERS_AHEAD}
 
 -- The limit that is stored, which no counter that was given out reaches, and the counter that comes next.
 abbrev pub Counting : Type 0
@@ -58,7 +59,7 @@ limit_write limit = numbers.limit_write limit_at limit
 
 -- the next limit
 abbrev pub raised : ℕ → ℕ
-raised limit = numbers.raised limit_at 1024 limit
+raised limit = numbers.raised limit_at COUNTERS_AHEAD limit
 
 -- whether so many counters pass the limit
 abbrev pub passes : Counting → ℕ → Bool
@@ -66,11 +67,11 @@ passes counting count = numbers.passes counting count
 
 -- what is stored before so many counters are given out
 abbrev pub reserve_write : Counting → ℕ → Option Write
-reserve_write counting count = numbers.reserve_write limit_at 1024 counting count
+reserve_write counting count = numbers.reserve_write limit_at COUNTERS_AHEAD counting count
 
 -- the counter after so many were given out
 abbrev pub reserved : Counting → ℕ → Counting
-reserved counting count = numbers.reserved limit_at 1024 counting count
+reserved counting count = numbers.reserved limit_at COUNTERS_AHEAD counting count
 
 -- whether no counter is left
 abbrev pub is_spent : Counting → Bool

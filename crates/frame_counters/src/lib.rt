@@ -27,4 +27,4 @@ mod send_counter;
 
 pub use fault::{CounterFault, PeerFault};
 pub use peer_marks::{Peer, PeerMarks};
-pub use send_counter::SendCounter;
+pub use send_counter::{COUNTERS_AHEAD, SendCounter};

@@ -115,7 +115,7 @@ impl PeerMarks {
     }
 
     /// Makes `counter` the mark of a sender, where there is room for it. Where the sender is new or `counter` is above its
-    /// stored mark, the smaller of counter + 63 and 4,294,967,295 is stored first.
+    /// stored mark, the smaller of counter + `MARKS_AHEAD` and 4,294,967,295 is stored first.
     ///
     /// Only a failed put is an error. The marks are then as they were, but may not be used until they are opened again.
     pub fn keep<K: Keeper>(
@@ -139,7 +139,7 @@ impl PeerMarks {
     }
 
     /// Admits a counter of a sender: its mark is then `counter`. Where the sender is new or `counter` is above its stored
-    /// mark, the smaller of counter + 63 and 4,294,967,295 is stored first.
+    /// mark, the smaller of counter + `MARKS_AHEAD` and 4,294,967,295 is stored first.
     ///
     /// Replayed exactly where the sender is held and `counter` is not above its mark. PeersFull exactly for a sender that is
     /// not held with 64 held. Store where that put failed, and then the marks may not be used until they are opened again.

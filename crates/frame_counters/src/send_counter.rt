@@ -7,11 +7,16 @@ ghost use Rattle.frame_counters.specs.SendCounter.{take_result, take_write, take
 ghost use Rattle.store_tables.specs.Numberings.{AllBelow};
 ghost use Rattle.frame_counters.specs.Given.{Gives};
 ghost use Rattle.plc_base.specs.declared.limits.TheConstants.{GREATEST_COUNTER};
+ghost use Rattle.frame_counters.specs.declared.send_counter.TheConstants.{COUNTERS_AHEAD};
 
 use crate::CounterFault;
 use plc_base::{BadStore, Failed, Keeper};
 use std::marker::Model;
 use store_tables::Numbering;
+
+/// How far the limit that is stored is raised ahead of the counters that are given out, and the most that one call gives out (a rule
+/// of this network).
+pub const COUNTERS_AHEAD: u32 = 1_024;
 
 /// Gives out each counter once, also over losses of power: a limit is stored ahead of the counters that are given out,
 /// and a new start goes on at the stored limit (the frame counter of IEEE 802.15.4-2006, 7.6.2).
@@ -19,7 +24,7 @@ use store_tables::Numbering;
 /// A contract sees the limit and the next counter.
 #[derive(Drop, Debug)]
 pub struct SendCounter {
-    numbering: Numbering<2, 4, 0, 1024>,
+    numbering: Numbering<2, 4, 0, COUNTERS_AHEAD>,
 }
 
 impl Model for SendCounter {
@@ -60,7 +65,7 @@ impl SendCounter {
     ///
     /// Only a failed put is an error. The counter is then as it was, but may not be used until it is opened again.
     pub fn reserve<K: Keeper>(&mut self, keeper: &mut K, count: u32) -> Result<u32, Failed>
-        requires few { count ≤ 1024 }
+        requires few { count ≤ COUNTERS_AHEAD }
         requires left { self.old.next + count ≤ GREATEST_COUNTER }
         requires kept { AgreesWith self.old (K.store keeper.old).records }
         ensures number { IfOk result (λ number. number ≡ self.old.next) }

@@ -45,6 +45,7 @@ use Rattle.line_laws.proofs.NodeCalls.{NoGrant, NoPair, NoEui, heard_given, call
 use Rattle.line_laws.proofs.RangeHeard.{comes_of}
 use Rattle.line_laws.proofs.CustodyWords.{Brings}
 use Rattle.line_laws.proofs.CustodyPlans.{BringsIn, Moves, Agrees, up_by, up_none, BodiesKept, plan_kept, plan_kept_by, station_moves, handed_in_kept}
+use Rattle.fragment_buffers.specs.declared.times.TheConstants.{REASSEMBLY_TIME, WAITING_TIME}
 
 -- # What is heard of a letter
 
@@ -195,8 +196,8 @@ module _ (n i : ℕ) (some : 0 < n) (m : Memory) where
   pub tick_kept : (now : ℕ) → keeps n i (calls.tick now m.station) ≤ keeps n i m.station
   unfolding pieces.unexpired
   tick_kept now =
-      let waited = fewer (body_is n i) (λ (b : Body). calls.is_within 30 now b.since) m.station.waiting in
-      let held = fewer (held_is n i) (λ (r : Reassembly). nat_lt now (r.since + 60)) m.station.reassemblies in
+      let waited = fewer (body_is n i) (λ (b : Body). calls.is_within WAITING_TIME now b.since) m.station.waiting in
+      let held = fewer (held_is n i) (λ (r : Reassembly). nat_lt now (r.since + REASSEMBLY_TIME)) m.station.reassemblies in
       omega arith
     where
       fewer : {X : Type 0} (f : X → ℕ) (test : X → Bool) (xs : List X) → sum_by f (filter test xs) ≤ sum_by f xs

@@ -54,6 +54,7 @@ use Rattle.line_laws.proofs.CustodyCalls.{SaysNoDatagram, meter_says, zero_weigh
 use Rattle.line_laws.proofs.CustodyPlans.{BringsIn, plan_kept}
 use Rattle.line_laws.proofs.CustodySame.{Known}
 use Rattle.line_laws.proofs.CustodyTrue.{SentIsOf, StationIsTrue, PlanIsTrue, plan_true}
+use Rattle.fragment_buffers.specs.declared.times.TheConstants.{REASSEMBLY_TIME, WAITING_TIME}
 
 -- # What is kept
 
@@ -378,8 +379,8 @@ module _ (S : ℕ → SentAs → Type 0) (own : ℕ) (m : Memory) (ranged : IsSt
   unfolding pieces.unexpired
   tick_true now = record {
     address = first.address;
-    bodies = All-filter (λ (b : Body). calls.is_within 30 now b.since) (BodyIsOf S own) m.station.waiting first.bodies;
-    held = All-filter (λ (r : Reassembly). nat_lt now (r.since + 60)) (HeldIsOf S own) m.station.reassemblies first.held;
+    bodies = All-filter (λ (b : Body). calls.is_within WAITING_TIME now b.since) (BodyIsOf S own) m.station.waiting first.bodies;
+    held = All-filter (λ (r : Reassembly). nat_lt now (r.since + REASSEMBLY_TIME)) (HeldIsOf S own) m.station.reassemblies first.held;
   }
 
 -- What a node that was told to send leaves and sends.

@@ -60,6 +60,7 @@ use Rattle.line_laws.proofs.Senders.{sealed_from}
 use Rattle.line_laws.proofs.NodesOk.{resting_ok}
 use Rattle.line_laws.proofs.StoreBook.{Rest, rest_lasts, station_leads}
 use Rattle.line_laws.proofs.StoreWords.{counter_leads}
+use Rattle.broadcast_log.specs.declared.log.TheConstants.{BROADCASTS_AHEAD}
 
 -- # The form
 
@@ -147,7 +148,7 @@ module _ (U : List UnsealedUnit → Type 0) where
   number_logs : (n : numbers.Numbering) → Each IsOfLog (puts_of (numbers.number_put n))
   number_logs n = by_due (passes n 1)
     where
-      by_due : (t : Bool) → Each IsOfLog (puts_of (if t then limit_write numbers.limit_at (raised numbers.limit_at 32 n.limit) else None))
+      by_due : (t : Bool) → Each IsOfLog (puts_of (if t then limit_write numbers.limit_at (raised numbers.limit_at BROADCASTS_AHEAD n.limit) else None))
       by_due true = (inl refl, tt)
       by_due false = tt
 

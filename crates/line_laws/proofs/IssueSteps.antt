@@ -77,6 +77,7 @@ use Rattle.line_laws.proofs.IssueCalls.{accept_quietly, hears_coordinator, allow
 use Rattle.line_laws.proofs.IssueCalls.{challenge_coordinator, activate_coordinator, kick_coordinator}
 use Rattle.line_laws.proofs.IssueWorlds.{Keyed, IsMeter, same_keyed, after_meter, after_coordinator}
 use Rattle.line_events.specs.Events.{IsEui}
+use Rattle.node_rules.specs.declared.session_time.TheConstants.{SESSION_TIME}
 pub use Rattle.line_laws.proofs.ReceivedKeys.{keyed_same, no_keys, took_same}
 
 pub data StepKeyed (w : World) (given : List Issued) : Step → Type 0 where
@@ -402,7 +403,7 @@ module _ (ciphers : Ciphers) (fits : KeepsRanges ciphers) (w : World) (ok : Worl
 
       by_session : (s : Option MeterSession) → PeerIs eui s → PeerIs eui (option_map_or (meters.session_within now) s None)
       by_session None p = tt
-      by_session (Some s) p = young s (calls.is_within 120 now s.since) p
+      by_session (Some s) p = young s (calls.is_within SESSION_TIME now s.since) p
 
   ticked_meter : (now : ℕ) (x : Node) (b : book.Book) → IsMeter x.role → MeterOk b given x → MeterOk b given (ticked now x)
   ticked_meter now x b meter h = record { ring = h.ring; session = by_role x.role meter }

@@ -43,6 +43,8 @@ use Rattle.line_laws.proofs.MarkWrites.{away_leads}
 use Rattle.line_laws.proofs.MarkNodes.{AreCovered, marks_held, restart_raised}
 use Rattle.line_laws.proofs.Frontiers.{next_of, frontier, same_low}
 use Rattle.frame_counters.proofs.Limits.{stored_limit-kept}
+use Rattle.fragment_buffers.specs.declared.times.TheConstants.{REASSEMBLY_TIME, WAITING_TIME}
+use Rattle.node_rules.specs.declared.session_time.TheConstants.{SESSION_TIME}
 
 -- # What a node does by itself
 
@@ -92,7 +94,7 @@ tick_station_kept now l r k = beside_kept _ _ r (ended_kept l r (routing.is_old 
 tick_station_sized : (now : ℕ) (l : StationMemory) → IsStationSized l → IsStationSized (calls.tick now l)
 unfolding pieces.unexpired
 tick_station_sized now l h =
-    let young : Reassembly → Bool = λ r. nat_lt now (r.since + 60) in
+    let young : Reassembly → Bool = λ r. nat_lt now (r.since + REASSEMBLY_TIME) in
     let count : length (filter young l.reassemblies) + length (filter (λ r. not (young r)) l.reassemblies)
     ≡ length l.reassemblies = length-filter_both young (λ r. not (young r)) (λ r. refl) l.reassemblies in
     let sum : pieces.blocks_held (filter young l.reassemblies) + pieces.blocks_held (filter (λ r. not (young r)) l.reassemblies)
@@ -100,7 +102,7 @@ tick_station_sized now l h =
     = sum_by-filter_both young (λ r. not (young r)) (λ r. refl) (λ (r : Reassembly). pieces.blocks r.size) l.reassemblies in
     let few = h.reassemblies.0 in
     let low = h.reassemblies.1 in
-    let w = stays_sized l (λ (b : Body). calls.is_within 30 now b.since) h in
+    let w = stays_sized l (λ (b : Body). calls.is_within WAITING_TIME now b.since) h in
     record {
       reassemblies = (omega arith, omega arith);
       waiting = record { bodies = w.waiting.bodies; blocks = w.waiting.blocks; datagrams = w.waiting.datagrams };
@@ -118,14 +120,14 @@ tick_meter now psk m r k h = (
 tick_coordinator : (now : ℕ) (m : Memory) (r : Records) → IsKept Coordinator m r → IsMemorySized m
     → IsKept Coordinator (coordinator_rules.tick now m) r × IsMemorySized (coordinator_rules.tick now m)
 tick_coordinator now m r k h =
-    let young : CoordinatorSession → Bool = λ s. calls.is_within 120 now s.since in
+    let young : CoordinatorSession → Bool = λ s. calls.is_within SESSION_TIME now s.since in
     let count : length (filter young m.sessions) + length (filter (λ s. not (young s)) m.sessions)
     ≡ length m.sessions = length-filter_both young (λ s. not (young s)) (λ s. refl) m.sessions in
     let few = h.sessions in (
       record {
         station = tick_station_kept now m.station r k.station;
         book = k.book;
-        sessions = All-filter (λ (s : CoordinatorSession). calls.is_within 120 now s.since) IsNamed m.sessions k.sessions;
+        sessions = All-filter (λ (s : CoordinatorSession). calls.is_within SESSION_TIME now s.since) IsNamed m.sessions k.sessions;
       },
       record { station = tick_station_sized now m.station h.station; sessions = omega arith; randoms = h.randoms },
     )

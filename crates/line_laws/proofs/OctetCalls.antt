@@ -37,6 +37,8 @@ use Rattle.line_laws.proofs.Quiet.{install_quiet}
 use Rattle.line_laws.proofs.Restarting.{IsBlank}
 use Rattle.line_laws.proofs.NodesOk.{read_again}
 use Rattle.line_laws.proofs.StoreMarks.{Accepts, Turned, Plain, Marked, accept_is}
+use Rattle.fragment_buffers.specs.declared.times.TheConstants.{WAITING_TIME}
+use Rattle.node_rules.specs.declared.session_time.TheConstants.{SESSION_TIME}
 
 -- # A plan that is carried out
 
@@ -104,11 +106,11 @@ restarts_speaks x ok =
 
 -- time
 waited : (now : ℕ) (m : Memory) → MemorySpeaks m → All BodySpeaks (calls.tick now m.station).waiting
-waited now m h = All-filter (λ (b : Body). calls.is_within 30 now b.since) BodySpeaks m.station.waiting h.waiting
+waited now m h = All-filter (λ (b : Body). calls.is_within WAITING_TIME now b.since) BodySpeaks m.station.waiting h.waiting
 
 session_ticked : (now : ℕ) (o : Option MeterSession) → IfSome o SessionSpeaks → IfSome (option_map_or (meters.session_within now) o None) SessionSpeaks
 session_ticked now None h = tt
-session_ticked now (Some s) h = by_time (calls.is_within 120 now s.since)
+session_ticked now (Some s) h = by_time (calls.is_within SESSION_TIME now s.since)
   where
     by_time : (b : Bool) → IfSome (if b then Some s else None) SessionSpeaks
     by_time true = h
@@ -125,7 +127,7 @@ ticked_speaks now x h = by_role x.role x.memory h
       waiting = waited now m h;
       randoms = h.randoms;
       session = h.session;
-      sessions = All-filter (λ (s : CoordinatorSession). calls.is_within 120 now s.since) ServerSpeaks m.sessions h.sessions;
+      sessions = All-filter (λ (s : CoordinatorSession). calls.is_within SESSION_TIME now s.since) ServerSpeaks m.sessions h.sessions;
     }
     by_role (Meter psk) (Some m) h =
         record { waiting = waited now m h; randoms = h.randoms; session = session_ticked now m.session h.session; sessions = h.sessions }

@@ -25,6 +25,7 @@ use Rattle.line_laws.proofs.NodeCalls.{NoGrant, NoPair, NoEui, NoWord, call_give
 use Rattle.line_laws.proofs.RangeFold.{InRange, ended_hops}
 use Rattle.line_laws.proofs.RangeFrames.{IsSent}
 use Rattle.line_laws.proofs.RangePlans.{RangeOk, plan_ranged}
+use Rattle.fragment_buffers.specs.declared.times.TheConstants.{WAITING_TIME}
 
 -- what a call without a frame is given
 pub call_ranged : (W : RingWord → Type 0) (cost note now : ℕ) (near : Option ℕ) → IfSome near (λ by. (by < 0xFFFE) × (cost < 2 ^ 16))
@@ -107,7 +108,7 @@ module _ (m : Memory) (h : IsStationRanged m.station) where
     ring = h.ring;
     tag = h.tag;
     hops = ended_hops (routing.is_old now) m.station.routing h.hops;
-    bodies = All-filter (λ (b : Body). calls.is_within 30 now b.since) IsBody m.station.waiting h.bodies;
+    bodies = All-filter (λ (b : Body). calls.is_within WAITING_TIME now b.since) IsBody m.station.waiting h.bodies;
     number = h.number;
   }
 

@@ -23,6 +23,7 @@ use Rattle.line_laws.specs.Stores.{IsReadable, IsStationKept}
 use Rattle.line_laws.proofs.Keeping.{Leads}
 use Rattle.line_laws.proofs.Beside.{Lasts, With, low_one, low_beside}
 use Rattle.line_laws.proofs.Slots.{ring_stays, counter_stays, number_stays, tag_stays, routing_stays, marks_stay}
+use Rattle.frame_counters.specs.declared.send_counter.TheConstants.{COUNTERS_AHEAD}
 
 -- # The ring
 
@@ -95,7 +96,7 @@ next_kept l r next k below = record {
   marks = k.marks;
 }
 
-pub counter_leads : (B : Records → Type 0) (lasts : Lasts B) (l : StationMemory) (count : ℕ) → count ≤ 1024 → l.counter.next + count ≤ 4294967295
+pub counter_leads : (B : Records → Type 0) (lasts : Lasts B) (l : StationMemory) (count : ℕ) → count ≤ COUNTERS_AHEAD → l.counter.next + count ≤ 4294967295
     → Leads (With B) l (puts_of (counter.reserve_write l.counter count)) (record l { counter = counter.reserved l.counter count })
 counter_leads B lasts l count few left = by_due (counter.passes l.counter count) refl
   where

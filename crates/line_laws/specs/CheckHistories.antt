@@ -26,13 +26,13 @@ use Rattle.line_laws.specs.ReachTraces.{FrameCame}
 -- # In a history
 
 -- A check is open: a reply began it, at a neighbour that had none and was not listed, with fewer than 64 open or listed; and no later entry ended it,
--- neither its acknowledgement nor a tick 2 seconds after it or later.
+-- neither its acknowledgement nor a tick `CHECK_TIME` after it or later.
 pub data IsOpen (c : OpenCheck) : History → Type 0 where
   Begins : (past : History) → may_begin (after_history past) c.neighbour ≡ true → IsOpen c (Reply c.neighbour c.number c.origin c.since ∷ past)
   StaysOpen : (entry : checking.Entry) (past : History) → IsOpen c past → ends c entry ≡ false → IsOpen c (entry ∷ past)
 
--- A neighbour is listed: a tick listed it, 2 seconds or more after a reply whose check was still open; and since then no tick came 300 seconds after
--- that one or later.
+-- A neighbour is listed: a tick listed it, `CHECK_TIME` or more after a reply whose check was still open; and since then no tick came `LISTED_TIME`
+-- after that one or later.
 pub data IsListed (l : ListedNeighbour) : History → Type 0 where
   Lists : (past : History) (c : OpenCheck) → IsOpen c past → c.neighbour ≡ l.neighbour → is_open_at l.since c ≡ false → IsListed l (Tick l.since ∷ past)
   StaysListed : (entry : checking.Entry) (past : History) → IsListed l past → lets_go l entry ≡ false → IsListed l (entry ∷ past)

@@ -31,6 +31,7 @@ use Rattle.node_rules.specs.Memory.{StationMemory, Body, address_of, next_hop}
 use Rattle.node_rules.specs.Plans.{resting}
 use Rattle.line_progress.specs.Fates.{KeepsPieces, Same, Gathers, HearingKeepsPieces, TicksHaveFates}
 use Rattle.line_progress.proofs.BodyFates.{kept_in}
+use Rattle.fragment_buffers.specs.declared.times.TheConstants.{REASSEMBLY_TIME, WAITING_TIME}
 
 -- # Plans
 
@@ -174,6 +175,6 @@ hearing_keeps l got cost note now = by_unit l got.path (unit_in got.payload) cos
 pub tick_fates : TicksHaveFates
 unfolding unexpired
 tick_fates l now = record {
-  bodies = λ b among young. kept_in (λ (c : Body). is_within 30 now c.since) b l.waiting among young;
-  pieces = λ r among young. kept_in (λ (s : Reassembly). is_within 60 now s.since) r l.reassemblies among young;
+  bodies = λ b among young. kept_in (λ (c : Body). is_within WAITING_TIME now c.since) b l.waiting among young;
+  pieces = λ r among young. kept_in (λ (s : Reassembly). is_within REASSEMBLY_TIME now s.since) r l.reassemblies among young;
 }

@@ -37,6 +37,7 @@ use Rattle.line_rules.specs.Forgery.{accepting}
 use Rattle.line_rules.specs.Further.{comes, line_step}
 use Rattle.line_rules.specs.Steps.{flight_by, is_taken, note_by}
 use Rattle.line_rules.specs.Worlds.{World, Flight, Trace, node_at}
+use Rattle.fragment_buffers.specs.declared.times.TheConstants.{REASSEMBLY_TIME, WAITING_TIME}
 
 -- it stands in the list
 pub data Among {A : Type 0} (x : A) : List A → Type 0 where
@@ -149,10 +150,10 @@ pub data KeepsPieces (l : StationMemory) (p : Hearing) : Type 0 where
 abbrev pub HearingKeepsPieces : Type 0
 HearingKeepsPieces = (l : StationMemory) (got : Accepted) (cost note now : ℕ) → KeepsPieces l (hear l got cost note now)
 
--- Time ends a body that came 30 seconds ago, and a reassembly that began 60 seconds ago, and nothing else of them.
+-- Time ends a body that came `WAITING_TIME` ago, and a reassembly that began `REASSEMBLY_TIME` ago, and nothing else of them.
 pub record TimeEndsOnlyOld (l : StationMemory) (now : ℕ) : Type 0 where
-  pub bodies : (b : Body) → Among b l.waiting → is_within 30 now b.since ≡ true → Among b (tick now l).waiting
-  pub pieces : (r : Reassembly) → Among r l.reassemblies → is_within 60 now r.since ≡ true → Among r (tick now l).reassemblies
+  pub bodies : (b : Body) → Among b l.waiting → is_within WAITING_TIME now b.since ≡ true → Among b (tick now l).waiting
+  pub pieces : (r : Reassembly) → Among r l.reassemblies → is_within REASSEMBLY_TIME now r.since ≡ true → Among r (tick now l).reassemblies
 
 abbrev pub TicksHaveFates : Type 0
 TicksHaveFates = (l : StationMemory) (now : ℕ) → TimeEndsOnlyOld l now

@@ -41,7 +41,7 @@ pub fn hearing_keeps_pieces()
     ensures { HearingKeepsPieces }
 {}
 
-/// Time ends only the bodies that have waited for 30 seconds, and the reassemblies that began 60 seconds ago.
+/// Time ends only the bodies that have waited for `WAITING_TIME`, and the reassemblies that began `REASSEMBLY_TIME` ago.
 pub fn ticks_have_fates()
     ensures { TicksHaveFates }
 {}

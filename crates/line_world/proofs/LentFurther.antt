@@ -53,6 +53,7 @@ use Rattle.reach_rules.specs.CheckedReplies.{hear_acknowledgement_in}
 use Rattle.reach_rules.specs.PathAsking.{ask_ends, ask_path, asks_by, asks_from, follows_path, hear_path_in, next_toward, path_word}
 use Rattle.reach_rules.specs.ReachingNodes.{Beside, Reaching, drop_it, in_reach, reach_ends, remembers, adds_local}
 use Rattle.reach_rules.specs.Receiving.{NeighbourCommand, hear_command, hear_command_at}
+use Rattle.broadcast_log.specs.declared.log.TheConstants.{BROADCASTS_AHEAD}
 
 -- # Slots
 
@@ -101,7 +102,7 @@ counter_apart c count = by_due (counter.passes c count)
 number_apart : (n : numbers.Numbering) → AreApart (puts_of (numbers.number_put n))
 number_apart n = by_due (passes n 1)
   where
-    by_due : (t : Bool) → AreApart (puts_of (if t then limit_write numbers.limit_at (raised numbers.limit_at 32 n.limit) else None))
+    by_due : (t : Bool) → AreApart (puts_of (if t then limit_write numbers.limit_at (raised numbers.limit_at BROADCASTS_AHEAD n.limit) else None))
     by_due true = one_apart _ (inl (omega arith, omega arith))
     by_due false = none_apart
 

@@ -8,7 +8,7 @@
 //! - `join` opens a session and sends JOIN to an agent: the coordinator, or a joined neighbour.
 //! - `station` lends the station, whose `accept` takes each frame; `hear` then takes a joining message or carries it on, and hands on
 //!   what the station makes of all else (`MeterHeard`). `send` and its like are the station's too.
-//! - `tick` ends what is old at a time in seconds, a session after 120. `leave` drops the ring; `restart` forgets all but the store, and
+//! - `tick` ends what is old at a time in seconds, a session after `SESSION_TIME`. `leave` drops the ring; `restart` forgets all but the store, and
 //!   ends a halt; `into_keeper` gives the store back.
 //!
 //! What its calls promise, by the names of their clauses:

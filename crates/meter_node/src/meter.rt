@@ -18,6 +18,7 @@ ghost use Rattle.meter_node.specs.Reading.{read_answer, IsOpenFault};
 use crate::pair_key::PairKey;
 use crate::session::Session;
 use joining_base::RandomValues;
+use node_rules::SESSION_TIME;
 use plc_base::{BadStore, Eui, Keeper, Key, Short, is_within};
 use plc_station::{OpenFault, Station};
 use std::alloc::Global;
@@ -140,7 +141,7 @@ impl<K: Keeper + Drop> Meter<K> {
         self.station.last_reply()
     }
 
-    /// Ends what is old at a time in seconds: what its station ends, and a session after 120. A halted meter stays as it is.
+    /// Ends what is old at a time in seconds: what its station ends, and a session after `SESSION_TIME`. A halted meter stays as it is.
     pub fn tick(&mut self, now: u64)
         requires agrees { Agrees self.old.station }
         ensures halted { IfNone self.old.station.memory (self.new ≡ self.old) }
@@ -172,13 +173,13 @@ impl<K: Keeper + Drop> Meter<K> {
     }
 }
 
-// Ends a session that began 120 seconds ago or before. It is looked at where it stands, since it has many octets and most ticks end none.
+// Ends a session that began `SESSION_TIME` ago or before. It is looked at where it stands, since it has many octets and most ticks end none.
 fn end_old(session: &mut Option<Session>, now: u64)
     ensures { option_map session_of session.new
         ≡ option_and_then (meters.session_within now) (option_map session_of session.old) }
 {
     let lasts = match session {
-        Some(session) => is_within(120, now, session.since),
+        Some(session) => is_within(SESSION_TIME, now, session.since),
         None => true,
     };
     if !lasts {

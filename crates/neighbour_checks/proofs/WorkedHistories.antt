@@ -9,7 +9,7 @@ open_since time = record { checks = check_of 1 2 2 time ∷ []; listed = [] }
 listed_since : (time : ℕ) → Neighbours
 listed_since time = record { checks = []; listed = record { neighbour = 1; since = time } ∷ [] }
 
--- open for two seconds
+-- open for the time of a check
 still_open : after_history (Tick 8 ∷ Reply 1 2 2 7 ∷ []) ≡ open_since 7
 unfolding after_history open_since
 still_open = refl
@@ -27,7 +27,7 @@ not_acknowledged : after_history (Acknowledgement 3 2 2 ∷ Acknowledgement 1 2 
 unfolding after_history open_since
 not_acknowledged = refl
 
--- listed for 300 seconds, from the tick on that ended the check
+-- listed for the time of a listing, from the tick on that ended the check
 still_listed : after_history (Tick 308 ∷ Reply 1 3 2 20 ∷ Tick 9 ∷ Reply 1 2 2 7 ∷ []) ≡ listed_since 9
 unfolding after_history listed_since
 still_listed = refl

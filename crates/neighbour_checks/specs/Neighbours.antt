@@ -4,6 +4,7 @@ use Rattle.std.specs.List.{filter, list_any}
 use Rattle.plc_base.specs.Times.{is_within}
 use Rattle.neighbour_checks.specs.declared.tables.OpenCheck.{OpenCheck}
 use Rattle.neighbour_checks.specs.declared.tables.ListedNeighbour.{ListedNeighbour}
+use Rattle.neighbour_checks.specs.declared.tables.TheConstants.{CHECK_TIME, LISTED_TIME}
 
 -- Open checks in the order in which they began, and listed neighbours in the order in which they were listed.
 pub record Neighbours : Type 0 where
@@ -21,13 +22,13 @@ is_of neighbour c = c.neighbour == neighbour
 abbrev pub waits_for : (neighbour number origin : ℕ) → OpenCheck → Bool
 waits_for neighbour number origin c = c.neighbour == neighbour && (c.number == number && c.origin == origin)
 
--- whether a check is still open at this time: fewer than 2 seconds have passed since its reply
+-- whether a check is still open at this time: its time has not passed since the reply
 abbrev pub is_open_at : (now : ℕ) → OpenCheck → Bool
-is_open_at now c = is_within 2 now c.since
+is_open_at now c = is_within CHECK_TIME now c.since
 
--- whether a neighbour is still listed at this time: fewer than 300 seconds have passed since it was listed
+-- whether a neighbour is still listed at this time: the time of a listing has not passed since it was listed
 abbrev pub is_listed_at : (now : ℕ) → ListedNeighbour → Bool
-is_listed_at now l = is_within 300 now l.since
+is_listed_at now l = is_within LISTED_TIME now l.since
 
 -- whether a neighbour has an open check
 abbrev pub has_check : Neighbours → ℕ → Bool
@@ -72,7 +73,7 @@ abbrev pub acked_after : Neighbours → (neighbour number origin : ℕ) → Neig
 acked_after s neighbour number origin =
     record s { checks = filter (λ c. not (waits_for neighbour number origin c)) s.checks }
 
--- after a tick: what was listed for 300 seconds is let go, and then the checks that ended are listed
+-- after a tick: what was listed for the time of a listing is let go, and then the checks that ended are listed
 abbrev pub tick_after : Neighbours → (now : ℕ) → Neighbours
 tick_after s now =
     record {

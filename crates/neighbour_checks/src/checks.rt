@@ -100,8 +100,8 @@ impl Checks {
         Ok(())
     }
 
-    /// The time is now this, in seconds. Neighbours that have been listed for 300 seconds are let go, and then the neighbours
-    /// whose checks have been open for 2 seconds are listed.
+    /// The time is now this, in seconds. Neighbours that have been listed for `LISTED_TIME` are let go, and then the
+    /// neighbours whose checks have been open for `CHECK_TIME` are listed.
     pub fn tick(&mut self, now: u64)
         ensures value { self.new ≡ tick_after self.old now }
         ensures history { LeadsOn self.old (Tick now) self.new }

@@ -1,6 +1,6 @@
 //! Checks of neighbours, after the RREP_ACK of draft-clausen-lln-loadng: a neighbour that does not acknowledge a route reply
-//! within two seconds is listed for 300 seconds, and its route requests are not believed. The layout of octets and the times
-//! are this network's own.
+//! within [`CHECK_TIME`] is listed for [`LISTED_TIME`], and its route requests are not believed. The layout of octets and the
+//! times are this network's own.
 //!
 //! - [`Checks`]: `sent` for each route reply that goes out, `acked` for each acknowledgement that comes, `tick` at a time in seconds. `listed`
 //!   says whether a neighbour's route requests are believed; `clear` forgets all, as a restart does.
@@ -25,4 +25,4 @@ mod tables;
 
 pub use acks::{read_ack, write_ack};
 pub use checks::{Checks, NotAwaited};
-pub use tables::{ListedNeighbour, OpenCheck};
+pub use tables::{CHECK_TIME, LISTED_TIME, ListedNeighbour, OpenCheck};

@@ -7,6 +7,14 @@ use arrayvec::ArrayVec;
 use plc_base::{Short, is_within};
 use std::marker::Model;
 
+/// How long a neighbour has to acknowledge a route reply, in seconds (RREP_ACK of draft-clausen-lln-loadng; the value is this
+/// network's own).
+pub const CHECK_TIME: u64 = 2;
+
+/// How long a neighbour that did not acknowledge is listed, in seconds (the blacklisted neighbours of
+/// draft-clausen-lln-loadng; the value is this network's own).
+pub const LISTED_TIME: u64 = 300;
+
 /// A check that is open: a route reply that a neighbour has still to acknowledge.
 #[derive(Clone, Copy, Debug, Default)]
 pub struct OpenCheck {
@@ -103,7 +111,7 @@ impl OpenChecks {
             .retain(|check| !check.waits_for(neighbour, number, origin));
     }
 
-    /// Ends what 2 seconds have passed for.
+    /// Ends what has been open for the time of a check.
     pub(crate) fn expire(&mut self, now: u64)
         ensures { self.new ≡ filter (neighbours.is_open_at now) self.old }
     {
@@ -128,20 +136,20 @@ impl OpenCheck {
             && self.origin.number() == origin.number()
     }
 
-    // Whether fewer than 2 seconds have passed since its reply.
+    // Whether the time of a check has not passed since its reply.
     fn is_open_at(&self, now: u64) -> bool
         ensures { result ≡ neighbours.is_open_at now self.now }
     {
-        is_within(2, now, self.since)
+        is_within(CHECK_TIME, now, self.since)
     }
 }
 
 impl ListedNeighbour {
-    // Whether fewer than 300 seconds have passed since it was listed.
+    // Whether the time of a listing has not passed since it was listed.
     fn is_listed_at(&self, now: u64) -> bool
         ensures { result ≡ neighbours.is_listed_at now self.now }
     {
-        is_within(300, now, self.since)
+        is_within(LISTED_TIME, now, self.since)
     }
 }
 
@@ -187,14 +195,14 @@ impl ListedNeighbours {
             .any(|listed| listed.neighbour.number() == neighbour.number())
     }
 
-    /// Lets those go that have been listed for 300 seconds.
+    /// Lets those go that have been listed for the time of a listing.
     pub(crate) fn expire(&mut self, now: u64)
         ensures { self.new ≡ filter (neighbours.is_listed_at now) self.old }
     {
         self.items.retain(|listed| listed.is_listed_at(now));
     }
 
-    // Lists the neighbour of a check, if 2 seconds have passed for it.
+    // Lists the neighbour of a check, if the time of a check has passed for it.
     fn list_one(&mut self, check: &OpenCheck, now: u64)
         requires { length self.old + length (neighbours.newly_listed now (check.now ∷ [])) ≤ 64 }
         ensures { self.new ≡ self.old ++ neighbours.newly_listed now (check.now ∷ []) }
@@ -208,7 +216,7 @@ impl ListedNeighbours {
         });
     }
 
-    /// Lists the neighbours of those checks that 2 seconds have passed for.
+    /// Lists the neighbours of those checks that the time of a check has passed for.
     pub(crate) fn list(&mut self, checks: &[OpenCheck], now: u64)
         requires { length self.old + length (neighbours.newly_listed now checks.now) ≤ 64 }
         ensures { self.new ≡ self.old ++ neighbours.newly_listed now checks.now }

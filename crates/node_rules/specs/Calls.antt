@@ -108,7 +108,7 @@ room l to octets = option_map_or (λ _. room_fault l to octets) (address_of l) (
 abbrev pub broke : ℕ → StationMemory → StationMemory
 broke next l = record l { routing = routing.without_next l.routing next }
 
--- the routes end that were offered 21,600 seconds ago, the reassemblies that began 60 and the bodies that came 30 seconds ago
+-- what is held ends as its time passes: the routes, the reassemblies and the bodies that wait
 abbrev pub tick : ℕ → StationMemory → StationMemory
 tick now l = record l {
   routing = routing.expired l.routing now;

@@ -43,6 +43,7 @@ use Rattle.eap_psk.specs.Sessions.{rand_p_in}
 use Rattle.node_rules.specs.MemoryDrafts.{with_station, in_memory, on_station, with_memory_by, with_pair_tags, goes_down, is_commanded, command_lack, oldest}
 use Rattle.node_rules.specs.MemoryDrafts.{without_oldest, Unread, unread, packet_fault}
 use Rattle.node_rules.specs.Drafts as drafts
+use Rattle.node_rules.specs.declared.session_time.TheConstants.{SESSION_TIME}
 
 -- what the coordinator does about a frame that was accepted
 abbrev pub Hearing : Type 0
@@ -393,5 +394,5 @@ abbrev pub tick : ℕ → Memory → Memory
 tick now m =
     record m {
       station = calls.tick now m.station;
-      sessions = filter (λ (s : CoordinatorSession). calls.is_within 120 now s.since) m.sessions;
+      sessions = filter (λ (s : CoordinatorSession). calls.is_within SESSION_TIME now s.since) m.sessions;
     }

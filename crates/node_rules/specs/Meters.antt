@@ -38,6 +38,7 @@ use Rattle.node_rules.specs.Joining.{is_first, message}
 use Rattle.eap_psk.specs.Sessions.{peer_for, identifier_of, agreed_by}
 use Rattle.node_rules.specs.MemoryDrafts.{with_station, in_memory, on_station, with_memory_by, with_pair_tags, goes_up, goes_down, is_commanded, command_lack}
 use Rattle.node_rules.specs.MemoryDrafts.{oldest, without_oldest, Unread, unread, packet_fault}
+use Rattle.node_rules.specs.declared.session_time.TheConstants.{SESSION_TIME}
 
 -- what a meter does about a frame that was accepted
 abbrev pub Hearing : Type 0
@@ -295,9 +296,9 @@ leave m = choose (is_joined m) (sealing in_memory leaving_ends (leaves m) tt) (r
 abbrev pub provision : Memory → Granted → Plan Memory (Result (Unit {0}) RingFault)
 provision m granted = within (λ l. with_station l m) (λ r. r) (calls.install m.station granted)
 
--- a session that began 120 seconds ago ends
+-- a session ends whose time has passed
 abbrev pub session_within : ℕ → MeterSession → Option MeterSession
-session_within now s = if calls.is_within 120 now s.since then Some s else None
+session_within now s = if calls.is_within SESSION_TIME now s.since then Some s else None
 
 -- the clock goes on: what is too old ends
 abbrev pub tick : ℕ → Memory → Memory

@@ -25,6 +25,7 @@ mod heard;
 mod laws;
 mod octet_laws;
 mod refusal;
+mod session_time;
 mod shown;
 mod table_laws;
 
@@ -48,6 +49,7 @@ pub use refusal::{
     CoordinatorRefusal, Dropped, FrameRefusal, Halted, JoinRefusal, LeaveRefusal, LocalRefusal,
     PresetFault, RandomFault, SendRefusal,
 };
+pub use session_time::SESSION_TIME;
 pub use shown::{Shown, ShownPeer, ShownPeers, ShownRef, ShownRoute, ShownRoutes};
 pub use table_laws::{
     carrying_out_keeps_home, carrying_out_keeps_tables, coordinators_write_home,

@@ -1,5 +1,6 @@
 //! Keys and random values of 16 octets.
-ghost use Rattle.std.specs.Prelude.{◌≡◌, replicate};
+ghost use Rattle.std.specs.Prelude.{◌≡◌, replicate, codes, Some};
+ghost use Rattle.std.specs.Fmt.{WritesStyledOnOk};
 
 use std::fmt;
 
@@ -8,15 +9,30 @@ use std::fmt;
 pub struct Key(pub [u8; 16]);
 
 impl fmt::Debug for Key {
+    ghost debug_output = { λ _. Some (codes "Key(..)") };
+
     /// Shows that it is a key, and not its octets, so that no log has them.
-    fn fmt<W: fmt::Write>(&self, f: &mut fmt::Formatter<W>) -> fmt::Result {
+    fn fmt<W: fmt::Write>(&self, f: &mut fmt::Formatter<W>) -> fmt::Result
+        ensures styled { WritesStyledOnOk W.write_str_gives f.old result (codes "Key(..)") f.new }
+    {
         f.write_str("Key(..)")
     }
 }
 
 /// A random value of an EAP-PSK session: 16 octets (RFC 4764, 5.1).
-#[derive(Clone, Copy, Debug, PartialEq, Eq)]
+#[derive(Clone, Copy, PartialEq, Eq)]
 pub struct Rand(pub [u8; 16]);
+
+impl fmt::Debug for Rand {
+    ghost debug_output = { λ _. Some (codes "Rand(..)") };
+
+    /// Shows that it is a random value, and not its octets: they are secret as long as their session is open.
+    fn fmt<W: fmt::Write>(&self, f: &mut fmt::Formatter<W>) -> fmt::Result
+        ensures styled { WritesStyledOnOk W.write_str_gives f.old result (codes "Rand(..)") f.new }
+    {
+        f.write_str("Rand(..)")
+    }
+}
 
 impl Default for Rand {
     /// A blank of zeros, for an unused place.

@@ -1,5 +1,5 @@
 //! Octet strings of bounded length, which take no memory.
-ghost use Rattle.std.specs.Prelude.{◌≡◌, ◌≤◌, ◌<◌, ◌+◌, ◌++◌, ◌∷◌, ◌↔◌, List, [], length, IsTrue, nat_eq};
+ghost use Rattle.std.specs.Prelude.{◌≡◌, ◌≤◌, ◌<◌, ◌+◌, ◌++◌, ◌∷◌, ◌↔◌, List, [], length, IsTrue, IsSome, IfSome, nat_eq};
 ghost use Rattle.std.proofs.Common.{rules};
 ghost use Rattle.std.specs.Cmp.Lexicographic.{pointwise};
 ghost use Rattle.std.specs.Cmp.Rules.{comparing};
@@ -57,6 +57,17 @@ impl<const N: usize> Octets<N> {
         Octets {
             items: ArrayVec::try_from(octets).unwrap(),
         }
+    }
+
+    /// These octets, or None where there are more than `N`.
+    pub fn try_from_octets(octets: &[u8]) -> Option<Octets<N>>
+        ensures fits { IsSome result ↔ (length octets.now ≤ N) }
+        ensures value { IfSome result (λ taken. taken ≡ octets.now) }
+    {
+        if octets.len() > N {
+            return None;
+        }
+        Some(Octets::from_octets(octets))
     }
 
     /// The octets as a slice.

@@ -50,6 +50,7 @@ use Rattle.reach_rules.specs.Receiving.{NeighbourCommand, hear_command_at, hear_
 use Rattle.reach_rules.specs.Laws.{CommandsRefuseCleanly, CallsRefuseCleanly, CommandsWriteInTurn, CallsWriteInTurn, CommandsSendCommands, CallsSendCommands}
 use Rattle.reach_rules.specs.Laws.{CommandsKeepTheRest, CallsKeepTheRest, AcknowledgementsAreCommands, KeepsTheRest, SendsACommand, AtMostACommand}
 use Rattle.reach_rules.specs.Laws.{MarkedBeforeTheCounter, frames_on}
+use Rattle.broadcast_log.specs.declared.log.TheConstants.{BROADCASTS_AHEAD}
 
 -- # Turns
 
@@ -80,7 +81,7 @@ mark_turn table origin number = by_place (place_of table origin)
 number_turn : (n : Numbering) → InTurn 0 3 (puts_of (number_put n))
 number_turn n = by_limit (passes n 1)
   where
-    by_limit : (b : Bool) → InTurn 0 3 (puts_of (if b then limit_write limit_at (raised limit_at 32 n.limit) else None))
+    by_limit : (b : Bool) → InTurn 0 3 (puts_of (if b then limit_write limit_at (raised limit_at BROADCASTS_AHEAD n.limit) else None))
     by_limit true = (omega arith, omega arith)
     by_limit false = omega arith
 

@@ -11,6 +11,7 @@ use Rattle.routing_set.specs.declared.entry.Route.{Route}
 use Rattle.routing_set.specs.declared.entry.RoutingEntry.{RoutingEntry}
 use Rattle.routing_set.specs.RoutingSet.{Routing, is_old, without_route, expired}
 use Rattle.routing_set.specs.FirstEnd.{end_by, first_end, Lasts, IsStill}
+use Rattle.routing_set.specs.declared.entry.TheConstants.{ROUTE_VALID_TIME}
 
 -- a route lasts until every time before one until which it lasts
 sooner : (a b : ℕ) (route : Option Route) → a ≤ b → Lasts b route → Lasts a route
@@ -19,10 +20,10 @@ sooner a b (Some r) le h = omega (arith, le, h)
 
 -- with an entry more, the time is no later, and its route lasts until then
 with_one : (time : ℕ) (route : Option Route)
-    → (option_map_or (λ r. earlier_end 21600 time r.offered) route time ≤ time)
-    × Lasts (option_map_or (λ r. earlier_end 21600 time r.offered) route time) route
+    → (option_map_or (λ r. earlier_end ROUTE_VALID_TIME time r.offered) route time ≤ time)
+    × Lasts (option_map_or (λ r. earlier_end ROUTE_VALID_TIME time r.offered) route time) route
 with_one time None = (omega arith, tt)
-with_one time (Some r) = earlier time (r.offered + 21600)
+with_one time (Some r) = earlier time (r.offered + ROUTE_VALID_TIME)
 
 -- what is computed is such a time
 pub still : (entries : List RoutingEntry) → IsStill (first_end entries) entries
@@ -50,9 +51,10 @@ still_unrouted time entries h = λ k d lt. subst (Lasts time) (sym (h k d lt)) t
 -- # A tick
 
 -- a route that lasts is not old before
-not_old : (time now : ℕ) (route : Option Route) → now < time → Lasts time route → option_map_or (λ r. not (is_within 21600 now r.offered)) route false ≡ false
+not_old : (time now : ℕ) (route : Option Route) → now < time → Lasts time route
+    → option_map_or (λ r. not (is_within ROUTE_VALID_TIME now r.offered)) route false ≡ false
 not_old time now None lt h = refl
-not_old time now (Some r) lt h = ap not (lt-ltb now (r.offered + 21600) (omega (arith, lt, h)))
+not_old time now (Some r) lt h = ap not (lt-ltb now (r.offered + ROUTE_VALID_TIME) (omega (arith, lt, h)))
 
 -- an entry after the old routes have ended
 abbrev rested : ℕ → RoutingEntry → RoutingEntry

@@ -8,6 +8,7 @@ use Rattle.store_tables.specs.declared.number_slot.NumberSlot.{NumberSlot}
 use Rattle.plc_base.specs.declared.keeper.BadStore.{BadStore}
 use Rattle.routing_set.specs.declared.fault.NumberFault.{NumberFault}
 use Rattle.routing_set.specs.declared.fault.NumberFault.TheVariants.{SeqSpent, Store}
+use Rattle.routing_set.specs.declared.own_number.TheConstants.{OWN_NUMBERS_AHEAD}
 
 -- The limit that is stored, which no number that was given out passes, and the number that was given out last.
 pub record Numbering : Type 0 where
@@ -65,7 +66,7 @@ limit_write limit = numbers.limit_write limit_at limit
 
 -- the next limit
 abbrev pub raised : ℕ → ℕ
-raised limit = numbers.raised limit_at 32 limit
+raised limit = numbers.raised limit_at OWN_NUMBERS_AHEAD limit
 
 -- whether the number after the last one passes the limit
 abbrev pub passes : Numbering → Bool
@@ -73,11 +74,11 @@ passes numbering = numbers.passes (counting_of numbering) 1
 
 -- what is stored before one number more is given out
 abbrev pub advance_write : Numbering → Option Write
-advance_write n = numbers.reserve_write limit_at 32 (counting_of n) 1
+advance_write n = numbers.reserve_write limit_at OWN_NUMBERS_AHEAD (counting_of n) 1
 
 -- the number after one more was given out
 abbrev pub advanced : Numbering → Numbering
-advanced n = numbering_of (numbers.reserved limit_at 32 (counting_of n) 1)
+advanced n = numbering_of (numbers.reserved limit_at OWN_NUMBERS_AHEAD (counting_of n) 1)
 
 -- whether no number is left
 abbrev pub is_spent : Numbering → Bool

@@ -20,6 +20,7 @@ use Rattle.routing_set.specs.declared.rank.Rank.{Rank}
 use Rattle.routing_set.specs.declared.entry.Route.{Route}
 use Rattle.routing_set.specs.declared.entry.RoutingEntry.{RoutingEntry}
 use Rattle.routing_set.specs.Ranks.{rank_code, beats}
+use Rattle.routing_set.specs.declared.entry.TheConstants.{ROUTE_FRESH_TIME, ROUTE_VALID_TIME}
 
 -- What a node knows of ways to other addresses.
 pub record Routing : Type 0 where
@@ -179,9 +180,9 @@ is_better routing dest rank = beats rank (held routing dest)
 
 -- # Forgetting
 
--- whether an entry has a valid route that was offered less than 60 seconds ago
+-- whether an entry has a valid route that is fresh
 abbrev pub is_fresh : ℕ → RoutingEntry → Bool
-is_fresh now e = option_map_or (λ route. is_within 60 now route.offered) e.route false
+is_fresh now e = option_map_or (λ route. is_within ROUTE_FRESH_TIME now route.offered) e.route false
 
 -- which of two numbers with their addresses comes first: the lower one, of equal ones that of the lower address
 abbrev pub comes_first : ℕ → ℕ → ℕ → ℕ → Bool
@@ -307,9 +308,9 @@ pub record Keeps (old half after : Routing) (done : Bool) (before records : Reco
 abbrev pub goes_by : ℕ → RoutingEntry → Bool
 goes_by next e = option_map_or (λ route. route.next == next) e.route false
 
--- whether an entry has a valid route that was offered 21,600 seconds ago or before
+-- whether an entry has a route that is valid no more
 abbrev pub is_old : ℕ → RoutingEntry → Bool
-is_old now e = option_map_or (λ route. not (is_within 21600 now route.offered)) e.route false
+is_old now e = option_map_or (λ route. not (is_within ROUTE_VALID_TIME now route.offered)) e.route false
 
 -- the routes end of which a test holds; every rank and floor stays
 abbrev pub ended : (RoutingEntry → Bool) → Routing → Routing

@@ -15,7 +15,7 @@ pub(crate) enum Ending {
     To(Short, Short),
     // Every one.
     Every,
-    // Those that were offered 21,600 seconds before a time or earlier.
+    // Those that were offered `ROUTE_VALID_TIME` before a time or earlier.
     Old(u64),
 }
 

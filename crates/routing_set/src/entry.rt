@@ -31,11 +31,13 @@ pub struct RoutingEntry {
 /// The first slot of the ranks.
 const FIRST_SLOT: u32 = 0x0200;
 
-/// How long after its offer an entry with a valid route is not forgotten, in seconds.
-const FRESH_TIME: u64 = 60;
+/// How long a route counts as fresh after its offer, in seconds: an entry is not forgotten for another address as long as its
+/// route is fresh (a rule of this network).
+pub const ROUTE_FRESH_TIME: u64 = 60;
 
-/// How long a route is valid after its offer, in seconds.
-const VALID_TIME: u64 = 21_600;
+/// How long a route is valid after its offer, in seconds (the validity time of a Routing Tuple of LOADng; the value is this
+/// network's own).
+pub const ROUTE_VALID_TIME: u64 = 21_600;
 
 impl SlotEntry for RoutingEntry {
     ghost use Rattle.std.specs.Prelude.{refl};
@@ -82,22 +84,22 @@ impl SlotEntry for RoutingEntry {
 }
 
 impl RoutingEntry {
-    // Whether it has a valid route that was offered less than 60 seconds ago.
+    // Whether it has a valid route that is fresh.
     pub(crate) fn is_fresh(&self, now: u64) -> bool
         ensures { result ≡ is_fresh now self.now }
     {
         match self.route {
-            Some(route) => is_within(FRESH_TIME, now, route.offered),
+            Some(route) => is_within(ROUTE_FRESH_TIME, now, route.offered),
             None => false,
         }
     }
 
-    // Whether it has a valid route that was offered 21,600 seconds ago or before.
+    // Whether it has a route that is valid no more at this time.
     pub(crate) fn is_old(&self, now: u64) -> bool
         ensures { result ≡ is_old now self.now }
     {
         match self.route {
-            Some(route) => !is_within(VALID_TIME, now, route.offered),
+            Some(route) => !is_within(ROUTE_VALID_TIME, now, route.offered),
             None => false,
         }
     }
@@ -107,7 +109,7 @@ impl RoutingEntry {
         ensures { result ≡ end_by time self.now }
     {
         match self.route {
-            Some(route) => earlier_end(VALID_TIME, time, route.offered),
+            Some(route) => earlier_end(ROUTE_VALID_TIME, time, route.offered),
             None => time,
         }
     }

@@ -13,7 +13,7 @@ pub enum Offered {
 /// Why an offer that is better was not taken.
 #[derive(Clone, Copy, Debug, PartialEq, Eq, Error)]
 pub enum OfferFault {
-    /// No rank is kept for the address, 64 are kept, and each has a valid route that was offered less than 60 seconds ago.
+    /// No rank is kept for the address, 64 are kept, and each has a fresh route ([`crate::ROUTE_FRESH_TIME`]).
     #[error("there is no room for another rank")]
     RoutesFull,
     /// The put of the floors or of the rank failed.

@@ -19,7 +19,7 @@ pub fn endings_keep_ranks()
 {}
 
 /// The rank that is forgotten is the first in order of those that may be, and there is one exactly where not every entry has a
-/// valid route that was offered less than 60 seconds ago.
+/// fresh route.
 pub fn the_first_is_forgotten()
     ensures { TheFirstIsForgotten }
 {}

@@ -17,7 +17,7 @@
 //! - `open` gives what the records say; BadStore names one that has no reading (`bad`).
 //!
 //! A set takes its memory when it is opened, and none after that. There is no `unsafe`. Times are the caller's, in seconds: a route that
-//! is not offered anew ends after 21,600. Nothing is said of whether a next hop still hears the node; that no loops form is a law of whole
+//! is not offered anew ends after [`ROUTE_VALID_TIME`]. Nothing is said of whether a next hop still hears the node; that no loops form is a law of whole
 //! lines (`line_laws`).
 //!
 //! For example, `routing.offer(&mut keeper, dest, number, cost, next, now)?` takes a route reply, and `routing.route(dest)` is then
@@ -33,8 +33,8 @@ mod own_number;
 mod rank;
 mod routing_set;
 
-pub use entry::{Route, RoutingEntry};
+pub use entry::{ROUTE_FRESH_TIME, ROUTE_VALID_TIME, Route, RoutingEntry};
 pub use fault::{NumberFault, OfferFault, Offered};
-pub use own_number::OwnNumber;
+pub use own_number::{OWN_NUMBERS_AHEAD, OwnNumber};
 pub use rank::Rank;
 pub use routing_set::RoutingSet;

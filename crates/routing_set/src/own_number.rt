@@ -10,6 +10,9 @@ use plc_base::{BadStore, Failed, Keeper};
 use std::marker::Model;
 use store_tables::Numbering as Numbers;
 
+/// How far the limit that is stored is raised ahead of the numbers that are given out (a rule of this network).
+pub const OWN_NUMBERS_AHEAD: u32 = 32;
+
 /// Gives out the numbers of the route messages that a node begins, each higher than the last, also over losses of power: a
 /// limit is stored ahead, and a new start goes on at it (the sequence number of LOADng).
 ///
@@ -17,7 +20,7 @@ use store_tables::Numbering as Numbers;
 #[derive(Drop, Debug)]
 pub struct OwnNumber {
     // The number that it gives out next is the last one here.
-    numbers: Numbers<3, 2, 1, 32>,
+    numbers: Numbers<3, 2, 1, OWN_NUMBERS_AHEAD>,
 }
 
 impl Model for OwnNumber {
@@ -55,7 +58,7 @@ impl OwnNumber {
         self.numbers.next() as u16
     }
 
-    /// Gives out the number after the last one. Where it passes the limit, the smaller of last + 32 and 65,535 is stored
+    /// Gives out the number after the last one. Where it passes the limit, the smaller of last + `OWN_NUMBERS_AHEAD` and 65,535 is stored
     /// first.
     ///
     /// Only a failed put is an error. The number is then as it was, but may not be used until it is opened again.
@@ -75,7 +78,7 @@ impl OwnNumber {
         Ok(last as u16 + 1)
     }
 
-    /// Gives out the number after the last one. Where it passes the limit, the smaller of last + 32 and 65,535 is stored
+    /// Gives out the number after the last one. Where it passes the limit, the smaller of last + `OWN_NUMBERS_AHEAD` and 65,535 is stored
     /// first.
     ///
     /// SeqSpent exactly where the last number is 65,535. Store where that put failed, and then the number may not be used

@@ -195,7 +195,7 @@ impl RoutingSet {
     }
 
     /// Whether there is no place for the rank of an address: none is kept for it, 64 are kept, and each has a valid route that
-    /// was offered after `now` - 60.
+    /// was offered after `now` - `ROUTE_FRESH_TIME`.
     #[tactic(auto, unfolding(crate::specs::RoutingSet::is_full))]
     pub fn full(&self, dest: Short, now: u64) -> bool
         ensures { result ≡ is_full self.now dest now }
@@ -206,7 +206,7 @@ impl RoutingSet {
         self.table.is_full() && self.all_fresh(now)
     }
 
-    // Whether each entry has a valid route that was offered after `now` - 60.
+    // Whether each entry has a valid route that was offered after `now` - `ROUTE_FRESH_TIME`.
     fn all_fresh(&self, now: u64) -> bool
         ensures { result ≡ list_all (is_fresh now) self.now.entries }
     {
@@ -290,7 +290,7 @@ impl RoutingSet {
 
     /// Keeps a better rank of an address, with a valid route by `next`, offered at `now`, in seconds. Where no rank is kept for
     /// the address and 64 are kept, the one that goes first is forgotten: of those with no valid route the one of the least
-    /// number, else of those offered at `now` - 60 or before the earliest; of equal ones that of the least address. The floors
+    /// number, else of those offered at `now` - `ROUTE_FRESH_TIME` or before the earliest; of equal ones that of the least address. The floors
     /// are stored first, where one rises, then the rank.
     ///
     /// Only a failed put is an error. What is kept is then as it was, but may not be used until it is opened again.
@@ -328,7 +328,7 @@ impl RoutingSet {
     ///
     /// `Offered::NotBetter` exactly where the number and the cost do not beat `held(dest)`; nothing changes. RoutesFull exactly
     /// where they do, no rank is kept for the address, 64 are kept, and each has a valid route that was offered after
-    /// `now` - 60; nothing changes. Store where a put failed, and then nothing of this may be used until it is opened again.
+    /// `now` - `ROUTE_FRESH_TIME`; nothing changes. Store where a put failed, and then nothing of this may be used until it is opened again.
     pub fn offer<K: Keeper>(
         &mut self,
         keeper: &mut K,
@@ -415,7 +415,7 @@ impl RoutingSet {
         self.end_routes(&Ending::Every);
     }
 
-    /// Ends each route that was offered at `now` - 21,600 or before, in seconds. Every rank and floor stays.
+    /// Ends each route that was offered at `now` - `ROUTE_VALID_TIME` or before, in seconds. Every rank and floor stays.
     pub fn expire(&mut self, now: u64)
         ensures routing { self.new ≡ expired self.old now }
         ensures kept { (records : Records) → AgreesWith self.old records → AgreesWith self.new records }

@@ -18,9 +18,10 @@ use Rattle.fragment_buffers.proofs.FirstEnds.{none_expires, still_sooner, still_
 use Rattle.station_queues.specs.Bodies.{Held, Slot}
 use Rattle.station_queues.specs.BodiesInPool.{body_in, bodies_in}
 use Rattle.station_queues.specs.FirstEnd.{end_by, first_end, IsStill}
+use Rattle.fragment_buffers.specs.declared.times.TheConstants.{REASSEMBLY_TIME, WAITING_TIME}
 
-slots_last : (ws : List Slot) (time : ℕ) → (fold end_by time ws ≤ time) × All (λ w. fold end_by time ws ≤ w.since + 30) ws
-slots_last ws time = all_last end_by (λ (time : ℕ) (w : Slot). time ≤ w.since + 30) (λ time w. earlier time (w.since + 30))
+slots_last : (ws : List Slot) (time : ℕ) → (fold end_by time ws ≤ time) × All (λ w. fold end_by time ws ≤ w.since + WAITING_TIME) ws
+slots_last ws time = all_last end_by (λ (time : ℕ) (w : Slot). time ≤ w.since + WAITING_TIME) (λ time w. earlier time (w.since + WAITING_TIME))
     (λ sooner later w le lasts. omega (arith, le, lasts)) ws time
 
 -- what is computed is such a time
@@ -28,7 +29,7 @@ pub still : (pool : PoolState) (es : List Entry) (ws : List Slot) (time : ℕ) �
     → IsStill (fold end_by time ws) (record { reassemblies = reassemblies_in pool es; waiting = bodies_in pool ws })
 still pool es ws time before = record {
   gathered = still_sooner (fold end_by time ws) time (reassemblies_in pool es) (slots_last ws time).0 before;
-  waiting = All-map (λ (b : Body). fold end_by time ws ≤ b.since + 30) (body_in pool) ws (slots_last ws time).1;
+  waiting = All-map (λ (b : Body). fold end_by time ws ≤ b.since + WAITING_TIME) (body_in pool) ws (slots_last ws time).1;
 }
 
 -- what is computed is the first end
@@ -37,39 +38,40 @@ pub is_first : (pool : PoolState) (es : List Entry) (ws : List Slot)
 unfolding first_end pieces.first_end
 is_first pool es ws =
     ap (λ (time : ℕ). fold end_by time ws)
-    (sym (fold-map (λ (time : ℕ) (r : Reassembly). earlier_end 60 time r.since) (reassembly_in pool) 18446744073709551615 es))
-    ∙ sym (fold-map (λ (time : ℕ) (b : Body). earlier_end 30 time b.since) (body_in pool) _ ws)
+    (sym (fold-map (λ (time : ℕ) (r : Reassembly). earlier_end REASSEMBLY_TIME time r.since) (reassembly_in pool) 18446744073709551615 es))
+    ∙ sym (fold-map (λ (time : ℕ) (b : Body). earlier_end WAITING_TIME time b.since) (body_in pool) _ ws)
 
-wait_sooner : (a b : ℕ) (bs : List Body) → a ≤ b → All (λ x. b ≤ x.since + 30) bs → All (λ x. a ≤ x.since + 30) bs
+wait_sooner : (a b : ℕ) (bs : List Body) → a ≤ b → All (λ x. b ≤ x.since + WAITING_TIME) bs → All (λ x. a ≤ x.since + WAITING_TIME) bs
 wait_sooner a b bs le h = λ k d lt. omega (arith, le, h k d lt)
 
 -- # Something comes
 
-pub still_taken_in : (h : Held) (origin : ℕ) (piece : Placed) (note now time first : ℕ) → first ≡ earlier_end 60 time now → IsStill time h
+pub still_taken_in : (h : Held) (origin : ℕ) (piece : Placed) (note now time first : ℕ) → first ≡ earlier_end REASSEMBLY_TIME time now → IsStill time h
     → IsStill first (record h { reassemblies = (taken h.reassemblies origin piece note now).held })
 still_taken_in h origin piece note now time first is s =
-    let one = earlier time (now + 60) in
+    let one = earlier time (now + REASSEMBLY_TIME) in
     let before : first ≤ time = omega (arith, is, one.0) in
     record {
       gathered = still_taken h.reassemblies origin piece note now first (omega (arith, is, one.1)) (still_sooner first time h.reassemblies before s.gathered);
       waiting = wait_sooner first time h.waiting before s.waiting;
     }
 
-pub still_pushed : (h : Held) (b : Body) (time first : ℕ) → first ≡ earlier_end 30 time b.since → IsStill time h
+pub still_pushed : (h : Held) (b : Body) (time first : ℕ) → first ≡ earlier_end WAITING_TIME time b.since → IsStill time h
     → IsStill first (record h { waiting = h.waiting ++ b ∷ [] })
 still_pushed h b time first is s =
-    let one = earlier time (b.since + 30) in
+    let one = earlier time (b.since + WAITING_TIME) in
     let before : first ≤ time = omega (arith, is, one.0) in
     record {
       gathered = still_sooner first time h.reassemblies before s.gathered;
-      waiting = All-push (λ (x : Body). first ≤ x.since + 30) h.waiting b (wait_sooner first time h.waiting before s.waiting) (omega (arith, is, one.1));
+      waiting =
+          All-push (λ (x : Body). first ≤ x.since + WAITING_TIME) h.waiting b (wait_sooner first time h.waiting before s.waiting) (omega (arith, is, one.1));
     }
 
 -- # Something goes
 
 pub still_removed : (h : Held) (index time : ℕ) → IsStill time h → IsStill time (record h { waiting = remove h.waiting index })
 still_removed h index time s =
-    let P : Body → Type 0 = λ b. time ≤ b.since + 30 in
+    let P : Body → Type 0 = λ b. time ≤ b.since + WAITING_TIME in
     record {
       gathered = s.gathered;
       waiting =
@@ -77,19 +79,19 @@ still_removed h index time s =
     }
 
 pub still_cleared : (h : Held) (time : ℕ) → IsStill time h → IsStill time (record h { reassemblies = [] })
-still_cleared h time s = record { gathered = All-nil (λ (r : Reassembly). time ≤ r.since + 60); waiting = s.waiting }
+still_cleared h time s = record { gathered = All-nil (λ (r : Reassembly). time ≤ r.since + REASSEMBLY_TIME); waiting = s.waiting }
 
 pub still_left : (h : Held) (now time : ℕ) → IsStill time h → IsStill time (record h { reassemblies = unexpired h.reassemblies now })
 still_left h now time s = record { gathered = still_unexpired h.reassemblies time now s.gathered; waiting = s.waiting }
 
 -- # A tick
 
-all_wait : (bs : List Body) (time now : ℕ) → now < time → All (λ b. time ≤ b.since + 30) bs → still_waiting now bs ≡ bs
+all_wait : (bs : List Body) (time now : ℕ) → now < time → All (λ b. time ≤ b.since + WAITING_TIME) bs → still_waiting now bs ≡ bs
 all_wait [] time now lt h = refl
 all_wait (b ∷ bs) time now lt h =
-    let one = All-head (λ (x : Body). time ≤ x.since + 30) b bs h in
-    cond-true _ _ _ (lt-ltb now (b.since + 30) (omega (arith, lt, one)))
-    ∙ ap (λ (xs : List Body). b ∷ xs) (all_wait bs time now lt (All-tail (λ (x : Body). time ≤ x.since + 30) b bs h))
+    let one = All-head (λ (x : Body). time ≤ x.since + WAITING_TIME) b bs h in
+    cond-true _ _ _ (lt-ltb now (b.since + WAITING_TIME) (omega (arith, lt, one)))
+    ∙ ap (λ (xs : List Body). b ∷ xs) (all_wait bs time now lt (All-tail (λ (x : Body). time ≤ x.since + WAITING_TIME) b bs h))
 
 -- before the first end, a tick changes nothing
 pub none_ends : (h : Held) (time now : ℕ) → now < time → IsStill time h

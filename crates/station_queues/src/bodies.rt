@@ -7,6 +7,7 @@ ghost use Rattle.block_pool.specs.Pool.{IsChain, chain_octets};
 ghost use Rattle.fragment_buffers.specs.Answers.{answer_of, octets_of};
 ghost use Rattle.fragment_buffers.specs.Taking.{blocks, taken};
 ghost use Rattle.fragment_buffers.specs.Taking.{unexpired};
+ghost use Rattle.fragment_buffers.specs.declared.times.TheConstants.{WAITING_TIME};
 ghost use Rattle.plc_base.specs.Times.{is_within};
 ghost use Rattle.fragment_buffers.specs.Loads.{load_of, units_in};
 ghost use Rattle.fragment_buffers.specs.Waiting.{waits_for, is_awaited_in, waiting_blocks, no_room_in, still_waiting, units_by, leaving};
@@ -20,7 +21,7 @@ use crate::sealing::seal_load;
 use aes_modes::Aes;
 use arrayvec::ArrayVec;
 use block_pool::{Chain, Pool};
-use fragment_buffers::{BufferFull, Reassembly, Taken, pieces};
+use fragment_buffers::{BufferFull, REASSEMBLY_TIME, Reassembly, Taken, WAITING_TIME, pieces};
 use mesh_header::Piece;
 use plc_base::{DatagramBuf, Grant, Key, LONGEST_DATAGRAM, Out, Short, earlier_end, is_within};
 use std::alloc::{AllocError, Global};
@@ -56,7 +57,7 @@ impl Waiting {
     fn end_by(&self, time: u64) -> u64
         ensures { result ≡ end_by time self.now }
     {
-        earlier_end(30, time, self.since)
+        earlier_end(WAITING_TIME, time, self.since)
     }
 
     // Gives the chain back.
@@ -163,7 +164,7 @@ impl Bodies {
         ensures held { self.new
             ≡ record self.old { reassemblies = (taken self.old.reassemblies origin piece.now note now).held } }
     {
-        self.next_end = earlier_end(60, self.next_end, now);
+        self.next_end = earlier_end(REASSEMBLY_TIME, self.next_end, now);
         self.reassembly
             .take(&mut self.pool, origin, piece, note, now, out)
     }
@@ -219,7 +220,7 @@ impl Bodies {
         };
         self.pool.write_at(&chain, 0, octets);
         self.blocks += size.div_ceil(64);
-        self.next_end = earlier_end(30, self.next_end, since);
+        self.next_end = earlier_end(WAITING_TIME, self.next_end, since);
         self.waiting.push(Waiting {
             to,
             note,
@@ -428,16 +429,16 @@ impl Bodies {
         self.reassembly.expire(&mut self.pool, now);
     }
 
-    // Whether 30 seconds have not passed since the body at a place came.
+    // Whether the body at a place has not waited for the whole time.
     fn stays_at(&self, index: usize, now: u64) -> bool
         requires { index < length self.now.waiting }
-        ensures { result ≡ is_within 30 now (body_at self.now.waiting index).since }
+        ensures { result ≡ is_within WAITING_TIME now (body_at self.now.waiting index).since }
     {
         let body = &self.waiting[index];
-        is_within(30, now, body.since)
+        is_within(WAITING_TIME, now, body.since)
     }
 
-    // Ends the waiting of the bodies that came 30 seconds ago or before.
+    // Ends the waiting of the bodies that have waited for the whole time.
     fn expire_waiting(&mut self, now: u64)
         ensures { self.new ≡ record self.old { waiting = still_waiting now self.old.waiting } }
     {
@@ -459,7 +460,7 @@ impl Bodies {
         first_end(&self.waiting, self.reassembly.next_end())
     }
 
-    /// Drops the reassemblies that began 60 seconds ago or before, and the bodies that came 30 seconds ago or before.
+    /// Drops the reassemblies that began `REASSEMBLY_TIME` ago or before, and the bodies that came `WAITING_TIME` ago or before.
     pub fn expire(&mut self, now: u64)
         ensures { self.new ≡ record {
           reassemblies = unexpired self.old.reassemblies now;

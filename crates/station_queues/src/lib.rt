@@ -14,10 +14,10 @@
 //! - Bodies leave in the order of their arrival, as the frames of `leaving` (`fragment_buffers`), with counters from a given one on.
 //! - The two keep apart in the pool: 8 reassemblies in 80 blocks, 8 bodies in 80 blocks (`sized` of `count`).
 //!
-//! All memory is taken by `new`: 160 blocks of 64 octets. There is no `unsafe`; the pool below is the crate with pointers. A body waits for 30
-//! seconds and a reassembly for 60. Calls that seal ask for counters that are left (`left`) and for room in the list of frames (`room`); a
-//! command has at most [`LONGEST_COMMAND`] octets. Which counter is next and whether there is a route is the station's question
-//! (`plc_station`).
+//! All memory is taken by `new`: 160 blocks of 64 octets. There is no `unsafe`; the pool below is the crate with pointers. A body waits for
+//! `WAITING_TIME` and a reassembly for `REASSEMBLY_TIME` (`fragment_buffers`). Calls that seal ask for counters that are left (`left`) and for
+//! room in the list of frames (`room`); a command has at most [`LONGEST_COMMAND`] octets. Which counter is next and whether there is a route is
+//! the station's question (`plc_station`).
 #![tactic(auto)]
 
 mod bodies;

@@ -9,6 +9,7 @@ use Rattle.store_tables.specs.Writes.{puts_of}
 use Rattle.store_tables.specs.SlotTables as slots
 use Rattle.store_tables.specs.LeadingPuts.{PutsLead}
 use Rattle.store_tables.specs.declared.marks.Mark.{Mark}
+use Rattle.store_tables.specs.declared.marks.TheConstants.{MARKS_AHEAD}
 
 -- How many slots for marks follow one another from this one on: those of the peers end at 013F, those of the broadcasts
 -- at 031F.
@@ -109,7 +110,7 @@ module _ (first count : ℕ) where
 
   -- an entry whose mark is stored anew, ahead of the number
   abbrev pub mark_ahead : ℕ → ℕ → Mark first count
-  mark_ahead address number = record { address = address; mark = number; stored = min (number + 63) 4294967295 }
+  mark_ahead address number = record { address = address; mark = number; stored = min (number + MARKS_AHEAD) 4294967295 }
 
   -- the entry at a place with a higher mark
   abbrev pub advanced : Mark first count → ℕ → ℕ → Mark first count

@@ -29,7 +29,7 @@ mod reserved_list;
 mod slot_order;
 mod slot_table;
 
-pub use marks::{Mark, MarkTable};
+pub use marks::{MARKS_AHEAD, Mark, MarkTable};
 pub use number_slot::NumberSlot;
 pub use numbering::Numbering;
 pub use open_fault::OpenFault;

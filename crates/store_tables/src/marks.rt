@@ -24,8 +24,8 @@ pub struct Mark<const FIRST: u32, const SLOTS: usize> {
     pub stored: u32,
 }
 
-/// How far the stored mark is ahead.
-const AHEAD: u32 = 63;
+/// How far a mark is stored ahead of the number that was admitted (a rule of this network).
+pub const MARKS_AHEAD: u32 = 63;
 
 impl<const FIRST: u32, const SLOTS: usize> SlotEntry for Mark<FIRST, SLOTS> {
     ghost use Rattle.std.specs.Prelude.{refl};
@@ -177,7 +177,7 @@ impl<const FIRST: u32, const SLOTS: usize> MarkTable<FIRST, SLOTS> {
     }
 
     /// Makes `number` the mark of an address, where there is room for it. Where the address is new or `number` is above its
-    /// stored mark, the smaller of number + 63 and 4,294,967,295 is stored first.
+    /// stored mark, the smaller of number + `MARKS_AHEAD` and 4,294,967,295 is stored first.
     ///
     /// Only a failed put is an error. The marks are then as they were, but may not be used until they are opened again.
     pub fn keep<K: Keeper>(
@@ -226,6 +226,6 @@ fn ahead_of<const FIRST: u32, const SLOTS: usize>(address: Short, number: u32) -
     Mark {
         address,
         mark: number,
-        stored: number.saturating_add(AHEAD),
+        stored: number.saturating_add(MARKS_AHEAD),
     }
 }

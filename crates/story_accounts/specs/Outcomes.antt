@@ -26,6 +26,8 @@ use Rattle.story_accounts.specs.declared.waiting.Waited.TheVariants as waits
 use Rattle.story_accounts.specs.Indexes.{broken_at, events_at, flight_heard, requests_at, send_at}
 use Rattle.story_accounts.specs.Accounts.{RunAccount, answer_at, ends_at, first_of, verdict_at, why}
 use Rattle.story_accounts.specs.Fates.{fate_text, two_words}
+use Rattle.fragment_buffers.specs.declared.times.TheConstants.{REASSEMBLY_TIME, WAITING_TIME}
+use Rattle.node_rules.specs.declared.session_time.TheConstants.{SESSION_TIME}
 
 -- # What waits behind another story
 
@@ -130,7 +132,7 @@ at_node holds e node = holds && (actor_of e.act == node)
 -- how an event ends the wait of what a node took in at a time of the clock, if it does
 abbrev pub ends_wait : TaleEvent → ℕ → ℕ → ℕ → Option Waited
 ends_wait e event clock node =
-    if is_tick e.act && nat_le 30 (e.clock - clock) then Some (waits.Aged event (e.clock - clock))
+    if is_tick e.act && nat_le WAITING_TIME (e.clock - clock) then Some (waits.Aged event (e.clock - clock))
     else (if is_restart node e.act then Some (waits.Restarted event)
     else (if at_node (is_left e.answer) e node then Some (waits.Left event)
     else (if at_node (is_power_lost e.answer) e node then Some (waits.Halted event) else None)))
@@ -293,9 +295,9 @@ has_session kinds.Joining = true
 has_session kinds.Renewal = true
 has_session _ = false
 
--- the event at which a session ended by age after whose last flight nothing followed: 120 seconds after it began; 0 where it did not
+-- the event at which a session ended by age after whose last flight nothing followed; 0 where it did not
 abbrev pub session_end : RunAccount → StoryKind → ℕ → ℕ
-session_end a kind story = if has_session kind && is_last_taken a story then aged_after a (first_of a story) 120 else 0
+session_end a kind story = if has_session kind && is_last_taken a story then aged_after a (first_of a story) SESSION_TIME else 0
 
 unfoldable pub session_end_text : ℕ → List ℕ
 session_end_text event = parts_text (Words (codes " until the session ended by age (event ") ∷ Number event ∷ Words (codes ")") ∷ [])
@@ -311,10 +313,11 @@ gathered_by first aged =
     if aged == 0 then []
     else parts_text (Words (codes ": the first at event ") ∷ Number first ∷ Words (codes ", and what was gathered ended at event ") ∷ Number aged ∷ [])
 
--- a datagram whose pieces were all taken and did not make it whole, by the first of them; what is gathered ends 60 seconds after that
+-- a datagram whose pieces were all taken and did not make it whole, by the first of them; what is gathered ends `REASSEMBLY_TIME` after that
 unfoldable pub gathered_text : RunAccount → ℕ → List ℕ
 gathered_text a first =
-    codes "did not come: its pieces were taken one by one, but never all within 60 s" ++ gathered_by first (aged_after a first 60)
+    parts_text (Words (codes "did not come: its pieces were taken one by one, but never all within ") ∷ Number REASSEMBLY_TIME ∷ Words (codes " s") ∷ [])
+    ++ gathered_by first (aged_after a first REASSEMBLY_TIME)
 
 abbrev pub loose_verdict_text : RunAccount → StoryKind → ℕ → List ℕ
 loose_verdict_text a kind story =

@@ -6,8 +6,10 @@ use crate::account::Account;
 use crate::fates::two_words;
 use crate::index::flight_heard;
 use crate::waiting::Waited;
+use fragment_buffers::REASSEMBLY_TIME;
 use frame_words::Gist;
 use line_tale::{Story, StoryKind, TaleEvent, TaleFlight, Verdict, is_piece_held, went_on};
+use node_rules::SESSION_TIME;
 use sentence_parts::{node, number, push_parts, sentence, words};
 use std::alloc::{AllocError, Global};
 
@@ -386,7 +388,7 @@ impl<'a> Account<'a> {
         ensures { result ≡ outcomes.session_end self.now kind story }
     {
         if has_session(kind) && self.is_last_taken(story) {
-            return self.aged_after(self.first_of(story), 120);
+            return self.aged_after(self.first_of(story), SESSION_TIME);
         }
         0
     }
@@ -406,11 +408,16 @@ impl<'a> Account<'a> {
     fn gathered_text(&self, first: usize) -> Result<String, AllocError>
         ensures { IfOk result (λ text. string_bytes text ≡ outcomes.gathered_text self.now first) }
     {
-        let mut text = String::from_str(
+        let mut text = sentence(
             self.alloc,
-            "did not come: its pieces were taken one by one, but never all within 60 s",
+            &[
+                words("did not come: its pieces were taken one by one, but never all within "),
+                number(REASSEMBLY_TIME as usize),
+                words(" s"),
+            ],
         )?;
-        push_gathered(&mut text, self.alloc, first, self.aged_after(first, 60))?;
+        let aged = self.aged_after(first, REASSEMBLY_TIME);
+        push_gathered(&mut text, self.alloc, first, aged)?;
         Ok(text)
     }
 

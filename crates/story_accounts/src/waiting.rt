@@ -3,6 +3,7 @@ ghost use Rattle.std.specs.Prelude.{◌≡◌, ◌&&◌, ◌==◌, ◌<◌, ◌^
 ghost use Rattle.story_accounts.specs.Outcomes as outcomes;
 
 use crate::account::Account;
+use fragment_buffers::WAITING_TIME;
 use frame_words::Gist;
 use line_events::Answer;
 use line_tale::{Act, Story, TaleEvent, TaleFlight, actor_of, or_number};
@@ -71,7 +72,7 @@ fn ends_wait(told: &TaleEvent, event: usize, clock: u64, node: u32) -> Option<Wa
     ensures { result ≡ outcomes.ends_wait told.now event clock node }
 {
     let seconds = told.clock.saturating_sub(clock);
-    if is_tick(&told.act) && seconds >= 30 {
+    if is_tick(&told.act) && seconds >= WAITING_TIME {
         return Some(Waited::Aged { event, seconds });
     }
     if is_restart(node, &told.act) {

@@ -8,6 +8,7 @@ use Rattle.fragment_buffers.proofs.Naming.{length-gathered}
 use Rattle.fragment_buffers.proofs.Keeping.{gathered_at, moves_both}
 use Rattle.fragment_buffers.proofs.Expiring.{kept_so_far, expired_at, unexpired_at, all_kept}
 use Rattle.fragment_buffers.proofs.reassembly.Reassembly.expire.Goals as goal
+use Rattle.fragment_buffers.specs.declared.times.TheConstants.{REASSEMBLY_TIME}
 
 pub has_expired-requires : goal.has_expired-requires
 has_expired-requires c = omega (arith, c.len.ensures, c.loop-index-test.true)
@@ -39,7 +40,7 @@ loop-index-preserved c =
     let since = ap (λ l. (entry_at l c.loop-index.index).since) c.self.view_is
     ∙ sym (ap (λ (r : Reassembly). r.since) (gathered_at c.loop-index.pool es c.loop-index.index nothing lt)) in
     let young : c.args.now < (entry_at c.self.inside.buffers c.loop-index.index).since
-    + 60 = elim (cases_lt c.args.now ((entry_at c.self.inside.buffers c.loop-index.index).since + 60)) [
+    + REASSEMBLY_TIME = elim (cases_lt c.args.now ((entry_at c.self.inside.buffers c.loop-index.index).since + REASSEMBLY_TIME)) [
       | inl less ↦ less
       | inr more ↦ absurd (false≢true (c.if-has_expired.ensures.1 more))
     ] in
