@@ -9,7 +9,9 @@ pub mod UnitFates
 pub mod SendFates
 pub mod PieceFates
 pub mod BodyFates
-pub mod EventFates
+pub mod Receiving
+pub mod DeliveryFates
 pub mod PiecesHeard
-pub mod LineFates
+pub mod SendEvents
+pub mod TickEvents
 pub mod BodyEvents

@@ -29,7 +29,8 @@ use Rattle.node_rules.specs.Hearing.{error_hop, loses, offers, offers_numbered, 
 use Rattle.node_rules.specs.Calls.{is_within}
 use Rattle.node_rules.specs.Memory.{StationMemory, Body, address_of, next_hop}
 use Rattle.node_rules.specs.Plans.{resting}
-use Rattle.line_progress.specs.Fates.{KeepsPieces, Same, Gathers, HearingKeepsPieces, TicksHaveFates}
+use Rattle.line_progress.specs.PieceFates.{KeepsPieces, Same, Gathers, HearingKeepsPieces}
+use Rattle.line_progress.specs.TimeFates.{TicksHaveFates}
 use Rattle.line_progress.proofs.BodyFates.{kept_in}
 
 -- # Plans
