@@ -35,7 +35,8 @@ use Rattle.line_rules.specs.Further.{accepted_further, acknowledged_if, beside_a
 use Rattle.line_rules.specs.Further.{is_reply_taken, unbelieved, with_check}
 use Rattle.line_rules.specs.Steps.{flight_by, handed_by, hearing_outcome, hearing_step, note_by, world_after}
 use Rattle.line_rules.specs.Worlds.{World, Flight, Trace}
-use Rattle.line_progress.specs.UnitFates.{DeliveryFate, IsUp, IsHeld, IsRelayed, IsEnded, IsOfDatagram, IsWhole, IsPiece, UnitFate, HandedUp, TakenIn, WentOn, Ended}
+use Rattle.line_progress.specs.UnitFates.{DeliveryFate, IsUp, IsHeld, IsRelayed, IsEnded, IsOfDatagram, IsWhole, IsPiece}
+use Rattle.line_progress.specs.UnitFates.{UnitFate, HandedUp, TakenIn, WentOn, Ended}
 use Rattle.line_progress.specs.UnitFates.{Reported, DeliveriesHaveFates, is_unit_end, one_hop_less}
 use Rattle.line_progress.proofs.UnitFates.{unit_fates}
 use Rattle.line_progress.proofs.Receiving.{Receives, AsPlanned, HasHalted, says, receives}

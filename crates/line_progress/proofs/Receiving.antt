@@ -16,7 +16,7 @@ use Rattle.node_rules.specs.Memory.{Memory, Node, Role, Coordinator, Meter}
 use Rattle.node_rules.specs.MemoryDrafts.{unread, with_station}
 use Rattle.node_rules.specs.Meters as meters
 use Rattle.node_rules.specs.NodeSteps.{NodeStep, acts}
-use Rattle.node_rules.specs.Plans.{halted, within}
+use Rattle.node_rules.specs.Plans.{within}
 use Rattle.node_rules.proofs.Refusals as refusals
 use Rattle.line_events.specs.declared.event.Answer.TheVariants as answers
 use Rattle.line_rules.specs.Answers.{Reception, only, drop_word, station_reception, meter_reception, coordinator_reception}

@@ -106,7 +106,8 @@ send_event_fates ciphers w from to dest datagram x y m there target address runs
     by_act (Whole a f e) =
         by_fate ciphers w from to dest datagram m.station (tag_of x) x there
         (acts x (Err refusals.Halted) (λ n. of_station n (send n.station dest datagram (w.sends + 1) w.clock)))
-        (send m.station dest datagram (w.sends + 1) w.clock) a f (ap (λ (o : Option Memory). option_map (λ (n : Memory). n.station) o) e) (send_fates m.station dest datagram (w.sends + 1) w.clock)
+        (send m.station dest datagram (w.sends + 1) w.clock) a f (ap (λ (o : Option Memory). option_map (λ (n : Memory). n.station) o) e)
+        (send_fates m.station dest datagram (w.sends + 1) w.clock)
     by_act (Failed a f e) =
         none_taken ciphers w from to dest datagram m.station (tag_of x) x there
         (acts x (Err refusals.Halted) (λ n. of_station n (send n.station dest datagram (w.sends + 1) w.clock))) refusals.Store
