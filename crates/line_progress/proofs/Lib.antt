@@ -11,7 +11,14 @@ pub mod PieceFates
 pub mod BodyFates
 pub mod Receiving
 pub mod DeliveryFates
+pub mod Hearings
 pub mod PiecesHeard
+pub mod StationUps
 pub mod SendEvents
 pub mod TickEvents
 pub mod BodyEvents
+pub mod Events
+pub mod Silence
+pub mod NodeUps
+pub mod MuteEvents
+pub mod EventReports

@@ -93,12 +93,10 @@ module _ (ciphers : Ciphers) (w : World) (from to dest : ℕ) (datagram : List �
   by_fate d p a f memory (Waits is waiting) = taken d how_of.Waiting (a ∙ is) (λ b e. it_stays d p.memory (a ∙ is) memory waiting)
   by_fate d p a f memory (Refused reason is same none) = none_taken d reason (a ∙ is) (f ∙ none)
 
-pub send_event_fates : SendEventsHaveFates
-send_event_fates ciphers w from to dest datagram x y m there target address runs = (
-  sends_by ciphers w from to datagram x (Some dest),
-  steps_so ciphers w from to datagram x y dest there target address,
-  by_act (acts_either x m (Err refusals.Halted) (λ (n : Memory). of_station n (send n.station dest datagram (w.sends + 1) w.clock)) runs),
-)
+pub send_outcome : (ciphers : Ciphers) (w : World) (from to dest : ℕ) (datagram : List ℕ) (x : Node) (m : Memory) → node_at w from ≡ Some x
+    → x.memory ≡ Some m → SendEventFate ciphers w from dest datagram m.station (sends_by ciphers w from to datagram x (Some dest))
+send_outcome ciphers w from to dest datagram x m there runs =
+    by_act (acts_either x m (Err refusals.Halted) (λ (n : Memory). of_station n (send n.station dest datagram (w.sends + 1) w.clock)) runs)
   where
     by_act : Acted (of_station m (send m.station dest datagram (w.sends + 1) w.clock))
         (acts x (Err refusals.Halted) (λ n. of_station n (send n.station dest datagram (w.sends + 1) w.clock)))
@@ -112,3 +110,10 @@ send_event_fates ciphers w from to dest datagram x y m there target address runs
         none_taken ciphers w from to dest datagram m.station (tag_of x) x there
         (acts x (Err refusals.Halted) (λ n. of_station n (send n.station dest datagram (w.sends + 1) w.clock))) refusals.Store
         (a ∙ (refused.sends_refused m.station dest datagram (w.sends + 1) w.clock).0.0) f
+
+pub send_event_fates : SendEventsHaveFates
+send_event_fates ciphers w from to dest datagram x y m there target address runs = (
+  sends_by ciphers w from to datagram x (Some dest),
+  steps_so ciphers w from to datagram x y dest there target address,
+  send_outcome ciphers w from to dest datagram x m there runs,
+)

@@ -1,11 +1,14 @@
--- What time does to each node of a line.
+-- What time ends, and what it does to each node of a line.
 use Rattle.std.proofs.Common.{◌≡◌, ℕ, zero, suc, ◌+◌, Bool, true, false, List, [], ◌∷◌, map, Option, Some, None, Ok, Err}
 use Rattle.std.proofs.Common.{refl, sym, ap, ◌∙◌}
 use Rattle.std.specs.Prelude.{if◌then◌else◌, slice_get}
 use Rattle.std.specs.Option.{option_map, option_and_then}
 use Rattle.std.proofs.lemmas.Option.{same_Some}
+use Rattle.fragment_buffers.specs.Reassembly.{Reassembly}
+use Rattle.fragment_buffers.specs.Taking.{unexpired}
 use Rattle.node_rules.specs.Calls as calls
-use Rattle.node_rules.specs.Memory.{StationMemory, Memory, Node, Role, Coordinator, Meter}
+use Rattle.node_rules.specs.Calls.{is_within}
+use Rattle.node_rules.specs.Memory.{StationMemory, Memory, Body, Node, Role, Coordinator, Meter}
 use Rattle.reach_rules.specs.ReachingNodes.{tick_beside}
 use Rattle.line_events.specs.declared.event.Answer.TheVariants as answers
 use Rattle.line_events.specs.declared.event.StepFault.TheVariants as faults
@@ -14,8 +17,9 @@ use Rattle.line_rules.specs.Steps as steps
 use Rattle.line_rules.specs.Steps.{Step, happenings, has_begun, running_world, trace_of}
 use Rattle.line_rules.specs.Steps.{ticked}
 use Rattle.line_rules.specs.Worlds.{World, Trace}
-use Rattle.line_progress.specs.TimeFates.{TimeComesToAll}
+use Rattle.line_progress.specs.TimeFates.{TicksHaveFates, TimeComesToAll}
 use Rattle.line_progress.specs.Stations.{station_at}
+use Rattle.line_progress.proofs.BodyFates.{kept_in}
 
 -- an event has one outcome
 outcome_is : (s : Step) (p r : World × Trace) → s ≡ Ok p → s ≡ Ok r → p ≡ r
@@ -76,3 +80,12 @@ time_comes ciphers w v seconds d e number l there = by_begun (has_begun w) e
         ap (λ (r : World × Trace). station_at r.0 number) (outcome_is (Ok (v, d)) (v, d) made refl (sym e))
         ∙ at_nodes (w.clock + seconds) number w.nodes l there
     by_begun false e = absurd (cc)
+
+-- # What ends
+
+pub tick_fates : TicksHaveFates
+unfolding unexpired
+tick_fates l now = record {
+  bodies = λ b among young. kept_in (λ (c : Body). is_within 30 now c.since) b l.waiting among young;
+  pieces = λ r among young. kept_in (λ (s : Reassembly). is_within 60 now s.since) r l.reassemblies among young;
+}

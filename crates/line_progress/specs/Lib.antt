@@ -6,3 +6,4 @@ pub mod SendFates
 pub mod Stations
 pub mod TimeFates
 pub mod UnitFates
+pub mod Ups

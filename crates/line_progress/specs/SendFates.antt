@@ -1,5 +1,5 @@
 -- What becomes of a datagram that is to be sent: in one step of a station, and in an event of a line.
-use Rattle.std.specs.Prelude.{◌≡◌, ℕ, ◌+◌, map, false, List, [], ◌∷◌, ◌++◌, Some, Ok, Err}
+use Rattle.std.specs.Prelude.{◌≡◌, ℕ, ◌+◌, map, true, false, List, [], ◌∷◌, ◌++◌, Some, Ok, Err, IfSome}
 use Rattle.fragment_buffers.specs.Loads.{all_go, units_of}
 use Rattle.node_rules.specs.declared.heard.SentHow.TheVariants as how
 use Rattle.node_rules.specs.declared.refusal.SendRefusal.{SendRefusal}
@@ -9,10 +9,11 @@ use Rattle.node_rules.specs.Ciphers.{Ciphers}
 use Rattle.node_rules.specs.Frames.{Sent, spelled}
 use Rattle.node_rules.specs.Memory.{StationMemory, Memory, Node, Datagram, address_of, next_hop, node_address}
 use Rattle.line_events.specs.declared.event.Answer.TheVariants as answers
+use Rattle.line_events.specs.declared.event.Event.{Event}
 use Rattle.line_events.specs.declared.event.Event.TheVariants as events
 use Rattle.line_rules.specs.Further.{line_step}
 use Rattle.line_rules.specs.Steps.{flight_by, is_taken}
-use Rattle.line_rules.specs.Worlds.{World, Trace, node_at}
+use Rattle.line_rules.specs.Worlds.{World, Trace, Sending as SentDatagram, node_at}
 use Rattle.line_progress.specs.Stations.{station_at}
 
 -- # A datagram that is to be sent
@@ -54,3 +55,25 @@ SendEventsHaveFates =
     → node_at w from ≡ Some x → node_at w to ≡ Some y → node_address y ≡ Some dest → x.memory ≡ Some m
     → (r : World × Trace) × (line_step ciphers w (events.Send from to datagram) ≡ Ok r)
     × SendEventFate ciphers w from dest datagram m.station r
+
+-- A datagram that the history has as sent is that of the event's line, and of a node that ran; its units are the new flights under the number
+-- of the send, or it is the last body that waits.
+pub record SendFlew (ciphers : Ciphers) (w : World) (event : Event) (s : SentDatagram) (r : World × Trace) : Type 0 where
+  pub line : event ≡ events.Send s.from s.to s.datagram
+  pub node : Node
+  pub there : node_at w s.from ≡ Some node
+  pub memory : Memory
+  pub runs : node.memory ≡ Some memory
+  pub target : Node
+  pub is_target : node_at w s.to ≡ Some target
+  pub address : ℕ
+  pub has_address : node_address target ≡ Some address
+  pub tag : s.tag ≡ memory.station.next_tag
+  pub taken : is_taken r.1.happenings.answer ≡ true
+  pub fate : SendEventFate ciphers w s.from address s.datagram memory.station r
+
+-- Whatever power is lost, and whatever is forged: so it is of each event of a line.
+abbrev pub SendsFly : Type 0
+SendsFly =
+    (ciphers : Ciphers) (w v : World) (event : Event) (d : Trace) → line_step ciphers w event ≡ Ok (v, d)
+    → IfSome d.sent (λ (s : SentDatagram). SendFlew ciphers w event s (v, d))
