@@ -1,5 +1,5 @@
--- A node that acts with no loss of power to come does all of its plan.
-use Rattle.std.proofs.Common.{◌≡◌, true, List, [], ◌∷◌, Some, None, refl, ◌∙◌}
+-- A node that acts does all of its plan, or a write fails; with no loss of power to come it does all of it.
+use Rattle.std.proofs.Common.{◌≡◌, Bool, true, false, List, [], ◌∷◌, Some, None, refl, sym, subst, ◌∙◌}
 use Rattle.std.specs.Prelude.{if◌then◌else◌}
 use Rattle.std.specs.Option.{option_map_or}
 use Rattle.std.specs.FinMap.{insert}
@@ -45,3 +45,23 @@ acts_whole x m halts plan e c =
       made = p.made;
       opened = p.opened;
     })
+
+-- # Whatever power is lost
+
+-- the plan was carried out, or a write failed and the node has halted
+pub data Acted {A : Type 0} (p : Plan Memory A) (d : NodeStep A) : Type 0 where
+  Whole : d.answer ≡ p.answer → d.frames ≡ p.frames → d.node.memory ≡ Some p.memory → Acted p d
+  Failed : d.answer ≡ p.failed → d.frames ≡ [] → d.node.memory ≡ None → Acted p d
+
+pub acts_either : {A : Type 0} (x : Node) (m : Memory) (halts : A) (plan : Memory → Plan Memory A) → x.memory ≡ Some m
+    → Acted (plan m) (acts x halts plan)
+unfolding acts carry_out
+acts_either x m halts plan e =
+    let p = plan m in
+    let w : Written = write p.puts x.store.cut x.store.records in
+    subst (λ o. Acted p (option_map_or (λ n. left_by x (outcome_of (write (plan n).puts x.store.cut x.store.records) (plan n))) o (stays x halts))) (sym e)
+    (by_whole w w.whole)
+  where
+    by_whole : (w : Written) (b : Bool) → Acted (plan m) (left_by x (if b then finished w (plan m) else halted w (plan m)))
+    by_whole w true = Whole refl refl refl
+    by_whole w false = Failed refl refl refl

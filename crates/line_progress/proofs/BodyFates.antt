@@ -33,7 +33,8 @@ use Rattle.node_rules.specs.Hearing.{is_spent}
 use Rattle.node_rules.specs.Hearing.{error_hop, loses, offers, offers_numbered, pass_error_on, rank_fault, rank_over, report_by}
 use Rattle.node_rules.specs.Memory.{StationMemory, Body, next_hop}
 use Rattle.node_rules.specs.Plans.{resting}
-use Rattle.line_progress.specs.Fates.{Among, Here, Later, IsSentAs, BodyFate, WaitsOn, Leaves, BodiesHaveFates}
+use Rattle.line_progress.specs.Lists.{Among, Here, Later}
+use Rattle.line_progress.specs.BodyFates.{IsSentAs, BodyFate, WaitsOn, Leaves, BodiesHaveFates}
 use Rattle.line_progress.proofs.PieceFates.{among_front}
 
 -- # Lists

@@ -4,7 +4,8 @@ use Rattle.std.specs.Prelude.{if◌then◌else◌, ◌==◌, ◌&&◌}
 use Rattle.std.proofs.lemmas.Bool.{and_from, eq-eqb}
 use Rattle.fragment_buffers.specs.Reassembly.{PlacedPiece, Reassembly, begun, datagram_of, overlaps, placed, repeats}
 use Rattle.fragment_buffers.specs.Taking.{Taking, Full, Held, behind, grown, has_room, joined, same_name, settled, taken, taken_in}
-use Rattle.line_progress.specs.Fates.{Among, Here, Later, PieceFate, StaysHeld, CameUp, Discarded, PiecesHaveFates}
+use Rattle.line_progress.specs.Lists.{Among, Here, Later}
+use Rattle.line_progress.specs.PieceFates.{PieceFate, StaysHeld, CameUp, Discarded, PiecesHaveFates}
 
 pub among_front : {A : Type 0} (x : A) (xs ys : List A) → Among x xs → Among x (xs ++ ys)
 among_front x xs ys (Here rest) = Here (rest ++ ys)

@@ -32,7 +32,7 @@ use Rattle.line_rules.specs.Further.{comes, line_step}
 use Rattle.line_rules.specs.Runs.{Entry, entries_of, one_of, run, ups}
 use Rattle.line_rules.specs.Steps.{flight_by, sends_by}
 use Rattle.line_rules.specs.Worlds.{World, Flight, Trace, node_at, flight_at}
-use Rattle.line_progress.specs.Arrival.{Stop, IsReady, HoldsLink, HoldsRoute, AreReady, IsNoneOf, IsStraight, last_of, hops, hop_answers, IsBrought}
+use Rattle.line_progress.specs.Arrival.{Stop, IsReady, HasLink, HasRoute, AreReady, IsNoneOf, IsStraight, last_of, deliveries, delivery_answers, IsBrought}
 use Rattle.line_progress.specs.Arrival.{DatagramsArrive}
 use Rattle.line_progress.proofs.Sealing.{IsSealable}
 use Rattle.line_progress.proofs.Hearing.{is_handed_up, goes_on}
@@ -117,7 +117,7 @@ sealed_for s t mesh datagram note = record {
   note = note;
 }
 
-sealable : (dest : ℕ) (s t : Stop) (mesh : Mesh) (datagram : List ℕ) (note : ℕ) → IsReady s → IsReady t → HoldsLink dest s t → mesh.hops ≤ 14
+sealable : (dest : ℕ) (s t : Stop) (mesh : Mesh) (datagram : List ℕ) (note : ℕ) → IsReady s → IsReady t → HasLink dest s t → mesh.hops ≤ 14
     → IsUnit (units.Whole mesh datagram) → IsSealable (sealed_for s t mesh datagram note)
 sealable dest s t mesh datagram note ready next link few fits = record {
   to = let low : t.granted.address < 0xFFFE = next.address in (omega arith, λ e. absurd (omega arith));
@@ -181,7 +181,7 @@ module _ (ciphers : Ciphers) (opens : OpensWhatItSeals ciphers) where
       ∙ ap (λ octets. Ok (comes ciphers w t.number t.node octets t.cost)) way.same
 
   -- the flight that a node of a route adds is under way to the next one
-  way_from : (w v : World) (flight dest : ℕ) (s t : Stop) (mesh : Mesh) (datagram : List ℕ) (note more : ℕ) → IsReady s → IsReady t → HoldsLink dest s t
+  way_from : (w v : World) (flight dest : ℕ) (s t : Stop) (mesh : Mesh) (datagram : List ℕ) (note more : ℕ) → IsReady s → IsReady t → HasLink dest s t
       → IsUnit (units.Whole mesh datagram) → mesh.hops ≤ 14 → mesh.to ≡ dest → more < mesh.hops
       → v.flights ≡ w.flights ++ flight_by s.number (spelled ciphers (Sealed (sealed_for s t mesh datagram note))) ∷ []
       → flight ≡ length w.flights → IsUnderWay ciphers v (flight + 1) dest t datagram more
@@ -239,7 +239,7 @@ module _ (ciphers : Ciphers) (opens : OpensWhatItSeals ciphers) where
         (is_handed_up marked_now t.granted ring_now way.u.from way.u.key way.mesh datagram (got_of way.u).payload reads_now t.cost note_now w.clock
         (way.target ∙ sym last)) refl
 
-    module _ (s : Stop) (link : HoldsLink dest t s) (some : 1 ≤ more) where
+    module _ (s : Stop) (link : HasLink dest t s) (some : 1 ≤ more) where
       route_now : next_hop marked_now way.mesh.to ≡ Some s.granted.address
       unfolding marking next_hop
       route_now = ap (routing.next_of t.memory.station.routing) way.target ∙ link.route
@@ -263,8 +263,8 @@ module _ (ciphers : Ciphers) (opens : OpensWhatItSeals ciphers) where
   unit_on mesh datagram fits = (record { hops = let low = fits.0.hops in omega arith; origin = fits.0.origin; to = fits.0.to }, fits.1, fits.2)
 
   brings : (rest : List Stop) (w : World) (flight dest : ℕ) (t : Stop) (datagram : List ℕ) → AreReady w (t ∷ rest) → IsStraight (t ∷ rest)
-      → HoldsRoute dest t rest → IsUnderWay ciphers w flight dest t datagram (length rest) → w.events + (1 + length rest) ≤ MAX_EVENTS
-      → IsBrought (hop_answers t rest) (last_of t rest).number datagram (run ciphers w (hops flight t rest))
+      → HasRoute dest t rest → IsUnderWay ciphers w flight dest t datagram (length rest) → w.events + (1 + length rest) ≤ MAX_EVENTS
+      → IsBrought (delivery_answers t rest) (last_of t rest).number datagram (run ciphers w (deliveries flight t rest))
   brings [] w flight dest t datagram ready straight holds way room =
       let r : World × Trace = comes ciphers w t.number t.node (spelled ciphers (Sealed way.u)).octets t.cost in
       let event : Event = events.Deliver flight t.number t.cost in
@@ -283,19 +283,26 @@ module _ (ciphers : Ciphers) (opens : OpensWhatItSeals ciphers) where
       way_from w r.0 flight dest t s (hop_less way.mesh) datagram (note_now w flight dest t datagram more way ready.1) (length rest) ready.1 next.1 holds.0
       (unit_on way.mesh datagram way.unit) (let few = way.few in omega arith) way.target (let left = way.enough in omega arith) goes.flights way.number in
       let counted = goes.events in
-      subst (λ es. IsBrought (answers.Relayed ∷ hop_answers s rest) (last_of s rest).number datagram es)
-      (sym (runs_on ciphers w event (hops (flight + 1) s rest) r (omega arith) (step_is w flight dest t datagram more way ready.0)))
-      (brought_after (record { number = w.events + 1; event = event; trace = r.1; after = r.0 }) answers.Relayed (hop_answers s rest)
-      (last_of s rest).number datagram (run ciphers r.0 (hops (flight + 1) s rest)) goes.answer_is goes.up_is
+      subst (λ es. IsBrought (answers.Relayed ∷ delivery_answers s rest) (last_of s rest).number datagram es)
+      (sym (runs_on ciphers w event (deliveries (flight + 1) s rest) r (omega arith) (step_is w flight dest t datagram more way ready.0)))
+      (brought_after (record { number = w.events + 1; event = event; trace = r.1; after = r.0 }) answers.Relayed (delivery_answers s rest)
+      (last_of s rest).number datagram (run ciphers r.0 (deliveries (flight + 1) s rest)) goes.answer_is goes.up_is
       (brings rest r.0 (flight + 1) dest s datagram next straight.1 holds.1 on (omega (arith, counted))))
 
 pub arrive : DatagramsArrive
-arrive ciphers opens w s t rest datagram ready straight holds some few short room =
+arrive ciphers opens w s t rest datagram may =
+    let some = may.some in
+    let few = may.few in
+    let short = may.short in
+    let room = may.room in
+    let ready : AreReady w (s ∷ t ∷ rest) = may.ready in
+    let straight : IsStraight (s ∷ t ∷ rest) = may.straight in
+    let holds : HasRoute (last_of t rest).granted.address s (t ∷ rest) = may.route in
     let last = last_ready w t rest ready.2 in
     let z : Stop = last_of t rest in
     let dest : ℕ = z.granted.address in
     let first : IsReady s = ready.1 in
-    let link : HoldsLink dest s t = holds.0 in
+    let link : HasLink dest s t = holds.0 in
     let event : Event = events.Send s.number z.number datagram in
     let r : World × Trace = sends_by ciphers w s.number z.number datagram s.node (Some dest) in
     let mesh : Mesh = own_mesh s.granted.address dest in
@@ -312,8 +319,8 @@ arrive ciphers opens w s t rest datagram ready straight holds some few short roo
     out.flights
     refl in
     let counted = out.events in
-    subst (λ es. IsBrought (answers.Sent ∷ hop_answers t rest) z.number datagram es)
-    (sym (runs_on ciphers w event (hops (length w.flights + 1) t rest) r (omega arith) step))
-    (brought_after (record { number = w.events + 1; event = event; trace = r.1; after = r.0 }) answers.Sent (hop_answers t rest) z.number datagram
-    (run ciphers r.0 (hops (length w.flights + 1) t rest)) out.answer_is out.up_is
+    subst (λ es. IsBrought (answers.Sent ∷ delivery_answers t rest) z.number datagram es)
+    (sym (runs_on ciphers w event (deliveries (length w.flights + 1) t rest) r (omega arith) step))
+    (brought_after (record { number = w.events + 1; event = event; trace = r.1; after = r.0 }) answers.Sent (delivery_answers t rest) z.number datagram
+    (run ciphers r.0 (deliveries (length w.flights + 1) t rest)) out.answer_is out.up_is
     (brings ciphers opens rest r.0 (length w.flights + 1) dest t datagram next straight.1 holds.1 on (omega (arith, counted))))

@@ -10,7 +10,7 @@ use Rattle.node_rules.specs.Drafts.{Draft, alone, body_goes, checked, counters_l
 use Rattle.node_rules.specs.Drafts.{sets_out, waits, with_next_tag, with_own_number}
 use Rattle.node_rules.specs.Memory.{StationMemory, Load, Body, Datagram, address_of, next_hop}
 use Rattle.node_rules.specs.Plans.{resting}
-use Rattle.line_progress.specs.Fates.{SendFate, WentOut, Waits, Refused, SendsHaveFates}
+use Rattle.line_progress.specs.SendFates.{SendFate, WentOut, Waits, Refused, SendsHaveFates}
 
 -- # Setting out
 

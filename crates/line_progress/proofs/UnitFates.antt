@@ -19,8 +19,8 @@ use Rattle.node_rules.specs.Hearing.{hear_unit_in}
 use Rattle.node_rules.specs.Hearing.{is_spent, report_by}
 use Rattle.node_rules.specs.Memory.{StationMemory, next_hop}
 use Rattle.node_rules.specs.Plans.{resting}
-use Rattle.line_progress.specs.Fates.{UnitFate, HandedUp, TakenIn, WentOn, Ended, Reported, UnitsHaveFates}
-use Rattle.line_progress.specs.Fates.{IsOfDatagram, IsWhole, IsPiece, one_hop_less}
+use Rattle.line_progress.specs.UnitFates.{UnitFate, HandedUp, TakenIn, WentOn, Ended, Reported, UnitsHaveFates}
+use Rattle.line_progress.specs.UnitFates.{IsOfDatagram, IsWhole, IsPiece, one_hop_less}
 
 -- # Units
 

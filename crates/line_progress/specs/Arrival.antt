@@ -39,7 +39,7 @@ pub record IsReady (s : Stop) : Type 0 where
 
 -- A link toward an address holds: the one node has a valid route to the address by the other, a counter, and a key that the other holds at
 -- the same index; and the other admits that counter of it.
-pub record HoldsLink (dest : ℕ) (s t : Stop) : Type 0 where
+pub record HasLink (dest : ℕ) (s t : Stop) : Type 0 where
   pub on : s.granted.address ≢ dest
   pub apart : t.granted.address ≢ s.granted.address
   pub route : next_hop s.memory.station dest ≡ Some t.granted.address
@@ -48,9 +48,9 @@ pub record HoldsLink (dest : ℕ) (s t : Stop) : Type 0 where
   pub admits : room_for t.memory.station.marks s.granted.address s.memory.station.counter.next ≡ Ok tt
 
 -- the links of a route hold, and its last node has the address
-abbrev pub HoldsRoute : ℕ → Stop → List Stop → Type 0
-HoldsRoute dest s [] = s.granted.address ≡ dest
-HoldsRoute dest s (t ∷ rest) = HoldsLink dest s t × HoldsRoute dest t rest
+abbrev pub HasRoute : ℕ → Stop → List Stop → Type 0
+HasRoute dest s [] = s.granted.address ≡ dest
+HasRoute dest s (t ∷ rest) = HasLink dest s t × HasRoute dest t rest
 
 -- the nodes of a route are there, and ready
 abbrev pub AreReady : World → List Stop → Type 0
@@ -75,14 +75,14 @@ last_of s (t ∷ rest) = last_of t rest
 -- # What happens
 
 -- each of these flights, numbered from the first on, comes to the next node of a route
-abbrev pub hops : ℕ → Stop → List Stop → List Event
-hops flight s [] = Deliver flight s.number s.cost ∷ []
-hops flight s (t ∷ rest) = Deliver flight s.number s.cost ∷ hops (flight + 1) t rest
+abbrev pub deliveries : ℕ → Stop → List Stop → List Event
+deliveries flight s [] = Deliver flight s.number s.cost ∷ []
+deliveries flight s (t ∷ rest) = Deliver flight s.number s.cost ∷ deliveries (flight + 1) t rest
 
 -- what the nodes of a route answer: each sends the datagram on, and the last one hands it up
-abbrev pub hop_answers : Stop → List Stop → List Answer
-hop_answers s [] = answers.Up ∷ []
-hop_answers s (t ∷ rest) = answers.Relayed ∷ hop_answers t rest
+abbrev pub delivery_answers : Stop → List Stop → List Answer
+delivery_answers s [] = answers.Up ∷ []
+delivery_answers s (t ∷ rest) = answers.Relayed ∷ delivery_answers t rest
 
 abbrev pub answers_of : List Entry → List Answer
 answers_of entries = map (λ (x : Entry). x.trace.happenings.answer) entries
@@ -95,13 +95,22 @@ pub record IsBrought (expected : List Answer) (target : ℕ) (datagram : List �
 
 -- # The law
 
+-- A route may carry a datagram: its nodes are there and ready, none stands twice, each of its links holds, and they are 14 at most; the
+-- datagram fits in one frame; and the run may have the events.
+pub record MayCarry (w : World) (s t : Stop) (rest : List Stop) (datagram : List ℕ) : Type 0 where
+  pub ready : AreReady w (s ∷ t ∷ rest)
+  pub straight : IsStraight (s ∷ t ∷ rest)
+  pub route : HasRoute (last_of t rest).granted.address s (t ∷ rest)
+  pub some : 0 < length datagram
+  pub few : length datagram ≤ 375
+  pub short : length rest ≤ 13
+  pub room : w.events + (2 + length rest) ≤ MAX_EVENTS
+
 -- A datagram of 1 to 375 octets that a node sends along a route of at most 14 links that hold, each flight of which comes to the next node,
 -- is handed up at the last one with the same octets, after one delivery for each link.
 abbrev pub DatagramsArrive : Type 0
 DatagramsArrive =
     (ciphers : Ciphers) → OpensWhatItSeals ciphers
-    → (w : World) (s t : Stop) (rest : List Stop) (datagram : List ℕ) → AreReady w (s ∷ t ∷ rest) → IsStraight (s ∷ t ∷ rest)
-    → HoldsRoute (last_of t rest).granted.address s (t ∷ rest) → 0 < length datagram → length datagram ≤ 375 → length rest ≤ 13
-    → w.events + (2 + length rest) ≤ MAX_EVENTS
-    → IsBrought (answers.Sent ∷ hop_answers t rest) (last_of t rest).number datagram
-    (run ciphers w (Send s.number (last_of t rest).number datagram ∷ hops (length w.flights + 1) t rest))
+    → (w : World) (s t : Stop) (rest : List Stop) (datagram : List ℕ) → MayCarry w s t rest datagram
+    → IsBrought (answers.Sent ∷ delivery_answers t rest) (last_of t rest).number datagram
+    (run ciphers w (Send s.number (last_of t rest).number datagram ∷ deliveries (length w.flights + 1) t rest))

@@ -1,2 +1,9 @@
 pub mod Arrival
-pub mod Fates
+pub mod BodyFates
+pub mod Lists
+pub mod PieceFates
+pub mod SendFates
+pub mod Stations
+pub mod TimeFates
+pub mod UnitFates
+pub mod Ups

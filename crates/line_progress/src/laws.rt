@@ -1,8 +1,11 @@
 //! Laws of progress: each carried by a function that does nothing.
 ghost use Rattle.line_progress.specs.Arrival.{DatagramsArrive};
-ghost use Rattle.line_progress.specs.Fates.{BodiesHaveFates, DeliveriesHaveFates, FramesLeaveBodies, HearingKeepsPieces, PiecesHaveFates, SendEventsHaveFates};
-ghost use Rattle.line_progress.specs.Fates.{SendsHaveFates};
-ghost use Rattle.line_progress.specs.Fates.{TicksHaveFates, TimeComesToAll, UnitsHaveFates};
+ghost use Rattle.line_progress.specs.BodyFates.{BodiesHaveFates, FramesLeaveBodies};
+ghost use Rattle.line_progress.specs.PieceFates.{HearingKeepsPieces, PiecesHaveFates};
+ghost use Rattle.line_progress.specs.SendFates.{SendEventsHaveFates, SendsFly, SendsHaveFates};
+ghost use Rattle.line_progress.specs.TimeFates.{TicksHaveFates, TimeComesToAll};
+ghost use Rattle.line_progress.specs.UnitFates.{DeliveriesHaveFates, UnitsHaveFates};
+ghost use Rattle.line_progress.specs.Ups.{DatagramsCame, StationsHandUp};
 
 /// A datagram of 1 to 375 octets that is sent along a route of at most 14 links that hold, and each flight of which comes to the next node,
 /// is handed up at the last one with the same octets, after one delivery for each link.
@@ -56,7 +59,25 @@ pub fn time_comes_to_all()
     ensures { TimeComesToAll }
 {}
 
-/// Whatever power is lost, a body that waits at a node that accepts a frame waits still, or all its units fly, or the node halts.
+/// Whatever power is lost, where neighbours are not checked: a body that waits at a node that accepts a frame, which carries no joining
+/// command and none of further reach, waits still, or all its units are new flights, or the node halts.
 pub fn frames_leave_bodies()
     ensures { FramesLeaveBodies }
+{}
+
+/// A datagram that a station hands up was in the frame that it has just accepted: whole, or with a piece that makes its reassembly whole.
+pub fn stations_hand_up()
+    ensures { StationsHandUp }
+{}
+
+/// Whatever power is lost and whatever is forged, what an event hands up was in the frame that came in it, under the note of that frame: whole,
+/// or with a piece that makes a reassembly of that node whole, which has the note.
+pub fn datagrams_came()
+    ensures { DatagramsCame }
+{}
+
+/// Whatever power is lost and whatever is forged, what an event has in the history as sent is in its new flights, as exactly the units of the
+/// datagram under the number of the send, or it is the last body that waits.
+pub fn sends_fly()
+    ensures { SendsFly }
 {}

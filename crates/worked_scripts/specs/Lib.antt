@@ -10,3 +10,5 @@ pub mod KeyScripts
 pub mod StoreScripts
 pub mod CallScripts
 pub mod FurtherScripts
+pub mod ArrivalScripts
+pub mod FateScripts

@@ -44,9 +44,9 @@ use Rattle.line_rules.specs.Runs.{Entry, run, one_of}
 
 -- # Plain ciphers
 
--- the payload stays as it is, and four octets of the key stand after it as a tag
+-- the payload stays as it is, and four octets of the key stand after it as a tag, zeros where the key has fewer
 abbrev pub plain_tag : Key → List ℕ
-plain_tag key = take 4 key.0
+plain_tag key = take 4 (key.0 ++ 0 ∷ 0 ∷ 0 ∷ 0 ∷ [])
 
 -- the octets in front of the tag, where the tag is that of the key
 abbrev pub plainly_opened : Key → List ℕ → Option (List ℕ)

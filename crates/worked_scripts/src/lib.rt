@@ -3,7 +3,9 @@
 //! The scripts stand in `specs/`; a function that does nothing carries each of them.
 #![tactic(auto)]
 
+mod arrival_scripts;
 mod call_scripts;
+mod fate_scripts;
 mod frame_scripts;
 mod further_scripts;
 mod hop_scripts;
@@ -15,57 +17,108 @@ mod store_scripts;
 mod waiting_scripts;
 mod way_scripts;
 
-pub use call_scripts::{
-    bad_lines_have_their_reasons, calls_need_addresses, eight_random_values_are_held,
-    halted_nodes_do_nothing, sixty_four_are_near, the_book_has_room,
-};
-pub use frame_scripts::{
-    a_forged_frame_is_named, a_lost_frame_is_not_forged, frames_are_spelled,
-    frames_have_their_nodes, malicious_frames_are_refused, units_have_their_paths,
-};
-pub use further_scripts::{
-    broadcasts_come_once, meters_choose_agents, paths_are_answered, replies_are_acknowledged,
-};
-pub use hop_scripts::{
-    a_broken_route_stays_broken, a_lost_flight_comes_no_more, a_repeat_is_refused,
-    a_unit_goes_on_while_hops_are_left, a_unit_without_a_route_is_reported,
-    an_error_for_its_target_goes_on, an_error_goes_on_to_its_target,
-    an_error_that_goes_on_takes_a_counter, datagrams_of_every_size, discovery_over_two_relays,
-    every_unit_goes_on, going_on_takes_a_counter, what_is_shown_is_in_order,
-};
-pub use joining_scripts::{
-    a_forged_answer_is_named, a_forged_grant_is_named, a_kicked_meter_may_not_know,
-    a_meter_joins_over_the_air, a_meter_joins_through_an_agent, a_session_ends_after_two_minutes,
-    an_old_third_packet_is_refused, challenges_are_judged_in_order, eight_sessions_are_open,
-    packets_are_checked, plain_frames_take_no_counter,
-};
-pub use key_scripts::{
-    a_meter_answers_under_its_new_ring, an_order_may_lack_room, another_key_is_not_issued,
-    kick_goes_where_it_can, leaving_keeps_ranks_and_marks, orders_are_refused, rotation_and_kick,
-};
-pub use piece_scripts::{
-    a_repeated_piece_is_ignored, an_overlap_begins_anew, eight_are_gathered,
-    eighty_blocks_are_gathered, gathering_ends_after_a_minute, pieces_are_named,
-    pieces_come_in_any_order, the_pieces_make_the_datagram,
-};
-pub use rank_scripts::{
-    a_full_table_forgets_the_broken, a_full_table_forgets_the_earliest, a_full_table_refuses,
-    a_node_hears_sixty_four_senders, a_reply_goes_by_the_hop_from_before,
-    a_route_ends_after_six_hours, an_answer_takes_a_number, costs_are_spent,
-    floors_are_stored_first, replies_offer_ranks, requests_offer_ranks,
-};
-pub use store_scripts::{
-    a_failed_write_halts, a_joining_stores_its_keys, a_kick_is_stored_first,
-    a_send_stores_its_tag_first, a_step_passes_the_limit_once, each_call_may_fail,
-    each_write_may_fail, limits_stop_at_the_end, marks_are_stored_ahead, numbers_are_stored_ahead,
-    orders_are_stored, tags_begin_again, the_workshop_stores, what_does_not_change_is_not_stored,
-};
-pub use waiting_scripts::{
-    eight_bodies_wait, eighty_blocks_wait, nothing_is_sent_when_spent, seeking_takes_a_counter,
-    seeking_takes_a_number, waiting_ends_after_half_a_minute, waiting_pieces_take_counters,
-    what_waits_leaves_before_the_answer, what_waits_leaves_in_order,
-};
-pub use way_scripts::{
-    an_answer_by_command_may_lack_room, commands_come_from_the_coordinator, only_a_join_goes_up,
-    only_a_join_reaches_the_coordinator, plain_frames_come_down,
-};
+pub use arrival_scripts::a_datagram_arrives;
+pub use arrival_scripts::each_link_holds;
+pub use arrival_scripts::each_node_is_ready;
+pub use arrival_scripts::fourteen_links_carry;
+pub use arrival_scripts::the_rest_is_needed;
+pub use arrival_scripts::the_route_is_straight;
+pub use arrival_scripts::the_route_may_carry;
+pub use call_scripts::bad_lines_have_their_reasons;
+pub use call_scripts::calls_need_addresses;
+pub use call_scripts::eight_random_values_are_held;
+pub use call_scripts::halted_nodes_do_nothing;
+pub use call_scripts::sixty_four_are_near;
+pub use call_scripts::the_book_has_room;
+pub use fate_scripts::a_body_has_each_fate;
+pub use fate_scripts::a_piece_has_each_fate;
+pub use fate_scripts::a_send_has_each_fate;
+pub use fate_scripts::a_unit_has_each_fate;
+pub use frame_scripts::a_forged_frame_is_named;
+pub use frame_scripts::a_lost_frame_is_not_forged;
+pub use frame_scripts::frames_are_spelled;
+pub use frame_scripts::frames_have_their_nodes;
+pub use frame_scripts::malicious_frames_are_refused;
+pub use frame_scripts::units_have_their_paths;
+pub use further_scripts::broadcasts_come_once;
+pub use further_scripts::meters_choose_agents;
+pub use further_scripts::paths_are_answered;
+pub use further_scripts::replies_are_acknowledged;
+pub use hop_scripts::a_broken_route_stays_broken;
+pub use hop_scripts::a_lost_flight_comes_no_more;
+pub use hop_scripts::a_repeat_is_refused;
+pub use hop_scripts::a_unit_goes_on_while_hops_are_left;
+pub use hop_scripts::a_unit_without_a_route_is_reported;
+pub use hop_scripts::an_error_for_its_target_goes_on;
+pub use hop_scripts::an_error_goes_on_to_its_target;
+pub use hop_scripts::an_error_that_goes_on_takes_a_counter;
+pub use hop_scripts::datagrams_of_every_size;
+pub use hop_scripts::discovery_over_two_relays;
+pub use hop_scripts::every_unit_goes_on;
+pub use hop_scripts::going_on_takes_a_counter;
+pub use hop_scripts::what_is_shown_is_in_order;
+pub use joining_scripts::a_forged_answer_is_named;
+pub use joining_scripts::a_forged_grant_is_named;
+pub use joining_scripts::a_kicked_meter_may_not_know;
+pub use joining_scripts::a_meter_joins_over_the_air;
+pub use joining_scripts::a_meter_joins_through_an_agent;
+pub use joining_scripts::a_session_ends_after_two_minutes;
+pub use joining_scripts::an_old_third_packet_is_refused;
+pub use joining_scripts::challenges_are_judged_in_order;
+pub use joining_scripts::eight_sessions_are_open;
+pub use joining_scripts::packets_are_checked;
+pub use joining_scripts::plain_frames_take_no_counter;
+pub use key_scripts::a_meter_answers_under_its_new_ring;
+pub use key_scripts::an_order_may_lack_room;
+pub use key_scripts::another_key_is_not_issued;
+pub use key_scripts::kick_goes_where_it_can;
+pub use key_scripts::leaving_keeps_ranks_and_marks;
+pub use key_scripts::orders_are_refused;
+pub use key_scripts::rotation_and_kick;
+pub use piece_scripts::a_repeated_piece_is_ignored;
+pub use piece_scripts::an_overlap_begins_anew;
+pub use piece_scripts::eight_are_gathered;
+pub use piece_scripts::eighty_blocks_are_gathered;
+pub use piece_scripts::gathering_ends_after_a_minute;
+pub use piece_scripts::pieces_are_named;
+pub use piece_scripts::pieces_come_in_any_order;
+pub use piece_scripts::the_pieces_make_the_datagram;
+pub use rank_scripts::a_full_table_forgets_the_broken;
+pub use rank_scripts::a_full_table_forgets_the_earliest;
+pub use rank_scripts::a_full_table_refuses;
+pub use rank_scripts::a_node_hears_sixty_four_senders;
+pub use rank_scripts::a_reply_goes_by_the_hop_from_before;
+pub use rank_scripts::a_route_ends_after_six_hours;
+pub use rank_scripts::an_answer_takes_a_number;
+pub use rank_scripts::costs_are_spent;
+pub use rank_scripts::floors_are_stored_first;
+pub use rank_scripts::replies_offer_ranks;
+pub use rank_scripts::requests_offer_ranks;
+pub use store_scripts::a_failed_write_halts;
+pub use store_scripts::a_joining_stores_its_keys;
+pub use store_scripts::a_kick_is_stored_first;
+pub use store_scripts::a_send_stores_its_tag_first;
+pub use store_scripts::a_step_passes_the_limit_once;
+pub use store_scripts::each_call_may_fail;
+pub use store_scripts::each_write_may_fail;
+pub use store_scripts::limits_stop_at_the_end;
+pub use store_scripts::marks_are_stored_ahead;
+pub use store_scripts::numbers_are_stored_ahead;
+pub use store_scripts::orders_are_stored;
+pub use store_scripts::tags_begin_again;
+pub use store_scripts::the_workshop_stores;
+pub use store_scripts::what_does_not_change_is_not_stored;
+pub use waiting_scripts::eight_bodies_wait;
+pub use waiting_scripts::eighty_blocks_wait;
+pub use waiting_scripts::nothing_is_sent_when_spent;
+pub use waiting_scripts::seeking_takes_a_counter;
+pub use waiting_scripts::seeking_takes_a_number;
+pub use waiting_scripts::waiting_ends_after_half_a_minute;
+pub use waiting_scripts::waiting_pieces_take_counters;
+pub use waiting_scripts::what_waits_leaves_before_the_answer;
+pub use waiting_scripts::what_waits_leaves_in_order;
+pub use way_scripts::an_answer_by_command_may_lack_room;
+pub use way_scripts::commands_come_from_the_coordinator;
+pub use way_scripts::only_a_join_goes_up;
+pub use way_scripts::only_a_join_reaches_the_coordinator;
+pub use way_scripts::plain_frames_come_down;

@@ -1,134 +1,45 @@
 -- What an event makes of a unit of a datagram that its node accepts, whatever power is lost.
-use Rattle.std.proofs.Common.{◌≡◌, ℕ, ◌+◌, Bool, true, false, List, [], ◌∷◌, ◌++◌, map, Option, Some, None, Result, Ok, Err, refl, sym, ap}
+use Rattle.std.proofs.Common.{◌≡◌, ℕ, Bool, true, false, List, [], ◌∷◌, ◌++◌, map, Option, Some, None, refl, sym, ap}
 use Rattle.std.proofs.Common.{subst, ◌∙◌}
 use Rattle.std.specs.Prelude.{if◌then◌else◌, ◌&&◌}
 use Rattle.std.specs.Option.{option_map_or, option_and_then}
 use Rattle.std.proofs.lemmas.Bool.{and_right}
 use Rattle.plc_base.specs.declared.key.Key.{Key}
 use Rattle.plc_base.specs.Grant.{Granted}
-use Rattle.store_tables.specs.Writes.{Written, write}
 use Rattle.mesh_header.specs.declared.unit.Mesh.{Mesh}
 use Rattle.mesh_header.specs.declared.unit.Unit.{Unit as MeshUnit}
 use Rattle.mesh_header.specs.Reading.{unit_in}
 use Rattle.fragment_buffers.specs.Reassembly.{Reassembly}
 use Rattle.fragment_buffers.specs.Taking as pieces
 use Rattle.node_rules.specs.declared.heard.Accepted.{Accepted}
-use Rattle.node_rules.specs.declared.heard.Heard.{Heard}
-use Rattle.node_rules.specs.declared.heard.MeterHeard.{MeterHeard}
-use Rattle.node_rules.specs.declared.heard.CoordinatorHeard.{CoordinatorHeard}
 use Rattle.node_rules.specs.declared.heard.Path.TheVariants as paths
 use Rattle.node_rules.specs.declared.heard.Reply.{Reply}
 use Rattle.node_rules.specs.declared.refusal.Dropped.{Dropped}
 use Rattle.node_rules.specs.declared.refusal.Dropped.TheVariants as drops
 use Rattle.node_rules.specs.Ciphers.{Ciphers}
-use Rattle.node_rules.specs.Coordinators as coordinator_rules
 use Rattle.node_rules.specs.Drafts.{sealed_by, sealed_units, sealing_key}
 use Rattle.node_rules.specs.Frames.{SealedUnit, Sent, Sealed, spelled}
 use Rattle.node_rules.specs.Hearing.{Hearing, gathered, hear}
-use Rattle.node_rules.specs.Memory.{StationMemory, Memory, Node, Role, Coordinator, Meter}
-use Rattle.node_rules.specs.MemoryDrafts.{unread, with_station}
-use Rattle.node_rules.specs.Meters as meters
-use Rattle.node_rules.specs.NodeSteps.{NodeStep, acts, left_by, stays}
-use Rattle.node_rules.specs.Plans.{Plan, carry_out, finished, halted, outcome_of, resting, within}
+use Rattle.node_rules.specs.Memory.{StationMemory, Memory, Node}
+use Rattle.node_rules.specs.MemoryDrafts.{unread}
+use Rattle.node_rules.specs.NodeSteps.{NodeStep}
+use Rattle.node_rules.specs.Plans.{resting}
 use Rattle.node_rules.specs.Replies.{reply_among, route_message}
-use Rattle.node_rules.proofs.Refusals as refusals
 use Rattle.reach_rules.specs.CheckedReplies.{is_unbelieved, message_of}
 use Rattle.reach_rules.specs.Receiving.{command_of, command_on, command_with}
 use Rattle.line_events.specs.declared.event.Answer.{Answer}
 use Rattle.line_events.specs.declared.event.Answer.TheVariants as answers
-use Rattle.line_rules.specs.Answers.{Reception, only, drop_word, station_reception, meter_reception, coordinator_reception}
+use Rattle.line_rules.specs.Answers.{Reception, only, drop_word}
 use Rattle.line_rules.specs.Forgery.{accepting}
 use Rattle.line_rules.specs.Further.{accepted_further, acknowledged_if, beside_at, checked, comes, discovers_by, due, due_of, hearing_outcome_by, is_dropped}
 use Rattle.line_rules.specs.Further.{is_reply_taken, unbelieved, with_check}
-use Rattle.line_rules.specs.Steps.{flight_by, handed_by, hearing_outcome, hearing_step, identity, note_by, world_after}
+use Rattle.line_rules.specs.Steps.{flight_by, handed_by, hearing_outcome, hearing_step, note_by, world_after}
 use Rattle.line_rules.specs.Worlds.{World, Flight, Trace}
-use Rattle.line_progress.specs.Fates.{EventFate, IsUp, IsHeld, IsRelayed, IsEnded, IsOfDatagram, IsWhole, IsPiece, UnitFate, HandedUp, TakenIn, WentOn, Ended}
-use Rattle.line_progress.specs.Fates.{Reported, DeliveriesHaveFates, ends_units, one_hop_less}
+use Rattle.line_progress.specs.UnitFates.{DeliveryFate, IsUp, IsHeld, IsRelayed, IsEnded, IsOfDatagram, IsWhole, IsPiece}
+use Rattle.line_progress.specs.UnitFates.{UnitFate, HandedUp, TakenIn, WentOn, Ended}
+use Rattle.line_progress.specs.UnitFates.{Reported, DeliveriesHaveFates, is_unit_end, one_hop_less}
 use Rattle.line_progress.proofs.UnitFates.{unit_fates}
-
--- # A node acts, whatever power is lost
-
--- The plan was carried out, or a write failed.
-data Acted {A : Type 0} (p : Plan Memory A) (d : NodeStep A) : Type 0 where
-  Whole : d.answer ≡ p.answer → d.frames ≡ p.frames → Acted p d
-  Failed : d.answer ≡ p.failed → Acted p d
-
-acts_either : {A : Type 0} (x : Node) (m : Memory) (halts : A) (plan : Memory → Plan Memory A) → x.memory ≡ Some m → Acted (plan m) (acts x halts plan)
-unfolding acts carry_out
-acts_either x m halts plan e =
-    let p = plan m in
-    let w : Written = write p.puts x.store.cut x.store.records in
-    subst (λ o. Acted p (option_map_or (λ n. left_by x (outcome_of (write (plan n).puts x.store.cut x.store.records) (plan n))) o (stays x halts))) (sym e)
-    (by_whole w w.whole)
-  where
-    by_whole : (w : Written) (b : Bool) → Acted (plan m) (left_by x (if b then finished w (plan m) else halted w (plan m)))
-    by_whole w true = Whole refl refl
-    by_whole w false = Failed refl
-
--- # What is said of a frame
-
--- the same in the words of the report, for either kind of node
-abbrev says : Result Heard Dropped → Reception
-says (Ok h) = station_reception h
-says (Err reason) = only (drop_word reason)
-
-says_meter : (r : Result Heard Dropped) → meter_reception (meters.heard_by_station r) ≡ says r
-says_meter (Ok h) = refl
-says_meter (Err reason) = refl
-
-says_coordinator : (r : Result Heard Dropped) → coordinator_reception (coordinator_rules.heard_by_station r) ≡ says r
-says_coordinator (Ok h) = refl
-says_coordinator (Err reason) = refl
-
--- A node's reception of a frame: what its station's plan says and sends, or that a write failed.
-data Receives (p : Hearing) (d : NodeStep Reception) : Type 0 where
-  AsPlanned : d.answer ≡ says p.answer → d.frames ≡ p.frames → Receives p d
-  Halts : d.answer ≡ only answers.Store → Receives p d
-
-module _ (ciphers : Ciphers) (x : Node) (m : Memory) (runs : x.memory ≡ Some m) (got : Accepted) (cost note now : ℕ)
-    (none : unread (hear m.station got cost note now).answer ≡ None) where
-  abbrev plan_is : Hearing
-  plan_is = hear m.station got cost note now
-
-  fails : plan_is.failed ≡ Err drops.Store
-  fails = (refusals.drops m.station got cost note now).0
-
-  as_meter : (psk : Key) → Receives plan_is (hearing_step ciphers (record x { role = Meter psk }) got cost note now)
-  as_meter psk =
-      let own = identity ciphers x psk in
-      let y : Node = record x { role = Meter psk } in
-      let is : meters.hear_meter own m got cost note now ≡ within (λ l. with_station l m) meters.heard_by_station plan_is =
-      λ i. meters.heard_by own m now plan_is (none i) in
-      by_act (acts y (Err drops.Store) (λ n. meters.hear_meter own n got cost note now))
-      (subst (λ p. Acted p (acts y (Err drops.Store) (λ n. meters.hear_meter own n got cost note now))) is
-      (acts_either y m (Err drops.Store) (λ n. meters.hear_meter own n got cost note now) runs))
-    where
-      by_act : (d : NodeStep (Result MeterHeard Dropped)) → Acted (within (λ l. with_station l m) meters.heard_by_station plan_is) d
-          → Receives plan_is (record { node = d.node; answer = meter_reception d.answer; frames = d.frames; made = d.made; opened = d.opened })
-      by_act d (Whole a f) = AsPlanned (ap meter_reception a ∙ says_meter plan_is.answer) f
-      by_act d (Failed a) = Halts (ap meter_reception a ∙ ap (λ r. meter_reception (meters.heard_by_station r)) fails)
-
-  as_coordinator : Receives plan_is (hearing_step ciphers (record x { role = Coordinator }) got cost note now)
-  as_coordinator =
-      let own : coordinator_rules.CoordinatorIdentity = record { eui = x.eui; ciphers = ciphers } in
-      let y : Node = record x { role = Coordinator } in
-      let is : coordinator_rules.hear_coordinator own m got cost note now ≡ within (λ l. with_station l m) coordinator_rules.heard_by_station plan_is =
-      λ i. coordinator_rules.heard_by own m now plan_is (none i) in
-      by_act (acts y (Err drops.Store) (λ n. coordinator_rules.hear_coordinator own n got cost note now))
-      (subst (λ p. Acted p (acts y (Err drops.Store) (λ n. coordinator_rules.hear_coordinator own n got cost note now))) is
-      (acts_either y m (Err drops.Store) (λ n. coordinator_rules.hear_coordinator own n got cost note now) runs))
-    where
-      by_act : (d : NodeStep (Result CoordinatorHeard Dropped)) → Acted (within (λ l. with_station l m) coordinator_rules.heard_by_station plan_is) d
-          → Receives plan_is (record { node = d.node; answer = coordinator_reception d.answer; frames = d.frames; made = d.made; opened = d.opened })
-      by_act d (Whole a f) = AsPlanned (ap coordinator_reception a ∙ says_coordinator plan_is.answer) f
-      by_act d (Failed a) = Halts (ap coordinator_reception a ∙ ap (λ r. coordinator_reception (coordinator_rules.heard_by_station r)) fails)
-
-  receives : Receives plan_is (hearing_step ciphers x got cost note now)
-  receives = by_role x.role refl
-    where
-      by_role : (role : Role) → x.role ≡ role → Receives plan_is (hearing_step ciphers x got cost note now)
-      by_role Coordinator e = subst (λ r. Receives plan_is (hearing_step ciphers (record x { role = r }) got cost note now)) (sym e) as_coordinator
-      by_role (Meter psk) e = subst (λ r. Receives plan_is (hearing_step ciphers (record x { role = r }) got cost note now)) (sym e) (as_meter psk)
+use Rattle.line_progress.proofs.Receiving.{Receives, AsPlanned, HasHalted, says, receives}
 
 -- # Fates
 
@@ -154,7 +65,7 @@ module _ (ciphers : Ciphers) (flights : List Flight) (number : ℕ) (u : MeshUni
   -- what the answer, the datagram that was handed up and the frames of a node give
   abbrev Said : Reception → List Sent → Type 0
   Said r frames =
-      EventFate ciphers flights number u note r.answer (handed_by number r.up)
+      DeliveryFate ciphers flights number u note r.answer (handed_by number r.up)
       (flights ++ map (λ (frame : Sent). flight_by number (spelled ciphers frame)) frames)
 
   said_of : (r q : Reception) (frames sent : List Sent) → r ≡ q → frames ≡ sent → Said q sent → Said r frames
@@ -167,7 +78,7 @@ module _ (ciphers : Ciphers) (flights : List Flight) (number : ℕ) (u : MeshUni
   said_gathered l from held pieces.Held = IsHeld _
   said_gathered l from held (pieces.Whole n octets) = IsUp n octets _
 
-  said_ended : (reason : Dropped) (frames : List Sent) → ends_units reason ≡ true → Said (only (drop_word reason)) frames
+  said_ended : (reason : Dropped) (frames : List Sent) → is_unit_end reason ≡ true → Said (only (drop_word reason)) frames
   said_ended drops.NoRoute frames e = IsEnded answers.NoRoute _ refl
   said_ended drops.HopsSpent frames e = IsEnded answers.HopsSpent _ refl
   said_ended drops.CounterSpent frames e = IsEnded answers.CounterSpent _ refl
@@ -238,7 +149,7 @@ module _ (ciphers : Ciphers) (w : World) (number cost from : ℕ) (y : Node) (oc
   heard_now = hearing_step ciphers y got cost note_of w.clock
 
   abbrev FateOf : World × Trace → Type 0
-  FateOf r = EventFate ciphers w.flights number u note_of r.1.happenings.answer r.1.happenings.up r.0.flights
+  FateOf r = DeliveryFate ciphers w.flights number u note_of r.1.happenings.answer r.1.happenings.up r.0.flights
 
   fate_is : UnitFate m.station g.address mesh u note_of w.clock (hear m.station got cost note_of w.clock)
   fate_is = unit_fates m.station g got from key mesh u cost note_of w.clock ring path unit of
@@ -248,10 +159,10 @@ module _ (ciphers : Ciphers) (w : World) (number cost from : ℕ) (y : Node) (oc
     where
       by_reception : Receives (hear m.station got cost note_of w.clock) heard_now
           → Said ciphers w.flights number u note_of heard_now.answer heard_now.frames
-      by_reception (AsPlanned a f) =
+      by_reception (AsPlanned a f e) =
           said_of ciphers w.flights number u note_of heard_now.answer _ heard_now.frames _ a f
           (said_so ciphers w.flights number u note_of m.station g k mesh w.clock (hear m.station got cost note_of w.clock) ring keyed fate_is)
-      by_reception (Halts a) =
+      by_reception (HasHalted a f e) =
           said_of ciphers w.flights number u note_of heard_now.answer (only answers.Store) heard_now.frames heard_now.frames a refl
           (IsEnded answers.Store _ refl)
 
@@ -285,14 +196,14 @@ module _ (ciphers : Ciphers) (w : World) (number cost from : ℕ) (y : Node) (oc
       else hearing_outcome_by ciphers w number y octets got cost (command_of got))) (sym dropped)
       (subst (λ c. FateOf (hearing_outcome_by ciphers w number y octets got cost c)) (sym command) (by_checks w.checks_on))
 
-pub event_fates : DeliveriesHaveFates
+pub delivery_fates : DeliveriesHaveFates
 unfolding comes
-event_fates ciphers w number cost from x octets got m g key k mesh u known is path unit of runs ring keyed =
+delivery_fates ciphers w number cost from x octets got m g key k mesh u known is path unit of runs ring keyed =
     let d = accepting ciphers x octets in
     let way : comes ciphers w number x octets cost
     ≡ (if is_dropped w number got then unbelieved ciphers w number d.node octets got
     else hearing_outcome_by ciphers w number d.node octets got cost (command_of got)) =
     (λ i. if known i then discovers_by w number x octets cost x.memory else accepted_further ciphers w number octets cost d)
     ∙ (λ i. accepted_further ciphers w number octets cost (record d { answer = is i })) in
-    subst (λ (r : World × Trace). EventFate ciphers w.flights number u (note_by w octets got.path) r.1.happenings.answer r.1.happenings.up r.0.flights)
+    subst (λ (r : World × Trace). DeliveryFate ciphers w.flights number u (note_by w octets got.path) r.1.happenings.answer r.1.happenings.up r.0.flights)
     (sym way) (outcome_fate ciphers w number cost from d.node octets got m g key k mesh u path unit of runs ring keyed)

@@ -1,0 +1,34 @@
+-- What becomes of a piece that is held, where another one comes and where a frame is heard.
+use Rattle.std.specs.Prelude.{◌≡◌, ℕ, true, List, Some}
+use Rattle.mesh_header.specs.Pieces.{Placed}
+use Rattle.fragment_buffers.specs.Reassembly.{PlacedPiece, Reassembly, datagram_of, overlaps, placed}
+use Rattle.fragment_buffers.specs.Taking.{Taking, Whole, same_name, taken}
+use Rattle.node_rules.specs.declared.heard.Accepted.{Accepted}
+use Rattle.node_rules.specs.Hearing.{Hearing, gather, hear}
+use Rattle.node_rules.specs.Memory.{StationMemory}
+use Rattle.line_progress.specs.Lists.{Among}
+
+-- # A piece that is held
+
+-- What becomes of it where another piece comes: a reassembly of the same name has it still, or it is handed up with the whole of it; only
+-- a piece that overlaps one of its reassembly discards it.
+pub data PieceFate (r : Reassembly) (p : PlacedPiece) (came : PlacedPiece) (t : Taking) : Type 0 where
+  StaysHeld : (s : Reassembly) → Among s t.held → same_name r s ≡ true → Among p s.pieces → PieceFate r p came t
+  CameUp : (s : Reassembly) (octets : List ℕ) → same_name r s ≡ true → Among p s.pieces → datagram_of s ≡ Some octets
+      → t.outcome ≡ Whole s.note octets → PieceFate r p came t
+  Discarded : overlaps r.pieces came ≡ true → PieceFate r p came t
+
+abbrev pub PiecesHaveFates : Type 0
+PiecesHaveFates =
+    (held : List Reassembly) (origin : ℕ) (piece : Placed) (note now : ℕ) (r : Reassembly) (p : PlacedPiece)
+    → Among r held → Among p r.pieces → PieceFate r p (placed piece) (taken held origin piece note now)
+
+-- # All that is held, where a frame is heard
+
+-- Hearing a frame leaves all reassemblies as they are, but for the rule of reassembly itself.
+pub data KeepsPieces (l : StationMemory) (p : Hearing) : Type 0 where
+  Same : p.memory.reassemblies ≡ l.reassemblies → KeepsPieces l p
+  Gathers : (from : ℕ) (piece : Placed) (note now : ℕ) → p ≡ gather l from piece note now → KeepsPieces l p
+
+abbrev pub HearingKeepsPieces : Type 0
+HearingKeepsPieces = (l : StationMemory) (got : Accepted) (cost note now : ℕ) → KeepsPieces l (hear l got cost note now)

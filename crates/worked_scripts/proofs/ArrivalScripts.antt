@@ -1,0 +1,90 @@
+-- A datagram arrives along a route that may carry it, and not along one that lacks something: the runs are computed.
+use Rattle.std.proofs.Common.{arith, ◌≡◌, ℕ, ◌+◌, ◌-◌, true, List, [], ◌∷◌, ◌++◌, length, take, drop, Some, None, refl, ap, ◌∙◌}
+use Rattle.std.specs.Prelude.{if◌then◌else◌}
+use Rattle.std.specs.Str.{bytes_eq}
+use Rattle.std.proofs.lemmas.Bool.{eqb-false, leb-true, ltb-true}
+use Rattle.std.proofs.lemmas.List.{length-append}
+use Rattle.std.proofs.lemmas.Slice.Eq.{bytes_eq-Decides}
+use Rattle.std.proofs.Math.Seq.{drop-append_seam, take-append_seam}
+use Rattle.plc_base.specs.declared.key.Key.{Key}
+use Rattle.node_rules.specs.Ciphers.{OpensWhatItSeals}
+use Rattle.worked_scripts.proofs.Computing.{computed}
+use Rattle.worked_scripts.specs.ArrivalScripts.{TheRouteMayCarry, ADatagramArrives, EachNodeIsReady, EachLinkHolds, TheRouteIsStraight, TheRestIsNeeded}
+use Rattle.worked_scripts.specs.ArrivalScripts.{FourteenLinksCarry}
+use Rattle.worked_scripts.specs.Scripts.{plain, plain_tag, plainly_opened}
+
+-- # The ciphers
+
+four_of : (octets : List ℕ) → length (take 4 (octets ++ 0 ∷ 0 ∷ 0 ∷ 0 ∷ [])) ≡ 4
+four_of [] = refl
+four_of (a ∷ []) = refl
+four_of (a ∷ b ∷ []) = refl
+four_of (a ∷ b ∷ c ∷ []) = refl
+four_of (a ∷ b ∷ c ∷ d ∷ rest) = refl
+
+length_sealed : (key : Key) (payload : List ℕ) → length (payload ++ plain_tag key) ≡ length payload + 4
+length_sealed key payload = length-append payload (plain_tag key) ∙ ap (λ n. length payload + n) (four_of key.0)
+
+opens_sealed : (key : Key) (payload : List ℕ) → plainly_opened key (payload ++ plain_tag key) ≡ Some payload
+opens_sealed key payload =
+    let tag : List ℕ = plain_tag key in
+    let long = length_sealed key payload in
+    let start : length (payload ++ tag) - 4 ≡ length payload = omega (arith, long) in
+    (λ i. if bytes_eq (drop (start i) (payload ++ tag)) tag then Some (take (start i) (payload ++ tag)) else None)
+    ∙ (λ i. if bytes_eq (drop-append_seam payload tag i) tag then Some (take-append_seam payload tag i) else None)
+    ∙ (λ i. if (bytes_eq-Decides tag tag).1 refl i then Some payload else None)
+
+plain_opens : OpensWhatItSeals plain
+plain_opens = record { opens = λ key head payload. opens_sealed key payload; tag = λ key head payload. length_sealed key payload }
+
+-- # A route that may carry a datagram
+
+pub the_route_may_carry : TheRouteMayCarry
+unfolding computed TheRouteMayCarry
+the_route_may_carry =
+    record {
+      ready = (
+        refl,
+        record { memory = refl; spared = refl; ring = refl; address = ltb-true _ _ refl; index = leb-true _ _ refl; key = refl },
+        (
+          refl,
+          record { memory = refl; spared = refl; ring = refl; address = ltb-true _ _ refl; index = leb-true _ _ refl; key = refl },
+          (refl, record { memory = refl; spared = refl; ring = refl; address = ltb-true _ _ refl; index = leb-true _ _ refl; key = refl }, tt),
+        ),
+      );
+      straight = ((eqb-false _ _ refl, (eqb-false _ _ refl, tt)), ((eqb-false _ _ refl, tt), (tt, tt)));
+      route = (
+        record { on = eqb-false _ _ refl; apart = eqb-false _ _ refl; route = refl; left = refl; opens = refl; admits = refl },
+        (record { on = eqb-false _ _ refl; apart = eqb-false _ _ refl; route = refl; left = refl; opens = refl; admits = refl }, refl),
+      );
+      some = ltb-true _ _ refl;
+      few = leb-true _ _ refl;
+      short = leb-true _ _ refl;
+      room = leb-true _ _ refl;
+    }
+
+pub a_datagram_arrives : ADatagramArrives
+unfolding computed ADatagramArrives
+a_datagram_arrives = (plain_opens, record { answers = refl; note = 2; up = refl }, refl)
+
+-- # A route that lacks one thing
+
+pub each_node_is_ready : EachNodeIsReady
+unfolding computed EachNodeIsReady
+each_node_is_ready = (refl, refl, refl, refl, refl, refl, refl, refl)
+
+pub each_link_holds : EachLinkHolds
+unfolding computed EachLinkHolds
+each_link_holds = (refl, refl, refl, refl, refl, refl)
+
+pub the_route_is_straight : TheRouteIsStraight
+unfolding computed TheRouteIsStraight
+the_route_is_straight = refl
+
+pub the_rest_is_needed : TheRestIsNeeded
+unfolding computed TheRestIsNeeded
+the_rest_is_needed = (refl, refl, refl, refl)
+
+pub fourteen_links_carry : FourteenLinksCarry
+unfolding computed FourteenLinksCarry
+fourteen_links_carry = (refl, refl)

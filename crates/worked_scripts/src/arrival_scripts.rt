@@ -1,0 +1,47 @@
+//! A datagram arrives along a route that may carry it; where the route lacks one thing alone, it does not.
+ghost use Rattle.worked_scripts.specs.ArrivalScripts.{TheRouteMayCarry, ADatagramArrives};
+ghost use Rattle.worked_scripts.specs.ArrivalScripts.{EachNodeIsReady, EachLinkHolds, TheRouteIsStraight, TheRestIsNeeded, FourteenLinksCarry};
+
+/// A route that was found may carry a datagram of one octet.
+#[tactic(auto, using(crate::proofs::ArrivalScripts::the_route_may_carry))]
+pub fn the_route_may_carry()
+    ensures { TheRouteMayCarry }
+{}
+
+/// The ciphers open what they seal, and a datagram arrives along this route, as one octet and as 375.
+#[tactic(auto, using(crate::proofs::ArrivalScripts::a_datagram_arrives))]
+pub fn a_datagram_arrives()
+    ensures { ADatagramArrives }
+{}
+
+/// A datagram does not arrive where a node of the route is not there, is halted, loses power or is not joined, where its address or its index
+/// is out of its range, or where it has no key to seal with.
+#[tactic(auto, using(crate::proofs::ArrivalScripts::each_node_is_ready))]
+pub fn each_node_is_ready()
+    ensures { EachNodeIsReady }
+{}
+
+/// Nor where a link does not hold: a node has the address of the target or of its next hop, no route, no counter, another key than the next
+/// one, or a counter that the next one does not admit any more.
+#[tactic(auto, using(crate::proofs::ArrivalScripts::each_link_holds))]
+pub fn each_link_holds()
+    ensures { EachLinkHolds }
+{}
+
+/// Nor where a node stands on the route twice.
+#[tactic(auto, using(crate::proofs::ArrivalScripts::the_route_is_straight))]
+pub fn the_route_is_straight()
+    ensures { TheRouteIsStraight }
+{}
+
+/// Nor where the datagram is empty or has more than 375 octets, the run may not have the events, or the ciphers do not open what they seal.
+#[tactic(auto, using(crate::proofs::ArrivalScripts::the_rest_is_needed))]
+pub fn the_rest_is_needed()
+    ensures { TheRestIsNeeded }
+{}
+
+/// A datagram arrives over 14 links, and ends for want of hops where there are 15.
+#[tactic(auto, using(crate::proofs::ArrivalScripts::fourteen_links_carry))]
+pub fn fourteen_links_carry()
+    ensures { FourteenLinksCarry }
+{}
