@@ -161,8 +161,8 @@ impl ModelFlash {
     // What is left of an erase in which power fails.
     fn erase_partly(&mut self, how: Cut)
         ensures size { length self.new.words.items ≡ length self.old.words.items }
-        ensures left { ((self.new.words ≡ self.old.words) × (self.new.torn ≡ self.old.torn)) ⊎ (self.new.torn ≡ true) ⊎ ((self.new.torn ≡ false) × ((i : ℕ)
-            → shown self.new.words.items i ≡ Some erased)) }
+        ensures left { ((self.new.words ≡ self.old.words) × (self.new.torn ≡ self.old.torn)) ⊎ ((self.new.torn ≡ true) × (self.new.words ≡ self.old.words))
+            ⊎ ((self.new.torn ≡ false) × ((i : ℕ) → shown self.new.words.items i ≡ Some erased)) }
     {
         match how {
             Cut::Before => {}
@@ -198,16 +198,20 @@ impl FlashBank for ModelFlash {
         self.words.len()
     }
 
-    #[tactic(auto, using(crate::proofs::ModelLemmas::reads_torn, crate::proofs::ModelLemmas::reads_whole))]
+    #[tactic(auto, using(crate::proofs::ModelLemmas::reads_torn, crate::proofs::ModelLemmas::reads_torn_bank, crate::proofs::ModelLemmas::reads_whole))]
     fn read(&self, at: usize) -> u64 {
         let word = self.words[at];
-        if self.torn {
-            return no_head(self.anything(word.value));
-        }
         if word.torn {
             return self.anything(word.value);
         }
-        word.value
+        if !self.torn {
+            return word.value;
+        }
+        let any = self.anything(word.value);
+        if word.value == 0 {
+            return no_head(any);
+        }
+        any
     }
 
     fn program(&mut self, at: usize, word: u64) -> Result<(), Failed> {
