@@ -38,6 +38,7 @@ IsStore first second choice = ((n : ℕ) × AreLeft first second n choice) ⊎ (
 
 -- Nothing is open: the mark and the log of the live bank are firm, and no reading takes the spare one for a live one.
 pub record AreReady (live spare : Bank) (n : ℕ) : Type 0 where
+  pub sizes : live.size ≡ spare.size
   pub mark : live.words 2 ≡ Some 0
   pub log : IsSettled live n
   pub beside : IsDead spare

@@ -1,5 +1,5 @@
 //! A bank of flash, as firmware gives it.
-ghost use Rattle.std.specs.Prelude.{◌≡◌, ◌<◌, ◌≤◌, ◌^◌, is_ok, false, Some};
+ghost use Rattle.std.specs.Prelude.{◌≡◌, ◌<◌, ◌≤◌, ◌^◌, is_ok, Bool, true, false, OnErr, Some};
 ghost use Rattle.flash_keeper.specs.Flash.{Bank, head_word, Reads, MayProgram, Programs, Erases};
 
 use plc_base::Failed;
@@ -20,6 +20,9 @@ pub const HEAD: u64 = 0x464C_4B45_4550_0001;
 pub trait FlashBank {
     /// The words of the bank.
     ghost bank: { Self → Bank };
+
+    /// Whether one of its programs or erases has failed.
+    ghost has_failed: { Self → Bool };
 
     /// How many words there are: at least 14, and fewer than 2^32. It is the same for good, and the same for both banks of a store.
     fn words(&self) -> usize
@@ -44,11 +47,13 @@ pub trait FlashBank {
     fn program(&mut self, at: usize, word: u64) -> Result<(), Failed>
         requires within { at < (bank self.old).size }
         requires allowed { MayProgram (bank self.old) at word }
-        ensures { Programs at word (is_ok result) (bank self.old) (bank self.new) };
+        ensures programs { Programs at word (is_ok result) (bank self.old) (bank self.new) }
+        ensures failed { OnErr result (has_failed self.new ≡ true) };
 
     /// Erases all words of the bank, and no other. After `Failed` it was cut short, or did not begin.
     fn erase(&mut self) -> Result<(), Failed>
-        ensures { Erases (is_ok result) (bank self.old) (bank self.new) };
+        ensures erases { Erases (is_ok result) (bank self.old) (bank self.new) }
+        ensures failed { OnErr result (has_failed self.new ≡ true) };
 
     /// There is room for a cell, and places fit into 32 bits.
     ghost fits: { (b : Self) → (14 ≤ (bank b).size) × ((bank b).size < 2 ^ 32) };

@@ -1,5 +1,5 @@
 //! The keeper.
-ghost use Rattle.std.specs.Prelude.{◌≡◌, ◌<◌, ◌+◌, ℕ, is_ok, OnOk, OnErr, IfOk, IfErr, None};
+ghost use Rattle.std.specs.Prelude.{◌≡◌, ◌<◌, ◌+◌, ℕ, is_ok, OnOk, OnErr, IfOk, IfErr, None, true, ◌⊎◌};
 ghost use Rattle.std.specs.FinMap.{insert};
 ghost use Rattle.std.specs.FinMap as map;
 ghost use Rattle.plc_base.specs.Keeper.{IsSlot, Puts};
@@ -65,6 +65,7 @@ impl<B: FlashBank + Drop> FlashKeeper<B> {
             ≡ record { store = record { records = map.empty; faults = 0; known_cut = None; listed = None }; left = map.empty }) }
         ensures sizes { IfOk result (λ keeper. (B.bank first).size ≡ (B.bank second).size) }
         ensures fault { IfErr result (λ e. IsCause e.0 (B.bank first) (B.bank second)) }
+        ensures failed { IfErr result (λ e. e.0 ≡ OpenFault.Flash → (B.has_failed e.1 ≡ true) ⊎ (B.has_failed e.2 ≡ true)) }
     {
         if first.words() != second.words() {
             return Err((OpenFault::Sizes, first, second));
@@ -88,9 +89,11 @@ impl<B: FlashBank + Drop> FlashKeeper<B> {
     // Settles two banks, of which the first one read as live.
     #[tactic(auto, using(crate::proofs::KeeperLemmas::kept_of_ready, crate::proofs::KeeperLemmas::kept_of_left, crate::proofs::KeeperLemmas::nothing_else))]
     fn settled(live: B, spare: B, generation: u64) -> Result<FlashKeeper<B>, (OpenFault, B, B)>
-        requires { (c : Choice) × (n : ℕ) × AreLeft (B.bank live) (B.bank spare) n c }
+        requires left { (c : Choice) × (n : ℕ) × AreLeft (B.bank live) (B.bank spare) n c }
+        requires sizes { (B.bank live).size ≡ (B.bank spare).size }
         ensures opened { IfOk result (λ keeper. (n : ℕ) (c : Choice) → AreLeft (B.bank live) (B.bank spare) n c → IsOpened c keeper) }
         ensures fault { IfErr result (λ e. e.0 ≡ OpenFault.Flash) }
+        ensures failed { IfErr result (λ e. (B.has_failed e.1 ≡ true) ⊎ (B.has_failed e.2 ≡ true)) }
         ensures left { IfErr result (λ e. (n : ℕ) (c : Choice) → AreLeft (B.bank live) (B.bank spare) n c → IsStore (B.bank e.1) (B.bank e.2) c) }
     {
         let mut pair = Pair {
@@ -124,6 +127,7 @@ impl<B: FlashBank + Drop> FlashKeeper<B> {
         ensures opened { IfOk result (λ keeper. (c : Choice) → IsStore (B.bank first) (B.bank second) c → IsOpened c keeper) }
         ensures sizes { IfOk result (λ keeper. (B.bank first).size ≡ (B.bank second).size) }
         ensures fault { IfErr result (λ e. IsCause e.0 (B.bank first) (B.bank second)) }
+        ensures failed { IfErr result (λ e. e.0 ≡ OpenFault.Flash → (B.has_failed e.1 ≡ true) ⊎ (B.has_failed e.2 ≡ true)) }
         ensures left { IfErr result (λ e. (c : Choice) → IsStore (B.bank first) (B.bank second) c → IsStore (B.bank e.1) (B.bank e.2) c) }
     {
         if first.words() != second.words() {

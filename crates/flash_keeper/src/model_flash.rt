@@ -35,6 +35,7 @@ pub struct ModelFlash {
     words: Vec<ModelWord>,
     torn: bool,
     cut: Option<(u32, Cut)>,
+    failed: bool,
     erases: u32,
     programs: u32,
     turn: Cell<u64>,
@@ -91,6 +92,7 @@ impl ModelFlash {
             words: all,
             torn: false,
             cut: None,
+            failed: false,
             erases: 0,
             programs: 0,
             turn: Cell::new(seed),
@@ -192,6 +194,8 @@ impl ModelFlash {
 impl FlashBank for ModelFlash {
     ghost bank = { λ b. bank_of b.words.items b.torn };
 
+    ghost has_failed = { λ b. b.failed };
+
     ghost fits = { λ b. b.fits };
 
     fn words(&self) -> usize {
@@ -222,6 +226,7 @@ impl FlashBank for ModelFlash {
         };
         let old = self.words[at];
         self.put(at, cut_short(&old, word, how));
+        self.failed = true;
         Err(Failed)
     }
 
@@ -232,6 +237,7 @@ impl FlashBank for ModelFlash {
             return Ok(());
         };
         self.erase_partly(how);
+        self.failed = true;
         Err(Failed)
     }
 }

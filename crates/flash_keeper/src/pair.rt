@@ -1,5 +1,5 @@
 //! Two banks: the live one with the log, and the spare one to which the log is copied when it is full.
-ghost use Rattle.std.specs.Prelude.{◌≡◌, ◌<◌, ◌≤◌, ◌+◌, ◌⊎◌, ℕ, OnOk, OnErr, IfOk, Some, false, is_ok};
+ghost use Rattle.std.specs.Prelude.{◌≡◌, ◌<◌, ◌≤◌, ◌+◌, ◌⊎◌, ℕ, OnOk, OnErr, IfOk, Some, true, false, is_ok, ◌^◌};
 ghost use Rattle.std.specs.FinMap as map;
 ghost use Rattle.std.specs.FinMap.{insert};
 ghost use Rattle.flash_keeper.specs.Flash.{erased, Programs};
@@ -41,14 +41,16 @@ pub fn generation_of<B: FlashBank>(bank: &B) -> Option<u64>
 
 // Retires a bank: its head is 0 from then on. No reading takes it for a live one, and no erase that is cut short makes one of it.
 fn retire<B: FlashBank>(bank: &mut B) -> Result<(), Failed>
-    ensures { Programs 0 0 (is_ok result) (B.bank bank.old) (B.bank bank.new) }
+    ensures programs { Programs 0 0 (is_ok result) (B.bank bank.old) (B.bank bank.new) }
+    ensures failed { OnErr result (B.has_failed bank.new ≡ true) }
 {
     bank.program(0, 0)
 }
 
 // Makes firm the mark of a bank that reads as a live one, or whose copy is done.
 fn confirm<B: FlashBank>(bank: &mut B) -> Result<(), Failed>
-    ensures { Programs 2 0 (is_ok result) (B.bank bank.old) (B.bank bank.new) }
+    ensures programs { Programs 2 0 (is_ok result) (B.bank bank.old) (B.bank bank.new) }
+    ensures failed { OnErr result (B.has_failed bank.new ≡ true) }
 {
     bank.program(2, 0)
 }
@@ -59,6 +61,7 @@ fn wipe<B: FlashBank>(bank: &mut B) -> Result<(), Failed>
     ensures blank { OnOk result ((i : ℕ) → (B.bank bank.new).words i ≡ Some erased) }
     ensures dead { IsDead (B.bank bank.old) → OnErr result (IsDead (B.bank bank.new)) }
     ensures size { (B.bank bank.new).size ≡ (B.bank bank.old).size }
+    ensures failed { OnErr result (B.has_failed bank.new ≡ true) }
 {
     retire(bank)?;
     bank.erase()
@@ -71,6 +74,7 @@ fn begin<B: FlashBank>(bank: &mut B, generation: u64) -> Result<(), Failed>
     ensures unmarked { OnOk result ((B.bank bank.new).words 2 ≡ Some erased) }
     ensures dead { IsDead (B.bank bank.old) → OnErr result (IsDead (B.bank bank.new)) }
     ensures size { (B.bank bank.new).size ≡ (B.bank bank.old).size }
+    ensures failed { OnErr result (B.has_failed bank.new ≡ true) }
 {
     wipe(bank)?;
     bank.program(0, HEAD)?;
@@ -89,10 +93,13 @@ fn copy_to<B: FlashBank>(
     requires firm { (B.bank from.now).torn ≡ false }
     requires certain { AreCertain (B.bank from.now).words cells }
     requires dead { IsDead (B.bank to.old) }
+    requires room { cells ≤ room (B.bank to.old).size }
     ensures head { IfOk result (λ n. IsHeaded (B.bank to.new) generation) }
     ensures log { IfOk result (λ n. IsSettled (B.bank to.new) n) }
     ensures records { IfOk result (λ n. upto (B.bank to.new).words n ≡ upto (B.bank from.now).words cells) }
     ensures dead { OnErr result (IsDead (B.bank to.new)) }
+    ensures failed { OnErr result (B.has_failed to.new ≡ true) }
+    ensures size { (B.bank to.new).size ≡ (B.bank to.old).size }
 {
     begin(to, generation)?;
     copy(from, cells, to)
@@ -105,18 +112,17 @@ impl<B: FlashBank + Drop> Pair<B> {
         requires within { self.old.next ≤ room (B.bank self.old.live).size }
         requires certain { AreCertain (B.bank self.old.live).words self.old.next }
         requires spare { IsDead (B.bank self.old.spare) }
+        requires sizes { (B.bank self.old.live).size ≡ (B.bank self.old.spare).size }
         ensures ready { OnOk result (AreReady (B.bank self.new.live) (B.bank self.new.spare) self.new.next) }
         ensures head { OnOk result (IsLive (B.bank self.new.live) self.new.generation) }
-        ensures later { OnOk result (self.old.generation < self.new.generation) }
+        ensures later { OnOk result (self.old.generation + 1 < 2 ^ 64 → self.new.generation ≡ self.old.generation + 1) }
         ensures records { OnOk result (upto (B.bank self.new.live).words self.new.next ≡ upto (B.bank self.old.live).words self.old.next) }
         ensures same { OnErr result (upto (B.bank self.new.live).words self.new.next ≡ upto (B.bank self.old.live).words self.old.next) }
         ensures left { OnErr result ((c : Choice) → IsLeft (B.bank self.old.live) self.old.next c
             → AreLeft (B.bank self.new.live) (B.bank self.new.spare) self.new.next c) }
+        ensures failed { OnErr result ((B.has_failed self.new.live ≡ true) ⊎ (B.has_failed self.new.spare ≡ true)) }
     {
-        if self.generation == u64::MAX {
-            return Err(Failed);
-        }
-        let generation = self.generation + 1;
+        let generation = self.generation.saturating_add(1);
         let next = copy_to(&self.live, self.next, &mut self.spare, generation)?;
         confirm(&mut self.spare)?;
         retire(&mut self.live)?;
@@ -184,7 +190,9 @@ impl<B: FlashBank + Drop> Pair<B> {
             → IsSettled (B.bank self.new.live) self.new.next × IsOneOf c (upto (B.bank self.new.live).words self.new.next)) }
         ensures left { OnErr result ((c : Choice) → IsClosable (B.bank self.old.live) at c → IsLeft (B.bank self.new.live) at c) }
         ensures heads { SameBelow 3 (B.bank self.old.live) (B.bank self.new.live) }
+        ensures size { (B.bank self.new.live).size ≡ (B.bank self.old.live).size }
         ensures spare { B.bank self.new.spare ≡ B.bank self.old.spare }
+        ensures failed { OnErr result ((B.has_failed self.new.live ≡ true) ⊎ (B.has_failed self.new.spare ≡ true)) }
     {
         let room = room_of(&self.live);
         if at >= room {
@@ -201,10 +209,12 @@ impl<B: FlashBank + Drop> Pair<B> {
         requires mark { (B.bank self.old.live).words 2 ≡ Some 0 }
         requires log { (c : Choice) × (n : ℕ) × IsLeft (B.bank self.old.live) n c }
         requires spare { IsDead (B.bank self.old.spare) }
+        requires sizes { (B.bank self.old.live).size ≡ (B.bank self.old.spare).size }
         ensures ready { OnOk result (AreReady (B.bank self.new.live) (B.bank self.new.spare) self.new.next) }
         ensures records { OnOk result ((c : Choice) (n : ℕ) → IsLeft (B.bank self.old.live) n c
             → IsOneOf c (upto (B.bank self.new.live).words self.new.next)) }
         ensures left { OnErr result ((c : Choice) (n : ℕ) → IsLeft (B.bank self.old.live) n c → IsStore (B.bank self.new.live) (B.bank self.new.spare) c) }
+        ensures failed { OnErr result ((B.has_failed self.new.live ≡ true) ⊎ (B.has_failed self.new.spare ≡ true)) }
     {
         let at = first_blank(&self.live);
         let sure = settle_before(&mut self.live, at)?;
@@ -218,12 +228,14 @@ impl<B: FlashBank + Drop> Pair<B> {
     /// Makes certain what a loss of power left of the banks: first that the live one is it, whose reading showed it as one, and that the
     /// other one is none; then where the log ends.
     pub fn settle(&mut self) -> Result<(), Failed>
-        requires { (c : Choice) × (n : ℕ) × AreLeft (B.bank self.old.live) (B.bank self.old.spare) n c }
+        requires left { (c : Choice) × (n : ℕ) × AreLeft (B.bank self.old.live) (B.bank self.old.spare) n c }
+        requires sizes { (B.bank self.old.live).size ≡ (B.bank self.old.spare).size }
         ensures ready { OnOk result (AreReady (B.bank self.new.live) (B.bank self.new.spare) self.new.next) }
         ensures records { OnOk result ((n : ℕ) (c : Choice) → AreLeft (B.bank self.old.live) (B.bank self.old.spare) n c
             → IsOneOf c (upto (B.bank self.new.live).words self.new.next)) }
         ensures left { OnErr result ((n : ℕ) (c : Choice) → AreLeft (B.bank self.old.live) (B.bank self.old.spare) n c
             → IsStore (B.bank self.new.live) (B.bank self.new.spare) c) }
+        ensures failed { OnErr result ((B.has_failed self.new.live ≡ true) ⊎ (B.has_failed self.new.spare ≡ true)) }
     {
         confirm(&mut self.live)?;
         retire(&mut self.spare)?;
@@ -232,8 +244,10 @@ impl<B: FlashBank + Drop> Pair<B> {
 
     /// Retires and erases both banks, and makes the live one a store with no record.
     pub fn format(&mut self) -> Result<(), Failed>
+        requires { (B.bank self.old.live).size ≡ (B.bank self.old.spare).size }
         ensures ready { OnOk result (AreReady (B.bank self.new.live) (B.bank self.new.spare) self.new.next) }
         ensures records { OnOk result (upto (B.bank self.new.live).words self.new.next ≡ map.empty) }
+        ensures failed { OnErr result ((B.has_failed self.new.live ≡ true) ⊎ (B.has_failed self.new.spare ≡ true)) }
     {
         wipe(&mut self.spare)?;
         begin(&mut self.live, 1)?;

@@ -2,8 +2,8 @@ use Rattle.flash_keeper.proofs.Outcomes.{one_if_ok, one_if_err}
 use Rattle.flash_keeper.proofs.BankLemmas.{choose, choose_second}
 use Rattle.flash_keeper.proofs.keeper.FlashKeeper.open.Goals as goal
 
-pub settled-requires : goal.settled-requires
-settled-requires g c =
+pub settled-requires-clause-left : goal.settled-requires-clause-left
+settled-requires-clause-left g c =
     let left = choose_second (g.B.FlashBank.bank c.args.first) (g.B.FlashBank.bank c.args.second) c.requires.0
     c.in-Some-two.later c.generation_of-two.result c.generation_of-two.ensures c.in-Some-two.is c.requires.1 in
     (c.requires.0, left.0, left.1)
@@ -20,8 +20,8 @@ returns-in_default-clause-left g c = one_if_err c.settled.result (λ e f choice 
     c.in-Some-two.later c.generation_of-two.result c.generation_of-two.ensures c.in-Some-two.is store in
     f left.0 choice left.1) c.settled.ensures.left
 
-pub settled-requires-in_default-two-2 : goal.settled-requires-in_default-two-2
-settled-requires-in_default-two-2 g c =
+pub settled-requires-in_default-two-2-clause-left : goal.settled-requires-in_default-two-2-clause-left
+settled-requires-in_default-two-2-clause-left g c =
     let left = choose (g.B.FlashBank.bank c.args.first) (g.B.FlashBank.bank c.args.second) c.requires.0
     c.in-Some.earlier c.generation_of-one.result c.generation_of-one.ensures c.in-Some.is c.requires.1 in
     (c.requires.0, left.0, left.1)
@@ -38,8 +38,8 @@ returns-in_default-two-2-clause-left g c = one_if_err c.settled-in_default-two-2
     c.in-Some.earlier c.generation_of-one.result c.generation_of-one.ensures c.in-Some.is store in
     f left.0 choice left.1) c.settled-in_default-two-2.ensures.left
 
-pub settled-requires-then-earlier-later : goal.settled-requires-then-earlier-later
-settled-requires-then-earlier-later g c =
+pub settled-requires-then-earlier-later-clause-left : goal.settled-requires-then-earlier-later-clause-left
+settled-requires-then-earlier-later-clause-left g c =
     let left = choose_second (g.B.FlashBank.bank c.args.first) (g.B.FlashBank.bank c.args.second) c.requires.0
     c.in-Some-two-2.later c.generation_of-two.result c.generation_of-two.ensures c.in-Some-two-2.is c.requires.1 in
     (c.requires.0, left.0, left.1)
@@ -56,8 +56,8 @@ returns-then-earlier-later-clause-left g c = one_if_err c.settled-then-earlier-l
     c.in-Some-two-2.later c.generation_of-two.result c.generation_of-two.ensures c.in-Some-two-2.is store in
     f left.0 choice left.1) c.settled-then-earlier-later.ensures.left
 
-pub settled-requires-2 : goal.settled-requires-2
-settled-requires-2 g c =
+pub settled-requires-2-clause-left : goal.settled-requires-2-clause-left
+settled-requires-2-clause-left g c =
     let left = choose (g.B.FlashBank.bank c.args.first) (g.B.FlashBank.bank c.args.second) c.requires.0
     c.in-Some.earlier c.generation_of-one.result c.generation_of-one.ensures c.in-Some.is c.requires.1 in
     (c.requires.0, left.0, left.1)

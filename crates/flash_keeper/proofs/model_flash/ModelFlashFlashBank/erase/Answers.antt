@@ -5,8 +5,8 @@ use Rattle.flash_keeper.proofs.model_flash.ModelFlashFlashBank.erase.Goals as go
 never : false ≡ true → ⊥
 never e = cc
 
-pub returns : goal.returns
-returns c =
+pub returns-clause-erases : goal.returns-clause-erases
+returns-clause-erases c =
     let words = c.power.ensures.words in
     let torn = c.power.ensures.torn in
     record {

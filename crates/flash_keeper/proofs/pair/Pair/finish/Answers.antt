@@ -1,4 +1,5 @@
-use Rattle.std.proofs.Common.{◌∙◌, ◌-◌, inl, arith}
+use Rattle.std.proofs.Common.{◌∙◌, ◌-◌, inl, sym, ap, arith}
+use Rattle.flash_keeper.specs.Flash.{Bank}
 use Rattle.flash_keeper.proofs.Outcomes.{on_err, one_ok, one_err}
 use Rattle.flash_keeper.proofs.LogLemmas.{one_of}
 use Rattle.flash_keeper.proofs.BankLemmas.{n_within, store_left, dead_moved}
@@ -54,6 +55,7 @@ returns-clause-ready g c =
     let left = c.requires.log.2 in
     let closable = c.in_ok-sure.ensures.sure c.if-not-sure.false n choice left (c.first_blank-at.ensures.found n choice left) in
     one_ok c.finish_at.result (λ f. record {
+      sizes = c.finish_at.ensures.size ∙ c.settle_before.ensures.size ∙ c.requires.sizes ∙ ap (λ (b : Bank). b.size) (sym c.finish_at.ensures.spare);
       mark = c.finish_at.ensures.heads 2 (omega arith) ∙ c.settle_before.ensures.heads 2 (omega arith) ∙ c.requires.mark;
       log = (f choice closable).0;
       beside = dead_moved _ _ c.finish_at.ensures.spare c.requires.spare;

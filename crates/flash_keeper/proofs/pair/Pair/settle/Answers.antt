@@ -7,7 +7,7 @@ pub returns-in_err-confirm-clause-left : goal.returns-in_err-confirm-clause-left
 returns-in_err-confirm-clause-left g c = on_err c.from_residual.result (λ n choice left. inl (
   n,
   record {
-    log = word_of_left _ (g.B.FlashBank.bank c.confirm.new.bank) 2 n choice (is_ok c.confirm.result) (omega arith) c.confirm.ensures left.log;
+    log = word_of_left _ (g.B.FlashBank.bank c.confirm.new.bank) 2 n choice (is_ok c.confirm.result) (omega arith) c.confirm.ensures.programs left.log;
     beside = left.beside;
   },
 ))
@@ -16,25 +16,25 @@ pub returns-in_err-retire-clause-left : goal.returns-in_err-retire-clause-left
 returns-in_err-retire-clause-left g c = on_err c.from_residual-in_err-retire.result (λ n choice left. inl (
   n,
   record {
-    log = word_of_left _ (g.B.FlashBank.bank c.confirm.new.bank) 2 n choice (is_ok c.confirm.result) (omega arith) c.confirm.ensures left.log;
-    beside = still_beside _ (g.B.FlashBank.bank c.retire.new.bank) choice (is_ok c.retire.result) c.retire.ensures left.beside;
+    log = word_of_left _ (g.B.FlashBank.bank c.confirm.new.bank) 2 n choice (is_ok c.confirm.result) (omega arith) c.confirm.ensures.programs left.log;
+    beside = still_beside _ (g.B.FlashBank.bank c.retire.new.bank) choice (is_ok c.retire.result) c.retire.ensures.programs left.beside;
   },
 ))
 
 pub finish-requires-clause-log : goal.finish-requires-clause-log
 finish-requires-clause-log g c = (
-  c.requires.0,
-  c.requires.1,
-  word_of_left _ (g.B.FlashBank.bank c.confirm.new.bank) 2 c.requires.1 c.requires.0 (is_ok c.confirm.result) (omega arith) c.confirm.ensures
-      c.requires.2.log,
+  c.requires.left.0,
+  c.requires.left.1,
+  word_of_left _ (g.B.FlashBank.bank c.confirm.new.bank) 2 c.requires.left.1 c.requires.left.0 (is_ok c.confirm.result) (omega arith) c.confirm.ensures.programs
+      c.requires.left.2.log,
 )
 
 pub returns-clause-records : goal.returns-clause-records
 returns-clause-records g c = one_ok c.finish.result (λ f n choice left.
-    f choice n (word_of_left _ (g.B.FlashBank.bank c.confirm.new.bank) 2 n choice (is_ok c.confirm.result) (omega arith) c.confirm.ensures left.log))
+    f choice n (word_of_left _ (g.B.FlashBank.bank c.confirm.new.bank) 2 n choice (is_ok c.confirm.result) (omega arith) c.confirm.ensures.programs left.log))
     c.finish.ensures.records
 
 pub returns-clause-left : goal.returns-clause-left
 returns-clause-left g c = one_err c.finish.result (λ f n choice left.
-    f choice n (word_of_left _ (g.B.FlashBank.bank c.confirm.new.bank) 2 n choice (is_ok c.confirm.result) (omega arith) c.confirm.ensures left.log))
+    f choice n (word_of_left _ (g.B.FlashBank.bank c.confirm.new.bank) 2 n choice (is_ok c.confirm.result) (omega arith) c.confirm.ensures.programs left.log))
     c.finish.ensures.left
