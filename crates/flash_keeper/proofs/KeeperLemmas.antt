@@ -13,16 +13,16 @@ on_false true p = tt
 on_false false p = p
 
 -- banks of which nothing is open
-pub kept_of_ready : (live spare : Bank) (n g : ℕ) (failed : Bool) → AreReady live spare n g → IsKept live spare n g failed
-kept_of_ready live spare n g failed r = record { left = ready_is_left live spare n g (choice_of live n) r (inl refl); ready = on_false failed r }
+pub kept_of_ready : (live spare : Bank) (n : ℕ) (failed : Bool) → AreReady live spare n → IsKept live spare n failed
+kept_of_ready live spare n failed r = record { left = ready_is_left live spare n (choice_of live n) r (inl refl); ready = on_false failed r }
 
 -- banks of which something may be open
-pub kept_of_left : (live spare : Bank) (n g : ℕ) → AreLeft live spare n (choice_of live n) → IsKept live spare n g true
-kept_of_left live spare n g left = record { left = left; ready = tt }
+pub kept_of_left : (live spare : Bank) (n : ℕ) → AreLeft live spare n (choice_of live n) → IsKept live spare n true
+kept_of_left live spare n left = record { left = left; ready = tt }
 
 -- nothing else may be found where nothing is open
-pub nothing_else : (live spare : Bank) (n g : ℕ) → AreReady live spare n g → upto live.words (n + 1) ≡ upto live.words n
-nothing_else live spare n g r = uncounted_cell live.words n (r.log.blank (mark n) (omega arith))
+pub nothing_else : (live spare : Bank) (n : ℕ) → AreReady live spare n → upto live.words (n + 1) ≡ upto live.words n
+nothing_else live spare n r = uncounted_cell live.words n (r.log.blank (mark n) (omega arith))
 
 -- of banks whose records are one and the same
 pub same_left : (live spare : Bank) (n : ℕ) (r : Records) → AreLeft live spare n (record { old = r; new = r }) → upto live.words (n + 1) ≡ r
@@ -31,5 +31,5 @@ same_left live spare n r l = elim l.log.stands_next [
   | inr e ↦ e
 ]
 
-pub kept_within : (live spare : Bank) (n g : ℕ) (failed : Bool) → IsKept live spare n g failed → n ≤ room live.size
-kept_within live spare n g failed k = n_within live n (choice_of live n) k.left.log
+pub kept_within : (live spare : Bank) (n : ℕ) (failed : Bool) → IsKept live spare n failed → n ≤ room live.size
+kept_within live spare n failed k = n_within live n (choice_of live n) k.left.log

@@ -214,25 +214,6 @@ pub left_at_end : (old new : Bank) (n slot : ℕ) (octets : List ℕ) (c : Choic
 left_at_end old new n slot octets c s fits is one two =
     left_after old new n c s fits is.same is.torn is.size (inr (is.whole, inl is.marked)) one (one_of (records_marked old new n slot octets is) two)
 
--- a bank stays as it is where a word is programmed that it has
-pub same_bank : (old new : Bank) (at word : ℕ) (ok : Bool) → Programs at word ok old new → old.words at ≡ Some word → new ≡ old
-same_bank old new at word ok p is = λ i. record { size = p.size i; torn = p.torn i; words = λ x. at_each x i }
-  where
-    decide : (x y : ℕ) → (x ≡ y) ⊎ (x ≡ y → ⊥)
-    decide zero zero = inl refl
-    decide zero (suc y) = inr (λ e. omega (arith, e))
-    decide (suc x) zero = inr (λ e. omega (arith, e))
-    decide (suc x) (suc y) = elim (decide x y) [
-      | inl e ↦ inl (ap suc e)
-      | inr apart ↦ inr (λ e. apart (omega (arith, e)))
-    ]
-
-    at_each : (x : ℕ) → new.words x ≡ old.words x
-    at_each x = elim (decide x at) [
-      | inl e ↦ ap new.words e ∙ p.kept is ∙ sym is ∙ sym (ap old.words e)
-      | inr apart ↦ p.others x apart
-    ]
-
 pub mark_certain_stays : (old new : Bank) (n : ℕ) → ((i : ℕ) → place n ≤ i → i < end n → new.words i ≡ old.words i) → IsMarkCertain old.words n
     → IsMarkCertain new.words n
 mark_certain_stays old new n same (inl e) = inl (same (mark n) (omega arith) (omega arith) ∙ e)

@@ -1,7 +1,7 @@
 -- What a bank in memory shows after one word of it has changed.
 use Rattle.std.proofs.Common.{◌≡◌, ◌∙◌, ℕ, zero, suc, ◌<◌, ◌≤◌, Bool, true, false, if◌then◌else◌, List, [], ◌∷◌, Option, Some, None, length, set, get_or}
 use Rattle.std.proofs.Common.{refl, sym, ap, arith}
-use Rattle.flash_keeper.specs.Flash.{erased, Reads}
+use Rattle.flash_keeper.specs.Flash.{erased, head_word, Reads}
 use Rattle.flash_keeper.specs.Model.{word_of, shown, bank_of}
 use Rattle.flash_keeper.specs.declared.model_flash.ModelWord.{ModelWord}
 
@@ -48,11 +48,19 @@ some_or false n m e h = ap (λ (o : Option ℕ). number o) h
     number None = 0
 
 -- a torn word may read as anything
-pub reads_torn : (words : List ModelWord) (at shows : ℕ) (t : Bool) (w : ModelWord) → t ≡ false → at < length words → w ≡ get_or words at w → w.torn ≡ true
+pub reads_torn : (words : List ModelWord) (at shows : ℕ) (t : Bool) (w : ModelWord) → at < length words → w ≡ get_or words at w → w.torn ≡ true
     → Reads (bank_of words t) at shows
-reads_torn words at shows t w whole within here torn = record {
+reads_torn words at shows t w within here torn = record {
   firm = λ f n is. absurd (none_or w.torn w.value n torn (ap word_of here ∙ sym (shown_read words at w within) ∙ is));
-  no_forgery = λ f z e. absurd (true_is_false t f whole);
+  from_zero = λ t is e. absurd (none_or w.torn w.value 0 torn (ap word_of here ∙ sym (shown_read words at w within) ∙ is));
+}
+
+-- and so may a word of a torn bank, unless it was 0
+pub reads_torn_bank : (words : List ModelWord) (at shows : ℕ) (t : Bool) (w : ModelWord) → at < length words → w ≡ get_or words at w → t ≡ true
+    → w.torn ≡ false → (w.value ≡ 0 → shows ≡ head_word → ⊥) → Reads (bank_of words t) at shows
+reads_torn_bank words at shows t w within here torn whole none = record {
+  firm = λ f. absurd (true_is_false t torn f);
+  from_zero = λ t is e. none (some_or w.torn w.value 0 whole (ap word_of here ∙ sym (shown_read words at w within) ∙ is)) e;
 }
 
 -- one that is whole as what it is
@@ -60,5 +68,5 @@ pub reads_whole : (words : List ModelWord) (at : ℕ) (t : Bool) (w : ModelWord)
     → Reads (bank_of words t) at w.value
 reads_whole words at t w whole within here firm = record {
   firm = λ f n is. some_or w.torn w.value n firm (ap word_of here ∙ sym (shown_read words at w within) ∙ is);
-  no_forgery = λ f z e. absurd (true_is_false t f whole);
+  from_zero = λ torn is e. absurd (true_is_false t torn whole);
 }

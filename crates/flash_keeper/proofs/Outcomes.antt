@@ -1,13 +1,9 @@
 -- A fact behind the outcome of a call.
-use Rattle.std.proofs.Common.{◌≡◌, true, false, Result, Ok, Err, OnOk, OnErr, IfOk, IfErr, is_ok, refl}
+use Rattle.std.proofs.Common.{◌≡◌, true, Result, Ok, Err, OnOk, OnErr, IfOk, IfErr, is_ok, refl}
 
 pub on_ok_of : {T E P : Type 0} (r : Result T E) → (is_ok r ≡ true → P) → OnOk r P
 on_ok_of (Ok x) f = f refl
 on_ok_of (Err e) f = tt
-
-pub on_err_of : {T E P : Type 0} (r : Result T E) → (is_ok r ≡ false → P) → OnErr r P
-on_err_of (Ok x) f = tt
-on_err_of (Err e) f = f refl
 
 pub on_err : {T E P : Type 0} (r : Result T E) → P → OnErr r P
 on_err (Ok x) p = tt
@@ -40,10 +36,6 @@ both_if_ok (Err e) f p q = tt
 pub under_ok : {T E A B : Type 0} (P : T → Type 0) (r : Result T E) → (A → IfOk r P × B) → IfOk r (λ x. A → P x × B)
 under_ok P (Ok x) f = f
 under_ok P (Err e) f = tt
-
-pub both_err : {T E P Q R : Type 0} (r : Result T E) → (P → Q → R) → OnErr r P → OnErr r Q → OnErr r R
-both_err (Ok x) f p q = tt
-both_err (Err e) f p q = f p q
 
 pub one_if_err : {T E : Type 0} {P Q : E → Type 0} (r : Result T E) → ((e : E) → P e → Q e) → IfErr r P → IfErr r Q
 one_if_err (Ok x) f p = tt

@@ -1,11 +1,12 @@
 -- Two banks: the live one and the spare one, and what an opening may find in them.
-use Rattle.std.specs.Prelude.{◌≡◌, ◌⊎◌, ℕ, ◌<◌, ◌+◌, Bool, true, false, List, Option, Some, None, refl}
+use Rattle.std.specs.Prelude.{◌≡◌, ◌⊎◌, ℕ, ◌+◌, Bool, true, false, List, Option, Some, None, refl}
 use Rattle.std.specs.Bool.{OnFalse}
 use Rattle.std.specs.Coded.{Coded, code_by, coded×, coded_ℕ, coded_list}
 use Rattle.std.specs.FinMap.{code, insert}
 use Rattle.plc_base.specs.Keeper.{Records, Store, store_code}
 use Rattle.flash_keeper.specs.Flash.{Bank, erased, head_word}
 use Rattle.flash_keeper.specs.Log.{Choice, IsOneOf, IsSettled, IsLeft, upto}
+use Rattle.flash_keeper.specs.declared.keeper.OpenFault.{OpenFault}
 
 -- A bank whose head is whole but for its mark.
 pub record IsHeaded (bank : Bank) (generation : ℕ) : Type 0 where
@@ -17,70 +18,41 @@ pub record IsHeaded (bank : Bank) (generation : ℕ) : Type 0 where
 abbrev pub IsLive : Bank → ℕ → Type 0
 IsLive bank generation = IsHeaded bank generation × (bank.words 2 ≡ Some 0)
 
--- A bank that no reading takes for a live one: its erase was cut short, which no_forgery speaks of, or its mark was not begun.
+-- A bank that no reading takes for a live one: its head is 0, also where an erase of it was cut short since, or its mark was not begun.
 abbrev pub IsDead : Bank → Type 0
-IsDead bank = (bank.torn ≡ true) ⊎ ((bank.torn ≡ false) × (bank.words 2 ≡ Some erased))
+IsDead bank = (bank.words 0 ≡ Some 0) ⊎ ((bank.torn ≡ false) × (bank.words 2 ≡ Some erased))
 
--- a bank that counts and was written later, or may count, since its mark was cut short
-pub record IsPending (bank : Bank) (generation : ℕ) (choice : Choice) : Type 0 where
-  pub later : ℕ
-  pub newer : generation < later
-  pub head : IsHeaded bank later
-  pub next : ℕ
-  pub log : IsSettled bank next
-  pub stands : IsOneOf choice (upto bank.words next)
+-- A bank whose log stands for the records of a choice, whatever its head reads as.
+abbrev pub IsStanding : Bank → Choice → Type 0
+IsStanding bank choice = (n : ℕ) × IsLeft bank n choice
 
--- a bank that does not count beside one of this generation
-abbrev pub IsBelow : Bank → ℕ → Type 0
-IsBelow bank generation = IsDead bank ⊎ ((earlier : ℕ) × (earlier < generation) × IsLive bank earlier)
-
--- What may be left of two banks at any moment: the live one stands for the records of the choice, and so does the spare one where a
--- reading may take it for the live one.
+-- What may be left of two banks at any moment: the log of the live one stands for the records of the choice, and so does that of the spare
+-- one, unless no reading takes that for a live one. Nothing is put before one of them is firmly dead: so whichever a reading shows as live is right.
 pub record AreLeft (live spare : Bank) (n : ℕ) (choice : Choice) : Type 0 where
-  pub generation : ℕ
-  pub head : IsLive live generation
   pub log : IsLeft live n choice
-  pub beside : IsBelow spare generation ⊎ IsPending spare generation choice
+  pub beside : IsDead spare ⊎ IsStanding spare choice
 
 -- two banks, in either order, that an opening makes one of these records of
 abbrev pub IsStore : Bank → Bank → Choice → Type 0
 IsStore first second choice = ((n : ℕ) × AreLeft first second n choice) ⊎ ((n : ℕ) × AreLeft second first n choice)
 
--- Nothing is open: the live bank is settled, and the spare one counts beside it in no reading.
-pub record AreReady (live spare : Bank) (n generation : ℕ) : Type 0 where
-  pub head : IsLive live generation
+-- Nothing is open: the mark and the log of the live bank are firm, and no reading takes the spare one for a live one.
+pub record AreReady (live spare : Bank) (n : ℕ) : Type 0 where
+  pub sizes : live.size ≡ spare.size
+  pub mark : live.words 2 ≡ Some 0
   pub log : IsSettled live n
-  pub beside : IsBelow spare generation
-
--- a spare bank beside a live one of this generation; counted: it read as a live one
-abbrev pub IsBeside : Bank → ℕ → Bool → Choice → Type 0
-IsBeside spare generation counted choice =
-    (IsDead spare ⊎ ((counted ≡ true) × ((earlier : ℕ) × (earlier < generation) × IsLive spare earlier)))
-    ⊎ ((counted ≡ false) × IsPending spare generation choice)
-
--- a spare bank that was live until the log was copied from it
-pub record IsFollowed (spare : Bank) (generation : ℕ) (choice : Choice) : Type 0 where
-  pub earlier : ℕ
-  pub older : earlier < generation
-  pub head : IsLive spare earlier
-  pub cells : ℕ
-  pub log : IsLeft spare cells choice
-
--- What an opening chose: the live bank, or a later one that a reading took for it.
-abbrev pub AreChosen : Bank → Bank → ℕ → Bool → Choice → Type 0
-AreChosen live spare generation counted choice =
-    (IsLive live generation × ((n : ℕ) × IsLeft live n choice) × IsBeside spare generation counted choice)
-    ⊎ ((counted ≡ true) × IsHeaded live generation × ((n : ℕ) × IsSettled live n × IsOneOf choice (upto live.words n)) × IsFollowed spare generation choice)
-
--- Which bank is live is certain.
-abbrev pub AreSure : Bank → Bank → ℕ → Bool → Choice → Type 0
-AreSure live spare generation counted choice = IsLive live generation × ((n : ℕ) × IsLeft live n choice) × IsBeside spare generation counted choice
+  pub beside : IsDead spare
 
 -- What a reading of the head of a bank answers: the generation of a live one.
 pub record IsSeen (bank : Bank) (seen : Option ℕ) : Type 0 where
   pub live : (generation : ℕ) → IsLive bank generation → seen ≡ Some generation
   pub dead : IsDead bank → seen ≡ None
-  pub headed : (generation : ℕ) → IsHeaded bank generation → (seen ≡ None) ⊎ (seen ≡ Some generation)
+
+-- Why banks were not opened: a program or an erase failed; neither is firmly a live one; they have different sizes.
+abbrev pub IsCause : OpenFault → Bank → Bank → Type 0
+IsCause OpenFault.Flash first second = first.size ≡ second.size
+IsCause OpenFault.NoStore first second = (first.size ≡ second.size) × ((generation : ℕ) → (IsLive first generation ⊎ IsLive second generation) → ⊥)
+IsCause OpenFault.Sizes first second = first.size ≡ second.size → ⊥
 
 -- What a keeper over flash holds, and what an opening of its banks may find in place of its records.
 pub record FlashStore : Type 0 where
@@ -112,6 +84,6 @@ abbrev pub choice_of : Bank → ℕ → Choice
 choice_of bank n = record { old = upto bank.words n; new = upto bank.words (n + 1) }
 
 -- what holds of a keeper: its banks are left so, and nothing is open where it has not failed
-pub record IsKept (live spare : Bank) (n generation : ℕ) (failed : Bool) : Type 0 where
+pub record IsKept (live spare : Bank) (n : ℕ) (failed : Bool) : Type 0 where
   pub left : AreLeft live spare n (choice_of live n)
-  pub ready : OnFalse failed (AreReady live spare n generation)
+  pub ready : OnFalse failed (AreReady live spare n)

@@ -13,7 +13,8 @@ erased = 0xFFFFFFFFFFFFFFFF
 abbrev pub head_word : ℕ
 head_word = 0x464C4B4545500001
 
--- A bank. torn: an erase of it was cut short and none was done since, so each word of it reads as anything.
+-- A bank. torn: an erase of it was cut short and none was done since. Its words are then what they were when that erase began, or what was
+-- programmed since. But each bit that is 0 rises to 1 at a moment of its own in an erase, so each word reads as anything, anew each time.
 pub record Bank : Type 0 where
   -- how many words it has
   pub size : ℕ
@@ -24,12 +25,13 @@ pub record Bank : Type 0 where
 -- What a reading of the word at a place shows.
 pub record Reads (bank : Bank) (at word : ℕ) : Type 0 where
   pub firm : bank.torn ≡ false → (n : ℕ) → bank.words at ≡ Some n → word ≡ n
-  -- the premise on torn erases: what one leaves in the first word does not read as the head of a store
-  pub no_forgery : bank.torn ≡ true → at ≡ 0 → word ≡ head_word → ⊥
+  -- The premise on torn erases: a word that was 0 when the erase began does not read as the head of a store. To do so, of its 64 bits the
+  -- 19 that are 1 in the head would have to rise before each of the other 45: one order in 8 * 10^15, if each bit rises at a moment of its own.
+  pub from_zero : bank.torn ≡ true → bank.words at ≡ Some 0 → word ≡ head_word → ⊥
 
--- A word may be programmed where it is erased; to 0, so that each bit is programmed, in any state.
+-- A word may be programmed where it is erased; to 0, so that each bit is programmed, in any state, also after a torn erase.
 abbrev pub MayProgram : Bank → ℕ → ℕ → Type 0
-MayProgram bank at word = (bank.torn ≡ false) × ((bank.words at ≡ Some erased) ⊎ (word ≡ 0))
+MayProgram bank at word = (word ≡ 0) ⊎ ((bank.torn ≡ false) × (bank.words at ≡ Some erased))
 
 -- A program of a word, which was done or cut short.
 pub record Programs (at word : ℕ) (ok : Bool) (old new : Bank) : Type 0 where
@@ -44,5 +46,6 @@ pub record Programs (at word : ℕ) (ok : Bool) (old new : Bank) : Type 0 where
 pub record Erases (ok : Bool) (old new : Bank) : Type 0 where
   pub whole : ok ≡ true → new.torn ≡ false
   pub blank : ok ≡ true → (i : ℕ) → new.words i ≡ Some erased
-  pub cut : ok ≡ false → (new ≡ old) ⊎ (new.torn ≡ true) ⊎ ((new.torn ≡ false) × ((i : ℕ) → new.words i ≡ Some erased))
+  pub cut : ok ≡ false
+      → (new ≡ old) ⊎ ((new.torn ≡ true) × (new.words ≡ old.words)) ⊎ ((new.torn ≡ false) × ((i : ℕ) → new.words i ≡ Some erased))
   pub size : new.size ≡ old.size

@@ -1,5 +1,5 @@
 //! A bank of flash, as firmware gives it.
-ghost use Rattle.std.specs.Prelude.{◌≡◌, ◌<◌, ◌≤◌, ◌^◌, is_ok, false, Some};
+ghost use Rattle.std.specs.Prelude.{◌≡◌, ◌<◌, ◌≤◌, ◌^◌, is_ok, Bool, true, false, OnErr, Some};
 ghost use Rattle.flash_keeper.specs.Flash.{Bank, head_word, Reads, MayProgram, Programs, Erases};
 
 use plc_base::Failed;
@@ -21,7 +21,10 @@ pub trait FlashBank {
     /// The words of the bank.
     ghost bank: { Self → Bank };
 
-    /// How many words there are: at least 14, and fewer than 2^32. It is the same for good.
+    /// Whether one of its programs or erases has failed.
+    ghost has_failed: { Self → Bool };
+
+    /// How many words there are: at least 14, and fewer than 2^32. It is the same for good, and the same for both banks of a store.
     fn words(&self) -> usize
         ensures { result ≡ (bank self.now).size };
 
@@ -29,24 +32,28 @@ pub trait FlashBank {
     /// power, and each word of a bank whose erase was, may read as anything, anew each time; where the part reports an error of its
     /// own check of a word, answer any number.
     ///
-    /// One thing is asked of a torn erase (`no_forgery`): the first word does not read as the head of a store. A torn erase leaves 64 bits
-    /// that mean nothing, so a reading does that once in 2^64.
+    /// One thing is asked of a torn erase (`from_zero`): where the first word was 0 when it began, it does not read as the head of a store. An
+    /// erase raises bits one after the other, each at a moment of its own; to read as the head, just the 19 bits that are 1 there would have
+    /// to rise first.
     fn read(&self, at: usize) -> u64
         requires { at < (bank self.now).size }
         ensures { Reads (bank self.now) at result };
 
-    /// Programs the word at a place, and no other. It is erased, or each bit is to be programmed (0), whatever the word is: 0 over
-    /// anything makes it 0, and bits that are 0 already stay so even if power fails. No other word is programmed over one that is not erased.
+    /// Programs the word at a place, and no other. It is erased, or each bit is to be programmed (0), whatever the word is, also after a torn
+    /// erase: 0 over anything makes it 0, and bits that are 0 already stay so even if power fails. No other word is programmed over one that is
+    /// not erased.
     ///
     /// After `Failed` it was done, was cut short, or did not begin.
     fn program(&mut self, at: usize, word: u64) -> Result<(), Failed>
         requires within { at < (bank self.old).size }
         requires allowed { MayProgram (bank self.old) at word }
-        ensures { Programs at word (is_ok result) (bank self.old) (bank self.new) };
+        ensures programs { Programs at word (is_ok result) (bank self.old) (bank self.new) }
+        ensures failed { OnErr result (has_failed self.new ≡ true) };
 
     /// Erases all words of the bank, and no other. After `Failed` it was cut short, or did not begin.
     fn erase(&mut self) -> Result<(), Failed>
-        ensures { Erases (is_ok result) (bank self.old) (bank self.new) };
+        ensures erases { Erases (is_ok result) (bank self.old) (bank self.new) }
+        ensures failed { OnErr result (has_failed self.new ≡ true) };
 
     /// There is room for a cell, and places fit into 32 bits.
     ghost fits: { (b : Self) → (14 ≤ (bank b).size) × ((bank b).size < 2 ^ 32) };

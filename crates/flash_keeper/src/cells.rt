@@ -188,6 +188,7 @@ fn write_body<B: FlashBank>(
     ensures same { SameOutside (place cell) (mark cell) (B.bank bank.old) (B.bank bank.new) }
     ensures firm { (B.bank bank.new).torn ≡ false }
     ensures size { (B.bank bank.new).size ≡ (B.bank bank.old).size }
+    ensures failed { OnErr result (B.has_failed bank.new ≡ true) }
 {
     let at = place_of(cell);
     let length = octets.len();
@@ -212,6 +213,7 @@ fn write_words<B: FlashBank>(
     ensures same { SameOutside (place cell + 1) (mark cell) (B.bank bank.old) (B.bank bank.new) }
     ensures firm { (B.bank bank.new).torn ≡ false }
     ensures size { (B.bank bank.new).size ≡ (B.bank bank.old).size }
+    ensures failed { OnErr result (B.has_failed bank.new ≡ true) }
 {
     let at = place_of(cell) + 1;
     let mut i = 0;
@@ -239,6 +241,7 @@ pub fn write_cell<B: FlashBank>(
     ensures same { SameOutside (place cell) (place cell + 11) (B.bank bank.old) (B.bank bank.new) }
     ensures firm { (B.bank bank.new).torn ≡ false }
     ensures size { (B.bank bank.new).size ≡ (B.bank bank.old).size }
+    ensures failed { OnErr result (B.has_failed bank.new ≡ true) }
 {
     let at = place_of(cell);
     write_body(bank, cell, slot, octets)?;
@@ -260,11 +263,15 @@ fn copy_cell<B: FlashBank>(
     requires certain { AreCertain (B.bank from.now).words cells }
     requires settled { IsSettled (B.bank to.old) next }
     requires records { upto (B.bank to.old).words next ≡ kept (B.bank from.now).words cells cell }
+    requires room { cells ≤ room (B.bank to.old).size }
+    requires few { next ≤ cell }
     ensures settled { IfOk result (λ n. IsSettled (B.bank to.new) n) }
     ensures records { IfOk result (λ n. upto (B.bank to.new).words n ≡ kept (B.bank from.now).words cells (cell + 1)) }
+    ensures few { IfOk result (λ n. n ≤ cell + 1) }
     ensures firm { (B.bank to.new).torn ≡ false }
     ensures heads { SameBelow 3 (B.bank to.old) (B.bank to.new) }
     ensures size { (B.bank to.new).size ≡ (B.bank to.old).size }
+    ensures failed { OnErr result (B.has_failed to.new ≡ true) }
 {
     if !is_marked(from, cell) {
         return Ok(next);
@@ -272,9 +279,6 @@ fn copy_cell<B: FlashBank>(
     let slot = slot_of(from, cell);
     if is_replaced(from, cell, cells, slot) {
         return Ok(next);
-    }
-    if next >= room_of(to) {
-        return Err(Failed);
     }
     let octets = record_of(from, cell);
     write_cell(to, next, slot, &octets)?;
@@ -287,11 +291,13 @@ pub fn copy<B: FlashBank>(from: &B, cells: usize, to: &mut B) -> Result<usize, F
     requires firm { (B.bank from.now).torn ≡ false }
     requires certain { AreCertain (B.bank from.now).words cells }
     requires settled { IsSettled (B.bank to.old) 0 }
+    requires room { cells ≤ room (B.bank to.old).size }
     ensures settled { IfOk result (λ n. IsSettled (B.bank to.new) n) }
     ensures records { IfOk result (λ n. upto (B.bank to.new).words n ≡ upto (B.bank from.now).words cells) }
     ensures firm { (B.bank to.new).torn ≡ false }
     ensures heads { SameBelow 3 (B.bank to.old) (B.bank to.new) }
     ensures size { (B.bank to.new).size ≡ (B.bank to.old).size }
+    ensures failed { OnErr result (B.has_failed to.new ≡ true) }
 {
     let mut next = 0;
     let mut cell = 0;
@@ -364,6 +370,7 @@ pub fn end_cell<B: FlashBank>(bank: &mut B, cell: usize) -> Result<(), Failed>
     ensures heads { SameBelow 3 (B.bank bank.old) (B.bank bank.new) }
     ensures firm { (B.bank bank.new).torn ≡ false }
     ensures size { (B.bank bank.new).size ≡ (B.bank bank.old).size }
+    ensures failed { OnErr result (B.has_failed bank.new ≡ true) }
 {
     bank.program(place_of(cell) + END, 0)
 }
@@ -378,6 +385,7 @@ fn mark_cell<B: FlashBank>(bank: &mut B, cell: usize) -> Result<(), Failed>
     ensures heads { SameBelow 3 (B.bank bank.old) (B.bank bank.new) }
     ensures firm { (B.bank bank.new).torn ≡ false }
     ensures size { (B.bank bank.new).size ≡ (B.bank bank.old).size }
+    ensures failed { OnErr result (B.has_failed bank.new ≡ true) }
 {
     bank.program(place_of(cell) + MARK, 0)
 }
@@ -393,6 +401,7 @@ fn mark_and_end<B: FlashBank>(bank: &mut B, cell: usize) -> Result<(), Failed>
     ensures heads { SameBelow 3 (B.bank bank.old) (B.bank bank.new) }
     ensures firm { (B.bank bank.new).torn ≡ false }
     ensures size { (B.bank bank.new).size ≡ (B.bank bank.old).size }
+    ensures failed { OnErr result (B.has_failed bank.new ≡ true) }
 {
     mark_cell(bank, cell)?;
     end_cell(bank, cell)
@@ -411,6 +420,7 @@ fn settle_last<B: FlashBank>(bank: &mut B, cell: usize) -> Result<bool, Failed>
     ensures heads { SameBelow 3 (B.bank bank.old) (B.bank bank.new) }
     ensures firm { (B.bank bank.new).torn ≡ false }
     ensures size { (B.bank bank.new).size ≡ (B.bank bank.old).size }
+    ensures failed { OnErr result (B.has_failed bank.new ≡ true) }
 {
     if is_ended(bank, cell) {
         end_cell(bank, cell)?;
@@ -436,6 +446,7 @@ pub fn settle_before<B: FlashBank>(bank: &mut B, at: usize) -> Result<bool, Fail
     ensures heads { SameBelow 3 (B.bank bank.old) (B.bank bank.new) }
     ensures firm { (B.bank bank.new).torn ≡ false }
     ensures size { (B.bank bank.new).size ≡ (B.bank bank.old).size }
+    ensures failed { OnErr result (B.has_failed bank.new ≡ true) }
 {
     if at == 0 {
         return Ok(true);

@@ -1,10 +1,10 @@
 //! The keeper.
-ghost use Rattle.std.specs.Prelude.{◌≡◌, ◌<◌, ◌+◌, is_ok, OnOk, OnErr, IfOk, IfErr, None};
+ghost use Rattle.std.specs.Prelude.{◌≡◌, ◌<◌, ◌+◌, ℕ, is_ok, OnOk, OnErr, IfOk, IfErr, None, true, ◌⊎◌};
 ghost use Rattle.std.specs.FinMap.{insert};
 ghost use Rattle.std.specs.FinMap as map;
 ghost use Rattle.plc_base.specs.Keeper.{IsSlot, Puts};
 ghost use Rattle.flash_keeper.specs.Log.{Choice};
-ghost use Rattle.flash_keeper.specs.Banks.{AreChosen, IsStore, IsOpened, IsLeftBy, FlashStore};
+ghost use Rattle.flash_keeper.specs.Banks.{AreLeft, IsStore, IsCause, IsOpened, IsLeftBy, FlashStore};
 
 use crate::bank::FlashBank;
 use crate::cells::find;
@@ -22,6 +22,9 @@ pub enum OpenFault {
     /// Neither bank has a store of this layout.
     #[error("no bank has a store of this layout")]
     NoStore,
+    /// One bank has more words than the other.
+    #[error("the banks have different sizes")]
+    Sizes,
 }
 
 /// A keeper over two banks of NOR flash.
@@ -49,17 +52,24 @@ impl<B: FlashBank + Drop> Model for FlashKeeper<B> {
       left = upto (B.bank k.pair.live).words (k.pair.next + 1);
     } };
 
-    ghost invariant = { λ k. IsKept (B.bank k.pair.live) (B.bank k.pair.spare) k.pair.next k.pair.generation k.failed };
+    ghost invariant = { λ k. IsKept (B.bank k.pair.live) (B.bank k.pair.spare) k.pair.next k.failed };
 }
 
 impl<B: FlashBank + Drop> FlashKeeper<B> {
-    /// Erases two banks, and makes them a store with no record: for a device that has none yet, since all that they held is lost. It
-    /// fails only where a program or an erase failed, and gives the banks back, to be formatted again.
+    /// Retires and erases two banks, and makes them a store with no record: for a device that has none yet, since all that they held is lost.
+    /// It gives the banks back with its fault: [`OpenFault::Sizes`] where they have different sizes, and then nothing was done, or
+    /// [`OpenFault::Flash`] where a program or an erase failed, and then they are to be formatted again.
     #[tactic(auto, using(crate::proofs::KeeperLemmas::kept_of_ready, crate::proofs::KeeperLemmas::kept_of_left, crate::proofs::KeeperLemmas::nothing_else))]
-    pub fn format(first: B, second: B) -> Result<FlashKeeper<B>, (B, B)>
-        ensures { IfOk result (λ keeper. keeper
+    pub fn format(first: B, second: B) -> Result<FlashKeeper<B>, (OpenFault, B, B)>
+        ensures ok { IfOk result (λ keeper. keeper
             ≡ record { store = record { records = map.empty; faults = 0; known_cut = None; listed = None }; left = map.empty }) }
+        ensures sizes { IfOk result (λ keeper. (B.bank first).size ≡ (B.bank second).size) }
+        ensures fault { IfErr result (λ e. IsCause e.0 (B.bank first) (B.bank second)) }
+        ensures failed { IfErr result (λ e. e.0 ≡ OpenFault.Flash → (B.has_failed e.1 ≡ true) ⊎ (B.has_failed e.2 ≡ true)) }
     {
+        if first.words() != second.words() {
+            return Err((OpenFault::Sizes, first, second));
+        }
         let mut pair = Pair {
             live: first,
             spare: second,
@@ -67,7 +77,7 @@ impl<B: FlashBank + Drop> FlashKeeper<B> {
             generation: 1,
         };
         let Ok(()) = pair.format() else {
-            return Err((pair.live, pair.spare));
+            return Err((OpenFault::Flash, pair.live, pair.spare));
         };
         Ok(FlashKeeper {
             pair,
@@ -78,16 +88,13 @@ impl<B: FlashBank + Drop> FlashKeeper<B> {
 
     // Settles two banks, of which the first one read as live.
     #[tactic(auto, using(crate::proofs::KeeperLemmas::kept_of_ready, crate::proofs::KeeperLemmas::kept_of_left, crate::proofs::KeeperLemmas::nothing_else))]
-    fn settled(
-        live: B,
-        spare: B,
-        generation: u64,
-        counted: bool,
-    ) -> Result<FlashKeeper<B>, (OpenFault, B, B)>
-        requires { (c : Choice) × AreChosen (B.bank live) (B.bank spare) generation counted c }
-        ensures opened { IfOk result (λ keeper. (c : Choice) → AreChosen (B.bank live) (B.bank spare) generation counted c → IsOpened c keeper) }
-        ensures fault { IfErr result (λ e. (e.0 ≡ OpenFault.Flash) × ((c : Choice) → AreChosen (B.bank live) (B.bank spare) generation counted c
-            → IsStore (B.bank e.1) (B.bank e.2) c)) }
+    fn settled(live: B, spare: B, generation: u64) -> Result<FlashKeeper<B>, (OpenFault, B, B)>
+        requires left { (c : Choice) × (n : ℕ) × AreLeft (B.bank live) (B.bank spare) n c }
+        requires sizes { (B.bank live).size ≡ (B.bank spare).size }
+        ensures opened { IfOk result (λ keeper. (n : ℕ) (c : Choice) → AreLeft (B.bank live) (B.bank spare) n c → IsOpened c keeper) }
+        ensures fault { IfErr result (λ e. e.0 ≡ OpenFault.Flash) }
+        ensures failed { IfErr result (λ e. (B.has_failed e.1 ≡ true) ⊎ (B.has_failed e.2 ≡ true)) }
+        ensures left { IfErr result (λ e. (n : ℕ) (c : Choice) → AreLeft (B.bank live) (B.bank spare) n c → IsStore (B.bank e.1) (B.bank e.2) c) }
     {
         let mut pair = Pair {
             live,
@@ -95,7 +102,7 @@ impl<B: FlashBank + Drop> FlashKeeper<B> {
             next: 0,
             generation,
         };
-        let Ok(()) = pair.settle(counted) else {
+        let Ok(()) = pair.settle() else {
             return Err((OpenFault::Flash, pair.live, pair.spare));
         };
         Ok(FlashKeeper {
@@ -108,29 +115,39 @@ impl<B: FlashBank + Drop> FlashKeeper<B> {
     /// Opens the store in two banks, in either order, after a start or after a failed put.
     ///
     /// Whatever two records the banks may stand for (`IsStore`, which `into_banks` gives), it holds one of them, and so does every later
-    /// opening (`opened`). It fails only with [`OpenFault::Flash`], where a program or an erase failed, and gives the banks back, which then
-    /// stand for the same records (`fault`). Where no bank has a store, which its condition excludes, the fault is [`OpenFault::NoStore`].
+    /// opening (`opened`). With a fault it gives the banks back, which then stand for the same records (`left`), so they can be opened again:
+    ///
+    /// - [`OpenFault::Flash`] where a program or an erase failed;
+    /// - [`OpenFault::NoStore`] where neither bank reads as a live one. Neither then is one firmly (`fault`): the banks have no store, or
+    ///   power failed in the mark of a copy and, in the opening after that, in the program that retires this copy. Open them again in that case:
+    ///   what it finds is right;
+    /// - [`OpenFault::Sizes`] where the banks have different sizes.
     pub fn open(first: B, second: B) -> Result<FlashKeeper<B>, (OpenFault, B, B)>
         requires { (c : Choice) × IsStore (B.bank first) (B.bank second) c }
         ensures opened { IfOk result (λ keeper. (c : Choice) → IsStore (B.bank first) (B.bank second) c → IsOpened c keeper) }
-        ensures fault { IfErr result (λ e. (e.0 ≡ OpenFault.Flash) × ((c : Choice) → IsStore (B.bank first) (B.bank second) c
-            → IsStore (B.bank e.1) (B.bank e.2) c)) }
+        ensures sizes { IfOk result (λ keeper. (B.bank first).size ≡ (B.bank second).size) }
+        ensures fault { IfErr result (λ e. IsCause e.0 (B.bank first) (B.bank second)) }
+        ensures failed { IfErr result (λ e. e.0 ≡ OpenFault.Flash → (B.has_failed e.1 ≡ true) ⊎ (B.has_failed e.2 ≡ true)) }
+        ensures left { IfErr result (λ e. (c : Choice) → IsStore (B.bank first) (B.bank second) c → IsStore (B.bank e.1) (B.bank e.2) c) }
     {
+        if first.words() != second.words() {
+            return Err((OpenFault::Sizes, first, second));
+        }
         let one = generation_of(&first);
         let two = generation_of(&second);
         let Some(earlier) = one else {
             let Some(later) = two else {
                 return Err((OpenFault::NoStore, first, second));
             };
-            return FlashKeeper::settled(second, first, later, false);
+            return FlashKeeper::settled(second, first, later);
         };
         let Some(later) = two else {
-            return FlashKeeper::settled(first, second, earlier, false);
+            return FlashKeeper::settled(first, second, earlier);
         };
         if earlier < later {
-            return FlashKeeper::settled(second, first, later, true);
+            return FlashKeeper::settled(second, first, later);
         }
-        FlashKeeper::settled(first, second, earlier, true)
+        FlashKeeper::settled(first, second, earlier)
     }
 
     /// The banks, to be opened again: they stand for the records that it holds, or those that are left of a failed put.

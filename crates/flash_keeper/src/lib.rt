@@ -9,12 +9,17 @@
 //! - Gets and puts are those of a [`plc_base::Keeper`]: after `Failed` the slot has the record from before (`puts`, `old`).
 //! - Power may fail in each program and each erase. An opening then finds the records from before the put or those with it, and no others
 //!   (`left` of `put`, `opened` of `open`); what it found, each later opening finds too, until a put ([`laws::each_opening_is_the_same`]). An
-//!   opening in which power fails changes nothing of that (`fault`).
+//!   opening in which power fails changes nothing of that (`left` of `open`).
 //! - So after any puts, losses of power and openings a slot has the record that was last put there, or that of a put which failed after it
 //!   ([`laws::a_slot_has_what_was_put`]).
 //! - All this holds however a torn word reads, and if it reads otherwise each time. No check sum is part of the argument.
-//! - The premise `no_forgery`: what a torn erase leaves in the first word of a bank does not read as the head of a store. That is a chance of
-//!   2^-64 for 64 bits that mean nothing.
+//! - A torn erase may leave any word of a bank as it was, the head too. So a bank is retired before it is erased, and before the store goes on
+//!   with the copy of it: its head is then 0 in each bit. One premise is left (`from_zero`): where a torn erase met such a word, it does not read
+//!   as the head of a store. Of its 64 bits just 19 would have to rise before each of the others: one order in 8 * 10^15.
+//! - No opening finds an older store. It may find none, for a time, where power failed in two programs in a row: that of the mark of a copy,
+//!   and that by which the opening after it retires this copy, whose mark read as not there. If both torn words then read as whole, it goes on
+//!   with the copy, whose head is weak until the log is copied again. Openings that read the head answer its records, others
+//!   [`OpenFault::NoStore`].
 //!
 //! What firmware has to promise stands at [`FlashBank`]. Not part of the model: bits that decay later or are disturbed by programs of other
 //! words, and parts that program no word of 8 octets by itself or refuse zeros over a word that was programmed.
@@ -31,8 +36,8 @@
 //! | RAM | two [`FlashBank`] objects and 32 octets (24 on a 32-bit machine); no table of slots, no buffer that stays, no allocation |
 //! | flash, per bank | 24 octets, and 88 for each put until the bank is full |
 //! | a put | 3 programs of marks and lengths, and one for each 8 octets of the record: 11 at most |
-//! | an opening | 2 or 3 programs, and one cell |
-//! | a bank that is full | one erase, and a copy of each record; then the other bank is live, so the banks wear by turns |
+//! | an opening | 3 or 4 programs, and one cell |
+//! | a bank that is full | one erase, 5 programs, and a copy of each record; then the other bank is live, so the banks wear by turns |
 //! | erases | one in (cells of a bank - slots with a record) puts and openings, and one for each put that lost power in its record |
 //!
 //! Two banks of 32 KiB have 372 cells each; a meter has at most 166 records, so there is one erase in 206 puts and openings at least. A get looks

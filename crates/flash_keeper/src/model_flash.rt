@@ -35,6 +35,7 @@ pub struct ModelFlash {
     words: Vec<ModelWord>,
     torn: bool,
     cut: Option<(u32, Cut)>,
+    failed: bool,
     erases: u32,
     programs: u32,
     turn: Cell<u64>,
@@ -91,6 +92,7 @@ impl ModelFlash {
             words: all,
             torn: false,
             cut: None,
+            failed: false,
             erases: 0,
             programs: 0,
             turn: Cell::new(seed),
@@ -161,8 +163,8 @@ impl ModelFlash {
     // What is left of an erase in which power fails.
     fn erase_partly(&mut self, how: Cut)
         ensures size { length self.new.words.items ≡ length self.old.words.items }
-        ensures left { ((self.new.words ≡ self.old.words) × (self.new.torn ≡ self.old.torn)) ⊎ (self.new.torn ≡ true) ⊎ ((self.new.torn ≡ false) × ((i : ℕ)
-            → shown self.new.words.items i ≡ Some erased)) }
+        ensures left { ((self.new.words ≡ self.old.words) × (self.new.torn ≡ self.old.torn)) ⊎ ((self.new.torn ≡ true) × (self.new.words ≡ self.old.words))
+            ⊎ ((self.new.torn ≡ false) × ((i : ℕ) → shown self.new.words.items i ≡ Some erased)) }
     {
         match how {
             Cut::Before => {}
@@ -192,22 +194,28 @@ impl ModelFlash {
 impl FlashBank for ModelFlash {
     ghost bank = { λ b. bank_of b.words.items b.torn };
 
+    ghost has_failed = { λ b. b.failed };
+
     ghost fits = { λ b. b.fits };
 
     fn words(&self) -> usize {
         self.words.len()
     }
 
-    #[tactic(auto, using(crate::proofs::ModelLemmas::reads_torn, crate::proofs::ModelLemmas::reads_whole))]
+    #[tactic(auto, using(crate::proofs::ModelLemmas::reads_torn, crate::proofs::ModelLemmas::reads_torn_bank, crate::proofs::ModelLemmas::reads_whole))]
     fn read(&self, at: usize) -> u64 {
         let word = self.words[at];
-        if self.torn {
-            return no_head(self.anything(word.value));
-        }
         if word.torn {
             return self.anything(word.value);
         }
-        word.value
+        if !self.torn {
+            return word.value;
+        }
+        let any = self.anything(word.value);
+        if word.value == 0 {
+            return no_head(any);
+        }
+        any
     }
 
     fn program(&mut self, at: usize, word: u64) -> Result<(), Failed> {
@@ -218,6 +226,7 @@ impl FlashBank for ModelFlash {
         };
         let old = self.words[at];
         self.put(at, cut_short(&old, word, how));
+        self.failed = true;
         Err(Failed)
     }
 
@@ -228,6 +237,7 @@ impl FlashBank for ModelFlash {
             return Ok(());
         };
         self.erase_partly(how);
+        self.failed = true;
         Err(Failed)
     }
 }

@@ -1,11 +1,10 @@
 //! Two banks: the live one with the log, and the spare one to which the log is copied when it is full.
-ghost use Rattle.std.specs.Prelude.{◌≡◌, ◌<◌, ◌≤◌, ◌+◌, ◌⊎◌, ℕ, false, OnOk, OnErr, IfOk, Some, None};
+ghost use Rattle.std.specs.Prelude.{◌≡◌, ◌<◌, ◌≤◌, ◌+◌, ◌⊎◌, ℕ, OnOk, OnErr, IfOk, Some, true, false, is_ok, ◌^◌};
 ghost use Rattle.std.specs.FinMap as map;
 ghost use Rattle.std.specs.FinMap.{insert};
-ghost use Rattle.flash_keeper.specs.Flash.{erased};
-ghost use Rattle.flash_keeper.specs.Log.{room, mark, upto, Choice, IsOneOf, IsSettled, IsLeft, IsClosable, AreCertain};
-ghost use Rattle.flash_keeper.specs.Banks.{choice_of, AreLeft, AreReady, AreChosen, AreSure, IsStore, IsLive, IsHeaded, IsDead, IsBelow, IsPending};
-ghost use Rattle.flash_keeper.specs.Banks.{IsSeen};
+ghost use Rattle.flash_keeper.specs.Flash.{erased, Programs};
+ghost use Rattle.flash_keeper.specs.Log.{room, mark, upto, Choice, IsOneOf, IsSettled, IsLeft, IsClosable, AreCertain, SameBelow};
+ghost use Rattle.flash_keeper.specs.Banks.{choice_of, AreLeft, AreReady, IsStore, IsLive, IsHeaded, IsDead, IsSeen};
 
 use crate::bank::{FlashBank, HEAD};
 use crate::cells::{copy, end_cell, first_blank, room_of, settle_before, write_cell};
@@ -40,19 +39,50 @@ pub fn generation_of<B: FlashBank>(bank: &B) -> Option<u64>
     Some(bank.read(1))
 }
 
-// Erases a bank and writes its head, but for the mark.
+// Retires a bank: its head is 0 from then on. No reading takes it for a live one, and no erase that is cut short makes one of it.
+fn retire<B: FlashBank>(bank: &mut B) -> Result<(), Failed>
+    ensures programs { Programs 0 0 (is_ok result) (B.bank bank.old) (B.bank bank.new) }
+    ensures failed { OnErr result (B.has_failed bank.new ≡ true) }
+{
+    bank.program(0, 0)
+}
+
+// Makes firm the mark of a bank that reads as a live one, or whose copy is done.
+fn confirm<B: FlashBank>(bank: &mut B) -> Result<(), Failed>
+    ensures programs { Programs 2 0 (is_ok result) (B.bank bank.old) (B.bank bank.new) }
+    ensures failed { OnErr result (B.has_failed bank.new ≡ true) }
+{
+    bank.program(2, 0)
+}
+
+// Retires a bank, and erases it.
+fn wipe<B: FlashBank>(bank: &mut B) -> Result<(), Failed>
+    ensures firm { OnOk result ((B.bank bank.new).torn ≡ false) }
+    ensures blank { OnOk result ((i : ℕ) → (B.bank bank.new).words i ≡ Some erased) }
+    ensures dead { IsDead (B.bank bank.old) → OnErr result (IsDead (B.bank bank.new)) }
+    ensures size { (B.bank bank.new).size ≡ (B.bank bank.old).size }
+    ensures failed { OnErr result (B.has_failed bank.new ≡ true) }
+{
+    retire(bank)?;
+    bank.erase()
+}
+
+// Retires and erases a bank, and writes its head, but for the mark.
 fn begin<B: FlashBank>(bank: &mut B, generation: u64) -> Result<(), Failed>
     ensures head { OnOk result (IsHeaded (B.bank bank.new) generation) }
     ensures log { OnOk result (IsSettled (B.bank bank.new) 0) }
     ensures unmarked { OnOk result ((B.bank bank.new).words 2 ≡ Some erased) }
-    ensures dead { OnErr result ((B.bank bank.new ≡ B.bank bank.old) ⊎ IsDead (B.bank bank.new)) }
+    ensures dead { IsDead (B.bank bank.old) → OnErr result (IsDead (B.bank bank.new)) }
+    ensures size { (B.bank bank.new).size ≡ (B.bank bank.old).size }
+    ensures failed { OnErr result (B.has_failed bank.new ≡ true) }
 {
-    bank.erase()?;
+    wipe(bank)?;
     bank.program(0, HEAD)?;
     bank.program(1, generation)
 }
 
-// Copies the first cells of a log to a bank, which then has a head but for its mark. It answers how many cells that takes.
+// Copies the first cells of a log to a bank that no reading takes for a live one, which then has a head but for its mark. It answers how
+// many cells that takes.
 fn copy_to<B: FlashBank>(
     from: &B,
     cells: usize,
@@ -62,50 +92,40 @@ fn copy_to<B: FlashBank>(
     requires within { cells ≤ room (B.bank from.now).size }
     requires firm { (B.bank from.now).torn ≡ false }
     requires certain { AreCertain (B.bank from.now).words cells }
+    requires dead { IsDead (B.bank to.old) }
+    requires room { cells ≤ room (B.bank to.old).size }
     ensures head { IfOk result (λ n. IsHeaded (B.bank to.new) generation) }
     ensures log { IfOk result (λ n. IsSettled (B.bank to.new) n) }
-    ensures unmarked { IfOk result (λ n. (B.bank to.new).words 2 ≡ Some erased) }
     ensures records { IfOk result (λ n. upto (B.bank to.new).words n ≡ upto (B.bank from.now).words cells) }
-    ensures dead { OnErr result ((B.bank to.new ≡ B.bank to.old) ⊎ IsDead (B.bank to.new)) }
+    ensures dead { OnErr result (IsDead (B.bank to.new)) }
+    ensures failed { OnErr result (B.has_failed to.new ≡ true) }
+    ensures size { (B.bank to.new).size ≡ (B.bank to.old).size }
 {
     begin(to, generation)?;
     copy(from, cells, to)
 }
 
-// Makes certain that a bank is no live one that read as none: only a bank with a head may be one at the next reading.
-fn quiet<B: FlashBank>(bank: &mut B) -> Result<(), Failed>
-    ensures below { OnOk result ((g : ℕ) (c : Choice) → IsDead (B.bank bank.old) ⊎ IsPending (B.bank bank.old) g c → IsDead (B.bank bank.new)) }
-    ensures left { OnErr result ((g : ℕ) (c : Choice) → IsDead (B.bank bank.old) ⊎ IsPending (B.bank bank.old) g c
-        → IsDead (B.bank bank.new) ⊎ IsPending (B.bank bank.new) g c) }
-{
-    let head = bank.read(0);
-    if head != HEAD {
-        return Ok(());
-    }
-    bank.erase()
-}
-
 impl<B: FlashBank + Drop> Pair<B> {
-    // Copies the records to the spare bank, which is then the live one.
+    // Copies the records to the spare bank, which is then the live one, and retires the one that was.
     fn rewrite(&mut self) -> Result<(), Failed>
-        requires head { IsLive (B.bank self.old.live) self.old.generation }
+        requires firm { (B.bank self.old.live).torn ≡ false }
         requires within { self.old.next ≤ room (B.bank self.old.live).size }
         requires certain { AreCertain (B.bank self.old.live).words self.old.next }
-        requires spare { IsBelow (B.bank self.old.spare) self.old.generation }
-        ensures ready { OnOk result (AreReady (B.bank self.new.live) (B.bank self.new.spare) self.new.next self.new.generation) }
+        requires spare { IsDead (B.bank self.old.spare) }
+        requires sizes { (B.bank self.old.live).size ≡ (B.bank self.old.spare).size }
+        ensures ready { OnOk result (AreReady (B.bank self.new.live) (B.bank self.new.spare) self.new.next) }
+        ensures head { OnOk result (IsLive (B.bank self.new.live) self.new.generation) }
+        ensures later { OnOk result (self.old.generation + 1 < 2 ^ 64 → self.new.generation ≡ self.old.generation + 1) }
         ensures records { OnOk result (upto (B.bank self.new.live).words self.new.next ≡ upto (B.bank self.old.live).words self.old.next) }
-        ensures live { OnErr result (B.bank self.new.live ≡ B.bank self.old.live) }
-        ensures next { OnErr result (self.new.next ≡ self.old.next) }
-        ensures generation { OnErr result (self.new.generation ≡ self.old.generation) }
-        ensures spare { OnErr result ((c : Choice) → IsOneOf c (upto (B.bank self.old.live).words self.old.next)
-            → IsBelow (B.bank self.new.spare) self.old.generation ⊎ IsPending (B.bank self.new.spare) self.old.generation c) }
+        ensures same { OnErr result (upto (B.bank self.new.live).words self.new.next ≡ upto (B.bank self.old.live).words self.old.next) }
+        ensures left { OnErr result ((c : Choice) → IsLeft (B.bank self.old.live) self.old.next c
+            → AreLeft (B.bank self.new.live) (B.bank self.new.spare) self.new.next c) }
+        ensures failed { OnErr result ((B.has_failed self.new.live ≡ true) ⊎ (B.has_failed self.new.spare ≡ true)) }
     {
-        if self.generation == u64::MAX {
-            return Err(Failed);
-        }
-        let generation = self.generation + 1;
+        let generation = self.generation.saturating_add(1);
         let next = copy_to(&self.live, self.next, &mut self.spare, generation)?;
-        self.spare.program(2, 0)?;
+        confirm(&mut self.spare)?;
+        retire(&mut self.live)?;
         swap(&mut self.live, &mut self.spare);
         self.next = next;
         self.generation = generation;
@@ -114,8 +134,8 @@ impl<B: FlashBank + Drop> Pair<B> {
 
     // Makes room for one more cell: where there is none, it copies the records to the spare bank.
     fn make_room(&mut self) -> Result<(), Failed>
-        requires { AreReady (B.bank self.old.live) (B.bank self.old.spare) self.old.next self.old.generation }
-        ensures ready { OnOk result (AreReady (B.bank self.new.live) (B.bank self.new.spare) self.new.next self.new.generation) }
+        requires { AreReady (B.bank self.old.live) (B.bank self.old.spare) self.old.next }
+        ensures ready { OnOk result (AreReady (B.bank self.new.live) (B.bank self.new.spare) self.new.next) }
         ensures room { OnOk result (self.new.next < room (B.bank self.new.live).size) }
         ensures records { upto (B.bank self.new.live).words self.new.next ≡ upto (B.bank self.old.live).words self.old.next }
         ensures left { OnErr result ((c : Choice) → IsOneOf c (upto (B.bank self.old.live).words self.old.next)
@@ -133,9 +153,9 @@ impl<B: FlashBank + Drop> Pair<B> {
 
     // Writes a record to the end of the log.
     fn append(&mut self, slot: u32, octets: &Record) -> Result<(), Failed>
-        requires ready { AreReady (B.bank self.old.live) (B.bank self.old.spare) self.old.next self.old.generation }
+        requires ready { AreReady (B.bank self.old.live) (B.bank self.old.spare) self.old.next }
         requires room { self.old.next < room (B.bank self.old.live).size }
-        ensures ready { OnOk result (AreReady (B.bank self.new.live) (B.bank self.new.spare) self.new.next self.new.generation) }
+        ensures ready { OnOk result (AreReady (B.bank self.new.live) (B.bank self.new.spare) self.new.next) }
         ensures records { OnOk result (upto (B.bank self.new.live).words self.new.next ≡ insert (upto (B.bank self.old.live).words self.old.next) slot
             octets.now) }
         ensures left { OnErr result (AreLeft (B.bank self.new.live) (B.bank self.new.spare) self.new.next (choice_of (B.bank self.new.live) self.new.next)) }
@@ -150,8 +170,8 @@ impl<B: FlashBank + Drop> Pair<B> {
 
     /// Writes a record to the end of the log, and makes room for it before.
     pub fn put(&mut self, slot: u32, octets: &Record) -> Result<(), Failed>
-        requires { AreReady (B.bank self.old.live) (B.bank self.old.spare) self.old.next self.old.generation }
-        ensures ready { OnOk result (AreReady (B.bank self.new.live) (B.bank self.new.spare) self.new.next self.new.generation) }
+        requires { AreReady (B.bank self.old.live) (B.bank self.old.spare) self.old.next }
+        ensures ready { OnOk result (AreReady (B.bank self.new.live) (B.bank self.new.spare) self.new.next) }
         ensures records { OnOk result (upto (B.bank self.new.live).words self.new.next ≡ insert (upto (B.bank self.old.live).words self.old.next) slot
             octets.now) }
         ensures left { OnErr result (AreLeft (B.bank self.new.live) (B.bank self.new.spare) self.new.next (choice_of (B.bank self.new.live) self.new.next)) }
@@ -163,41 +183,16 @@ impl<B: FlashBank + Drop> Pair<B> {
         self.append(slot, octets)
     }
 
-    // Makes certain that the live bank is one, which was chosen by a reading.
-    fn confirm(&mut self, counted: bool) -> Result<(), Failed>
-        requires { (B.bank self.old.live).torn ≡ false }
-        ensures sure { OnOk result ((c : Choice) → AreChosen (B.bank self.old.live) (B.bank self.old.spare) self.old.generation counted c
-            → AreSure (B.bank self.new.live) (B.bank self.new.spare) self.new.generation counted c) }
-        ensures left { OnErr result ((c : Choice) → AreChosen (B.bank self.old.live) (B.bank self.old.spare) self.old.generation counted c
-            → IsStore (B.bank self.new.live) (B.bank self.new.spare) c) }
-    {
-        self.live.program(2, 0)
-    }
-
-    // Makes certain that the spare bank counts in no reading.
-    fn quiet_spare(&mut self, counted: bool) -> Result<(), Failed>
-        ensures below { OnOk result ((c : Choice) → AreSure (B.bank self.old.live) (B.bank self.old.spare) self.old.generation counted c
-            → IsBelow (B.bank self.new.spare) self.new.generation) }
-        ensures left { OnErr result ((c : Choice) → AreSure (B.bank self.old.live) (B.bank self.old.spare) self.old.generation counted c
-            → IsStore (B.bank self.new.live) (B.bank self.new.spare) c) }
-        ensures live { B.bank self.new.live ≡ B.bank self.old.live }
-        ensures generation { self.new.generation ≡ self.old.generation }
-    {
-        if counted {
-            return Ok(());
-        }
-        quiet(&mut self.spare)
-    }
-
     // Ends the cell at which the log ends, which read as blank.
     fn finish_at(&mut self, at: usize) -> Result<(), Failed>
         requires { (B.bank self.old.live).torn ≡ false }
         ensures settled { OnOk result ((c : Choice) → IsClosable (B.bank self.old.live) at c
             → IsSettled (B.bank self.new.live) self.new.next × IsOneOf c (upto (B.bank self.new.live).words self.new.next)) }
         ensures left { OnErr result ((c : Choice) → IsClosable (B.bank self.old.live) at c → IsLeft (B.bank self.new.live) at c) }
-        ensures head { IsLive (B.bank self.old.live) self.old.generation → IsLive (B.bank self.new.live) self.new.generation }
+        ensures heads { SameBelow 3 (B.bank self.old.live) (B.bank self.new.live) }
+        ensures size { (B.bank self.new.live).size ≡ (B.bank self.old.live).size }
         ensures spare { B.bank self.new.spare ≡ B.bank self.old.spare }
-        ensures generation { self.new.generation ≡ self.old.generation }
+        ensures failed { OnErr result ((B.has_failed self.new.live ≡ true) ⊎ (B.has_failed self.new.spare ≡ true)) }
     {
         let room = room_of(&self.live);
         if at >= room {
@@ -211,13 +206,15 @@ impl<B: FlashBank + Drop> Pair<B> {
 
     // Makes certain where the log ends.
     fn finish(&mut self) -> Result<(), Failed>
-        requires head { IsLive (B.bank self.old.live) self.old.generation }
+        requires mark { (B.bank self.old.live).words 2 ≡ Some 0 }
         requires log { (c : Choice) × (n : ℕ) × IsLeft (B.bank self.old.live) n c }
-        requires spare { IsBelow (B.bank self.old.spare) self.old.generation }
-        ensures ready { OnOk result (AreReady (B.bank self.new.live) (B.bank self.new.spare) self.new.next self.new.generation) }
+        requires spare { IsDead (B.bank self.old.spare) }
+        requires sizes { (B.bank self.old.live).size ≡ (B.bank self.old.spare).size }
+        ensures ready { OnOk result (AreReady (B.bank self.new.live) (B.bank self.new.spare) self.new.next) }
         ensures records { OnOk result ((c : Choice) (n : ℕ) → IsLeft (B.bank self.old.live) n c
             → IsOneOf c (upto (B.bank self.new.live).words self.new.next)) }
         ensures left { OnErr result ((c : Choice) (n : ℕ) → IsLeft (B.bank self.old.live) n c → IsStore (B.bank self.new.live) (B.bank self.new.spare) c) }
+        ensures failed { OnErr result ((B.has_failed self.new.live ≡ true) ⊎ (B.has_failed self.new.spare ≡ true)) }
     {
         let at = first_blank(&self.live);
         let sure = settle_before(&mut self.live, at)?;
@@ -228,29 +225,33 @@ impl<B: FlashBank + Drop> Pair<B> {
         self.finish_at(at)
     }
 
-    /// Makes certain what a loss of power left of the banks: first which one is live, then where its log ends. `counted` says whether
-    /// the spare bank read as a live one.
-    pub fn settle(&mut self, counted: bool) -> Result<(), Failed>
-        requires { (c : Choice) × AreChosen (B.bank self.old.live) (B.bank self.old.spare) self.old.generation counted c }
-        ensures ready { OnOk result (AreReady (B.bank self.new.live) (B.bank self.new.spare) self.new.next self.new.generation) }
-        ensures records { OnOk result ((c : Choice) → AreChosen (B.bank self.old.live) (B.bank self.old.spare) self.old.generation counted c
+    /// Makes certain what a loss of power left of the banks: first that the live one is it, whose reading showed it as one, and that the
+    /// other one is none; then where the log ends.
+    pub fn settle(&mut self) -> Result<(), Failed>
+        requires left { (c : Choice) × (n : ℕ) × AreLeft (B.bank self.old.live) (B.bank self.old.spare) n c }
+        requires sizes { (B.bank self.old.live).size ≡ (B.bank self.old.spare).size }
+        ensures ready { OnOk result (AreReady (B.bank self.new.live) (B.bank self.new.spare) self.new.next) }
+        ensures records { OnOk result ((n : ℕ) (c : Choice) → AreLeft (B.bank self.old.live) (B.bank self.old.spare) n c
             → IsOneOf c (upto (B.bank self.new.live).words self.new.next)) }
-        ensures left { OnErr result ((c : Choice) → AreChosen (B.bank self.old.live) (B.bank self.old.spare) self.old.generation counted c
+        ensures left { OnErr result ((n : ℕ) (c : Choice) → AreLeft (B.bank self.old.live) (B.bank self.old.spare) n c
             → IsStore (B.bank self.new.live) (B.bank self.new.spare) c) }
+        ensures failed { OnErr result ((B.has_failed self.new.live ≡ true) ⊎ (B.has_failed self.new.spare ≡ true)) }
     {
-        self.confirm(counted)?;
-        self.quiet_spare(counted)?;
+        confirm(&mut self.live)?;
+        retire(&mut self.spare)?;
         self.finish()
     }
 
-    /// Erases both banks, and makes the live one a store with no record.
+    /// Retires and erases both banks, and makes the live one a store with no record.
     pub fn format(&mut self) -> Result<(), Failed>
-        ensures ready { OnOk result (AreReady (B.bank self.new.live) (B.bank self.new.spare) self.new.next self.new.generation) }
+        requires { (B.bank self.old.live).size ≡ (B.bank self.old.spare).size }
+        ensures ready { OnOk result (AreReady (B.bank self.new.live) (B.bank self.new.spare) self.new.next) }
         ensures records { OnOk result (upto (B.bank self.new.live).words self.new.next ≡ map.empty) }
+        ensures failed { OnErr result ((B.has_failed self.new.live ≡ true) ⊎ (B.has_failed self.new.spare ≡ true)) }
     {
-        self.spare.erase()?;
+        wipe(&mut self.spare)?;
         begin(&mut self.live, 1)?;
-        self.live.program(2, 0)?;
+        confirm(&mut self.live)?;
         self.next = 0;
         self.generation = 1;
         Ok(())

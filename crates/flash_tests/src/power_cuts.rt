@@ -28,7 +28,7 @@ fn store(alloc: Global, nth: u32, how: Cut, of_second: bool) -> Result<Option<St
     }
     match FlashKeeper::format(first, second) {
         Ok(keeper) => Ok(Some(keeper)),
-        Err((first, second)) => Ok(FlashKeeper::format(first, second).ok()),
+        Err((_, first, second)) => Ok(FlashKeeper::format(first, second).ok()),
     }
 }
 

@@ -12,6 +12,7 @@ loop-cell-init g c = record {
   heads = λ i le. refl;
   size = refl;
   below = omega arith;
+  few = omega arith;
 }
 
 pub returns-clause-records : goal.returns-clause-records

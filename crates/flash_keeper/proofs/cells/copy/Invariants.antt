@@ -14,6 +14,7 @@ invariant-loop-cell g l =
       heads : SameBelow 3 old new;
       size : new.size ≡ old.size;
       below : l.cell ≤ l.cells;
+      few : l.next ≤ l.cell;
     }
 
 abbrev pub decreases-loop-cell : goal.decreases-loop-cell

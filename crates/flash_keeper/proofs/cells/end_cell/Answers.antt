@@ -11,7 +11,7 @@ returns-clause-settled g c =
     let new = g.B.FlashBank.bank c.program.new.self in
     let at : c.place_of.result + 10 ≡ end c.args.cell = ap (λ (n : ℕ). n + 10) c.place_of.ensures in
     let p : Programs (end c.args.cell) 0 (is_ok c.program.result) old new = subst (λ (n : ℕ). Programs n 0 (is_ok c.program.result) old new) at
-    c.program.ensures in
+    c.program.ensures.programs in
     on_ok_of c.program.result (λ ok choice left certain.
     settled_ended old new c.args.cell choice c.requires.within left certain (subst (λ (b : Bool). Programs (end c.args.cell) 0 b old new) ok p))
 
@@ -21,5 +21,5 @@ returns-clause-left g c =
     let new = g.B.FlashBank.bank c.program.new.self in
     let at : c.place_of.result + 10 ≡ end c.args.cell = ap (λ (n : ℕ). n + 10) c.place_of.ensures in
     let p : Programs (end c.args.cell) 0 (is_ok c.program.result) old new = subst (λ (n : ℕ). Programs n 0 (is_ok c.program.result) old new) at
-    c.program.ensures in
+    c.program.ensures.programs in
     λ choice left certain. left_ended old new c.args.cell choice (is_ok c.program.result) c.requires.within left certain p

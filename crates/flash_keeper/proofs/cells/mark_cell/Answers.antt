@@ -10,5 +10,5 @@ returns-clause-left g c =
     let new = g.B.FlashBank.bank c.program.new.self in
     let at : c.place_of.result + 9 ≡ mark c.args.cell = ap (λ (n : ℕ). n + 9) c.place_of.ensures in
     let p : Programs (mark c.args.cell) 0 (is_ok c.program.result) old new = subst (λ (n : ℕ). Programs n 0 (is_ok c.program.result) old new) at
-    c.program.ensures in
+    c.program.ensures.programs in
     λ choice left. left_marked old new c.args.cell choice (is_ok c.program.result) c.requires.within left c.requires.marked p

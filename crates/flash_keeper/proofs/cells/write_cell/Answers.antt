@@ -27,7 +27,7 @@ returns-in_err-program-clause-left g c =
       size = c.in_ok-write_body.ensures.size;
     } in
     let p : Programs (mark c.args.cell) 0 (is_ok c.program.result) b new = subst (λ (n : ℕ). Programs n 0 (is_ok c.program.result) b new) (ap (λ (n : ℕ). n +
-    9) c.place_of-at.ensures) c.program.ensures in
+    9) c.place_of-at.ensures) c.program.ensures.programs in
     on_err c.from_residual-in_err-program.result (λ choice one two. left_at_mark old b new c.args.cell c.args.slot c.args.octets.now choice _
     c.requires.settled c.requires.room body p one two)
 
@@ -46,9 +46,9 @@ returns-clause-records g c =
       size = c.in_ok-write_body.ensures.size;
     } in
     let p : Programs (mark c.args.cell) 0 true b m = subst (λ (n : ℕ). Programs n 0 true b m) (ap (λ (n : ℕ). n + 9) c.place_of-at.ensures)
-    c.in_ok-program.ensures in
+    c.in_ok-program.ensures.programs in
     let q : Programs (end c.args.cell) 0 (is_ok c.program-2.result) m new = subst (λ (n : ℕ). Programs n 0 (is_ok c.program-2.result) m new) (ap (λ (n : ℕ). n
-    + 10) c.place_of-at.ensures) c.program-2.ensures in
+    + 10) c.place_of-at.ensures) c.program-2.ensures.programs in
     on_ok_of c.program-2.result (λ ok. records_marked old new c.args.cell c.args.slot c.args.octets.now (marked_cell old b m new c.args.cell c.args.slot
     c.args.octets.now _ body p q))
 
@@ -67,9 +67,9 @@ returns-clause-left g c =
       size = c.in_ok-write_body.ensures.size;
     } in
     let p : Programs (mark c.args.cell) 0 true b m = subst (λ (n : ℕ). Programs n 0 true b m) (ap (λ (n : ℕ). n + 9) c.place_of-at.ensures)
-    c.in_ok-program.ensures in
+    c.in_ok-program.ensures.programs in
     let q : Programs (end c.args.cell) 0 (is_ok c.program-2.result) m new = subst (λ (n : ℕ). Programs n 0 (is_ok c.program-2.result) m new) (ap (λ (n : ℕ). n
-    + 10) c.place_of-at.ensures) c.program-2.ensures in
+    + 10) c.place_of-at.ensures) c.program-2.ensures.programs in
     on_err c.program-2.result (λ choice one two.
     left_at_end old new c.args.cell c.args.slot c.args.octets.now choice c.requires.settled c.requires.room (marked_cell old b m new c.args.cell
     c.args.slot c.args.octets.now _ body p q) one two)

@@ -13,4 +13,4 @@ pub open-requires : goal.open-requires
 open-requires c = (_, swapped _ _ _ c.into_banks-first.ensures)
 
 pub open-requires-in-Err : goal.open-requires-in-Err
-open-requires-in-Err c = (_, c.in-Err.ensures.fault.1 _ (swapped _ _ _ c.into_banks-first.ensures))
+open-requires-in-Err c = (_, c.in-Err.ensures.left _ (swapped _ _ _ c.into_banks-first.ensures))

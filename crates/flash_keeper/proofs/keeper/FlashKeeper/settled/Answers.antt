@@ -3,9 +3,9 @@ use Rattle.flash_keeper.proofs.KeeperLemmas.{nothing_else}
 use Rattle.flash_keeper.proofs.keeper.FlashKeeper.settled.Goals as goal
 
 pub returns-clause-opened : goal.returns-clause-opened
-returns-clause-opened g c = λ choice chosen. record {
-  one = c.in-Ok.ensures.records choice chosen;
-  left = nothing_else _ _ _ _ c.in-Ok.ensures.ready;
+returns-clause-opened g c = λ n choice left. record {
+  one = c.in-Ok.ensures.records n choice left;
+  left = nothing_else _ _ _ c.in-Ok.ensures.ready;
   faults = refl;
   known_cut = refl;
 }

@@ -6,5 +6,5 @@ use Rattle.flash_keeper.proofs.keeper.FlashKeeper.write.Goals as goal
 
 pub returns-clause-left : goal.returns-clause-left
 returns-clause-left g c =
-    nothing_else _ _ _ _ c.in_ok-put.ensures.ready ∙ c.in_ok-put.ensures.records
+    nothing_else _ _ _ c.in_ok-put.ensures.ready ∙ c.in_ok-put.ensures.records
     ∙ ap (λ (s : FlashStore). insert s.store.records c.args.slot c.args.octets.now) c.self.view_is

@@ -6,8 +6,8 @@ use Rattle.flash_keeper.proofs.model_flash.ModelFlashFlashBank.program.Goals as 
 never : false ≡ true → ⊥
 never e = cc
 
-pub returns : goal.returns
-returns c =
+pub returns-clause-programs : goal.returns-clause-programs
+returns-clause-programs c =
     let words = c.power.ensures.words in
     let count : length c.power.new.self.words.items ≡ length c.args.self.now.words.items = ap (λ w. length w.items) words in
     let within : c.args.at < length c.power.new.self.words.items = omega (arith, c.requires.within, count) in

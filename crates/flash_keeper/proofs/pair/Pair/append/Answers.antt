@@ -1,8 +1,8 @@
-use Rattle.std.proofs.Common.{◌∙◌, inl, inr, refl, sym}
+use Rattle.std.proofs.Common.{inl, inr, refl}
 use Rattle.std.specs.FinMap.{insert}
 use Rattle.flash_keeper.specs.Log.{upto, Choice}
 use Rattle.flash_keeper.proofs.Outcomes.{on_err}
-use Rattle.flash_keeper.proofs.BankLemmas.{live-same, head_of_cells, front_of_cells, own_left}
+use Rattle.flash_keeper.proofs.BankLemmas.{front_of_cells, own_left}
 use Rattle.flash_keeper.proofs.pair.Pair.append.Goals as goal
 
 pub returns-in_err-write_cell-clause-left : goal.returns-in_err-write_cell-clause-left
@@ -12,9 +12,6 @@ returns-in_err-write_cell-clause-left g c =
     let n = c.args.self.now.next in
     let choice : Choice = record { old = upto old.words n; new = insert (upto old.words n) c.args.slot c.args.octets.now } in
     on_err c.from_residual.result (record {
-      generation = c.args.self.now.generation;
-      head = live-same old new c.args.self.now.generation (c.write_cell.ensures.firm
-          ∙ sym c.requires.ready.log.firm) (head_of_cells old new n c.write_cell.ensures.same) c.requires.ready.head;
       log = own_left new n choice (c.in_err-write_cell.ensures.left choice (inl refl) (inr refl));
       beside = inl c.requires.ready.beside;
     })

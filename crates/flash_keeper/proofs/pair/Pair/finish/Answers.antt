@@ -1,18 +1,14 @@
-use Rattle.std.proofs.Common.{◌∙◌, ◌-◌, inl, refl, sym, arith}
-use Rattle.flash_keeper.proofs.Outcomes.{on_err, one_ok, one_err, both_err}
+use Rattle.std.proofs.Common.{◌∙◌, ◌-◌, inl, sym, ap, arith}
+use Rattle.flash_keeper.specs.Flash.{Bank}
+use Rattle.flash_keeper.proofs.Outcomes.{on_err, one_ok, one_err}
 use Rattle.flash_keeper.proofs.LogLemmas.{one_of}
-use Rattle.flash_keeper.proofs.BankLemmas.{live-same, n_within, store_left, ready_of, store_of}
+use Rattle.flash_keeper.proofs.BankLemmas.{n_within, store_left, dead_moved}
 use Rattle.flash_keeper.proofs.pair.Pair.finish.Goals as goal
 
 pub returns-in_err-sure-clause-left : goal.returns-in_err-sure-clause-left
-returns-in_err-sure-clause-left g c =
-    let old = g.B.FlashBank.bank c.args.self.now.live in
-    let b = g.B.FlashBank.bank c.settle_before.new.bank in
-    let head = live-same old b c.args.self.now.generation (c.settle_before.ensures.firm
-    ∙ sym c.requires.head.0.firm) c.settle_before.ensures.heads c.requires.head in
-    on_err c.from_residual.result (λ choice n left.
-    store_left b b (g.B.FlashBank.bank c.args.self.now.spare) n c.args.self.now.generation choice refl head (c.in_err-sure.ensures.left n choice left
-    (c.first_blank-at.ensures.found n choice left)) (inl c.requires.spare))
+returns-in_err-sure-clause-left g c = on_err c.from_residual.result (λ choice n left.
+    store_left (g.B.FlashBank.bank c.settle_before.new.bank) (g.B.FlashBank.bank c.args.self.now.spare) n choice
+    (c.in_err-sure.ensures.left n choice left (c.first_blank-at.ensures.found n choice left)) c.requires.spare)
 
 pub overflow_sub-self : goal.overflow_sub-self
 overflow_sub-self g c =
@@ -21,11 +17,6 @@ overflow_sub-self g c =
     let left = c.requires.log.2 in
     let more = (c.in_ok-sure.ensures.torn c.if-not-sure.true n choice left (c.first_blank-at.ensures.found n choice left)).0 in
     omega (arith, more)
-
-pub rewrite-requires-clause-head : goal.rewrite-requires-clause-head
-rewrite-requires-clause-head g c =
-    live-same (g.B.FlashBank.bank c.args.self.now.live) (g.B.FlashBank.bank c.settle_before.new.bank) c.args.self.now.generation (c.settle_before.ensures.firm
-    ∙ sym c.requires.head.0.firm) c.settle_before.ensures.heads c.requires.head
 
 pub rewrite-requires-clause-within : goal.rewrite-requires-clause-within
 rewrite-requires-clause-within g c =
@@ -48,40 +39,30 @@ returns-then-not-sure-clause-records g c = one_ok c.rewrite.result (λ same choi
     c.rewrite.ensures.records
 
 pub returns-then-not-sure-clause-left : goal.returns-then-not-sure-clause-left
-returns-then-not-sure-clause-left g c =
-    let old = g.B.FlashBank.bank c.args.self.now.live in
-    let b = g.B.FlashBank.bank c.settle_before.new.bank in
-    let head = live-same old b c.args.self.now.generation (c.settle_before.ensures.firm
-    ∙ sym c.requires.head.0.firm) c.settle_before.ensures.heads c.requires.head in
-    both_err c.rewrite.result (λ same beside choice n left.
-    let torn = (c.in_ok-sure.ensures.torn c.if-not-sure.true n choice left (c.first_blank-at.ensures.found n choice left)).1 in
-    store_left b _ _ (c.first_blank-at.result - 1) c.args.self.now.generation choice same head torn (beside choice torn.stands))
-    c.rewrite.ensures.live c.rewrite.ensures.spare
-
-pub returns-clause-ready : goal.returns-clause-ready
-returns-clause-ready g c =
-    let old = g.B.FlashBank.bank c.args.self.now.live in
-    let b = g.B.FlashBank.bank c.settle_before.new.bank in
-    let head = live-same old b c.args.self.now.generation (c.settle_before.ensures.firm
-    ∙ sym c.requires.head.0.firm) c.settle_before.ensures.heads c.requires.head in
-    let choice = c.requires.log.0 in
-    let n = c.requires.log.1 in
-    let left = c.requires.log.2 in
-    let closable = c.in_ok-sure.ensures.sure c.if-not-sure.false n choice left (c.first_blank-at.ensures.found n choice left) in
-    one_ok c.finish_at.result (λ f. ready_of _ _ _ _ _ _ (c.finish_at.ensures.head head) (f choice closable).0 c.finish_at.ensures.spare
-    c.finish_at.ensures.generation c.requires.spare) c.finish_at.ensures.settled
+returns-then-not-sure-clause-left g c = one_err c.rewrite.result (λ f choice n left. inl (
+  c.rewrite.new.self.next,
+  f choice (c.in_ok-sure.ensures.torn c.if-not-sure.true n choice left (c.first_blank-at.ensures.found n choice left)).1,
+)) c.rewrite.ensures.left
 
 pub returns-clause-records : goal.returns-clause-records
 returns-clause-records g c = one_ok c.finish_at.result (λ f choice n left.
     (f choice (c.in_ok-sure.ensures.sure c.if-not-sure.false n choice left (c.first_blank-at.ensures.found n choice left))).1) c.finish_at.ensures.settled
 
+pub returns-clause-ready : goal.returns-clause-ready
+returns-clause-ready g c =
+    let choice = c.requires.log.0 in
+    let n = c.requires.log.1 in
+    let left = c.requires.log.2 in
+    let closable = c.in_ok-sure.ensures.sure c.if-not-sure.false n choice left (c.first_blank-at.ensures.found n choice left) in
+    one_ok c.finish_at.result (λ f. record {
+      sizes = c.finish_at.ensures.size ∙ c.settle_before.ensures.size ∙ c.requires.sizes ∙ ap (λ (b : Bank). b.size) (sym c.finish_at.ensures.spare);
+      mark = c.finish_at.ensures.heads 2 (omega arith) ∙ c.settle_before.ensures.heads 2 (omega arith) ∙ c.requires.mark;
+      log = (f choice closable).0;
+      beside = dead_moved _ _ c.finish_at.ensures.spare c.requires.spare;
+    }) c.finish_at.ensures.settled
+
 pub returns-clause-left : goal.returns-clause-left
-returns-clause-left g c =
-    let old = g.B.FlashBank.bank c.args.self.now.live in
-    let b = g.B.FlashBank.bank c.settle_before.new.bank in
-    let head = live-same old b c.args.self.now.generation (c.settle_before.ensures.firm
-    ∙ sym c.requires.head.0.firm) c.settle_before.ensures.heads c.requires.head in
-    one_err c.finish_at.result (λ f choice n left.
-    store_of _ _ _ _ _ _ choice (c.finish_at.ensures.head head) (f choice (c.in_ok-sure.ensures.sure c.if-not-sure.false n choice left
-    (c.first_blank-at.ensures.found n choice left))) c.finish_at.ensures.spare c.finish_at.ensures.generation c.requires.spare)
+returns-clause-left g c = one_err c.finish_at.result (λ f choice n left.
+    store_left _ _ _ choice (f choice (c.in_ok-sure.ensures.sure c.if-not-sure.false n choice left (c.first_blank-at.ensures.found n choice left)))
+    (dead_moved _ _ c.finish_at.ensures.spare c.requires.spare))
     c.finish_at.ensures.left

@@ -1,20 +1,36 @@
-use Rattle.std.proofs.Common.{◌∙◌, ◌+◌, inr, true, false, ap}
+use Rattle.std.proofs.Common.{◌∙◌, inr, true, false, is_ok, ap, arith}
 use Rattle.flash_keeper.specs.Log.{upto}
 use Rattle.flash_keeper.proofs.Outcomes.{on_err}
-use Rattle.flash_keeper.proofs.BankLemmas.{pending, marked_log}
+use Rattle.flash_keeper.proofs.BankLemmas.{copy_stands, marked_log, word_of_left, records-same, after_head}
 use Rattle.flash_keeper.proofs.pair.Pair.rewrite.Goals as goal
 
-pub returns-in_err-program-clause-spare : goal.returns-in_err-program-clause-spare
-returns-in_err-program-clause-spare g c =
-    on_err c.from_residual-in_err-program.result (λ choice one. inr (pending (g.B.FlashBank.bank c.copy_to.new.to) (g.B.FlashBank.bank c.program.new.self)
-    c.args.self.now.generation c.in_ok-next.next false choice
-    (upto (g.B.FlashBank.bank c.args.self.now.live).words c.args.self.now.next) c.in_ok-next.ensures.head c.in_ok-next.ensures.log
-    c.in_ok-next.ensures.records c.in_err-program.ensures one))
+pub returns-in_err-confirm-clause-left : goal.returns-in_err-confirm-clause-left
+returns-in_err-confirm-clause-left g c = on_err c.from_residual-in_err-confirm.result (λ choice left. record {
+  log = left;
+  beside = inr (copy_stands (g.B.FlashBank.bank c.copy_to.new.to) (g.B.FlashBank.bank c.confirm.new.bank) _
+      c.in_ok-next.next false choice (upto (g.B.FlashBank.bank c.args.self.now.live).words c.args.self.now.next) c.in_ok-next.ensures.head
+      c.in_ok-next.ensures.log c.in_ok-next.ensures.records c.in_err-confirm.ensures.programs left.stands);
+})
+
+pub returns-in_err-retire-clause-same : goal.returns-in_err-retire-clause-same
+returns-in_err-retire-clause-same g c =
+    on_err c.from_residual-in_err-retire.result (records-same (g.B.FlashBank.bank c.args.self.now.live) (g.B.FlashBank.bank c.retire.new.bank)
+    c.args.self.now.next (after_head 0 0 (is_ok c.retire.result) (g.B.FlashBank.bank c.args.self.now.live) (g.B.FlashBank.bank c.retire.new.bank) (omega
+    arith) c.retire.ensures.programs))
+
+pub returns-in_err-retire-clause-left : goal.returns-in_err-retire-clause-left
+returns-in_err-retire-clause-left g c = on_err c.from_residual-in_err-retire.result (λ choice left. record {
+  log = word_of_left (g.B.FlashBank.bank c.args.self.now.live) (g.B.FlashBank.bank c.retire.new.bank) 0 c.args.self.now.next choice (is_ok c.retire.result)
+      (omega arith) c.retire.ensures.programs left;
+  beside = inr (copy_stands (g.B.FlashBank.bank c.copy_to.new.to) (g.B.FlashBank.bank c.confirm.new.bank) _
+      c.in_ok-next.next true choice (upto (g.B.FlashBank.bank c.args.self.now.live).words c.args.self.now.next) c.in_ok-next.ensures.head
+      c.in_ok-next.ensures.log c.in_ok-next.ensures.records c.in_ok-confirm.ensures.programs left.stands);
+})
 
 pub returns-clause-records : goal.returns-clause-records
 returns-clause-records g c =
     let n = c.in_ok-next.next in
     ap (λ b. upto (g.B.FlashBank.bank b).words n) c.swap.ensures.x_after
-    ∙ (marked_log (g.B.FlashBank.bank c.copy_to.new.to) (g.B.FlashBank.bank c.program.new.self) (c.args.self.now.generation + 1) n true
-    c.in_ok-next.ensures.head c.in_ok-next.ensures.log c.in_ok-program.ensures).2
+    ∙ (marked_log (g.B.FlashBank.bank c.copy_to.new.to) (g.B.FlashBank.bank c.confirm.new.bank) _ n true
+    c.in_ok-next.ensures.head c.in_ok-next.ensures.log c.in_ok-confirm.ensures.programs).2
     ∙ c.in_ok-next.ensures.records
