@@ -1,14 +1,14 @@
 -- What of a run helps to say why it does not take an event.
-use Rattle.std.specs.Prelude.{ℕ, ◌+◌, ◌-◌, ◌==◌, ◌&&◌, ◌||◌, Bool, true, false, ◌++◌, List, [], ◌∷◌, Option, None, Some, codes, if◌then◌else◌, nat_le}
+use Rattle.std.specs.Prelude.{ℕ, ◌+◌, ◌-◌, ◌==◌, ◌&&◌, ◌||◌, Bool, true, false, not, List, [], ◌∷◌, Option, None, Some, if◌then◌else◌, nat_le}
 use Rattle.std.specs.Prelude.{nat_lt, position, slice_get}
 use Rattle.std.specs.List.{count_by}
 use Rattle.std.specs.Str.{bytes_eq}
 use Rattle.plc_base.specs.declared.address.Eui.{Eui}
 use Rattle.line_events.specs.declared.event.Answer.{Answer}
 use Rattle.line_events.specs.declared.event.Answer.TheVariants as answers
+use Rattle.line_events.specs.Answers.{is_ok}
 use Rattle.line_events.specs.declared.event.Event.{Event}
 use Rattle.line_events.specs.declared.event.Event.TheVariants as events
-use Rattle.line_script.specs.AnswerWords.{verdict_word}
 use Rattle.line_tale.specs.declared.act.Act.{Act}
 use Rattle.line_tale.specs.declared.act.Act.TheVariants as acts
 use Rattle.line_tale.specs.declared.told.TaleEvent.{TaleEvent}
@@ -126,7 +126,7 @@ is_not_for_me _ = false
 
 -- whether an event was refused, other than by a node that it was not for
 abbrev pub is_refusal : TaleEvent → Bool
-is_refusal e = if is_not_for_me e.answer then false else bytes_eq (codes " " ++ (verdict_word e.answer ++ codes " ")) (codes " no ")
+is_refusal e = if is_not_for_me e.answer then false else not (is_ok e.answer)
 
 -- the number of the last refusal, from 1, after those before this place; 0 where there is none
 abbrev pub refusal_from : ℕ → ℕ → List TaleEvent → ℕ

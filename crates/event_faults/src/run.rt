@@ -4,7 +4,6 @@ ghost use Rattle.line_events.specs.declared.event.Answer.{Answer};
 ghost use Rattle.event_faults.specs.Runs as runs;
 
 use line_events::{Answer, Event};
-use line_script::spaced_verdict;
 use line_tale::{Act, TaleEvent};
 use plc_base::Eui;
 use std::alloc::{AllocError, Global};
@@ -313,7 +312,7 @@ fn is_refusal(event: &TaleEvent) -> bool
     if is_not_for_me(event.answer) {
         return false;
     }
-    spaced_verdict(event.answer) == " no "
+    !event.answer.is_ok()
 }
 
 fn later(is: bool, number: usize, last: usize) -> usize

@@ -1,17 +1,11 @@
 -- The sentence of an event: a function of the event, of what came with it, and of the states about it.
-use Rattle.std.specs.Prelude.{Bool, List, ℕ, ◌++◌, codes, Option, None, Some, if◌then◌else◌}
-use Rattle.std.specs.Str.{bytes_eq}
-use Rattle.line_events.specs.declared.event.Answer.{Answer}
-use Rattle.line_script.specs.AnswerWords.{verdict_word}
+use Rattle.std.specs.Prelude.{List, ℕ, Option, None, Some, if◌then◌else◌}
+use Rattle.line_events.specs.Answers.{is_ok}
 use Rattle.event_sentences.specs.declared.heard.Heard.{Heard}
 use Rattle.event_sentences.specs.Asked.{asked_text}
 use Rattle.event_sentences.specs.Refused.{refused_frame_text, refused_order_text}
 use Rattle.event_sentences.specs.Scenes.{Scene}
 use Rattle.event_sentences.specs.Taken.{taken_text}
-
--- whether an answer is ok
-abbrev pub is_ok : Answer → Bool
-is_ok answer = bytes_eq (codes " " ++ (verdict_word answer ++ codes " ")) (codes " ok ")
 
 abbrev pub done_by : Option Heard → Scene → List ℕ
 done_by None s = asked_text s.told.act s

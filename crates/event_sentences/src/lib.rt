@@ -25,6 +25,6 @@ mod watch;
 
 pub use counters::Counters;
 pub use heard::{DrawnKey, Heard, heard_flight, heard_octets};
-pub use moment::{Moment, is_ok};
+pub use moment::Moment;
 pub use route_ends::RouteEnds;
 pub use watch::{Coming, Comings, Watch};

@@ -11,8 +11,6 @@ use crate::counters::Counters;
 use crate::flights::{Meant, bracketed, first_target, leaving, meant_numbers, named};
 use crate::heard::Heard;
 use crate::watch::Watch;
-use line_events::Answer;
-use line_script::spaced_verdict;
 use line_tale::{TaleEvent, TaleFlight};
 use node_rules::{Shown, ShownRoute};
 use plc_base::Eui;
@@ -47,13 +45,6 @@ pub struct Moment<'a> {
     pub homes: &'a [u32],
     /// The EUI-64 of each node.
     pub euis: &'a [Eui],
-}
-
-/// Whether an answer is ok.
-pub fn is_ok(answer: Answer) -> bool
-    ensures { result ≡ texts.is_ok answer }
-{
-    spaced_verdict(answer) == " ok "
 }
 
 /// Where a valid route goes: the address of its next hop, and its cost.
@@ -255,7 +246,7 @@ impl<'a> Moment<'a> {
     pub fn text(&self) -> Result<String, AllocError>
         ensures { IfOk result (λ text. string_bytes text ≡ texts.event_text (scene_of self.now)) }
     {
-        if is_ok(self.told.answer) {
+        if self.told.answer.is_ok() {
             return self.done();
         }
         self.refused()

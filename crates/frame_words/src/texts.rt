@@ -7,7 +7,7 @@ use mesh_header::Mesh;
 use std::alloc::{AllocError, Global};
 
 /// Appends a number in decimal.
-pub fn push_number(text: &mut String, number: u32) -> Result<(), AllocError>
+pub fn push_number(text: &mut String, number: usize) -> Result<(), AllocError>
     ensures { OnOk result (string_bytes text.new ≡ string_bytes text.old ++ decimal number) }
 {
     let mut digits = Buffer::new();
@@ -36,7 +36,7 @@ pub fn push_named(text: &mut String, name: &str, number: u32) -> Result<(), Allo
     ensures { OnOk result (string_bytes text.new ≡ string_bytes text.old ++ (name.now ++ decimal number)) }
 {
     text.push_str(name)?;
-    push_number(text, number)
+    push_number(text, number as usize)
 }
 
 // A word and an address behind it.
@@ -57,6 +57,5 @@ pub fn push_counted(text: &mut String, name: &str, count: usize) -> Result<(), A
     ensures { OnOk result (string_bytes text.new ≡ string_bytes text.old ++ (name.now ++ decimal count)) }
 {
     text.push_str(name)?;
-    let mut digits = Buffer::new();
-    text.push_str(digits.format(count))
+    push_number(text, count)
 }

@@ -1,6 +1,6 @@
 -- Which sentences fit an option of a block.
 use Rattle.std.proofs.Common.{◌≡◌, ◌≤◌, ◌<◌, ◌^◌, ℕ, ◌*◌, List, [], ◌∷◌, ◌++◌, length, arith, length-append, subst, sym}
-use Rattle.std.specs.Prelude.{All, Bool, codes, false, true, ⊤}
+use Rattle.std.specs.Prelude.{All, Bool, codes, false, if◌then◌else◌, true, ⊤}
 use Rattle.std.specs.Fmt.{decimal}
 use Rattle.std.proofs.lemmas.List.Elements.{All-cons, All-head, All-nil, All-tail}
 use Rattle.std.proofs.lemmas.Fmt.{length-decimal-le}
@@ -22,6 +22,7 @@ use Rattle.line_events.specs.declared.event.Answer.TheVariants.{CounterSpent, Ac
 use Rattle.line_events.specs.declared.event.Answer.TheVariants.{Scanning, Beacon, Beaconed, Traced, Path, Blacklisted, NotAwaited, Old, OriginsFull}
 use Rattle.line_events.specs.declared.event.Answer.TheVariants.{NumberSpent, NotScanning, NoBeacon}
 use Rattle.line_events.specs.declared.event.Answer.TheVariants.{Revisited, PathLong}
+use Rattle.line_events.specs.Answers.{is_ok}
 use Rattle.line_script.specs.AnswerWords.{answer_word, verdict_word}
 use Rattle.sentence_parts.specs.declared.part.Part.{Part}
 use Rattle.sentence_parts.specs.declared.part.Part.TheVariants.{Words, Number, Place as At}
@@ -83,93 +84,12 @@ few_said code parts begun below h =
 
 -- # The words of answers
 
+short_ok : (ok : Bool) → length (if ok then codes "ok" else codes "no") ≤ 10
+short_ok true = omega arith
+short_ok false = omega arith
+
 pub short_verdict : (answer : Answer) → length (verdict_word answer) ≤ 10
-short_verdict Made = omega arith
-short_verdict Joined = omega arith
-short_verdict Set = omega arith
-short_verdict Allowed = omega arith
-short_verdict Given = omega arith
-short_verdict Asked = omega arith
-short_verdict Left = omega arith
-short_verdict Sent = omega arith
-short_verdict Waiting = omega arith
-short_verdict Lost = omega arith
-short_verdict Broken = omega arith
-short_verdict Ticked = omega arith
-short_verdict Restarted = omega arith
-short_verdict Drawn = omega arith
-short_verdict Challenged = omega arith
-short_verdict Activated = omega arith
-short_verdict Ordered = omega arith
-short_verdict Kicked = omega arith
-short_verdict Shown = omega arith
-short_verdict Up = omega arith
-short_verdict Held = omega arith
-short_verdict Relayed = omega arith
-short_verdict Answered = omega arith
-short_verdict Learned = omega arith
-short_verdict Reported = omega arith
-short_verdict Carried = omega arith
-short_verdict Replied = omega arith
-short_verdict Took = omega arith
-short_verdict Noted = omega arith
-short_verdict Declined = omega arith
-short_verdict Keyed = omega arith
-short_verdict Done = omega arith
-short_verdict NoAddress = omega arith
-short_verdict Halted = omega arith
-short_verdict NotJoined = omega arith
-short_verdict BadSize = omega arith
-short_verdict ToSelf = omega arith
-short_verdict WaitingFull = omega arith
-short_verdict MetersFull = omega arith
-short_verdict RandomsFull = omega arith
-short_verdict AlreadyJoined = omega arith
-short_verdict IndexActive = omega arith
-short_verdict NotIssued = omega arith
-short_verdict BadStore = omega arith
-short_verdict Malformed = omega arith
-short_verdict NotForMe = omega arith
-short_verdict NoKey = omega arith
-short_verdict BadTag = omega arith
-short_verdict Replayed = omega arith
-short_verdict PeersFull = omega arith
-short_verdict Store = omega arith
-short_verdict BadUnit = omega arith
-short_verdict NoRoute = omega arith
-short_verdict HopsSpent = omega arith
-short_verdict NotBetter = omega arith
-short_verdict CostSpent = omega arith
-short_verdict RoutesFull = omega arith
-short_verdict NotAllowed = omega arith
-short_verdict NoSession = omega arith
-short_verdict SessionsFull = omega arith
-short_verdict NoRandom = omega arith
-short_verdict Form = omega arith
-short_verdict OtherSession = omega arith
-short_verdict BadMac = omega arith
-short_verdict BadChannel = omega arith
-short_verdict NoSuccess = omega arith
-short_verdict NotHeld = omega arith
-short_verdict BufferFull = omega arith
-short_verdict SeqSpent = omega arith
-short_verdict CounterSpent = omega arith
-short_verdict Acked = omega arith
-short_verdict Bup = omega arith
-short_verdict Scanning = omega arith
-short_verdict Beacon = omega arith
-short_verdict Beaconed = omega arith
-short_verdict Traced = omega arith
-short_verdict Path = omega arith
-short_verdict Blacklisted = omega arith
-short_verdict NotAwaited = omega arith
-short_verdict Old = omega arith
-short_verdict OriginsFull = omega arith
-short_verdict NumberSpent = omega arith
-short_verdict NotScanning = omega arith
-short_verdict NoBeacon = omega arith
-short_verdict Revisited = omega arith
-short_verdict PathLong = omega arith
+short_verdict answer = short_ok (is_ok answer)
 
 pub short_answer : (answer : Answer) → length (answer_word answer) ≤ 20
 short_answer Made = omega arith

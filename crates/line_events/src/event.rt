@@ -1,4 +1,7 @@
 //! The events of a line, and their answers.
+ghost use Rattle.std.specs.Prelude.{◌≡◌};
+ghost use Rattle.line_events.specs.Answers.{is_ok};
+
 use plc_base::{Eui, Key, KeyIndex, LinkCost, OctetRef, Rand};
 use thiserror::Error;
 
@@ -319,6 +322,56 @@ pub enum Answer {
     Revisited,
     /// The walk of the ask is full.
     PathLong,
+}
+
+impl Answer {
+    /// Whether the event was done: its line of the report then says `ok`, and `no` where the event was refused.
+    pub fn is_ok(self) -> bool
+        ensures { result ≡ is_ok self }
+    {
+        match self {
+            Answer::Made => true,
+            Answer::Joined => true,
+            Answer::Set => true,
+            Answer::Allowed => true,
+            Answer::Given => true,
+            Answer::Asked => true,
+            Answer::Left => true,
+            Answer::Sent => true,
+            Answer::Waiting => true,
+            Answer::Lost => true,
+            Answer::Broken => true,
+            Answer::Ticked => true,
+            Answer::Restarted => true,
+            Answer::Drawn => true,
+            Answer::Challenged => true,
+            Answer::Activated => true,
+            Answer::Ordered => true,
+            Answer::Kicked => true,
+            Answer::Shown => true,
+            Answer::Up => true,
+            Answer::Held => true,
+            Answer::Relayed => true,
+            Answer::Answered => true,
+            Answer::Learned => true,
+            Answer::Reported => true,
+            Answer::Carried => true,
+            Answer::Replied => true,
+            Answer::Took => true,
+            Answer::Noted => true,
+            Answer::Declined => true,
+            Answer::Keyed => true,
+            Answer::Done => true,
+            Answer::Acked => true,
+            Answer::Bup => true,
+            Answer::Scanning => true,
+            Answer::Beacon => true,
+            Answer::Beaconed => true,
+            Answer::Traced => true,
+            Answer::Path => true,
+            _ => false,
+        }
+    }
 }
 
 /// Why an event was not taken. The world is then as it was.

@@ -1,7 +1,9 @@
 -- The words of answers have no line feed.
-use Rattle.std.proofs.Common.{◌≡◌, true, refl}
+use Rattle.std.proofs.Common.{◌≡◌, Bool, true, false, refl}
+use Rattle.std.specs.Prelude.{codes, if◌then◌else◌}
 use Rattle.line_events.specs.declared.event.Answer.{Answer}
 use Rattle.line_events.specs.declared.event.Answer.TheVariants as answers
+use Rattle.line_events.specs.Answers.{is_ok}
 use Rattle.line_script.specs.AnswerWords.{answer_word, verdict_word}
 use Rattle.line_replay.proofs.Inside.{is_inside}
 
@@ -93,90 +95,9 @@ answer_inside answers.NoBeacon = refl
 answer_inside answers.Revisited = refl
 answer_inside answers.PathLong = refl
 
+ok_inside : (ok : Bool) → is_inside (if ok then codes "ok" else codes "no") ≡ true
+ok_inside true = refl
+ok_inside false = refl
+
 pub verdict_inside : (answer : Answer) → is_inside (verdict_word answer) ≡ true
-verdict_inside answers.Made = refl
-verdict_inside answers.Joined = refl
-verdict_inside answers.Set = refl
-verdict_inside answers.Allowed = refl
-verdict_inside answers.Given = refl
-verdict_inside answers.Asked = refl
-verdict_inside answers.Left = refl
-verdict_inside answers.Sent = refl
-verdict_inside answers.Waiting = refl
-verdict_inside answers.Lost = refl
-verdict_inside answers.Broken = refl
-verdict_inside answers.Ticked = refl
-verdict_inside answers.Restarted = refl
-verdict_inside answers.Drawn = refl
-verdict_inside answers.Challenged = refl
-verdict_inside answers.Activated = refl
-verdict_inside answers.Ordered = refl
-verdict_inside answers.Kicked = refl
-verdict_inside answers.Shown = refl
-verdict_inside answers.Up = refl
-verdict_inside answers.Held = refl
-verdict_inside answers.Relayed = refl
-verdict_inside answers.Answered = refl
-verdict_inside answers.Learned = refl
-verdict_inside answers.Reported = refl
-verdict_inside answers.Carried = refl
-verdict_inside answers.Replied = refl
-verdict_inside answers.Took = refl
-verdict_inside answers.Noted = refl
-verdict_inside answers.Declined = refl
-verdict_inside answers.Keyed = refl
-verdict_inside answers.Done = refl
-verdict_inside answers.NoAddress = refl
-verdict_inside answers.Halted = refl
-verdict_inside answers.NotJoined = refl
-verdict_inside answers.BadSize = refl
-verdict_inside answers.ToSelf = refl
-verdict_inside answers.WaitingFull = refl
-verdict_inside answers.MetersFull = refl
-verdict_inside answers.RandomsFull = refl
-verdict_inside answers.AlreadyJoined = refl
-verdict_inside answers.IndexActive = refl
-verdict_inside answers.NotIssued = refl
-verdict_inside answers.BadStore = refl
-verdict_inside answers.Malformed = refl
-verdict_inside answers.NotForMe = refl
-verdict_inside answers.NoKey = refl
-verdict_inside answers.BadTag = refl
-verdict_inside answers.Replayed = refl
-verdict_inside answers.PeersFull = refl
-verdict_inside answers.Store = refl
-verdict_inside answers.BadUnit = refl
-verdict_inside answers.NoRoute = refl
-verdict_inside answers.HopsSpent = refl
-verdict_inside answers.NotBetter = refl
-verdict_inside answers.CostSpent = refl
-verdict_inside answers.RoutesFull = refl
-verdict_inside answers.NotAllowed = refl
-verdict_inside answers.NoSession = refl
-verdict_inside answers.SessionsFull = refl
-verdict_inside answers.NoRandom = refl
-verdict_inside answers.Form = refl
-verdict_inside answers.OtherSession = refl
-verdict_inside answers.BadMac = refl
-verdict_inside answers.BadChannel = refl
-verdict_inside answers.NoSuccess = refl
-verdict_inside answers.NotHeld = refl
-verdict_inside answers.BufferFull = refl
-verdict_inside answers.SeqSpent = refl
-verdict_inside answers.CounterSpent = refl
-verdict_inside answers.Acked = refl
-verdict_inside answers.Bup = refl
-verdict_inside answers.Scanning = refl
-verdict_inside answers.Beacon = refl
-verdict_inside answers.Beaconed = refl
-verdict_inside answers.Traced = refl
-verdict_inside answers.Path = refl
-verdict_inside answers.Blacklisted = refl
-verdict_inside answers.NotAwaited = refl
-verdict_inside answers.Old = refl
-verdict_inside answers.OriginsFull = refl
-verdict_inside answers.NumberSpent = refl
-verdict_inside answers.NotScanning = refl
-verdict_inside answers.NoBeacon = refl
-verdict_inside answers.Revisited = refl
-verdict_inside answers.PathLong = refl
+verdict_inside answer = ok_inside (is_ok answer)

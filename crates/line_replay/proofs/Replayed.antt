@@ -4,13 +4,15 @@ use Rattle.plc_base.specs.Streams.{SourceState, SinkState}
 use Rattle.line_laws.specs.Network.{IsRight}
 use Rattle.run_laws.specs.RunLaws.{IsLawful}
 use Rattle.line_replay.specs.Replay.{entries, is_forged, outcome}
-use Rattle.line_replay.specs.Tool.{Ran, Replays}
-use Rattle.line_replay.specs.declared.status.Status.{Status}
+use Rattle.program_ends.specs.declared.status.Status.{Status}
+use Rattle.program_ends.specs.declared.status.Status.TheVariants as status
+use Rattle.program_ends.specs.Runs.{Ran}
+use Rattle.line_replay.specs.Tool.{Replays}
 use Rattle.line_replay.proofs.Running.{entries_run, last_is, report_by_entries, names, breaks_as}
 use Rattle.line_replay.proofs.Quieting.{report_quieted}
 
 pub replays_of : (quiet : Bool) {source0 source1 : SourceState} {sink0 sink1 : SinkState} {s : Status}
-    → Ran is_forged (outcome quiet) source0 source1 sink0 sink1 s → ((octets : List ℕ) (e : Bool) → IsRight (entries octets e))
+    → Ran is_forged status.Forged (outcome quiet) source0 source1 sink0 sink1 s → ((octets : List ℕ) (e : Bool) → IsRight (entries octets e))
     → ((octets : List ℕ) (e : Bool) → IsLawful (entries octets e)) → Replays quiet source0 source1 sink0 sink1 s
 replays_of quiet ran right lawful = record {
   ran = ran;

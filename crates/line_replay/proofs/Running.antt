@@ -7,8 +7,8 @@ use Rattle.script_lines.specs.Lines.{Content, Text, Long, TooMuch, Line, lines}
 use Rattle.script_lines.specs.Outcomes.{Outcome, Bad, Ended, outcome_turn, outcome_from}
 use Rattle.script_lines.specs.declared.machine.Exit.{Exit}
 use Rattle.script_lines.specs.declared.machine.Exit.TheVariants as exits
-use Rattle.script_lines.specs.Clauses.{Comes, Drives}
-use Rattle.plc_base.specs.Streams.{SourceState, SinkState, SourceRose, SinkRose}
+use Rattle.script_lines.specs.Clauses.{Comes}
+use Rattle.plc_base.specs.Streams.{SourceState, SinkState}
 use Rattle.line_events.specs.declared.event.Event.{Event}
 use Rattle.line_events.specs.declared.event.StepFault.TheVariants as faults
 use Rattle.line_events.specs.declared.event.TheConstants.{MAX_EVENTS}
@@ -28,9 +28,11 @@ use Rattle.line_script.proofs.Ranges.{reading_fits}
 use Rattle.line_replay.specs.Replay.{Taking, Skipped, Taken, Refused, step_taking, reading_taking, taking, Playing, entry_text, turn_by, turn_of, end_of}
 use Rattle.line_replay.specs.Replay.{BadLine, bad_by, first_bad_from, first_bad, EndsBy}
 use Rattle.line_replay.specs.Replay.{is_forged, outcome, report, entries_by, entries_from, entries, entries_text, last_by, last_from, last_text, forged_in}
-use Rattle.line_replay.specs.declared.status.Status.{Status}
-use Rattle.line_replay.specs.declared.status.Status.TheVariants as status
-use Rattle.line_replay.specs.Tool.{status_of, Ran, Names, BreaksOffBy, is_whole}
+use Rattle.program_ends.specs.declared.status.Status.{Status}
+use Rattle.program_ends.specs.declared.status.Status.TheVariants as status
+use Rattle.program_ends.specs.Runs.{Ran}
+use Rattle.program_ends.specs.Statuses.{status_of}
+use Rattle.line_replay.specs.Tool.{Names, BreaksOffBy, is_whole}
 
 -- what a taking says of the run that goes on
 abbrev GoesOn : World → Taking → Type 0
@@ -167,7 +169,7 @@ module _ (quiet : Bool) where
 
   names_by : (source0 source1 : SourceState) (sink0 sink1 : SinkState) (b w : List ℕ) (last : Playing) (exit : Exit) (flag : Bool) → is_forged last ≡ flag
       → Comes (outcome quiet) last source0 source1 sink0 sink1 b w exit
-      → CountsRight start (entries b true) → Names (status_of exit flag) (forged_in (entries b true))
+      → CountsRight start (entries b true) → Names (status_of exit flag status.Forged) (forged_in (entries b true))
   names_by source0 source1 sink0 sink1 b w last exits.Fine false is comes right =
       none_named last (forged_in (entries b true)) is (counted_from last (lines b true) start right comes.1)
   names_by source0 source1 sink0 sink1 b w last exits.Fine true is comes right =
@@ -178,7 +180,8 @@ module _ (quiet : Bool) where
   names_by source0 source1 sink0 sink1 b w last exits.Memory flag is comes right = tt
 
   -- the status of a replay names a forged event exactly where its run has one
-  pub names : {source0 source1 : SourceState} {sink0 sink1 : SinkState} {s : Status} (ran : Ran is_forged (outcome quiet) source0 source1 sink0 sink1 s)
+  pub names : {source0 source1 : SourceState} {sink0 sink1 : SinkState} {s : Status}
+      (ran : Ran is_forged status.Forged (outcome quiet) source0 source1 sink0 sink1 s)
       → CountsRight start (entries ran.drives.b true) → Names s (forged_in (entries ran.drives.b true))
   names {source0} {source1} {sink0} {sink1} {s} ran right = subst (λ t. Names t (forged_in (entries ran.drives.b true))) (sym ran.status)
       (names_by source0 source1 sink0 sink1 ran.drives.b ran.drives.w ran.last ran.exit (is_forged ran.last) refl ran.drives.comes right)
@@ -186,9 +189,9 @@ module _ (quiet : Bool) where
 -- ---- where a report breaks off
 
 module _ {M : Type 0} {judge : M → Bool} {outcome : List ℕ → Bool → Outcome M} {source0 source1 : SourceState} {sink0 sink1 : SinkState} {s : Status}
-    (ran : Ran judge outcome source0 source1 sink0 sink1 s) where
+    (ran : Ran judge status.Forged outcome source0 source1 sink0 sink1 s) where
   breaks_by : (exit : Exit) (flag : Bool) → Comes outcome ran.last source0 source1 sink0 sink1 ran.drives.b ran.drives.w exit
-      → BreaksOffBy (status_of exit flag) (λ octets ended. (outcome octets ended).text) ran.drives.b ran.drives.w source1.ended
+      → BreaksOffBy (status_of exit flag status.Forged) (λ octets ended. (outcome octets ended).text) ran.drives.b ran.drives.w source1.ended
   breaks_by exits.Fine false comes = tt
   breaks_by exits.Fine true comes = tt
   breaks_by exits.BadScript flag comes = tt
@@ -202,45 +205,12 @@ module _ {M : Type 0} {judge : M → Bool} {outcome : List ℕ → Bool → Outc
 
 -- ---- why a status came
 
--- what a run over lines did, by its status
-pub ran_of : {M : Type 0} (judge : M → Bool) (outcome : List ℕ → Bool → Outcome M) {source0 source1 : SourceState} {sink0 sink1 : SinkState} (exit : Exit)
-    (last : M) (flag : Bool) (s : Status) → s ≡ status_of exit flag → judge last ≡ flag
-    → Drives outcome last source0 source1 sink0 sink1 exit → Ran judge outcome source0 source1 sink0 sink1 s
-ran_of judge outcome exit last flag s of is d = record { exit = exit; last = last; drives = d; status = of ∙ ap (status_of exit) (sym is) }
-
-whole_of : (exit : Exit) (flag : Bool) → is_whole (status_of exit flag) ≡ true → exit ≡ exits.Fine
+whole_of : (exit : Exit) (flag : Bool) → is_whole (status_of exit flag status.Forged) ≡ true → exit ≡ exits.Fine
 whole_of exits.Fine flag whole = refl
 whole_of exits.BadScript flag whole = absurd (let no : false ≡ true → ⊥ = λ e. cc in no whole)
 whole_of exits.Memory flag whole = absurd (let no : false ≡ true → ⊥ = λ e. cc in no whole)
 whole_of exits.ReadFault flag whole = absurd (let no : false ≡ true → ⊥ = λ e. cc in no whole)
 whole_of exits.WriteFault flag whole = absurd (let no : false ≡ true → ⊥ = λ e. cc in no whole)
 
-pub whole_exit : (exit : Exit) (flag : Bool) (s : Status) → s ≡ status_of exit flag → is_whole s ≡ true → exit ≡ exits.Fine
+pub whole_exit : (exit : Exit) (flag : Bool) (s : Status) → s ≡ status_of exit flag status.Forged → is_whole s ≡ true → exit ≡ exits.Fine
 whole_exit exit flag s of whole = whole_of exit flag (ap is_whole (sym of) ∙ whole)
-
-module _ {M : Type 0} {judge : M → Bool} {outcome : List ℕ → Bool → Outcome M} {source0 source1 : SourceState} {sink0 sink1 : SinkState} {s : Status}
-    (ran : Ran judge outcome source0 source1 sink0 sink1 s) where
-  read_by : (exit : Exit) (flag : Bool) → Comes outcome ran.last source0 source1 sink0 sink1 ran.drives.b ran.drives.w exit
-      → status_of exit flag ≡ status.ReadFault → SourceRose source0 source1
-  read_by exits.Fine false comes is = absurd (let no : status.Fine ≡ status.ReadFault → ⊥ = λ e. cc in no is)
-  read_by exits.Fine true comes is = absurd (let no : status.Forged ≡ status.ReadFault → ⊥ = λ e. cc in no is)
-  read_by exits.BadScript flag comes is = absurd (let no : status.BadScript ≡ status.ReadFault → ⊥ = λ e. cc in no is)
-  read_by exits.Memory flag comes is = absurd (let no : status.Memory ≡ status.ReadFault → ⊥ = λ e. cc in no is)
-  read_by exits.WriteFault flag comes is = absurd (let no : status.WriteFault ≡ status.ReadFault → ⊥ = λ e. cc in no is)
-  read_by exits.ReadFault flag comes is = comes.0
-
-  write_by : (exit : Exit) (flag : Bool) → Comes outcome ran.last source0 source1 sink0 sink1 ran.drives.b ran.drives.w exit
-      → status_of exit flag ≡ status.WriteFault → SinkRose sink0 sink1
-  write_by exits.Fine false comes is = absurd (let no : status.Fine ≡ status.WriteFault → ⊥ = λ e. cc in no is)
-  write_by exits.Fine true comes is = absurd (let no : status.Forged ≡ status.WriteFault → ⊥ = λ e. cc in no is)
-  write_by exits.BadScript flag comes is = absurd (let no : status.BadScript ≡ status.WriteFault → ⊥ = λ e. cc in no is)
-  write_by exits.Memory flag comes is = absurd (let no : status.Memory ≡ status.WriteFault → ⊥ = λ e. cc in no is)
-  write_by exits.ReadFault flag comes is = absurd (let no : status.ReadFault ≡ status.WriteFault → ⊥ = λ e. cc in no is)
-  write_by exits.WriteFault flag comes is = comes.0
-
-  -- a fault of the outside has its cause there
-  pub read_cause : s ≡ status.ReadFault → SourceRose source0 source1
-  read_cause is = read_by ran.exit (judge ran.last) ran.drives.comes (sym ran.status ∙ is)
-
-  pub write_cause : s ≡ status.WriteFault → SinkRose sink0 sink1
-  write_cause is = write_by ran.exit (judge ran.last) ran.drives.comes (sym ran.status ∙ is)

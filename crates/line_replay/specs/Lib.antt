@@ -2,6 +2,5 @@ pub mod Codes
 pub mod Drills
 pub mod Replay
 pub mod Shown
-pub mod Statuses
 pub mod Texts
 pub mod Tool

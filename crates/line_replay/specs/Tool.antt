@@ -1,25 +1,23 @@
 use Rattle.line_rules.specs.Runs.{IsLineRun}
 -- What the tool's call says.
-use Rattle.std.specs.Prelude.{◌≡◌, ℕ, ◌<◌, Bool, true, false, ◌&&◌, List, [], ◌∷◌, ◌++◌, length, String, Some, None, codes, string_bytes, bytes_eq}
+use Rattle.std.specs.Prelude.{◌≡◌, ℕ, ◌<◌, Bool, true, false, ◌&&◌, List, [], ◌∷◌, ◌++◌, String, Some, None, codes, string_bytes, bytes_eq}
 use Rattle.std.specs.Prelude.{if◌then◌else◌}
 use Rattle.std.specs.declared.option.Option.{Option}
 use Rattle.std.specs.Option.{option_map}
 use Rattle.std.specs.declared.alloc.Global.{Global}
-use Rattle.std.specs.Io.KnownBytes.{Appends}
-use Rattle.plc_base.specs.Streams.{SourceState, SinkState, SinkFaults, SinkRose, IsPrefixOf}
-use Rattle.script_lines.specs.declared.machine.Exit.{Exit}
-use Rattle.script_lines.specs.declared.machine.Exit.TheVariants as exits
+use Rattle.plc_base.specs.Streams.{SourceState, SinkState}
 use Rattle.script_lines.specs.declared.window.TheConstants.{WINDOW}
-use Rattle.script_lines.specs.Outcomes.{Outcome, BreaksOff, MayBreakOff}
-use Rattle.script_lines.specs.Clauses.{Drives}
+use Rattle.script_lines.specs.Outcomes.{BreaksOff, MayBreakOff}
 use Rattle.node_rules.specs.Ciphers.{network}
 use Rattle.line_laws.specs.Network.{IsRight}
 use Rattle.run_laws.specs.RunLaws.{IsLawful}
 use Rattle.line_script.specs.Words.{number_within}
 use Rattle.line_replay.specs.declared.tool.Command.{Command}
 use Rattle.line_replay.specs.declared.tool.Command.TheVariants.{Replay, Show, Vectors, Drill}
-use Rattle.line_replay.specs.declared.status.Status.{Status}
-use Rattle.line_replay.specs.declared.status.Status.TheVariants as status
+use Rattle.program_ends.specs.declared.status.Status.{Status}
+use Rattle.program_ends.specs.declared.status.Status.TheVariants as status
+use Rattle.program_ends.specs.Runs.{Ran}
+use Rattle.program_ends.specs.Texts.{WritesText}
 use Rattle.line_replay.specs.Shown.{show_outcome}
 use Rattle.line_replay.specs.Replay.{is_forged, outcome, report, entries, entries_text, last_text, EndsBy, first_bad, forged_in, without_flights}
 
@@ -42,30 +40,13 @@ command_of (word ∷ option ∷ []) =
     else None)
 command_of (word ∷ option ∷ other ∷ words) = None
 
--- the status of a run over lines, which has seen a forged event or not
-abbrev pub status_of : Exit → Bool → Status
-status_of exits.Fine false = status.Fine
-status_of exits.Fine true = status.Forged
-status_of exits.BadScript forged = status.BadScript
-status_of exits.Memory forged = status.Memory
-status_of exits.ReadFault forged = status.ReadFault
-status_of exits.WriteFault forged = status.WriteFault
-
--- What reading lines did: how the run ended, the last state where it came to the end of input, and the status of both.
-pub record Ran {M : Type 0} (forged : M → Bool) (outcome : List ℕ → Bool → Outcome M) (source0 source1 : SourceState)
-    (sink0 sink1 : SinkState) (result : Status) : Type 0 where
-  pub exit : Exit
-  pub last : M
-  pub drives : Drives outcome last source0 source1 sink0 sink1 exit
-  pub status : result ≡ status_of exit (forged last)
-
 -- no frame that is shown is forged
 abbrev pub none_forged : ℕ → Bool
 none_forged frames = false
 
 -- What showing frames did.
 abbrev pub Shows : SourceState → SourceState → SinkState → SinkState → Status → Type 0
-Shows source0 source1 sink0 sink1 result = Ran none_forged show_outcome source0 source1 sink0 sink1 result
+Shows source0 source1 sink0 sink1 result = Ran none_forged status.Forged show_outcome source0 source1 sink0 sink1 result
 
 -- a status says of a run whether an event of it is forged
 abbrev pub Names : Status → ℕ → Type 0
@@ -76,6 +57,7 @@ Names status.ReadFault forged = Unit {0}
 Names status.WriteFault forged = Unit {0}
 Names status.Memory forged = Unit {0}
 Names status.Usage forged = Unit {0}
+Names status.LimitReached forged = ⊥
 
 -- the input was read whole
 abbrev pub is_whole : Status → Bool
@@ -93,11 +75,12 @@ BreaksOffBy status.Forged whole b w ended = Unit {0}
 BreaksOffBy status.BadScript whole b w ended = Unit {0}
 BreaksOffBy status.ReadFault whole b w ended = Unit {0}
 BreaksOffBy status.Usage whole b w ended = Unit {0}
+BreaksOffBy status.LimitReached whole b w ended = ⊥
 
 -- What a replay did: the same, and what holds of its run.
 pub record Replays (quiet : Bool) (source0 source1 : SourceState) (sink0 sink1 : SinkState)
     (result : Status) : Type 0 where
-  pub ran : Ran is_forged (outcome quiet) source0 source1 sink0 sink1 result
+  pub ran : Ran is_forged status.Forged (outcome quiet) source0 source1 sink0 sink1 result
   -- the report is the lines of the run's entries, and then the last line
   pub by_entries : (e : Bool)
       → report quiet ran.drives.b e ≡ entries_text quiet (entries ran.drives.b e) ++ last_text ran.drives.b e
@@ -114,24 +97,6 @@ pub record Replays (quiet : Bool) (source0 source1 : SourceState) (sink0 sink1 :
   pub lawful : (e : Bool) → IsLawful (entries ran.drives.b e)
   -- the status names a forged event exactly where there is one
   pub named : Names result (forged_in (entries ran.drives.b true))
-
--- Why a status comes where one text is written and nothing is read: all of it was written, and the status is the one for that;
--- or the sink failed, and a prefix of it was written.
-abbrev pub WritesTextBy : List ℕ → Status → List ℕ → SinkState → SinkState → Status → Type 0
-WritesTextBy text done w sink0 sink1 status.Fine = (done ≡ status.Fine) × (w ≡ text)
-WritesTextBy text done w sink0 sink1 status.Usage = (done ≡ status.Usage) × (w ≡ text)
-WritesTextBy text done w sink0 sink1 status.WriteFault = SinkRose sink0 sink1 × IsPrefixOf w text
-WritesTextBy text done w sink0 sink1 status.BadScript = ⊥
-WritesTextBy text done w sink0 sink1 status.Forged = ⊥
-WritesTextBy text done w sink0 sink1 status.Memory = ⊥
-WritesTextBy text done w sink0 sink1 status.ReadFault = ⊥
-
--- What the writing of one text did.
-pub record WritesText (text : List ℕ) (done : Status) (sink0 sink1 : SinkState) (result : Status) : Type 0 where
-  pub w : List ℕ
-  pub wrote : Appends sink0.taken sink1.taken w
-  pub by : WritesTextBy text done w sink0 sink1 result
-  pub faults : SinkFaults sink0 sink1 (length text)
 
 -- One text was written, unless memory ran out while it was made: then nothing was written.
 abbrev pub WritesTextOrMemory : List ℕ → Status → SinkState → SinkState → Status → Type 0

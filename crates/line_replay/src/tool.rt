@@ -1,10 +1,11 @@
 //! All that the program does.
 //!
 //! The commands are not inlined: else one frame of the stack would hold what all of them have in turn.
-ghost use Rattle.std.specs.Prelude.{◌≡◌, ℕ, ◌≤◌, ◌⊎◌, Bool, true, Some, None};
+ghost use Rattle.std.specs.Prelude.{◌≡◌, ℕ, ◌≤◌, Bool, true, Some, None};
 ghost use Rattle.std.specs.Io.KnownBytes.{IsAtEnd};
 ghost use Rattle.plc_base.specs.Streams.{SourceFaults, SourceRose, SinkRose};
-ghost use Rattle.line_replay.specs.Tool.{Replays, Shows, WritesText, WritesTextOrMemory, command_of, drill_of, status_of, is_whole};
+ghost use Rattle.program_ends.specs.Texts.{WritesText};
+ghost use Rattle.line_replay.specs.Tool.{Replays, Shows, WritesTextOrMemory, command_of, drill_of, is_whole};
 ghost use Rattle.line_replay.specs.Drills.{drill_text};
 ghost use Rattle.line_replay.specs.Texts.{usage_text};
 ghost use Rattle.standard_vectors.specs.VectorsText.{vectors_text};
@@ -12,28 +13,14 @@ ghost use Rattle.standard_vectors.specs.VectorsText.{vectors_text};
 use crate::drill::drill_text;
 use crate::replay::Replay;
 use crate::show::Show;
-use crate::status::Status;
 use line_laws::every_network_run_is_right;
 use line_script::number_within;
-use plc_base::{Sink, Source, write_all};
+use plc_base::{Sink, Source};
+use program_ends::{Status, status_of, write_whole};
 use run_laws::every_run_is_lawful;
-use script_lines::{Exit, a_run_may_end_without_memory, run};
+use script_lines::{a_run_may_end_without_memory, run};
 use standard_vectors::vectors_text;
 use std::alloc::{AllocError, Global};
-
-/// The status of a run over lines, which has seen a forged event or not.
-fn status_of(exit: Exit, forged: bool) -> Status
-    ensures { result ≡ status_of exit forged }
-{
-    match exit {
-        Exit::Fine if forged => Status::Forged,
-        Exit::Fine => Status::Fine,
-        Exit::BadScript => Status::BadScript,
-        Exit::Memory => Status::Memory,
-        Exit::ReadFault => Status::ReadFault,
-        Exit::WriteFault => Status::WriteFault,
-    }
-}
 
 /// Reads a script from the source, and writes its report to the sink: a quiet one without the octets of the flights.
 #[inline(never)]
@@ -53,7 +40,7 @@ fn replay<S: Source, K: Sink>(alloc: Global, quiet: bool, source: &mut S, sink: 
         return Status::Memory;
     };
     let exit = run(alloc, &mut replay, source, sink);
-    status_of(exit, replay.is_forged())
+    status_of(exit, replay.is_forged(), Status::Forged)
 }
 
 /// Reads frames from the source, and writes to the sink what each is.
@@ -68,18 +55,7 @@ fn show<S: Source, K: Sink>(alloc: Global, source: &mut S, sink: &mut K) -> Stat
 {
     let mut show = Show::new(alloc);
     let exit = run(alloc, &mut show, source, sink);
-    status_of(exit, false)
-}
-
-/// Writes a text, and answers `done` where all of it was written.
-fn write_whole<K: Sink>(sink: &mut K, text: &[u8], done: Status) -> Status
-    requires { (done ≡ Status.Fine) ⊎ (done ≡ Status.Usage) }
-    ensures { WritesText text.now done (K.state sink.old) (K.state sink.new) result }
-{
-    match write_all(sink, text) {
-        Ok(()) => done,
-        Err(_) => Status::WriteFault,
-    }
+    status_of(exit, false, Status::Forged)
 }
 
 /// The commands that the program has.
@@ -152,7 +128,7 @@ const USAGE: &[u8; 58] = b"usage: line_replay replay [-q] | show | vectors | dri
 /// three read nothing, and the first and the last of them never answer Memory.
 ///
 /// Where a write fails, or memory runs out once lines were taken, the report of a script breaks off in that of one line: those of all lines before it were
-/// written whole, and at most 8,192 octets after that line were read.
+/// written whole, and at most 8,192 octets after that line were read. Where a read fails, the report of all whole lines before was written.
 ///
 /// Where no read of the source and no write of the sink is to fail, and the sink has room for the whole text, neither count of
 /// faults changes, so that neither fault comes.

@@ -1,5 +1,5 @@
 -- The words of answers.
-use Rattle.std.specs.Prelude.{ℕ, List, codes}
+use Rattle.std.specs.Prelude.{ℕ, List, codes, if◌then◌else◌}
 use Rattle.line_events.specs.declared.event.Answer.{Answer}
 use Rattle.line_events.specs.declared.event.Answer.TheVariants.{Made, Joined, Set, Allowed, Given, Asked, Left, Sent, Waiting, Lost, Broken, Ticked, Restarted}
 use Rattle.line_events.specs.declared.event.Answer.TheVariants.{Drawn, Challenged, Activated, Ordered, Kicked, Shown, Up, Held, Relayed, Answered, Learned}
@@ -10,6 +10,7 @@ use Rattle.line_events.specs.declared.event.Answer.TheVariants.{HopsSpent, NotBe
 use Rattle.line_events.specs.declared.event.Answer.TheVariants.{Form, OtherSession, BadMac, BadChannel, NoSuccess, NotHeld, BufferFull, SeqSpent, CounterSpent}
 use Rattle.line_events.specs.declared.event.Answer.TheVariants.{Acked, Bup, Scanning, Beacon, Beaconed, Traced, Path, Blacklisted, NotAwaited, Old, OriginsFull}
 use Rattle.line_events.specs.declared.event.Answer.TheVariants.{NumberSpent, NotScanning, NoBeacon, Revisited, PathLong}
+use Rattle.line_events.specs.Answers.{is_ok}
 
 -- the word of an answer
 abbrev pub answer_word : Answer → List ℕ
@@ -102,43 +103,4 @@ answer_word PathLong = codes "PathLong"
 
 -- ok, or no for a refusal
 abbrev pub verdict_word : Answer → List ℕ
-verdict_word Made = codes "ok"
-verdict_word Joined = codes "ok"
-verdict_word Set = codes "ok"
-verdict_word Allowed = codes "ok"
-verdict_word Given = codes "ok"
-verdict_word Asked = codes "ok"
-verdict_word Left = codes "ok"
-verdict_word Sent = codes "ok"
-verdict_word Waiting = codes "ok"
-verdict_word Lost = codes "ok"
-verdict_word Broken = codes "ok"
-verdict_word Ticked = codes "ok"
-verdict_word Restarted = codes "ok"
-verdict_word Drawn = codes "ok"
-verdict_word Challenged = codes "ok"
-verdict_word Activated = codes "ok"
-verdict_word Ordered = codes "ok"
-verdict_word Kicked = codes "ok"
-verdict_word Shown = codes "ok"
-verdict_word Up = codes "ok"
-verdict_word Held = codes "ok"
-verdict_word Relayed = codes "ok"
-verdict_word Answered = codes "ok"
-verdict_word Learned = codes "ok"
-verdict_word Reported = codes "ok"
-verdict_word Carried = codes "ok"
-verdict_word Replied = codes "ok"
-verdict_word Took = codes "ok"
-verdict_word Noted = codes "ok"
-verdict_word Declined = codes "ok"
-verdict_word Keyed = codes "ok"
-verdict_word Done = codes "ok"
-verdict_word Acked = codes "ok"
-verdict_word Bup = codes "ok"
-verdict_word Scanning = codes "ok"
-verdict_word Beacon = codes "ok"
-verdict_word Beaconed = codes "ok"
-verdict_word Traced = codes "ok"
-verdict_word Path = codes "ok"
-verdict_word _ = codes "no"
+verdict_word answer = if is_ok answer then codes "ok" else codes "no"

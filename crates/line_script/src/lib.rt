@@ -35,4 +35,4 @@ pub use laws::lines_are_read_back;
 pub use node_report::short_word;
 pub use reading::{Reading, read_line};
 pub use report::{Reason, Totals, bad_text, end_text, push_fly, push_happened};
-pub use word::{LINE_OCTETS, hex_octets, number_within};
+pub use word::{LINE_OCTETS, hex_octets, keeps_new, number_within};

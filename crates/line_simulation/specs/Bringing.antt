@@ -1,11 +1,12 @@
 -- What events bring: flights, what came up, addresses, what the owner notices.
-use Rattle.std.specs.Prelude.{ℕ, zero, suc, ◌+◌, ◌-◌, ◌^◌, min, cond, Bool, true, false, not, List, [], ◌∷◌, ◌++◌, Option, Some, None, codes, bytes_eq}
+use Rattle.std.specs.Prelude.{ℕ, zero, suc, ◌+◌, ◌-◌, ◌^◌, min, cond, Bool, true, false, not, List, [], ◌∷◌, ◌++◌, Option, Some, None}
 use Rattle.line_air.specs.declared.frame.Frame.{Frame}
 use Rattle.line_air.specs.Ends.{with_node}
 use Rattle.line_air.specs.Nodes.{with_joined}
 use Rattle.line_air.specs.Turns.{AirState, sky_after_send}
 use Rattle.line_events.specs.declared.event.Answer.{Answer}
 use Rattle.line_events.specs.declared.event.Answer.TheVariants as answers
+use Rattle.line_events.specs.Answers.{is_ok}
 use Rattle.line_figures.specs.declared.frames.FrameKind.{FrameKind}
 use Rattle.line_figures.specs.declared.frames.FrameKind.TheVariants as kinds
 use Rattle.line_members.specs.declared.acts.Act.{Act}
@@ -22,7 +23,6 @@ use Rattle.line_members.specs.declared.asked.Reading.{Reading}
 use Rattle.line_members.specs.Asked.{reading_at, with_reading}
 use Rattle.line_owner.specs.States.{Turned}
 use Rattle.line_owner.specs.Turns.{turn, noticed, answered}
-use Rattle.line_script.specs.AnswerWords.{verdict_word}
 use Rattle.line_simulation.specs.declared.book.Outline.{Outline}
 use Rattle.line_simulation.specs.declared.facts.Came.{Came}
 use Rattle.line_simulation.specs.declared.facts.Facts.{Facts}
@@ -220,4 +220,4 @@ is_store _ = false
 unfoldable pub outcome_of : Facts → Outcome
 outcome_of f =
     cond (is_store f.answer) outcomes.StoreFailed
-    (cond (bytes_eq (codes " " ++ (verdict_word f.answer ++ codes " ")) (codes " ok ")) outcomes.Taken outcomes.Refused)
+    (cond (is_ok f.answer) outcomes.Taken outcomes.Refused)

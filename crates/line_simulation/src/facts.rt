@@ -99,7 +99,7 @@ impl Facts {
         if is_store(self.answer) {
             return Outcome::StoreFailed;
         }
-        if line_script::spaced_verdict(self.answer) == " ok " {
+        if self.answer.is_ok() {
             return Outcome::Taken;
         }
         Outcome::Refused

@@ -2,7 +2,6 @@ pub mod Checks
 pub mod Running
 pub mod Stepping
 pub mod Turns
-pub mod AccountRunning
 pub mod BadBound
 pub mod Captured
 pub mod Explained

@@ -15,10 +15,12 @@ use Rattle.run_pages.proofs.PageNests.{page_nests}
 use Rattle.story_accounts.specs.Indexes.{index_of}
 use Rattle.line_view.specs.BadLines.{bad_words}
 use Rattle.line_view.specs.declared.bad_line.BadLine.{BadLine}
-use Rattle.line_view.specs.declared.status.Status.{Status}
+use Rattle.program_ends.specs.declared.status.Status.{Status}
+use Rattle.program_ends.specs.declared.status.Status.TheVariants as status
+use Rattle.program_ends.specs.Statuses.{status_of}
 use Rattle.line_view.specs.Paging.{Paging, chart_run, is_forged, nothing_paged, page_text, paged, rules, sheet_with}
 use Rattle.line_view.specs.RunMachines.{end_of, turn_by, turn_of}
-use Rattle.line_view.specs.Tool.{Accounts, IsWhole, account_status}
+use Rattle.line_view.specs.Tool.{Accounts, IsWhole}
 
 -- # A page
 
@@ -77,7 +79,7 @@ bad_from ahead (line ∷ ls) p ended stops =
 -- # What was written
 
 well_by : (source0 source1 : SourceState) (sink0 sink1 : SinkState) (last : Paging) (b w : List ℕ) (exit : Exit) (forged : Bool)
-    → Comes paged last source0 source1 sink0 sink1 b w exit → IsWhole (account_status exit forged) → IsPage w
+    → Comes paged last source0 source1 sink0 sink1 b w exit → IsWhole (status_of exit forged status.Forged) → IsPage w
 well_by source0 source1 sink0 sink1 last b w exits.Fine forged comes whole = subst IsPage (sym comes.2) (fine_from (lines b true) nothing_paged)
 well_by source0 source1 sink0 sink1 last b w exits.BadScript forged comes whole =
     subst IsPage (sym comes.1) (bad_from WINDOW (lines b source1.ended) nothing_paged source1.ended comes.0)
@@ -87,7 +89,7 @@ well_by source0 source1 sink0 sink1 last b w exits.Memory forged comes whole = a
 
 -- what is written whole is a page
 pub is_page : {source0 source1 : SourceState} {sink0 sink1 : SinkState} (result : Status)
-    (account : Accounts is_forged paged source0 source1 sink0 sink1 result) → IsWhole result → IsPage account.drives.w
+    (account : Accounts is_forged paged source0 source1 sink0 sink1 result) → IsWhole result → IsPage account.ran.drives.w
 is_page {source0} {source1} {sink0} {sink1} result account whole =
-    well_by source0 source1 sink0 sink1 account.last account.drives.b account.drives.w account.exit (is_forged account.last) account.drives.comes
-    (subst IsWhole account.status whole)
+    let ran = account.ran in
+    well_by source0 source1 sink0 sink1 ran.last ran.drives.b ran.drives.w ran.exit (is_forged ran.last) ran.drives.comes (subst IsWhole ran.status whole)

@@ -10,9 +10,11 @@ use Rattle.script_lines.specs.Outcomes.{Turn, Skips, Takes, Stops, Bad, Ended, O
 use Rattle.script_lines.specs.Clauses.{Comes}
 use Rattle.line_rules.specs.Worlds.{World}
 use Rattle.script_runs.specs.Takings.{Taking, Skipped, Taken, Refused, taking, BadLine, bad_by, first_bad_from, first_bad}
-use Rattle.line_view.specs.declared.status.Status.{Status}
+use Rattle.program_ends.specs.declared.status.Status.{Status}
+use Rattle.program_ends.specs.declared.status.Status.TheVariants as status
+use Rattle.program_ends.specs.Statuses.{status_of}
 use Rattle.line_view.specs.RunMachines.{FollowsRun, Follows, RunRules, end_of, outcome_by, turn_by, turn_of}
-use Rattle.line_view.specs.Tool.{Names, account_status}
+use Rattle.line_view.specs.Tool.{Names}
 
 -- a machine that records a run, and follows the script
 module _ {M : Type 0} (rules : RunRules M) (first : M) (follows : FollowsRun rules first) where
@@ -80,7 +82,7 @@ module _ {M : Type 0} (rules : RunRules M) (first : M) (follows : FollowsRun rul
 
   named_by : (source0 source1 : SourceState) (sink0 sink1 : SinkState) (b w : List ℕ) (last : M) (exit : Exit) (forged : Bool)
       → Comes (outcome_by rules first) last source0 source1 sink0 sink1 b w exit
-      → Names (account_status exit forged) (is_some (first_bad b source1.ended))
+      → Names (status_of exit forged status.Forged) (is_some (first_bad b source1.ended))
   named_by source0 source1 sink0 sink1 b w last exits.Fine false comes =
       at_end source1 b comes.0 ∙ from_start b true ∙ fine_from last (lines b true) first comes.1
   named_by source0 source1 sink0 sink1 b w last exits.Fine true comes =
@@ -93,7 +95,7 @@ module _ {M : Type 0} (rules : RunRules M) (first : M) (follows : FollowsRun rul
 
   -- the status of an account says whether a line is bad
   pub status_names : (source0 source1 : SourceState) (sink0 sink1 : SinkState) (b w : List ℕ) (last : M) (exit : Exit) (forged : Bool) (s : Status)
-      → Comes (outcome_by rules first) last source0 source1 sink0 sink1 b w exit → s ≡ account_status exit forged
+      → Comes (outcome_by rules first) last source0 source1 sink0 sink1 b w exit → s ≡ status_of exit forged status.Forged
       → Names s (is_some (first_bad b source1.ended))
   status_names source0 source1 sink0 sink1 b w last exit forged s comes is =
       subst (λ (x : Status). Names x (is_some (first_bad b source1.ended))) (sym is)

@@ -3,7 +3,6 @@ pub mod Explaining
 pub mod Recordings
 pub mod RunMachines
 pub mod Sentences
-pub mod Statuses
 pub mod Checking
 pub mod Capturing
 pub mod Paging

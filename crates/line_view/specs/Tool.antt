@@ -1,19 +1,16 @@
 -- What the program's call says.
-use Rattle.std.specs.Prelude.{◌≡◌, ℕ, Bool, true, false, List, [], ◌∷◌, ◌++◌, length, String, Some, None, codes, is_some, string_bytes, bytes_eq}
+use Rattle.std.specs.Prelude.{◌≡◌, ℕ, Bool, true, false, List, [], ◌∷◌, ◌++◌, String, Some, None, codes, is_some, string_bytes, bytes_eq}
 use Rattle.std.specs.Prelude.{if◌then◌else◌}
 use Rattle.std.specs.declared.option.Option.{Option}
 use Rattle.std.specs.declared.alloc.Global.{Global}
-use Rattle.std.specs.Io.KnownBytes.{Appends}
-use Rattle.plc_base.specs.Streams.{SourceState, SinkState, SinkFaults, SinkRose, IsPrefixOf}
-use Rattle.script_lines.specs.declared.machine.Exit.{Exit}
-use Rattle.script_lines.specs.declared.machine.Exit.TheVariants as exits
+use Rattle.plc_base.specs.Streams.{SourceState, SinkState}
 use Rattle.script_lines.specs.Outcomes.{Outcome}
-use Rattle.script_lines.specs.Clauses.{Drives}
 use Rattle.script_runs.specs.Takings.{first_bad}
 use Rattle.line_view.specs.declared.tool.Command.{Command}
 use Rattle.line_view.specs.declared.tool.Command.TheVariants.{Capture, Check, Explain, Page}
-use Rattle.line_view.specs.declared.status.Status.{Status}
-use Rattle.line_view.specs.declared.status.Status.TheVariants as status
+use Rattle.program_ends.specs.declared.status.Status.{Status}
+use Rattle.program_ends.specs.declared.status.Status.TheVariants as status
+use Rattle.program_ends.specs.Runs.{Ran}
 use Rattle.line_view.specs.Checking.{is_bad, outcome}
 use Rattle.line_script.specs.Words.{number_within}
 use Rattle.story_accounts.specs.declared.section.Chosen.{Chosen}
@@ -75,24 +72,6 @@ command_of (word ∷ kind ∷ number ∷ other ∷ words) = None
 abbrev pub usage_text : List ℕ
 usage_text = codes "usage: line_view check [--json] | explain [--all | send K | node N] | page | capture [--heard] | keys | addresses\n"
 
--- the status of a run over lines, in which a line is bad or not
-abbrev pub status_of : Exit → Bool → Status
-status_of exits.Fine false = status.Fine
-status_of exits.Fine true = status.BadScript
-status_of exits.BadScript bad = status.BadScript
-status_of exits.Memory bad = status.Memory
-status_of exits.ReadFault bad = status.ReadFault
-status_of exits.WriteFault bad = status.WriteFault
-
--- the status of an account, in which an event is forged or not
-abbrev pub account_status : Exit → Bool → Status
-account_status exits.Fine false = status.Fine
-account_status exits.Fine true = status.Forged
-account_status exits.BadScript forged = status.BadScript
-account_status exits.Memory forged = status.Memory
-account_status exits.ReadFault forged = status.ReadFault
-account_status exits.WriteFault forged = status.WriteFault
-
 -- a status says of a script whether a line of it is bad
 abbrev pub Names : Status → Bool → Type 0
 Names status.Fine bad = bad ≡ false
@@ -102,16 +81,14 @@ Names status.ReadFault bad = Unit {0}
 Names status.WriteFault bad = Unit {0}
 Names status.Memory bad = Unit {0}
 Names status.Usage bad = Unit {0}
+Names status.LimitReached bad = ⊥
 
--- What an account of a run did: how the run ended, the last state where it came to the end of input, and the status of both.
+-- What an account of a run did, and what its status says.
 pub record Accounts {M : Type 0} (forged : M → Bool) (outcome : List ℕ → Bool → Outcome M) (source0 source1 : SourceState)
     (sink0 sink1 : SinkState) (result : Status) : Type 0 where
-  pub exit : Exit
-  pub last : M
-  pub drives : Drives outcome last source0 source1 sink0 sink1 exit
-  pub status : result ≡ account_status exit (forged last)
+  pub ran : Ran forged status.Forged outcome source0 source1 sink0 sink1 result
   -- the status says whether a line of the script is bad
-  pub named : Names result (is_some (first_bad drives.b source1.ended))
+  pub named : Names result (is_some (first_bad ran.drives.b source1.ended))
 
 -- what was said of the chosen stories
 abbrev pub Explains : Chosen → SourceState → SourceState → SinkState → SinkState → Status → Type 0
@@ -130,45 +107,20 @@ IsWhole status.Usage = ⊥
 IsWhole status.Memory = ⊥
 IsWhole status.ReadFault = ⊥
 IsWhole status.WriteFault = ⊥
+IsWhole status.LimitReached = ⊥
 
 -- What was shown of a run: its page, of which a part is left out only where something failed.
 pub record Pages (source0 source1 : SourceState) (sink0 sink1 : SinkState) (result : Status) : Type 0 where
   pub account : Accounts is_page_forged paged source0 source1 sink0 sink1 result
   -- what is written whole is a page that closes all that it opens, whatever the script holds
-  pub well_formed : IsWhole result → IsPage account.drives.w
-
--- What reading lines did: how the run ended, the last state where it came to the end of input, and the status of both.
-pub record Ran {M : Type 0} (bad : M → Bool) (outcome : List ℕ → Bool → Outcome M) (source0 source1 : SourceState)
-    (sink0 sink1 : SinkState) (result : Status) : Type 0 where
-  pub exit : Exit
-  pub last : M
-  pub drives : Drives outcome last source0 source1 sink0 sink1 exit
-  pub status : result ≡ status_of exit (bad last)
+  pub well_formed : IsWhole result → IsPage account.ran.drives.w
 
 -- What a check did, and what holds of it.
 pub record Checks (json : Bool) (source0 source1 : SourceState) (sink0 sink1 : SinkState) (result : Status) : Type 0 where
-  pub ran : Ran is_bad (outcome json) source0 source1 sink0 sink1 result
+  pub ran : Ran is_bad status.BadScript (outcome json) source0 source1 sink0 sink1 result
   -- the first fault is the line, and the reason, at which the run of the script ends; there is none exactly where no line of it is bad
   pub finds : (e : Bool) → first_of (faults json ran.drives.b e) ≡ first_bad ran.drives.b e
   -- what is written is the text of each fault, and then the last lines
   pub text : (e : Bool) → (outcome json ran.drives.b e).text ≡ faults_text json 0 (faults json ran.drives.b e) ++ closing json ran.drives.b e
   -- the status says whether a line is bad
   pub named : Names result (is_some (first_bad ran.drives.b source1.ended))
-
--- Why a status comes where one text is written and nothing is read: all of it was written, and the status is the one for that;
--- or the sink failed, and a prefix of it was written.
-abbrev pub WritesTextBy : List ℕ → Status → List ℕ → SinkState → SinkState → Status → Type 0
-WritesTextBy text done w sink0 sink1 status.Usage = (done ≡ status.Usage) × (w ≡ text)
-WritesTextBy text done w sink0 sink1 status.WriteFault = SinkRose sink0 sink1 × IsPrefixOf w text
-WritesTextBy text done w sink0 sink1 status.Fine = ⊥
-WritesTextBy text done w sink0 sink1 status.BadScript = ⊥
-WritesTextBy text done w sink0 sink1 status.Forged = ⊥
-WritesTextBy text done w sink0 sink1 status.Memory = ⊥
-WritesTextBy text done w sink0 sink1 status.ReadFault = ⊥
-
--- What the writing of one text did.
-pub record WritesText (text : List ℕ) (done : Status) (sink0 sink1 : SinkState) (result : Status) : Type 0 where
-  pub w : List ℕ
-  pub wrote : Appends sink0.taken sink1.taken w
-  pub by : WritesTextBy text done w sink0 sink1 result
-  pub faults : SinkFaults sink0 sink1 (length text)

@@ -5,18 +5,19 @@ ghost use Rattle.plc_base.specs.Streams.{SourceFaults, SourceRose, SinkRose};
 ghost use Rattle.story_accounts.specs.declared.section.Chosen.{Chosen};
 ghost use Rattle.line_view.specs.declared.capture.Wanted.{Wanted};
 ghost use Rattle.line_view.specs.RunMachines.{FollowsRun, outcome_by};
-ghost use Rattle.line_view.specs.Tool.{Accounts, Captures, Checks, Explains, Pages, WritesText, account_status, capture_with, check_with, chosen_by};
-ghost use Rattle.line_view.specs.Tool.{command_of, explain_with, one_word, status_of, three_words, two_words, usage_text, wanted_word};
+ghost use Rattle.program_ends.specs.Texts.{WritesText};
+ghost use Rattle.line_view.specs.Tool.{Accounts, Captures, Checks, Explains, Pages, capture_with, check_with, chosen_by};
+ghost use Rattle.line_view.specs.Tool.{command_of, explain_with, one_word, three_words, two_words, usage_text, wanted_word};
 
 use crate::capture::{Capture, Wanted};
 use crate::check::Check;
 use crate::explain::Explain;
 use crate::page::Page;
 use crate::run_machine::{Lines, RunMachine};
-use crate::status::Status;
 use line_script::number_within;
-use plc_base::{Sink, Source, write_all};
-use script_lines::{Exit, a_run_may_end_without_memory, run};
+use plc_base::{Sink, Source};
+use program_ends::{Status, status_of, write_whole};
+use script_lines::{a_run_may_end_without_memory, run};
 use std::alloc::{AllocError, Global};
 use story_accounts::Chosen;
 
@@ -168,20 +169,6 @@ fn command_of(words: &[String]) -> Option<Command>
     }
 }
 
-// The status of a run over lines, in which a line is bad or not.
-fn status_of(exit: Exit, bad: bool) -> Status
-    ensures { result ≡ status_of exit bad }
-{
-    match exit {
-        Exit::Fine if bad => Status::BadScript,
-        Exit::Fine => Status::Fine,
-        Exit::BadScript => Status::BadScript,
-        Exit::Memory => Status::Memory,
-        Exit::ReadFault => Status::ReadFault,
-        Exit::WriteFault => Status::WriteFault,
-    }
-}
-
 /// Reads a script from the source, and writes to the sink what is wrong with it.
 fn check<S: Source, K: Sink>(alloc: Global, json: bool, source: &mut S, sink: &mut K) -> Status
     ensures checks { Checks json (S.state source.old) (S.state source.new) (K.state sink.old) (K.state sink.new) result }
@@ -196,21 +183,7 @@ fn check<S: Source, K: Sink>(alloc: Global, json: bool, source: &mut S, sink: &m
         return Status::Memory;
     };
     let exit = run(alloc, &mut check, source, sink);
-    status_of(exit, check.is_bad())
-}
-
-// The status of an account, in which an event is forged or not.
-fn account_status(exit: Exit, forged: bool) -> Status
-    ensures { result ≡ account_status exit forged }
-{
-    match exit {
-        Exit::Fine if forged => Status::Forged,
-        Exit::Fine => Status::Fine,
-        Exit::BadScript => Status::BadScript,
-        Exit::Memory => Status::Memory,
-        Exit::ReadFault => Status::ReadFault,
-        Exit::WriteFault => Status::WriteFault,
-    }
+    status_of(exit, check.is_bad(), Status::BadScript)
 }
 
 /// Reads a script from the source, and writes to the sink what a machine makes of its run.
@@ -234,7 +207,7 @@ fn account<M: RunMachine, S: Source, K: Sink>(
     };
     let mut lines = Lines::new(machine);
     let exit = run(alloc, &mut lines, source, sink);
-    account_status(exit, lines.shows_forged())
+    status_of(exit, lines.shows_forged(), Status::Forged)
 }
 
 /// Reads a script from the source, and writes to the sink what became of the chosen stories.
@@ -280,17 +253,6 @@ fn capture<S: Source, K: Sink>(
     account(alloc, Capture::new(alloc, wanted), source, sink)
 }
 
-/// Writes a text, and answers `done` where all of it was written.
-fn write_whole<K: Sink>(sink: &mut K, text: &[u8], done: Status) -> Status
-    requires { done ≡ Status.Usage }
-    ensures { WritesText text.now done (K.state sink.old) (K.state sink.new) result }
-{
-    match write_all(sink, text) {
-        Ok(()) => done,
-        Err(_) => Status::WriteFault,
-    }
-}
-
 const USAGE: &[u8; 114] =
     b"usage: line_view check [--json] | explain [--all | send K | node N] | page | capture [--heard] | keys | addresses\n";
 
@@ -299,7 +261,8 @@ const USAGE: &[u8; 114] =
 /// `check` reads a script and writes what is wrong with each of its lines, `check --json` the same as objects of JSON. `explain` writes what
 /// became of each datagram and each joining, with `send K` or `node N` of those alone. `page` writes a page of HTML that shows the run. `capture`
 /// writes the frames as a capture, with `--heard` each arrival too, `keys` the keys and `addresses` the short addresses of a run, as Wireshark
-/// reads them. Other words write the usage line, and read nothing.
+/// reads them. Other words write the usage line, and read nothing. Where a read fails, `check` wrote what it found in the lines before it, the others
+/// nothing.
 ///
 /// Where no read of the source and no write of the sink is to fail, and the sink has room for the whole text, neither count of
 /// faults changes, so that neither fault comes.

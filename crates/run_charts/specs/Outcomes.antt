@@ -1,9 +1,8 @@
 -- How an event ended, as a colour.
-use Rattle.std.specs.Prelude.{ℕ, Bool, true, false, List, ◌++◌, codes, if◌then◌else◌}
-use Rattle.std.specs.Str.{bytes_eq}
+use Rattle.std.specs.Prelude.{ℕ, Bool, true, false, List, codes, if◌then◌else◌}
 use Rattle.line_events.specs.declared.event.Answer.{Answer}
 use Rattle.line_events.specs.declared.event.Answer.TheVariants as answers
-use Rattle.line_script.specs.AnswerWords.{verdict_word}
+use Rattle.line_events.specs.Answers.{is_ok}
 use Rattle.line_tale.specs.declared.told.TaleEvent.{TaleEvent}
 use Rattle.run_charts.specs.declared.outcome.Outcome.{Outcome}
 use Rattle.run_charts.specs.declared.outcome.Outcome.TheVariants as outcomes
@@ -19,9 +18,6 @@ fine_or_good answers.Took = outcomes.Good
 fine_or_good answers.Done = outcomes.Good
 fine_or_good answers.Path = outcomes.Good
 fine_or_good _ = outcomes.Fine
-
-unfoldable pub is_ok : Answer → Bool
-is_ok answer = bytes_eq (codes " " ++ (verdict_word answer ++ codes " ")) (codes " ok ")
 
 unfoldable pub outcome_of : TaleEvent → Outcome
 outcome_of e = if e.forged then outcomes.Forged else (if is_ok e.answer then fine_or_good e.answer else refused_or_overheard e.answer)

@@ -3,7 +3,6 @@ ghost use Rattle.std.specs.Prelude.{◌≡◌};
 ghost use Rattle.run_charts.specs.Outcomes as outcomes;
 
 use line_events::Answer;
-use line_script::spaced_verdict;
 use line_tale::TaleEvent;
 
 /// How an event ended, as far as it has a colour.
@@ -43,13 +42,6 @@ fn fine_or_good(answer: Answer) -> Outcome
     }
 }
 
-#[tactic(auto, unfolding(crate::specs::Outcomes::is_ok))]
-fn is_ok(answer: Answer) -> bool
-    ensures { result ≡ outcomes.is_ok answer }
-{
-    spaced_verdict(answer) == " ok "
-}
-
 /// How an event ended.
 #[tactic(auto, unfolding(crate::specs::Outcomes::outcome_of))]
 pub fn outcome_of(told: &TaleEvent) -> Outcome
@@ -58,7 +50,7 @@ pub fn outcome_of(told: &TaleEvent) -> Outcome
     if told.forged {
         return Outcome::Forged;
     }
-    if is_ok(told.answer) {
+    if told.answer.is_ok() {
         return fine_or_good(told.answer);
     }
     refused_or_overheard(told.answer)

@@ -4,7 +4,7 @@ ghost use Rattle.line_script.specs.declared.word.TheConstants.{LINE_OCTETS};
 ghost use Rattle.line_script.specs.Words as line_words;
 ghost use Rattle.script_faults.specs.Forms as forms;
 
-use line_script::{EventKind, hex_octets, number_within};
+use line_script::{EventKind, hex_octets, keeps_new, number_within};
 
 /// What a word of a line is.
 #[derive(Clone, Copy, Debug, PartialEq, Eq)]
@@ -145,14 +145,10 @@ fn is_digits(count: usize, word: &[u8], space: &mut [u8]) -> bool
     hex_octets(word, space).is_some()
 }
 
-#[tactic(auto, unfolding(line_script::specs::Words::keeps_new))]
 fn is_record(word: &[u8]) -> bool
     ensures { result ≡ is_some (line_words.keeps_new word.now) }
 {
-    if word == b"new".as_slice() {
-        return true;
-    }
-    word == b"old".as_slice()
+    keeps_new(word).is_some()
 }
 
 /// Whether a word is of a kind. Octets in hexadecimal are written to `space` in passing.

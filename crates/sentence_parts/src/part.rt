@@ -3,7 +3,7 @@ ghost use Rattle.std.specs.Prelude.{◌≡◌, ◌++◌, IfOk, OnOk, codes, deci
 ghost use Rattle.hex.specs.Hex.{encode_lower};
 ghost use Rattle.sentence_parts.specs.Parts as spec_parts;
 
-use frame_words::push_short;
+use frame_words::{push_number, push_short};
 use itoa::Buffer;
 use plc_base::{Eui, OctetRef};
 use std::alloc::{AllocError, Global};
@@ -116,13 +116,6 @@ pub fn decimal_width(number: usize) -> usize
 {
     let mut digits = Buffer::new();
     digits.format(number).len()
-}
-
-fn push_number(text: &mut String, number: usize) -> Result<(), AllocError>
-    ensures { OnOk result (string_bytes text.new ≡ string_bytes text.old ++ decimal number) }
-{
-    let mut digits = Buffer::new();
-    text.push_str(digits.format(number))
 }
 
 fn push_node(text: &mut String, node: u32) -> Result<(), AllocError>

@@ -1,10 +1,7 @@
 -- A run with its stories and its sentences.
 use Rattle.std.specs.Prelude.{ℕ, List, [], Option, None, Some}
-use Rattle.std.specs.Str.{bytes_eq}
-use Rattle.std.specs.Prelude.{◌++◌, codes, Bool}
 use Rattle.plc_base.specs.declared.address.Eui.{Eui}
-use Rattle.line_events.specs.declared.event.Answer.{Answer}
-use Rattle.line_script.specs.AnswerWords.{answer_word, verdict_word}
+use Rattle.line_script.specs.AnswerWords.{answer_word}
 use Rattle.line_tale.specs.declared.told.TaleEvent.{TaleEvent}
 use Rattle.line_tale.specs.declared.told.TaleFlight.{TaleFlight}
 use Rattle.line_tale.specs.declared.story.Story.{Story}
@@ -32,11 +29,6 @@ pub record RunAccount : Type 0 where
   pub euis : List Eui
   -- the sentence of each event
   pub sentences : List (List ℕ)
-
--- # Answers
-
-abbrev pub is_ok : Answer → Bool
-is_ok answer = bytes_eq (codes " " ++ (verdict_word answer ++ codes " ")) (codes " ok ")
 
 -- # What is looked up
 

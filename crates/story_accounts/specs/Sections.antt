@@ -4,6 +4,7 @@ use Rattle.std.specs.Prelude.{Option, None, Some, if◌then◌else◌, decimal, 
 use Rattle.frame_words.specs.declared.gist.FrameTarget.{FrameTarget}
 use Rattle.line_events.specs.declared.event.Answer.{Answer}
 use Rattle.line_events.specs.declared.event.Answer.TheVariants as answers
+use Rattle.line_events.specs.Answers.{is_ok}
 use Rattle.line_script.specs.AnswerWords.{answer_word}
 use Rattle.line_tale.specs.declared.told.TaleEvent.{TaleEvent}
 use Rattle.line_tale.specs.declared.told.TaleFlight.{TaleFlight}
@@ -24,7 +25,7 @@ use Rattle.story_accounts.specs.declared.section.Chosen.TheVariants as chosens
 use Rattle.story_accounts.specs.declared.section.Section.{Section}
 use Rattle.story_accounts.specs.declared.section.Section.TheVariants as sections
 use Rattle.story_accounts.specs.Indexes.{events_at, number_or_0, send_at}
-use Rattle.story_accounts.specs.Accounts.{RunAccount, answer_at, first_of, is_ok, verdict_at, why}
+use Rattle.story_accounts.specs.Accounts.{RunAccount, answer_at, first_of, verdict_at, why}
 use Rattle.story_accounts.specs.Fates.{fate_text, is_mute, is_to_all, two_words}
 use Rattle.story_accounts.specs.Outcomes.{outcome_text}
 use Rattle.story_accounts.specs.Titles.{capital, title}

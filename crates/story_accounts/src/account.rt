@@ -6,8 +6,7 @@ ghost use Rattle.story_accounts.specs.Accounts as accounts;
 
 use crate::index::Index;
 use crate::numbers::numbered;
-use line_events::Answer;
-use line_script::{answer_word, spaced_verdict};
+use line_script::answer_word;
 use line_tale::{Ends, Lot, Story, Tale, TaleEvent, TaleFlight, Verdict, verdict_of};
 use plc_base::Eui;
 use sentence_parts::{Part, sentence};
@@ -54,13 +53,6 @@ impl<'a> Model for Account<'a> {
       euis = a.euis.now;
       sentences = map string_bytes a.sentences.now;
     } };
-}
-
-/// Whether an answer is ok.
-pub fn is_ok(answer: Answer) -> bool
-    ensures { result ≡ accounts.is_ok answer }
-{
-    spaced_verdict(answer) == " ok "
 }
 
 impl<'a> Account<'a> {

@@ -2,7 +2,7 @@
 ghost use Rattle.std.specs.Prelude.{◌≡◌, ◌++◌, IfOk, OnOk, string_bytes};
 ghost use Rattle.story_accounts.specs.Sections as sections;
 
-use crate::account::{Account, is_ok};
+use crate::account::Account;
 use crate::groups::Group;
 use crate::reasons::{is_for_another, push_if};
 use crate::section::{
@@ -21,7 +21,7 @@ const MANY: usize = 20;
 fn refusal_mark(alloc: Global, answer: Answer) -> Result<String, AllocError>
     ensures { IfOk result (λ text. string_bytes text ≡ sections.refusal_mark answer) }
 {
-    if is_ok(answer) {
+    if answer.is_ok() {
         return Ok(String::new(alloc));
     }
     sentence(

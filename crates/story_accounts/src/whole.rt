@@ -3,7 +3,7 @@ ghost use Rattle.std.specs.Prelude.{◌≡◌, ◌<◌, ◌++◌, IfOk, IfSome, 
 ghost use Rattle.story_accounts.specs.Sections as sections;
 ghost use Rattle.story_accounts.specs.Indexes.{number_or_0};
 
-use crate::account::{Account, is_ok};
+use crate::account::Account;
 use crate::fates::is_mute;
 use crate::groups::{Group, join, largest_first};
 use crate::reasons::{is_for_another, push_if, push_padded, push_widened};
@@ -19,7 +19,7 @@ const MOST: usize = 20;
 fn is_refusal(told: &TaleEvent) -> bool
     ensures { result ≡ sections.is_refusal told.now }
 {
-    !is_ok(told.answer) && !is_for_another(told.answer)
+    !told.answer.is_ok() && !is_for_another(told.answer)
 }
 
 fn is_maker(flight: usize, told: &TaleEvent) -> bool

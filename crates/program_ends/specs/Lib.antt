@@ -1,0 +1,3 @@
+pub mod Runs
+pub mod Statuses
+pub mod Texts
