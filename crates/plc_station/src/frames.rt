@@ -1,9 +1,9 @@
 //! Which frames a station accepts.
-ghost use Rattle.std.specs.Prelude.{◌≡◌, ◌==◌, ◌||◌, ◌+◌, ◌<◌, ◌≤◌, true, false, Some, None, Ok, Err, IfSome, ◌++◌, IfNone, IfOk, length};
+ghost use Rattle.std.specs.Prelude.{◌≡◌, ◌==◌, ◌||◌, ◌+◌, ◌<◌, ◌≤◌, true, false, Some, None, Ok, Err, IfSome, ◌++◌, [], IfNone, IfOk, OnErr, length};
 ghost use Rattle.node_rules.specs.Carrying.{Carries, nothing};
 ghost use Rattle.node_rules.specs.Agreement.{Agrees};
 ghost use Rattle.plc_station.specs.Ready.{After, Ready};
-ghost use Rattle.plc_station.specs.Heard.{Fits};
+ghost use Rattle.plc_station.specs.Heard.{Fits, FitsPath, accepted_on};
 ghost use Rattle.group_keys.specs.KeyRing as ring;
 ghost use Rattle.mac_frames.specs.Grammar.{Frame, IsSealed};
 ghost use Rattle.node_rules.specs.Ciphers.{network};
@@ -18,14 +18,13 @@ use mac_frames::{MacHead, RawFrame, open_frame, read_frame};
 use node_rules::{Accepted, FrameRef, FrameRefusal, Path};
 use plc_base::{Destination, FrameBuf, Keeper, KeyIndex, PAN, Short};
 
-// Octets, kept in a buffer that is lent.
-fn held<'a>(octets: &[u8], buffer: &'a mut FrameBuf) -> FrameRef<'a>
+// Keeps octets in place of what a buffer held.
+fn hold(octets: &[u8], buffer: &mut FrameBuf)
     requires { length octets.now ≤ LONGEST_FRAME }
-    ensures { result ≡ octets.now }
+    ensures { buffer.new ≡ octets.now }
 {
     buffer.clear();
     buffer.append(octets);
-    FrameRef::new(buffer)
 }
 
 // What the marks say of a counter.
@@ -70,18 +69,19 @@ impl<K: Keeper + Drop> Station<K> {
     }
 
     // Keeps the counter of a sealed frame whose tag is right as the mark of its sender.
-    fn admit<'a>(
+    fn admit(
         &mut self,
         from: Short,
         counter: u32,
         path: Path,
-        payload: &'a FrameBuf,
-    ) -> Result<Accepted<'a>, FrameRefusal>
+        payload: &[u8],
+    ) -> Result<Path, FrameRefusal>
         requires ready { Ready self.old }
         ensures carries { IfSome self.old.memory
-            (λ l. Carries self.old (accepting.admit l from counter (record { path = path; payload = payload.now })) result nothing self.new) }
+            (λ l. Carries self.old (accepting.admit l from counter (record { path = path; payload = payload.now }))
+            (accepted_on result payload.now) nothing self.new) }
         ensures after { After self.old self.new }
-        ensures same { IfOk result (λ got. got ≡ record { path = path; payload = payload.now }) }
+        ensures same { IfOk result (λ on. on ≡ path) }
     {
         if let Err(fault) = self.parts.marks.room(from, counter) {
             return Err(mark_refusal(fault));
@@ -91,22 +91,19 @@ impl<K: Keeper + Drop> Station<K> {
             return Err(FrameRefusal::Store);
         };
         self.halted = false;
-        Ok(Accepted {
-            path,
-            payload: FrameRef::new(payload),
-        })
+        Ok(path)
     }
 
     // Opens a sealed frame, and keeps its counter as the mark of its sender.
-    fn accept_sealed<'a>(
+    fn open_sealed(
         &mut self,
         raw: &RawFrame<'_>,
         to: Destination,
         from: Short,
         counter: u32,
         index: KeyIndex,
-        payload: &'a mut FrameBuf,
-    ) -> Result<Accepted<'a>, FrameRefusal>
+        payload: &mut FrameBuf,
+    ) -> Result<Path, FrameRefusal>
         requires ready { Ready self.old }
         requires sealed { IsSealed raw.now.head }
         requires frame { Frame raw.now.head raw.now.body.now (raw.now.header.now ++ raw.now.body.now) }
@@ -114,9 +111,9 @@ impl<K: Keeper + Drop> Station<K> {
             (accepting.with_key l
             (arrived_with network raw.now.head raw.now.header.now raw.now.body.now) to from counter
             (ring.key_in_ring l.ring index))
-            result nothing self.new) }
+            (accepted_on result payload.new) nothing self.new) }
         ensures after { After self.old self.new }
-        ensures fits { IfOk result (λ got. Fits got) }
+        ensures fits { IfOk result (λ path. FitsPath path (length payload.new)) }
     {
         let Some(key) = self.parts.ring.key(index) else {
             return Err(FrameRefusal::NoKey);
@@ -130,21 +127,18 @@ impl<K: Keeper + Drop> Station<K> {
             to_all: to.is_all(),
             key,
         };
-        self.admit(from, counter, path, payload)
+        self.admit(from, counter, path, payload.octets())
     }
 
-    // Accepts a frame that was read, if it is for this node.
-    fn accept_raw<'a>(
-        &mut self,
-        raw: &RawFrame<'_>,
-        payload: &'a mut FrameBuf,
-    ) -> Result<Accepted<'a>, FrameRefusal>
+    // Opens a frame that was read, if it is for this node.
+    fn open_raw(&mut self, raw: &RawFrame<'_>, payload: &mut FrameBuf) -> Result<Path, FrameRefusal>
         requires ready { Ready self.old }
         requires frame { Frame raw.now.head raw.now.body.now (raw.now.header.now ++ raw.now.body.now) }
         ensures carries { IfSome self.old.memory (λ l. Carries self.old
-            (accepting.accept l self.old.eui (Some (arrived_with network raw.now.head raw.now.header.now raw.now.body.now))) result nothing self.new) }
+            (accepting.accept l self.old.eui (Some (arrived_with network raw.now.head raw.now.header.now raw.now.body.now)))
+            (accepted_on result payload.new) nothing self.new) }
         ensures after { After self.old self.new }
-        ensures fits { IfOk result (λ got. Fits got) }
+        ensures fits { IfOk result (λ path. FitsPath path (length payload.new)) }
     {
         if !self.is_for_me(&raw.head) {
             return Err(FrameRefusal::NotForMe);
@@ -156,43 +150,58 @@ impl<K: Keeper + Drop> Station<K> {
                 counter,
                 index,
                 ..
-            } => self.accept_sealed(raw, to, from, counter, index, payload),
-            MacHead::Up { from, .. } => Ok(Accepted {
-                path: Path::Up { from },
-                payload: held(raw.body, payload),
-            }),
-            MacHead::Down { from, .. } => Ok(Accepted {
-                path: Path::Down { from },
-                payload: held(raw.body, payload),
-            }),
+            } => self.open_sealed(raw, to, from, counter, index, payload),
+            MacHead::Up { from, .. } => {
+                hold(raw.body, payload);
+                Ok(Path::Up { from })
+            }
+            MacHead::Down { from, .. } => {
+                hold(raw.body, payload);
+                Ok(Path::Down { from })
+            }
         }
     }
 
-    // Takes octets that came as a frame.
-    fn accept_octets<'a>(
-        &mut self,
-        octets: &[u8],
-        payload: &'a mut FrameBuf,
-    ) -> Result<Accepted<'a>, FrameRefusal>
+    // Opens octets that came as a frame.
+    fn open_octets(&mut self, octets: &[u8], payload: &mut FrameBuf) -> Result<Path, FrameRefusal>
         requires agrees { Agrees self.old }
         ensures halted { IfNone self.old.memory ((result ≡ Err FrameRefusal.Halted) × (self.new ≡ self.old)) }
         ensures carries { IfSome self.old.memory
             (λ l. Carries self.old (accepting.accept l self.old.eui
-            (arrived network octets.now)) result nothing self.new) }
+            (arrived network octets.now)) (accepted_on result payload.new) nothing self.new) }
         ensures after { After self.old self.new }
-        ensures fits { IfOk result (λ got. Fits got) }
+        ensures fits { IfOk result (λ path. FitsPath path (length payload.new)) }
     {
         if self.halted {
             return Err(FrameRefusal::Halted);
         }
         match read_frame(octets) {
             Err(_) => Err(FrameRefusal::Malformed),
-            Ok(raw) => self.accept_raw(&raw, payload),
+            Ok(raw) => self.open_raw(&raw, payload),
         }
     }
 
+    // The same, and what a refused frame may have left in the buffer is dropped: its payload may be open while its counter is refused.
+    fn open_or_clear(&mut self, octets: &[u8], payload: &mut FrameBuf) -> Result<Path, FrameRefusal>
+        requires agrees { Agrees self.old }
+        ensures halted { IfNone self.old.memory ((result ≡ Err FrameRefusal.Halted) × (self.new ≡ self.old)) }
+        ensures carries { IfSome self.old.memory
+            (λ l. Carries self.old (accepting.accept l self.old.eui
+            (arrived network octets.now)) (accepted_on result payload.new) nothing self.new) }
+        ensures after { After self.old self.new }
+        ensures fits { IfOk result (λ path. FitsPath path (length payload.new)) }
+        ensures empty { OnErr result (payload.new ≡ []) }
+    {
+        let opened = self.open_octets(octets, payload);
+        if let Err(reason) = opened {
+            payload.clear();
+            return Err(reason);
+        }
+        opened
+    }
+
     /// Takes octets that came as a frame: opens them, and keeps the counter of a sealed frame as the mark of its sender. What is
-    /// inside an accepted frame replaces what `payload` held.
+    /// inside an accepted frame replaces what `payload` held; after a refusal `payload` is empty.
     ///
     /// Halted, Malformed, NotForMe, NoKey, BadTag, Replayed, PeersFull, Store, in this order.
     pub fn accept<'a>(
@@ -209,9 +218,15 @@ impl<K: Keeper + Drop> Station<K> {
         ensures fits { IfOk result (λ got. Fits got) }
         ensures waits { IfSome self.new.memory (λ l. WaitingFits l) }
     {
-        let accepted = self.accept_octets(octets, payload);
+        let opened = self.open_or_clear(octets, payload);
         // What waits keeps its sizes.
         let _waiting = self.bodies.count();
-        accepted
+        match opened {
+            Ok(path) => Ok(Accepted {
+                path,
+                payload: FrameRef::new(payload),
+            }),
+            Err(reason) => Err(reason),
+        }
     }
 }

@@ -16,7 +16,7 @@ returns-in_default-keep-clause-carries g c =
 
 pub returns-clause-carries : goal.returns-clause-carries
 returns-clause-carries g c =
-    rw (← c.self.view_is, c.new.ensures)
+    rw (← c.self.view_is)
     (on_memory c.self.inside.halted _ _ (λ running. admit_done _ _ (station_in c.self.inside.parts c.self.inside.bodies) c.args.from c.args.counter
     (record { path = c.args.path; payload = c.args.payload.now }) _ c.in_default.ensures c.in-Ok.ensures.store
     (lines_are _ _ _ _ refl refl c.in-Ok.ensures.table refl refl refl refl refl)))
