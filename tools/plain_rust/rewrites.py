@@ -10,7 +10,7 @@ PATCHES = json.load(open(os.path.join(HERE, "patches.json"), encoding="utf-8"))
 FRAMES = json.load(open(os.path.join(HERE, "frames.json"), encoding="utf-8"))
 REASONS = {
     "test entry": "Rust passes a test no handle of the runtime: std::test::check makes one",
-    "program entry": "Rust passes main no handle of the runtime: it is made there",
+    "program entry": "the program begins by C's entry and not in Rust's runtime, which changes standard streams that are closed",
     "to_vec with an allocator": "Rust's own to_vec of a slice is found before that of a trait, so the trait's has another name",
     "collect with an allocator": "so is Rust's own collect of an iterator",
     "root lines": "no_std, the name std for the shim over core and alloc, and no warning of what only a contract used",
@@ -20,6 +20,7 @@ REASONS = {
     "check at the border": "a clause of a public call, which nobody proves of a caller in Rust (border.json)",
 }
 PRELUDE = {"Vec", "String", "Box", "HostRuntime", "AllocGlobal"}
+NO_MAIN = "#![cfg_attr(not(test), no_main)]\n"
 ROOT = "#![no_std]\n#![allow(unused)]\n#[macro_use]\nextern crate rattle_std as std;\n\n"
 
 
@@ -51,8 +52,7 @@ def entries(ts, tally):
             insert(ts, close + 1, f" {{\n    std::test::check(|{words[0]}: HostRuntime|")
         elif ts[name].text == "main":
             tally["program entry"] += 1
-            drop(ts, opening + 1, close)
-            insert(ts, body + 1, f"\n    let {words[0]} = HostRuntime::of_process();")
+            insert(ts, closing(ts, body) + 1, "\n\nstd::program!(main);")
 
 
 def allocations(ts, tally):
@@ -113,11 +113,11 @@ def replace(ts, old, new):
     insert(ts, first, new)
 
 
-def head(ts, is_root, tally):
+def head(ts, name, is_root, tally):
     """The lines of a root, and the line for the dialect's prelude, before the first item."""
     lines = ""
     if is_root:
-        lines += ROOT
+        lines += (NO_MAIN if name.endswith("/main.rt") else "") + ROOT
         tally["root lines"] += 1
     if PRELUDE & {t.text for t in ts if t.kind == "ident" and not t.gone}:
         lines += "use std::dialect::*;\n\n"
@@ -149,4 +149,4 @@ def all_of_them(ts, name, is_root, tally):
     allocations(ts, tally)
     patches(ts, name, tally)
     frames(ts, name, tally)
-    head(ts, is_root, tally)
+    head(ts, name, is_root, tally)

@@ -21,10 +21,10 @@ export = importlib.util.module_from_spec(importlib.util.spec_from_loader("export
 loader.exec_module(export)
 
 
-def plain(source, crate="some", is_root=False):
+def plain(source, crate="some", is_root=False, file="some.rt"):
     """The export of a text, and its counts."""
     tally = collections.Counter()
-    return export.exported(crate, f"{crate}/src/some.rt", source, is_root, tally)[0], tally
+    return export.exported(crate, f"{crate}/src/{file}", source, is_root, tally)[0], tally
 
 
 def code(source, **more):
@@ -127,6 +127,11 @@ class Rewrites(unittest.TestCase):
         text, _ = plain("//! What it is.\n#![allow(dead_code)]\n\n/// A thing.\npub struct A;\n", is_root=True)
         self.assertTrue(text.startswith("//! What it is.\n#![allow(dead_code)]\n\n#![no_std]\n#![allow(unused)]\n"), text)
         self.assertTrue(text.endswith("extern crate rattle_std as std;\n\n/// A thing.\npub struct A;\n"), text)
+
+    def test_a_program_begins_by_the_entry_of_c(self):
+        text, _ = plain("//! It.\nfn main(rt: HostRuntime) -> ExitCode { f(rt) }\n", file="main.rt", is_root=True)
+        self.assertIn("#![cfg_attr(not(test), no_main)]\n#![no_std]\n", text)
+        self.assertTrue(text.endswith("fn main(rt: HostRuntime) -> ExitCode { f(rt) }\n\nstd::program!(main);\n"), text)
 
     def test_to_vec_is_the_one_with_an_allocator(self):
         self.assertEqual(code("fn f() { a.to_vec(alloc); a.to_vec(); }"), words("fn f() { a.to_vec_in(alloc); a.to_vec(); }"))
