@@ -2,6 +2,7 @@
 import json
 import os
 
+import derives
 from deletions import drop, drop_space_before
 from lexer import Stop, closing, rust_tokens, solid, step
 
@@ -13,6 +14,7 @@ REASONS = {
     "program entry": "the program begins by C's entry and not in Rust's runtime, which changes standard streams that are closed",
     "to_vec with an allocator": "Rust's own to_vec of a slice is found before that of a trait, so the trait's has another name",
     "collect with an allocator": "so is Rust's own collect of an iterator",
+    "derive written out": "the macros would take as long to build as the nodes",
     "root lines": "no_std, the name std for the shim over core and alloc, and no warning of what only a contract used",
     "prelude line": "names that Rattle has everywhere: Vec, String, HostRuntime, AllocGlobal",
     "patch": "a text of patches.json, with its reason there",
@@ -148,5 +150,6 @@ def all_of_them(ts, name, is_root, tally):
     entries(ts, tally)
     allocations(ts, tally)
     patches(ts, name, tally)
+    derives.all_of_them(ts, tally)
     frames(ts, name, tally)
     head(ts, name, is_root, tally)

@@ -136,6 +136,24 @@ class Rewrites(unittest.TestCase):
     def test_to_vec_is_the_one_with_an_allocator(self):
         self.assertEqual(code("fn f() { a.to_vec(alloc); a.to_vec(); }"), words("fn f() { a.to_vec_in(alloc); a.to_vec(); }"))
 
+    def test_an_error_is_written_out(self):
+        text, _ = plain('use thiserror::Error;\nuse a::B;\n#[derive(Debug, Drop, Error)]\n#[error_bound(K: Display)]\n#[error("{kind} at {place}")]\n'
+                        'pub struct F<K> {\n    pub kind: K,\n    pub place: u16,\n}\n')
+        self.assertTrue(text.startswith("use a::B;\n#[derive(Debug)]\npub struct F<K> {\n"), text)
+        self.assertIn("impl<K: core::fmt::Debug + core::fmt::Display> core::error::Error for F<K> {}", text)
+        self.assertIn('Self { kind, place, .. } => core::write!(f, "{kind} at {place}"),', text)
+        text, _ = plain('#[derive(Debug, Error)]\nenum E {\n    /// It.\n    #[error("no")]\n    No,\n    #[error("{0}")]\n    Other(Vec<u8, A>),\n}\n')
+        self.assertIn('Self::No { .. } => f.write_str("no"),\n            Self::Other(it, ..) => core::write!(f, "{it}"),\n        }', text)
+        self.assertNotIn("#[error", text)
+        for source in ("#[derive(Debug, Error)] struct S;", '#[derive(Debug, Error)] enum E { #[error("{1}")] A(u8, u8) }', "#[derive(Error)] enum E {}"):
+            with self.assertRaises(lexer.Stop, msg=source):
+                plain(source)
+
+    def test_a_struct_that_is_written_out_writes_its_fields_in_order(self):
+        text, _ = plain("use serde::Serialize;\n#[derive(Drop, Debug, Serialize)]\nstruct S<'a> {\n    b: &'a [u8],\n    /// It.\n    pub a: Option<u64>,\n}\n")
+        self.assertIn("impl serde::Serialize for S<'_> {", text)
+        self.assertIn('to.serialize_struct("S", 2)?;\n        to.serialize_field("b", &self.b)?;\n        to.serialize_field("a", &self.a)?;\n', text)
+
     def test_collect_is_the_one_with_an_allocator(self):
         self.assertEqual(code("fn f() { a.collect(alloc); a.collect(); }"), words("fn f() { a.collect_in(alloc); a.collect(); }"))
 

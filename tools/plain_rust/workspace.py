@@ -8,13 +8,12 @@ HERE = os.path.dirname(os.path.abspath(__file__))
 LIBRARIES = {
     "arrayvec": 'arrayvec = { version = "0.7", default-features = false }',
     "byteorder": 'byteorder = { version = "1", default-features = false }',
-    "thiserror": 'thiserror = { version = "2", default-features = false }',
     "memchr": 'memchr = { version = "2", default-features = false }',
     "itoa": 'itoa = { version = "1", default-features = false }',
     "hex": 'hex = { package = "rattle_hex", path = "../../shims/hex" }',
     "rand_core": 'rand_core = { package = "rattle_rand_core", path = "../../shims/rand_core" }',
     "rand_pcg": 'rand_pcg = { version = "0.3", default-features = false }',
-    "serde": 'serde = { version = "1", default-features = false, features = ["derive"] }',
+    "serde": 'serde = { version = "1", default-features = false }',
     "serde_json": 'serde_json = { package = "rattle_serde_json", path = "../../shims/serde_json" }',
     "strsim": 'strsim = { package = "rattle_strsim", path = "../../shims/strsim" }',
     "toml": 'toml = { package = "rattle_toml", path = "../../shims/toml" }',
@@ -23,12 +22,14 @@ LIBRARIES = {
 FIRMWARE = {"meter_node", "coordinator"}
 # The file that says what an export took out, and so that a folder is one.
 COUNTS = "counts.tsv"
-# Names of lines of crates.txt that need no dependency in Rust.
-OF_THE_LANGUAGE = {"core"}
+# Names of lines of crates.txt that need no dependency in Rust. What `thiserror` derives is written out (derives.py).
+OF_THE_LANGUAGE = {"core", "thiserror"}
 PROFILES = """
 # The proof excludes each overflow; the checks stay, so that a slip of a compiler or of an unchecked caller stops the node.
 [profile.release]
 overflow-checks = true
+# Each crate is compiled once and whole: by fewer seconds of a processor, to a faster program.
+codegen-units = 1
 
 # For a small processor.
 [profile.small]
