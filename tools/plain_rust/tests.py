@@ -321,5 +321,58 @@ class BorderOfTheNodes(unittest.TestCase):
         self.assertIn(f"{len(self.unchecked)} calls require it", read(os.path.join(export.TOP, "docs/IN-YOUR-FIRMWARE.md")))
 
 
+class Exports(unittest.TestCase):
+    def exported(self, target, *given):
+        """Exports from a repository of two crates, as by these words. Returns what MADE-FROM says of it."""
+        with mock.patch.object(sys, "argv", ["export", target, *given, "--sources", self.sources]), mock.patch("builtins.print"):
+            export.main()
+        return export.made_from.read(target)
+
+    def setUp(self):
+        room = tempfile.TemporaryDirectory()
+        self.addCleanup(room.cleanup)
+        self.sources, self.target = os.path.join(room.name, "repository"), os.path.join(room.name, "plain")
+        for crate in ("high", "low"):
+            os.makedirs(os.path.join(self.sources, "crates", crate, "src"))
+            self.write(crate, "pub fn f() {}\n")
+        with open(os.path.join(self.sources, "crates.txt"), "w", encoding="utf-8") as file:
+            file.write("low:\nhigh: low\n")
+
+    def write(self, crate, text):
+        with open(os.path.join(self.sources, "crates", crate, "src", "lib.rt"), "w", encoding="utf-8") as file:
+            file.write(text)
+
+    def test_words_are_remembered(self):
+        self.assertEqual(self.exported(self.target, "low", "--member", "mine")[1:], (["low"], ["mine"]))
+        self.assertEqual(self.exported(self.target)[1:], (["low"], ["mine"]))
+        self.assertFalse(os.path.exists(f"{self.target}/crates/high"))
+        self.assertEqual(self.exported(self.target, "--also", "high")[1:], (["high", "low"], ["mine"]))
+        self.assertEqual(self.exported(self.target, "high")[1:], (["high"], ["mine"]))
+        self.assertEqual(self.exported(self.target, "--all")[1:], ([], ["mine"]))
+        self.assertIn('"crates/low", "mine"]', read(f"{self.target}/Cargo.toml").replace('"crates/high", ', ""))
+
+    def test_what_a_user_changed_of_the_settings_stays(self):
+        self.exported(self.target)
+        self.assertIn("x86-64-v2", read(f"{self.target}/.cargo/config.toml"))
+        with open(f"{self.target}/.cargo/config.toml", "w", encoding="utf-8") as file:
+            file.write("# mine\n")
+        self.exported(self.target)
+        self.assertEqual(read(f"{self.target}/.cargo/config.toml"), "# mine\n")
+
+    def test_a_crate_is_exported_again_where_its_source_or_its_export_changed(self):
+        self.exported(self.target)
+        with mock.patch.object(export, "export_crate", side_effect=AssertionError("again")):
+            self.exported(self.target)
+        counts = read(f"{self.target}/counts.tsv")
+        with open(f"{self.target}/crates/low/src/lib.rs", "a", encoding="utf-8") as file:
+            file.write("pub fn mine() {}\n")
+        self.exported(self.target)
+        self.assertNotIn("mine", read(f"{self.target}/crates/low/src/lib.rs"))
+        self.assertEqual(read(f"{self.target}/counts.tsv"), counts)
+        self.write("low", "pub fn g() {}\n")
+        self.exported(self.target)
+        self.assertIn("pub fn g", read(f"{self.target}/crates/low/src/lib.rs"))
+
+
 if __name__ == "__main__":
     unittest.main()

@@ -22,6 +22,8 @@ LIBRARIES = {
 FIRMWARE = {"meter_node", "coordinator"}
 # The file that says what an export took out, and so that a folder is one.
 COUNTS = "counts.tsv"
+# The settings of cargo.
+CONFIG = os.path.join(".cargo", "config.toml")
 # Names of lines of crates.txt that need no dependency in Rust. What `thiserror` derives is written out (derives.py).
 OF_THE_LANGUAGE = {"core", "thiserror"}
 PROFILES = """
@@ -85,6 +87,8 @@ def is_free(target):
 def lay_out(target, names, extra):
     """Writes what stands around the exported crates."""
     shutil.copytree(os.path.join(HERE, "shims"), os.path.join(target, "shims"), ignore=shutil.ignore_patterns("target", "Cargo.lock"))
+    os.makedirs(os.path.join(target, ".cargo"))
+    shutil.copy(os.path.join(HERE, "config.toml"), os.path.join(target, CONFIG))
     if FIRMWARE <= set(names):
         shutil.copytree(os.path.join(HERE, "firmware"), os.path.join(target, "firmware"))
         extra = ["firmware", *extra]
@@ -99,15 +103,16 @@ def files_of(folder):
 
 
 def move_in(new, target):
-    """Puts an export in the place of an earlier one. A file that is the same stays as it is, so that cargo builds only what changed; a firmware that is
-    there stays too, since its maker has changed it."""
+    """Puts an export in the place of an earlier one. A file that is the same stays as it is, so that cargo builds only what changed; a firmware and
+    settings of cargo that are there stay too, since the user of the export may have changed them."""
     mine = os.path.isdir(os.path.join(target, "firmware"))
     for sub in ("crates", "shims"):
         for path in files_of(os.path.join(target, sub)) - files_of(os.path.join(new, sub)):
             os.remove(os.path.join(target, sub, path))
     for path in files_of(new):
         old = os.path.join(target, path)
-        if mine and path.split(os.sep)[0] == "firmware" or os.path.exists(old) and filecmp.cmp(os.path.join(new, path), old, shallow=False):
+        own = mine and path.split(os.sep)[0] == "firmware" or path == CONFIG and os.path.exists(old)
+        if own or os.path.exists(old) and filecmp.cmp(os.path.join(new, path), old, shallow=False):
             continue
         os.makedirs(os.path.dirname(old), exist_ok=True)
         shutil.copyfile(os.path.join(new, path), old)
