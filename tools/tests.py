@@ -23,7 +23,8 @@ class Deliveries(unittest.TestCase):
         self.assertIn(said, errors)
 
     def test_a_sketch_gets_its_deliveries(self):
-        script = open(f"{TOP}/examples/two_meters.script", encoding="utf-8").read().split("\n")
+        with open(f"{TOP}/examples/two_meters.script", encoding="utf-8") as file:
+            script = file.read().split("\n")
         sketch = [it for it in script if not it.startswith("deliver ")]
         nodes = max(at for at, it in enumerate(sketch) if it.startswith(("coordinator", "meter")))
         sketch[nodes + 1 : nodes + 1] = ["hears 1 2 3"]
@@ -79,7 +80,7 @@ class Program(unittest.TestCase):
 
     def test_each_status_has_a_line(self):
         for name, word in (("line_replay", "replay"), ("line_view", "check"), ("line_sim", "run")):
-            for status, shell in ((1, f"echo nonsense | ./{name} {word}"), (2, f"./{name} nonsense"), (4, f"./{name} {word} < /"),
+            for status, shell in ((1, f"echo nonsense | ./{name} {word}"), (2, f"./{name} nonsense"), (4, f"./{name} {word} < /"), (4, f"./{name} {word} <&-"),
                                   (5, f"./{name} nonsense >/dev/full"), (5, f"./{name} nonsense >&-")):
                 done = subprocess.run(["bash", "-c", shell], cwd=TOP, stdout=subprocess.PIPE, stderr=subprocess.PIPE, text=True, check=False)
                 self.assertEqual(done.returncode, status, shell)
