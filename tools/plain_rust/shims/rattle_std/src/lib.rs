@@ -32,6 +32,7 @@ pub mod process {
     pub trait Abort {}
 
     /// Stands for the runtime, with the words that C gave the program.
+    #[cfg_attr(not(feature = "std"), allow(dead_code))]
     pub struct HostRuntime {
         pub(crate) count: usize,
         pub(crate) words: *const *const core::ffi::c_char,
@@ -60,13 +61,16 @@ pub mod process {
     impl AllocGlobal for HostRuntime {}
 
     /// How the program ended.
+    #[cfg(feature = "std")]
     pub struct ExitCode(pub(crate) u8);
 
+    #[cfg(feature = "std")]
     impl ExitCode {
         pub const SUCCESS: ExitCode = ExitCode(0);
         pub const FAILURE: ExitCode = ExitCode(1);
     }
 
+    #[cfg(feature = "std")]
     impl From<u8> for ExitCode {
         fn from(status: u8) -> ExitCode {
             ExitCode(status)
