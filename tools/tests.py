@@ -15,6 +15,12 @@ def ran(*words, text="", **settings):
     return done.returncode, done.stdout.decode("utf-8", "surrogateescape"), done.stderr.decode("utf-8", "replace")
 
 
+def setUpModule():
+    """What a first call says is none of what is looked at."""
+    for name in Program.NAMES:
+        subprocess.run([f"{TOP}/{name}", "--where"], stdout=subprocess.DEVNULL, check=True)
+
+
 class Deliveries(unittest.TestCase):
     def bad(self, lines, said, ending="\n"):
         status, _, errors = ran("tools/deliveries", text="".join(it + ending for it in lines))
@@ -86,6 +92,10 @@ class Program(unittest.TestCase):
                 self.assertEqual(done.returncode, status, shell)
                 said = [it for it in done.stderr.split("\n") if it]
                 self.assertIn("no command: " if status == 2 else f"{name}: status {status}", said[-1])
+
+    def test_a_status_stays_where_nobody_hears_its_line(self):
+        for shell, status in (("./line_replay nonsense 2>&-", 2), ("./line_replay replay < / 2>/dev/full", 4), ("./line_replay vectors 2>&-", 0)):
+            self.assertEqual(subprocess.run(["bash", "-c", shell], cwd=TOP, stdout=subprocess.DEVNULL, check=False).returncode, status, shell)
 
     def test_a_run_that_is_full_says_when(self):
         text = '[place]\nkind = "street"\nmeters = 150\n'
