@@ -22,7 +22,7 @@ def sum_of(folder, names):
     return total.hexdigest()
 
 
-@functools.cache
+@functools.lru_cache(maxsize=None)
 def sum_of_tool():
     return sum_of(HERE, [it for it in os.listdir(HERE) if it == "export" or it.endswith((".py", ".json")) and it != "tests.py"])
 
