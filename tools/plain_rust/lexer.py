@@ -6,11 +6,16 @@ import re
 
 CLAUSES = ("requires", "ensures")
 IDENT = re.compile(r"(?:r#)?[A-Za-z_][A-Za-z0-9_]*")
-NUMBER = re.compile(r"[0-9][0-9a-zA-Z_]*(?:\.[0-9][0-9a-zA-Z_]*)?")
 SPACE = re.compile(r"\s+")
-RAW_STRING = re.compile(r'b?r(#*)"')
-CHAR = re.compile(r"b?'(?:\\x[0-9a-fA-F]{2}|\\u\{[^}]*\}|\\.|[^\\'])'")
-LIFETIME = re.compile(r"'[A-Za-z_][A-Za-z0-9_]*(?!')")
+# One token; the first form that fits is it. A block comment is only begun here, since such comments nest.
+FORMS = re.compile(
+    r"""(?P<space>\s+)|(?P<line>//[^\n]*)|(?P<block>/\*)"""
+    r"""|(?P<raw>b?r(?P<hashes>#*)".*?"(?P=hashes))|(?P<string>b?"(?:[^"\\]|\\.)*")"""
+    r"""|(?P<char>b?'(?:\\x[0-9a-fA-F]{2}|\\u\{[^}]*\}|\\.|[^\\'])')|(?P<lifetime>'[A-Za-z_][A-Za-z0-9_]*(?!'))"""
+    rf"""|(?P<ident>{IDENT.pattern})|(?P<number>[0-9][0-9a-zA-Z_]*(?:\.[0-9][0-9a-zA-Z_]*)?)|(?P<punct>.)""",
+    re.DOTALL,
+)
+KINDS = {"line": "comment", "block": "comment", "raw": "string"}
 
 
 class Stop(Exception):
@@ -74,29 +79,31 @@ def after_braces(s, i):
 
 def one(s, i):
     """The kind and the end of the token at i."""
-    if match := SPACE.match(s, i):
-        return "space", match.end()
-    if s.startswith(("//", "/*"), i):
-        return "comment", after_comment(s, i)
-    if match := RAW_STRING.match(s, i):
-        close = '"' + match.group(1)
-        return "string", s.index(close, match.end()) + len(close)
-    if s[i] == '"' or s.startswith('b"', i):
-        return "string", after_string(s, i + (s[i] == "b"))
-    for kind, form in (("char", CHAR), ("lifetime", LIFETIME), ("ident", IDENT), ("number", NUMBER)):
-        if match := form.match(s, i):
-            return kind, match.end()
-    return "punct", i + 1
+    match = FORMS.match(s, i)
+    kind, end = match.lastgroup, match.end()
+    if kind == "block":
+        end = after_comment(s, i)
+    if kind == "punct" and s[i] == '"':
+        raise Stop("a string without an end")
+    return KINDS.get(kind, kind), end
+
+
+def every(s):
+    """The kind and the text of each token of a text without contracts."""
+    i = 0
+    while i < len(s):
+        for match in FORMS.finditer(s, i):
+            kind, i = match.lastgroup, match.end()
+            if kind == "block":
+                i = after_comment(s, match.start())
+                yield "comment", s[match.start() : i]
+                break
+            yield KINDS.get(kind, kind), match.group()
 
 
 def rust_tokens(s, made=False):
     """The tokens of a text without contracts."""
-    out, i = [], 0
-    while i < len(s):
-        kind, end = one(s, i)
-        out.append(Token(kind, s[i:end], made))
-        i = end
-    return out
+    return [Token(kind, text, made) for kind, text in every(s)]
 
 
 class Lexer:
@@ -180,16 +187,7 @@ def solid(ts):
 
 def lenient(s):
     """The texts of all tokens of a source, read without any idea of contracts: what the check at the end goes by."""
-    out, i = [], 0
-    while i < len(s):
-        try:
-            kind, end = one(s, i)
-        except (IndexError, ValueError):
-            kind, end = "punct", i + 1
-        if kind not in ("space", "comment"):
-            out.append(s[i:end])
-        i = end
-    return out
+    return [text for kind, text in every(s) if kind not in ("space", "comment")]
 
 
 def is_subsequence(small, big):

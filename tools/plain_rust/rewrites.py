@@ -2,6 +2,7 @@
 import json
 import os
 
+import derives
 from deletions import drop, drop_space_before
 from lexer import Stop, closing, rust_tokens, solid, step
 
@@ -10,9 +11,10 @@ PATCHES = json.load(open(os.path.join(HERE, "patches.json"), encoding="utf-8"))
 FRAMES = json.load(open(os.path.join(HERE, "frames.json"), encoding="utf-8"))
 REASONS = {
     "test entry": "Rust passes a test no handle of the runtime: std::test::check makes one",
-    "program entry": "Rust passes main no handle of the runtime: it is made there",
+    "program entry": "the program begins by C's entry and not in Rust's runtime, which changes standard streams that are closed",
     "to_vec with an allocator": "Rust's own to_vec of a slice is found before that of a trait, so the trait's has another name",
     "collect with an allocator": "so is Rust's own collect of an iterator",
+    "derive written out": "the macros would take as long to build as the nodes",
     "root lines": "no_std, the name std for the shim over core and alloc, and no warning of what only a contract used",
     "prelude line": "names that Rattle has everywhere: Vec, String, HostRuntime, AllocGlobal",
     "patch": "a text of patches.json, with its reason there",
@@ -20,6 +22,7 @@ REASONS = {
     "check at the border": "a clause of a public call, which nobody proves of a caller in Rust (border.json)",
 }
 PRELUDE = {"Vec", "String", "Box", "HostRuntime", "AllocGlobal"}
+NO_MAIN = "#![cfg_attr(not(test), no_main)]\n"
 ROOT = "#![no_std]\n#![allow(unused)]\n#[macro_use]\nextern crate rattle_std as std;\n\n"
 
 
@@ -51,8 +54,7 @@ def entries(ts, tally):
             insert(ts, close + 1, f" {{\n    std::test::check(|{words[0]}: HostRuntime|")
         elif ts[name].text == "main":
             tally["program entry"] += 1
-            drop(ts, opening + 1, close)
-            insert(ts, body + 1, f"\n    let {words[0]} = HostRuntime::of_process();")
+            insert(ts, closing(ts, body) + 1, "\n\nstd::program!(main);")
 
 
 def allocations(ts, tally):
@@ -113,11 +115,11 @@ def replace(ts, old, new):
     insert(ts, first, new)
 
 
-def head(ts, is_root, tally):
+def head(ts, name, is_root, tally):
     """The lines of a root, and the line for the dialect's prelude, before the first item."""
     lines = ""
     if is_root:
-        lines += ROOT
+        lines += (NO_MAIN if name.endswith("/main.rt") else "") + ROOT
         tally["root lines"] += 1
     if PRELUDE & {t.text for t in ts if t.kind == "ident" and not t.gone}:
         lines += "use std::dialect::*;\n\n"
@@ -148,5 +150,6 @@ def all_of_them(ts, name, is_root, tally):
     entries(ts, tally)
     allocations(ts, tally)
     patches(ts, name, tally)
+    derives.all_of_them(ts, tally)
     frames(ts, name, tally)
-    head(ts, is_root, tally)
+    head(ts, name, is_root, tally)

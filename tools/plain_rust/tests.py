@@ -21,10 +21,10 @@ export = importlib.util.module_from_spec(importlib.util.spec_from_loader("export
 loader.exec_module(export)
 
 
-def plain(source, crate="some", is_root=False):
+def plain(source, crate="some", is_root=False, file="some.rt"):
     """The export of a text, and its counts."""
     tally = collections.Counter()
-    return export.exported(crate, f"{crate}/src/some.rt", source, is_root, tally)[0], tally
+    return export.exported(crate, f"{crate}/src/{file}", source, is_root, tally)[0], tally
 
 
 def code(source, **more):
@@ -128,8 +128,31 @@ class Rewrites(unittest.TestCase):
         self.assertTrue(text.startswith("//! What it is.\n#![allow(dead_code)]\n\n#![no_std]\n#![allow(unused)]\n"), text)
         self.assertTrue(text.endswith("extern crate rattle_std as std;\n\n/// A thing.\npub struct A;\n"), text)
 
+    def test_a_program_begins_by_the_entry_of_c(self):
+        text, _ = plain("//! It.\nfn main(rt: HostRuntime) -> ExitCode { f(rt) }\n", file="main.rt", is_root=True)
+        self.assertIn("#![cfg_attr(not(test), no_main)]\n#![no_std]\n", text)
+        self.assertTrue(text.endswith("fn main(rt: HostRuntime) -> ExitCode { f(rt) }\n\nstd::program!(main);\n"), text)
+
     def test_to_vec_is_the_one_with_an_allocator(self):
         self.assertEqual(code("fn f() { a.to_vec(alloc); a.to_vec(); }"), words("fn f() { a.to_vec_in(alloc); a.to_vec(); }"))
+
+    def test_an_error_is_written_out(self):
+        text, _ = plain('use thiserror::Error;\nuse a::B;\n#[derive(Debug, Drop, Error)]\n#[error_bound(K: Display)]\n#[error("{kind} at {place}")]\n'
+                        'pub struct F<K> {\n    pub kind: K,\n    pub place: u16,\n}\n')
+        self.assertTrue(text.startswith("use a::B;\n#[derive(Debug)]\npub struct F<K> {\n"), text)
+        self.assertIn("impl<K: core::fmt::Debug + core::fmt::Display> core::error::Error for F<K> {}", text)
+        self.assertIn('Self { kind, place, .. } => core::write!(f, "{kind} at {place}"),', text)
+        text, _ = plain('#[derive(Debug, Error)]\nenum E {\n    /// It.\n    #[error("no")]\n    No,\n    #[error("{0}")]\n    Other(Vec<u8, A>),\n}\n')
+        self.assertIn('Self::No { .. } => f.write_str("no"),\n            Self::Other(it, ..) => core::write!(f, "{it}"),\n        }', text)
+        self.assertNotIn("#[error", text)
+        for source in ("#[derive(Debug, Error)] struct S;", '#[derive(Debug, Error)] enum E { #[error("{1}")] A(u8, u8) }', "#[derive(Error)] enum E {}"):
+            with self.assertRaises(lexer.Stop, msg=source):
+                plain(source)
+
+    def test_a_struct_that_is_written_out_writes_its_fields_in_order(self):
+        text, _ = plain("use serde::Serialize;\n#[derive(Drop, Debug, Serialize)]\nstruct S<'a> {\n    b: &'a [u8],\n    /// It.\n    pub a: Option<u64>,\n}\n")
+        self.assertIn("impl serde::Serialize for S<'_> {", text)
+        self.assertIn('to.serialize_struct("S", 2)?;\n        to.serialize_field("b", &self.b)?;\n        to.serialize_field("a", &self.a)?;\n', text)
 
     def test_collect_is_the_one_with_an_allocator(self):
         self.assertEqual(code("fn f() { a.collect(alloc); a.collect(); }"), words("fn f() { a.collect_in(alloc); a.collect(); }"))
@@ -296,6 +319,59 @@ class BorderOfTheNodes(unittest.TestCase):
     def test_what_is_not_checked_is_that_memory_and_store_agree(self):
         self.assertEqual({it.split(": ")[2] for it in self.unchecked}, {"agrees"})
         self.assertIn(f"{len(self.unchecked)} calls require it", read(os.path.join(export.TOP, "docs/IN-YOUR-FIRMWARE.md")))
+
+
+class Exports(unittest.TestCase):
+    def exported(self, target, *given):
+        """Exports from a repository of two crates, as by these words. Returns what MADE-FROM says of it."""
+        with mock.patch.object(sys, "argv", ["export", target, *given, "--sources", self.sources]), mock.patch("builtins.print"):
+            export.main()
+        return export.made_from.read(target)
+
+    def setUp(self):
+        room = tempfile.TemporaryDirectory()
+        self.addCleanup(room.cleanup)
+        self.sources, self.target = os.path.join(room.name, "repository"), os.path.join(room.name, "plain")
+        for crate in ("high", "low"):
+            os.makedirs(os.path.join(self.sources, "crates", crate, "src"))
+            self.write(crate, "pub fn f() {}\n")
+        with open(os.path.join(self.sources, "crates.txt"), "w", encoding="utf-8") as file:
+            file.write("low:\nhigh: low\n")
+
+    def write(self, crate, text):
+        with open(os.path.join(self.sources, "crates", crate, "src", "lib.rt"), "w", encoding="utf-8") as file:
+            file.write(text)
+
+    def test_words_are_remembered(self):
+        self.assertEqual(self.exported(self.target, "low", "--member", "mine")[1:], (["low"], ["mine"]))
+        self.assertEqual(self.exported(self.target)[1:], (["low"], ["mine"]))
+        self.assertFalse(os.path.exists(f"{self.target}/crates/high"))
+        self.assertEqual(self.exported(self.target, "--also", "high")[1:], (["high", "low"], ["mine"]))
+        self.assertEqual(self.exported(self.target, "high")[1:], (["high"], ["mine"]))
+        self.assertEqual(self.exported(self.target, "--all")[1:], ([], ["mine"]))
+        self.assertIn('"crates/low", "mine"]', read(f"{self.target}/Cargo.toml").replace('"crates/high", ', ""))
+
+    def test_what_a_user_changed_of_the_settings_stays(self):
+        self.exported(self.target)
+        self.assertIn("x86-64-v2", read(f"{self.target}/.cargo/config.toml"))
+        with open(f"{self.target}/.cargo/config.toml", "w", encoding="utf-8") as file:
+            file.write("# mine\n")
+        self.exported(self.target)
+        self.assertEqual(read(f"{self.target}/.cargo/config.toml"), "# mine\n")
+
+    def test_a_crate_is_exported_again_where_its_source_or_its_export_changed(self):
+        self.exported(self.target)
+        with mock.patch.object(export, "export_crate", side_effect=AssertionError("again")):
+            self.exported(self.target)
+        counts = read(f"{self.target}/counts.tsv")
+        with open(f"{self.target}/crates/low/src/lib.rs", "a", encoding="utf-8") as file:
+            file.write("pub fn mine() {}\n")
+        self.exported(self.target)
+        self.assertNotIn("mine", read(f"{self.target}/crates/low/src/lib.rs"))
+        self.assertEqual(read(f"{self.target}/counts.tsv"), counts)
+        self.write("low", "pub fn g() {}\n")
+        self.exported(self.target)
+        self.assertIn("pub fn g", read(f"{self.target}/crates/low/src/lib.rs"))
 
 
 if __name__ == "__main__":

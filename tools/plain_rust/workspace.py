@@ -8,13 +8,12 @@ HERE = os.path.dirname(os.path.abspath(__file__))
 LIBRARIES = {
     "arrayvec": 'arrayvec = { version = "0.7", default-features = false }',
     "byteorder": 'byteorder = { version = "1", default-features = false }',
-    "thiserror": 'thiserror = { version = "2", default-features = false }',
     "memchr": 'memchr = { version = "2", default-features = false }',
     "itoa": 'itoa = { version = "1", default-features = false }',
     "hex": 'hex = { package = "rattle_hex", path = "../../shims/hex" }',
     "rand_core": 'rand_core = { package = "rattle_rand_core", path = "../../shims/rand_core" }',
     "rand_pcg": 'rand_pcg = { version = "0.3", default-features = false }',
-    "serde": 'serde = { version = "1", default-features = false, features = ["derive"] }',
+    "serde": 'serde = { version = "1", default-features = false }',
     "serde_json": 'serde_json = { package = "rattle_serde_json", path = "../../shims/serde_json" }',
     "strsim": 'strsim = { package = "rattle_strsim", path = "../../shims/strsim" }',
     "toml": 'toml = { package = "rattle_toml", path = "../../shims/toml" }',
@@ -23,12 +22,16 @@ LIBRARIES = {
 FIRMWARE = {"meter_node", "coordinator"}
 # The file that says what an export took out, and so that a folder is one.
 COUNTS = "counts.tsv"
-# Names of lines of crates.txt that need no dependency in Rust.
-OF_THE_LANGUAGE = {"core"}
+# The settings of cargo.
+CONFIG = os.path.join(".cargo", "config.toml")
+# Names of lines of crates.txt that need no dependency in Rust. What `thiserror` derives is written out (derives.py).
+OF_THE_LANGUAGE = {"core", "thiserror"}
 PROFILES = """
 # The proof excludes each overflow; the checks stay, so that a slip of a compiler or of an unchecked caller stops the node.
 [profile.release]
 overflow-checks = true
+# Each crate is compiled once and whole: by fewer seconds of a processor, to a faster program.
+codegen-units = 1
 
 # For a small processor.
 [profile.small]
@@ -84,6 +87,8 @@ def is_free(target):
 def lay_out(target, names, extra):
     """Writes what stands around the exported crates."""
     shutil.copytree(os.path.join(HERE, "shims"), os.path.join(target, "shims"), ignore=shutil.ignore_patterns("target", "Cargo.lock"))
+    os.makedirs(os.path.join(target, ".cargo"))
+    shutil.copy(os.path.join(HERE, "config.toml"), os.path.join(target, CONFIG))
     if FIRMWARE <= set(names):
         shutil.copytree(os.path.join(HERE, "firmware"), os.path.join(target, "firmware"))
         extra = ["firmware", *extra]
@@ -98,15 +103,16 @@ def files_of(folder):
 
 
 def move_in(new, target):
-    """Puts an export in the place of an earlier one. A file that is the same stays as it is, so that cargo builds only what changed; a firmware that is
-    there stays too, since its maker has changed it."""
+    """Puts an export in the place of an earlier one. A file that is the same stays as it is, so that cargo builds only what changed; a firmware and
+    settings of cargo that are there stay too, since the user of the export may have changed them."""
     mine = os.path.isdir(os.path.join(target, "firmware"))
     for sub in ("crates", "shims"):
         for path in files_of(os.path.join(target, sub)) - files_of(os.path.join(new, sub)):
             os.remove(os.path.join(target, sub, path))
     for path in files_of(new):
         old = os.path.join(target, path)
-        if mine and path.split(os.sep)[0] == "firmware" or os.path.exists(old) and filecmp.cmp(os.path.join(new, path), old, shallow=False):
+        own = mine and path.split(os.sep)[0] == "firmware" or path == CONFIG and os.path.exists(old)
+        if own or os.path.exists(old) and filecmp.cmp(os.path.join(new, path), old, shallow=False):
             continue
         os.makedirs(os.path.dirname(old), exist_ok=True)
         shutil.copyfile(os.path.join(new, path), old)

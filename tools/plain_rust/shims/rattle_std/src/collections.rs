@@ -1,5 +1,5 @@
 //! Queues, and ordered maps and sets. The maps and sets of Rust's `alloc` stop where memory runs out; so do these.
-use crate::alloc::{AllocError, AllocFailed, Global};
+use crate::alloc::{AllocError, AllocFailed, Global, asked};
 use core::borrow::Borrow;
 use core::ops::{Index, IndexMut};
 
@@ -91,7 +91,7 @@ impl<T> VecDeque<T> {
     }
 
     pub fn push_back(&mut self, item: T) -> Result<(), AllocFailed<T>> {
-        if self.0.try_reserve(1).is_err() {
+        if self.0.len() == self.0.capacity() && asked(|| self.0.try_reserve(1)).is_err() {
             return Err(AllocFailed(item));
         }
         self.0.push_back(item);

@@ -11,7 +11,7 @@ pub mod alloc;
 pub mod boxed;
 pub mod collections;
 #[cfg(feature = "std")]
-mod hosted;
+pub mod hosted;
 mod macros;
 pub mod num;
 pub mod simd;
@@ -31,13 +31,17 @@ pub mod process {
     /// The right to end the process, as a test does that fails.
     pub trait Abort {}
 
-    /// Stands for the runtime.
-    pub struct HostRuntime(());
+    /// Stands for the runtime, with the words that C gave the program.
+    #[cfg_attr(not(feature = "std"), allow(dead_code))]
+    pub struct HostRuntime {
+        pub(crate) count: usize,
+        pub(crate) words: *const *const core::ffi::c_char,
+    }
 
     impl HostRuntime {
-        /// The handle of this process.
+        /// The handle of this process, without words.
         pub fn of_process() -> HostRuntime {
-            HostRuntime(())
+            HostRuntime { count: 0, words: core::ptr::null() }
         }
 
         pub fn alloc(&self) -> crate::alloc::Global {
@@ -56,8 +60,22 @@ pub mod process {
 
     impl AllocGlobal for HostRuntime {}
 
+    /// How the program ended.
     #[cfg(feature = "std")]
-    pub use host::process::{ExitCode, Termination};
+    pub struct ExitCode(pub(crate) u8);
+
+    #[cfg(feature = "std")]
+    impl ExitCode {
+        pub const SUCCESS: ExitCode = ExitCode(0);
+        pub const FAILURE: ExitCode = ExitCode(1);
+    }
+
+    #[cfg(feature = "std")]
+    impl From<u8> for ExitCode {
+        fn from(status: u8) -> ExitCode {
+            ExitCode(status)
+        }
+    }
 }
 
 /// The streams of std.

@@ -35,3 +35,21 @@ macro_rules! required {
         }
     };
 }
+
+/// The entry by which C begins a program that begins in a function of this crate, and the program's memory.
+#[macro_export]
+macro_rules! program {
+    ($main:ident) => {
+        #[cfg(not(test))]
+        mod entry {
+            #[global_allocator]
+            static MEMORY: $crate::hosted::Memory = $crate::hosted::Memory;
+
+            #[unsafe(export_name = "main")]
+            extern "C" fn main(count: ::core::ffi::c_int, words: *const *const ::core::ffi::c_char) -> ::core::ffi::c_int {
+                // It is C that calls this.
+                unsafe { $crate::hosted::enter(count, words, super::$main) }
+            }
+        }
+    };
+}
