@@ -5,8 +5,9 @@ use Rattle.std.specs.Prelude.{◌==◌, All, IfSome, if◌then◌else◌, slice_
 use Rattle.std.specs.Option.{option_map, option_and_then}
 use Rattle.std.proofs.Math.Seq.{drop-append_seam, drop-length}
 use Rattle.std.proofs.lemmas.List.{length-set}
-use Rattle.std.proofs.lemmas.List.Elements.{All-nil, All-cons, All-set, All-append, All-map}
+use Rattle.std.proofs.lemmas.List.Elements.{All-nil, All-cons, All-set, All-append, All-map, All-weaker}
 use Rattle.std.proofs.lemmas.Option.{same_Some}
+use Rattle.plc_base.specs.declared.key.Key.{Key}
 use Rattle.plc_base.specs.Grant.{Granted}
 use Rattle.store_tables.proofs.SlotTables.{slice_get-set}
 use Rattle.group_keys.specs.KeyRing as ring
@@ -23,7 +24,7 @@ use Rattle.node_rules.specs.declared.refusal.SendRefusal.TheVariants as sends
 use Rattle.line_rules.specs.Answers.{sent_word}
 use Rattle.line_events.specs.declared.event.Answer.TheVariants as answers
 use Rattle.node_rules.specs.Ciphers.{Ciphers}
-use Rattle.node_rules.specs.Frames.{Sent, Sealed, Up, Down, spelled, arrived}
+use Rattle.node_rules.specs.Frames.{SealedUnit, Sent, Sealed, Up, Down, spelled, arrived}
 use Rattle.node_rules.specs.Memory.{Memory, Coordinator, Node, address_of, node_address}
 use Rattle.node_rules.specs.Plans.{Plan}
 use Rattle.node_rules.specs.Accepting.{accept}
@@ -50,8 +51,9 @@ use Rattle.line_laws.proofs.Readings.{held}
 use Rattle.line_laws.proofs.CoordinatorCalls.{accept_ok, accept_failed, accepted_routes, rekey_ok, activate_self_ok, challenge_ok, activate_ok, kick_ok}
 use Rattle.line_laws.proofs.StoreMarks.{accept_is}
 use Rattle.line_laws.proofs.Answered.{acts_answered}
-use Rattle.line_laws.proofs.Senders.{IsFrom, AreFrom}
-use Rattle.line_laws.proofs.HeadsSaid.{sealed_sender_is, up_nonce, down_nonce}
+use Rattle.line_laws.specs.OwnKeys.{HasOwn, SealsWith}
+use Rattle.line_laws.proofs.Senders.{AreFrom, IsFrom, IsOfRing, node_ring}
+use Rattle.line_laws.proofs.HeadsSaid.{down_key, down_nonce, sealed_key, sealed_sender_is, up_key, up_nonce}
 use Rattle.line_laws.proofs.Worlds.{NodeFits, FlightFits, WorldOk, within as place_within, at_place}
 use Rattle.line_laws.proofs.StepsOk.{hears_ok}
 use Rattle.line_laws.proofs.NodesOk.{coordinator_acts}
@@ -134,52 +136,79 @@ has_address : (v : World) (number : ℕ) (y : Node) (a : ℕ) → node_at v numb
 has_address v number y a there is = rw there is
 
 module _ (ciphers : Ciphers) (v : World) (number : ℕ) (y : Node) (there : node_at v number ≡ Some y) where
-  some_frames : (f : Sent) (fs : List Sent) → f ∷ fs ≡ [] → ⊥
-  some_frames f fs e = cc
+  -- the address of a ring is the node's
+  ring_address : (r : ring.Ring) → node_ring y ≡ r → (l : SealedUnit) → IsOfRing r l → node_address y ≡ Some l.from
+  ring_address r same l h = by_memory y.memory (same ∙ h.is)
+    where
+      by_memory : (o : Option Memory) → option_and_then (λ (m : Memory). m.station.ring) o ≡ Some h.granted
+          → option_and_then (λ (m : Memory). address_of m.station) o ≡ Some l.from
+      by_memory None e = absurd (cc)
+      by_memory (Some m) e = ap (λ (q : ring.Ring). option_map (λ (g : Granted). g.address) q) e ∙ ap Some h.from
 
-  one_sender : (f : Sent) → IsFrom (node_address y) f → ((a : ℕ) → node_address y ≡ Some a → a < 0xFFFE) → HasSender v (flight_by number (spelled ciphers f))
+  -- the key of a ring is the node's
+  ring_key : (r : ring.Ring) → node_ring y ≡ r → (l : SealedUnit) → IsOfRing r l → SealsWith (node_at v number) l.key
+  ring_key r same l h = by_memory y.memory refl (same ∙ h.is)
+    where
+      by_memory : (o : Option Memory) → y.memory ≡ o → option_and_then (λ (m : Memory). m.station.ring) o ≡ Some h.granted → SealsWith (node_at v number) l.key
+      by_memory None runs e = absurd (cc)
+      by_memory (Some m) runs e = record { node = y; there = there; memory = m; runs = runs; granted = h.granted; ring = e; active = h.key }
+
+  one_sender : (f : Sent) → IsFrom (node_ring y) f → ((a : ℕ) → node_address y ≡ Some a → a < 0xFFFE) → HasOwn v (flight_by number (spelled ciphers f))
   one_sender (Sealed l) h low =
-      let small : l.from < 0xFFFE = low l.from h in
-      if_parts _ (λ p. p.from ≡ l.from) (λ p. HasAddress v number p.from) (λ p e. has_address v number y p.from there (h ∙ ap Some (sym e)))
-      (sealed_sender_is ciphers l (omega arith))
-  one_sender (Up agent from message) h low = subst (λ o. IfSome o (λ p. HasAddress v number p.from)) (sym (up_nonce ciphers agent from message)) tt
-  one_sender (Down from message) h low = subst (λ o. IfSome o (λ p. HasAddress v number p.from)) (sym (down_nonce ciphers from message)) tt
+      let at = ring_address (node_ring y) refl l h in
+      let small : l.from < 0xFFFE = low l.from at in (
+        if_parts _ (λ p. p.from ≡ l.from) (λ p. HasAddress v number p.from) (λ p e. has_address v number y p.from there (at ∙ ap Some (sym e)))
+            (sealed_sender_is ciphers l (omega arith)),
+        subst (λ (o : Option Key). IfSome o (SealsWith (node_at v number))) (sealed_key ciphers l) (ring_key (node_ring y) refl l h),
+      )
+  one_sender (Up agent from message) h low = (
+    subst (λ o. IfSome o (λ p. HasAddress v number p.from)) (sym (up_nonce ciphers agent from message)) tt,
+    subst (λ (o : Option Key). IfSome o (SealsWith (node_at v number))) (up_key ciphers agent from message) tt,
+  )
+  one_sender (Down from message) h low = (
+    subst (λ o. IfSome o (λ p. HasAddress v number p.from)) (sym (down_nonce ciphers from message)) tt,
+    subst (λ (o : Option Key). IfSome o (SealsWith (node_at v number))) (down_key ciphers from message) tt,
+  )
 
-  pub all_senders : (fs : List Sent) → AreFrom (node_address y) fs → ((a : ℕ) → node_address y ≡ Some a → a < 0xFFFE)
-      → All (HasSender v) (map (λ frame. flight_by number (spelled ciphers frame)) fs)
-  all_senders [] h low = All-nil (HasSender v)
-  all_senders (f ∷ fs) h low = All-cons (HasSender v) _ _ (one_sender f h.0 low) (all_senders fs h.1 low)
+  pub all_senders : (fs : List Sent) → AreFrom (node_ring y) fs → ((a : ℕ) → node_address y ≡ Some a → a < 0xFFFE)
+      → All (HasOwn v) (map (λ frame. flight_by number (spelled ciphers frame)) fs)
+  all_senders [] h low = All-nil (HasOwn v)
+  all_senders (f ∷ fs) h low = All-cons (HasOwn v) _ _ (one_sender f h.0 low) (all_senders fs h.1 low)
 
--- the flights that came in addition have their senders
+-- the flights that came in addition have their senders, and are under the keys of these
 abbrev pub NewSenders : World → World → Type 0
-NewSenders w v = All (HasSender v) (drop (length w.flights) v.flights)
+NewSenders w v = All (HasOwn v) (drop (length w.flights) v.flights)
 
 pub none_new : (w v : World) → length v.flights ≡ length w.flights → NewSenders w v
-none_new w v e = subst (λ n. All (HasSender v) (drop n v.flights)) e (subst (All (HasSender v)) (sym (drop-length v.flights)) (All-nil (HasSender v)))
+none_new w v e = subst (λ n. All (HasOwn v) (drop n v.flights)) e (subst (All (HasOwn v)) (sym (drop-length v.flights)) (All-nil (HasOwn v)))
+
+-- they have the addresses of their nodes
+pub new_addresses : (w v : World) → NewSenders w v → All (HasSender v) (drop (length w.flights) v.flights)
+new_addresses w v new = All-weaker (HasOwn v) (HasSender v) (λ f own. own.0) (drop (length w.flights) v.flights) new
 
 module _ (ciphers : Ciphers) where
   -- one node told what it did
   pub after_senders : {A : Type 0} (w u v : World) (number : ℕ) (x : Node) (d : NodeStep A) → u.flights ≡ w.flights → u.nodes ≡ w.nodes
       → v.nodes ≡ (world_after ciphers u number d).nodes → v.flights ≡ (world_after ciphers u number d).flights → node_at w number ≡ Some x
-      → AreFrom (node_address d.node) d.frames → ((a : ℕ) → node_address d.node ≡ Some a → a < 0xFFFE) → NewSenders w v
+      → AreFrom (node_ring d.node) d.frames → ((a : ℕ) → node_address d.node ≡ Some a → a < 0xFFFE) → NewSenders w v
   unfolding world_after
   after_senders w u v number x d fs ns vn vf there from low =
       let here : node_at v number ≡ Some d.node = ap (λ nodes. slice_get nodes number) (vn ∙ ap (λ nodes. slice_set nodes number d.node) ns)
       ∙ slice_get-set w.nodes number d.node (place_within w.nodes number x there) in
       let all = all_senders ciphers v number d.node here d.frames from low in
       let flights : v.flights ≡ w.flights ++ flights_of ciphers number d = vf ∙ ap (λ xs. xs ++ flights_of ciphers number d) fs in
-      subst (λ xs. All (HasSender v) (drop (length w.flights) xs)) (sym flights)
-      (subst (All (HasSender v)) (sym (drop-append_seam w.flights (flights_of ciphers number d))) all)
+      subst (λ xs. All (HasOwn v) (drop (length w.flights) xs)) (sym flights)
+      (subst (All (HasOwn v)) (sym (drop-append_seam w.flights (flights_of ciphers number d))) all)
 
   -- nothing was sent
   pub after_silent : {A : Type 0} (u : World) (number : ℕ) (d : NodeStep A) → d.frames ≡ [] → (world_after ciphers u number d).flights ≡ u.flights
   unfolding world_after
   after_silent u number d none = ap (λ fs. u.flights ++ map (λ frame. flight_by number (spelled ciphers frame)) fs) none ∙ append-nil u.flights
 
--- A node sent nothing, or it sent from the address that it has.
+-- A node sent nothing, or it sent from the address that it has, under the key that it seals with.
 pub data IsSentFrom {A : Type 0} (d : NodeStep A) : Type 0 where
   Silent : d.frames ≡ [] → IsSentFrom d
-  Speaks : AreFrom (node_address d.node) d.frames → ((a : ℕ) → node_address d.node ≡ Some a → a < 0xFFFE) → IsSentFrom d
+  Speaks : AreFrom (node_ring d.node) d.frames → ((a : ℕ) → node_address d.node ≡ Some a → a < 0xFFFE) → IsSentFrom d
 
 pub speaks : {A : Type 0} (x : Node) (d : NodeStep A) → DidOk x d → IsSentFrom d
 speaks x d did = Speaks did.from (λ a e. address_low d.node a did.node e)

@@ -20,7 +20,7 @@ use Rattle.node_rules.specs.Accepting.{accept}
 use Rattle.node_rules.specs.Ciphers.{Ciphers}
 use Rattle.node_rules.specs.Frames.{Sent, arrived, spelled}
 use Rattle.node_rules.specs.Laws.{IsCutOff, IsWhole}
-use Rattle.node_rules.specs.Memory.{Memory, Node, address_of, node_address}
+use Rattle.node_rules.specs.Memory.{Memory, Node}
 use Rattle.node_rules.specs.MemoryDrafts.{in_memory}
 use Rattle.node_rules.specs.NodeSteps.{NodeStep, acts, left_by, of_station, stays}
 use Rattle.node_rules.specs.Plans.{Plan, carry_out, resting}
@@ -46,7 +46,6 @@ use Rattle.line_rules.specs.Forgery.{Comes, accepting}
 use Rattle.line_rules.specs.Further.{line_step, broadcasts_by, asks_by, scans_by, chooses_by, discovers_by, discovery_flight, discovery_flights, commanded}
 use Rattle.line_rules.specs.Further.{acknowledged, acknowledging, adds_frames, sends_nothing, unbelieved, beside_at, reaches, with_beside}
 use Rattle.line_rules.specs.Logs.{LogsKept}
-use Rattle.line_rules.specs.Nonces.{HasSender}
 use Rattle.line_rules.specs.SafeRuns.{HasAddress}
 use Rattle.line_rules.specs.Steps.{Step, running_world, set_up, world_after, flights_of, flight_by, identity, note_by}
 use Rattle.line_rules.specs.Worlds.{World, Trace, node_at}
@@ -65,44 +64,45 @@ use Rattle.line_laws.proofs.FurtherSteps.{ack_did, ack_is, choice_ok, command_si
 use Rattle.line_laws.proofs.FurtherStepKinds.{Speaks, any_speaks}
 use Rattle.line_laws.proofs.LaterMoves.{discovery_nonce}
 use Rattle.line_laws.proofs.Nodes.{DidOk, acts_ok, ring_readable}
-use Rattle.line_laws.proofs.Senders.{AreFrom, from_append}
+use Rattle.line_laws.specs.OwnKeys.{HasOwn}
+use Rattle.line_laws.proofs.Senders.{AreFrom, from_append, node_ring}
 use Rattle.line_laws.proofs.StepsOk.{hears_ok}
 use Rattle.line_laws.proofs.StoreMarks.{accept_is}
 use Rattle.line_laws.proofs.StepKinds.{Hears}
 use Rattle.line_laws.proofs.Worlds.{at_place, within as place_within}
 
--- # A node that goes on keeps its address
+-- # A node that goes on keeps its ring
 
-planned_address : {A : Type 0} (m : Memory) (p : Plan Memory A) → IsFurther AnyUnits m p → address_of p.memory.station ≡ address_of m.station
+planned_ring : {A : Type 0} (m : Memory) (p : Plan Memory A) → IsFurther AnyUnits m p → p.memory.station.ring ≡ m.station.ring
 unfolding resting
-planned_address m p (Rests answer failed) = refl
-planned_address m p (Goes answer failed ps us logs says few left) = refl
+planned_ring m p (Rests answer failed) = refl
+planned_ring m p (Goes answer failed ps us logs says few left) = refl
 
-address_kept : {A : Type 0} (x : Node) (halted : A) (does : Memory → Plan Memory A) → ((m : Memory) → IsFurther AnyUnits m (does m)) → (n : Memory)
-    → (acts x halted does).node.memory ≡ Some n → node_address (acts x halted does).node ≡ node_address x
+ring_kept : {A : Type 0} (x : Node) (halted : A) (does : Memory → Plan Memory A) → ((m : Memory) → IsFurther AnyUnits m (does m)) → (n : Memory)
+    → (acts x halted does).node.memory ≡ Some n → node_ring (acts x halted does).node ≡ node_ring x
 unfolding acts
-address_kept {A = A} x halted does is n e = by_memory x.memory refl e
+ring_kept {A = A} x halted does is n e = by_memory x.memory refl e
   where
     by_outcome : (m : Memory) → x.memory ≡ Some m → (carry_out x.store.records x.store.cut (does m)).memory ≡ Some n
-        → option_and_then (λ (k : Memory). address_of k.station) (carry_out x.store.records x.store.cut (does m)).memory ≡ node_address x
+        → option_and_then (λ (k : Memory). k.station.ring) (carry_out x.store.records x.store.cut (does m)).memory ≡ node_ring x
     by_outcome m there left = ⊎_elim
         (λ (w : IsWhole x.store.records x.store.cut (does m) (carry_out x.store.records x.store.cut (does m))).
-        ap (λ o. option_and_then (λ (k : Memory). address_of k.station) o) w.memory ∙ planned_address m (does m) (is m) ∙ sym
-        (ap (λ o. option_and_then (λ (k : Memory). address_of k.station) o) there))
+        ap (λ o. option_and_then (λ (k : Memory). k.station.ring) o) w.memory ∙ planned_ring m (does m) (is m) ∙ sym
+        (ap (λ o. option_and_then (λ (k : Memory). k.station.ring) o) there))
         (λ (c : IsCutOff x.store.records x.store.cut (does m) (carry_out x.store.records x.store.cut (does m))). let gone = c.memory in absurd
         (cc (gone, left)))
         (clean x.store.records x.store.cut (does m))
 
     by_memory : (o : Option Memory) → x.memory ≡ o
         → let d : NodeStep A = option_map_or (λ m. left_by x (carry_out x.store.records x.store.cut (does m))) o (stays x halted) in d.node.memory ≡ Some n
-        → node_address d.node ≡ node_address x
+        → node_ring d.node ≡ node_ring x
     by_memory None there left = refl
     by_memory (Some m) there left = by_outcome m there left
 
 -- # Of one event
 
-found_sender : (v : World) (number : ℕ) (frame : Discovery) → HasSender v (discovery_flight number frame)
-found_sender v number frame = subst (λ o. IfSome o (λ p. HasAddress v number p.from)) (sym (discovery_nonce frame)) tt
+found_sender : (v : World) (number : ℕ) (frame : Discovery) → HasOwn v (discovery_flight number frame)
+found_sender v number frame = (subst (λ o. IfSome o (λ p. HasAddress v number p.from)) (sym (discovery_nonce frame)) tt, tt)
 
 pub AnyFrame : Discovery → Type 0
 AnyFrame frame = Unit {0}
@@ -121,10 +121,10 @@ module _ (ciphers : Ciphers) (fits : KeepsRanges ciphers) (w : World) (ok : Worl
 
   -- these frames fly, and the node of the number is this one
   sent_now : (v : World) (number : ℕ) (y : Node) (fs : List Sent) → v.flights ≡ w.flights ++ map (λ frame. flight_by number (spelled ciphers frame)) fs
-      → node_at v number ≡ Some y → NodeOk y → AreFrom (node_address y) fs → NewSenders w v
+      → node_at v number ≡ Some y → NodeOk y → AreFrom (node_ring y) fs → NewSenders w v
   sent_now v number y fs flights here good from =
-      subst (λ xs. All (HasSender v) (drop (length w.flights) xs)) (sym flights)
-      (subst (All (HasSender v)) (sym (drop-append_seam w.flights (map (λ frame. flight_by number (spelled ciphers frame)) fs)))
+      subst (λ xs. All (HasOwn v) (drop (length w.flights) xs)) (sym flights)
+      (subst (All (HasOwn v)) (sym (drop-append_seam w.flights (map (λ frame. flight_by number (spelled ciphers frame)) fs)))
       (all_senders ciphers v number y here fs from (λ a e. address_low y a good e)))
 
   discovered : (number : ℕ) (o : Option Discovery) (bs : List Beside)
@@ -132,8 +132,8 @@ module _ (ciphers : Ciphers) (fits : KeepsRanges ciphers) (w : World) (ok : Worl
   discovered number None bs = none_new w (record (running_world w) { flights = w.flights ++ []; beside = bs }) (ap length (append-nil w.flights))
   discovered number (Some frame) bs =
       let v : World = record (running_world w) { flights = w.flights ++ discovery_flights number (Some frame); beside = bs } in
-      subst (All (HasSender v)) (sym (drop-append_seam w.flights (discovery_flight number frame ∷ [])))
-      (All-cons (HasSender v) (discovery_flight number frame) [] (found_sender v number frame) (All-nil (HasSender v)))
+      subst (All (HasOwn v)) (sym (drop-append_seam w.flights (discovery_flight number frame ∷ [])))
+      (All-cons (HasOwn v) (discovery_flight number frame) [] (found_sender v number frame) (All-nil (HasOwn v)))
 
   scans_senders : (number : ℕ) (o : Option Memory) → NewSenders w (scans_by w number o).0
   scans_senders number None = none_new w (running_world w) refl
@@ -244,10 +244,10 @@ module _ (ciphers : Ciphers) (fits : KeepsRanges ciphers) (w : World) (ok : Worl
         by_memory : (o : Option Memory) → a.node.memory ≡ o → NewSenders w (if is_some o then adds_frames v with_it.1 a else sends_nothing w (v, with_it.1)).0
         by_memory None e = none_new w (sends_nothing w (v, with_it.1)).0 refl
         by_memory (Some n) e =
-            let same : node_address a.node ≡ node_address d.node = address_kept d.node (Err locals.Store) does (λ m. ack_is m reply) n e in
+            let same : node_ring a.node ≡ node_ring d.node = ring_kept d.node (Err locals.Store) does (λ m. ack_is m reply) n e in
             sent_now v number a.node (d.frames ++ a.frames) flights
             (slice_get-set with_it.0.nodes number a.node (place_within with_it.0.nodes number d.node now_there)) did.node
-            (from_append (node_address a.node) d.frames a.frames (subst (λ o. AreFrom o d.frames) (sym same) heard_did.from) did.from)
+            (from_append (node_ring a.node) d.frames a.frames (subst (λ o. AreFrom o d.frames) (sym same) heard_did.from) did.from)
 
     heard_senders : (t : World × Trace) → cost ≤ 255 → IsHeard ciphers w number x octets got cost t → NewSenders w t.0
     heard_senders t low IsUnbelieved = none_new w (unbelieved ciphers w number y octets got).0

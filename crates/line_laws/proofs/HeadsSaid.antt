@@ -84,11 +84,11 @@ none_key k e = cc
 some_key : (k : Key) → Some k ≡ None → ⊥
 some_key k e = cc
 
-sealed_key : (ciphers : Ciphers) (l : SealedUnit) → Some l.key ≡ (spelled ciphers (Sealed l)).key
+pub sealed_key : (ciphers : Ciphers) (l : SealedUnit) → Some l.key ≡ (spelled ciphers (Sealed l)).key
 unfolding spelled
 sealed_key ciphers l = refl
 
-up_key : (ciphers : Ciphers) (agent : ℕ) (from : Eui) (message : JoinMessage) → None ≡ (spelled ciphers (Up agent from message)).key
+pub up_key : (ciphers : Ciphers) (agent : ℕ) (from : Eui) (message : JoinMessage) → None ≡ (spelled ciphers (Up agent from message)).key
 unfolding spelled
 up_key ciphers agent from message = refl
 
@@ -96,7 +96,7 @@ up_note : (ciphers : Ciphers) (agent : ℕ) (from : Eui) (message : JoinMessage)
 unfolding spelled
 up_note ciphers agent from message = refl
 
-down_key : (ciphers : Ciphers) (from : ℕ) (message : JoinMessage) → None ≡ (spelled ciphers (Down from message)).key
+pub down_key : (ciphers : Ciphers) (from : ℕ) (message : JoinMessage) → None ≡ (spelled ciphers (Down from message)).key
 unfolding spelled
 down_key ciphers from message = refl
 

@@ -17,7 +17,7 @@ use Rattle.mesh_header.specs.declared.unit.Unit.{Unit as MeshUnit}
 use Rattle.node_rules.specs.Ciphers.{network}
 use Rattle.node_rules.specs.Drafts.{Ends}
 use Rattle.node_rules.specs.Frames.{Sent, Sealed, Up, Down, spelled}
-use Rattle.node_rules.specs.Memory.{Memory, Node, address_of, node_address}
+use Rattle.node_rules.specs.Memory.{Memory, Node, address_of}
 use Rattle.node_rules.specs.NodeSteps.{NodeStep}
 use Rattle.node_rules.specs.Plans.{Plan}
 use Rattle.line_rules.specs.Laws.{KeepsFlights}
@@ -57,7 +57,7 @@ use Rattle.line_laws.proofs.AgreeSteps.{acts_nothing, after_nothing}
 use Rattle.line_laws.proofs.BookGrowth.{BookGrows, Goes, quiet_grows, self_goes, goes_after}
 use Rattle.line_laws.proofs.CustodyKeeps.{DidClean, acts_clean}
 use Rattle.line_laws.proofs.CustodySteps.{falls_on, ran_at, after_at}
-use Rattle.line_laws.proofs.FlightFolds.{address_low, after_senders}
+use Rattle.line_laws.proofs.FlightFolds.{address_low, after_senders, new_addresses}
 use Rattle.line_laws.proofs.HeadsSaid.{spelled_well}
 use Rattle.line_laws.proofs.Homed as homed
 use Rattle.line_laws.proofs.Homes.{addressed, at_length, homes_grow}
@@ -69,7 +69,7 @@ use Rattle.line_laws.proofs.IssueWorlds.{after_coordinator, after_meter}
 use Rattle.line_laws.proofs.MarkOrder.{raised_same}
 use Rattle.line_laws.proofs.RankSaid.{FrameBacked}
 use Rattle.line_laws.proofs.RouteSteps.{counts_hold}
-use Rattle.line_laws.proofs.Senders.{AreFrom}
+use Rattle.line_laws.proofs.Senders.{AreFrom, node_ring}
 use Rattle.line_laws.proofs.ShutSteps.{quiet_shut, after_shut}
 use Rattle.line_laws.proofs.LaterSeals.{acts_send, plan, plan_away, plan_clean, plan_makes, plan_octets, plan_ok, plan_quietly, plan_ranged, plan_ranks}
 use Rattle.node_rules.proofs.NetworkOpens.{network_opens_again}
@@ -294,7 +294,7 @@ module _ (given : List Issued) (sent : List Sending) (taken : List Pairing) (all
       numbered (Up agent from message) p = same_low (frontier x)
       numbered (Down from message) p = same_low (frontier x)
 
-      from : (f : Sent) → IsPlainFrame f → AreFrom (node_address x) (f ∷ [])
+      from : (f : Sent) → IsPlainFrame f → AreFrom (node_ring x) (f ∷ [])
       from (Sealed l) p = absurd p
       from (Up agent own message) p = (tt, tt)
       from (Down own message) p = (tt, tt)
@@ -452,7 +452,7 @@ module _ (given : List Issued) (sent : List Sending) (taken : List Pairing) (all
       keyed = f.keyed;
       senders = later_homes w v given given h.keyed f.keyed line grows euis
           (subst (KeepsFlights w.flights) (sym flights) (keeps_more w.flights (flights_of network number d))) h.line.rising.homes h.senders
-          (after_senders network w w v number x d refl refl refl refl there f.did.from (λ a e. address_low d.node a f.did.node e));
+          (new_addresses w v (after_senders network w w v number x d refl refl refl refl there f.did.from (λ a e. address_low d.node a f.did.node e)));
       joinings = joinings;
       routes = routes;
       tags = tags;
@@ -465,7 +465,7 @@ module _ (given : List Issued) (sent : List Sending) (taken : List Pairing) (all
       live = falls;
       ranks = station.forward;
       shut = λ eui out. after_shut eui w v number x d out nodes there (f.shut eui out);
-      senders = after_senders network w w v number x d refl refl refl refl there f.did.from (λ a e. address_low d.node a f.did.node e);
+      senders = new_addresses w v (after_senders network w w v number x d refl refl refl refl there f.did.from (λ a e. address_low d.node a f.did.node e));
     }
 
 -- # Events

@@ -25,6 +25,7 @@ use Rattle.line_laws.specs.LineAccounts.{IsLineRight, RestartIn, TagsIn}
 use Rattle.line_laws.specs.Live.{EveryMarkRises, MarksAlwaysRise}
 use Rattle.line_laws.specs.Loops.{EveryRestartEndsRoutes, RestartsEndRoutes}
 use Rattle.line_laws.specs.Owed.{KeepsRanges}
+use Rattle.line_laws.specs.OwnKeys.{AreUnderOwnKeys, EveryKeyIsOwn}
 use Rattle.line_laws.specs.Sizes.{IsAnyLoad}
 use Rattle.line_laws.specs.Stores.{IsKept}
 use Rattle.line_laws.specs.Tags.{EverySendHasOctets, EveryTagRises, TagRises, TagsOk}
@@ -34,7 +35,7 @@ use Rattle.line_laws.proofs.FurtherRestarts.{AnsweredIn, line_answered, line_res
 use Rattle.line_laws.proofs.FurtherRight.{line_traces_right}
 use Rattle.line_laws.proofs.FurtherTags.{line_tags_rise}
 use Rattle.line_laws.proofs.IssueRuns.{all_of_one}
-use Rattle.line_laws.proofs.LineRuns.{AreLawful, lawful, rises_at, senders_at}
+use Rattle.line_laws.proofs.LineRuns.{AreLawful, keys_at, lawful, rises_at, senders_at}
 use Rattle.line_laws.proofs.Readings.{network_ranges}
 use Rattle.line_laws.proofs.Restarting.{again}
 use Rattle.line_laws.proofs.Running.{world_sized}
@@ -101,6 +102,10 @@ module _ (ciphers : Ciphers) (fits : KeepsRanges ciphers) where
   senders_from : (w : World) (entries : List Entry) → AreLawful ciphers w entries → AreAddressed w entries
   senders_from w [] l = tt
   senders_from w (x ∷ xs) l = (senders_at ciphers fits w x l.0, senders_from x.after xs l.1)
+
+  keys_from : (w : World) (entries : List Entry) → AreLawful ciphers w entries → AreUnderOwnKeys w entries
+  keys_from w [] l = tt
+  keys_from w (x ∷ xs) l = (keys_at ciphers fits w x l.0, keys_from x.after xs l.1)
 
   abbrev EntryRises : Entry → Type 0
   EntryRises x = AllPairs nonces.CounterRises x.after.flights
@@ -217,3 +222,6 @@ every_restart ciphers fits entries r fly = answered_from ciphers fits start entr
 
 pub every_restart_ends : EveryRestartEndsRoutes
 every_restart_ends entries r = ends_from network network_ranges start entries (lawful network network_ranges entries r (every_flight entries r))
+
+pub every_key_own : EveryKeyIsOwn
+every_key_own entries r = keys_from network network_ranges start entries (lawful network network_ranges entries r (every_flight entries r))

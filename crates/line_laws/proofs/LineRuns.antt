@@ -1,7 +1,7 @@
 -- A run of a line: what holds before each of its events, and what the event leaves, for any ciphers that keep their ranges.
 use Rattle.std.proofs.Common.{◌≡◌, ℕ, ◌≤◌, ◌<◌, false, List, [], ◌∷◌, ◌++◌, length, drop, Ok, sym, subst}
 use Rattle.std.specs.Prelude.{All}
-use Rattle.std.proofs.lemmas.List.Elements.{All-nil, All-head, All-tail}
+use Rattle.std.proofs.lemmas.List.Elements.{All-nil, All-head, All-tail, All-weaker}
 use Rattle.plc_base.specs.declared.key.Key.{Key}
 use Rattle.node_rules.specs.Ciphers.{Ciphers}
 use Rattle.line_events.specs.declared.event.TheConstants.{MAX_EVENTS}
@@ -21,6 +21,8 @@ use Rattle.line_laws.specs.LineAccounts.{BooksIn, BooksLater, FlightsEnd, Sealed
 use Rattle.line_laws.specs.Lines.{FlightFits, WorldOk}
 use Rattle.line_laws.specs.Live.{MarksRise}
 use Rattle.line_laws.specs.Owed.{KeepsRanges}
+use Rattle.line_laws.specs.OwnKeys.{HasOwn, IsUnderOwnKey}
+use Rattle.line_laws.proofs.FlightFolds.{new_addresses}
 use Rattle.line_laws.proofs.FurtherGrowth.{line_books_grow}
 use Rattle.line_laws.proofs.FurtherKeyed.{line_keyed}
 use Rattle.line_laws.proofs.FurtherLive.{line_flights_fall, line_follow, line_nodes_accept_once}
@@ -76,11 +78,17 @@ module _ (ciphers : Ciphers) (fits : KeepsRanges ciphers) where
     pub on : GoesOn w x.after
     on = line_steps ciphers w x.after x.event x.trace l.step
 
-    pub senders_at : All (HasSender x.after) (drop (length w.flights) x.after.flights)
-    senders_at =
+    pub own_at : All (HasOwn x.after) (drop (length w.flights) x.after.flights)
+    own_at =
         let is : SendersIn w (Ok (x.after, x.trace)) =
         subst (SendersIn w) l.step (line_senders_right ciphers fits w l.before.ok l.before.flown l.before.logs x.event l.says) in
         is
+
+    pub senders_at : All (HasSender x.after) (drop (length w.flights) x.after.flights)
+    senders_at = new_addresses w x.after own_at
+
+    pub keys_at : All (IsUnderOwnKey x.after) (drop (length w.flights) x.after.flights)
+    keys_at = All-weaker (HasOwn x.after) (IsUnderOwnKey x.after) (λ f own. own.1) (drop (length w.flights) x.after.flights) own_at
 
     pub follows_at : Follows w x.after
     follows_at = line_follow ciphers fits w l.before.ok l.before.flown l.before.logs x l.says l.step

@@ -12,8 +12,8 @@ use Rattle.group_keys.specs.KeyRing as ring
 use Rattle.group_keys.specs.KeyBook as book
 use Rattle.routing_set.specs.declared.rank.Rank.{Rank}
 use Rattle.routing_set.specs.RoutingSet as routing
-use Rattle.node_rules.specs.Memory.{Memory, Role, Coordinator, Meter, Node, address_of, node_address}
-use Rattle.line_laws.proofs.Senders.{AreFrom, plan_from, acts_from}
+use Rattle.node_rules.specs.Memory.{Memory, Role, Coordinator, Meter, Node}
+use Rattle.line_laws.proofs.Senders.{AreFrom, acts_from, node_ring, plan_from}
 use Rattle.node_rules.specs.Plans.{Plan, Outcome, carry_out, resting}
 use Rattle.node_rules.specs.Drafts.{Ends, UnsealedUnit, sealed_units, sealed_by, sealing_key}
 use Rattle.node_rules.specs.MemoryDrafts.{in_memory}
@@ -53,7 +53,7 @@ pub record PlanOk (role : Role) (m : Memory) {A : Type 0} (p : Plan Memory A) : 
   pub sized : IsMemorySized p.memory
   pub few : length p.frames ≤ 24
   pub rises : m.station.counter.limit < 2 ^ 32 → PlanRises m p
-  pub from : AreFrom (address_of p.memory.station) p.frames
+  pub from : AreFrom p.memory.station.ring p.frames
   -- no mark falls
   pub marked : PlanMarks m p
 
@@ -72,8 +72,8 @@ pub record DidOk (x : Node) {A : Type 0} (d : NodeStep A) : Type 0 where
   pub eui : d.node.eui ≡ x.eui
   pub few : length d.frames ≤ 24
   pub rises : Numbered (frontier x) (frontier d.node) d.frames
-  -- its letters have the address that it has now
-  pub from : AreFrom (node_address d.node) d.frames
+  -- its letters have the address that it has now, and are under the key that it seals with
+  pub from : AreFrom (node_ring d.node) d.frames
   -- no mark falls
   pub marked : Raised (marks_of x) (marks_of d.node)
 

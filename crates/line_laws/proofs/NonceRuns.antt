@@ -16,7 +16,6 @@ use Rattle.line_laws.proofs.AddressBook.{Grows}
 use Rattle.line_laws.proofs.AddressWorlds.{one_meter, above_nought, meter_address, coordinator_address, addresses_differ}
 use Rattle.line_laws.proofs.IssueWorlds.{Keyed}
 use Rattle.line_laws.proofs.Homes.{at_length}
-use Rattle.line_laws.proofs.FlightFolds.{NewSenders}
 pub use Rattle.line_laws.specs.Keyed.{IsCoordinatorAddress, AtHome}
 
 -- # Homes
@@ -79,7 +78,7 @@ module _ (w v : World) (given more : List Issued) (k : Keyed w given) (kv : Keye
   new_home f t = if_parts (nonce_parts f) (λ p. HasAddress v f.from p.from) (λ p. IsCoordinatorAddress kv.book v f.from p.from) (λ p. home_of f.from p.from) t
 
   pub later_homes : KeepsFlights w.flights v.flights → All (λ (f : Flight). f.from < length w.nodes) w.flights → All (AtHome k.book w) w.flights
-      → NewSenders w v → All (AtHome kv.book v) v.flights
+      → All (HasSender v) (drop (length w.flights) v.flights) → All (AtHome kv.book v) v.flights
   later_homes keeps from home new =
       all_homes (λ f. (f.from < length w.nodes) × AtHome k.book w f) (AtHome kv.book v) old_home w.flights v.flights keeps
       (all_both (λ (f : Flight). f.from < length w.nodes) (AtHome k.book w) w.flights from home)

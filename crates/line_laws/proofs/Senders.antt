@@ -1,12 +1,12 @@
--- The letters that a node sends have the address that the node has after it sent them.
+-- The letters that a node sends have the address that the node has after it sent them, and are under the key that it seals with then.
 use Rattle.std.proofs.Common.{◌≡◌, ℕ, ◌+◌, List, [], ◌∷◌, ◌++◌, ⊎_elim, Option, Some, None, Result, refl}
-use Rattle.std.specs.Option.{option_map, option_map_or}
+use Rattle.std.specs.Option.{option_and_then, option_map_or}
 use Rattle.plc_base.specs.declared.address.Eui.{Eui}
 use Rattle.plc_base.specs.declared.key.Key.{Key}
 use Rattle.plc_base.specs.Grant.{Granted}
 use Rattle.group_keys.specs.KeyRing as ring
-use Rattle.node_rules.specs.Frames.{Sent, Sealed, Up, Down}
-use Rattle.node_rules.specs.Memory.{Memory, Node, address_of, node_address}
+use Rattle.node_rules.specs.Frames.{SealedUnit, Sent, Sealed, Up, Down}
+use Rattle.node_rules.specs.Memory.{Memory, Node}
 use Rattle.node_rules.specs.Plans.{Plan, carry_out, resting}
 use Rattle.node_rules.specs.Drafts.{Draft, Ends, UnsealedUnit, sealed_units, sealed_by, sealing_key}
 use Rattle.node_rules.specs.MemoryDrafts.{in_memory}
@@ -18,43 +18,56 @@ use Rattle.line_laws.proofs.Made.{RingWord, Given}
 use Rattle.line_laws.proofs.MadeIn.{MadeIn}
 use Rattle.line_laws.proofs.Frontiers.{ArePlain, made_in_plain}
 
--- a letter has this address
-abbrev pub IsFrom : Option ℕ → Sent → Type 0
-IsFrom address (Sealed l) = address ≡ Some l.from
-IsFrom address (Up agent from message) = Unit {0}
-IsFrom address (Down from message) = Unit {0}
+-- A letter has the address of a ring, and is under the key that the ring seals with.
+pub record IsOfRing (r : ring.Ring) (l : SealedUnit) : Type 0 where
+  pub granted : Granted
+  pub is : r ≡ Some granted
+  pub from : granted.address ≡ l.from
+  pub key : sealing_key granted ≡ Some l.key
 
-abbrev pub AreFrom : Option ℕ → List Sent → Type 0
-AreFrom address [] = Unit {0}
-AreFrom address (f ∷ fs) = IsFrom address f × AreFrom address fs
+-- the ring of a node, where it runs
+abbrev pub node_ring : Node → ring.Ring
+node_ring x = option_and_then (λ (m : Memory). m.station.ring) x.memory
 
-pub from_append : (address : Option ℕ) (fs gs : List Sent) → AreFrom address fs → AreFrom address gs → AreFrom address (fs ++ gs)
-from_append address [] gs h k = k
-from_append address (f ∷ fs) gs h k = (h.0, from_append address fs gs h.1 k)
+-- a frame is of a ring, where it is sealed
+abbrev pub IsFrom : ring.Ring → Sent → Type 0
+IsFrom r (Sealed l) = IsOfRing r l
+IsFrom r (Up agent from message) = Unit {0}
+IsFrom r (Down from message) = Unit {0}
 
-plain_from : (address : Option ℕ) (fs : List Sent) → ArePlain fs → AreFrom address fs
-plain_from address [] h = tt
-plain_from address (Sealed l ∷ fs) h = absurd h
-plain_from address (Up agent from message ∷ fs) h = (tt, plain_from address fs h)
-plain_from address (Down from message ∷ fs) h = (tt, plain_from address fs h)
+abbrev pub AreFrom : ring.Ring → List Sent → Type 0
+AreFrom r [] = Unit {0}
+AreFrom r (f ∷ fs) = IsFrom r f × AreFrom r fs
 
-sealed_units_from : (g : Granted) (key : Key) (first : ℕ) (units : List UnsealedUnit) → AreFrom (Some g.address) (sealed_units g key first units)
-sealed_units_from g key first [] = tt
-sealed_units_from g key first (o ∷ rest) = (refl, sealed_units_from g key (first + 1) rest)
+pub from_append : (r : ring.Ring) (fs gs : List Sent) → AreFrom r fs → AreFrom r gs → AreFrom r (fs ++ gs)
+from_append r [] gs h k = k
+from_append r (f ∷ fs) gs h k = (h.0, from_append r fs gs h.1 k)
 
-pub sealed_from : (r : ring.Ring) (first : ℕ) (units : List UnsealedUnit) → AreFrom (option_map (λ (g : Granted). g.address) r) (sealed_by r first units)
+plain_from : (r : ring.Ring) (fs : List Sent) → ArePlain fs → AreFrom r fs
+plain_from r [] h = tt
+plain_from r (Sealed l ∷ fs) h = absurd h
+plain_from r (Up agent from message ∷ fs) h = (tt, plain_from r fs h)
+plain_from r (Down from message ∷ fs) h = (tt, plain_from r fs h)
+
+sealed_units_from : (g : Granted) (key : Key) → sealing_key g ≡ Some key → (first : ℕ) (units : List UnsealedUnit)
+    → AreFrom (Some g) (sealed_units g key first units)
+sealed_units_from g key is first [] = tt
+sealed_units_from g key is first (o ∷ rest) =
+    (record { granted = g; is = refl; from = refl; key = is }, sealed_units_from g key is (first + 1) rest)
+
+pub sealed_from : (r : ring.Ring) (first : ℕ) (units : List UnsealedUnit) → AreFrom r (sealed_by r first units)
 sealed_from None first units = tt
-sealed_from (Some g) first units = by_key (sealing_key g)
+sealed_from (Some g) first units = by_key (sealing_key g) refl
   where
-    by_key : (key : Option Key) → AreFrom (Some g.address) (option_map_or (λ k. sealed_units g k first units) key [])
-    by_key None = tt
-    by_key (Some key) = sealed_units_from g key first units
+    by_key : (key : Option Key) → sealing_key g ≡ key → AreFrom (Some g) (option_map_or (λ k. sealed_units g k first units) key [])
+    by_key None is = tt
+    by_key (Some key) is = sealed_units_from g key is first units
 
--- a plan that is made of words: its letters have the address of the ring that is left
+-- a plan that is made of words: its letters are of the ring that is left
 pub plan_from : {H F : Type 0} (W : RingWord → Type 0) (L : Granted → Type 0) (P : Eui → Key → Type 0) (E : Eui → Type 0) (g : Given) (m : Memory)
     (ends : Ends F) (K : Memory → H → Type 0) (D : Draft Memory → H → Type 0)
     → ((d : Draft Memory) (answer : H) → D d answer → MadeIn W L P E g m d) → (p : Plan Memory (Result H F)) → Planned in_memory ends m K D p
-    → AreFrom (address_of p.memory.station) p.frames
+    → AreFrom p.memory.station.ring p.frames
 unfolding resting
 plan_from W L P E g m ends K D made p (Refuses reason) = tt
 plan_from W L P E g m ends K D made p (Keeps n answer k) = tt
@@ -63,14 +76,14 @@ plan_from W L P E g m ends K D made p (Ended d answer done left) =
     (sealed_from d.memory.station.ring d.memory.station.counter.next d.units)
 
 pub acts_from : {A : Type 0} (x : Node) (halted : A) (plan : Memory → Plan Memory A)
-    → ((m : Memory) → x.memory ≡ Some m → AreFrom (address_of (plan m).memory.station) (plan m).frames)
-    → AreFrom (node_address (acts x halted plan).node) (acts x halted plan).frames
+    → ((m : Memory) → x.memory ≡ Some m → AreFrom (plan m).memory.station.ring (plan m).frames)
+    → AreFrom (node_ring (acts x halted plan).node) (acts x halted plan).frames
 unfolding acts
 acts_from {A = A} x halted plan f = by_memory x.memory refl
   where
     by_memory : (o : Option Memory) → x.memory ≡ o
         → let d : NodeStep A = option_map_or (λ m. left_by x (carry_out x.store.records x.store.cut (plan m))) o (stays x halted) in
-        AreFrom (node_address d.node) d.frames
+        AreFrom (node_ring d.node) d.frames
     by_memory None e = tt
     by_memory (Some m) e = ⊎_elim
         (λ (w : IsWhole x.store.records x.store.cut (plan m) (carry_out x.store.records x.store.cut (plan m))). rw (w.memory, w.frames) (f m e))

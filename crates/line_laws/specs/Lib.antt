@@ -34,3 +34,4 @@ pub mod CheckHistories
 pub mod StepsTaken
 pub mod OnePlan
 pub mod Invariant
+pub mod OwnKeys

@@ -17,7 +17,6 @@ use Rattle.line_events.specs.Events.{IsEvent}
 use Rattle.line_rules.specs.Forgery.{AcceptsSealed, IsForged}
 use Rattle.line_rules.specs.Further.{line_step}
 use Rattle.line_rules.specs.Logs.{LogsKept}
-use Rattle.line_rules.specs.Nonces.{HasSender}
 use Rattle.line_rules.specs.Runs.{Entry, one_of}
 use Rattle.line_rules.specs.Steps.{Step}
 use Rattle.line_rules.specs.Traces.{Adds, IsTracedRight}
@@ -26,15 +25,16 @@ use Rattle.line_laws.specs.Keyed.{Keyed}
 use Rattle.line_laws.specs.Lines.{FlightFits, WorldOk}
 use Rattle.line_laws.specs.Live.{FlightsFall, admits, is_live, marks_of}
 use Rattle.line_laws.specs.Owed.{KeepsRanges}
+use Rattle.line_laws.specs.OwnKeys.{HasOwn}
 use Rattle.line_laws.specs.Shut.{ShutAt}
 use Rattle.line_laws.specs.Stores.{IsBookKept}
 use Rattle.line_laws.specs.Tags.{TagsOk}
 
 -- # Senders
 
--- the flights that a step adds have in their sender field the address that their node has after it
+-- the flights that a step adds have in their sender field the address that their node has after it, and are under the key that it seals with then
 abbrev pub SendersIn : World → Step → Type 0
-SendersIn w (Ok r) = All (HasSender r.0) (drop (length w.flights) r.0.flights)
+SendersIn w (Ok r) = All (HasOwn r.0) (drop (length w.flights) r.0.flights)
 SendersIn w (Err fault) = Unit {0}
 
 abbrev pub LineSendersAreRight : Type 0

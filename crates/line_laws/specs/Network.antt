@@ -21,6 +21,7 @@ use Rattle.line_laws.specs.Invariant.{HoldsThroughout}
 use Rattle.line_laws.specs.Kicked.{ShutOutStaysOut}
 use Rattle.line_laws.specs.Laws.{FlightsAreOctets, StoresAreReadable}
 use Rattle.line_laws.specs.Loops.{AreLoopFree, RestartsEndRoutes}
+use Rattle.line_laws.specs.OwnKeys.{AreUnderOwnKeys}
 use Rattle.line_laws.specs.ReachTraces.{AreReachReported, ListsBroadcasts}
 use Rattle.line_laws.specs.StepsTaken.{AreStepsTaken}
 use Rattle.line_laws.specs.Tags.{SendsHaveOctets, TagsRise}
@@ -40,6 +41,7 @@ pub record IsRight (entries : List Entry) : Type 0 where
   pub rises : CountersRise entries
   pub spelled : AreSpelled network entries
   pub senders : AreAddressed start entries
+  pub own : AreUnderOwnKeys start entries
   pub apart : AreApart entries
   pub nonces : NoncesDiffer entries
   pub marks : MarksAlwaysRise start entries

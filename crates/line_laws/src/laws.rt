@@ -16,6 +16,7 @@ ghost use Rattle.line_laws.specs.Loops.{EveryRestartEndsRoutes, EveryRunIsLoopFr
 ghost use Rattle.line_laws.specs.Network.{EveryNetworkRunIsRight, EveryRunIsSafe, LastFlightsSayAll};
 ghost use Rattle.line_laws.specs.Once.{EveryFrameIsAcceptedOnce, EveryNodeAcceptsOnce};
 ghost use Rattle.line_laws.specs.Owed.{KeepsRanges};
+ghost use Rattle.line_laws.specs.OwnKeys.{EveryKeyIsOwn};
 ghost use Rattle.line_laws.specs.Reach.{EveryBroadcastIsOnce, EveryHistoryIsKept, EveryLogIsKept, EveryWalkWasTaken};
 ghost use Rattle.line_laws.specs.ReachTraces.{EveryBroadcastIsListed, EveryEventIsReported};
 ghost use Rattle.line_laws.specs.StepsTaken.{EveryStepIsTaken};
@@ -174,6 +175,13 @@ pub fn every_forgery_is_reported()
 #[tactic(auto)]
 pub fn every_sender_is_right()
     ensures { EverySenderIsRight }
+{}
+
+/// In every run of the network, forged or not, over restarts and failed writes: each sealed flight is under the key that its node seals with after the event
+/// that sent it, the one at the active index of its ring.
+#[tactic(auto)]
+pub fn every_key_is_own()
+    ensures { EveryKeyIsOwn }
 {}
 
 /// In every run, before its first forged event, no two nodes have one address.

@@ -11,7 +11,8 @@ use Rattle.line_laws.proofs.FurtherUps.{every_up}
 use Rattle.line_laws.proofs.KeyedRuns.{every_address, every_fall, every_joining, every_nonce, only_issued}
 use Rattle.line_laws.proofs.HoldsRuns.{every_run_throughout}
 use Rattle.line_laws.proofs.KickRuns.{every_kick, every_shut_out}
-use Rattle.line_laws.proofs.LawRuns.{every_count, every_counter, every_forgery, every_mark, every_restart, every_store, every_restart_ends, every_send}
+use Rattle.line_laws.proofs.LawRuns.{every_key_own, every_count, every_counter, every_forgery, every_mark, every_restart, every_store, every_restart_ends}
+use Rattle.line_laws.proofs.LawRuns.{every_send}
 use Rattle.line_laws.proofs.LawRuns.{every_sender, every_spelling, every_tag, every_trace}
 use Rattle.line_laws.proofs.OnceRuns.{every_frame, every_node}
 use Rattle.line_laws.proofs.ReachHistory.{every_history}
@@ -33,6 +34,7 @@ returns c = λ entries run. record {
   rises = every_counter network network_ranges entries run (every_flight entries run);
   spelled = every_spelling network network_ranges entries run (every_flight entries run);
   senders = every_sender network network_ranges entries run (every_flight entries run);
+  own = every_key_own entries run;
   apart = every_address network network_ranges entries run (every_flight entries run);
   nonces = every_nonce network network_ranges entries run (every_flight entries run);
   marks = every_mark network network_ranges entries run (every_flight entries run);
