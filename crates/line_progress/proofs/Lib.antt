@@ -22,3 +22,5 @@ pub mod Silence
 pub mod NodeUps
 pub mod MuteEvents
 pub mod EventReports
+pub mod HeldKept
+pub mod HeldEvents
