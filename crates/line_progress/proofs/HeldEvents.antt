@@ -26,9 +26,9 @@ use Rattle.line_events.specs.declared.event.Event.TheVariants as events
 use Rattle.line_events.specs.declared.event.StepFault.TheVariants as faults
 use Rattle.line_rules.specs.Answers.{sent_word}
 use Rattle.line_rules.specs.Further.{asks_by, bcast, beside_at, checks, choose, chooses_by, line_step, path, scan, scans_by}
-use Rattle.line_rules.specs.Steps as steps
 use Rattle.line_rules.specs.Steps.{Step, activate, allow, allowed, breaks, breaks_by, challenge, coordinator, cut, depot, depot_by, has_begun}
-use Rattle.line_rules.specs.Steps.{identity, is_known, join, joins_by as node_joins_by, kick, lose, meter, near, near_by, node_outcome, preset, provisioned, psk_of, rand, rekey}
+use Rattle.line_rules.specs.Steps.{identity, is_known, join, joins_by as node_joins_by, kick, lose, meter}
+use Rattle.line_rules.specs.Steps.{near, near_by, node_outcome, preset, provisioned, psk_of, rand, rekey}
 use Rattle.line_rules.specs.Steps.{running_world, send, sends_by, sent_if, set_up, show, tag_of, takes_setup, world_after}
 use Rattle.line_rules.specs.Worlds.{World, Trace, node_at}
 use Rattle.line_progress.specs.Held.{KeepsHeld, EventsKeepHeld, may_end_held}
@@ -162,7 +162,8 @@ module _ (ciphers : Ciphers) (w : World) where
   preset_kept : (number : ℕ) (plan : StationMemory → calls.Presetting) → ((l : StationMemory) → PlanKeeps alone l (plan l))
       → Kept (preset ciphers w number plan)
   preset_kept number plan keeps =
-      setup Keeps w _ (at_node Keeps w number _ (λ x e. Taken _ (after_keeps (set_up w) number x _ as_before e (acts_keep x _ _ (λ m. (keeps m.station).held)))))
+      setup Keeps w _ (at_node Keeps w number _ (λ x e. Taken _ (after_keeps (set_up w) number x _ as_before e (acts_keep x _ _ (λ m.
+      (keeps m.station).held)))))
 
   checks_kept : Kept (checks w)
   unfolding checks
@@ -178,12 +179,14 @@ module _ (ciphers : Ciphers) (w : World) where
   rand_kept : (number : ℕ) (value : Rand) → Kept (rand ciphers w number value)
   unfolding rand
   rand_kept number value =
-      once Keeps w _ (at_node Keeps w number _ (λ x e. Taken _ (after_keeps (running_world w) number x _ as_before e (acts_keep x _ _ (λ m. (random_keeps m value).held)))))
+      once Keeps w _ (at_node Keeps w number _ (λ x e. Taken _ (after_keeps (running_world w) number x _ as_before e (acts_keep x _ _ (λ m.
+      (random_keeps m value).held)))))
 
   joins_kept : (number : ℕ) (x : Node) (agent : Option ℕ) (psk : Option Key) → node_at w number ≡ Some x → Keeps (node_joins_by ciphers w number x agent psk)
   joins_kept number x None psk e = as_before
   joins_kept number x (Some agent) None e = as_before
-  joins_kept number x (Some agent) (Some psk) e = after_keeps (running_world w) number x _ as_before e (acts_keep x _ _ (λ m. (join_keeps m (identity ciphers x psk) agent w.clock).held))
+  joins_kept number x (Some agent) (Some psk) e =
+      after_keeps (running_world w) number x _ as_before e (acts_keep x _ _ (λ m. (join_keeps m (identity ciphers x psk) agent w.clock).held))
 
   join_kept : (number agent : ℕ) → Kept (join ciphers w number agent)
   unfolding join
@@ -199,7 +202,8 @@ module _ (ciphers : Ciphers) (w : World) where
   sends_kept from to datagram x None e = as_before
   sends_kept from to datagram x (Some address) e =
       sent_keeps from to datagram (tag_of x) _ (node_outcome ciphers w from (answering sent_word
-      (acts x (Err refusals.Halted) (λ m. of_station m (calls.send m.station address datagram (w.sends + 1) w.clock))))) (after_keeps (running_world w) from x _ as_before e (acts_keep x _ _ (λ m. (send_keeps m.station address datagram (w.sends + 1) w.clock).held)))
+      (acts x (Err refusals.Halted) (λ m. of_station m (calls.send m.station address datagram (w.sends + 1) w.clock))))) (after_keeps
+      (running_world w) from x _ as_before e (acts_keep x _ _ (λ m. (send_keeps m.station address datagram (w.sends + 1) w.clock).held)))
 
   send_kept : (from to : ℕ) (datagram : List ℕ) → Kept (send ciphers w from to datagram)
   unfolding send
@@ -232,7 +236,9 @@ module _ (ciphers : Ciphers) (w : World) where
 
   rekey_kept : (index : ℕ) (key : Key) → Kept (rekey ciphers w index key)
   unfolding rekey
-  rekey_kept index key = once Keeps w _ (at_node Keeps w 0 _ (λ c e. Taken _ (after_keeps (running_world w) 0 c _ as_before e (acts_keep c _ _ (λ m. (rekey_keeps m index key).held)))))
+  rekey_kept index key =
+      once Keeps w _ (at_node Keeps w 0 _ (λ c e. Taken _ (after_keeps (running_world w) 0 c _ as_before e (acts_keep c _ _ (λ m.
+      (rekey_keeps m index key).held)))))
 
   challenge_kept : (number : ℕ) → Kept (challenge ciphers w number)
   unfolding challenge
@@ -254,7 +260,8 @@ module _ (ciphers : Ciphers) (w : World) where
   kick_kept : (number : ℕ) → Kept (kick ciphers w number)
   unfolding kick
   kick_kept number =
-      once Keeps w _ (at_meter Keeps w number _ (λ x e. at_node Keeps w 0 _ (λ c f. Taken _ (after_keeps (running_world w) 0 c _ as_before f (acts_keep c _ _ (λ m. (kick_keeps m x.eui).held))))))
+      once Keeps w _ (at_meter Keeps w number _ (λ x e. at_node Keeps w 0 _ (λ c f. Taken _ (after_keeps (running_world w) 0 c _ as_before f
+      (acts_keep c _ _ (λ m. (kick_keeps m x.eui).held))))))
 
   -- # Further reach
 

@@ -14,11 +14,13 @@ use Rattle.joining_messages.specs.declared.message.JoinMessage.{JoinMessage}
 use Rattle.eap_psk.specs.declared.server.Server.{Server}
 use Rattle.node_rules.specs.Calls as calls
 use Rattle.node_rules.specs.Coordinators as coordinator_rules
+use Rattle.node_rules.specs.Coordinators.{orders}
 use Rattle.node_rules.specs.Drafts.{Draft, Ends, StationPlace, alone, body_goes, checked, choose, counters_left, empty_draft, goes, is_awaited, refused, sealed}
 use Rattle.node_rules.specs.Drafts.{sealing, seeks, seeks_once, sets_out, waits, with_next_tag, with_own_number, with_rank, with_ring}
 use Rattle.node_rules.specs.Joining.{command_of, server_for}
 use Rattle.node_rules.specs.Memory.{StationMemory, Memory, Load, Body, Datagram, Command, address_of, next_hop}
-use Rattle.node_rules.specs.MemoryDrafts.{give_random, given_ends, goes_up, in_memory, is_commanded, oldest, on_station, station_part, with_memory_by, with_station}
+use Rattle.node_rules.specs.MemoryDrafts.{give_random, given_ends, goes_up, in_memory, is_commanded}
+use Rattle.node_rules.specs.MemoryDrafts.{oldest, on_station, station_part, with_memory_by, with_station}
 use Rattle.node_rules.specs.Meters as meters
 use Rattle.node_rules.specs.NodeSteps.{changing}
 use Rattle.node_rules.specs.Plans.{Plan, resting}
@@ -140,7 +142,8 @@ commands_keep to now message d = by_address (address_of d.memory.station)
 -- # Calls of a station
 
 module _ (l : StationMemory) where
-  seals_it : {H E : Type 0} (ends : Ends E) (d : Draft StationMemory) (answer : H) → KeepsHeld l d.memory → PlanKeeps {A = Result H E} alone l (sealing alone ends d answer)
+  seals_it : {H E : Type 0} (ends : Ends E) (d : Draft StationMemory) (answer : H) → KeepsHeld l d.memory
+      → PlanKeeps {A = Result H E} alone l (sealing alone ends d answer)
   seals_it ends d answer k = seals alone (λ l m. refl) l ends d answer (record { held = k })
 
   by_size : (b : Bool) → KeepsHeld l (if b then empty_draft l else with_next_tag (empty_draft l)).memory
@@ -175,7 +178,8 @@ module _ (l : StationMemory) where
   ranked to cost now = held_as l l _ refl refl (same_held l)
 
   pub near_keeps : (to cost now : ℕ) → PlanKeeps alone l (calls.preset_near l to cost now)
-  near_keeps to cost now = by_check alone (λ l m. refl) l calls.presetting_ends (calls.preset_fault l to cost now) _ (seals_it calls.presetting_ends _ _ (ranked to cost now))
+  near_keeps to cost now =
+      by_check alone (λ l m. refl) l calls.presetting_ends (calls.preset_fault l to cost now) _ (seals_it calls.presetting_ends _ _ (ranked to cost now))
 
   ringed : (granted : Granted) → KeepsHeld l (with_ring (Some granted) (empty_draft l)).memory
   unfolding with_ring empty_draft
@@ -215,7 +219,8 @@ module _ (m : Memory) where
   random_keeps value = by_choice in_memory m _ _ _ (refuses_it given_ends _) (seals_so given_ends _ _ (changes_beside _ refl))
 
   pub join_keeps : (x : meters.Identity) (agent now : ℕ) → PlanKeeps in_memory m (meters.join x m agent now)
-  join_keeps x agent now = by_choice in_memory m _ _ _ (refuses_it meters.joining_ends _) (seals_so meters.joining_ends _ _ (asked_up agent _ _ _ (changes_beside _ refl)))
+  join_keeps x agent now =
+      by_choice in_memory m _ _ _ (refuses_it meters.joining_ends _) (seals_so meters.joining_ends _ _ (asked_up agent _ _ _ (changes_beside _ refl)))
 
   pub broke_keeps : (answer : Answer) (next : ℕ) → PlanKeeps in_memory m (changing answer (with_station (calls.broke next m.station) m))
   unfolding resting
@@ -238,45 +243,48 @@ module _ (m : Memory) where
   pub allow_keeps : (eui : Eui) (psk : Key) → PlanKeeps in_memory m (coordinator_rules.allow m eui psk)
   allow_keeps eui psk =
       let e : BookEntry = book.allowed_entry eui psk (book.entry_for m.book eui) in
-      by_choice in_memory m _ _ _ (seals_so coordinator_rules.orders _ _ (by_change e (coordinator_rules.changes m e))) (refuses_it coordinator_rules.orders _)
+      by_choice in_memory m _ _ _ (seals_so orders _ _ (by_change e (coordinator_rules.changes m e))) (refuses_it orders _)
 
   depot_by_keeps : (eui : Eui) (psk : Key) (d : Draft Memory) → DraftKeeps in_memory m d → PlanKeeps in_memory m (coordinator_rules.depot_by m eui psk d)
   depot_by_keeps eui psk d k =
       by_option in_memory m _ (coordinator_rules.grant_for d.memory eui) _
-      (λ granted. by_option in_memory m _ (book.allowed_one d.memory.book eui) _ (λ e. seals_so coordinator_rules.orders _ _ (booked _ d k)) (refuses_it coordinator_rules.orders _)) (refuses_it coordinator_rules.orders _)
+      (λ granted. by_option in_memory m _ (book.allowed_one d.memory.book eui) _ (λ e. seals_so orders _ _ (booked _ d k)) (refuses_it orders _))
+      (refuses_it orders _)
 
   pub depot_keeps : (eui : Eui) (psk : Key) → PlanKeeps in_memory m (coordinator_rules.depot m eui psk)
   depot_keeps eui psk =
       let e : BookEntry = book.allowed_entry eui psk (book.entry_for m.book eui) in
-      by_choice in_memory m _ _ _ (depot_by_keeps eui psk _ (by_change e (coordinator_rules.changes m e))) (refuses_it coordinator_rules.orders _)
+      by_choice in_memory m _ _ _ (depot_by_keeps eui psk _ (by_change e (coordinator_rules.changes m e))) (refuses_it orders _)
 
   rings_so : (r : Option Granted) → DraftKeeps in_memory m (on_station (with_ring r) (empty_draft m))
   unfolding on_station with_ring empty_draft
   rings_so r = record { held = held_as m.station m.station _ refl refl (same_held m.station) }
 
   pub rekey_keeps : (index : ℕ) (key : Key) → PlanKeeps in_memory m (coordinator_rules.rekey m index key)
-  rekey_keeps index key = by_choice in_memory m _ _ _ (refuses_it coordinator_rules.orders _) (seals_so coordinator_rules.orders _ _ (rings_so _))
+  rekey_keeps index key = by_choice in_memory m _ _ _ (refuses_it orders _) (seals_so orders _ _ (rings_so _))
 
   pub activate_self_keeps : (index : ℕ) → PlanKeeps in_memory m (coordinator_rules.activate_self m index)
-  activate_self_keeps index = by_choice in_memory m _ _ _ (seals_so coordinator_rules.orders _ _ (rings_so _)) (refuses_it coordinator_rules.orders _)
+  activate_self_keeps index = by_choice in_memory m _ _ _ (seals_so orders _ _ (rings_so _)) (refuses_it orders _)
 
   ordered : (to now : ℕ) (message : JoinMessage) (d : Draft Memory) → DraftKeeps in_memory m d → DraftKeeps in_memory m (is_commanded to message now d)
   ordered to now message d k = record { held = held_on m.station d.memory.station _ k.held (commands_keep to now message d) }
 
   challenge_by_keeps : (own : Eui) (to now : ℕ) (server : Server) → PlanKeeps in_memory m (coordinator_rules.challenge_by own m to now server)
-  challenge_by_keeps own to now server = if_right coordinator_rules.orders _ _ (ends_it coordinator_rules.orders _ _ (ordered to now _ _ (changes_beside _ refl)))
+  challenge_by_keeps own to now server = if_right orders _ _ (ends_it orders _ _ (ordered to now _ _ (changes_beside _ refl)))
 
   pub challenge_keeps : (own eui : Eui) (now : ℕ) → PlanKeeps in_memory m (coordinator_rules.challenge own m eui now)
   challenge_keeps own eui now =
       by_option in_memory m _ (coordinator_rules.allowed_address m eui) _
-      (λ to. if_right coordinator_rules.orders _ _ (by_option in_memory m _ (oldest m) _ (λ value. challenge_by_keeps own to now (server_for eui own value)) (refuses_it coordinator_rules.orders _))) (refuses_it coordinator_rules.orders _)
+      (λ to. if_right orders _ _ (by_option in_memory m _ (oldest m) _ (λ value. challenge_by_keeps own to now (server_for eui own value))
+      (refuses_it orders _))) (refuses_it orders _)
 
   pub activate_keeps : (eui : Eui) (index now : ℕ) → PlanKeeps in_memory m (coordinator_rules.activate m eui index now)
   activate_keeps eui index now =
       by_option in_memory m _ (coordinator_rules.allowed_entry m eui) _
       (λ e. by_option in_memory m _ (book.address_of m.book eui) _
-      (λ to. by_choice in_memory m _ _ _ (if_right coordinator_rules.orders _ _ (ends_it coordinator_rules.orders _ _ (ordered to now _ _ (begun_memory m)))) (refuses_it coordinator_rules.orders _)) (refuses_it coordinator_rules.orders _))
-      (refuses_it coordinator_rules.orders _)
+      (λ to. by_choice in_memory m _ _ _ (if_right orders _ _ (ends_it orders _ _ (ordered to now _ _ (begun_memory m)))) (refuses_it orders _))
+      (refuses_it orders _))
+      (refuses_it orders _)
 
   kick_goes_keeps : (to : ℕ) (message : JoinMessage) (d : Draft Memory) → DraftKeeps in_memory m d → (b : Bool)
       → DraftKeeps in_memory m (if b then is_commanded to message 0 d else d)
@@ -287,8 +295,8 @@ module _ (m : Memory) where
   kick_keeps eui =
       by_option in_memory m _ (coordinator_rules.allowed_entry m eui) _
       (λ e. by_option in_memory m _ (book.address_of m.book eui) _
-      (λ to. seals_so coordinator_rules.orders _ _ (kick_goes_keeps to _ _
-      (beside_so (coordinator_rules.without_session e.eui) _ (λ n. refl) (booked _ _ (begun_memory m))) _)) (refuses_it coordinator_rules.orders _)) (refuses_it coordinator_rules.orders _)
+      (λ to. seals_so orders _ _ (kick_goes_keeps to _ _
+      (beside_so (coordinator_rules.without_session e.eui) _ (λ n. refl) (booked _ _ (begun_memory m))) _)) (refuses_it orders _)) (refuses_it orders _)
 
 -- # Calls of further reach
 
@@ -322,7 +330,8 @@ module _ (x : Reaching Memory) where
 
   pub asks_keep : (target : ℕ) → PlanKeeps there x (asking.ask_path in_memory x target)
   asks_keep target =
-      by_option there x _ (address_of x.memory.station) _ (λ own. by_choice there x _ _ _ (stops asking.ask_ends _) (asks_by_keeps own target _)) (stops asking.ask_ends _)
+      by_option there x _ (address_of x.memory.station) _ (λ own. by_choice there x _ _ _ (stops asking.ask_ends _) (asks_by_keeps own target _))
+      (stops asking.ask_ends _)
 
   joins_keep : (own : meters.Identity) (now : ℕ) (o : Option (ℕ × ℕ)) → PlanKeeps there x (beacons.joins_by own x now o)
   joins_keep own now None = stops beacons.choosing_ends _
