@@ -40,10 +40,10 @@ use Rattle.line_progress.proofs.HeldKept.{broadcast_keeps, asks_keep, broke_keep
 
 -- # Nodes
 
-abbrev station_of : Node → Option StationMemory
+abbrev pub station_of : Node → Option StationMemory
 station_of x = option_map (λ (m : Memory). m.station) x.memory
 
-abbrev held_at : List Node → ℕ → Option StationMemory
+abbrev pub held_at : List Node → ℕ → Option StationMemory
 held_at xs number = option_and_then station_of (slice_get xs number)
 
 -- a node that runs before and after holds all that it held; and so do all nodes

@@ -24,3 +24,4 @@ pub mod MuteEvents
 pub mod EventReports
 pub mod HeldKept
 pub mod HeldEvents
+pub mod HeldElsewhere

@@ -1,5 +1,5 @@
 -- What most events leave of what waits and what is held.
-use Rattle.std.specs.Prelude.{◌≡◌, ℕ, Bool, true, false, List, ◌++◌, Some, Ok}
+use Rattle.std.specs.Prelude.{◌≡◌, ◌≢◌, ℕ, Bool, true, false, List, ◌++◌, Some, Ok}
 use Rattle.node_rules.specs.Ciphers.{Ciphers}
 use Rattle.node_rules.specs.Memory.{StationMemory, Body}
 use Rattle.line_events.specs.declared.event.Event.{Event}
@@ -28,3 +28,19 @@ abbrev pub EventsKeepHeld : Type 0
 EventsKeepHeld =
     (ciphers : Ciphers) (w v : World) (event : Event) (d : Trace) → may_end_held event ≡ false → line_step ciphers w event ≡ Ok (v, d)
     → (number : ℕ) (l now : StationMemory) → station_at w number ≡ Some l → station_at v number ≡ Some now → KeepsHeld l now
+
+-- # Other nodes
+
+-- the event is one of these five kinds but `tick`, at another node
+abbrev pub IsElsewhere : Event → ℕ → Type 0
+IsElsewhere (events.Leave node) number = number ≢ node
+IsElsewhere (events.Deliver flight node cost) number = number ≢ node
+IsElsewhere (events.Inject node cost octets) number = number ≢ node
+IsElsewhere (events.Restart node) number = number ≢ node
+IsElsewhere _ number = ⊥
+
+-- Such an event leaves a node as it is.
+abbrev pub EventsLeaveOthers : Type 0
+EventsLeaveOthers =
+    (ciphers : Ciphers) (w v : World) (event : Event) (d : Trace) → line_step ciphers w event ≡ Ok (v, d)
+    → (number : ℕ) → IsElsewhere event number → station_at v number ≡ station_at w number
