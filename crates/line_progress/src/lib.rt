@@ -1,4 +1,4 @@
-//! That a datagram arrives where links hold: laws over the definitions of `line_rules`.
+//! What one step or one event does to a datagram, and that it arrives where links hold: laws over the definitions of `line_rules`.
 #![tactic(auto)]
 
 mod laws;
