@@ -22,3 +22,6 @@ pub mod Silence
 pub mod NodeUps
 pub mod MuteEvents
 pub mod EventReports
+pub mod HeldKept
+pub mod HeldEvents
+pub mod HeldElsewhere

@@ -85,8 +85,8 @@ module _ (ciphers : Ciphers) (x : Node) (got : Accepted) (cost note now : ℕ) w
         let own : coordinator_rules.CoordinatorIdentity = record { eui = x.eui; ciphers = ciphers } in
         let is : coordinator_rules.hear_coordinator own m got cost note now ≡ coordinator_rules.hear_join_in own m u.way (join_in u.body) now =
         λ i. coordinator_rules.heard_by own m now plan_of (some i) in
-        silent_step coordinator_reception _ _
-        (subst (λ p. IsSilent coordinator_reception p) (sym is) (coordinators_are_silent own m now u.way (join_in u.body)))
+        silent_step coordinator_reception _ _ (subst (λ p. IsSilent coordinator_reception p) (sym is) (coordinators_are_silent own m now u.way
+        (join_in u.body)))
         (acts_either y m (Err drops.Store) (λ n. coordinator_rules.hear_coordinator own n got cost note now) runs)
 
     by_receives : Receives plan_of (hearing_step ciphers x got cost note now) → IsUpOf plan_of (hearing_step ciphers x got cost note now).answer.up

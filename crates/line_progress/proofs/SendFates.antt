@@ -15,10 +15,10 @@ use Rattle.line_progress.specs.SendFates.{SendFate, WentOut, Waits, Refused, Sen
 -- # Setting out
 
 module _ (own to note : ℕ) (load : Load) (now : ℕ) (d : Draft StationMemory) where
-  sets_some : (hop : ℕ) → next_hop d.memory to ≡ Some hop → sets_out own to note load now d ≡ body_goes own hop to note load d
+  pub sets_some : (hop : ℕ) → next_hop d.memory to ≡ Some hop → sets_out own to note load now d ≡ body_goes own hop to note load d
   sets_some hop e = rw e refl
 
-  sets_none : next_hop d.memory to ≡ None → sets_out own to note load now d ≡ waits to note load now (seeks_once own to d)
+  pub sets_none : next_hop d.memory to ≡ None → sets_out own to note load now d ≡ waits to note load now (seeks_once own to d)
   sets_none e = rw e refl
 
   sought : (b : Bool) → (if b then d else seeks own to d).memory.waiting ≡ d.memory.waiting
@@ -26,7 +26,7 @@ module _ (own to note : ℕ) (load : Load) (now : ℕ) (d : Draft StationMemory)
   sought true = refl
   sought false = refl
 
-  seeks_keeps : (seeks_once own to d).memory.waiting ≡ d.memory.waiting
+  pub seeks_keeps : (seeks_once own to d).memory.waiting ≡ d.memory.waiting
   unfolding seeks_once
   seeks_keeps = sought (is_awaited d.memory to)
 

@@ -88,8 +88,8 @@ module _ (r : Reassembly) (ps : List PlacedPiece) (p : PlacedPiece) (are : r.pie
       let reads = whole_reads r octets whole in
       let size = reads.0 in
       let at = reads.1 (p.start + i) (omega (arith, inside, size)) in
-      by_k at.0 (subst (λ xs. at.0 < length xs) are at.1)
-      (subst (λ xs. octet_of (get_or xs at.0 no_piece) (p.start + i) ≡ slice_get octets (p.start + i)) are at.2)
+      by_k at.0 (subst (λ xs. at.0 < length xs) are at.1) (subst (λ xs. octet_of (get_or xs at.0 no_piece) (p.start + i) ≡ slice_get octets
+      (p.start + i)) are at.2)
       (nat_lt at.0 (length ps)) refl
     where
       by_k : (k : ℕ) → k < length (ps ++ p ∷ []) → octet_of (get_or (ps ++ p ∷ []) k no_piece) (p.start + i) ≡ slice_get octets (p.start + i) → (b : Bool)
@@ -124,8 +124,8 @@ module _ (anew : Reassembly) (p : PlacedPiece) (n : ℕ) (octets : List ℕ) (al
       record { r = anew; took = Began refl; datagram = both.0; note = both.1; part = last_part anew [] p alone refl octets both.0 }
 
   by_overlap : (held rest : List Reassembly) (s : Reassembly) → Among s held → same_name anew s ≡ true → (b : Bool) → overlaps s.pieces p ≡ b
-      → (settled (datagram_of (if b then anew else record s { pieces = s.pieces ++ p ∷ [] })) (if b then anew else record s { pieces = s.pieces ++ p ∷ [] })
-      rest).outcome
+      → (settled (datagram_of (if b then anew else record s { pieces = s.pieces ++ p ∷ [] }))
+      (if b then anew else record s { pieces = s.pieces ++ p ∷ [] }) rest).outcome
       ≡ Whole n octets → IsFull held anew p n octets
   by_overlap held rest s among same true o e = begins held rest e
   by_overlap held rest s among same false o e =

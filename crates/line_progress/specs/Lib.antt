@@ -7,3 +7,4 @@ pub mod Stations
 pub mod TimeFates
 pub mod UnitFates
 pub mod Ups
+pub mod Held

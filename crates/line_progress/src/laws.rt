@@ -1,6 +1,7 @@
 //! Laws of progress: each carried by a function that does nothing.
 ghost use Rattle.line_progress.specs.Arrival.{DatagramsArrive};
 ghost use Rattle.line_progress.specs.BodyFates.{BodiesHaveFates, FramesLeaveBodies};
+ghost use Rattle.line_progress.specs.Held.{EventsKeepHeld, EventsLeaveOthers};
 ghost use Rattle.line_progress.specs.PieceFates.{HearingKeepsPieces, PiecesHaveFates};
 ghost use Rattle.line_progress.specs.SendFates.{SendEventsHaveFates, SendsFly, SendsHaveFates};
 ghost use Rattle.line_progress.specs.TimeFates.{TicksHaveFates, TimeComesToAll};
@@ -80,4 +81,15 @@ pub fn datagrams_came()
 /// datagram under the number of the send, or it is the last body that waits.
 pub fn sends_fly()
     ensures { SendsFly }
+{}
+
+/// Whatever power is lost and whatever is forged, in an event that is no `leave`, `deliver`, `inject`, `tick` or `restart` each node that runs
+/// before and after it holds all that it held: what waits has at most more after it, and what is gathered is the same.
+pub fn events_keep_held()
+    ensures { EventsKeepHeld }
+{}
+
+/// Whatever power is lost and whatever is forged, a `leave`, `deliver`, `inject` or `restart` leaves each node but its own as it is.
+pub fn events_leave_others()
+    ensures { EventsLeaveOthers }
 {}
