@@ -172,7 +172,8 @@ class Truth:
         new = [flight_of(int(it[1]), number, int(it[2]), it[3], self.keys) for it in made]
         for it in new:
             self.flights[it.number] = it
-            self.by_octets[it.octets] = it
+            # Plain frames may be equal: then nobody knows whose octets an `inject` has.
+            self.by_octets[it.octets] = it if it.octets not in self.by_octets else None
             if it.unit.get("kind") == "request" and it.unit["origin"] == self.address(it.node):
                 self.requests[it.node, it.unit["sought"]] = it
         for said in entry.said:
@@ -333,7 +334,9 @@ class Truth:
     def about(self, words):
         """The meter that a joining message or an order of this event is about."""
         kind = words[0]
-        source = self.flights.get(int(words[1])) if kind == "deliver" else self.by_octets.get(words[3].lower()) if kind == "inject" else None
+        source = self.flights.get(int(words[1])) if kind == "deliver" else None
+        if kind == "inject" and len(words[3]) >= 2 * PLAIN:
+            source = flight_of(0, 0, 0, words[3].lower(), self.keys)
         if source is not None:
             return self.eui.get(source.unit["eui"]) if source.unit.get("kind") == "joining" else None
         return int(words[1]) if kind in ("join", "choose", "challenge", "activate", "kick", "allow") else None
