@@ -138,7 +138,7 @@ class Truth:
         self.bodies, self.kept, self.requests = [], {}, {}
         self.dones, self.tooks, self.paths, self.obeyed = [], [], [], []
         self.sessions, self.ended_sessions, self.orders = {}, [], []
-        self.waiting_joinings, self.answers, self.forged = [], {}, set()
+        self.waiting_joinings, self.left_joinings, self.answers, self.forged = [], set(), {}, set()
         for entry, (_, line) in zip(self.entries, self.lines):
             self.event(entry, line.split())
 
@@ -369,6 +369,7 @@ class Truth:
             waiting = next((it for it in self.waiting_joinings if it[:2] == (node, meter)), None)
             if meter != maker and waiting:
                 self.waiting_joinings.remove(waiting)
+                self.left_joinings.add(waiting[1:3])
 
     # What a request reached
 
