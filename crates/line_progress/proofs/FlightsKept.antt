@@ -1,5 +1,6 @@
 -- What each kind of event makes of the flights: it adds to them, and `lose` alone changes one.
-use Rattle.std.proofs.Common.{◌≡◌, ◌≢◌, ℕ, zero, suc, ◌+◌, ◌-◌, ◌==◌, Bool, true, false, not, List, [], ◌∷◌, ◌++◌, length, map, Option, Some, None, Result, Ok, Err}
+use Rattle.std.proofs.Common.{◌≡◌, ◌≢◌, ℕ, zero, suc, ◌+◌, ◌-◌, ◌==◌, Bool, true, false, not, List, [], ◌∷◌, ◌++◌, length, map, Option, Some, None, Result}
+use Rattle.std.proofs.Common.{Ok, Err}
 use Rattle.std.proofs.Common.{refl, sym, ap, subst, ◌∙◌, arith}
 use Rattle.std.specs.Prelude.{if◌then◌else◌, is_some, nat_lt, ◌||◌, slice_get, slice_set}
 use Rattle.std.proofs.lemmas.Bool.{eqb-true, eqb-false}
@@ -30,10 +31,13 @@ use Rattle.line_events.specs.declared.event.Event.TheVariants as events
 use Rattle.line_events.specs.declared.event.StepFault.TheVariants as faults
 use Rattle.line_rules.specs.Forgery.{accepting}
 use Rattle.line_rules.specs.Further.{accepted_further, acknowledged, acknowledged_if, asks_by, bcast, checks, choose, chooses_by, comes, delivers, discovers_by}
-use Rattle.line_rules.specs.Further.{further_hearing_outcome, hearing_outcome_by, injects, is_dropped, line_step, path, restarts_by, restarts_further, scan, scans_by}
+use Rattle.line_rules.specs.Further.{further_hearing_outcome, hearing_outcome_by, injects, is_dropped, line_step, path, restarts_by, restarts_further, scan}
+use Rattle.line_rules.specs.Further.{scans_by}
 use Rattle.line_rules.specs.Further.{after_ok, ticks}
-use Rattle.line_rules.specs.Steps.{Step, activate, allow, allowed, breaks, breaks_by, challenge, coordinator, cut, depot, depot_by, flights_of, has_begun, hearing_outcome}
-use Rattle.line_rules.specs.Steps.{hearing_step, is_known, join, joins_by, kick, leave, lose, meter, near, near_by, note_by, preset, psk_of, rand, rekey, running_world, send}
+use Rattle.line_rules.specs.Steps.{Step, activate, allow, allowed, breaks, breaks_by, challenge, coordinator, cut, depot, depot_by, flights_of, has_begun}
+use Rattle.line_rules.specs.Steps.{hearing_outcome}
+use Rattle.line_rules.specs.Steps.{hearing_step, is_known, join, joins_by, kick, leave, lose, meter, near, near_by, note_by, preset, psk_of, rand, rekey}
+use Rattle.line_rules.specs.Steps.{running_world, send}
 use Rattle.line_rules.specs.Steps.{happenings, sends_by, sent_if, set_up, show, takes_setup, tick, ticked, trace_of, world_after}
 use Rattle.line_rules.specs.Worlds.{World, Flight, Trace, flight_at}
 use Rattle.line_progress.specs.EventFates.{FlightFateIn, StillFlies, IsLost, EventsKeepFlights}

@@ -32,3 +32,5 @@ pub mod ReachFails
 pub mod HaltsSaid
 pub mod EventFates
 pub mod FlightsKept
+pub mod PiecesComing
+pub mod PiecesArriving

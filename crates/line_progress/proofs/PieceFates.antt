@@ -11,7 +11,7 @@ pub among_front : {A : Type 0} (x : A) (xs ys : List A) → Among x xs → Among
 among_front x xs ys (Here rest) = Here (rest ++ ys)
 among_front x xs ys (Later y rest more) = Later y (rest ++ ys) (among_front x rest ys more)
 
-same_self : (r : Reassembly) → same_name r r ≡ true
+pub same_self : (r : Reassembly) → same_name r r ≡ true
 same_self r =
     and_from (r.origin == r.origin) ((r.size == r.size) && (r.tag == r.tag)) (eq-eqb r.origin r.origin refl)
     (and_from (r.size == r.size) (r.tag == r.tag) (eq-eqb r.size r.size refl) (eq-eqb r.tag r.tag refl))

@@ -17,16 +17,18 @@ use Rattle.node_rules.specs.declared.heard.Accepted.{Accepted}
 use Rattle.node_rules.specs.declared.heard.Path.TheVariants as paths
 use Rattle.node_rules.specs.Ciphers.{Ciphers}
 use Rattle.node_rules.specs.Drafts.{sealing_key}
-use Rattle.node_rules.specs.Memory.{StationMemory, Node, Body}
+use Rattle.node_rules.specs.Memory.{StationMemory, Memory, Node, Body, address_of}
+use Rattle.reach_rules.specs.Beacons.{is_discovery}
 use Rattle.line_events.specs.declared.event.Answer.TheVariants as answers
 use Rattle.line_events.specs.declared.event.Event.{Event}
 use Rattle.line_events.specs.declared.event.Event.TheVariants as events
 use Rattle.line_rules.specs.Forgery.{Comes, accepting}
-use Rattle.line_rules.specs.Further.{line_step}
+use Rattle.line_rules.specs.Further.{comes, line_step}
+use Rattle.line_rules.specs.Steps.{note_by}
 use Rattle.line_rules.specs.Worlds.{World, Flight, Trace, node_at, flight_at}
 use Rattle.line_progress.specs.BodyFates.{IsFlown}
 use Rattle.line_progress.specs.Lists.{Among}
-use Rattle.line_progress.specs.PieceFates.{IsSameOne}
+use Rattle.line_progress.specs.PieceFates.{IsSameOne, IsSamePlace}
 use Rattle.line_progress.specs.Stations.{station_at}
 
 -- # How it ends
@@ -115,6 +117,27 @@ EventsKeepPieces =
     (ciphers : Ciphers) (w v : World) (event : Event) (d : Trace) → line_step ciphers w event ≡ Ok (v, d)
     → (number : ℕ) (l : StationMemory) → station_at w number ≡ Some l
     → (r : Reassembly) (p : PlacedPiece) → Among r l.reassemblies → Among p r.pieces → PieceFateIn ciphers w event number r p (v, d)
+
+-- # A piece that comes
+
+-- What becomes of a piece for the node, which would begin a reassembly: the node has a piece in its place, in a reassembly of its name; or it makes
+-- a datagram whole, which is handed up under the note of its reassembly; or there was no room; or the node lost power and halted.
+pub data ArrivingFate (number : ℕ) (anew : Reassembly) (q : PlacedPiece) (r : World × Trace) : Type 0 where
+  IsGathered : (now : StationMemory) (s : Reassembly) (p : PlacedPiece) → station_at r.0 number ≡ Some now → Among s now.reassemblies
+      → same_name anew s ≡ true → Among p s.pieces → IsSamePlace p q → ArrivingFate number anew q r
+  MakesWhole : (s : Reassembly) (octets : List ℕ) → same_name anew s ≡ true → Among q s.pieces → datagram_of s ≡ Some octets
+      → r.1.happenings.up ≡ Some (record { node = number; note = s.note; octets = octets }) → ArrivingFate number anew q r
+  NotTaken : r.1.happenings.answer ≡ answers.BufferFull → ArrivingFate number anew q r
+  NodeHalts : r.1.happenings.answer ≡ answers.Store → station_at r.0 number ≡ None → ArrivingFate number anew q r
+
+-- Whatever power is lost: a node accepts the octets that come to it, they carry a piece for its address, and the node then runs.
+abbrev pub PiecesArrive : Type 0
+PiecesArrive =
+    (ciphers : Ciphers) (w : World) (number cost from : ℕ) (x : Node) (octets : List ℕ) (got : Accepted) (m : Memory) (key : Key) (mesh : Mesh)
+    (piece : Placed) → node_at w number ≡ Some x → is_discovery octets ≡ false → (accepting ciphers x octets).answer ≡ Ok got
+    → got.path ≡ paths.Sealed from false key → unit_in got.payload ≡ Some (units.Part mesh piece)
+    → (accepting ciphers x octets).node.memory ≡ Some m → address_of m.station ≡ Some mesh.to
+    → ArrivingFate number (begun mesh.origin piece (note_by w octets got.path) w.clock) (placed piece) (comes ciphers w number x octets cost)
 
 -- # A flight
 

@@ -1,9 +1,9 @@
 //! Laws of progress: each carried by a function that does nothing.
 ghost use Rattle.line_progress.specs.Arrival.{DatagramsArrive};
 ghost use Rattle.line_progress.specs.BodyFates.{BodiesHaveFates};
-ghost use Rattle.line_progress.specs.EventFates.{EventsKeepBodies, EventsKeepFlights, EventsKeepPieces};
+ghost use Rattle.line_progress.specs.EventFates.{EventsKeepBodies, EventsKeepFlights, EventsKeepPieces, PiecesArrive};
 ghost use Rattle.line_progress.specs.Held.{EventsKeepHeld, EventsLeaveOthers};
-ghost use Rattle.line_progress.specs.PieceFates.{HearingKeepsPieces, PiecesHaveFates};
+ghost use Rattle.line_progress.specs.PieceFates.{HearingKeepsPieces, PiecesComeIn, PiecesHaveFates};
 ghost use Rattle.line_progress.specs.SendFates.{SendEventsHaveFates, SendsFly, SendsHaveFates};
 ghost use Rattle.line_progress.specs.TimeFates.{TicksHaveFates, TimeComesToAll};
 ghost use Rattle.line_progress.specs.UnitFates.{DeliveriesHaveFates, UnitsHaveFates};
@@ -28,6 +28,11 @@ pub fn units_have_fates()
 /// A piece that is held is held still where another one comes, or is handed up with it, unless that one overlaps its reassembly.
 pub fn pieces_have_fates()
     ensures { PiecesHaveFates }
+{}
+
+/// A piece that comes is gathered in a reassembly of its name, or completes one, which is handed up; or there is no room.
+pub fn pieces_come_in()
+    ensures { PiecesComeIn }
 {}
 
 /// A body that waits for a route waits still where a frame is heard, or leaves with all its units.
@@ -104,4 +109,10 @@ pub fn events_keep_pieces()
 /// Whatever power is lost and whatever is forged, in each event of a line: a flight is there as it was, or it is lost by `lose` of its number.
 pub fn events_keep_flights()
     ensures { EventsKeepFlights }
+{}
+
+/// Whatever power is lost and whatever is forged, an event in which a node accepts a piece for its address gathers it, or hands up the datagram that it
+/// makes whole, or has no room for it, or halts the node.
+pub fn pieces_arrive()
+    ensures { PiecesArrive }
 {}
