@@ -25,7 +25,7 @@ use Rattle.node_rules.specs.declared.refusal.Dropped.{Dropped}
 use Rattle.node_rules.specs.declared.refusal.Dropped.TheVariants as drops
 use Rattle.node_rules.specs.Drafts.{Draft, alone, choose, checked, counters_left, empty_draft, goes, leave, refused, sealed, sealed_by, sealed_units, sealing}
 use Rattle.node_rules.specs.Drafts.{numbers_spent, sealing_key, with_own_number, with_rank, with_routing_by}
-use Rattle.node_rules.specs.Frames.{Sent, Sealed, to_all}
+use Rattle.node_rules.specs.Frames.{Sent, to_all}
 use Rattle.node_rules.specs.Hearing.{Hearing, drop_it, dropped, ends, forward, forward_by, gathered, hear_command}
 use Rattle.node_rules.specs.Hearing.{hear_message, hear_message_in}
 use Rattle.node_rules.specs.Hearing.{hear_over_mesh, hear_plain, hear_reply, hear_reply_for, hear_request, hear_sealed, hear_unit, hear_unit_in, is_joining}

@@ -22,7 +22,7 @@ use Rattle.node_rules.specs.declared.refusal.Dropped.{Dropped}
 use Rattle.node_rules.specs.declared.refusal.Dropped.TheVariants as drops
 use Rattle.node_rules.specs.Drafts.{Draft, alone, choose, checked, counters_left, empty_draft, goes, leave, refused, sealed, sealing}
 use Rattle.node_rules.specs.Drafts.{numbers_spent, with_own_number, with_rank, with_routing_by}
-use Rattle.node_rules.specs.Frames.{Sealed, to_all}
+use Rattle.node_rules.specs.Frames.{to_all}
 use Rattle.node_rules.specs.Hearing.{Hearing, drop_it, dropped, ends, forward, forward_by, gather, hands_up, hear, hear_command}
 use Rattle.node_rules.specs.Hearing.{hear_message, hear_message_in}
 use Rattle.node_rules.specs.Hearing.{hear_over_mesh, hear_plain, hear_reply, hear_reply_for, hear_request, hear_sealed, hear_unit, hear_unit_in, is_joining}

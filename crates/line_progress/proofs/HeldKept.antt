@@ -1,5 +1,5 @@
 -- Plans that keep all that a station holds.
-use Rattle.std.proofs.Common.{◌≡◌, ℕ, ◌+◌, Bool, true, false, List, [], ◌∷◌, ◌++◌, length, Option, Some, None, Result, refl, sym, ap, subst, ◌∙◌}
+use Rattle.std.proofs.Common.{◌≡◌, ℕ, Bool, true, false, List, [], ◌∷◌, ◌++◌, length, Option, Some, None, Result, refl, sym, ap, subst, ◌∙◌}
 use Rattle.std.specs.Prelude.{if◌then◌else◌, nat_lt, nat_le}
 use Rattle.std.specs.Option.{option_map_or}
 use Rattle.std.proofs.lemmas.List.{append_assoc, append-nil}
@@ -75,29 +75,29 @@ module _ {M H E : Type 0} (h : StationPlace M) (back : (l : StationMemory) (m : 
   by_spent ends d answer k true = refuses ends ends.spent
   by_spent ends d answer k false = seals ends d answer k
 
-  ends_so : (ends : Ends E) (d : Draft M) (answer : H) → DraftKeeps h m d → PlanKeeps {A = Result H E} h m (sealed h ends m d answer)
+  pub ends_so : (ends : Ends E) (d : Draft M) (answer : H) → DraftKeeps h m d → PlanKeeps {A = Result H E} h m (sealed h ends m d answer)
   unfolding sealed
   ends_so ends d answer k = by_spent ends d answer k (nat_lt (counters_left (h.station m)) (length d.units))
 
-  by_check : (ends : Ends E) (o : Option E) (p : Plan M (Result H E)) → PlanKeeps h m p → PlanKeeps h m (checked ends m o p)
+  pub by_check : (ends : Ends E) (o : Option E) (p : Plan M (Result H E)) → PlanKeeps h m p → PlanKeeps h m (checked ends m o p)
   unfolding checked
   by_check ends None p k = k
   by_check ends (Some reason) p k = refuses ends reason
 
 module _ {M A : Type 0} (h : StationPlace M) (m : M) where
-  by_choice : (t : Bool) (p q : Plan M A) → PlanKeeps h m p → PlanKeeps h m q → PlanKeeps h m (choose t p q)
+  pub by_choice : (t : Bool) (p q : Plan M A) → PlanKeeps h m p → PlanKeeps h m q → PlanKeeps h m (choose t p q)
   unfolding choose
   by_choice true p q k o = k
   by_choice false p q k o = o
 
-  by_option : {X : Type 0} (f : X → Plan M A) (x : Option X) (p : Plan M A) → ((y : X) → PlanKeeps h m (f y)) → PlanKeeps h m p
+  pub by_option : {X : Type 0} (f : X → Plan M A) (x : Option X) (p : Plan M A) → ((y : X) → PlanKeeps h m (f y)) → PlanKeeps h m p
       → PlanKeeps h m (option_map_or f x p)
   by_option f None p k o = o
   by_option f (Some y) p k o = k y
 
 -- # Words
 
-begun_memory : (m : Memory) → DraftKeeps in_memory m (empty_draft m)
+pub begun_memory : (m : Memory) → DraftKeeps in_memory m (empty_draft m)
 unfolding empty_draft
 begun_memory m = record { held = same_held m.station }
 
@@ -191,26 +191,26 @@ module _ (l : StationMemory) where
 -- # Calls of a meter and of the coordinator
 
 module _ (m : Memory) where
-  refuses_it : {H E : Type 0} (ends : Ends E) (reason : E) → PlanKeeps {A = Result H E} in_memory m (refused ends m reason)
+  pub refuses_it : {H E : Type 0} (ends : Ends E) (reason : E) → PlanKeeps {A = Result H E} in_memory m (refused ends m reason)
   refuses_it ends reason = refuses in_memory (λ l n. refl) m ends reason
 
   seals_so : {H E : Type 0} (ends : Ends E) (d : Draft Memory) (answer : H) → DraftKeeps in_memory m d
       → PlanKeeps {A = Result H E} in_memory m (sealing in_memory ends d answer)
   seals_so ends d answer k = seals in_memory (λ l n. refl) m ends d answer k
 
-  ends_it : {H E : Type 0} (ends : Ends E) (d : Draft Memory) (answer : H) → DraftKeeps in_memory m d
+  pub ends_it : {H E : Type 0} (ends : Ends E) (d : Draft Memory) (answer : H) → DraftKeeps in_memory m d
       → PlanKeeps {A = Result H E} in_memory m (sealed in_memory ends m d answer)
   ends_it ends d answer k = ends_so in_memory (λ l n. refl) m ends d answer k
 
-  if_right : {H E : Type 0} (ends : Ends E) (o : Option E) (p : Plan Memory (Result H E)) → PlanKeeps in_memory m p
+  pub if_right : {H E : Type 0} (ends : Ends E) (o : Option E) (p : Plan Memory (Result H E)) → PlanKeeps in_memory m p
       → PlanKeeps in_memory m (checked ends m o p)
   if_right ends o p k = by_check in_memory (λ l n. refl) m ends o p k
 
-  changes_beside : (change : Memory → Memory) → (change m).station ≡ m.station → DraftKeeps in_memory m (with_memory_by change (empty_draft m))
+  pub changes_beside : (change : Memory → Memory) → (change m).station ≡ m.station → DraftKeeps in_memory m (with_memory_by change (empty_draft m))
   unfolding with_memory_by empty_draft
   changes_beside change same = record { held = subst (λ s. KeepsHeld m.station s) (sym same) (same_held m.station) }
 
-  asked_up : (agent : ℕ) (own : Eui) (message : JoinMessage) (d : Draft Memory) → DraftKeeps in_memory m d
+  pub asked_up : (agent : ℕ) (own : Eui) (message : JoinMessage) (d : Draft Memory) → DraftKeeps in_memory m d
       → DraftKeeps in_memory m (goes_up agent own message d)
   unfolding goes_up
   asked_up agent own message d k = record { held = k.held }
@@ -222,15 +222,15 @@ module _ (m : Memory) where
   join_keeps x agent now =
       by_choice in_memory m _ _ _ (refuses_it meters.joining_ends _) (seals_so meters.joining_ends _ _ (asked_up agent _ _ _ (changes_beside _ refl)))
 
-  pub broke_keeps : (answer : Answer) (next : ℕ) → PlanKeeps in_memory m (changing answer (with_station (calls.broke next m.station) m))
+  pub broke_keeps : (word : Answer) (next : ℕ) → PlanKeeps in_memory m (changing word (with_station (calls.broke next m.station) m))
   unfolding resting
-  broke_keeps answer next = record { held = held_as m.station m.station _ refl refl (same_held m.station) }
+  broke_keeps word next = record { held = held_as m.station m.station _ refl refl (same_held m.station) }
 
-  booked : (e : BookEntry) (d : Draft Memory) → DraftKeeps in_memory m d → DraftKeeps in_memory m (coordinator_rules.with_book_entry e d)
+  pub booked : (e : BookEntry) (d : Draft Memory) → DraftKeeps in_memory m d → DraftKeeps in_memory m (coordinator_rules.with_book_entry e d)
   unfolding coordinator_rules.with_book_entry
   booked e d k = record { held = k.held }
 
-  beside_so : (change : Memory → Memory) (d : Draft Memory) → ((n : Memory) → (change n).station ≡ n.station) → DraftKeeps in_memory m d
+  pub beside_so : (change : Memory → Memory) (d : Draft Memory) → ((n : Memory) → (change n).station ≡ n.station) → DraftKeeps in_memory m d
       → DraftKeeps in_memory m (with_memory_by change d)
   unfolding with_memory_by
   beside_so change d same k = record { held = subst (λ s. KeepsHeld m.station s) (sym (same d.memory)) k.held }
@@ -266,7 +266,7 @@ module _ (m : Memory) where
   pub activate_self_keeps : (index : ℕ) → PlanKeeps in_memory m (coordinator_rules.activate_self m index)
   activate_self_keeps index = by_choice in_memory m _ _ _ (seals_so orders _ _ (rings_so _)) (refuses_it orders _)
 
-  ordered : (to now : ℕ) (message : JoinMessage) (d : Draft Memory) → DraftKeeps in_memory m d → DraftKeeps in_memory m (is_commanded to message now d)
+  pub ordered : (to now : ℕ) (message : JoinMessage) (d : Draft Memory) → DraftKeeps in_memory m d → DraftKeeps in_memory m (is_commanded to message now d)
   ordered to now message d k = record { held = held_on m.station d.memory.station _ k.held (commands_keep to now message d) }
 
   challenge_by_keeps : (own : Eui) (to now : ℕ) (server : Server) → PlanKeeps in_memory m (coordinator_rules.challenge_by own m to now server)
@@ -301,13 +301,13 @@ module _ (m : Memory) where
 -- # Calls of further reach
 
 module _ (x : Reaching Memory) where
-  abbrev there : StationPlace (Reaching Memory)
+  abbrev pub there : StationPlace (Reaching Memory)
   there = in_reach in_memory
 
-  stops : {H E : Type 0} (ends : Ends E) (reason : E) → PlanKeeps {A = Result H E} there x (refused ends x reason)
+  pub stops : {H E : Type 0} (ends : Ends E) (reason : E) → PlanKeeps {A = Result H E} there x (refused ends x reason)
   stops ends reason = refuses there (λ l n. refl) x ends reason
 
-  says : {H E : Type 0} (ends : Ends E) (d : Draft (Reaching Memory)) (answer : H) → DraftKeeps there x d
+  pub says : {H E : Type 0} (ends : Ends E) (d : Draft (Reaching Memory)) (answer : H) → DraftKeeps there x d
       → PlanKeeps {A = Result H E} there x (sealed there ends x d answer)
   says ends d answer k = ends_so there (λ l n. refl) x ends d answer k
 
@@ -315,7 +315,7 @@ module _ (x : Reaching Memory) where
   unfolding adds_local with_broadcast_number empty_draft
   numbered to code body = record { held = same_held x.memory.station }
 
-  unnumbered : (to code : ℕ) (body : List ℕ) → DraftKeeps there x (adds_local to code body (empty_draft x))
+  pub unnumbered : (to code : ℕ) (body : List ℕ) → DraftKeeps there x (adds_local to code body (empty_draft x))
   unfolding adds_local empty_draft
   unnumbered to code body = record { held = same_held x.memory.station }
 

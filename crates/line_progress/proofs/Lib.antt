@@ -16,7 +16,6 @@ pub mod PiecesHeard
 pub mod StationUps
 pub mod SendEvents
 pub mod TickEvents
-pub mod BodyEvents
 pub mod Events
 pub mod Silence
 pub mod NodeUps
@@ -25,3 +24,13 @@ pub mod EventReports
 pub mod HeldKept
 pub mod HeldEvents
 pub mod HeldElsewhere
+pub mod HeardKept
+pub mod ReachKept
+pub mod NodeFates
+pub mod ComesFates
+pub mod ReachFails
+pub mod HaltsSaid
+pub mod EventFates
+pub mod FlightsKept
+pub mod PiecesComing
+pub mod PiecesArriving

@@ -19,7 +19,7 @@ use Rattle.node_rules.specs.declared.heard.Heard.TheVariants as heard
 use Rattle.node_rules.specs.Accepting.{marking}
 use Rattle.node_rules.specs.Ciphers.{Ciphers, OpensWhatItSeals}
 use Rattle.node_rules.specs.Drafts.{counters_left}
-use Rattle.node_rules.specs.Frames.{SealedUnit, Sent, Sealed, spelled, to_all}
+use Rattle.node_rules.specs.Frames.{SealedUnit, Sealed, spelled, to_all}
 use Rattle.node_rules.specs.Hearing.{hop_less}
 use Rattle.node_rules.specs.Memory.{StationMemory, Memory, Node, next_hop, node_address, address_of}
 use Rattle.line_events.specs.declared.event.Answer.{Answer}

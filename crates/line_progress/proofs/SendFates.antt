@@ -1,5 +1,5 @@
 -- What becomes of a datagram that is to be sent.
-use Rattle.std.proofs.Common.{◌≡◌, ℕ, ◌+◌, Bool, true, false, List, [], ◌∷◌, ◌++◌, length, Option, Some, None, refl, sym, ap, subst, ◌∙◌}
+use Rattle.std.proofs.Common.{◌≡◌, ℕ, Bool, true, false, List, [], ◌∷◌, ◌++◌, length, Option, Some, None, refl, sym, ap, subst, ◌∙◌}
 use Rattle.std.specs.Prelude.{if◌then◌else◌, nat_lt, nat_le, is_some}
 use Rattle.std.specs.Option.{option_map_or}
 use Rattle.node_rules.specs.declared.heard.SentHow.TheVariants as how_of

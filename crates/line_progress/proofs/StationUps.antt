@@ -13,7 +13,6 @@ use Rattle.mesh_header.specs.Pieces.{Placed}
 use Rattle.mesh_header.specs.Reading.{unit_in}
 use Rattle.fragment_buffers.specs.Laws.{no_piece}
 use Rattle.fragment_buffers.specs.Reassembly.{PlacedPiece, Reassembly, begun, datagram_of, octet_of, overlap, overlaps, placed, repeats}
-use Rattle.fragment_buffers.specs.Taking as pieces
 use Rattle.fragment_buffers.specs.Taking.{Taking, Outcome, Full, Held, Whole, behind, grown, has_room, joined, same_name, settled, taken, taken_in}
 use Rattle.fragment_buffers.proofs.Apart.{whole_reads}
 use Rattle.fragment_buffers.proofs.Places.{none_passes}

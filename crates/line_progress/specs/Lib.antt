@@ -8,3 +8,4 @@ pub mod TimeFates
 pub mod UnitFates
 pub mod Ups
 pub mod Held
+pub mod EventFates

@@ -1,8 +1,9 @@
 //! Laws of progress: each carried by a function that does nothing.
 ghost use Rattle.line_progress.specs.Arrival.{DatagramsArrive};
-ghost use Rattle.line_progress.specs.BodyFates.{BodiesHaveFates, FramesLeaveBodies};
+ghost use Rattle.line_progress.specs.BodyFates.{BodiesHaveFates};
+ghost use Rattle.line_progress.specs.EventFates.{EventsKeepBodies, EventsKeepFlights, EventsKeepPieces, PiecesArrive};
 ghost use Rattle.line_progress.specs.Held.{EventsKeepHeld, EventsLeaveOthers};
-ghost use Rattle.line_progress.specs.PieceFates.{HearingKeepsPieces, PiecesHaveFates};
+ghost use Rattle.line_progress.specs.PieceFates.{HearingKeepsPieces, PiecesComeIn, PiecesHaveFates};
 ghost use Rattle.line_progress.specs.SendFates.{SendEventsHaveFates, SendsFly, SendsHaveFates};
 ghost use Rattle.line_progress.specs.TimeFates.{TicksHaveFates, TimeComesToAll};
 ghost use Rattle.line_progress.specs.UnitFates.{DeliveriesHaveFates, UnitsHaveFates};
@@ -27,6 +28,11 @@ pub fn units_have_fates()
 /// A piece that is held is held still where another one comes, or is handed up with it, unless that one overlaps its reassembly.
 pub fn pieces_have_fates()
     ensures { PiecesHaveFates }
+{}
+
+/// A piece that comes is gathered in a reassembly of its name, or completes one, which is handed up; or there is no room.
+pub fn pieces_come_in()
+    ensures { PiecesComeIn }
 {}
 
 /// A body that waits for a route waits still where a frame is heard, or leaves with all its units.
@@ -60,12 +66,6 @@ pub fn time_comes_to_all()
     ensures { TimeComesToAll }
 {}
 
-/// Whatever power is lost, where neighbours are not checked: a body that waits at a node that accepts a frame, which carries no joining
-/// command and none of further reach, waits still, or all its units are new flights, or the node halts.
-pub fn frames_leave_bodies()
-    ensures { FramesLeaveBodies }
-{}
-
 /// A datagram that a station hands up was in the frame that it has just accepted: whole, or with a piece that makes its reassembly whole.
 pub fn stations_hand_up()
     ensures { StationsHandUp }
@@ -92,4 +92,27 @@ pub fn events_keep_held()
 /// Whatever power is lost and whatever is forged, a `leave`, `deliver`, `inject` or `restart` leaves each node but its own as it is.
 pub fn events_leave_others()
     ensures { EventsLeaveOthers }
+{}
+
+/// Whatever power is lost and whatever is forged, in each event of a line: a body that waits at a node waits still, or all its units are new flights
+/// of the node under its note, or the event ends it, for one of five reasons.
+pub fn events_keep_bodies()
+    ensures { EventsKeepBodies }
+{}
+
+/// Whatever power is lost and whatever is forged, in each event of a line: a piece that is gathered at a node is gathered still under the same name
+/// and note, or it is handed up with the whole under that note, or a piece that overlaps comes, or the event ends it, for one of five reasons.
+pub fn events_keep_pieces()
+    ensures { EventsKeepPieces }
+{}
+
+/// Whatever power is lost and whatever is forged, in each event of a line: a flight is there as it was, or it is lost by `lose` of its number.
+pub fn events_keep_flights()
+    ensures { EventsKeepFlights }
+{}
+
+/// Whatever power is lost and whatever is forged, an event in which a node accepts a piece for its address gathers it, or hands up the datagram that it
+/// makes whole, or has no room for it, or halts the node.
+pub fn pieces_arrive()
+    ensures { PiecesArrive }
 {}
