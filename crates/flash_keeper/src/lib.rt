@@ -36,7 +36,8 @@
 //! | RAM | two [`FlashBank`] objects and 32 octets (24 on a 32-bit machine); no table of slots, no buffer that stays, no allocation |
 //! | flash, per bank | 24 octets, and 88 for each put until the bank is full |
 //! | a put | 3 programs of marks and lengths, and one for each 8 octets of the record: 11 at most |
-//! | an opening | 3 or 4 programs, and one cell |
+//! | an opening | 2 or 3 programs, and one cell; 3 programs more in the first one after a bank was copied, which are of heads |
+//! | a word of a head | programmed at most 4 times between erases, and once more in an opening that loses power there, or after an erase that did |
 //! | a bank that is full | one erase, 5 programs, and a copy of each record; then the other bank is live, so the banks wear by turns |
 //! | erases | one in (cells of a bank - slots with a record) puts and openings, and one for each put that lost power in its record |
 //!
