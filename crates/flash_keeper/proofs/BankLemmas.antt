@@ -1,10 +1,10 @@
 -- Two banks: what is left of them after each step.
 use Rattle.std.proofs.Common.{◌≡◌, ◌⊎◌, inl, inr, ℕ, ◌+◌, ◌-◌, ◌<◌, ◌≤◌, Bool, true, false, Option, Some, None, refl}
-use Rattle.std.proofs.Common.{sym, subst, ◌∙◌, arith}
+use Rattle.std.proofs.Common.{sym, subst, ap, ◌∙◌, arith}
 use Rattle.plc_base.specs.Keeper.{Records}
 use Rattle.flash_keeper.specs.Flash.{Bank, Programs, Erases, erased, head_word}
 use Rattle.flash_keeper.specs.Log.{place, mark, room, upto, IsCertain, IsSettled, IsLeft, IsFoundBlank, IsClosable, Choice}
-use Rattle.flash_keeper.specs.Log.{IsOneOf, SameOutside, IsOpen, IsBlankFrom, end}
+use Rattle.flash_keeper.specs.Log.{IsOneOf, SameOutside, IsOpen, IsBlankFrom, fence}
 use Rattle.flash_keeper.specs.Banks.{IsHeaded, IsDead, IsNumbered, IsStanding, IsBeside, AreLeft, IsStore, AreReady, IsSeen, choice_of}
 use Rattle.flash_keeper.proofs.CellLemmas.{upto-same, all_certain-same, whole-same}
 use Rattle.flash_keeper.proofs.LogLemmas.{one_of, settled_is_left}
@@ -51,8 +51,7 @@ left-same old new n c torn size same l = record {
   where
     opened : IsOpen old.words n → IsOpen new.words n
     opened (inl e) = inl (same (mark n) (omega arith) ∙ e)
-    opened (inr (whole, inl e)) = inr (whole-same old.words new.words n (λ i a b. same i (omega (arith, a))) whole, inl (same (mark n) (omega arith) ∙ e))
-    opened (inr (whole, inr e)) = inr (whole-same old.words new.words n (λ i a b. same i (omega (arith, a))) whole, inr (same (end n) (omega arith) ∙ e))
+    opened (inr (whole, e)) = inr (whole-same old.words new.words n (λ i a b. same i (omega (arith, a))) whole, same (fence n) (omega arith) ∙ e)
 
     still : (n < room old.size) ⊎ ((n ≡ room old.size) × IsBlankFrom old.words (place n))
         → (n < room old.size) ⊎ ((n ≡ room old.size) × IsBlankFrom new.words (place n))
@@ -211,6 +210,15 @@ torn_before old new n at c ok more left (inl (here, unmarked)) is torn certain =
 torn_before old new n at c ok more left (inr next) is torn certain =
     let last : at - 1 ≡ n = omega (arith, next) in
     (more, subst (λ (b : Bank). IsLeft b (at - 1) c) (sym (torn is)) (subst (λ (k : ℕ). IsLeft old k c) (sym last) left))
+
+-- a cell of which the fence was not begun is not left torn
+pub never_unfenced : (bank : Bank) (n at : ℕ) (c : Choice) (ok : Bool) → 0 < at → IsLeft bank n c → IsFoundBlank bank n at → ok ≡ false
+    → (bank.words (fence (at - 1)) ≡ Some erased → ok ≡ true) → (IsCertain bank.words (at - 1) → ok ≡ true) → bank.words (fence n) ≡ Some erased → ⊥
+never_unfenced bank n at c ok more left (inl (here, unmarked)) is unfenced certain blank =
+    counted_test ok (certain (left.certain (at - 1) (omega (arith, here, more)))) is
+never_unfenced bank n at c ok more left (inr next) is unfenced certain blank =
+    let last : at - 1 ≡ n = omega (arith, next) in
+    counted_test ok (unfenced (ap (λ (k : ℕ). bank.words (fence k)) last ∙ blank)) is
 
 pub left_before : (old new : Bank) (n at : ℕ) (c : Choice) → 0 < at → IsLeft old n c → IsFoundBlank old n at
     → ((d : Choice) → IsLeft old (at - 1) d → IsLeft new (at - 1) d) → (IsCertain old.words (at - 1) → new ≡ old) → IsLeft new n c

@@ -3,11 +3,11 @@ ghost use Rattle.std.specs.Prelude.{◌≡◌, ◌<◌, ◌≤◌, ◌+◌, ◌�
 ghost use Rattle.std.specs.FinMap as map;
 ghost use Rattle.std.specs.FinMap.{insert};
 ghost use Rattle.flash_keeper.specs.Flash.{erased, Programs};
-ghost use Rattle.flash_keeper.specs.Log.{room, mark, upto, Choice, IsOneOf, IsSettled, IsLeft, IsClosable, AreCertain, SameBelow};
+ghost use Rattle.flash_keeper.specs.Log.{room, mark, fence, upto, Choice, IsOneOf, IsSettled, IsLeft, IsClosable, AreCertain, SameBelow};
 ghost use Rattle.flash_keeper.specs.Banks.{choice_of, AreLeft, AreReady, IsStore, IsLive, IsHeaded, IsDead, IsSeen, IsNumbered};
 
 use crate::bank::{FlashBank, HEAD};
-use crate::cells::{copy, end_cell, first_blank, room_of, settle_before, write_cell};
+use crate::cells::{close_cell, copy, first_blank, room_of, settle_before, write_cell};
 use plc_base::{Failed, Record};
 use std::mem::swap;
 
@@ -171,6 +171,7 @@ impl<B: FlashBank + Drop> Pair<B> {
     // Writes a record to the end of the log.
     fn append(&mut self, slot: u32, octets: &Record) -> Result<(), Failed>
         requires ready { AreReady (B.bank self.old.live) (B.bank self.old.spare) self.old.next }
+        requires more { 0 < slot }
         requires room { self.old.next < room (B.bank self.old.live).size }
         ensures ready { OnOk result (AreReady (B.bank self.new.live) (B.bank self.new.spare) self.new.next) }
         ensures records { OnOk result (upto (B.bank self.new.live).words self.new.next ≡ insert (upto (B.bank self.old.live).words self.old.next) slot
@@ -187,7 +188,8 @@ impl<B: FlashBank + Drop> Pair<B> {
 
     /// Writes a record to the end of the log, and makes room for it before.
     pub fn put(&mut self, slot: u32, octets: &Record) -> Result<(), Failed>
-        requires { AreReady (B.bank self.old.live) (B.bank self.old.spare) self.old.next }
+        requires ready { AreReady (B.bank self.old.live) (B.bank self.old.spare) self.old.next }
+        requires more { 0 < slot }
         ensures ready { OnOk result (AreReady (B.bank self.new.live) (B.bank self.new.spare) self.new.next) }
         ensures records { OnOk result (upto (B.bank self.new.live).words self.new.next ≡ insert (upto (B.bank self.old.live).words self.old.next) slot
             octets.now) }
@@ -200,7 +202,7 @@ impl<B: FlashBank + Drop> Pair<B> {
         self.append(slot, octets)
     }
 
-    // Ends the cell at which the log ends, which read as blank.
+    // Closes the cell at which the log ends, which read as blank.
     fn finish_at(&mut self, at: usize) -> Result<(), Failed>
         requires { (B.bank self.old.live).torn ≡ false }
         ensures settled { OnOk result ((c : Choice) → IsClosable (B.bank self.old.live) at c
@@ -217,7 +219,7 @@ impl<B: FlashBank + Drop> Pair<B> {
             self.next = at;
             return Ok(());
         }
-        end_cell(&mut self.live, at)?;
+        close_cell(&mut self.live, at)?;
         self.next = at + 1;
         Ok(())
     }
@@ -232,6 +234,8 @@ impl<B: FlashBank + Drop> Pair<B> {
         ensures ready { OnOk result (AreReady (B.bank self.new.live) (B.bank self.new.spare) self.new.next) }
         ensures records { OnOk result ((c : Choice) (n : ℕ) → IsLeft (B.bank self.old.live) n c
             → IsOneOf c (upto (B.bank self.new.live).words self.new.next)) }
+        ensures in_place { (c : Choice) (n : ℕ) → IsLeft (B.bank self.old.live) n c → (B.bank self.old.live).words (fence n) ≡ Some erased
+            → B.bank self.new.spare ≡ B.bank self.old.spare }
         ensures left { OnErr result ((c : Choice) (n : ℕ) → IsLeft (B.bank self.old.live) n c → IsStore (B.bank self.new.live) (B.bank self.new.spare) c) }
         ensures failed { OnErr result ((B.has_failed self.new.live ≡ true) ⊎ (B.has_failed self.new.spare ≡ true)) }
     {

@@ -74,3 +74,7 @@ returns-clause-left g c = one_err c.finish_at.result (λ f choice n left.
     (f choice (c.in_ok-sure.ensures.sure c.if-not-sure.false n choice left (c.first_blank-at.ensures.found n choice left)))
     (dead_moved _ _ c.finish_at.ensures.spare c.requires.spare))
     c.finish_at.ensures.left
+
+pub returns-then-not-sure-clause-in_place : goal.returns-then-not-sure-clause-in_place
+returns-then-not-sure-clause-in_place g c = λ choice n left blank. absurd (c.in_ok-sure.ensures.unfenced c.if-not-sure.true n choice left
+    (c.first_blank-at.ensures.found n choice left) blank)
