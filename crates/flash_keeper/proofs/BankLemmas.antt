@@ -1,11 +1,11 @@
 -- Two banks: what is left of them after each step.
 use Rattle.std.proofs.Common.{◌≡◌, ◌⊎◌, inl, inr, ℕ, ◌+◌, ◌-◌, ◌<◌, ◌≤◌, Bool, true, false, Option, Some, None, refl}
-use Rattle.std.proofs.Common.{sym, subst, ◌∙◌, arith}
+use Rattle.std.proofs.Common.{sym, subst, ap, ◌∙◌, arith}
 use Rattle.plc_base.specs.Keeper.{Records}
 use Rattle.flash_keeper.specs.Flash.{Bank, Programs, Erases, erased, head_word}
 use Rattle.flash_keeper.specs.Log.{place, mark, room, upto, IsCertain, IsSettled, IsLeft, IsFoundBlank, IsClosable, Choice}
-use Rattle.flash_keeper.specs.Log.{IsOneOf, SameOutside, IsOpen, IsBlankFrom, end}
-use Rattle.flash_keeper.specs.Banks.{IsHeaded, IsDead, IsStanding, AreLeft, IsStore, AreReady, IsSeen, choice_of}
+use Rattle.flash_keeper.specs.Log.{IsOneOf, SameOutside, IsOpen, IsBlankFrom, fence}
+use Rattle.flash_keeper.specs.Banks.{IsHeaded, IsDead, IsNumbered, IsStanding, IsBeside, AreLeft, IsStore, AreReady, IsSeen, choice_of}
 use Rattle.flash_keeper.proofs.CellLemmas.{upto-same, all_certain-same, whole-same}
 use Rattle.flash_keeper.proofs.LogLemmas.{one_of, settled_is_left}
 
@@ -15,6 +15,13 @@ some_is_none e = cc
 -- a head stays where its words do
 pub headed-same : (old new : Bank) (g : ℕ) → new.torn ≡ old.torn → new.words 0 ≡ old.words 0 → new.words 1 ≡ old.words 1 → IsHeaded old g → IsHeaded new g
 headed-same old new g torn head_at first h = record { firm = torn ∙ h.firm; head = head_at ∙ h.head; number = first ∙ h.number }
+
+-- a generation stays where its word does
+pub numbered-same : (old new : Bank) → new.torn ≡ old.torn → new.words 1 ≡ old.words 1 → IsNumbered old → IsNumbered new
+numbered-same old new torn same n = record { firm = torn ∙ n.firm; generation = n.generation; number = same ∙ n.number; more = n.more }
+
+pub numbered_of_head : (bank : Bank) (g : ℕ) → 0 < g → IsHeaded bank g → IsNumbered bank
+numbered_of_head bank g more h = record { firm = h.firm; generation = g; number = h.number; more = more }
 
 -- a log stays where the words of its cells do
 pub settled-same : (old new : Bank) (n : ℕ) → new.torn ≡ old.torn → new.size ≡ old.size → ((i : ℕ) → 3 ≤ i → new.words i ≡ old.words i) → IsSettled old n
@@ -44,8 +51,7 @@ left-same old new n c torn size same l = record {
   where
     opened : IsOpen old.words n → IsOpen new.words n
     opened (inl e) = inl (same (mark n) (omega arith) ∙ e)
-    opened (inr (whole, inl e)) = inr (whole-same old.words new.words n (λ i a b. same i (omega (arith, a))) whole, inl (same (mark n) (omega arith) ∙ e))
-    opened (inr (whole, inr e)) = inr (whole-same old.words new.words n (λ i a b. same i (omega (arith, a))) whole, inr (same (end n) (omega arith) ∙ e))
+    opened (inr (whole, e)) = inr (whole-same old.words new.words n (λ i a b. same i (omega (arith, a))) whole, same (fence n) (omega arith) ∙ e)
 
     still : (n < room old.size) ⊎ ((n ≡ room old.size) × IsBlankFrom old.words (place n))
         → (n < room old.size) ⊎ ((n ≡ room old.size) × IsBlankFrom new.words (place n))
@@ -69,8 +75,8 @@ after_head at word ok old new less p i three = p.others i (λ e. omega (arith, l
 pub choose : (a b : Bank) (c : Choice) (g : ℕ) (seen : Option ℕ) → IsSeen a seen → seen ≡ Some g → IsStore a b c → (n : ℕ) × AreLeft a b n c
 choose a b c g seen sees is (inl left) = left
 choose a b c g seen sees is (inr (n, left)) = elim left.beside [
-  | inl dead ↦ absurd (some_is_none (sym is ∙ sees.dead dead))
-  | inr standing ↦ (standing.0, record { log = standing.1; beside = inr (n, left.log) })
+  | inl dead ↦ absurd (some_is_none (sym is ∙ sees.dead dead.0))
+  | inr standing ↦ (standing.1, record { number = standing.0; log = standing.2; beside = inr (left.number, n, left.log) })
 ]
 
 pub choose_second : (a b : Bank) (c : Choice) (g : ℕ) (seen : Option ℕ) → IsSeen b seen → seen ≡ Some g → IsStore a b c → (n : ℕ) × AreLeft b a n c
@@ -82,7 +88,11 @@ choose_second a b c g seen sees is store = choose b a c g seen sees is (swapped 
 
 -- banks of which nothing is open
 pub ready_is_left : (live spare : Bank) (n : ℕ) (c : Choice) → AreReady live spare n → IsOneOf c (upto live.words n) → AreLeft live spare n c
-ready_is_left live spare n c r one = record { log = settled_is_left live n c r.log one; beside = inl r.beside }
+ready_is_left live spare n c r one = record {
+  number = r.number;
+  log = settled_is_left live n c r.log one;
+  beside = inl (r.beside, inr r.mark);
+}
 
 -- a program of the first word or of the mark of a bank that is dead or stands for records leaves it so
 pub word_of_left : (old new : Bank) (at n : ℕ) (c : Choice) (ok : Bool) → at < 3 → Programs at 0 ok old new → IsLeft old n c → IsLeft new n c
@@ -92,9 +102,39 @@ pub still_dead : (old new : Bank) (ok : Bool) → Programs 0 0 ok old new → Is
 still_dead old new ok p (inl zero) = inl (p.kept zero)
 still_dead old new ok p (inr (firm, unmarked)) = inr (p.torn ∙ firm, p.others 2 (λ e. omega (arith, e)) ∙ unmarked)
 
-pub still_beside : (old new : Bank) (c : Choice) (ok : Bool) → Programs 0 0 ok old new → IsDead old ⊎ IsStanding old c → IsDead new ⊎ IsStanding new c
-still_beside old new c ok p (inl dead) = inl (still_dead old new ok p dead)
-still_beside old new c ok p (inr (n, left)) = inr (n, word_of_left old new 0 n c ok (omega arith) p left)
+-- a bank that is retired stays beside the live one
+pub retired_beside : (live old new : Bank) (c : Choice) (ok : Bool) → Programs 0 0 ok old new → IsBeside live old c → IsBeside live new c
+retired_beside live old new c ok p (inl (dead, inl number)) =
+    inl (still_dead old new ok p dead, inl (numbered-same old new p.torn (p.others 1 (λ e. omega (arith, e))) number))
+retired_beside live old new c ok p (inl (dead, inr marked)) = inl (still_dead old new ok p dead, inr marked)
+retired_beside live old new c ok p (inr (number, n, left)) =
+    inr (numbered-same old new p.torn (p.others 1 (λ e. omega (arith, e))) number, n, word_of_left old new 0 n c ok (omega arith) p left)
+
+-- so does one beside a bank whose mark is confirmed
+pub confirmed_beside : (old new spare : Bank) (c : Choice) (ok : Bool) → Programs 2 0 ok old new → IsBeside old spare c → IsBeside new spare c
+confirmed_beside old new spare c ok p (inl (dead, inl number)) = inl (dead, inl number)
+confirmed_beside old new spare c ok p (inl (dead, inr marked)) = inl (dead, inr (p.kept marked))
+confirmed_beside old new spare c ok p (inr standing) = inr standing
+
+-- a bank that is left so stays so when its mark is confirmed, and when the other one is retired
+pub confirmed_left : (old new spare : Bank) (n : ℕ) (c : Choice) (ok : Bool) → Programs 2 0 ok old new → AreLeft old spare n c → AreLeft new spare n c
+confirmed_left old new spare n c ok p l = record {
+  number = numbered-same old new p.torn (p.others 1 (λ e. omega (arith, e))) l.number;
+  log = word_of_left old new 2 n c ok (omega arith) p l.log;
+  beside = confirmed_beside old new spare c ok p l.beside;
+}
+
+pub retired_left : (live old new : Bank) (n : ℕ) (c : Choice) (ok : Bool) → Programs 0 0 ok old new → AreLeft live old n c → AreLeft live new n c
+retired_left live old new n c ok p l = record { number = l.number; log = l.log; beside = retired_beside live old new c ok p l.beside }
+
+-- and when that is noted
+pub noted_left : (live old new : Bank) (n : ℕ) (c : Choice) (ok : Bool) → Programs 1 0 ok old new → old.words 0 ≡ Some 0 → live.words 2 ≡ Some 0
+    → AreLeft live old n c → AreLeft live new n c
+noted_left live old new n c ok p zero marked l = record {
+  number = l.number;
+  log = l.log;
+  beside = inl (inl (p.others 0 (λ e. omega (arith, e)) ∙ zero), inr marked);
+}
 
 -- a bank that was erased and given a head
 pub begun : (old b0 b1 b2 : Bank) (g : ℕ) → Erases true old b0 → Programs 0 head_word true b0 b1 → Programs 1 g true b1 b2
@@ -117,10 +157,11 @@ marked_log b0 b1 g n ok head log p =
     )
 
 -- then the copy stands for the records, whether the mark is there or not
-pub copy_stands : (b0 b1 : Bank) (g n : ℕ) (ok : Bool) (c : Choice) (r : Records) → IsHeaded b0 g → IsSettled b0 n → upto b0.words n ≡ r
+pub copy_stands : (b0 b1 : Bank) (g n : ℕ) (ok : Bool) (c : Choice) (r : Records) → 0 < g → IsHeaded b0 g → IsSettled b0 n → upto b0.words n ≡ r
     → Programs 2 0 ok b0 b1 → IsOneOf c r → IsStanding b1 c
-copy_stands b0 b1 g n ok c r head log records p one =
-    let all = marked_log b0 b1 g n ok head log p in (n, settled_is_left b1 n c all.1 (one_of (all.2 ∙ records) one))
+copy_stands b0 b1 g n ok c r more head log records p one =
+    let all = marked_log b0 b1 g n ok head log p in
+    (numbered_of_head b1 g more all.0, n, settled_is_left b1 n c all.1 (one_of (all.2 ∙ records) one))
 
 counted_test : (b : Bool) → b ≡ true → b ≡ false → ⊥
 counted_test true e f = cc
@@ -170,6 +211,15 @@ torn_before old new n at c ok more left (inr next) is torn certain =
     let last : at - 1 ≡ n = omega (arith, next) in
     (more, subst (λ (b : Bank). IsLeft b (at - 1) c) (sym (torn is)) (subst (λ (k : ℕ). IsLeft old k c) (sym last) left))
 
+-- a cell of which the fence was not begun is not left torn
+pub never_unfenced : (bank : Bank) (n at : ℕ) (c : Choice) (ok : Bool) → 0 < at → IsLeft bank n c → IsFoundBlank bank n at → ok ≡ false
+    → (bank.words (fence (at - 1)) ≡ Some erased → ok ≡ true) → (IsCertain bank.words (at - 1) → ok ≡ true) → bank.words (fence n) ≡ Some erased → ⊥
+never_unfenced bank n at c ok more left (inl (here, unmarked)) is unfenced certain blank =
+    counted_test ok (certain (left.certain (at - 1) (omega (arith, here, more)))) is
+never_unfenced bank n at c ok more left (inr next) is unfenced certain blank =
+    let last : at - 1 ≡ n = omega (arith, next) in
+    counted_test ok (unfenced (ap (λ (k : ℕ). bank.words (fence k)) last ∙ blank)) is
+
 pub left_before : (old new : Bank) (n at : ℕ) (c : Choice) → 0 < at → IsLeft old n c → IsFoundBlank old n at
     → ((d : Choice) → IsLeft old (at - 1) d → IsLeft new (at - 1) d) → (IsCertain old.words (at - 1) → new ≡ old) → IsLeft new n c
 left_before old new n at c more left (inl (here, unmarked)) keeps certain =
@@ -192,8 +242,9 @@ n_within bank n c left = elim left.within [
 ]
 
 -- what the cells of the live bank are left as
-pub store_left : (live spare : Bank) (n : ℕ) (c : Choice) → IsLeft live n c → IsDead spare → IsStore live spare c
-store_left live spare n c log dead = inl (n, record { log = log; beside = inl dead })
+pub store_left : (live spare : Bank) (n : ℕ) (c : Choice) → IsNumbered live → live.words 2 ≡ Some 0 → IsLeft live n c → IsDead spare
+    → IsStore live spare c
+store_left live spare n c number marked log dead = inl (n, record { number = number; log = log; beside = inl (dead, inr marked) })
 
 pub dead_moved : (new old : Bank) → new ≡ old → IsDead old → IsDead new
 dead_moved new old same dead = subst (λ (b : Bank). IsDead b) (sym same) dead

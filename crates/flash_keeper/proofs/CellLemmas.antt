@@ -5,7 +5,7 @@ use Rattle.std.specs.FinMap.{insert, empty}
 use Rattle.byteorder.specs.Endian.{big_bytes}
 use Rattle.plc_base.specs.Keeper.{Records}
 use Rattle.flash_keeper.specs.Flash.{Word}
-use Rattle.flash_keeper.specs.Log.{place, mark, end, value, slot_at, length_at, octets_from, words_for, octets_at, begun, counts, step, upto, IsFirm}
+use Rattle.flash_keeper.specs.Log.{place, mark, value, slot_at, length_at, octets_from, words_for, octets_at, begun, counts, step, upto, IsFirm}
 use Rattle.flash_keeper.specs.Log.{IsWhole, IsCertain, AreCertain}
 
 -- the words of a cell are the same
@@ -88,6 +88,7 @@ whole-same w v k h x =
     let few = few_words (value (w (place k))) in
     record {
       head = firm-same head x.head;
+      more = subst (λ (n : ℕ). 0 < n) (sym (slot_at-same w v k h)) x.more;
       slot = subst (λ (n : ℕ). n < 2 ^ 32) (sym (slot_at-same w v k h)) x.slot;
       body = λ i le.
           let size : length_at v k ≡ length_at w k = ap (λ (y : Word). value y % 65) head in
@@ -96,15 +97,9 @@ whole-same w v k h x =
     }
 
 pub certain-same : (w v : ℕ → Word) (k : ℕ) → SameCell w v k → IsCertain w k → IsCertain v k
-certain-same w v k h x =
-    let m : v (mark k) ≡ w (mark k) = h (mark k) (omega arith) (omega arith) in
-    record {
-      ended = h (end k) (omega arith) (omega arith) ∙ x.ended;
-      either = elim x.either [
-        | inl e ↦ inl (m ∙ e)
-        | inr e ↦ inr (m ∙ e.0, whole-same w v k h e.1)
-      ];
-    }
+certain-same w v k h (inl (marked, whole)) = inl (h (mark k) (omega arith) (omega arith) ∙ marked, whole-same w v k h whole)
+certain-same w v k h (inr (unmarked, closed)) =
+    inr (h (mark k) (omega arith) (omega arith) ∙ unmarked, h (place k) (omega arith) (omega arith) ∙ closed)
 
 pub all_certain-same : (w v : ℕ → Word) (n : ℕ) → SameFront w v (place n) → AreCertain w n → AreCertain v n
 all_certain-same w v n h x = λ k le. certain-same w v k (cell_of_front w v k n le h) (x k le)

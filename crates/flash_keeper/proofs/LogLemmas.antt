@@ -6,10 +6,9 @@ use Rattle.std.specs.FinMap.{insert}
 use Rattle.byteorder.specs.Endian.{big_bytes}
 use Rattle.plc_base.specs.Keeper.{Records}
 use Rattle.flash_keeper.specs.Flash.{Word, Bank, Programs, erased}
-use Rattle.flash_keeper.specs.Log.{place, mark, end, room, value, slot_at, length_at, octets_from, words_for, octets_at, begun, counts, step, upto, IsFirm}
+use Rattle.flash_keeper.specs.Log.{place, mark, fence, room, value, slot_at, length_at, octets_from, words_for, octets_at, begun, counts, step, upto, IsFirm}
 use Rattle.flash_keeper.specs.Log.{IsWhole, IsOpen, IsBlankFrom, IsSettled, IsLeft, Choice, IsOneOf, SameOutside}
-use Rattle.flash_keeper.specs.Log.{IsMarkCertain}
-use Rattle.flash_keeper.proofs.CellLemmas.{SameFront, few_words, firm-same, octets_from-same, octets_from-suc, upto-same, upto-suc}
+use Rattle.flash_keeper.proofs.CellLemmas.{SameFront, firm-same, octets_from-same, octets_from-suc, upto-same, upto-suc}
 use Rattle.flash_keeper.proofs.CellLemmas.{all_certain-same, one_more_certain}
 
 pub take_sum : (n m : ℕ) (xs : List ℕ) → take (n + m) xs ≡ take n xs ++ take m (drop n xs)
@@ -19,16 +18,18 @@ take_sum n m xs =
     sym (take-append-drop n (take (n + m) xs)) ∙ (λ i. front i ++ back i)
 
 -- a cell of which slot, length and octets are programmed has that record
-pub whole_body : (w : ℕ → Word) (k slot : ℕ) (octets all : List ℕ) → w (place k) ≡ Some (slot * 65 + length octets) → slot < 2 ^ 32 → length octets ≤ 64
+pub whole_body : (w : ℕ → Word) (k slot : ℕ) (octets all : List ℕ) → w (place k) ≡ Some (slot * 65 + length octets) → 0 < slot
+    → slot < 2 ^ 32 → length octets ≤ 64
     → ((i : ℕ) → i < words_for (length octets) → IsFirm (w (place k + 1 + i))) → octets_from w (place k + 1) (words_for (length octets)) ≡ take (8 * words_for
     (length octets)) all
     → take (length octets) all ≡ octets → IsWhole w k × (slot_at w k ≡ slot) × (octets_at w k ≡ octets)
-whole_body w k slot octets all head small fits body spelled padded =
+whole_body w k slot octets all head more small fits body spelled padded =
     let number : value (w (place k)) ≡ slot * 65 + length octets = ap value head in
     let slot_is : slot_at w k ≡ slot = ap (λ (n : ℕ). n / 65) number ∙ omega (arith, fits) in
     let length_is : length_at w k ≡ length octets = ap (λ (n : ℕ). n % 65) number ∙ omega (arith, fits) in
     let whole : IsWhole w k = record {
       head = head ∙ ap (λ (n : ℕ). Some n) (sym number);
+      more = subst (λ (n : ℕ). 0 < n) (sym slot_is) more;
       slot = subst (λ (n : ℕ). n < 2 ^ 32) (sym slot_is) small;
       body = λ i le. body i (subst (λ (n : ℕ). i < words_for n) length_is le);
     } in (
@@ -109,11 +110,12 @@ settled_is_left bank n c s one =
       stands_next = one_of (uncounted_cell bank.words n unmarked) one;
     }
 
--- what the mark and the end of the cell make of a record that is whole
+-- what the mark of the cell makes of a record that is whole
 pub record BodyIs (old b : Bank) (n slot : ℕ) (octets : List ℕ) : Type 0 where
   pub whole : IsWhole b.words n
   pub slot_is : slot_at b.words n ≡ slot
   pub octets_is : octets_at b.words n ≡ octets
+  pub fenced : b.words (fence n) ≡ Some 0
   pub same : SameOutside (place n) (mark n) old b
   pub torn : b.torn ≡ old.torn
   pub size : b.size ≡ old.size
@@ -130,6 +132,7 @@ body_stays old b new n slot octets body same =
     let slot_is : slot_at new.words n ≡ slot_at b.words n = ap (λ (x : Word). value x / 65) head in (
       record {
         head = firm-same head body.whole.head;
+        more = subst (λ (m : ℕ). 0 < m) (sym slot_is) body.whole.more;
         slot = subst (λ (m : ℕ). m < 2 ^ 32) (sym slot_is) body.whole.slot;
         body = λ i le.
             let le' : i < words_for (length_at b.words n) = subst (λ (m : ℕ). i < words_for m) size le in
@@ -160,10 +163,9 @@ pub left_at_mark : (old b new : Bank) (n slot : ℕ) (octets : List ℕ) (c : Ch
 left_at_mark old b new n slot octets c ok s fits body p one two =
     let same : (i : ℕ) → i < mark n → new.words i ≡ b.words i = λ i le. p.others i (is_less i (mark n) le) in
     let stays = body_stays old b new n slot octets body same in
-    let unended : new.words (end n) ≡ Some erased = p.others (end n) (λ e. absurd (omega (arith, e))) ∙ body.same (end n) (inr (omega arith))
-    ∙ s.blank (end n) (omega arith) in
+    let fenced : new.words (fence n) ≡ Some 0 = same (fence n) (omega arith) ∙ body.fenced in
     let front : SameFront old.words new.words (place n) = λ i three le. same i (omega (arith, le)) ∙ body.same i (inl le) in
-    left_after old new n c s fits (λ i h. outside i h) (p.torn ∙ body.torn) (p.size ∙ body.size) (inr (stays.0, inr unended)) one
+    left_after old new n c s fits (λ i h. outside i h) (p.torn ∙ body.torn) (p.size ∙ body.size) (inr (stays.0, fenced)) one
     (one_of (records_next old new n front ∙ step_whole new.words n slot octets (upto old.words n) (counts new.words n) refl stays.1 stays.2)
     (one_of_step c (counts new.words n) (upto old.words n) (insert (upto old.words n) slot octets) one two))
   where
@@ -171,160 +173,114 @@ left_at_mark old b new n slot octets c ok s fits body p one two =
     outside i (inl le) = p.others i (λ e. absurd (omega (arith, e, le))) ∙ body.same i (inl le)
     outside i (inr le) = p.others i (λ e. absurd (omega (arith, e, le))) ∙ body.same i (inr (omega (arith, le)))
 
--- what a program of the end leaves of a marked cell
-pub record MarkedIs (old b : Bank) (n slot : ℕ) (octets : List ℕ) : Type 0 where
-  pub whole : IsWhole b.words n
-  pub slot_is : slot_at b.words n ≡ slot
-  pub octets_is : octets_at b.words n ≡ octets
-  pub marked : b.words (mark n) ≡ Some 0
-  pub same : SameOutside (place n) (place n + 11) old b
-  pub torn : b.torn ≡ old.torn
-  pub size : b.size ≡ old.size
-
-pub marked_cell : (old b m new : Bank) (n slot : ℕ) (octets : List ℕ) (ok : Bool) → BodyIs old b n slot octets → Programs (mark n) 0 true b m
-    → Programs (end n) 0 ok m new → MarkedIs old new n slot octets
-marked_cell old b m new n slot octets ok body p q =
-    let same : (i : ℕ) → i < mark n → new.words i ≡ b.words i = λ i le. q.others i (λ e. absurd (omega (arith, e, le)))
-    ∙ p.others i (is_less i (mark n) le) in
-    let stays = body_stays old b new n slot octets body same in
-    record {
-      whole = stays.0;
-      slot_is = stays.1;
-      octets_is = stays.2;
-      marked = q.others (mark n) (λ e. absurd (omega (arith, e))) ∙ p.done refl;
-      same = outside;
-      torn = q.torn ∙ p.torn ∙ body.torn;
-      size = q.size ∙ p.size ∙ body.size;
-    }
-  where
-    outside : (i : ℕ) → (i < place n) ⊎ (place n + 11 ≤ i) → new.words i ≡ old.words i
-    outside i (inl le) = q.others i (λ e. absurd (omega (arith, e, le))) ∙ p.others i (λ e. absurd (omega (arith, e, le))) ∙ body.same i (inl le)
-    outside i (inr le) = q.others i (λ e. absurd (omega (arith, e, le))) ∙ p.others i (λ e. absurd (omega (arith, e, le)))
-        ∙ body.same i (inr (omega (arith, le)))
-
 -- with its mark the record counts
-pub records_marked : (old new : Bank) (n slot : ℕ) (octets : List ℕ) → MarkedIs old new n slot octets
+pub records_marked : (old b new : Bank) (n slot : ℕ) (octets : List ℕ) → BodyIs old b n slot octets → Programs (mark n) 0 true b new
     → upto new.words (n + 1) ≡ insert (upto old.words n) slot octets
-records_marked old new n slot octets is =
-    records_next old new n (λ i three le. is.same i (inl le)) ∙ step_whole new.words n slot octets (upto old.words n) true (ap begun is.marked) is.slot_is
-    is.octets_is
+records_marked old b new n slot octets body p =
+    let same : (i : ℕ) → i < mark n → new.words i ≡ b.words i = λ i le. p.others i (is_less i (mark n) le) in
+    let stays = body_stays old b new n slot octets body same in
+    let front : SameFront old.words new.words (place n) = λ i three le. same i (omega (arith, le)) ∙ body.same i (inl le) in
+    records_next old new n front ∙ step_whole new.words n slot octets (upto old.words n) true (ap begun (p.done refl)) stays.1 stays.2
 
-pub left_at_end : (old new : Bank) (n slot : ℕ) (octets : List ℕ) (c : Choice) → IsSettled old n → n < room old.size → MarkedIs old new n slot octets
-    → IsOneOf c (upto old.words n) → IsOneOf c (insert (upto old.words n) slot octets) → IsLeft new n c
-left_at_end old new n slot octets c s fits is one two =
-    left_after old new n c s fits is.same is.torn is.size (inr (is.whole, inl is.marked)) one (one_of (records_marked old new n slot octets is) two)
+-- and the log is settled
+pub settled_marked : (old b new : Bank) (n slot : ℕ) (octets : List ℕ) → IsSettled old n → n < room old.size → BodyIs old b n slot octets
+    → Programs (mark n) 0 true b new → IsSettled new (n + 1)
+settled_marked old b new n slot octets s fits body p =
+    let same : (i : ℕ) → i < mark n → new.words i ≡ b.words i = λ i le. p.others i (is_less i (mark n) le) in
+    let stays = body_stays old b new n slot octets body same in
+    let front : SameFront old.words new.words (place n) = λ i three le. same i (omega (arith, le)) ∙ body.same i (inl le) in
+    record {
+      firm = p.torn ∙ body.torn ∙ s.firm;
+      certain = one_more_certain new.words n (all_certain-same old.words new.words n front s.certain) (inl (p.done refl, stays.0));
+      blank = λ i le. p.others i (λ e. absurd (omega (arith, e, le))) ∙ body.same i (inr (omega (arith, le))) ∙ s.blank i (omega (arith, le));
+      within = subst (λ (z : ℕ). n + 1 ≤ room z) (sym (p.size ∙ body.size)) (omega (arith, fits));
+    }
 
-pub mark_certain_stays : (old new : Bank) (n : ℕ) → ((i : ℕ) → place n ≤ i → i < end n → new.words i ≡ old.words i) → IsMarkCertain old.words n
-    → IsMarkCertain new.words n
-mark_certain_stays old new n same (inl e) = inl (same (mark n) (omega arith) (omega arith) ∙ e)
-mark_certain_stays old new n same (inr (e, whole)) = inr (
-  same (mark n) (omega arith) (omega arith)
-      ∙ e,
-  whole_stays old new n (λ i a b. same i a (omega (arith, b))) whole,
-)
-  where
-    whole_stays : (old new : Bank) (n : ℕ) → ((i : ℕ) → place n ≤ i → i < mark n → new.words i ≡ old.words i) → IsWhole old.words n → IsWhole new.words n
-    whole_stays old new n same x =
-        let head : new.words (place n) ≡ old.words (place n) = same (place n) (omega arith) (omega arith) in
-        let few = few_words (value (old.words (place n))) in
-        record {
-          head = firm-same head x.head;
-          slot = subst (λ (y : Word). value y / 65 < 2 ^ 32) (sym head) x.slot;
-          body = λ i le.
-              let le' : i < words_for (length_at old.words n) = subst (λ (y : Word). i < words_for (value y % 65)) head le in
-              firm-same (same (place n + 1 + i) (omega arith) (omega (arith, le', few))) (x.body i le');
-        }
-
--- what the cell stands for stays where only its end has changed
-records_ended : (old new : Bank) (n : ℕ) → ((i : ℕ) → (i ≡ end n → ⊥) → new.words i ≡ old.words i) → upto new.words (n + 1) ≡ upto old.words (n + 1)
-records_ended old new n same =
-    let front : SameFront old.words new.words (place n) = λ i three le. same i (λ e. absurd (omega (arith, e, le))) in
-    let m : new.words (mark n) ≡ old.words (mark n) = same (mark n) (λ e. absurd (omega (arith, e))) in
-    let head : new.words (place n) ≡ old.words (place n) = same (place n) (λ e. absurd (omega (arith, e))) in
-    let few = few_words (value (old.words (place n))) in
-    let size : length_at new.words n ≡ length_at old.words n = ap (λ (x : Word). value x % 65) head in
-    let spelled = octets_from-same old.words new.words (place n + 1) (words_for (length_at old.words n)) (λ i le. same (place n + 1 + i) (λ e. absurd (omega
-    (arith, e, le, few)))) in
-    let octets : octets_at new.words n ≡ octets_at old.words n = ap (λ (k : ℕ). take k (octets_from new.words (place n + 1) (words_for k))) size
-    ∙ ap (take (length_at old.words n)) spelled in
-    records_next old new n front ∙ (λ i. if begun (m i) then insert (upto old.words n) (value (head i) / 65) (octets i) else upto old.words n)
-    ∙ sym (upto-suc old.words n)
-
-pub left_ended : (old new : Bank) (n : ℕ) (c : Choice) (ok : Bool) → n < room old.size → IsLeft old n c → IsMarkCertain old.words n
-    → Programs (end n) 0 ok old new → IsLeft new n c
-left_ended old new n c ok fits left certain p =
+-- a cell whose mark was not begun is closed, or that was cut short
+pub left_closed : (old new : Bank) (n : ℕ) (c : Choice) (ok : Bool) → n < room old.size → IsLeft old n c → old.words (mark n) ≡ Some erased
+    → Programs (place n) 0 ok old new → IsLeft new n c
+left_closed old new n c ok fits left unmarked p =
     let front : SameFront old.words new.words (place n) = λ i three le. p.others i (λ e. absurd (omega (arith, e, le))) in
-    let m : new.words (mark n) ≡ old.words (mark n) = p.others (mark n) (λ e. absurd (omega (arith, e))) in
+    let still : new.words (mark n) ≡ Some erased = p.others (mark n) (λ e. absurd (omega (arith, e))) ∙ unmarked in
+    let stands = one_of (upto-same old.words new.words n front) left.stands in
     record {
       firm = p.torn ∙ left.firm;
       certain = all_certain-same old.words new.words n front left.certain;
-      last = as_open (mark_certain_stays old new n (λ i a b. p.others i (λ e. absurd (omega (arith, e, b)))) certain);
+      last = inl still;
       blank = λ i le. p.others i (λ e. absurd (omega (arith, e, le))) ∙ left.blank i le;
       within = inl (subst (λ (z : ℕ). n < room z) (sym p.size) fits);
-      stands = one_of (upto-same old.words new.words n front) left.stands;
-      stands_next = one_of (records_ended old new n p.others) left.stands_next;
+      stands = stands;
+      stands_next = one_of (uncounted_cell new.words n still) stands;
     }
-  where
-    as_open : IsMarkCertain new.words n → IsOpen new.words n
-    as_open (inl e) = inl e
-    as_open (inr (e, whole)) = inr (whole, inl e)
 
-pub settled_ended : (old new : Bank) (n : ℕ) (c : Choice) → n < room old.size → IsLeft old n c → IsMarkCertain old.words n → Programs (end n) 0 true old new
-    → IsSettled new (n + 1) × IsOneOf c (upto new.words (n + 1))
-settled_ended old new n c fits left certain p =
-    let front : SameFront old.words new.words (place n) = λ i three le. p.others i (λ e. absurd (omega (arith, e, le))) in (
+pub settled_closed : (old new : Bank) (n : ℕ) (c : Choice) → n < room old.size → IsLeft old n c → old.words (mark n) ≡ Some erased
+    → Programs (place n) 0 true old new → IsSettled new (n + 1) × IsOneOf c (upto new.words (n + 1))
+settled_closed old new n c fits left unmarked p =
+    let front : SameFront old.words new.words (place n) = λ i three le. p.others i (λ e. absurd (omega (arith, e, le))) in
+    let still : new.words (mark n) ≡ Some erased = p.others (mark n) (λ e. absurd (omega (arith, e))) ∙ unmarked in (
       record {
         firm = p.torn ∙ left.firm;
-        certain = one_more_certain new.words n (all_certain-same old.words new.words n front left.certain)
-            (record { ended = p.done refl; either = mark_certain_stays old new n (λ i a b. p.others i (λ e. absurd (omega (arith, e, b)))) certain });
+        certain = one_more_certain new.words n (all_certain-same old.words new.words n front left.certain) (inr (still, p.done refl));
         blank = λ i le. p.others i (λ e. absurd (omega (arith, e, le))) ∙ left.blank i (omega (arith, le));
         within = subst (λ (z : ℕ). n + 1 ≤ room z) (sym p.size) (omega (arith, fits));
       },
-      one_of (records_ended old new n p.others) left.stands_next,
+      one_of (uncounted_cell new.words n still ∙ upto-same old.words new.words n front) left.stands,
     )
 
 -- a cell that may count at a reading has a whole record
-pub whole_of_open : (w : ℕ → Word) (n : ℕ) → IsOpen w n → counts w n ≡ true → IsWhole w n × ((w (mark n) ≡ Some 0) ⊎ (w (end n) ≡ Some erased))
+pub whole_of_open : (w : ℕ → Word) (n : ℕ) → IsOpen w n → counts w n ≡ true → IsWhole w n × (w (fence n) ≡ Some 0)
 whole_of_open w n (inl e) c = absurd (never (sym (ap begun e) ∙ c))
   where
     never : false ≡ true → ⊥
     never e = cc
 whole_of_open w n (inr both) c = both
 
+-- the body of a cell whose mark was begun
+pub body_of_left : (old : Bank) (n : ℕ) (c : Choice) → IsLeft old n c → counts old.words n ≡ true
+    → BodyIs old old n (slot_at old.words n) (octets_at old.words n)
+body_of_left old n c left counted =
+    let found = whole_of_open old.words n left.last counted in
+    record { whole = found.0; slot_is = refl; octets_is = refl; fenced = found.1; same = λ i h. refl; torn = refl; size = refl }
+
+pub counted_cell : (w : ℕ → Word) (n : ℕ) → counts w n ≡ true → upto w (n + 1) ≡ insert (upto w n) (slot_at w n) (octets_at w n)
+counted_cell w n counted = upto-suc w n ∙ step_whole w n (slot_at w n) (octets_at w n) (upto w n) true counted refl refl
+
 -- its mark may be programmed again
 pub left_marked : (old new : Bank) (n : ℕ) (c : Choice) (ok : Bool) → n < room old.size → IsLeft old n c → counts old.words n ≡ true
     → Programs (mark n) 0 ok old new → IsLeft new n c
 left_marked old new n c ok fits left counted p =
     let front : SameFront old.words new.words (place n) = λ i three le. p.others i (λ e. absurd (omega (arith, e, le))) in
-    let found = whole_of_open old.words n left.last counted in
-    let body : BodyIs old old n (slot_at old.words n) (octets_at old.words n) = record {
-      whole = found.0;
-      slot_is = refl;
-      octets_is = refl;
-      same = λ i h.
-          refl;
-      torn = refl;
-      size = refl;
-    } in
-    let stays = body_stays old old new n (slot_at old.words n) (octets_at old.words n) body (λ i le. p.others i (λ e. absurd (omega (arith, e, le)))) in
-    let counts_old : upto old.words (n + 1) ≡ insert (upto old.words n) (slot_at old.words n) (octets_at old.words n) =
-    upto-suc old.words n ∙ step_whole old.words n (slot_at old.words n) (octets_at old.words n) (upto old.words n) true counted refl refl in
+    let body = body_of_left old n c left counted in
+    let same : (i : ℕ) → i < mark n → new.words i ≡ old.words i = λ i le. p.others i (is_less i (mark n) le) in
+    let stays = body_stays old old new n (slot_at old.words n) (octets_at old.words n) body same in
     record {
       firm = p.torn ∙ left.firm;
       certain = all_certain-same old.words new.words n front left.certain;
-      last = inr (stays.0, again found.1);
+      last = inr (stays.0, same (fence n) (omega arith) ∙ body.fenced);
       blank = λ i le. p.others i (λ e. absurd (omega (arith, e, le))) ∙ left.blank i le;
       within = inl (subst (λ (z : ℕ). n < room z) (sym p.size) fits);
       stands = one_of (upto-same old.words new.words n front) left.stands;
       stands_next = one_of (records_next old new n front ∙ step_whole new.words n (slot_at old.words n) (octets_at old.words n) (upto old.words n) (counts
           new.words n) refl stays.1 stays.2)
           (one_of_step c (counts new.words n) (upto old.words n) (insert (upto old.words n) (slot_at old.words n) (octets_at old.words n)) left.stands (one_of
-          (sym counts_old) left.stands_next));
+          (sym (counted_cell old.words n counted)) left.stands_next));
     }
-  where
-    again : (old.words (mark n) ≡ Some 0) ⊎ (old.words (end n) ≡ Some erased) → (new.words (mark n) ≡ Some 0) ⊎ (new.words (end n) ≡ Some erased)
-    again (inl e) = inl (p.kept e)
-    again (inr e) = inr (p.others (end n) (λ x. absurd (omega (arith, x))) ∙ e)
+
+pub settled_again : (old new : Bank) (n : ℕ) (c : Choice) → n < room old.size → IsLeft old n c → counts old.words n ≡ true
+    → Programs (mark n) 0 true old new → IsSettled new (n + 1) × IsOneOf c (upto new.words (n + 1))
+settled_again old new n c fits left counted p =
+    let front : SameFront old.words new.words (place n) = λ i three le. p.others i (λ e. absurd (omega (arith, e, le))) in
+    let body = body_of_left old n c left counted in
+    let same : (i : ℕ) → i < mark n → new.words i ≡ old.words i = λ i le. p.others i (is_less i (mark n) le) in
+    let stays = body_stays old old new n (slot_at old.words n) (octets_at old.words n) body same in (
+      record {
+        firm = p.torn ∙ left.firm;
+        certain = one_more_certain new.words n (all_certain-same old.words new.words n front left.certain) (inl (p.done refl, stays.0));
+        blank = λ i le. p.others i (λ e. absurd (omega (arith, e, le))) ∙ left.blank i (omega (arith, le));
+        within = subst (λ (z : ℕ). n + 1 ≤ room z) (sym p.size) (omega (arith, fits));
+      },
+      one_of (records_marked old old new n (slot_at old.words n) (octets_at old.words n) body p ∙ sym (counted_cell old.words n counted)) left.stands_next,
+    )
 
 firm_of : (x : Word) (n : ℕ) → x ≡ Some n → IsFirm x
 firm_of x n e = e ∙ ap (λ (y : Word). Some (value y)) (sym e)

@@ -9,10 +9,6 @@ pub on_err : {T E P : Type 0} (r : Result T E) → P → OnErr r P
 on_err (Ok x) p = tt
 on_err (Err e) p = p
 
-pub both_ok : {T E P Q R : Type 0} (r : Result T E) → (P → Q → R) → OnOk r P → OnOk r Q → OnOk r R
-both_ok (Ok x) f p q = f p q
-both_ok (Err e) f p q = tt
-
 pub one_ok : {T E P R : Type 0} (r : Result T E) → (P → R) → OnOk r P → OnOk r R
 one_ok (Ok x) f p = f p
 one_ok (Err e) f p = tt
@@ -40,3 +36,7 @@ under_ok P (Err e) f = tt
 pub one_if_err : {T E : Type 0} {P Q : E → Type 0} (r : Result T E) → ((e : E) → P e → Q e) → IfErr r P → IfErr r Q
 one_if_err (Ok x) f p = tt
 one_if_err (Err e) f p = f e p
+
+pub under : {T E A : Type 0} (P : T → Type 0) (r : Result T E) → (A → IfOk r P) → IfOk r (λ x. A → P x)
+under P (Ok x) f = f
+under P (Err e) f = tt

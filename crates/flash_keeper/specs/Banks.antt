@@ -1,5 +1,5 @@
 -- Two banks: the live one and the spare one, and what an opening may find in them.
-use Rattle.std.specs.Prelude.{◌≡◌, ◌⊎◌, ℕ, ◌+◌, Bool, true, false, List, Option, Some, None, refl}
+use Rattle.std.specs.Prelude.{◌≡◌, ◌<◌, ◌⊎◌, ℕ, ◌+◌, Bool, true, false, List, Option, Some, None, refl}
 use Rattle.std.specs.Bool.{OnFalse}
 use Rattle.std.specs.Coded.{Coded, code_by, coded×, coded_ℕ, coded_list}
 use Rattle.std.specs.FinMap.{code, insert}
@@ -22,15 +22,28 @@ IsLive bank generation = IsHeaded bank generation × (bank.words 2 ≡ Some 0)
 abbrev pub IsDead : Bank → Type 0
 IsDead bank = (bank.words 0 ≡ Some 0) ⊎ ((bank.torn ≡ false) × (bank.words 2 ≡ Some erased))
 
+-- A bank that has its generation, which is never 0. 0 there is a note, made after the bank was retired: neither head has to be programmed again.
+pub record IsNumbered (bank : Bank) : Type 0 where
+  pub firm : bank.torn ≡ false
+  pub generation : ℕ
+  pub number : bank.words 1 ≡ Some generation
+  pub more : 0 < generation
+
 -- A bank whose log stands for the records of a choice, whatever its head reads as.
 abbrev pub IsStanding : Bank → Choice → Type 0
-IsStanding bank choice = (n : ℕ) × IsLeft bank n choice
+IsStanding bank choice = IsNumbered bank × (n : ℕ) × IsLeft bank n choice
+
+-- Beside a live bank: a bank that no reading takes for one, with its generation, or the mark of the live one is firm; or one that stands for
+-- the same records.
+abbrev pub IsBeside : Bank → Bank → Choice → Type 0
+IsBeside live spare choice = (IsDead spare × (IsNumbered spare ⊎ (live.words 2 ≡ Some 0))) ⊎ IsStanding spare choice
 
 -- What may be left of two banks at any moment: the log of the live one stands for the records of the choice, and so does that of the spare
 -- one, unless no reading takes that for a live one. Nothing is put before one of them is firmly dead: so whichever a reading shows as live is right.
 pub record AreLeft (live spare : Bank) (n : ℕ) (choice : Choice) : Type 0 where
+  pub number : IsNumbered live
   pub log : IsLeft live n choice
-  pub beside : IsDead spare ⊎ IsStanding spare choice
+  pub beside : IsBeside live spare choice
 
 -- two banks, in either order, that an opening makes one of these records of
 abbrev pub IsStore : Bank → Bank → Choice → Type 0
@@ -39,6 +52,7 @@ IsStore first second choice = ((n : ℕ) × AreLeft first second n choice) ⊎ (
 -- Nothing is open: the mark and the log of the live bank are firm, and no reading takes the spare one for a live one.
 pub record AreReady (live spare : Bank) (n : ℕ) : Type 0 where
   pub sizes : live.size ≡ spare.size
+  pub number : IsNumbered live
   pub mark : live.words 2 ≡ Some 0
   pub log : IsSettled live n
   pub beside : IsDead spare

@@ -9,9 +9,9 @@ Word = Option ℕ
 abbrev pub erased : ℕ
 erased = 0xFFFFFFFFFFFFFFFF
 
--- the first word of a bank with a store of this layout: a name, and the number 1 of the layout
+-- the first word of a bank with a store of this layout: a name, and the number 2 of the layout
 abbrev pub head_word : ℕ
-head_word = 0x464C4B4545500001
+head_word = 0x464C4B4545500002
 
 -- A bank. torn: an erase of it was cut short and none was done since. Its words are then what they were when that erase began, or what was
 -- programmed since. But each bit that is 0 rises to 1 at a moment of its own in an erase, so each word reads as anything, anew each time.

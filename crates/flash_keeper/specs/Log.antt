@@ -7,15 +7,16 @@ use Rattle.plc_base.specs.Keeper.{Records}
 use Rattle.flash_keeper.specs.Flash.{Word, Bank, erased}
 
 -- A bank begins with three words: its head, its generation, and the mark that makes it count. Then come cells of 11 words: 65 times the
--- slot and the length, 8 of octets, the mark that makes the cell count, and the end, by which its mark is certain.
+-- slot and the length, 8 of octets, the fence, which says that these are whole, and the mark, which makes the cell count. The first word of
+-- a cell that never counts is 0 once it is closed.
 abbrev pub place : ℕ → ℕ
 place k = 3 + 11 * k
 
-abbrev pub mark : ℕ → ℕ
-mark k = 3 + 11 * k + 9
+abbrev pub fence : ℕ → ℕ
+fence k = 3 + 11 * k + 9
 
-abbrev pub end : ℕ → ℕ
-end k = 3 + 11 * k + 10
+abbrev pub mark : ℕ → ℕ
+mark k = 3 + 11 * k + 10
 
 -- how many cells a bank of so many words has
 abbrev pub room : ℕ → ℕ
@@ -67,25 +68,20 @@ IsFirm word = word ≡ Some (value word)
 -- a cell has a record that reads the same each time
 pub record IsWhole (words : ℕ → Word) (k : ℕ) : Type 0 where
   pub head : IsFirm (words (place k))
+  pub more : 0 < slot_at words k
   pub slot : slot_at words k < 2 ^ 32
   pub body : (i : ℕ) → i < words_for (length_at words k) → IsFirm (words (place k + 1 + i))
 
--- the mark of a cell was not begun, or is whole and so is its record
-abbrev pub IsMarkCertain : (ℕ → Word) → ℕ → Type 0
-IsMarkCertain words k = (words (mark k) ≡ Some erased) ⊎ ((words (mark k) ≡ Some 0) × IsWhole words k)
-
--- a cell that is certain: it is ended, and has a record or none
-pub record IsCertain (words : ℕ → Word) (k : ℕ) : Type 0 where
-  pub ended : words (end k) ≡ Some 0
-  pub either : IsMarkCertain words k
+-- a cell that is certain: its mark is whole and so is its record, or it is closed and its mark was not begun
+abbrev pub IsCertain : (ℕ → Word) → ℕ → Type 0
+IsCertain words k = ((words (mark k) ≡ Some 0) × IsWhole words k) ⊎ ((words (mark k) ≡ Some erased) × (words (place k) ≡ Some 0))
 
 abbrev pub AreCertain : (ℕ → Word) → ℕ → Type 0
 AreCertain words n = (k : ℕ) → k < n → IsCertain words k
 
--- What may be found in the cell that is written: its mark was not begun, or its record is whole, and either its mark is certain or
--- its end was not begun.
+-- What may be found in the cell that is written: its mark was not begun, or its record is whole and so is its fence.
 abbrev pub IsOpen : (ℕ → Word) → ℕ → Type 0
-IsOpen words k = (words (mark k) ≡ Some erased) ⊎ (IsWhole words k × ((words (mark k) ≡ Some 0) ⊎ (words (end k) ≡ Some erased)))
+IsOpen words k = (words (mark k) ≡ Some erased) ⊎ (IsWhole words k × (words (fence k) ≡ Some 0))
 
 abbrev pub IsBlankFrom : (ℕ → Word) → ℕ → Type 0
 IsBlankFrom words at = (i : ℕ) → at ≤ i → words i ≡ Some erased

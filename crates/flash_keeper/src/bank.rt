@@ -6,13 +6,13 @@ use plc_base::Failed;
 
 /// The number of the layout of a store, the lowest 16 bits of the first word of a bank: of the words of its log, and of the records of a node
 /// in it. Code that reads either otherwise has another number, so it takes no store of older code for one of its own.
-pub const LAYOUT: u16 = 1;
+pub const LAYOUT: u16 = 2;
 
 /// A word of which each bit is 1.
 pub const ERASED: u64 = 0xFFFF_FFFF_FFFF_FFFF;
 
 /// The first word of a bank with a store: six octets that no other use writes there, and [`LAYOUT`].
-pub const HEAD: u64 = 0x464C_4B45_4550_0001;
+pub const HEAD: u64 = 0x464C_4B45_4550_0002;
 
 /// A bank of NOR flash: words of 8 octets which are erased together.
 ///
@@ -62,7 +62,7 @@ pub trait FlashBank {
 /// The number of the layout of a store in a bank, None where its first word names none. It is [`LAYOUT`] in each bank that an opening
 /// takes; where a store of another layout is found, firmware that knows that layout can read it.
 pub fn layout_of<B: FlashBank>(bank: &B) -> Option<u16>
-    ensures { (B.bank bank.now).torn ≡ false → (B.bank bank.now).words 0 ≡ Some head_word → result ≡ Some 1 }
+    ensures { (B.bank bank.now).torn ≡ false → (B.bank bank.now).words 0 ≡ Some head_word → result ≡ Some 2 }
 {
     let head = bank.read(0);
     if head / 65536 != HEAD / 65536 {

@@ -5,8 +5,8 @@ ghost use Rattle.std.specs.FinMap as map;
 ghost use Rattle.std.specs.FinMap.{insert};
 ghost use Rattle.byteorder.specs.Endian.{big_bytes};
 ghost use Rattle.flash_keeper.specs.Flash.{erased};
-ghost use Rattle.flash_keeper.specs.Log.{place, mark, end, room, slot_at, length_at, octets_from, octets_at, words_for, IsWhole, AreCertain, IsBlankFrom};
-ghost use Rattle.flash_keeper.specs.Log.{IsSettled, IsLeft, SameOutside, Choice, IsOneOf, SameBelow, IsOpen, IsMarkCertain, IsFoundBlank, IsClosable, upto};
+ghost use Rattle.flash_keeper.specs.Log.{place, mark, fence, room, slot_at, length_at, octets_from, octets_at, words_for, IsWhole, AreCertain, IsBlankFrom};
+ghost use Rattle.flash_keeper.specs.Log.{IsSettled, IsLeft, SameOutside, Choice, IsOneOf, SameBelow, IsOpen, IsFoundBlank, IsClosable, upto};
 ghost use Rattle.flash_keeper.specs.Log.{holds, holds_later, counts, kept, IsFirm, IsCertain};
 
 use crate::bank::{ERASED, FlashBank};
@@ -17,10 +17,10 @@ use plc_base::{Failed, Record};
 const BEFORE: usize = 3;
 /// How many words a cell has.
 const CELL: usize = 11;
+/// Which word of a cell says that its record is whole.
+const FENCE: usize = 9;
 /// Which word of a cell is its mark.
-const MARK: usize = 9;
-/// Which word of a cell is its end.
-const END: usize = 10;
+const MARK: usize = 10;
 
 // The place of the first word of a cell.
 fn place_of(cell: usize) -> usize
@@ -172,7 +172,7 @@ fn word_at(octets: &[u8; 64], at: usize) -> u64
     BigEndian::read_u64(&octets[at..at + 8])
 }
 
-// Programs slot, length and octets of a cell.
+// Programs slot, length and octets of a cell, and its fence.
 fn write_body<B: FlashBank>(
     bank: &mut B,
     cell: usize,
@@ -181,10 +181,12 @@ fn write_body<B: FlashBank>(
 ) -> Result<(), Failed>
     requires within { cell < room (B.bank bank.old).size }
     requires firm { (B.bank bank.old).torn ≡ false }
+    requires more { 0 < slot }
     requires blank { IsBlankFrom (B.bank bank.old).words (place cell) }
     ensures whole { OnOk result (IsWhole (B.bank bank.new).words cell) }
     ensures slot { OnOk result (slot_at (B.bank bank.new).words cell ≡ slot) }
     ensures octets { OnOk result (octets_at (B.bank bank.new).words cell ≡ octets.now) }
+    ensures fence { OnOk result ((B.bank bank.new).words (fence cell) ≡ Some 0) }
     ensures same { SameOutside (place cell) (mark cell) (B.bank bank.old) (B.bank bank.new) }
     ensures firm { (B.bank bank.new).torn ≡ false }
     ensures size { (B.bank bank.new).size ≡ (B.bank bank.old).size }
@@ -194,7 +196,8 @@ fn write_body<B: FlashBank>(
     let length = octets.len();
     let all = padded(octets);
     bank.program(at, slot as u64 * 65 + length as u64)?;
-    write_words(bank, cell, (length + 7) / 8, &all)
+    write_words(bank, cell, (length + 7) / 8, &all)?;
+    bank.program(at + FENCE, 0)
 }
 
 // Programs the octets of a cell, in so many words.
@@ -210,7 +213,7 @@ fn write_words<B: FlashBank>(
     requires blank { IsBlankFrom (B.bank bank.old).words (place cell + 1) }
     ensures octets { OnOk result (octets_from (B.bank bank.new).words (place cell + 1) words ≡ take (8 * words) octets.now) }
     ensures body { OnOk result ((i : ℕ) → i < words → IsFirm ((B.bank bank.new).words (place cell + 1 + i))) }
-    ensures same { SameOutside (place cell + 1) (mark cell) (B.bank bank.old) (B.bank bank.new) }
+    ensures same { SameOutside (place cell + 1) (fence cell) (B.bank bank.old) (B.bank bank.new) }
     ensures firm { (B.bank bank.new).torn ≡ false }
     ensures size { (B.bank bank.new).size ≡ (B.bank bank.old).size }
     ensures failed { OnErr result (B.has_failed bank.new ≡ true) }
@@ -224,7 +227,7 @@ fn write_words<B: FlashBank>(
     Ok(())
 }
 
-/// Writes a record into the first cell after a settled log: the record, the mark that makes it count, and the end.
+/// Writes a record into the first cell after a settled log: the record, and the mark that makes it count.
 pub fn write_cell<B: FlashBank>(
     bank: &mut B,
     cell: usize,
@@ -232,6 +235,7 @@ pub fn write_cell<B: FlashBank>(
     octets: &Record,
 ) -> Result<(), Failed>
     requires settled { IsSettled (B.bank bank.old) cell }
+    requires more { 0 < slot }
     requires room { cell < room (B.bank bank.old).size }
     ensures settled { OnOk result (IsSettled (B.bank bank.new) (cell + 1)) }
     ensures records { OnOk result (upto (B.bank bank.new).words (cell + 1) ≡ insert (upto (B.bank bank.old).words cell) slot octets.now) }
@@ -245,8 +249,7 @@ pub fn write_cell<B: FlashBank>(
 {
     let at = place_of(cell);
     write_body(bank, cell, slot, octets)?;
-    bank.program(at + MARK, 0)?;
-    bank.program(at + END, 0)
+    bank.program(at + MARK, 0)
 }
 
 // Copies a cell of the log in a bank to the end of the log in another one, unless a later one of the first cells has its slot.
@@ -312,15 +315,11 @@ pub fn copy<B: FlashBank>(from: &B, cells: usize, to: &mut B) -> Result<usize, F
 fn is_blank<B: FlashBank>(bank: &B, cell: usize) -> bool
     requires within { cell < room (B.bank bank.now).size }
     requires firm { (B.bank bank.now).torn ≡ false }
-    ensures certain { (B.bank bank.now).words (end cell) ≡ Some 0 → result ≡ false }
+    ensures certain { IsCertain (B.bank bank.now).words cell → result ≡ false }
     ensures whole { IsWhole (B.bank bank.now).words cell → result ≡ false }
-    ensures blank { (B.bank bank.now).words (place cell) ≡ Some erased → (B.bank bank.now).words (end cell) ≡ Some erased → result ≡ true }
+    ensures blank { (B.bank bank.now).words (place cell) ≡ Some erased → result ≡ true }
 {
-    let at = place_of(cell);
-    if bank.read(at) != ERASED {
-        return false;
-    }
-    bank.read(at + END) == ERASED
+    bank.read(place_of(cell)) == ERASED
 }
 
 /// The first cell that reads as blank: the first one after those that are certain, or the next one.
@@ -340,39 +339,51 @@ pub fn first_blank<B: FlashBank>(bank: &B) -> usize
     count
 }
 
-// Whether the end of a cell reads as begun.
-fn is_ended<B: FlashBank>(bank: &B, cell: usize) -> bool
+// Whether a cell reads as closed, so that its mark was not begun.
+fn is_closed<B: FlashBank>(bank: &B, cell: usize) -> bool
     requires within { cell < room (B.bank bank.now).size }
     requires firm { (B.bank bank.now).torn ≡ false }
-    ensures ended { (B.bank bank.now).words (end cell) ≡ Some 0 → result ≡ true }
-    ensures certain { result ≡ true → IsOpen (B.bank bank.now).words cell → IsMarkCertain (B.bank bank.now).words cell }
+    ensures closed { (B.bank bank.now).words (place cell) ≡ Some 0 → result ≡ true }
+    ensures unmarked { result ≡ true → IsOpen (B.bank bank.now).words cell → (B.bank bank.now).words (mark cell) ≡ Some erased }
+    ensures uncertain { result ≡ true → IsWhole (B.bank bank.now).words cell → ⊥ }
 {
-    bank.read(place_of(cell) + END) != ERASED
+    bank.read(place_of(cell)) == 0
+}
+
+// Whether the fence of a cell reads as not begun, so that its mark was not either.
+fn is_unfenced<B: FlashBank>(bank: &B, cell: usize) -> bool
+    requires within { cell < room (B.bank bank.now).size }
+    requires firm { (B.bank bank.now).torn ≡ false }
+    ensures erased { (B.bank bank.now).words (fence cell) ≡ Some erased → result ≡ true }
+    ensures unmarked { result ≡ true → IsOpen (B.bank bank.now).words cell → (B.bank bank.now).words (mark cell) ≡ Some erased }
+{
+    bank.read(place_of(cell) + FENCE) == ERASED
 }
 
 // Whether the mark of a cell reads as programmed.
 fn reads_marked<B: FlashBank>(bank: &B, cell: usize) -> bool
     requires within { cell < room (B.bank bank.now).size }
     requires firm { (B.bank bank.now).torn ≡ false }
-    ensures { result ≡ true → counts (B.bank bank.now).words cell ≡ true }
+    ensures counted { result ≡ true → counts (B.bank bank.now).words cell ≡ true }
+    ensures marked { (B.bank bank.now).words (mark cell) ≡ Some 0 → result ≡ true }
 {
     bank.read(place_of(cell) + MARK) == 0
 }
 
-/// Ends a cell, so that it is certain where its mark is.
-pub fn end_cell<B: FlashBank>(bank: &mut B, cell: usize) -> Result<(), Failed>
+/// Closes a cell whose mark was not begun, so that it never counts.
+pub fn close_cell<B: FlashBank>(bank: &mut B, cell: usize) -> Result<(), Failed>
     requires firm { (B.bank bank.old).torn ≡ false }
     requires within { cell < room (B.bank bank.old).size }
-    ensures settled { OnOk result ((c : Choice) → IsLeft (B.bank bank.old) cell c → IsMarkCertain (B.bank bank.old).words cell
+    ensures settled { OnOk result ((c : Choice) → IsLeft (B.bank bank.old) cell c → (B.bank bank.old).words (mark cell) ≡ Some erased
         → IsSettled (B.bank bank.new) (cell + 1) × IsOneOf c (upto (B.bank bank.new).words (cell + 1))) }
-    ensures left { (c : Choice) → IsLeft (B.bank bank.old) cell c → IsMarkCertain (B.bank bank.old).words cell → IsLeft (B.bank bank.new) cell c }
-    ensures same { (B.bank bank.old).words (end cell) ≡ Some 0 → B.bank bank.new ≡ B.bank bank.old }
+    ensures left { (c : Choice) → IsLeft (B.bank bank.old) cell c → (B.bank bank.old).words (mark cell) ≡ Some erased → IsLeft (B.bank bank.new) cell c }
+    ensures same { (B.bank bank.old).words (place cell) ≡ Some 0 → B.bank bank.new ≡ B.bank bank.old }
     ensures heads { SameBelow 3 (B.bank bank.old) (B.bank bank.new) }
     ensures firm { (B.bank bank.new).torn ≡ false }
     ensures size { (B.bank bank.new).size ≡ (B.bank bank.old).size }
     ensures failed { OnErr result (B.has_failed bank.new ≡ true) }
 {
-    bank.program(place_of(cell) + END, 0)
+    bank.program(place_of(cell), 0)
 }
 
 // Makes a cell count for good whose mark was begun.
@@ -380,8 +391,10 @@ fn mark_cell<B: FlashBank>(bank: &mut B, cell: usize) -> Result<(), Failed>
     requires firm { (B.bank bank.old).torn ≡ false }
     requires within { cell < room (B.bank bank.old).size }
     requires marked { counts (B.bank bank.old).words cell ≡ true }
-    ensures certain { OnOk result ((c : Choice) → IsLeft (B.bank bank.old) cell c → IsMarkCertain (B.bank bank.new).words cell) }
+    ensures settled { OnOk result ((c : Choice) → IsLeft (B.bank bank.old) cell c
+        → IsSettled (B.bank bank.new) (cell + 1) × IsOneOf c (upto (B.bank bank.new).words (cell + 1))) }
     ensures left { (c : Choice) → IsLeft (B.bank bank.old) cell c → IsLeft (B.bank bank.new) cell c }
+    ensures same { (B.bank bank.old).words (mark cell) ≡ Some 0 → B.bank bank.new ≡ B.bank bank.old }
     ensures heads { SameBelow 3 (B.bank bank.old) (B.bank bank.new) }
     ensures firm { (B.bank bank.new).torn ≡ false }
     ensures size { (B.bank bank.new).size ≡ (B.bank bank.old).size }
@@ -390,31 +403,15 @@ fn mark_cell<B: FlashBank>(bank: &mut B, cell: usize) -> Result<(), Failed>
     bank.program(place_of(cell) + MARK, 0)
 }
 
-// Makes a cell certain that counts at a reading.
-fn mark_and_end<B: FlashBank>(bank: &mut B, cell: usize) -> Result<(), Failed>
-    requires firm { (B.bank bank.old).torn ≡ false }
-    requires within { cell < room (B.bank bank.old).size }
-    requires marked { counts (B.bank bank.old).words cell ≡ true }
-    ensures settled { OnOk result ((c : Choice) → IsLeft (B.bank bank.old) cell c
-        → IsSettled (B.bank bank.new) (cell + 1) × IsOneOf c (upto (B.bank bank.new).words (cell + 1))) }
-    ensures left { (c : Choice) → IsLeft (B.bank bank.old) cell c → OnErr result (IsLeft (B.bank bank.new) cell c) }
-    ensures heads { SameBelow 3 (B.bank bank.old) (B.bank bank.new) }
-    ensures firm { (B.bank bank.new).torn ≡ false }
-    ensures size { (B.bank bank.new).size ≡ (B.bank bank.old).size }
-    ensures failed { OnErr result (B.has_failed bank.new ≡ true) }
-{
-    mark_cell(bank, cell)?;
-    end_cell(bank, cell)
-}
-
-// Makes a cell certain that may be the last one. It answers false where the cell counts at some readings and not at others: then it
-// stays as it is.
+// Makes a cell certain that may be the last one. It answers false where the cell counts at some readings and not at others, as far as
+// one reading shows: then it stays as it is.
 fn settle_last<B: FlashBank>(bank: &mut B, cell: usize) -> Result<bool, Failed>
     requires firm { (B.bank bank.old).torn ≡ false }
     requires within { cell < room (B.bank bank.old).size }
     ensures settled { IfOk result (λ ok. ok ≡ true → (c : Choice) → IsLeft (B.bank bank.old) cell c
         → IsSettled (B.bank bank.new) (cell + 1) × IsOneOf c (upto (B.bank bank.new).words (cell + 1))) }
     ensures torn { IfOk result (λ ok. ok ≡ false → B.bank bank.new ≡ B.bank bank.old) }
+    ensures unfenced { (B.bank bank.old).words (fence cell) ≡ Some erased → IfOk result (λ ok. ok ≡ true) }
     ensures certain { IsCertain (B.bank bank.old).words cell → (IfOk result (λ ok. ok ≡ true)) × (B.bank bank.new ≡ B.bank bank.old) }
     ensures left { OnErr result ((c : Choice) → IsLeft (B.bank bank.old) cell c → IsLeft (B.bank bank.new) cell c) }
     ensures heads { SameBelow 3 (B.bank bank.old) (B.bank bank.new) }
@@ -422,14 +419,18 @@ fn settle_last<B: FlashBank>(bank: &mut B, cell: usize) -> Result<bool, Failed>
     ensures size { (B.bank bank.new).size ≡ (B.bank bank.old).size }
     ensures failed { OnErr result (B.has_failed bank.new ≡ true) }
 {
-    if is_ended(bank, cell) {
-        end_cell(bank, cell)?;
+    if is_closed(bank, cell) {
+        close_cell(bank, cell)?;
         return Ok(true);
     }
-    if !reads_marked(bank, cell) {
+    if reads_marked(bank, cell) {
+        mark_cell(bank, cell)?;
+        return Ok(true);
+    }
+    if !is_unfenced(bank, cell) {
         return Ok(false);
     }
-    mark_and_end(bank, cell)?;
+    close_cell(bank, cell)?;
     Ok(true)
 }
 
@@ -442,6 +443,8 @@ pub fn settle_before<B: FlashBank>(bank: &mut B, at: usize) -> Result<bool, Fail
         → IsClosable (B.bank bank.new) at c) }
     ensures torn { IfOk result (λ ok. ok ≡ false → (n : ℕ) (c : Choice) → IsLeft (B.bank bank.old) n c → IsFoundBlank (B.bank bank.old) n at
         → (0 < at) × IsLeft (B.bank bank.new) (at - 1) c) }
+    ensures unfenced { IfOk result (λ ok. ok ≡ false → (n : ℕ) (c : Choice) → IsLeft (B.bank bank.old) n c → IsFoundBlank (B.bank bank.old) n at
+        → (B.bank bank.old).words (fence n) ≡ Some erased → ⊥) }
     ensures left { OnErr result ((n : ℕ) (c : Choice) → IsLeft (B.bank bank.old) n c → IsFoundBlank (B.bank bank.old) n at → IsLeft (B.bank bank.new) n c) }
     ensures heads { SameBelow 3 (B.bank bank.old) (B.bank bank.new) }
     ensures firm { (B.bank bank.new).torn ≡ false }

@@ -160,6 +160,7 @@ impl<B: FlashBank + Drop> FlashKeeper<B> {
     // Writes a record to flash.
     #[tactic(auto, using(crate::proofs::KeeperLemmas::kept_of_ready, crate::proofs::KeeperLemmas::kept_of_left, crate::proofs::KeeperLemmas::nothing_else))]
     fn write(&mut self, slot: u32, octets: &Record) -> Result<(), Failed>
+        requires { 0 < slot }
         ensures ok { OnOk result (self.new.store.records ≡ insert self.old.store.records slot octets.now) }
         ensures err { OnErr result (self.new.store.records ≡ self.old.store.records) }
         ensures faults { self.new.store.faults ≡ self.old.store.faults }

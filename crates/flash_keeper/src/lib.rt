@@ -29,16 +29,25 @@
 //! The keeper answers each get as before, and fails each further put. Whoever has it drops what stands on it, takes the banks
 //! ([`FlashKeeper::into_banks`]) and opens them and the node anew. A `restart` of a node over the same keeper does not do: its puts fail.
 //!
+//! # Where power fails in a put
+//!
+//! A put programs slot and length, the octets, a fence that says that these are whole, and the mark that makes the cell count. Where the fence
+//! reads as not begun the mark was not begun either: an opening closes the cell in place, and erases nothing. Where the mark reads as programmed
+//! it makes that firm. Only where it reads the fence as begun and the mark as not does it copy the log without this cell, since the mark may read
+//! otherwise the next time: so power failed in the program of one of these two, or between them.
+//! An opening that loses power in that copy leaves it to the next one, which erases again: open a store at a supply that lasts for a copy.
+//!
 //! # Figures
 //!
 //! | | |
 //! |---|---|
 //! | RAM | two [`FlashBank`] objects and 32 octets (24 on a 32-bit machine); no table of slots, no buffer that stays, no allocation |
 //! | flash, per bank | 24 octets, and 88 for each put until the bank is full |
-//! | a put | 3 programs of marks and lengths, and one for each 8 octets of the record: 11 at most |
-//! | an opening | 3 or 4 programs, and one cell |
+//! | a put | 3 programs of length, fence and mark, and one for each 8 octets of the record: 11 at most |
+//! | an opening | 2 programs at most, and one cell; 3 programs more in the first one after a bank was copied, which are of heads |
+//! | a word of a head | programmed at most 4 times between erases, and once more in an opening that loses power there, or after an erase that did |
 //! | a bank that is full | one erase, 5 programs, and a copy of each record; then the other bank is live, so the banks wear by turns |
-//! | erases | one in (cells of a bank - slots with a record) puts and openings, and one for each put that lost power in its record |
+//! | erases | one in (cells of a bank - slots with a record) puts and openings, and one in an opening that reads the last fence as begun and its mark as not |
 //!
 //! Two banks of 32 KiB have 372 cells each; a meter has at most 166 records, so there is one erase in 206 puts and openings at least. A get looks
 //! through the log from its end, two words a cell: nodes get records when they open, and hold them after that.

@@ -3,11 +3,11 @@ ghost use Rattle.std.specs.Prelude.{◌≡◌, ◌<◌, ◌≤◌, ◌+◌, ◌�
 ghost use Rattle.std.specs.FinMap as map;
 ghost use Rattle.std.specs.FinMap.{insert};
 ghost use Rattle.flash_keeper.specs.Flash.{erased, Programs};
-ghost use Rattle.flash_keeper.specs.Log.{room, mark, upto, Choice, IsOneOf, IsSettled, IsLeft, IsClosable, AreCertain, SameBelow};
-ghost use Rattle.flash_keeper.specs.Banks.{choice_of, AreLeft, AreReady, IsStore, IsLive, IsHeaded, IsDead, IsSeen};
+ghost use Rattle.flash_keeper.specs.Log.{room, mark, fence, upto, Choice, IsOneOf, IsSettled, IsLeft, IsClosable, AreCertain, SameBelow};
+ghost use Rattle.flash_keeper.specs.Banks.{choice_of, AreLeft, AreReady, IsStore, IsLive, IsHeaded, IsDead, IsSeen, IsNumbered};
 
 use crate::bank::{FlashBank, HEAD};
-use crate::cells::{copy, end_cell, first_blank, room_of, settle_before, write_cell};
+use crate::cells::{close_cell, copy, first_blank, room_of, settle_before, write_cell};
 use plc_base::{Failed, Record};
 use std::mem::swap;
 
@@ -53,6 +53,22 @@ fn confirm<B: FlashBank>(bank: &mut B) -> Result<(), Failed>
     ensures failed { OnErr result (B.has_failed bank.new ≡ true) }
 {
     bank.program(2, 0)
+}
+
+// Notes in a retired bank, at its generation, that its head is firmly 0 and the mark of the live one firm.
+fn note<B: FlashBank>(bank: &mut B) -> Result<(), Failed>
+    ensures programs { Programs 1 0 (is_ok result) (B.bank bank.old) (B.bank bank.new) }
+    ensures failed { OnErr result (B.has_failed bank.new ≡ true) }
+{
+    bank.program(1, 0)
+}
+
+// Whether a bank reads as noted: no bank with its generation does.
+fn is_noted<B: FlashBank>(bank: &B) -> bool
+    ensures noted { result ≡ true → IsNumbered (B.bank bank.now) → ⊥ }
+    ensures firm { (B.bank bank.now).torn ≡ false → (B.bank bank.now).words 1 ≡ Some 0 → result ≡ true }
+{
+    bank.read(1) == 0
 }
 
 // Retires a bank, and erases it.
@@ -108,7 +124,8 @@ fn copy_to<B: FlashBank>(
 impl<B: FlashBank + Drop> Pair<B> {
     // Copies the records to the spare bank, which is then the live one, and retires the one that was.
     fn rewrite(&mut self) -> Result<(), Failed>
-        requires firm { (B.bank self.old.live).torn ≡ false }
+        requires number { IsNumbered (B.bank self.old.live) }
+        requires mark { (B.bank self.old.live).words 2 ≡ Some 0 }
         requires within { self.old.next ≤ room (B.bank self.old.live).size }
         requires certain { AreCertain (B.bank self.old.live).words self.old.next }
         requires spare { IsDead (B.bank self.old.spare) }
@@ -154,6 +171,7 @@ impl<B: FlashBank + Drop> Pair<B> {
     // Writes a record to the end of the log.
     fn append(&mut self, slot: u32, octets: &Record) -> Result<(), Failed>
         requires ready { AreReady (B.bank self.old.live) (B.bank self.old.spare) self.old.next }
+        requires more { 0 < slot }
         requires room { self.old.next < room (B.bank self.old.live).size }
         ensures ready { OnOk result (AreReady (B.bank self.new.live) (B.bank self.new.spare) self.new.next) }
         ensures records { OnOk result (upto (B.bank self.new.live).words self.new.next ≡ insert (upto (B.bank self.old.live).words self.old.next) slot
@@ -170,7 +188,8 @@ impl<B: FlashBank + Drop> Pair<B> {
 
     /// Writes a record to the end of the log, and makes room for it before.
     pub fn put(&mut self, slot: u32, octets: &Record) -> Result<(), Failed>
-        requires { AreReady (B.bank self.old.live) (B.bank self.old.spare) self.old.next }
+        requires ready { AreReady (B.bank self.old.live) (B.bank self.old.spare) self.old.next }
+        requires more { 0 < slot }
         ensures ready { OnOk result (AreReady (B.bank self.new.live) (B.bank self.new.spare) self.new.next) }
         ensures records { OnOk result (upto (B.bank self.new.live).words self.new.next ≡ insert (upto (B.bank self.old.live).words self.old.next) slot
             octets.now) }
@@ -183,12 +202,13 @@ impl<B: FlashBank + Drop> Pair<B> {
         self.append(slot, octets)
     }
 
-    // Ends the cell at which the log ends, which read as blank.
+    // Closes the cell at which the log ends, which read as blank.
     fn finish_at(&mut self, at: usize) -> Result<(), Failed>
         requires { (B.bank self.old.live).torn ≡ false }
         ensures settled { OnOk result ((c : Choice) → IsClosable (B.bank self.old.live) at c
             → IsSettled (B.bank self.new.live) self.new.next × IsOneOf c (upto (B.bank self.new.live).words self.new.next)) }
         ensures left { OnErr result ((c : Choice) → IsClosable (B.bank self.old.live) at c → IsLeft (B.bank self.new.live) at c) }
+        ensures firm { (B.bank self.new.live).torn ≡ false }
         ensures heads { SameBelow 3 (B.bank self.old.live) (B.bank self.new.live) }
         ensures size { (B.bank self.new.live).size ≡ (B.bank self.old.live).size }
         ensures spare { B.bank self.new.spare ≡ B.bank self.old.spare }
@@ -199,13 +219,14 @@ impl<B: FlashBank + Drop> Pair<B> {
             self.next = at;
             return Ok(());
         }
-        end_cell(&mut self.live, at)?;
+        close_cell(&mut self.live, at)?;
         self.next = at + 1;
         Ok(())
     }
 
     // Makes certain where the log ends.
     fn finish(&mut self) -> Result<(), Failed>
+        requires number { IsNumbered (B.bank self.old.live) }
         requires mark { (B.bank self.old.live).words 2 ≡ Some 0 }
         requires log { (c : Choice) × (n : ℕ) × IsLeft (B.bank self.old.live) n c }
         requires spare { IsDead (B.bank self.old.spare) }
@@ -213,6 +234,8 @@ impl<B: FlashBank + Drop> Pair<B> {
         ensures ready { OnOk result (AreReady (B.bank self.new.live) (B.bank self.new.spare) self.new.next) }
         ensures records { OnOk result ((c : Choice) (n : ℕ) → IsLeft (B.bank self.old.live) n c
             → IsOneOf c (upto (B.bank self.new.live).words self.new.next)) }
+        ensures in_place { (c : Choice) (n : ℕ) → IsLeft (B.bank self.old.live) n c → (B.bank self.old.live).words (fence n) ≡ Some erased
+            → B.bank self.new.spare ≡ B.bank self.old.spare }
         ensures left { OnErr result ((c : Choice) (n : ℕ) → IsLeft (B.bank self.old.live) n c → IsStore (B.bank self.new.live) (B.bank self.new.spare) c) }
         ensures failed { OnErr result ((B.has_failed self.new.live ≡ true) ⊎ (B.has_failed self.new.spare ≡ true)) }
     {
@@ -223,6 +246,28 @@ impl<B: FlashBank + Drop> Pair<B> {
             return self.rewrite();
         }
         self.finish_at(at)
+    }
+
+    // Makes certain that the live bank is it, whose reading showed it as one, and that the other one is none, and notes that. Where it reads as
+    // noted nothing is programmed.
+    fn part(&mut self) -> Result<(), Failed>
+        requires { (c : Choice) × (n : ℕ) × AreLeft (B.bank self.old.live) (B.bank self.old.spare) n c }
+        ensures mark { OnOk result ((B.bank self.new.live).words 2 ≡ Some 0) }
+        ensures dead { OnOk result (IsDead (B.bank self.new.spare)) }
+        ensures left { (n : ℕ) (c : Choice) → AreLeft (B.bank self.old.live) (B.bank self.old.spare) n c
+            → AreLeft (B.bank self.new.live) (B.bank self.new.spare) n c }
+        ensures noted { (B.bank self.old.spare).torn ≡ false → (B.bank self.old.spare).words 1 ≡ Some 0 → self.new ≡ self.old }
+        ensures once { OnOk result ((self.new ≡ self.old) ⊎ ((B.bank self.new.spare).words 1 ≡ Some 0)) }
+        ensures live_size { (B.bank self.new.live).size ≡ (B.bank self.old.live).size }
+        ensures spare_size { (B.bank self.new.spare).size ≡ (B.bank self.old.spare).size }
+        ensures failed { OnErr result ((B.has_failed self.new.live ≡ true) ⊎ (B.has_failed self.new.spare ≡ true)) }
+    {
+        if is_noted(&self.spare) {
+            return Ok(());
+        }
+        confirm(&mut self.live)?;
+        retire(&mut self.spare)?;
+        note(&mut self.spare)
     }
 
     /// Makes certain what a loss of power left of the banks: first that the live one is it, whose reading showed it as one, and that the
@@ -237,8 +282,7 @@ impl<B: FlashBank + Drop> Pair<B> {
             → IsStore (B.bank self.new.live) (B.bank self.new.spare) c) }
         ensures failed { OnErr result ((B.has_failed self.new.live ≡ true) ⊎ (B.has_failed self.new.spare ≡ true)) }
     {
-        confirm(&mut self.live)?;
-        retire(&mut self.spare)?;
+        self.part()?;
         self.finish()
     }
 

@@ -9,7 +9,8 @@ use std::test::Fail;
 /// Six cells a bank, so that the log is copied often.
 const WORDS: usize = 3 + 11 * 6;
 
-const HOW: [Cut; 3] = [Cut::Before, Cut::Within, Cut::After];
+/// The ways in which power can fail.
+pub const HOW: [Cut; 3] = [Cut::Before, Cut::Within, Cut::After];
 
 type Store = FlashKeeper<ModelFlash>;
 

@@ -1,14 +1,25 @@
-use Rattle.std.proofs.Common.{◌≡◌, ℕ, ◌+◌, is_ok, subst, ap}
+use Rattle.std.proofs.Common.{◌≡◌, ℕ, ◌+◌, Bool, is_ok, subst, ap}
 use Rattle.flash_keeper.specs.Flash.{Programs}
 use Rattle.flash_keeper.specs.Log.{mark}
-use Rattle.flash_keeper.proofs.LogLemmas.{left_marked}
+use Rattle.flash_keeper.proofs.Outcomes.{on_ok_of}
+use Rattle.flash_keeper.proofs.LogLemmas.{settled_again, left_marked}
 use Rattle.flash_keeper.proofs.cells.mark_cell.Goals as goal
+
+pub returns-clause-settled : goal.returns-clause-settled
+returns-clause-settled g c =
+    let old = g.B.FlashBank.bank c.args.bank.now in
+    let new = g.B.FlashBank.bank c.program.new.self in
+    let at : c.place_of.result + 10 ≡ mark c.args.cell = ap (λ (n : ℕ). n + 10) c.place_of.ensures in
+    let p : Programs (mark c.args.cell) 0 (is_ok c.program.result) old new = subst (λ (n : ℕ). Programs n 0 (is_ok c.program.result) old new) at
+    c.program.ensures.programs in
+    on_ok_of c.program.result (λ ok choice left.
+    settled_again old new c.args.cell choice c.requires.within left c.requires.marked (subst (λ (b : Bool). Programs (mark c.args.cell) 0 b old new) ok p))
 
 pub returns-clause-left : goal.returns-clause-left
 returns-clause-left g c =
     let old = g.B.FlashBank.bank c.args.bank.now in
     let new = g.B.FlashBank.bank c.program.new.self in
-    let at : c.place_of.result + 9 ≡ mark c.args.cell = ap (λ (n : ℕ). n + 9) c.place_of.ensures in
+    let at : c.place_of.result + 10 ≡ mark c.args.cell = ap (λ (n : ℕ). n + 10) c.place_of.ensures in
     let p : Programs (mark c.args.cell) 0 (is_ok c.program.result) old new = subst (λ (n : ℕ). Programs n 0 (is_ok c.program.result) old new) at
     c.program.ensures.programs in
     λ choice left. left_marked old new c.args.cell choice (is_ok c.program.result) c.requires.within left c.requires.marked p

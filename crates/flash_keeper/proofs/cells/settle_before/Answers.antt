@@ -1,6 +1,6 @@
 use Rattle.std.proofs.Common.{◌≡◌, ◌<◌, true, arith}
-use Rattle.flash_keeper.proofs.Outcomes.{both_if_ok, under_ok, one_err}
-use Rattle.flash_keeper.proofs.BankLemmas.{sure_zero, sure_before, torn_before, left_before}
+use Rattle.flash_keeper.proofs.Outcomes.{both_if_ok, under, under_ok, one_err}
+use Rattle.flash_keeper.proofs.BankLemmas.{sure_zero, sure_before, torn_before, left_before, never_unfenced}
 use Rattle.flash_keeper.proofs.cells.settle_before.Goals as goal
 
 pub returns-then-at-eq0-clause-sure : goal.returns-then-at-eq0-clause-sure
@@ -28,3 +28,11 @@ returns-clause-left g c =
     left_before (g.B.FlashBank.bank c.args.bank.now) (g.B.FlashBank.bank c.settle_last.new.bank) n c.args.at choice more left found keeps (λ certain.
     (c.settle_last.ensures.certain certain).1))
     c.settle_last.ensures.left
+
+pub returns-clause-unfenced : goal.returns-clause-unfenced
+returns-clause-unfenced g c =
+    let more : 0 < c.args.at = omega (arith, c.if-at-eq0.false) in
+    both_if_ok c.settle_last.result (λ ok unfenced certain is n choice left found blank.
+    never_unfenced (g.B.FlashBank.bank c.args.bank.now) n c.args.at choice ok more left found is unfenced (λ sure. (certain sure).0) blank)
+    (under (λ ok. ok ≡ true) c.settle_last.result c.settle_last.ensures.unfenced)
+    (under_ok (λ ok. ok ≡ true) c.settle_last.result c.settle_last.ensures.certain)

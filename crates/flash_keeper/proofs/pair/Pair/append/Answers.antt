@@ -1,8 +1,8 @@
-use Rattle.std.proofs.Common.{inl, inr, refl}
+use Rattle.std.proofs.Common.{◌∙◌, inl, inr, refl, sym, arith}
 use Rattle.std.specs.FinMap.{insert}
 use Rattle.flash_keeper.specs.Log.{upto, Choice}
 use Rattle.flash_keeper.proofs.Outcomes.{on_err}
-use Rattle.flash_keeper.proofs.BankLemmas.{front_of_cells, own_left}
+use Rattle.flash_keeper.proofs.BankLemmas.{front_of_cells, own_left, numbered-same}
 use Rattle.flash_keeper.proofs.pair.Pair.append.Goals as goal
 
 pub returns-in_err-write_cell-clause-left : goal.returns-in_err-write_cell-clause-left
@@ -12,8 +12,10 @@ returns-in_err-write_cell-clause-left g c =
     let n = c.args.self.now.next in
     let choice : Choice = record { old = upto old.words n; new = insert (upto old.words n) c.args.slot c.args.octets.now } in
     on_err c.from_residual.result (record {
+      number = numbered-same old new (c.write_cell.ensures.firm ∙ sym c.requires.ready.number.firm) (c.write_cell.ensures.same 1 (inl (omega arith)))
+          c.requires.ready.number;
       log = own_left new n choice (c.in_err-write_cell.ensures.left choice (inl refl) (inr refl));
-      beside = inl c.requires.ready.beside;
+      beside = inl (c.requires.ready.beside, inr (c.write_cell.ensures.same 2 (inl (omega arith)) ∙ c.requires.ready.mark));
     })
 
 pub returns-in_err-write_cell-clause-found : goal.returns-in_err-write_cell-clause-found

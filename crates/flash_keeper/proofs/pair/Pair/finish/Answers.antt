@@ -2,12 +2,14 @@ use Rattle.std.proofs.Common.{◌∙◌, ◌-◌, inl, sym, ap, arith}
 use Rattle.flash_keeper.specs.Flash.{Bank}
 use Rattle.flash_keeper.proofs.Outcomes.{on_err, one_ok, one_err}
 use Rattle.flash_keeper.proofs.LogLemmas.{one_of}
-use Rattle.flash_keeper.proofs.BankLemmas.{n_within, store_left, dead_moved}
+use Rattle.flash_keeper.proofs.BankLemmas.{n_within, store_left, dead_moved, numbered-same}
 use Rattle.flash_keeper.proofs.pair.Pair.finish.Goals as goal
 
 pub returns-in_err-sure-clause-left : goal.returns-in_err-sure-clause-left
 returns-in_err-sure-clause-left g c = on_err c.from_residual.result (λ choice n left.
     store_left (g.B.FlashBank.bank c.settle_before.new.bank) (g.B.FlashBank.bank c.args.self.now.spare) n choice
+    (numbered-same _ _ (c.settle_before.ensures.firm ∙ sym c.requires.number.firm) (c.settle_before.ensures.heads 1 (omega arith)) c.requires.number)
+    (c.settle_before.ensures.heads 2 (omega arith) ∙ c.requires.mark)
     (c.in_err-sure.ensures.left n choice left (c.first_blank-at.ensures.found n choice left)) c.requires.spare)
 
 pub overflow_sub-self : goal.overflow_sub-self
@@ -56,6 +58,8 @@ returns-clause-ready g c =
     let closable = c.in_ok-sure.ensures.sure c.if-not-sure.false n choice left (c.first_blank-at.ensures.found n choice left) in
     one_ok c.finish_at.result (λ f. record {
       sizes = c.finish_at.ensures.size ∙ c.settle_before.ensures.size ∙ c.requires.sizes ∙ ap (λ (b : Bank). b.size) (sym c.finish_at.ensures.spare);
+      number = numbered-same _ _ (c.finish_at.ensures.firm ∙ sym c.requires.number.firm)
+          (c.finish_at.ensures.heads 1 (omega arith) ∙ c.settle_before.ensures.heads 1 (omega arith)) c.requires.number;
       mark = c.finish_at.ensures.heads 2 (omega arith) ∙ c.settle_before.ensures.heads 2 (omega arith) ∙ c.requires.mark;
       log = (f choice closable).0;
       beside = dead_moved _ _ c.finish_at.ensures.spare c.requires.spare;
@@ -63,6 +67,14 @@ returns-clause-ready g c =
 
 pub returns-clause-left : goal.returns-clause-left
 returns-clause-left g c = one_err c.finish_at.result (λ f choice n left.
-    store_left _ _ _ choice (f choice (c.in_ok-sure.ensures.sure c.if-not-sure.false n choice left (c.first_blank-at.ensures.found n choice left)))
+    store_left _ _ _ choice
+    (numbered-same _ _ (c.finish_at.ensures.firm ∙ sym c.requires.number.firm)
+    (c.finish_at.ensures.heads 1 (omega arith) ∙ c.settle_before.ensures.heads 1 (omega arith)) c.requires.number)
+    (c.finish_at.ensures.heads 2 (omega arith) ∙ c.settle_before.ensures.heads 2 (omega arith) ∙ c.requires.mark)
+    (f choice (c.in_ok-sure.ensures.sure c.if-not-sure.false n choice left (c.first_blank-at.ensures.found n choice left)))
     (dead_moved _ _ c.finish_at.ensures.spare c.requires.spare))
     c.finish_at.ensures.left
+
+pub returns-then-not-sure-clause-in_place : goal.returns-then-not-sure-clause-in_place
+returns-then-not-sure-clause-in_place g c = λ choice n left blank. absurd (c.in_ok-sure.ensures.unfenced c.if-not-sure.true n choice left
+    (c.first_blank-at.ensures.found n choice left) blank)

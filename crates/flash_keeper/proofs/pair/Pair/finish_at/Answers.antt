@@ -1,4 +1,4 @@
-use Rattle.std.proofs.Common.{◌<◌, inl, arith}
+use Rattle.std.proofs.Common.{◌<◌, arith}
 use Rattle.flash_keeper.specs.Log.{room}
 use Rattle.flash_keeper.proofs.Outcomes.{on_err}
 use Rattle.flash_keeper.proofs.BankLemmas.{full_is_settled}
@@ -13,12 +13,12 @@ returns-then-at-room-clause-settled g c = λ choice closable.
       c.room_of-room.ensures,
     ))
 
-pub returns-in_err-end_cell-clause-left : goal.returns-in_err-end_cell-clause-left
-returns-in_err-end_cell-clause-left g c =
+pub returns-in_err-close_cell-clause-left : goal.returns-in_err-close_cell-clause-left
+returns-in_err-close_cell-clause-left g c =
     let fits : c.args.at < room (g.B.FlashBank.bank c.args.self.now.live).size = omega (arith, c.if-at-room.false, c.room_of-room.ensures) in
-    on_err c.from_residual.result (λ choice closable. c.end_cell.ensures.left choice closable.0 (inl (closable.1 fits)))
+    on_err c.from_residual.result (λ choice closable. c.close_cell.ensures.left choice closable.0 (closable.1 fits))
 
 pub returns-clause-settled : goal.returns-clause-settled
 returns-clause-settled g c =
     let fits : c.args.at < room (g.B.FlashBank.bank c.args.self.now.live).size = omega (arith, c.if-at-room.false, c.room_of-room.ensures) in
-    λ choice closable. c.in_ok-end_cell.ensures.settled choice closable.0 (inl (closable.1 fits))
+    λ choice closable. c.in_ok-close_cell.ensures.settled choice closable.0 (closable.1 fits)

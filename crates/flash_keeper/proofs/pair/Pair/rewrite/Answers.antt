@@ -1,14 +1,15 @@
 use Rattle.std.proofs.Common.{◌∙◌, inr, true, false, is_ok, ap, arith}
 use Rattle.flash_keeper.specs.Log.{upto}
 use Rattle.flash_keeper.proofs.Outcomes.{on_err}
-use Rattle.flash_keeper.proofs.BankLemmas.{copy_stands, marked_log, word_of_left, records-same, after_head}
+use Rattle.flash_keeper.proofs.BankLemmas.{copy_stands, marked_log, numbered-same, word_of_left, records-same, after_head}
 use Rattle.flash_keeper.proofs.pair.Pair.rewrite.Goals as goal
 
 pub returns-in_err-confirm-clause-left : goal.returns-in_err-confirm-clause-left
 returns-in_err-confirm-clause-left g c = on_err c.from_residual-in_err-confirm.result (λ choice left. record {
+  number = c.requires.number;
   log = left;
   beside = inr (copy_stands (g.B.FlashBank.bank c.copy_to.new.to) (g.B.FlashBank.bank c.confirm.new.bank) _
-      c.in_ok-next.next false choice (upto (g.B.FlashBank.bank c.args.self.now.live).words c.args.self.now.next) c.in_ok-next.ensures.head
+      c.in_ok-next.next false choice (upto (g.B.FlashBank.bank c.args.self.now.live).words c.args.self.now.next) (omega arith) c.in_ok-next.ensures.head
       c.in_ok-next.ensures.log c.in_ok-next.ensures.records c.in_err-confirm.ensures.programs left.stands);
 })
 
@@ -20,10 +21,12 @@ returns-in_err-retire-clause-same g c =
 
 pub returns-in_err-retire-clause-left : goal.returns-in_err-retire-clause-left
 returns-in_err-retire-clause-left g c = on_err c.from_residual-in_err-retire.result (λ choice left. record {
+  number = numbered-same (g.B.FlashBank.bank c.args.self.now.live) (g.B.FlashBank.bank c.retire.new.bank) c.retire.ensures.programs.torn
+      (c.retire.ensures.programs.others 1 (λ e. omega (arith, e))) c.requires.number;
   log = word_of_left (g.B.FlashBank.bank c.args.self.now.live) (g.B.FlashBank.bank c.retire.new.bank) 0 c.args.self.now.next choice (is_ok c.retire.result)
       (omega arith) c.retire.ensures.programs left;
   beside = inr (copy_stands (g.B.FlashBank.bank c.copy_to.new.to) (g.B.FlashBank.bank c.confirm.new.bank) _
-      c.in_ok-next.next true choice (upto (g.B.FlashBank.bank c.args.self.now.live).words c.args.self.now.next) c.in_ok-next.ensures.head
+      c.in_ok-next.next true choice (upto (g.B.FlashBank.bank c.args.self.now.live).words c.args.self.now.next) (omega arith) c.in_ok-next.ensures.head
       c.in_ok-next.ensures.log c.in_ok-next.ensures.records c.in_ok-confirm.ensures.programs left.stands);
 })
 

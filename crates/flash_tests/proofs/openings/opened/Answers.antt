@@ -1,0 +1,4 @@
+use Rattle.flash_tests.proofs.openings.opened.Goals as goal
+
+pub open-requires : goal.open-requires
+open-requires c = (_, c.into_banks-first.ensures)
