@@ -2,7 +2,6 @@
 ghost use Rattle.std.specs.Prelude.{◌≡◌, Some, None, IfSome};
 ghost use Rattle.joining_messages.specs.Reading.{join_in};
 ghost use Rattle.joining_messages.specs.declared.message.JoinBody.TheVariants as body;
-ghost use Rattle.plc_station.specs.Heard.{Fits};
 ghost use Rattle.node_rules.specs.Hearing as hearing;
 ghost use Rattle.node_rules.specs.Coordinators as rules;
 ghost use Rattle.node_rules.specs.Carrying.{Carries};
@@ -14,8 +13,9 @@ ghost use Rattle.coordinator.specs.CoordinatorAgreement.{CoordinatorReady, Coord
 use crate::coordinator::Coordinator;
 use joining_base::{joining_command, read_message};
 use joining_messages::{JoinBody, JoinMessage};
-use node_rules::{Accepted, CoordinatorHeard, Dropped, Heard, Way};
+use node_rules::{CoordinatorHeard, Dropped, Heard, Way};
 use plc_base::{DatagramBuf, Eui, Keeper, LinkCost, Out};
+use plc_station::Accepted;
 
 // Whether a JOIN of a meter may come so.
 fn may_come(way: Way, eui: Eui) -> bool
@@ -111,7 +111,7 @@ impl<K: Keeper + Drop> Coordinator<K> {
     // What the station makes of a frame.
     fn hear_frame<'a>(
         &mut self,
-        got: &Accepted<'a>,
+        got: Accepted<'a>,
         cost: LinkCost,
         note: u32,
         now: u64,
@@ -119,12 +119,11 @@ impl<K: Keeper + Drop> Coordinator<K> {
         out: &mut Out,
     ) -> Result<Heard<'a>, Dropped>
         requires ready { CoordinatorReady (node_of self.old) }
-        requires fits { Fits got.now }
         ensures carries { IfSome self.old.station.memory (λ l. Carries self.old.station
-            (hearing.hear l got.now cost note now) result out.new self.new.station) }
+            (hearing.hear l got.entry cost note now) result out.new self.new.station) }
         ensures beside { self.new ≡ record self.old { station = self.new.station } }
         ensures replied { IfSome self.old.station.memory (λ l. self.new.station.replied
-            ≡ reply_sent (hearing.hear l got.now cost note now) self.new.station.memory) }
+            ≡ reply_sent (hearing.hear l got.entry cost note now) self.new.station.memory) }
         ensures holds { CoordinatorAgrees (node_of self.new) }
     {
         self.station.hear(got, cost, note, now, datagram, out)
@@ -140,7 +139,7 @@ impl<K: Keeper + Drop> Coordinator<K> {
     /// The last reply of its station is then the route reply that it sent. Of a frame with a joining command nothing is said of it.
     pub fn hear<'a>(
         &mut self,
-        got: &Accepted<'a>,
+        got: Accepted<'a>,
         cost: LinkCost,
         note: u32,
         now: u64,
@@ -148,12 +147,11 @@ impl<K: Keeper + Drop> Coordinator<K> {
         out: &mut Out,
     ) -> Result<CoordinatorHeard<'a>, Dropped>
         requires ready { CoordinatorReady (node_of self.old) }
-        requires fits { Fits got.now }
         ensures carries { IfSome (node_of self.old).memory (λ m. Carries (node_of self.old)
-            (rules.hear_coordinator (identity_of self.old) m got.now cost note now)
+            (rules.hear_coordinator (identity_of self.old) m got.entry cost note now)
             result out.new (node_of self.new)) }
-        ensures replied { IfSome (node_of self.old).memory (λ m. unread (hearing.hear m.station got.now cost note now).answer ≡ None
-            → self.new.station.replied ≡ reply_sent (rules.hear_coordinator (identity_of self.old) m got.now cost note now)
+        ensures replied { IfSome (node_of self.old).memory (λ m. unread (hearing.hear m.station got.entry cost note now).answer ≡ None
+            → self.new.station.replied ≡ reply_sent (rules.hear_coordinator (identity_of self.old) m got.entry cost note now)
             (node_of self.new).memory) }
         ensures holds { CoordinatorAgrees (node_of self.new) }
     {

@@ -47,7 +47,7 @@ use Rattle.line_events.specs.declared.event.Event.{Event}
 use Rattle.line_events.specs.declared.event.Event.TheVariants as events
 use Rattle.line_events.specs.declared.event.StepFault.TheVariants as faults
 use Rattle.line_events.specs.Events.{AreEvents, IsEvent}
-use Rattle.node_rules.specs.declared.heard.Accepted.{Accepted}
+use Rattle.node_rules.specs.Accepted.{Accepted}
 use Rattle.line_rules.specs.Answers.{Reception, command_word, discovery_word, drop_word, order_word, scan_word, sent_word}
 use Rattle.line_rules.specs.Further.{adds_frames, asks_by, beside_at, chooses_by, discovers_by, line_step, reaches, scans_by, sends_nothing}
 use Rattle.line_rules.specs.Further.{acknowledging}

@@ -33,7 +33,7 @@ use Rattle.node_rules.specs.Meters.{hear_near, hear_order, heard_by, hear_meter,
 use Rattle.node_rules.specs.Meters.{with_session}
 use Rattle.node_rules.specs.NodeSteps.{NodeStep, acts, answering, left_by, of_station, stays}
 use Rattle.node_rules.specs.Plans.{Plan, carry_out, resting}
-use Rattle.node_rules.specs.declared.heard.Accepted.{Accepted}
+use Rattle.node_rules.specs.Accepted.{Accepted}
 use Rattle.node_rules.specs.declared.heard.CoordinatorHeard.{CoordinatorHeard}
 use Rattle.node_rules.specs.declared.heard.CoordinatorHeard.TheVariants as coordinator_heard
 use Rattle.node_rules.specs.declared.heard.Heard.{Heard}

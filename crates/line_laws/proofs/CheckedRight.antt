@@ -12,7 +12,7 @@ use Rattle.neighbour_checks.specs.declared.tables.OpenCheck.{OpenCheck}
 use Rattle.neighbour_checks.specs.declared.tables.ListedNeighbour.{ListedNeighbour}
 use Rattle.neighbour_checks.specs.History as checking
 use Rattle.neighbour_checks.specs.Neighbours.{Neighbours, is_awaited, is_listed, waits_for}
-use Rattle.node_rules.specs.declared.heard.Accepted.{Accepted}
+use Rattle.node_rules.specs.Accepted.{Accepted}
 use Rattle.node_rules.specs.declared.heard.Path.{Path}
 use Rattle.node_rules.specs.declared.heard.Path.TheVariants as paths
 use Rattle.node_rules.specs.declared.heard.Reply.{Reply}

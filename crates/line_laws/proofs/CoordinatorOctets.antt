@@ -19,7 +19,7 @@ use Rattle.joining_messages.specs.declared.message.JoinBody.TheVariants as body
 use Rattle.joining_messages.specs.Reading.{join_in}
 use Rattle.eap_psk.specs.Sessions.{rand_p_in, peer_of}
 use Rattle.mesh_header.specs.declared.unit.Unit.{Unit as MeshUnit}
-use Rattle.node_rules.specs.declared.heard.Accepted.{Accepted}
+use Rattle.node_rules.specs.Accepted.{Accepted}
 use Rattle.node_rules.specs.declared.heard.Heard.{Heard}
 use Rattle.node_rules.specs.declared.heard.CoordinatorHeard.TheVariants as heard
 use Rattle.node_rules.specs.declared.heard.Way.{Way}

@@ -10,7 +10,7 @@ use Rattle.joining_messages.specs.declared.message.JoinMessage.{JoinMessage}
 use Rattle.mesh_header.specs.declared.unit.Unit.{Unit as MeshUnit}
 use Rattle.fragment_buffers.specs.Reassembly.{Reassembly}
 use Rattle.fragment_buffers.specs.Taking as pieces
-use Rattle.node_rules.specs.declared.heard.Accepted.{Accepted}
+use Rattle.node_rules.specs.Accepted.{Accepted}
 use Rattle.node_rules.specs.declared.heard.MeterHeard.{MeterHeard}
 use Rattle.node_rules.specs.declared.heard.MeterHeard.TheVariants as meter_heard
 use Rattle.node_rules.specs.declared.heard.CoordinatorHeard.{CoordinatorHeard}

@@ -19,7 +19,7 @@ use Rattle.std.proofs.lemmas.Option.{same_Some}
 use Rattle.line_laws.proofs.StoreMarks.{IsPlain}
 use Rattle.line_laws.proofs.CoordinatorForms as coordinator
 use Rattle.line_laws.proofs.CustodyCalls.{CoordinatorWord, Says, AnyEui, AnyPair}
-use Rattle.node_rules.specs.declared.heard.Accepted.{Accepted}
+use Rattle.node_rules.specs.Accepted.{Accepted}
 use Rattle.node_rules.specs.Frames.{SealedUnit, Sent, Sealed, Up, Down}
 use Rattle.node_rules.specs.Memory.{StationMemory, Memory, Node, Load, address_of}
 use Rattle.node_rules.specs.Plans.{Plan, carry_out, resting}

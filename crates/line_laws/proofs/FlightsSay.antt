@@ -12,7 +12,7 @@ use Rattle.mesh_header.specs.declared.unit.Unit.{Unit as MeshUnit}
 use Rattle.mesh_header.specs.Reading.{unit_in}
 use Rattle.mesh_header.specs.Grammar.{spelling}
 use Rattle.pan_discovery.specs.declared.message.Discovery.{Discovery}
-use Rattle.node_rules.specs.declared.heard.Accepted.{Accepted}
+use Rattle.node_rules.specs.Accepted.{Accepted}
 use Rattle.node_rules.specs.declared.heard.SentHow.{SentHow}
 use Rattle.node_rules.specs.declared.refusal.CoordinatorRefusal.{CoordinatorRefusal}
 use Rattle.node_rules.specs.declared.refusal.CoordinatorRefusal.TheVariants as orders

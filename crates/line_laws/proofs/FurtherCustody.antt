@@ -11,7 +11,7 @@ use Rattle.plc_base.specs.declared.key.Key.{Key}
 use Rattle.pan_discovery.specs.declared.message.Discovery.{Discovery}
 use Rattle.pan_discovery.specs.Agents.{kth_of}
 use Rattle.pan_discovery.specs.Messages.{IsDiscovery}
-use Rattle.node_rules.specs.declared.heard.Accepted.{Accepted}
+use Rattle.node_rules.specs.Accepted.{Accepted}
 use Rattle.node_rules.specs.declared.refusal.FrameRefusal.{FrameRefusal}
 use Rattle.node_rules.specs.declared.refusal.FrameRefusal.TheVariants as frames
 use Rattle.node_rules.specs.Accepting.{Accepting, accept, marking}

@@ -5,7 +5,7 @@ use Rattle.std.specs.Prelude.{if◌then◌else◌, All}
 use Rattle.pan_discovery.specs.declared.message.Discovery.{Discovery}
 use Rattle.pan_discovery.specs.Agents.{kth_of}
 use Rattle.plc_base.specs.declared.key.Key.{Key}
-use Rattle.node_rules.specs.declared.heard.Accepted.{Accepted}
+use Rattle.node_rules.specs.Accepted.{Accepted}
 use Rattle.node_rules.specs.declared.refusal.FrameRefusal.{FrameRefusal}
 use Rattle.node_rules.specs.declared.refusal.FrameRefusal.TheVariants as frames
 use Rattle.node_rules.specs.Accepting.{accept}

@@ -7,7 +7,7 @@ use Rattle.plc_base.specs.declared.key.Key.{Key}
 use Rattle.mac_frames.specs.Reading.{head_in}
 use Rattle.mac_frames.specs.declared.head.MacHead.{MacHead}
 use Rattle.group_keys.specs.KeyBook as books
-use Rattle.node_rules.specs.declared.heard.Accepted.{Accepted}
+use Rattle.node_rules.specs.Accepted.{Accepted}
 use Rattle.node_rules.specs.declared.heard.Path.TheVariants as paths
 use Rattle.node_rules.specs.declared.heard.Reply.{Reply}
 use Rattle.node_rules.specs.declared.refusal.Dropped.TheVariants as drops

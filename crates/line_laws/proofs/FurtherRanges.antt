@@ -40,7 +40,7 @@ use Rattle.path_requests.specs.Messages.{IsPath, path_spelling}
 use Rattle.path_requests.specs.Taking.{ask_led, hop, taken, tell_led, tell_taken}
 use Rattle.path_requests.specs.Walks.{ends_with, has, has_at, walk_octets}
 use Rattle.path_requests.proofs.Readings.{paths_spelled}
-use Rattle.node_rules.specs.declared.heard.Accepted.{Accepted}
+use Rattle.node_rules.specs.Accepted.{Accepted}
 use Rattle.node_rules.specs.declared.heard.Path.{Path}
 use Rattle.node_rules.specs.declared.heard.Path.TheVariants as paths
 use Rattle.node_rules.specs.declared.heard.Reply.{Reply}

@@ -12,7 +12,7 @@ use Rattle.mesh_header.specs.declared.unit.Unit.TheVariants as units
 use Rattle.mesh_header.specs.Reading.{unit_in}
 use Rattle.loadng_messages.specs.declared.message.Message.{Message}
 use Rattle.pan_discovery.specs.Reading.{discovery_in}
-use Rattle.node_rules.specs.declared.heard.Accepted.{Accepted}
+use Rattle.node_rules.specs.Accepted.{Accepted}
 use Rattle.node_rules.specs.declared.heard.Heard.{Heard}
 use Rattle.node_rules.specs.declared.heard.Heard.TheVariants as heard_words
 use Rattle.node_rules.specs.declared.heard.CoordinatorHeard.{CoordinatorHeard}

@@ -10,7 +10,7 @@ use Rattle.store_tables.proofs.SlotTables.{slice_get-set, slice_get-set_other}
 use Rattle.routing_set.specs.declared.rank.Rank.{Rank}
 use Rattle.pan_discovery.specs.Agents.{kth_of}
 use Rattle.pan_discovery.specs.Messages.{IsDiscovery}
-use Rattle.node_rules.specs.declared.heard.Accepted.{Accepted}
+use Rattle.node_rules.specs.Accepted.{Accepted}
 use Rattle.node_rules.specs.declared.refusal.FrameRefusal.{FrameRefusal}
 use Rattle.node_rules.specs.declared.refusal.FrameRefusal.TheVariants as frames
 use Rattle.node_rules.specs.Accepting.{accept}

@@ -18,7 +18,7 @@ use Rattle.line_rules.specs.Worlds.{World, Issued, node_at, same_tag, is_forged_
 use Rattle.line_rules.specs.Forgery.{accepting}
 use Rattle.line_rules.specs.Steps.{Step, set_up, world_after, takes_setup, identity, hearing_step, note_by, psk_of, provisioned, depot, depot_by, depot_at}
 use Rattle.line_events.specs.declared.event.StepFault.TheVariants as faults
-use Rattle.node_rules.specs.declared.heard.Accepted.{Accepted}
+use Rattle.node_rules.specs.Accepted.{Accepted}
 use Rattle.node_rules.specs.declared.refusal.CoordinatorRefusal.{CoordinatorRefusal}
 use Rattle.node_rules.specs.declared.refusal.CoordinatorRefusal.TheVariants as orders
 use Rattle.node_rules.specs.declared.refusal.Dropped.TheVariants as drops

@@ -17,7 +17,7 @@ use Rattle.eap_psk.specs.Messages.{granting_text}
 use Rattle.eap_psk.specs.Tags.{mac_p_tag, mac_s_tag, granting_tag, success_tag}
 use Rattle.eap_psk.specs.declared.peer.Peer.{Peer}
 use Rattle.eap_psk.specs.declared.server.Agreed.{Agreed}
-use Rattle.node_rules.specs.declared.heard.Accepted.{Accepted}
+use Rattle.node_rules.specs.Accepted.{Accepted}
 use Rattle.node_rules.specs.declared.heard.Heard.{Heard}
 use Rattle.node_rules.specs.declared.heard.MeterHeard.{MeterHeard}
 use Rattle.node_rules.specs.declared.heard.MeterHeard.TheVariants as heard

@@ -13,7 +13,7 @@ use Rattle.joining_messages.specs.declared.message.JoinMessage.{JoinMessage}
 use Rattle.joining_messages.specs.declared.message.JoinBody.{JoinBody}
 use Rattle.joining_messages.specs.declared.message.JoinBody.TheVariants as body
 use Rattle.joining_messages.specs.Reading.{join_in}
-use Rattle.node_rules.specs.declared.heard.Accepted.{Accepted}
+use Rattle.node_rules.specs.Accepted.{Accepted}
 use Rattle.node_rules.specs.declared.heard.CoordinatorHeard.{CoordinatorHeard}
 use Rattle.node_rules.specs.declared.heard.CoordinatorHeard.TheVariants as heard
 use Rattle.node_rules.specs.declared.heard.Heard.{Heard}

@@ -8,7 +8,7 @@ use Rattle.mac_frames.specs.Grammar.{header}
 use Rattle.mesh_header.specs.Grammar.{spelling}
 use Rattle.mesh_header.specs.Reading.{unit_in}
 use Rattle.node_rules.specs.declared.heard.Path.TheVariants as paths
-use Rattle.node_rules.specs.declared.heard.Accepted.{Accepted}
+use Rattle.node_rules.specs.Accepted.{Accepted}
 use Rattle.node_rules.specs.Ciphers.{Ciphers}
 use Rattle.node_rules.specs.Frames.{SealedUnit, Sealed, Arrived, arrived_with, head_of, spelled, arrived, to_all}
 use Rattle.node_rules.specs.Memory.{StationMemory}

@@ -11,7 +11,7 @@ use Rattle.mesh_header.specs.Reading.{unit_in}
 use Rattle.mesh_header.specs.declared.unit.Unit.TheVariants as units
 use Rattle.loadng_messages.specs.Grammar as messages
 use Rattle.loadng_messages.proofs.Readings.{message_read}
-use Rattle.node_rules.specs.declared.heard.Accepted.{Accepted}
+use Rattle.node_rules.specs.Accepted.{Accepted}
 use Rattle.node_rules.specs.Calls as calls
 use Rattle.node_rules.specs.Ciphers.{Ciphers, OpensWhatItSeals, network}
 use Rattle.node_rules.specs.Coordinators as coordinator_rules

@@ -17,7 +17,7 @@ use Rattle.loadng_messages.specs.declared.message.Message.TheVariants.{Rreq, Rre
 use Rattle.loadng_messages.specs.Grammar as messages
 use Rattle.loadng_messages.specs.Reading.{message_in}
 use Rattle.node_rules.specs.declared.heard.Path.TheVariants as paths
-use Rattle.node_rules.specs.declared.heard.Accepted.{Accepted}
+use Rattle.node_rules.specs.Accepted.{Accepted}
 use Rattle.node_rules.specs.Frames.{to_all}
 use Rattle.node_rules.specs.Memory.{StationMemory, Load, Datagram, load_octets, address_of, next_hop}
 use Rattle.node_rules.specs.Drafts.{Draft, UnsealedUnit, with_rank, with_own_number, with_next_tag, with_ring, with_routing_by, goes, body_goes, waits, leave}

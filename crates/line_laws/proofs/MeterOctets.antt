@@ -22,7 +22,7 @@ use Rattle.eap_psk.specs.Tags.{mac_p_tag, mac_s_tag, granting_tag, success_tag}
 use Rattle.eap_psk.specs.Sessions.{peer_for, identifier_of}
 use Rattle.eap_psk.specs.declared.peer.Peer.{Peer}
 use Rattle.mesh_header.specs.declared.unit.Unit.{Unit as MeshUnit}
-use Rattle.node_rules.specs.declared.heard.Accepted.{Accepted}
+use Rattle.node_rules.specs.Accepted.{Accepted}
 use Rattle.node_rules.specs.declared.heard.Heard.{Heard}
 use Rattle.node_rules.specs.declared.heard.MeterHeard.TheVariants as heard
 use Rattle.node_rules.specs.declared.heard.Way.{Way}

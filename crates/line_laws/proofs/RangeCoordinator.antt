@@ -4,7 +4,7 @@ use Rattle.plc_base.specs.declared.address.Eui.{Eui}
 use Rattle.plc_base.specs.declared.key.Key.{Key}
 use Rattle.joining_messages.specs.declared.message.JoinMessage.{JoinMessage}
 use Rattle.joining_messages.specs.Reading.{join_in}
-use Rattle.node_rules.specs.declared.heard.Accepted.{Accepted}
+use Rattle.node_rules.specs.Accepted.{Accepted}
 use Rattle.node_rules.specs.declared.heard.CoordinatorHeard.TheVariants as coordinator_heard
 use Rattle.node_rules.specs.Memory.{Memory, Load, Command}
 use Rattle.node_rules.specs.Coordinators as coordinators

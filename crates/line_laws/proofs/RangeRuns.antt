@@ -18,7 +18,7 @@ use Rattle.line_rules.specs.Steps.{Step, set_up, running_world, world_after, nod
 use Rattle.line_rules.specs.Steps.{note_by, forged_by, identity}
 use Rattle.line_rules.specs.Steps.{psk_of}
 use Rattle.line_rules.specs.Steps.{flights_of, offered_near, blank_node, restarts, memory_by, ticked}
-use Rattle.node_rules.specs.declared.heard.Accepted.{Accepted}
+use Rattle.node_rules.specs.Accepted.{Accepted}
 use Rattle.node_rules.specs.declared.heard.SentHow.{SentHow}
 use Rattle.node_rules.specs.declared.refusal.CoordinatorRefusal.{CoordinatorRefusal}
 use Rattle.node_rules.specs.declared.refusal.CoordinatorRefusal.TheVariants as orders

@@ -16,7 +16,7 @@ use Rattle.frame_counters.proofs.Tables.{room_new}
 use Rattle.group_keys.specs.declared.fault.RingFault.TheVariants.{Store as RingStore}
 use Rattle.routing_set.specs.declared.rank.Rank.{Rank}
 use Rattle.routing_set.specs.RoutingSet as routing
-use Rattle.node_rules.specs.declared.heard.Accepted.{Accepted}
+use Rattle.node_rules.specs.Accepted.{Accepted}
 use Rattle.node_rules.specs.declared.heard.Heard.{Heard}
 use Rattle.node_rules.specs.declared.heard.MeterHeard.TheVariants as meter_heard
 use Rattle.node_rules.specs.declared.heard.CoordinatorHeard.TheVariants as coordinator_heard

@@ -27,7 +27,7 @@ use Rattle.path_requests.specs.Reading.{path_in}
 use Rattle.path_requests.specs.Taking.{ask_led, hop, taken, tell_taken}
 use Rattle.path_requests.specs.Walks.{ends_with, has, has_at}
 use Rattle.std.specs.Prelude.{position}
-use Rattle.node_rules.specs.declared.heard.Accepted.{Accepted}
+use Rattle.node_rules.specs.Accepted.{Accepted}
 use Rattle.node_rules.specs.declared.heard.Path.{Path}
 use Rattle.node_rules.specs.declared.heard.Path.TheVariants as paths
 use Rattle.node_rules.specs.declared.refusal.Dropped.TheVariants as drops

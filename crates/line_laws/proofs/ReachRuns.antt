@@ -3,7 +3,7 @@ use Rattle.std.proofs.Common.{⊎_elim, ◌≡◌, ◌≢◌, ℕ, List, [], ◌
 use Rattle.std.specs.Prelude.{slice_get}
 use Rattle.std.proofs.lemmas.Bool.{cases_eq}
 use Rattle.std.proofs.lemmas.List.Elements.{All-head, All-tail}
-use Rattle.node_rules.specs.declared.heard.Accepted.{Accepted}
+use Rattle.node_rules.specs.Accepted.{Accepted}
 use Rattle.node_rules.specs.declared.refusal.Dropped.TheVariants as drops
 use Rattle.node_rules.specs.declared.refusal.LocalRefusal.TheVariants as locals
 use Rattle.node_rules.specs.Ciphers.{network}

@@ -27,7 +27,7 @@ use Rattle.node_rules.specs.MemoryDrafts.{with_station}
 use Rattle.node_rules.specs.Meters as meters
 use Rattle.node_rules.specs.NodeSteps.{NodeStep, acts, answering, changing, left_by, stays}
 use Rattle.node_rules.specs.Plans.{carry_out, resting}
-use Rattle.node_rules.specs.declared.heard.Accepted.{Accepted}
+use Rattle.node_rules.specs.Accepted.{Accepted}
 use Rattle.node_rules.specs.declared.heard.CoordinatorHeard.TheVariants as coordinator_heard
 use Rattle.node_rules.specs.declared.heard.CoordinatorHeard.{CoordinatorHeard}
 use Rattle.node_rules.specs.declared.heard.Heard.TheVariants as station_heard

@@ -22,7 +22,7 @@ use Rattle.routing_set.specs.declared.rank.Rank.{Rank}
 use Rattle.routing_set.specs.Ranks.{IsAtLeast}
 use Rattle.routing_set.specs.RoutingSet as routing
 use Rattle.node_rules.specs.declared.heard.Path.TheVariants as paths
-use Rattle.node_rules.specs.declared.heard.Accepted.{Accepted}
+use Rattle.node_rules.specs.Accepted.{Accepted}
 use Rattle.node_rules.specs.Ciphers.{Ciphers}
 use Rattle.node_rules.specs.Frames.{Sealed, SealedUnit, spelled, arrived, to_all}
 use Rattle.node_rules.specs.Hearing.{rank_over}

@@ -20,7 +20,7 @@ use Rattle.path_requests.specs.Messages.{path_spelling}
 use Rattle.path_requests.specs.Reading.{path_in}
 use Rattle.path_requests.specs.Taking.{ask_led, hop, taken}
 use Rattle.path_requests.specs.Walks.{ends_with}
-use Rattle.node_rules.specs.declared.heard.Accepted.{Accepted}
+use Rattle.node_rules.specs.Accepted.{Accepted}
 use Rattle.node_rules.specs.declared.heard.Reply.{Reply}
 use Rattle.node_rules.specs.declared.refusal.Dropped.TheVariants as drops
 use Rattle.node_rules.specs.Ciphers.{network}

@@ -28,7 +28,7 @@ use Rattle.path_requests.specs.Taking.{IsStep as IsPathStep, ask_led, hop, taken
 use Rattle.path_requests.specs.Walks.{ends_with, has, has_at}
 use Rattle.path_requests.proofs.Readings.{paths_read, paths_spelled}
 use Rattle.path_requests.proofs.Steps.{taken_fits}
-use Rattle.node_rules.specs.declared.heard.Accepted.{Accepted}
+use Rattle.node_rules.specs.Accepted.{Accepted}
 use Rattle.node_rules.specs.declared.heard.Reply.{Reply}
 use Rattle.node_rules.specs.declared.refusal.Dropped.TheVariants as drops
 use Rattle.node_rules.specs.declared.refusal.LocalRefusal.{LocalRefusal}

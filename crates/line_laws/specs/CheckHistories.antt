@@ -10,7 +10,7 @@ use Rattle.neighbour_checks.specs.Acks.{ack_in}
 use Rattle.neighbour_checks.specs.History as checking
 use Rattle.neighbour_checks.specs.History.{History, Reply, Tick, after_history, ends, lets_go}
 use Rattle.neighbour_checks.specs.Neighbours.{is_open_at, may_begin, waits_for}
-use Rattle.node_rules.specs.declared.heard.Accepted.{Accepted}
+use Rattle.node_rules.specs.Accepted.{Accepted}
 use Rattle.node_rules.specs.declared.heard.Path.TheVariants as paths
 use Rattle.node_rules.specs.Ciphers.{network}
 use Rattle.node_rules.specs.Memory.{Node}

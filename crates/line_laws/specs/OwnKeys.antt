@@ -1,9 +1,8 @@
 -- The key of a sealed flight is the one that its sender seals with.
 use Rattle.std.specs.Prelude.{◌≡◌, All, List, [], ◌∷◌, Option, Some, IfSome, drop, length}
 use Rattle.plc_base.specs.declared.key.Key.{Key}
-use Rattle.plc_base.specs.Grant.{Granted}
+use Rattle.plc_base.specs.Grant.{Granted, key_at}
 use Rattle.node_rules.specs.Ciphers.{network}
-use Rattle.node_rules.specs.Drafts.{sealing_key}
 use Rattle.node_rules.specs.Memory.{Memory, Node}
 use Rattle.line_rules.specs.Nonces.{HasSender}
 use Rattle.line_rules.specs.Runs.{Entry, IsLineRun}
@@ -17,7 +16,7 @@ pub record SealsWith (found : Option Node) (key : Key) : Type 0 where
   pub runs : node.memory ≡ Some memory
   pub granted : Granted
   pub ring : memory.station.ring ≡ Some granted
-  pub active : sealing_key granted ≡ Some key
+  pub active : key_at granted granted.active ≡ Some key
 
 -- a sealed flight is under the key that its node seals with
 abbrev pub IsUnderOwnKey : World → Flight → Type 0

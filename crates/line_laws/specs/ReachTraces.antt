@@ -15,7 +15,7 @@ use Rattle.pan_discovery.specs.declared.message.Discovery.TheVariants.{Beacon}
 use Rattle.pan_discovery.specs.Reading.{discovery_in}
 use Rattle.path_requests.specs.declared.message.PathMessage.TheVariants.{Tell}
 use Rattle.path_requests.specs.Reading.{path_in}
-use Rattle.node_rules.specs.declared.heard.Accepted.{Accepted}
+use Rattle.node_rules.specs.Accepted.{Accepted}
 use Rattle.node_rules.specs.declared.heard.Path.TheVariants as paths
 use Rattle.node_rules.specs.Ciphers.{network}
 use Rattle.node_rules.specs.Frames.{SealedUnit, Sealed, spelled}

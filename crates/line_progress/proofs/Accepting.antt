@@ -8,7 +8,7 @@ use Rattle.plc_base.specs.declared.address.TheConstants.{PAN}
 use Rattle.plc_base.specs.Grant.{Granted, key_at}
 use Rattle.frame_counters.specs.PeerMarks.{room_for}
 use Rattle.mesh_header.specs.Grammar.{spelling}
-use Rattle.node_rules.specs.declared.heard.Accepted.{Accepted}
+use Rattle.node_rules.specs.Accepted.{Accepted}
 use Rattle.node_rules.specs.declared.heard.Path.TheVariants as paths
 use Rattle.node_rules.specs.declared.refusal.FrameRefusal.TheVariants.{NotForMe}
 use Rattle.node_rules.specs.Accepting.{accept, accept_head, admitted, is_for_me, is_own, marking, open_sealed, refuse, with_key}

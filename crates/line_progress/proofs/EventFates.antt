@@ -16,7 +16,7 @@ use Rattle.fragment_buffers.specs.Loads.{UnsealedUnit}
 use Rattle.fragment_buffers.specs.Reassembly.{PlacedPiece, Reassembly, begun, placed}
 use Rattle.fragment_buffers.specs.Taking as pieces
 use Rattle.fragment_buffers.specs.declared.times.TheConstants.{REASSEMBLY_TIME, WAITING_TIME}
-use Rattle.node_rules.specs.declared.heard.Accepted.{Accepted}
+use Rattle.node_rules.specs.Accepted.{Accepted}
 use Rattle.node_rules.specs.declared.heard.Path.{Path}
 use Rattle.node_rules.specs.declared.heard.Path.TheVariants as paths
 use Rattle.node_rules.specs.declared.refusal.Dropped.TheVariants as drops

@@ -3,7 +3,7 @@ use Rattle.std.proofs.Common.{◌≡◌, ℕ, Option, Some, None, Result, Err, r
 use Rattle.std.specs.Option.{option_map}
 use Rattle.plc_base.specs.declared.key.Key.{Key}
 use Rattle.joining_messages.specs.Reading.{join_in}
-use Rattle.node_rules.specs.declared.heard.Accepted.{Accepted}
+use Rattle.node_rules.specs.Accepted.{Accepted}
 use Rattle.node_rules.specs.declared.heard.MeterHeard.{MeterHeard}
 use Rattle.node_rules.specs.declared.heard.CoordinatorHeard.{CoordinatorHeard}
 use Rattle.node_rules.specs.declared.refusal.Dropped.{Dropped}

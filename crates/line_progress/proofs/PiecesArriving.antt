@@ -11,7 +11,7 @@ use Rattle.mesh_header.specs.Pieces.{Placed}
 use Rattle.mesh_header.specs.Reading.{unit_in}
 use Rattle.fragment_buffers.specs.Reassembly.{Reassembly, begun, placed}
 use Rattle.fragment_buffers.specs.Taking as pieces
-use Rattle.node_rules.specs.declared.heard.Accepted.{Accepted}
+use Rattle.node_rules.specs.Accepted.{Accepted}
 use Rattle.node_rules.specs.declared.heard.Path.TheVariants as paths
 use Rattle.node_rules.specs.declared.refusal.Dropped.TheVariants as drops
 use Rattle.node_rules.specs.Ciphers.{Ciphers}

@@ -16,7 +16,7 @@ use Rattle.fragment_buffers.specs.Reassembly.{PlacedPiece, Reassembly, begun, da
 use Rattle.fragment_buffers.specs.Taking.{Taking, Outcome, Full, Held, Whole, behind, grown, has_room, joined, same_name, settled, taken, taken_in}
 use Rattle.fragment_buffers.proofs.Apart.{whole_reads}
 use Rattle.fragment_buffers.proofs.Places.{none_passes}
-use Rattle.node_rules.specs.declared.heard.Accepted.{Accepted}
+use Rattle.node_rules.specs.Accepted.{Accepted}
 use Rattle.node_rules.specs.declared.heard.Heard.{Heard}
 use Rattle.node_rules.specs.declared.heard.Heard.TheVariants as heard
 use Rattle.node_rules.specs.declared.refusal.Dropped.{Dropped}

@@ -4,7 +4,7 @@ use Rattle.plc_base.specs.declared.key.Key.{Key}
 use Rattle.plc_base.specs.Grant.{Granted}
 use Rattle.fragment_buffers.specs.Loads.{UnsealedUnit}
 use Rattle.fragment_buffers.specs.Waiting.{units_by}
-use Rattle.node_rules.specs.declared.heard.Accepted.{Accepted}
+use Rattle.node_rules.specs.Accepted.{Accepted}
 use Rattle.node_rules.specs.Drafts.{sealing_key}
 use Rattle.node_rules.specs.Ciphers.{Ciphers}
 use Rattle.node_rules.specs.Frames.{Sent, Sealed, spelled}

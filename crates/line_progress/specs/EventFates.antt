@@ -13,7 +13,7 @@ use Rattle.fragment_buffers.specs.Reassembly.{PlacedPiece, Reassembly, begun, da
 use Rattle.fragment_buffers.specs.Taking.{same_name}
 use Rattle.fragment_buffers.specs.Waiting.{units_by}
 use Rattle.fragment_buffers.specs.declared.times.TheConstants.{REASSEMBLY_TIME, WAITING_TIME}
-use Rattle.node_rules.specs.declared.heard.Accepted.{Accepted}
+use Rattle.node_rules.specs.Accepted.{Accepted}
 use Rattle.node_rules.specs.declared.heard.Path.TheVariants as paths
 use Rattle.node_rules.specs.Ciphers.{Ciphers}
 use Rattle.node_rules.specs.Drafts.{sealing_key}

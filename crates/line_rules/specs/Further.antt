@@ -15,7 +15,7 @@ use Rattle.path_requests.specs.declared.message.PathMessage.{PathMessage}
 use Rattle.path_requests.specs.declared.message.PathMessage.TheVariants.{Ask, Tell}
 use Rattle.path_requests.specs.Reading.{path_in}
 use Rattle.neighbour_checks.specs.Acks.{ack_in}
-use Rattle.node_rules.specs.declared.heard.Accepted.{Accepted}
+use Rattle.node_rules.specs.Accepted.{Accepted}
 use Rattle.node_rules.specs.declared.heard.Path.{Path}
 use Rattle.node_rules.specs.declared.heard.Path.TheVariants as paths
 use Rattle.node_rules.specs.declared.heard.Reply.{Reply}

@@ -5,7 +5,7 @@ use Rattle.plc_base.specs.Keeper.{Records}
 use Rattle.store_tables.specs.LeadingPuts.{Reads}
 use Rattle.broadcast_log.specs.Log.{Log}
 use Rattle.broadcast_log.specs.Laws.{IsLogIn}
-use Rattle.node_rules.specs.declared.heard.Accepted.{Accepted}
+use Rattle.node_rules.specs.Accepted.{Accepted}
 use Rattle.node_rules.specs.Ciphers.{Ciphers}
 use Rattle.node_rules.specs.Memory.{Memory, Node}
 use Rattle.node_rules.specs.Tables.{HasShortTables}

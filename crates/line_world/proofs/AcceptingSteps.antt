@@ -10,7 +10,7 @@ use Rattle.mac_frames.specs.declared.head.MacHead.TheVariants as heads
 use Rattle.frame_counters.specs.declared.fault.PeerFault.{PeerFault}
 use Rattle.frame_counters.specs.PeerMarks as marks
 use Rattle.group_keys.specs.KeyRing as ring
-use Rattle.node_rules.specs.declared.heard.Accepted.{Accepted}
+use Rattle.node_rules.specs.Accepted.{Accepted}
 use Rattle.node_rules.specs.declared.heard.Path.TheVariants as paths
 use Rattle.node_rules.specs.declared.refusal.FrameRefusal.{FrameRefusal}
 use Rattle.node_rules.specs.declared.refusal.FrameRefusal.TheVariants.{NotForMe, Malformed, Store, Halted}
@@ -21,7 +21,6 @@ use Rattle.node_rules.specs.Memory.{StationMemory}
 use Rattle.node_rules.specs.Laws.{WaitingFits}
 use Rattle.node_rules.specs.Plans.{resting}
 use Rattle.node_rules.specs.Accepting.{Accepting, accept, accept_head, is_for_me, refuse, marking, admitted, open_sealed, with_key}
-use Rattle.plc_station.specs.Heard.{Fits}
 use Rattle.meter_node.specs.Hearing.{CameUp}
 use Rattle.meter_node.specs.MeterStates.{MeterState, memory_with}
 use Rattle.meter_node.proofs.AcceptingRules.{accepted_came}
@@ -99,9 +98,9 @@ waiting_in y (Some l) w = w
 
 -- a meter that accepted a frame may hear it
 pub meter_may_hear : (x : MeterState) (s t : State StationMemory) (a : Option Arrived) (r : Result Accepted FrameRefusal) (out : Out)
-    → IfNone s.memory ((r ≡ Err Halted) × (t ≡ s)) → IfSome s.memory (λ l. Carries s (accept l s.eui a) r out t) → IfOk r (λ got. Fits got)
+    → IfNone s.memory ((r ≡ Err Halted) × (t ≡ s)) → IfSome s.memory (λ l. Carries s (accept l s.eui a) r out t)
     → IfSome t.memory (λ l. WaitingFits l) → IfOk r (λ got. MayHear (of_meter (with_its t x)) got)
-meter_may_hear x s t a (Ok got) out halted carries fits waits =
+meter_may_hear x s t a (Ok got) out halted carries waits =
     let both = of_memory (with_its t x) t.memory got (runs s t a got out halted carries) (accepted_came s t a got out halted carries) in
-    record { running = both.0; fits = fits; came = both.1; waits = waiting_in (with_its t x) t.memory waits }
-meter_may_hear x s t a (Err reason) out halted carries fits waits = tt
+    record { running = both.0; came = both.1; waits = waiting_in (with_its t x) t.memory waits }
+meter_may_hear x s t a (Err reason) out halted carries waits = tt

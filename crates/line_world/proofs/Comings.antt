@@ -14,7 +14,7 @@ use Rattle.mac_frames.specs.Faults.{bits, fields_fault, frame_fault, low_fault, 
 use Rattle.mac_frames.specs.declared.fault.FrameFaultKind.{FrameFaultKind}
 use Rattle.mac_frames.specs.declared.fault.FrameFaultKind.TheVariants.{Kind, Long, Short}
 use Rattle.mac_frames.specs.Reading.{head_in, body_in}
-use Rattle.node_rules.specs.declared.heard.Accepted.{Accepted}
+use Rattle.node_rules.specs.Accepted.{Accepted}
 use Rattle.node_rules.specs.declared.refusal.FrameRefusal.{FrameRefusal}
 use Rattle.node_rules.specs.declared.refusal.FrameRefusal.TheVariants as frames
 use Rattle.node_rules.specs.Accepting.{accept}

@@ -3,7 +3,7 @@ use Rattle.std.proofs.Common.{◌≡◌, ℕ, [], Option, Some, None, Result, Ok
 use Rattle.std.specs.Prelude.{IfSome, IfNone, IfOk, IsSome}
 use Rattle.std.specs.Option.{option_map}
 use Rattle.plc_base.specs.declared.out_frame.Out.{Out}
-use Rattle.node_rules.specs.declared.heard.Accepted.{Accepted}
+use Rattle.node_rules.specs.Accepted.{Accepted}
 use Rattle.node_rules.specs.declared.heard.CoordinatorHeard.{CoordinatorHeard}
 use Rattle.node_rules.specs.declared.heard.Reply.{Reply}
 use Rattle.node_rules.specs.declared.refusal.Dropped.{Dropped}
@@ -28,7 +28,6 @@ use Rattle.node_rules.proofs.TablePlans.{coordinators_in_place}
 use Rattle.reach_rules.specs.CheckedReplies.{message_of}
 use Rattle.line_rules.specs.Answers as rules
 use Rattle.line_rules.specs.Steps.{hearing_step}
-use Rattle.plc_station.specs.Heard.{Fits}
 use Rattle.meter_node.specs.MeterStates.{MeterState, memory_with}
 use Rattle.coordinator.specs.CoordinatorAgreement.{CoordinatorAgrees}
 use Rattle.coordinator.specs.CoordinatorStates.{CoordinatorState, memory_in, node_of, identity_of}
@@ -64,14 +63,14 @@ waiting_too x t (Some l) w = w
 runs_too : (x : CoordinatorState) (t : State StationMemory) (got : Accepted) → MayHear (of_meter (meter_with t)) got
     → MayHear (of_coordinator (with_its t x)) got
 runs_too x t got h =
-    record { running = of_station x t t.memory h.running; fits = h.fits; came = any_came x got t.memory; waits = waiting_too x t t.memory h.waits }
+    record { running = of_station x t t.memory h.running; came = any_came x got t.memory; waits = waiting_too x t t.memory h.waits }
 
 -- the coordinator that accepted a frame may hear it
 pub may_hear : (x : CoordinatorState) (s t : State StationMemory) (a : Option Arrived) (r : Result Accepted FrameRefusal) (out : Out)
-    → IfNone s.memory ((r ≡ Err Halted) × (t ≡ s)) → IfSome s.memory (λ l. Carries s (accept l s.eui a) r out t) → IfOk r (λ got. Fits got)
+    → IfNone s.memory ((r ≡ Err Halted) × (t ≡ s)) → IfSome s.memory (λ l. Carries s (accept l s.eui a) r out t)
     → IfSome t.memory (λ l. WaitingFits l) → IfOk r (λ got. MayHear (of_coordinator (with_its t x)) got)
-may_hear x s t a (Ok got) out halted carries fits waits = runs_too x t got (meter_may_hear (meter_with s) s t a (Ok got) out halted carries fits waits)
-may_hear x s t a (Err reason) out halted carries fits waits = tt
+may_hear x s t a (Ok got) out halted carries waits = runs_too x t got (meter_may_hear (meter_with s) s t a (Ok got) out halted carries waits)
+may_hear x s t a (Err reason) out halted carries waits = tt
 
 module _ (x y : CoordinatorState) (got : Accepted) (cost note now : ℕ) (r : Result CoordinatorHeard Dropped) (out : Out) (sound : IsSoundCoordinator x)
     (may : MayHear (of_coordinator x) got) where

@@ -7,7 +7,7 @@ use Rattle.plc_base.specs.declared.key.Key.{Key}
 use Rattle.plc_base.specs.declared.out_frame.Out.{Out}
 use Rattle.store_tables.proofs.SlotTables.{slice_get-set}
 use Rattle.broadcast_log.specs.Log.{AgreesWith}
-use Rattle.node_rules.specs.declared.heard.Accepted.{Accepted}
+use Rattle.node_rules.specs.Accepted.{Accepted}
 use Rattle.node_rules.specs.declared.refusal.FrameRefusal.{FrameRefusal}
 use Rattle.node_rules.specs.declared.refusal.Dropped.TheVariants.{Store as Unstored}
 use Rattle.node_rules.specs.Agreement.{Agrees}

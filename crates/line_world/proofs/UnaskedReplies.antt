@@ -28,7 +28,7 @@ use Rattle.eap_psk.specs.Faults.{first_fault}
 use Rattle.eap_psk.specs.declared.peer.Peer.{Peer}
 use Rattle.eap_psk.specs.declared.server.Server.{Server}
 use Rattle.eap_psk.specs.Sessions.{identifier_of, peer_for, rand_p_in}
-use Rattle.node_rules.specs.declared.heard.Accepted.{Accepted}
+use Rattle.node_rules.specs.Accepted.{Accepted}
 use Rattle.node_rules.specs.declared.heard.Heard.{Heard}
 use Rattle.node_rules.specs.declared.heard.MeterHeard.TheVariants as meter_words
 use Rattle.node_rules.specs.declared.heard.Path.{Path}

@@ -5,7 +5,7 @@ use Rattle.std.specs.List.{list_any}
 use Rattle.std.specs.Option.{option_map, option_map_or}
 use Rattle.plc_base.specs.declared.address.Eui.{Eui}
 use Rattle.plc_base.specs.declared.out_frame.Out.{Out}
-use Rattle.node_rules.specs.declared.heard.Accepted.{Accepted}
+use Rattle.node_rules.specs.Accepted.{Accepted}
 use Rattle.node_rules.specs.declared.heard.Path.{Path}
 use Rattle.node_rules.specs.declared.heard.Reply.{Reply}
 use Rattle.node_rules.specs.declared.refusal.LocalRefusal.{LocalRefusal}

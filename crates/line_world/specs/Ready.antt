@@ -1,6 +1,6 @@
 -- What a call of a line asks.
 use Rattle.std.specs.Prelude.{◌≡◌, ◌<◌, ℕ, IfSome, length, slice_get}
-use Rattle.node_rules.specs.declared.heard.Accepted.{Accepted}
+use Rattle.node_rules.specs.Accepted.{Accepted}
 use Rattle.line_events.specs.declared.event.TheConstants.{MAX_EVENTS}
 use Rattle.line_rules.specs.Logs.{LogsKept}
 use Rattle.line_world.specs.declared.line.Line.{Line}

@@ -2,12 +2,11 @@
 use Rattle.std.specs.Prelude.{◌≡◌, ⊤, ℕ, List, is_some, IsSome, IfSome}
 use Rattle.std.specs.Option.{option_map}
 use Rattle.plc_base.specs.declared.out_frame.Out.{Out}
-use Rattle.node_rules.specs.declared.heard.Accepted.{Accepted}
+use Rattle.node_rules.specs.Accepted.{Accepted}
 use Rattle.node_rules.specs.Memory.{Memory, Node, Role, Coordinator, Meter}
 use Rattle.node_rules.specs.Laws.{WaitingFits}
 use Rattle.node_rules.specs.NodeSteps.{NodeStep}
 use Rattle.line_rules.specs.Answers as rules
-use Rattle.plc_station.specs.Heard.{Fits}
 use Rattle.meter_node.specs.Hearing.{CameUp}
 use Rattle.line_world.specs.declared.nodes.reception.HandedUp.{HandedUp}
 use Rattle.line_world.specs.declared.nodes.reception.Reception.{Reception}
@@ -21,7 +20,6 @@ CameTo (Meter psk) got m = CameUp got.path m.station
 -- A node may hear a frame: it is not halted, its station accepted the frame, and what waits fits.
 pub record MayHear (x : Node) (got : Accepted) : Type 0 where
   pub running : IsSome x.memory
-  pub fits : Fits got
   pub came : IfSome x.memory (λ m. CameTo x.role got m)
   pub waits : IfSome x.memory (λ m. WaitingFits m.station)
 

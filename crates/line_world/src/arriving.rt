@@ -24,9 +24,10 @@ use crate::nodes::{HandedUp, Reception};
 use crate::world::Buffers;
 use line_events::{Answer, Handed, Happenings, StepFault};
 use line_flights::{Flights, Origin};
-use node_rules::{Accepted, FrameRefusal, Path};
+use node_rules::{FrameRefusal, Path};
 use pan_discovery::read_discovery;
 use plc_base::{DatagramBuf, Eui, LinkCost, OctetRef};
+use plc_station::Accepted;
 
 fn frame_word(reason: FrameRefusal) -> Answer
     ensures { result ≡ words.frame_word reason }
@@ -63,7 +64,7 @@ fn origin(flights: &Flights, octets: &[u8], accepted: &Result<Accepted<'_>, Fram
     ensures note { IfOk accepted.now (λ got. result.note ≡ note_in flights.now.flights octets.now got.path) }
 {
     match accepted {
-        Ok(got) => origin_by(flights, octets, &got.path),
+        Ok(got) => origin_by(flights, octets, &got.path()),
         Err(_) => Origin {
             is_forged: false,
             note: 0,
@@ -83,7 +84,7 @@ fn payload_octets(accepted: &Result<Accepted<'_>, FrameRefusal>)
     let Ok(got) = accepted else {
         return;
     };
-    are_octets(got.payload.octets());
+    are_octets(got.payload());
 }
 
 // A datagram that was handed up, for the report.
@@ -189,18 +190,18 @@ impl Line {
     pub(crate) fn heard<'a>(
         &mut self,
         node: usize,
-        got: &Accepted<'a>,
+        got: Accepted<'a>,
         origin: Origin,
         cost: LinkCost,
         datagram: &'a mut DatagramBuf,
     ) -> Happenings<'a>
         requires room { HasRoom self.old }
         requires there { node < length self.old.nodes }
-        requires accepted { IfSome (slice_get self.old.nodes node) (λ x. MayHear x got.now) }
+        requires accepted { IfSome (slice_get self.old.nodes node) (λ x. MayHear x got) }
         requires bounds { IsBounded (in_run (world_of self.old)) }
         requires events { self.old.events < MAX_EVENTS }
         ensures { IfSome (slice_get self.old.nodes node) (λ x. Steps true (world_of self.old) (Ok result)
-            (world_of self.new) (Ok (outcome_of_hearing network (world_of self.old) node x got.now origin cost))) }
+            (world_of self.new) (Ok (outcome_of_hearing network (world_of self.old) node x got.entry origin cost))) }
     {
         let reported = self.nodes.hear(
             node,
@@ -219,24 +220,24 @@ impl Line {
     fn arrived<'a>(
         &mut self,
         node: usize,
-        accepted: &Result<Accepted<'a>, FrameRefusal>,
+        accepted: Result<Accepted<'a>, FrameRefusal>,
         origin: Origin,
         cost: LinkCost,
         datagram: &'a mut DatagramBuf,
     ) -> Happenings<'a>
         requires room { HasRoom self.old }
         requires there { node < length self.old.nodes }
-        requires accepted { IfOk accepted.now (λ got. IfSome (slice_get self.old.nodes node) (λ x. MayHear x got)) }
+        requires accepted { IfOk accepted (λ got. IfSome (slice_get self.old.nodes node) (λ x. MayHear x got)) }
         requires beside { length self.old.beside.items ≡ length self.old.nodes }
         requires logs { LogsKept (world_of self.old) }
         requires bounds { IsBounded (in_run (world_of self.old)) }
         requires events { self.old.events < MAX_EVENTS }
         ensures { IfSome (slice_get self.old.nodes node) (λ x. Steps true (world_of self.old) (Ok result)
-            (world_of self.new) (Ok (outcome_of_arrival network (world_of self.old) node x accepted.now origin cost))) }
+            (world_of self.new) (Ok (outcome_of_arrival network (world_of self.old) node x accepted.entry origin cost))) }
     {
         match accepted {
             Ok(got) => self.heard_further(node, got, origin, cost, datagram),
-            Err(reason) => self.answered(frame_word(*reason)),
+            Err(reason) => self.answered(frame_word(reason)),
         }
     }
 
@@ -273,7 +274,7 @@ impl Line {
         let accepted = self.nodes.accept(number, octets, &mut buffers.payload);
         payload_octets(&accepted);
         let origin = origin(&self.flights, octets, &accepted);
-        Ok(self.arrived(number, &accepted, origin, cost, &mut buffers.datagram))
+        Ok(self.arrived(number, accepted, origin, cost, &mut buffers.datagram))
     }
 
     /// Octets of the script come to a node over a link of this cost.
@@ -302,7 +303,7 @@ impl Line {
         let accepted = self.nodes.accept(number, octets, &mut buffers.payload);
         payload_octets(&accepted);
         let origin = origin(&self.flights, octets, &accepted);
-        Ok(self.arrived(number, &accepted, origin, cost, &mut buffers.datagram))
+        Ok(self.arrived(number, accepted, origin, cost, &mut buffers.datagram))
     }
 
     /// A flight is lost.

@@ -1,13 +1,13 @@
 //! Checks of neighbours, broadcasts and path requests.
 ghost use Rattle.std.specs.Prelude.{◌≡◌, ◌==◌, ◌<◌, true, false, length, Ok, None, Some, IfSome, IsSome, is_some, slice_get, if◌then◌else◌};
-ghost use Rattle.std.specs.Option.{option_and_then};
+ghost use Rattle.std.specs.Option.{option_and_then, option_map};
 ghost use Rattle.loadng_messages.specs.Grammar as messages;
 ghost use Rattle.loadng_messages.specs.Reading as reading;
 ghost use Rattle.mesh_header.specs.Reading as units;
 ghost use Rattle.node_rules.specs.Ciphers.{network};
 ghost use Rattle.node_rules.specs.Replies.{route_message};
 ghost use Rattle.reach_rules.specs.CheckedReplies as replies;
-ghost use Rattle.reach_rules.specs.Receiving.{command_of as further_command};
+ghost use Rattle.reach_rules.specs.Receiving.{command_of as further_command, command_on};
 ghost use Rattle.line_events.specs.declared.event.TheConstants.{MAX_EVENTS};
 ghost use Rattle.line_rules.specs.Answers as words;
 ghost use Rattle.line_rules.specs.Further as further;
@@ -27,8 +27,9 @@ use line_flights::Origin;
 use loadng_messages::{Message, read_message};
 use mesh_header::{Unit, read_unit};
 use neighbour_checks::Checks;
-use node_rules::{Accepted, LocalRefusal, Path, Reply};
+use node_rules::{LocalRefusal, Path, Reply};
 use plc_base::{DatagramBuf, LinkCost, Short};
+use plc_station::Accepted;
 use reach_rules::{AskRefusal, BroadcastRefusal};
 
 fn broadcast_word(sent: Result<(), BroadcastRefusal>) -> Answer
@@ -63,10 +64,17 @@ fn ask_word(asked: Result<(), AskRefusal>) -> Answer
 fn unit_of<'a>(got: &Accepted<'a>) -> Option<Unit<'a>>
     ensures { result ≡ units.unit_in got.now.payload }
 {
-    match read_unit(got.payload.octets()) {
+    match read_unit(got.payload()) {
         Ok(unit) => Some(unit),
         Err(_) => None,
     }
+}
+
+// The command that an accepted frame carries, if it carries one.
+fn command_in<'a>(got: &Accepted<'a>, unit: &Option<Unit<'a>>) -> Option<CommandRef<'a>>
+    ensures { option_map reaching.command_of result ≡ command_on got.now.path unit.now }
+{
+    command_on(&got.path(), unit)
 }
 
 // The message that the body of a command 01 is, if it is one.
@@ -278,16 +286,16 @@ impl Line {
     fn commanded<'a>(
         &mut self,
         node: usize,
-        got: &Accepted<'a>,
+        got: Accepted<'a>,
         command: &CommandRef<'a>,
         origin: Origin,
         cost: LinkCost,
         datagram: &'a mut DatagramBuf,
     ) -> Happenings<'a>
-        requires ready { ReadyToHear self.old node got.now }
-        requires command { further_command got.now ≡ Some (reaching.command_of command.now) }
+        requires ready { ReadyToHear self.old node got }
+        requires command { further_command got ≡ Some (reaching.command_of command.now) }
         ensures { IfSome (slice_get self.old.nodes node) (λ x. Steps true (world_of self.old) (Ok result) (world_of self.new)
-            (Ok (outcome_of_command network (world_of self.old) node x got.now origin cost (Some (reaching.command_of command.now))))) }
+            (Ok (outcome_of_command network (world_of self.old) node x got.entry origin cost (Some (reaching.command_of command.now))))) }
     {
         let reported = self.nodes.hear(
             node,
@@ -353,21 +361,22 @@ impl Line {
     fn checked<'a>(
         &mut self,
         node: usize,
-        got: &Accepted<'a>,
+        got: Accepted<'a>,
         message: &Option<Message>,
         origin: Origin,
         cost: LinkCost,
         datagram: &'a mut DatagramBuf,
     ) -> Happenings<'a>
-        requires ready { ReadyToHear self.old node got.now }
-        requires message { message.now ≡ replies.message_of got.now }
+        requires ready { ReadyToHear self.old node got }
+        requires message { message.now ≡ replies.message_of got }
         requires allowed { IfSome message.now (λ m. messages.IsAllowed m) }
         requires checks { self.old.checks_on ≡ true }
-        requires plain { further_command got.now ≡ None }
+        requires plain { further_command got ≡ None }
         ensures { IfSome (slice_get self.old.nodes node) (λ x. Steps true (world_of self.old) (Ok result) (world_of self.new)
-            (Ok (outcome_of_further network (world_of self.old) node x got.now origin cost))) }
+            (Ok (outcome_of_further network (world_of self.old) node x got.entry origin cost))) }
     {
-        if is_unbelieved(&self.beside[node].checks, &got.path, message) {
+        let path = got.path();
+        if is_unbelieved(&self.beside[node].checks, &path, message) {
             return self.unbelieved(node, origin);
         }
         let reported = self.nodes.hear(
@@ -380,7 +389,7 @@ impl Line {
             &mut self.out,
         );
         let forged = self.is_forged(origin);
-        if !self.acknowledged(node, due(&got.path, message, reported.answer)) {
+        if !self.acknowledged(node, due(&path, message, reported.answer)) {
             return self.received(node, forged, &reception_of(Answer::Store, None));
         }
         self.begin_check(node, reply_of(message, reported.replied));
@@ -391,17 +400,17 @@ impl Line {
     pub(crate) fn heard_further<'a>(
         &mut self,
         node: usize,
-        got: &Accepted<'a>,
+        got: Accepted<'a>,
         origin: Origin,
         cost: LinkCost,
         datagram: &'a mut DatagramBuf,
     ) -> Happenings<'a>
-        requires ready { ReadyToHear self.old node got.now }
+        requires ready { ReadyToHear self.old node got }
         ensures { IfSome (slice_get self.old.nodes node) (λ x. Steps true (world_of self.old) (Ok result) (world_of self.new)
-            (Ok (outcome_of_further network (world_of self.old) node x got.now origin cost))) }
+            (Ok (outcome_of_further network (world_of self.old) node x got.entry origin cost))) }
     {
-        let unit = unit_of(got);
-        if let Some(command) = command_on(&got.path, &unit) {
+        let unit = unit_of(&got);
+        if let Some(command) = command_in(&got, &unit) {
             return self.commanded(node, got, &command, origin, cost, datagram);
         }
         if self.checks_on {

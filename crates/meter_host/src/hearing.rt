@@ -1,6 +1,5 @@
 //! A frame that came.
 ghost use Rattle.std.specs.Prelude.{◌≡◌, IfSome, IsSome};
-ghost use Rattle.plc_station.specs.Heard.{Fits};
 ghost use Rattle.meter_node.specs.Hearing.{CameUp};
 ghost use Rattle.host_calls.specs.Answers.{none_given};
 ghost use Rattle.meter_host.specs.Making.{up_of, is_joined_by, HeardAs, Hears};
@@ -10,8 +9,9 @@ use crate::making::ended;
 use crate::refusals::Refusal;
 use host_calls::{Given, Status};
 use host_items::ItemOctets;
-use node_rules::{Accepted, Dropped, Heard, MeterHeard};
+use node_rules::{Dropped, Heard, MeterHeard};
 use plc_base::{DatagramBuf, LONGEST_DATAGRAM, LinkCost};
+use plc_station::Accepted;
 
 // Notes what is handed up of a frame: the sender, the note and the datagram, which has 1,280 octets at most.
 fn hand_up(heard: &Result<MeterHeard<'_>, Dropped>, up: &mut ItemOctets)
@@ -41,17 +41,16 @@ impl Host {
     // Hears a frame that was accepted.
     fn hear_accepted<'a>(
         &mut self,
-        got: &Accepted<'a>,
+        got: Accepted<'a>,
         cost: LinkCost,
         note: u32,
         now: u64,
         datagram: &'a mut DatagramBuf,
         given: &mut Given,
     ) -> Status
-        requires fits { Fits got.now }
-        requires came { IfSome self.old.station.memory (CameUp got.now.path) }
+        requires came { IfSome self.old.station.memory (CameUp got.path) }
         requires running { IsSome self.old.station.memory }
-        ensures { HeardAs got.now cost note now self.old result given.new self.new }
+        ensures { HeardAs got.entry cost note now self.old result given.new self.new }
     {
         let heard = self
             .meter
@@ -83,6 +82,6 @@ impl Host {
         if self.halted() {
             return Status::Halted;
         }
-        self.hear_accepted(&got, cost, note, now, &mut buffers.datagram, given)
+        self.hear_accepted(got, cost, note, now, &mut buffers.datagram, given)
     }
 }

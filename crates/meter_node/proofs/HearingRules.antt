@@ -11,7 +11,7 @@ use Rattle.store_tables.proofs.WritesLemmas.{wrote_none}
 use Rattle.joining_messages.specs.Reading.{join_in}
 use Rattle.mesh_header.specs.declared.unit.Unit.{Unit as MeshUnit}
 use Rattle.mesh_header.specs.Reading.{unit_in}
-use Rattle.node_rules.specs.declared.heard.Accepted.{Accepted}
+use Rattle.node_rules.specs.Accepted.{Accepted}
 use Rattle.node_rules.specs.declared.heard.Heard.{Heard}
 use Rattle.node_rules.specs.declared.heard.Heard.TheVariants.{Up, Held, Relayed, Answered, Learned, Broken, Reported, Joining, Local}
 use Rattle.node_rules.specs.declared.heard.MeterHeard.{MeterHeard}

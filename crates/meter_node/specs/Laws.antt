@@ -1,7 +1,7 @@
 -- What holds of the frames that a meter accepts.
 use Rattle.std.specs.Prelude.{◌≡◌, Option, Ok}
 use Rattle.plc_base.specs.declared.address.Eui.{Eui}
-use Rattle.node_rules.specs.declared.heard.Accepted.{Accepted}
+use Rattle.node_rules.specs.Accepted.{Accepted}
 use Rattle.node_rules.specs.Frames.{Arrived}
 use Rattle.node_rules.specs.Memory.{StationMemory}
 use Rattle.node_rules.specs.Accepting.{accept}

@@ -5,7 +5,6 @@ ghost use Rattle.joining_messages.specs.Reading.{join_in};
 ghost use Rattle.node_rules.specs.Memory.{StationMemory};
 ghost use Rattle.node_rules.specs.Memory as memory;
 ghost use Rattle.node_rules.specs.Meters as meters;
-ghost use Rattle.plc_station.specs.Heard.{Fits};
 ghost use Rattle.node_rules.specs.Carrying.{Carries, nothing};
 ghost use Rattle.plc_station.specs.Ready.{Ready, ReadyToAnswer};
 ghost use Rattle.meter_node.specs.MeterCalls.{MeterAfter};
@@ -22,8 +21,9 @@ use agent_node::goes_down;
 use group_keys::RingFault;
 use joining_base::{joining_command, push_down, read_message};
 use joining_messages::{JoinBody, JoinMessage};
-use node_rules::{Accepted, Dropped, Heard, MeterHeard, Way};
+use node_rules::{Dropped, Heard, MeterHeard, Way};
 use plc_base::{DatagramBuf, Keeper, KeyIndex, LinkCost, Out, Short};
+use plc_station::Accepted;
 
 // Whether two sessions run alike.
 fn same_session_way(a: SessionWay, b: SessionWay) -> bool
@@ -252,7 +252,7 @@ impl<K: Keeper + Drop> Meter<K> {
     /// The last reply of its station is then the route reply that it sent. Of a frame with a joining command nothing is said of it.
     pub fn hear<'a>(
         &mut self,
-        got: &Accepted<'a>,
+        got: Accepted<'a>,
         cost: LinkCost,
         note: u32,
         now: u64,
@@ -260,13 +260,12 @@ impl<K: Keeper + Drop> Meter<K> {
         out: &mut Out,
     ) -> Result<MeterHeard<'a>, Dropped>
         requires ready { Ready self.old.station }
-        requires fits { Fits got.now }
-        requires came { IfSome self.old.station.memory (λ l. hearing.CameUp got.now.path l) }
+        requires came { IfSome self.old.station.memory (λ l. hearing.CameUp got.path l) }
         ensures carries { IfSome (node_of self.old).memory (λ m. Carries (node_of self.old)
-            (meters.hear_meter (identity_of self.old) m got.now cost note now) result out.new (node_of self.new)) }
+            (meters.hear_meter (identity_of self.old) m got.entry cost note now) result out.new (node_of self.new)) }
         ensures after { MeterAfter self.old self.new }
-        ensures replied { IfSome (node_of self.old).memory (λ m. unread (hear m.station got.now cost note now).answer ≡ None
-            → self.new.station.replied ≡ reply_sent (meters.hear_meter (identity_of self.old) m got.now cost note now) (node_of self.new).memory) }
+        ensures replied { IfSome (node_of self.old).memory (λ m. unread (hear m.station got.entry cost note now).answer ≡ None
+            → self.new.station.replied ≡ reply_sent (meters.hear_meter (identity_of self.old) m got.entry cost note now) (node_of self.new).memory) }
     {
         let heard = self.station.hear(got, cost, note, now, datagram, out);
         match joining_command(&heard) {

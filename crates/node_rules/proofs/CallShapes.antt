@@ -17,7 +17,7 @@ use Rattle.store_tables.specs.Writes.{puts_of}
 use Rattle.std.proofs.lemmas.List.Quantifiers.{position-Some}
 use Rattle.group_keys.specs.KeyBook.{Book}
 use Rattle.group_keys.specs.KeyRing as ring
-use Rattle.node_rules.specs.declared.heard.Accepted.{Accepted}
+use Rattle.node_rules.specs.Accepted.{Accepted}
 use Rattle.node_rules.specs.declared.refusal.FrameRefusal.{FrameRefusal}
 use Rattle.node_rules.specs.declared.refusal.FrameRefusal.TheVariants.{NotForMe, Store}
 use Rattle.node_rules.specs.declared.refusal.SendRefusal.TheVariants as sends

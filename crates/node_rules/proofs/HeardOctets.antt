@@ -16,7 +16,7 @@ use Rattle.mesh_header.specs.Reading.{unit_in}
 use Rattle.mesh_header.specs.Laws.{HasOctets}
 use Rattle.mesh_header.proofs.Readings.{unit_spelled}
 use Rattle.mesh_header.proofs.UnitOctets.{read_octets}
-use Rattle.node_rules.specs.declared.heard.Accepted.{Accepted}
+use Rattle.node_rules.specs.Accepted.{Accepted}
 use Rattle.node_rules.specs.declared.heard.Heard.{Heard}
 use Rattle.node_rules.specs.declared.heard.Heard.TheVariants as heard
 use Rattle.node_rules.specs.declared.heard.Path.{Path}

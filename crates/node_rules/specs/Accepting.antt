@@ -14,7 +14,7 @@ use Rattle.frame_counters.specs.PeerMarks as marks
 use Rattle.group_keys.specs.KeyBook.{eui_number}
 use Rattle.group_keys.specs.KeyRing as ring
 use Rattle.node_rules.specs.declared.heard.Path.TheVariants as paths
-use Rattle.node_rules.specs.declared.heard.Accepted.{Accepted}
+use Rattle.node_rules.specs.Accepted.{Accepted}
 use Rattle.node_rules.specs.declared.refusal.FrameRefusal.{FrameRefusal}
 use Rattle.node_rules.specs.declared.refusal.FrameRefusal.TheVariants.{Malformed, NotForMe, NoKey, BadTag, Replayed, PeersFull, Store}
 use Rattle.node_rules.specs.Frames.{Arrived, to_all}

@@ -13,7 +13,7 @@ use Rattle.loadng_messages.specs.Reading.{message_in}
 use Rattle.routing_set.specs.declared.rank.Rank.{Rank}
 use Rattle.routing_set.specs.RoutingSet as routing
 use Rattle.fragment_buffers.specs.Taking as pieces
-use Rattle.node_rules.specs.declared.heard.Accepted.{Accepted}
+use Rattle.node_rules.specs.Accepted.{Accepted}
 use Rattle.node_rules.specs.declared.heard.Path.{Path}
 use Rattle.node_rules.specs.declared.heard.Path.TheVariants as paths
 use Rattle.node_rules.specs.declared.heard.Way.TheVariants.{Air, Near, Mesh as ByMesh}

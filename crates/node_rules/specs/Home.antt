@@ -8,7 +8,7 @@ use Rattle.plc_base.specs.Grant.{Granted}
 use Rattle.plc_base.specs.Keeper.{Records, Store, Write}
 use Rattle.store_tables.specs.Writes.{Wrote}
 use Rattle.group_keys.specs.KeyRing as ring
-use Rattle.node_rules.specs.declared.heard.Accepted.{Accepted}
+use Rattle.node_rules.specs.Accepted.{Accepted}
 use Rattle.node_rules.specs.Frames.{Arrived}
 use Rattle.node_rules.specs.Memory.{Memory}
 use Rattle.node_rules.specs.Plans.{Plan, carry_out}

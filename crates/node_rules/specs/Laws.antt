@@ -8,7 +8,7 @@ use Rattle.plc_base.specs.declared.keeper.Cut.{Cut}
 use Rattle.plc_base.specs.Keeper.{Records, Write}
 use Rattle.plc_base.specs.declared.address.Eui.{Eui}
 use Rattle.plc_base.specs.declared.key.Key.{Key}
-use Rattle.node_rules.specs.declared.heard.Accepted.{Accepted}
+use Rattle.node_rules.specs.Accepted.{Accepted}
 use Rattle.node_rules.specs.declared.heard.Path.TheVariants as paths
 use Rattle.node_rules.specs.declared.refusal.Dropped.TheVariants as drops
 use Rattle.node_rules.specs.declared.refusal.FrameRefusal.TheVariants as frames

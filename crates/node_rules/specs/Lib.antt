@@ -3,6 +3,7 @@ pub mod Frames
 pub mod Memory
 pub mod Plans
 pub mod Drafts
+pub mod Accepted
 pub mod Accepting
 pub mod Hearing
 pub mod Calls

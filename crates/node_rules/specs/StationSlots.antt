@@ -6,7 +6,7 @@ use Rattle.plc_base.specs.Keeper.{Records, Store, Write}
 use Rattle.store_tables.specs.Writes.{Wrote}
 use Rattle.group_keys.specs.KeyRing.{ring_slot}
 use Rattle.group_keys.specs.KeyBook as book
-use Rattle.node_rules.specs.declared.heard.Accepted.{Accepted}
+use Rattle.node_rules.specs.Accepted.{Accepted}
 use Rattle.node_rules.specs.Frames.{Arrived}
 use Rattle.node_rules.specs.Memory.{StationMemory}
 use Rattle.node_rules.specs.Plans.{Plan}

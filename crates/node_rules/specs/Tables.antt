@@ -11,7 +11,7 @@ use Rattle.store_tables.specs.Writes.{Wrote}
 use Rattle.frame_counters.specs.PeerMarks as marks
 use Rattle.group_keys.specs.KeyBook as book
 use Rattle.routing_set.specs.RoutingSet as routing
-use Rattle.node_rules.specs.declared.heard.Accepted.{Accepted}
+use Rattle.node_rules.specs.Accepted.{Accepted}
 use Rattle.node_rules.specs.Frames.{Arrived}
 use Rattle.node_rules.specs.Memory.{StationMemory, Memory, Role, Coordinator, Meter}
 use Rattle.node_rules.specs.Plans.{Plan, carry_out}

@@ -1,10 +1,7 @@
 //! What a node makes of a frame that it hears.
-ghost use Rattle.std.specs.Prelude.{◌≡◌, ◌≤◌, length};
-ghost use Rattle.plc_base.specs.declared.limits.TheConstants.{LONGEST_FRAME};
 
 use eap_psk::Agreed;
-use plc_base::{Eui, FrameBuf, Grant, Key, OctetRef, Short};
-use std::marker::Model;
+use plc_base::{Eui, Grant, Key, OctetRef, Short};
 
 /// The way on which an accepted frame came.
 #[derive(Clone, Copy, Debug, PartialEq, Eq)]
@@ -28,46 +25,6 @@ pub enum Path {
         /// The neighbour that sent it.
         from: Short,
     },
-}
-
-/// What is inside a frame, where it stands: at most 400 octets. A contract sees the list of them.
-#[derive(Drop)]
-pub struct FrameRef<'a> {
-    items: &'a FrameBuf,
-}
-
-impl<'a> Model for FrameRef<'a> {
-    ghost use Rattle.std.specs.Prelude.{ℕ, List};
-
-    ghost Value = { List ℕ };
-
-    ghost view = { λ o. o.items.now };
-}
-
-impl<'a> FrameRef<'a> {
-    /// These octets.
-    pub fn new(octets: &'a FrameBuf) -> FrameRef<'a>
-        ensures { result ≡ octets.now }
-    {
-        FrameRef { items: octets }
-    }
-
-    /// The octets as a slice.
-    pub fn octets(&self) -> &'a [u8]
-        ensures value { result.now ≡ self.now }
-        ensures fits { length result.now ≤ LONGEST_FRAME }
-    {
-        self.items.octets()
-    }
-}
-
-/// A frame that was accepted.
-#[derive(Drop)]
-pub struct Accepted<'a> {
-    /// The way on which it came.
-    pub path: Path,
-    /// The octets of its unit, unread. They stay in the buffer that the caller lent.
-    pub payload: FrameRef<'a>,
 }
 
 /// Where a joining message comes from, and where its answer goes.

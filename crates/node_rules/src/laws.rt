@@ -3,7 +3,7 @@ ghost use Rattle.std.specs.Prelude.{ℕ, ◌≡◌, true, List, is_some, Ok, Err
 ghost use Rattle.plc_base.specs.Keeper.{Write};
 ghost use Rattle.store_tables.specs.Writes.{Wrote};
 ghost use Rattle.plc_base.specs.declared.tags.PairTag.{PairTag};
-ghost use Rattle.node_rules.specs.declared.heard.Accepted.{Accepted};
+ghost use Rattle.node_rules.specs.Accepted.{Accepted};
 ghost use Rattle.node_rules.specs.declared.heard.Way.{Way};
 ghost use Rattle.node_rules.specs.declared.heard.Heard.TheVariants as heard;
 ghost use Rattle.node_rules.specs.declared.refusal.Dropped.TheVariants as drops;

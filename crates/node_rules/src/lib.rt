@@ -8,7 +8,7 @@
 //! - `Frames.antt` is the edge: what a frame spells, and what arrived octets are, under ciphers that are given (`Ciphers.antt`).
 //! - `Agreement.antt` is what memory and store say of one another, `StoreReading.antt` what a restart makes of a store.
 //!
-//! The code here is the words of the answers ([`Accepted`], [`Heard`], [`SendRefusal`] ..), [`Shown`], and the laws, each an empty function whose
+//! The code here is the words of the answers ([`Path`], [`Heard`], [`SendRefusal`] ..), [`Shown`], and the laws, each an empty function whose
 //! clause is the law:
 //!
 //! - A refusal changes nothing ([`a_frame_refused_changes_nothing`] and its like), and [`the_room_names_the_refusal`] of a command.
@@ -29,9 +29,7 @@ mod session_time;
 mod shown;
 mod table_laws;
 
-pub use heard::{
-    Accepted, CoordinatorHeard, FrameRef, Heard, MeterHeard, Path, Reply, SentHow, Way,
-};
+pub use heard::{CoordinatorHeard, Heard, MeterHeard, Path, Reply, SentHow, Way};
 pub use laws::{
     a_coordinators_drop_changes_nothing, a_coordinators_hearing_is_bounded, a_drop_changes_nothing,
     a_frame_refused_changes_nothing, a_join_is_bounded, a_join_refused_changes_nothing,

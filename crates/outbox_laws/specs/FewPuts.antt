@@ -3,7 +3,7 @@ use Rattle.std.specs.Prelude.{ℕ, ◌≤◌, List, length}
 use Rattle.plc_base.specs.declared.address.Eui.{Eui}
 use Rattle.plc_base.specs.declared.key.Key.{Key}
 use Rattle.plc_base.specs.Grant.{Granted}
-use Rattle.node_rules.specs.declared.heard.Accepted.{Accepted}
+use Rattle.node_rules.specs.Accepted.{Accepted}
 use Rattle.node_rules.specs.Memory.{StationMemory, Memory}
 use Rattle.node_rules.specs.Plans.{Plan}
 use Rattle.node_rules.specs.Hearing.{hear}

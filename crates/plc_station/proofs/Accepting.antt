@@ -5,7 +5,7 @@ use Rattle.plc_base.specs.declared.key.Key.{Key}
 use Rattle.store_tables.proofs.WritesLemmas.{wrote_one}
 use Rattle.frame_counters.specs.declared.fault.PeerFault.{PeerFault}
 use Rattle.frame_counters.specs.PeerMarks.{room_for, keep_write, kept_after}
-use Rattle.node_rules.specs.declared.heard.Accepted.{Accepted}
+use Rattle.node_rules.specs.Accepted.{Accepted}
 use Rattle.node_rules.specs.declared.refusal.FrameRefusal.{FrameRefusal}
 use Rattle.node_rules.specs.declared.refusal.FrameRefusal.TheVariants.{NotForMe, NoKey, BadTag, Store}
 use Rattle.mac_frames.specs.declared.head.MacHead.{MacHead}

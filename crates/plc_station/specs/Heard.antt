@@ -1,6 +1,6 @@
 -- Frames that may be heard.
 use Rattle.std.specs.Prelude.{ℕ, ◌≤◌, List, length, Result, Ok, Err, ⊤}
-use Rattle.node_rules.specs.declared.heard.Accepted.{Accepted}
+use Rattle.node_rules.specs.Accepted.{Accepted}
 use Rattle.node_rules.specs.declared.heard.Path.{Path}
 use Rattle.node_rules.specs.declared.heard.Path.TheVariants.{Sealed, Up, Down}
 use Rattle.node_rules.specs.declared.refusal.FrameRefusal.{FrameRefusal}

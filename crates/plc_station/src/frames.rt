@@ -3,7 +3,7 @@ ghost use Rattle.std.specs.Prelude.{◌≡◌, ◌==◌, ◌||◌, ◌+◌, ◌<
 ghost use Rattle.node_rules.specs.Carrying.{Carries, nothing};
 ghost use Rattle.node_rules.specs.Agreement.{Agrees};
 ghost use Rattle.plc_station.specs.Ready.{After, Ready};
-ghost use Rattle.plc_station.specs.Heard.{Fits, FitsPath, accepted_on};
+ghost use Rattle.plc_station.specs.Heard.{FitsPath, accepted_on};
 ghost use Rattle.group_keys.specs.KeyRing as ring;
 ghost use Rattle.mac_frames.specs.Grammar.{Frame, IsSealed};
 ghost use Rattle.node_rules.specs.Ciphers.{network};
@@ -12,10 +12,11 @@ ghost use Rattle.node_rules.specs.Accepting as accepting;
 ghost use Rattle.node_rules.specs.Laws.{WaitingFits};
 ghost use Rattle.plc_base.specs.declared.limits.TheConstants.{LONGEST_FRAME};
 
+use crate::accepted::Accepted;
 use crate::station::Station;
 use frame_counters::PeerFault;
 use mac_frames::{MacHead, RawFrame, open_frame, read_frame};
-use node_rules::{Accepted, FrameRef, FrameRefusal, Path};
+use node_rules::{FrameRefusal, Path};
 use plc_base::{Destination, FrameBuf, Keeper, KeyIndex, PAN, Short};
 
 // Keeps octets in place of what a buffer held.
@@ -215,17 +216,13 @@ impl<K: Keeper + Drop> Station<K> {
             (λ l. Carries self.old (accepting.accept l self.old.eui
             (arrived network octets.now)) result nothing self.new) }
         ensures after { After self.old self.new }
-        ensures fits { IfOk result (λ got. Fits got) }
         ensures waits { IfSome self.new.memory (λ l. WaitingFits l) }
     {
         let opened = self.open_or_clear(octets, payload);
         // What waits keeps its sizes.
         let _waiting = self.bodies.count();
         match opened {
-            Ok(path) => Ok(Accepted {
-                path,
-                payload: FrameRef::new(payload),
-            }),
+            Ok(path) => Ok(Accepted::new(path, payload)),
             Err(reason) => Err(reason),
         }
     }

@@ -9,15 +9,15 @@ ghost use Rattle.plc_station.specs.Hears.{Hears};
 ghost use Rattle.node_rules.specs.Agreement.{Agrees};
 ghost use Rattle.plc_station.specs.Ready.{Ready, ReadyToAnswer, ReadyToSend};
 ghost use Rattle.loadng_messages.specs.Reading as reading;
-ghost use Rattle.plc_station.specs.Heard.{Fits};
 ghost use Rattle.node_rules.specs.Replies.{reply_sent};
 ghost use Rattle.plc_base.specs.declared.limits.TheConstants.{LONGEST_FRAME};
 
+use crate::accepted::Accepted;
 use crate::offers::LastHop;
 use crate::station::Station;
 use loadng_messages::{Message, read_message};
 use mesh_header::{Unit, read_unit};
-use node_rules::{Accepted, Dropped, Heard, Path, Way};
+use node_rules::{Dropped, Heard, Path, Way};
 use plc_base::{DatagramBuf, Grant, Keeper, LinkCost, OctetRef, Out};
 
 // The unit that octets are, if they are one.
@@ -187,16 +187,15 @@ impl<K: Keeper + Drop> Station<K> {
         out: &mut Out,
     ) -> Result<Heard<'a>, Dropped>
         requires ready { ReadyToAnswer self.old out.old }
-        requires fits { Fits got.now }
         requires fresh { self.old.replied ≡ None }
         ensures hears { IfSome self.old.memory
             (λ l. Hears self.old (hearing.hear l got.now cost note now) result out.new self.new) }
         ensures agrees { Agrees self.new }
     {
-        let Some(unit) = unit_in(got.payload.octets()) else {
+        let Some(unit) = unit_in(got.payload()) else {
             return Err(Dropped::BadUnit);
         };
-        match got.path {
+        match got.path() {
             Path::Sealed { from, to_all, .. } => {
                 let Some(grant) = self.parts.ring.grant() else {
                     return Err(Dropped::BadUnit);
@@ -239,7 +238,7 @@ impl<K: Keeper + Drop> Station<K> {
     /// sends none there is none.
     pub fn hear<'a>(
         &mut self,
-        got: &Accepted<'a>,
+        got: Accepted<'a>,
         cost: LinkCost,
         note: u32,
         now: u64,
@@ -247,15 +246,14 @@ impl<K: Keeper + Drop> Station<K> {
         out: &mut Out,
     ) -> Result<Heard<'a>, Dropped>
         requires ready { Ready self.old }
-        requires fits { Fits got.now }
         ensures carries { IfSome self.old.memory
-            (λ l. Carries self.old (hearing.hear l got.now cost note now) result out.new self.new) }
+            (λ l. Carries self.old (hearing.hear l got.entry cost note now) result out.new self.new) }
         ensures agrees { Agrees self.new }
         ensures replied { IfSome self.old.memory
-            (λ l. self.new.replied ≡ reply_sent (hearing.hear l got.now cost note now) self.new.memory) }
+            (λ l. self.new.replied ≡ reply_sent (hearing.hear l got.entry cost note now) self.new.memory) }
     {
         out.clear();
         self.replied = None;
-        self.hear_frame(got, cost, note, now, datagram, out)
+        self.hear_frame(&got, cost, note, now, datagram, out)
     }
 }

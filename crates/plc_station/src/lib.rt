@@ -9,8 +9,8 @@
 //!   joining: the address and the group keys. `put_key`, `activate` and `leave` change the ring later; `preset_counter`,
 //!   `preset_number` and `preset_near` set values in the workshop.
 //! - `accept` takes octets that came as a frame, opens them into a buffer that the caller lends, and answers what is inside
-//!   (`Accepted`); `hear` makes of that what the rules say (`Heard`), at a time, over a link of a cost. Both are called for
-//!   each frame.
+//!   ([`Accepted`]); `hear` takes that, once, and makes of it what the rules say (`Heard`), at a time, over a link of a cost.
+//!   Both are called for each frame.
 //! - `send` sends a datagram of up to 1,280 octets, `send_command` a command over the mesh, and `send_local` one to neighbours.
 //!   `room` says beforehand what a command would be refused for.
 //! - `tick` ends what is old at a time in seconds; `broke` ends the routes by a neighbour that is not reached any more.
@@ -38,6 +38,7 @@
 //! `docs/CRATES.md` has the code.
 #![tactic(auto)]
 
+mod accepted;
 mod commands;
 mod expiry;
 mod frames;
@@ -61,4 +62,5 @@ mod sending;
 mod showing;
 mod station;
 
+pub use accepted::Accepted;
 pub use station::{OpenFault, Station};

@@ -8,7 +8,7 @@ use Rattle.loadng_messages.specs.declared.message.Message.{Message}
 use Rattle.loadng_messages.specs.declared.message.Message.TheVariants.{Rreq, Rrep, Rerr}
 use Rattle.neighbour_checks.specs.Acks.{ack_spelling, ack_in}
 use Rattle.neighbour_checks.specs.Neighbours.{Neighbours, is_listed, is_awaited, sent_after, acked_after}
-use Rattle.node_rules.specs.declared.heard.Accepted.{Accepted}
+use Rattle.node_rules.specs.Accepted.{Accepted}
 use Rattle.node_rules.specs.declared.heard.Path.{Path}
 use Rattle.node_rules.specs.declared.heard.Path.TheVariants as paths
 use Rattle.node_rules.specs.declared.heard.Reply.{Reply}

@@ -12,7 +12,7 @@ use Rattle.neighbour_checks.specs.Neighbours.{nobody, is_listed}
 use Rattle.broadcast_log.specs.declared.broadcast.Broadcast.{Broadcast}
 use Rattle.broadcast_log.specs.OriginMarks.{keep_write}
 use Rattle.pan_discovery.specs.History.{Scanned}
-use Rattle.node_rules.specs.declared.heard.Accepted.{Accepted}
+use Rattle.node_rules.specs.Accepted.{Accepted}
 use Rattle.node_rules.specs.declared.heard.Heard.TheVariants as heard
 use Rattle.node_rules.specs.declared.heard.Path.TheVariants as paths
 use Rattle.node_rules.specs.declared.refusal.Dropped.{Dropped}

@@ -10,7 +10,7 @@ use Rattle.group_keys.specs.KeyBook.{same_key}
 use Rattle.mesh_header.specs.Grammar.{spelling}
 use Rattle.pan_discovery.specs.declared.message.Discovery.{Discovery}
 use Rattle.pan_discovery.specs.Messages.{discovery_spelling}
-use Rattle.node_rules.specs.declared.heard.Accepted.{Accepted}
+use Rattle.node_rules.specs.Accepted.{Accepted}
 use Rattle.node_rules.specs.declared.heard.Heard.{Heard}
 use Rattle.node_rules.specs.declared.heard.SentHow.{SentHow}
 use Rattle.node_rules.specs.declared.refusal.FrameRefusal.{FrameRefusal}

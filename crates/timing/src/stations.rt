@@ -87,7 +87,7 @@ impl Node {
         }
         let heard = self
             .station
-            .hear(&got, cost, 0, 0, &mut buffers.datagram, &mut self.out);
+            .hear(got, cost, 0, 0, &mut buffers.datagram, &mut self.out);
         matches!(heard, Ok(_))
     }
 }

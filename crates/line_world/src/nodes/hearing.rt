@@ -11,8 +11,8 @@ use crate::nodes::node_receptions::{reception_of, reception_of_coordinator, rece
 use crate::nodes::reception::Reception;
 use crate::nodes::station_further::reply_of;
 use line_events::Answer;
-use node_rules::Accepted;
 use plc_base::{DatagramBuf, LinkCost, Out};
+use plc_station::Accepted;
 
 impl Nodes {
     /// A node hears a frame that it accepted, over a link of this cost, under a number of the caller's, at a time in seconds. A
@@ -20,7 +20,7 @@ impl Nodes {
     pub fn hear<'a>(
         &mut self,
         number: usize,
-        got: &Accepted<'a>,
+        got: Accepted<'a>,
         cost: LinkCost,
         note: u32,
         now: u64,
@@ -28,11 +28,11 @@ impl Nodes {
         out: &mut Out,
     ) -> Reception<'a>
         requires there { number < length self.old }
-        requires accepted { IfSome (slice_get self.old number) (λ x. MayHear x got.now) }
-        ensures received { IfSome (slice_get self.old number) (λ x. Received (hearing_step network x got.now cost note now)
+        requires accepted { IfSome (slice_get self.old number) (λ x. MayHear x got) }
+        ensures received { IfSome (slice_get self.old number) (λ x. Received (hearing_step network x got.entry cost note now)
             self.old number result out.new self.new) }
-        ensures replied { IsSome (message_of got.now) → IfSome (slice_get self.old number)
-            (λ x. result.replied ≡ reply_among (hearing_step network x got.now cost note now).frames) }
+        ensures replied { IsSome (message_of got.entry) → IfSome (slice_get self.old number)
+            (λ x. result.replied ≡ reply_among (hearing_step network x got.entry cost note now).frames) }
     {
         if number > 0 {
             let meter = &mut self.meters[number - 1];

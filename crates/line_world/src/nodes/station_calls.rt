@@ -15,8 +15,9 @@ ghost use Rattle.line_world.specs.Receiving.{MayHear};
 use crate::nodes::Nodes;
 use crate::nodes::station_steps::break_at;
 use line_events::Answer;
-use node_rules::{Accepted, FrameRefusal, SendRefusal, SentHow, Shown};
+use node_rules::{FrameRefusal, SendRefusal, SentHow, Shown};
 use plc_base::{FrameBuf, Out, Short};
+use plc_station::Accepted;
 
 impl Nodes {
     /// A node looks at octets that come to it. Ok exactly where it accepts them.

@@ -111,7 +111,7 @@ impl Driver {
         if self.meter.station().halted() {
             return Err(Trouble::Halted);
         }
-        match self.meter.hear(&got, cost, 0, now, &mut self.datagram, &mut self.out) {
+        match self.meter.hear(got, cost, 0, now, &mut self.datagram, &mut self.out) {
             Ok(MeterHeard::Station(Heard::Up { from, octets, .. })) => modem.take(from, octets.octets()),
             Ok(_) => {}
             Err(_) => return Err(self.trouble()),

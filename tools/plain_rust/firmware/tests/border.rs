@@ -3,7 +3,6 @@
 use coordinator::Coordinator;
 use firmware::Flash;
 use meter_node::Meter;
-use node_rules::{Accepted, FrameRef, Path};
 use plc_base::{DatagramBuf, Eui, FrameBuf, Grant, Key, KeyIndex, LinkCost, MOST_FRAMES, Out, Rand, Short};
 use plc_station::Station;
 use rattle_std::alloc::Global;
@@ -72,44 +71,57 @@ fn full() -> Out {
     out
 }
 
-/// The buffers of a frame that is heard.
-struct Lent {
-    payload: FrameBuf,
-    datagram: DatagramBuf,
-    out: Out,
+/// The octets of the first frame that a call gives out.
+fn frame_of(call: impl FnOnce(&mut Out)) -> Vec<u8> {
+    let mut out = out();
+    call(&mut out);
+    out.frames.frames()[0].octets.octets().to_vec()
 }
 
-impl Lent {
-    fn new(count: usize) -> Lent {
-        Lent { payload: FrameBuf::from_octets(&vec![1; count]), datagram: DatagramBuf::new(), out: out() }
-    }
+/// A sealed frame of the coordinator to all, with as much inside as fits.
+fn from_the_coordinator() -> Vec<u8> {
+    frame_of(|out| coordinator().station().send_local(3, None, &[1; 379], out).unwrap())
 }
 
-fn sealed() -> Path {
-    Path::Sealed { from: address(1), to_all: false, key: key() }
+/// The same of a meter.
+fn from_a_meter() -> Vec<u8> {
+    frame_of(|out| joined().station().send_local(3, None, &[1; 379], out).unwrap())
 }
 
-fn station_hears(node: &mut Station<Flash>, count: usize) {
-    let mut lent = Lent::new(count);
-    let got = Accepted { path: sealed(), payload: FrameRef::new(&lent.payload) };
-    let _ = node.hear(&got, cost(), 0, 0, &mut lent.datagram, &mut lent.out);
+/// A plain frame up to a meter, from one that asks to join by it.
+fn up() -> Vec<u8> {
+    let agent = joined().address().unwrap();
+    frame_of(|out| Meter::open(Global, Flash::new(), Eui([3; 8]), key()).map_err(|it| it.0).unwrap().join(agent, 0, out).unwrap())
 }
 
-fn meter_hears(mut node: Meter<Flash>, path: Path, count: usize) {
-    let mut lent = Lent::new(count);
-    let got = Accepted { path, payload: FrameRef::new(&lent.payload) };
-    let _ = node.hear(&got, cost(), 0, 0, &mut lent.datagram, &mut lent.out);
+/// A meter hears a frame that a joined one accepted.
+fn meter_hears(mut node: Meter<Flash>, frame: &[u8]) {
+    let (mut payload, mut datagram, mut out) = (FrameBuf::new(), DatagramBuf::new(), out());
+    let mut other = joined();
+    let got = other.station().accept(frame, &mut payload).unwrap();
+    let _ = node.hear(got, cost(), 0, 0, &mut datagram, &mut out);
 }
 
-fn coordinator_hears(mut node: Coordinator<Flash>, count: usize) {
-    let mut lent = Lent::new(count);
-    let got = Accepted { path: sealed(), payload: FrameRef::new(&lent.payload) };
-    let _ = node.hear(&got, cost(), 0, 0, &mut lent.datagram, &mut lent.out);
+/// The same of its station alone.
+fn station_hears(node: &mut Station<Flash>, frame: &[u8]) {
+    let (mut payload, mut datagram, mut out) = (FrameBuf::new(), DatagramBuf::new(), out());
+    let mut other = joined();
+    let got = other.station().accept(frame, &mut payload).unwrap();
+    let _ = node.hear(got, cost(), 0, 0, &mut datagram, &mut out);
+}
+
+/// A coordinator hears a frame that another one accepted.
+fn coordinator_hears(mut node: Coordinator<Flash>) {
+    let (mut payload, mut datagram, mut out) = (FrameBuf::new(), DatagramBuf::new(), out());
+    let mut other = coordinator();
+    let frame = from_a_meter();
+    let got = other.station().accept(&frame, &mut payload).unwrap();
+    let _ = node.hear(got, cost(), 0, 0, &mut datagram, &mut out);
 }
 
 #[test]
 fn a_halted_node_stops() {
-    stops("plc_station: hear: ready", || station_hears(halted().station(), 1));
+    stops("plc_station: hear: ready", || station_hears(halted().station(), &from_the_coordinator()));
     stops("plc_station: send_local: ready", || halted().station().send_local(3, None, &[1], &mut out()));
     stops("plc_station: preset_counter: ready", || halted().station().preset_counter(1));
     stops("plc_station: preset_number: ready", || halted().station().preset_number(1));
@@ -118,12 +130,12 @@ fn a_halted_node_stops() {
     stops("plc_station: put_key: ready", || halted().station().put_key(KeyIndex::first(), &key()));
     stops("plc_station: activate: ready", || halted().station().activate(KeyIndex::first()));
     stops("plc_station: leave: ready", || halted().station().leave());
-    stops("meter_node: hear: ready", || meter_hears(halted(), sealed(), 1));
+    stops("meter_node: hear: ready", || meter_hears(halted(), &from_the_coordinator()));
     stops("meter_node: provision: ready", || halted().provision(&grant()));
     stops("coordinator: hear: ready", || {
         let mut node = coordinator();
         node.station().halt();
-        coordinator_hears(node, 1);
+        coordinator_hears(node);
     });
 }
 
@@ -131,12 +143,12 @@ fn a_halted_node_stops() {
 fn a_node_without_an_address_stops() {
     stops("plc_station: send_local: joined", || meter().station().send_local(3, None, &[1], &mut out()));
     stops("plc_station: put_key: joined", || meter().station().put_key(KeyIndex::first(), &key()));
-    stops("meter_node: hear: came", || meter_hears(meter(), Path::Up { from: Eui([3; 8]) }, 1));
+    stops("meter_node: hear: came", || meter_hears(meter(), &up()));
 }
 
 #[test]
 fn a_coordinator_that_has_not_address_0000_stops() {
-    stops("coordinator: hear: ready", || coordinator_hears(homeless(), 1));
+    stops("coordinator: hear: ready", || coordinator_hears(homeless()));
     stops("coordinator: challenge: holds", || homeless().challenge(Eui([2; 8]), 0, &mut out()));
     stops("coordinator: tick: holds", || homeless().tick(0));
     stops("coordinator: allow: holds", || homeless().allow(Eui([2; 8]), &key()));
@@ -160,9 +172,6 @@ fn a_grant_without_a_key_at_its_active_index_stops() {
 
 #[test]
 fn a_size_or_a_number_out_of_bounds_stops() {
-    stops("plc_station: hear: fits", || station_hears(joined().station(), 382));
-    stops("meter_node: hear: fits", || meter_hears(joined(), sealed(), 382));
-    stops("coordinator: hear: fits", || coordinator_hears(coordinator(), 382));
     stops("plc_station: send_command: some", || joined().station().send_command(address(0), &[], 0, &mut out()));
     stops("plc_station: send_command: fits", || joined().station().send_command(address(0), &[1; 375], 0, &mut out()));
     stops("plc_station: room: fits", || joined().station().room(address(0), 375));
@@ -176,11 +185,10 @@ fn a_size_or_a_number_out_of_bounds_stops() {
 
 #[test]
 fn what_a_clause_just_allows_does_not_stop() {
-    station_hears(joined().station(), 381);
-    meter_hears(joined(), sealed(), 381);
-    meter_hears(meter(), Path::Down { from: address(1) }, 400);
-    meter_hears(joined(), Path::Up { from: Eui([3; 8]) }, 400);
-    coordinator_hears(coordinator(), 381);
+    station_hears(joined().station(), &from_the_coordinator());
+    meter_hears(joined(), &from_the_coordinator());
+    meter_hears(joined(), &up());
+    coordinator_hears(coordinator());
     let mut node = joined();
     let station = node.station();
     let mut out = out();

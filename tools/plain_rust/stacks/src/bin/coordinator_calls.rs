@@ -47,7 +47,7 @@ mod calls {
         if node.station().halted() {
             return false;
         }
-        done(node.hear(&got, event.cost, 0, event.now, &mut lent.datagram, &mut lent.out))
+        done(node.hear(got, event.cost, 0, event.now, &mut lent.datagram, &mut lent.out))
     }
 
     fn send(node: &mut Node, lent: &mut Lent, event: &Event) -> bool {

@@ -16,7 +16,7 @@ hear_joining-requires g c =
       ready = record {
         running =
             by_some c.args.self.now.station.memory _ (part_runs c.args.self.now.station.memory _ c.requires.ready.running) (λ l running.
-            runs_on c.args.self.now c.hear_frame-heard.new.self c.args.got.now c.args.cost c.args.note c.args.now c.hear_frame-heard.result
+            runs_on c.args.self.now c.hear_frame-heard.new.self c.args.got c.args.cost c.args.note c.args.now c.hear_frame-heard.result
             c.hear_frame-heard.new.out
             c.hear_frame-heard.ensures.beside l running (at_some c.args.self.now.station.memory _ l running c.hear_frame-heard.ensures.carries)
             c.in-Some.command.way
@@ -24,7 +24,7 @@ hear_joining-requires g c =
         holds = c.hear_frame-heard.ensures.holds;
         empty =
             by_some c.args.self.now.station.memory _ (part_runs c.args.self.now.station.memory _ c.requires.ready.running) (λ l running.
-            nothing_out c.args.self.now c.hear_frame-heard.new.self c.args.got.now c.args.cost c.args.note c.args.now c.hear_frame-heard.result
+            nothing_out c.args.self.now c.hear_frame-heard.new.self c.args.got c.args.cost c.args.note c.args.now c.hear_frame-heard.result
             c.hear_frame-heard.new.out c.hear_frame-heard.ensures.beside l running
             (at_some c.args.self.now.station.memory _ l running c.hear_frame-heard.ensures.carries) c.in-Some.command.way c.in-Some.command.body
             c.in-Some.ensures);
@@ -34,7 +34,7 @@ hear_joining-requires g c =
 pub returns-in-Some-clause-carries : goal.returns-in-Some-clause-carries
 returns-in-Some-clause-carries g c =
     on_parts c.args.self.now.station.memory _ _ (λ l running.
-    heard_joining c.args.self.now c.hear_frame-heard.new.self c.args.got.now c.args.cost c.args.note c.args.now c.hear_frame-heard.result
+    heard_joining c.args.self.now c.hear_frame-heard.new.self c.args.got c.args.cost c.args.note c.args.now c.hear_frame-heard.result
     c.hear_frame-heard.new.out c.hear_frame-heard.ensures.beside l running
     (at_some c.args.self.now.station.memory _ l running c.hear_frame-heard.ensures.carries) c.in-Some.command.way c.in-Some.command.body c.in-Some.ensures _ _ _
     (rw c.octets.ensures at c.hear_joining.ensures.carries))
@@ -43,17 +43,17 @@ pub returns-in-None-clause-carries : goal.returns-in-None-clause-carries
 returns-in-None-clause-carries g c =
     on_parts c.args.self.now.station.memory _ _ (λ l running.
     subst (λ (r : Result CoordinatorHeard Dropped). Carries (node_of c.args.self.now)
-    (rules.hear_coordinator (identity_of c.args.self.now) (memory_in c.args.self.now.randoms c.args.self.now.sessions c.args.self.now.book l) c.args.got.now
+    (rules.hear_coordinator (identity_of c.args.self.now) (memory_in c.args.self.now.randoms c.args.self.now.sessions c.args.self.now.book l) c.args.got
     c.args.cost c.args.note c.args.now) r c.hear_frame-heard.new.out (node_of c.hear_frame-heard.new.self))
     (sym c.heard_by_station.ensures)
-    (heard_other c.args.self.now c.hear_frame-heard.new.self c.args.got.now c.args.cost c.args.note c.args.now c.hear_frame-heard.result
+    (heard_other c.args.self.now c.hear_frame-heard.new.self c.args.got c.args.cost c.args.note c.args.now c.hear_frame-heard.result
     c.hear_frame-heard.new.out c.hear_frame-heard.ensures.beside l running
     (at_some c.args.self.now.station.memory _ l running c.hear_frame-heard.ensures.carries) c.in-None.ensures))
 
 pub returns-in-Some-clause-replied : goal.returns-in-Some-clause-replied
 returns-in-Some-clause-replied g c =
     on_parts c.args.self.now.station.memory _ _ (λ l running none. absurd (
-    never_itself c.args.self.now c.hear_frame-heard.new.self c.args.got.now c.args.cost c.args.note c.args.now c.hear_frame-heard.result
+    never_itself c.args.self.now c.hear_frame-heard.new.self c.args.got c.args.cost c.args.note c.args.now c.hear_frame-heard.result
     c.hear_frame-heard.new.out c.hear_frame-heard.ensures.beside l running
     (at_some c.args.self.now.station.memory _ l running c.hear_frame-heard.ensures.carries) c.in-Some.command.way c.in-Some.command.body c.in-Some.ensures
     none))
@@ -61,7 +61,7 @@ returns-in-Some-clause-replied g c =
 pub returns-in-None-clause-replied : goal.returns-in-None-clause-replied
 returns-in-None-clause-replied g c =
     on_parts c.args.self.now.station.memory _ _ (λ l running none.
-    replied_other c.args.self.now c.hear_frame-heard.new.self c.args.got.now c.args.cost c.args.note c.args.now c.hear_frame-heard.result
+    replied_other c.args.self.now c.hear_frame-heard.new.self c.args.got c.args.cost c.args.note c.args.now c.hear_frame-heard.result
     c.hear_frame-heard.new.out c.hear_frame-heard.ensures.beside l running
     (at_some c.args.self.now.station.memory _ l running c.hear_frame-heard.ensures.carries) c.in-None.ensures
     (at_some c.args.self.now.station.memory _ l running c.hear_frame-heard.ensures.replied))

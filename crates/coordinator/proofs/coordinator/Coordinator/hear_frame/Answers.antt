@@ -7,13 +7,15 @@ use Rattle.coordinator.proofs.Within.{home_holds}
 use Rattle.coordinator.proofs.LineRules.{hear_keeps}
 use Rattle.coordinator.proofs.coordinator.Coordinator.hear_frame.Goals as goal
 
-pub hear-requires-clause-ready : goal.hear-requires-clause-ready
-hear-requires-clause-ready g c =
+pub hear-requires : goal.hear-requires
+hear-requires g c =
     record {
-      running = part_runs c.self.inside.station.memory _ (rw (← c.self.view_is) at c.requires.ready.running);
-      agrees =
-          part_agrees c.self.inside.randoms c.self.inside.sessions c.self.inside.book _ c.self.inside.station.memory
-          (rw (← c.self.view_is) at c.requires.ready.holds);
+      ready = record {
+        running = part_runs c.self.inside.station.memory _ (rw (← c.self.view_is) at c.requires.ready.running);
+        agrees =
+            part_agrees c.self.inside.randoms c.self.inside.sessions c.self.inside.book _ c.self.inside.station.memory
+            (rw (← c.self.view_is) at c.requires.ready.holds);
+      };
     }
 
 pub returns-clause-holds : goal.returns-clause-holds

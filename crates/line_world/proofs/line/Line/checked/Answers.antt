@@ -19,13 +19,13 @@ use Rattle.line_world.proofs.line.Line.checked.Goals as goal
 pub returns-then-is_unbelieved : goal.returns-then-is_unbelieved
 returns-then-is_unbelieved c =
     let w = world_of c.args.self.now in
-    let got = c.args.got.now in
+    let got = c.args.got in
     let within : c.args.node < length w.beside = subst (λ (n : ℕ). c.args.node < n) (sym c.requires.ready.beside) c.requires.ready.there in
     let b = c.behind-self.inside in
     let held : (record { checks = b.checks; log = b.log; scan = b.scan })
     ≡ beside_at w c.args.node = c.behind-self.view_is ∙ beside_found w.beside c.args.node c.index.result.now within c.index.ensures in
     let is : is_unbelieved (beside_at w c.args.node).checks got.path (message_of got) ≡ true =
-    sym (c.if-is_unbelieved.ensures ∙ ap (λ (k : Beside). is_unbelieved k.checks got.path c.args.message.now) held
+    sym ((rw c.path-path.ensures at c.if-is_unbelieved.ensures) ∙ ap (λ (k : Beside). is_unbelieved k.checks got.path c.args.message.now) held
     ∙ ap (λ (m : Option Message). is_unbelieved (beside_at w c.args.node).checks got.path m) c.requires.message) in
     named_so w _ c.args.node c.unbelieved.result
     (λ x. outcome_of_unbelieved network w c.args.node x c.args.origin)
@@ -34,39 +34,39 @@ returns-then-is_unbelieved c =
 
 pub acknowledged-requires-clause-joined : goal.acknowledged-requires-clause-joined
 acknowledged-requires-clause-joined c =
-    joined_then (world_of c.args.self.now) c.hear-reported.new.self c.args.node c.args.got.now c.args.origin c.args.cost c.hear-reported.result
+    joined_then (world_of c.args.self.now) c.hear-reported.new.self c.args.node c.args.got c.args.origin c.args.cost c.hear-reported.result
     c.hear-reported.new.out
     c.args.message.now c.due.result
-    c.requires.ready.there c.requires.ready.accepted c.hear-reported.ensures.received c.requires.message c.due.ensures.value
+    c.requires.ready.there c.requires.ready.accepted c.hear-reported.ensures.received c.requires.message (rw c.path-path.ensures at c.due.ensures.value)
 
 pub acknowledged-requires-clause-room : goal.acknowledged-requires-clause-room
 acknowledged-requires-clause-room c =
-    room_then (world_of c.args.self.now) c.hear-reported.new.self c.args.node c.args.got.now c.args.origin c.args.cost c.hear-reported.result
+    room_then (world_of c.args.self.now) c.hear-reported.new.self c.args.node c.args.got c.args.origin c.args.cost c.hear-reported.result
     c.hear-reported.new.out
     c.args.message.now c.due.result
-    c.requires.ready.there c.requires.ready.accepted c.hear-reported.ensures.received c.requires.message c.due.ensures.value
+    c.requires.ready.there c.requires.ready.accepted c.hear-reported.ensures.received c.requires.message (rw c.path-path.ensures at c.due.ensures.value)
 
 pub received-requires-clause-bounds : goal.received-requires-clause-bounds
 received-requires-clause-bounds c =
-    bounds_then (world_of c.args.self.now) c.hear-reported.new.self c.args.node c.args.got.now c.args.origin c.args.cost c.hear-reported.result
+    bounds_then (world_of c.args.self.now) c.hear-reported.new.self c.args.node c.args.got c.args.origin c.args.cost c.hear-reported.result
     c.hear-reported.new.out
     c.args.message.now c.due.result
-    c.requires.ready.there c.requires.ready.accepted c.hear-reported.ensures.received c.requires.message c.due.ensures.value
+    c.requires.ready.there c.requires.ready.accepted c.hear-reported.ensures.received c.requires.message (rw c.path-path.ensures at c.due.ensures.value)
     (world_of c.acknowledged.new.self) c.acknowledged.result c.acknowledged.new.self.out c.acknowledged.ensures.acknowledges c.requires.ready.bounds
 
 pub received-requires-clause-events : goal.received-requires-clause-events
 received-requires-clause-events c =
-    events_then (world_of c.args.self.now) c.hear-reported.new.self c.args.node c.args.got.now c.args.origin c.args.cost c.hear-reported.result
+    events_then (world_of c.args.self.now) c.hear-reported.new.self c.args.node c.args.got c.args.origin c.args.cost c.hear-reported.result
     c.hear-reported.new.out
     c.args.message.now c.due.result
-    c.requires.ready.there c.requires.ready.accepted c.hear-reported.ensures.received c.requires.message c.due.ensures.value
+    c.requires.ready.there c.requires.ready.accepted c.hear-reported.ensures.received c.requires.message (rw c.path-path.ensures at c.due.ensures.value)
     (world_of c.acknowledged.new.self) c.acknowledged.result c.acknowledged.new.self.out c.acknowledged.ensures.acknowledges c.requires.ready.events
 
 pub begin_check-requires : goal.begin_check-requires
 begin_check-requires c =
-    let beside = beside_then (world_of c.args.self.now) c.hear-reported.new.self c.args.node c.args.got.now c.args.origin c.args.cost c.hear-reported.result
+    let beside = beside_then (world_of c.args.self.now) c.hear-reported.new.self c.args.node c.args.got c.args.origin c.args.cost c.hear-reported.result
     c.hear-reported.new.out c.args.message.now c.due.result
-    c.requires.ready.there c.requires.ready.accepted c.hear-reported.ensures.received c.requires.message c.due.ensures.value
+    c.requires.ready.there c.requires.ready.accepted c.hear-reported.ensures.received c.requires.message (rw c.path-path.ensures at c.due.ensures.value)
     (world_of c.acknowledged.new.self) c.acknowledged.result c.acknowledged.new.self.out c.acknowledged.ensures.acknowledges in
     record {
       there = subst (λ (bs : List Beside). c.args.node < length bs) (sym beside)
@@ -76,39 +76,39 @@ begin_check-requires c =
 pub received-requires-2-clause-bounds : goal.received-requires-2-clause-bounds
 received-requires-2-clause-bounds c =
     checked_bounds (world_of c.acknowledged.new.self) (world_of c.begin_check.new.self) c.args.node c.reply_of.result c.begin_check.ensures.world
-    (bounds_then (world_of c.args.self.now) c.hear-reported.new.self c.args.node c.args.got.now c.args.origin c.args.cost c.hear-reported.result
+    (bounds_then (world_of c.args.self.now) c.hear-reported.new.self c.args.node c.args.got c.args.origin c.args.cost c.hear-reported.result
     c.hear-reported.new.out
     c.args.message.now c.due.result
-    c.requires.ready.there c.requires.ready.accepted c.hear-reported.ensures.received c.requires.message c.due.ensures.value
+    c.requires.ready.there c.requires.ready.accepted c.hear-reported.ensures.received c.requires.message (rw c.path-path.ensures at c.due.ensures.value)
     (world_of c.acknowledged.new.self) c.acknowledged.result c.acknowledged.new.self.out c.acknowledged.ensures.acknowledges c.requires.ready.bounds)
 
 pub received-requires-2-clause-events : goal.received-requires-2-clause-events
 received-requires-2-clause-events c =
     checked_events (world_of c.acknowledged.new.self) (world_of c.begin_check.new.self) c.args.node c.reply_of.result c.begin_check.ensures.world
-    (events_then (world_of c.args.self.now) c.hear-reported.new.self c.args.node c.args.got.now c.args.origin c.args.cost c.hear-reported.result
+    (events_then (world_of c.args.self.now) c.hear-reported.new.self c.args.node c.args.got c.args.origin c.args.cost c.hear-reported.result
     c.hear-reported.new.out
     c.args.message.now c.due.result
-    c.requires.ready.there c.requires.ready.accepted c.hear-reported.ensures.received c.requires.message c.due.ensures.value
+    c.requires.ready.there c.requires.ready.accepted c.hear-reported.ensures.received c.requires.message (rw c.path-path.ensures at c.due.ensures.value)
     (world_of c.acknowledged.new.self) c.acknowledged.result c.acknowledged.new.self.out c.acknowledged.ensures.acknowledges c.requires.ready.events)
 
 pub returns-then-not-acknowledged : goal.returns-then-not-acknowledged
 returns-then-not-acknowledged c =
     let w = world_of c.args.self.now in
-    let got = c.args.got.now in
+    let got = c.args.got in
     let within : c.args.node < length w.beside = subst (λ (n : ℕ). c.args.node < n) (sym c.requires.ready.beside) c.requires.ready.there in
     let b = c.behind-self.inside in
     let held : (record { checks = b.checks; log = b.log; scan = b.scan })
     ≡ beside_at w c.args.node = c.behind-self.view_is ∙ beside_found w.beside c.args.node c.index.result.now within c.index.ensures in
     let is : is_unbelieved (beside_at w c.args.node).checks got.path (message_of got) ≡ false =
-    sym (c.if-is_unbelieved.ensures ∙ ap (λ (k : Beside). is_unbelieved k.checks got.path c.args.message.now) held
+    sym ((rw c.path-path.ensures at c.if-is_unbelieved.ensures) ∙ ap (λ (k : Beside). is_unbelieved k.checks got.path c.args.message.now) held
     ∙ ap (λ (m : Option Message). is_unbelieved (beside_at w c.args.node).checks got.path m) c.requires.message) in
     named_so w _ c.args.node c.received.result
     (λ x. outcome_of_checked network w c.args.node x got c.args.origin c.args.cost)
     (λ x. outcome_of_further network w c.args.node x got c.args.origin c.args.cost)
     (λ x. further_checked w c.args.node x got c.args.origin c.args.cost c.requires.checks is c.requires.plain)
-    (unacknowledged_then (world_of c.args.self.now) c.hear-reported.new.self c.args.node c.args.got.now c.args.origin c.args.cost c.hear-reported.result
+    (unacknowledged_then (world_of c.args.self.now) c.hear-reported.new.self c.args.node c.args.got c.args.origin c.args.cost c.hear-reported.result
     c.hear-reported.new.out c.args.message.now c.due.result
-    c.requires.ready.there c.requires.ready.accepted c.hear-reported.ensures.received c.requires.message c.due.ensures.value
+    c.requires.ready.there c.requires.ready.accepted c.hear-reported.ensures.received c.requires.message (rw c.path-path.ensures at c.due.ensures.value)
     (world_of c.acknowledged.new.self) (world_of c.received.new.self) c.acknowledged.new.self.out c.is_forged-forged.result c.received.result
     c.requires.ready.bounds
     c.requires.ready.events
@@ -122,23 +122,23 @@ returns-then-not-acknowledged c =
 pub returns : goal.returns
 returns c =
     let w = world_of c.args.self.now in
-    let got = c.args.got.now in
+    let got = c.args.got in
     let within : c.args.node < length w.beside = subst (λ (n : ℕ). c.args.node < n) (sym c.requires.ready.beside) c.requires.ready.there in
     let b = c.behind-self.inside in
     let held : (record { checks = b.checks; log = b.log; scan = b.scan })
     ≡ beside_at w c.args.node = c.behind-self.view_is ∙ beside_found w.beside c.args.node c.index.result.now within c.index.ensures in
     let is : is_unbelieved (beside_at w c.args.node).checks got.path (message_of got) ≡ false =
-    sym (c.if-is_unbelieved.ensures ∙ ap (λ (k : Beside). is_unbelieved k.checks got.path c.args.message.now) held
+    sym ((rw c.path-path.ensures at c.if-is_unbelieved.ensures) ∙ ap (λ (k : Beside). is_unbelieved k.checks got.path c.args.message.now) held
     ∙ ap (λ (m : Option Message). is_unbelieved (beside_at w c.args.node).checks got.path m) c.requires.message) in
     let out : c.begin_check.new.self.out ≡ c.acknowledged.new.self.out = c.begin_check.ensures.out in
     named_so w _ c.args.node c.received-2.result
     (λ x. outcome_of_checked network w c.args.node x got c.args.origin c.args.cost)
     (λ x. outcome_of_further network w c.args.node x got c.args.origin c.args.cost)
     (λ x. further_checked w c.args.node x got c.args.origin c.args.cost c.requires.checks is c.requires.plain)
-    (checked_then (world_of c.args.self.now) c.hear-reported.new.self c.args.node c.args.got.now c.args.origin c.args.cost c.hear-reported.result
+    (checked_then (world_of c.args.self.now) c.hear-reported.new.self c.args.node c.args.got c.args.origin c.args.cost c.hear-reported.result
     c.hear-reported.new.out
     c.args.message.now c.due.result
-    c.requires.ready.there c.requires.ready.accepted c.hear-reported.ensures.received c.requires.message c.due.ensures.value
+    c.requires.ready.there c.requires.ready.accepted c.hear-reported.ensures.received c.requires.message (rw c.path-path.ensures at c.due.ensures.value)
     (world_of c.acknowledged.new.self) (world_of c.received-2.new.self) c.begin_check.new.self.out c.is_forged-forged.result c.received-2.result
     c.requires.ready.bounds c.requires.ready.events
     c.received-2.ensures.frames c.received-2.ensures.tags c.is_forged-forged.ensures (world_of c.begin_check.new.self) c.reply_of.result c.acknowledged.result

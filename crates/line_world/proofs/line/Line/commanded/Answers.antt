@@ -23,13 +23,13 @@ hear_command-commanded-requires-clause-log c =
     let w = world_of c.args.self.now in
     let number = c.args.node in
     let x = at_some w.nodes number c.requires.ready.there in
-    let step : Node → NodeStep Reception = λ y. hearing_step network y c.args.got.now c.args.cost c.args.origin.note w.clock in
+    let step : Node → NodeStep Reception = λ y. hearing_step network y c.args.got c.args.cost c.args.origin.note w.clock in
     let heard = at_node_after w.nodes number x.0 (λ y. Received (step y) w.nodes number c.hear-reported.result c.hear-reported.new.out c.hear-reported.new.self)
     x.1
     c.hear-reported.ensures.received in
     let within : number < length w.beside = subst (λ (n : ℕ). number < n) (sym c.requires.ready.beside) c.requires.ready.there in
     let held : c.index_mut.result.now ≡ beside_at w number = beside_found w.beside number c.index_mut.result.now within c.index_mut.ensures.value in
-    command_log w number x.0 c.args.got.now (command_of c.args.command.now) c.args.cost c.args.origin.note c.hear-reported.result c.hear-reported.new.out
+    command_log w number x.0 c.args.got (command_of c.args.command.now) c.args.cost c.args.origin.note c.hear-reported.result c.hear-reported.new.out
     c.hear-reported.new.self
     x.1 c.requires.command heard
     c.index_mut.result.now held c.requires.ready.logs
@@ -39,11 +39,11 @@ hear_command-commanded-requires-clause-room c =
     let w = world_of c.args.self.now in
     let number = c.args.node in
     let x = at_some w.nodes number c.requires.ready.there in
-    let step : Node → NodeStep Reception = λ y. hearing_step network y c.args.got.now c.args.cost c.args.origin.note w.clock in
+    let step : Node → NodeStep Reception = λ y. hearing_step network y c.args.got c.args.cost c.args.origin.note w.clock in
     let heard = at_node_after w.nodes number x.0 (λ y. Received (step y) w.nodes number c.hear-reported.result c.hear-reported.new.out c.hear-reported.new.self)
     x.1
     c.hear-reported.ensures.received in
-    command_room w number x.0 c.args.got.now (command_of c.args.command.now) c.args.cost c.args.origin.note c.hear-reported.result c.hear-reported.new.out
+    command_room w number x.0 c.args.got (command_of c.args.command.now) c.args.cost c.args.origin.note c.hear-reported.result c.hear-reported.new.out
     c.hear-reported.new.self
     x.1 c.requires.command heard
 
@@ -52,11 +52,11 @@ received-happenings-requires-clause-bounds c =
     let w = world_of c.args.self.now in
     let number = c.args.node in
     let x = at_some w.nodes number c.requires.ready.there in
-    let step : Node → NodeStep Reception = λ y. hearing_step network y c.args.got.now c.args.cost c.args.origin.note w.clock in
+    let step : Node → NodeStep Reception = λ y. hearing_step network y c.args.got c.args.cost c.args.origin.note w.clock in
     let heard = at_node_after w.nodes number x.0 (λ y. Received (step y) w.nodes number c.hear-reported.result c.hear-reported.new.out c.hear-reported.new.self)
     x.1
     c.hear-reported.ensures.received in
-    command_bounded w number x.0 c.args.got.now (command_of c.args.command.now) c.args.cost c.args.origin.note c.hear-reported.result c.hear-reported.new.out
+    command_bounded w number x.0 c.args.got (command_of c.args.command.now) c.args.cost c.args.origin.note c.hear-reported.result c.hear-reported.new.out
     c.hear-reported.new.self
     x.1 c.requires.command heard
     c.index_mut.result.now c.hear_command-commanded.new.beside c.hear_command-commanded.result c.hear_command-commanded.new.out
@@ -68,7 +68,7 @@ returns c =
     let w = world_of c.args.self.now in
     let number = c.args.node in
     let x = at_some w.nodes number c.requires.ready.there in
-    let step : Node → NodeStep Reception = λ y. hearing_step network y c.args.got.now c.args.cost c.args.origin.note w.clock in
+    let step : Node → NodeStep Reception = λ y. hearing_step network y c.args.got c.args.cost c.args.origin.note w.clock in
     let heard = at_node_after w.nodes number x.0 (λ y. Received (step y) w.nodes number c.hear-reported.result c.hear-reported.new.out c.hear-reported.new.self)
     x.1
     c.hear-reported.ensures.received in
@@ -78,8 +78,8 @@ returns c =
     let h : Happenings =
     record c.received-happenings.result { answer = done.answer; bup = done.bup; path = done.path } in
     subst (λ (o : Option Node). IfSome o (λ y. Steps true w (Ok h) (world_of c.received-happenings.new.self)
-    (Ok (heard_by_command network w number y c.args.got.now c.args.origin c.args.cost (Some (command_of c.args.command.now)))))) (sym x.1)
-    (was_commanded w _ number x.0 c.args.got.now (command_of c.args.command.now) c.args.origin c.args.cost c.hear-reported.result c.hear-reported.new.out
+    (Ok (heard_by_command network w number y c.args.got c.args.origin c.args.cost (Some (command_of c.args.command.now)))))) (sym x.1)
+    (was_commanded w _ number x.0 c.args.got (command_of c.args.command.now) c.args.origin c.args.cost c.hear-reported.result c.hear-reported.new.out
     c.hear_command-commanded.new.out
     c.hear-reported.new.self c.hear_command-commanded.new.self c.is_forged-forged.result done c.index_mut.result.now c.hear_command-commanded.new.beside h
     c.requires.ready.bounds c.requires.ready.events c.received-happenings.ensures.frames c.received-happenings.ensures.tags x.1 c.requires.command heard held

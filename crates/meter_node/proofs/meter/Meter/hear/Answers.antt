@@ -17,14 +17,14 @@ hear_joining-requires-clause-ready g c =
       running =
           let running = rw (← c.self.view_is) at c.requires.ready.running in
           let m = some_at c.self.inside.station.memory running in
-          running_on m.0 c.args.got.now c.args.cost c.args.note c.args.now c.self.inside.station c.hear-heard.new.self c.hear-heard.result c.hear-heard.new.out
+          running_on m.0 c.args.got c.args.cost c.args.note c.args.now c.self.inside.station c.hear-heard.new.self c.hear-heard.result c.hear-heard.new.out
           (at_some _ _ m.0 m.1 c.hear-heard.ensures.carries)
           c.in-Some.command.way c.in-Some.command.body c.in-Some.ensures;
       agrees = c.hear-heard.ensures.agrees;
       empty =
           let running = rw (← c.self.view_is) at c.requires.ready.running in
           let m = some_at c.self.inside.station.memory running in
-          (at_rest m.0 c.args.got.now c.args.cost c.args.note c.args.now c.self.inside.station c.hear-heard.new.self c.hear-heard.result c.hear-heard.new.out
+          (at_rest m.0 c.args.got c.args.cost c.args.note c.args.now c.self.inside.station c.hear-heard.new.self c.hear-heard.result c.hear-heard.new.out
           (at_some _ _ m.0 m.1 c.hear-heard.ensures.carries)
           c.in-Some.command.way c.in-Some.command.body c.in-Some.ensures).out_is;
     }
@@ -34,7 +34,7 @@ hear_joining-requires-clause-came g c =
     let running = rw (← c.self.view_is) at c.requires.ready.running in
     let up = rw (← c.self.view_is) at c.requires.came in
     let m = some_at c.self.inside.station.memory running in
-    came m.0 c.args.got.now c.args.cost c.args.note c.args.now c.self.inside.station c.hear-heard.new.self c.hear-heard.result c.hear-heard.new.out
+    came m.0 c.args.got c.args.cost c.args.note c.args.now c.self.inside.station c.hear-heard.new.self c.hear-heard.result c.hear-heard.new.out
     (at_some _ _ m.0 m.1 c.hear-heard.ensures.carries)
     c.in-Some.command.way c.in-Some.command.body c.in-Some.ensures (at_some _ _ m.0 m.1 up)
 
@@ -47,7 +47,7 @@ returns-in-Some-clause-carries g c =
       session = option_map session_of c.self.inside.session;
     } in
     rw (← c.self.view_is) (on_node x _ (λ l running.
-    heard_joining x c.hear-heard.new.self l c.args.got.now c.args.cost c.args.note c.args.now c.hear-heard.result c.hear-heard.new.out running
+    heard_joining x c.hear-heard.new.self l c.args.got c.args.cost c.args.note c.args.now c.hear-heard.result c.hear-heard.new.out running
     (at_some _ _ l running c.hear-heard.ensures.carries)
     c.hear_joining.new.self c.in-Some.command.way c.in-Some.command.body c.hear_joining.result c.hear_joining.new.out c.in-Some.ensures
     (rw c.octets.ensures at c.hear_joining.ensures.carries)))
@@ -61,10 +61,10 @@ returns-in-None-clause-carries g c =
       session = option_map session_of c.self.inside.session;
     } in
     rw (← c.self.view_is) (on_node x _ (λ l running.
-    subst (λ (r : Result MeterHeard Dropped). Carries (node_of x) (meters.hear_meter (identity_of x) (memory_with x l) c.args.got.now c.args.cost c.args.note
+    subst (λ (r : Result MeterHeard Dropped). Carries (node_of x) (meters.hear_meter (identity_of x) (memory_with x l) c.args.got c.args.cost c.args.note
     c.args.now) r c.hear-heard.new.out (node_of (record x { station = c.hear-heard.new.self })))
     (sym c.heard_by_station.ensures)
-    (heard_other x c.hear-heard.new.self l c.args.got.now c.args.cost c.args.note c.args.now c.hear-heard.result c.hear-heard.new.out running
+    (heard_other x c.hear-heard.new.self l c.args.got c.args.cost c.args.note c.args.now c.hear-heard.result c.hear-heard.new.out running
     (at_some _ _ l running c.hear-heard.ensures.carries) c.in-None.ensures)))
 
 pub returns-in-Some-clause-replied : goal.returns-in-Some-clause-replied
@@ -76,7 +76,7 @@ returns-in-Some-clause-replied g c =
       session = option_map session_of c.self.inside.session;
     } in
     rw (← c.self.view_is) (on_node x _ (λ l running none. absurd (
-    never_itself x c.hear-heard.new.self l c.args.got.now c.args.cost c.args.note c.args.now c.hear-heard.result c.hear-heard.new.out running
+    never_itself x c.hear-heard.new.self l c.args.got c.args.cost c.args.note c.args.now c.hear-heard.result c.hear-heard.new.out running
     (at_some _ _ l running c.hear-heard.ensures.carries)
     c.in-Some.command.way c.in-Some.command.body c.in-Some.ensures none)))
 
@@ -89,6 +89,6 @@ returns-in-None-clause-replied g c =
       session = option_map session_of c.self.inside.session;
     } in
     rw (← c.self.view_is) (on_node x _ (λ l running none.
-    replied_other x c.hear-heard.new.self l c.args.got.now c.args.cost c.args.note c.args.now c.hear-heard.result c.hear-heard.new.out running
+    replied_other x c.hear-heard.new.self l c.args.got c.args.cost c.args.note c.args.now c.hear-heard.result c.hear-heard.new.out running
     (at_some _ _ l running c.hear-heard.ensures.carries) c.in-None.ensures
     (at_some _ _ l running c.hear-heard.ensures.replied)))
