@@ -16,7 +16,7 @@ pub struct ChangeFigures {
     pub unreached: u64,
     /// How many orders were given.
     pub orders: u64,
-    /// How long it took until the coordinator sealed with the key.
+    /// How long it took until the coordinator sealed with the key; None where it does not.
     pub took: Option<u64>,
 }
 
@@ -75,9 +75,12 @@ impl Changes {
         }
     }
 
-    /// The coordinator seals with the key.
+    /// The coordinator seals with the key. The first time counts.
     pub fn ends(&mut self, now: u64) {
-        if let Some(change) = self.changes.last_mut() {
+        let Some(change) = self.changes.last_mut() else {
+            return;
+        };
+        if change.took.is_none() {
             change.took = Some((now / 1_000_000).saturating_sub(change.began));
         }
     }

@@ -101,7 +101,7 @@ is_plain kinds.Error = false
 is_plain kinds.Data = false
 
 abbrev pub flown_as : Outline → ℕ → Flown
-flown_as outline hops = record { kind = outline.kind; hops = cond (is_data outline.kind) hops 1 }
+flown_as outline hops = record { kind = outline.kind; hops = cond (is_data outline.kind) hops 0 }
 
 -- a flight as a frame of the air
 abbrev pub frame_of : ℕ → Outline → Frame

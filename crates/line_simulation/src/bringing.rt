@@ -56,7 +56,7 @@ fn is_plain(kind: FrameKind) -> bool
     }
 }
 
-// A flight with what is known of it, after so many hops.
+// A flight with what is known of it, after so many hops. A frame that is no data has none, so that a datagram which left with it begins with one.
 fn flown_as(outline: Outline, hops: u32) -> Flown
     ensures { result ≡ flown_as outline hops }
 {
@@ -68,7 +68,7 @@ fn flown_as(outline: Outline, hops: u32) -> Flown
     }
     Flown {
         kind: outline.kind,
-        hops: 1,
+        hops: 0,
     }
 }
 

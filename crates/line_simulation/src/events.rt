@@ -173,7 +173,7 @@ impl<R: Recording> Simulation<R> {
             Command::Join(_, _) => self.figures.joinings.tried(),
             Command::Challenge(_) => self.figures.changes.challenged(),
             Command::Order(_, _) => self.figures.changes.ordered(),
-            Command::Activate(node, _) if *node == 0 => self.figures.changes.ends(self.time),
+            Command::Activate(node, _) if *node != 0 => self.figures.changes.ordered(),
             _ => {}
         }
     }
@@ -223,6 +223,10 @@ impl<R: Recording> Simulation<R> {
                 self.figures.joinings.begins(*node, self.time)
             }
             Command::Rekey(index, _) => self.figures.changes.begins(*index, self.time),
+            Command::Activate(node, _) if *node == 0 => {
+                self.figures.changes.ends(self.time);
+                Ok(())
+            }
             _ => Ok(()),
         }
     }
