@@ -10,7 +10,8 @@ ONE_SECOND = 1000
 
 
 def events_of(lines, entries):
-    """Yields each event of a script as (second of the line's clock, milliseconds of the last remark, words, entry), and each remark as (None, time, words, None)."""
+    """Yields each event of a script as (second of the line's clock, milliseconds of the last remark, words, entry), and each remark as
+    (None, its milliseconds, words, None)."""
     clock, at, entries = 0, 0, iter(entries)
     for line in lines:
         words = line.split()
@@ -125,7 +126,8 @@ def spread(numbers):
     numbers = sorted(numbers)
     if not numbers:
         return {"median": None, "most": None, "last": None}
-    return {name: numbers[min(len(numbers) * hundredths // 100, len(numbers) - 1)] for name, hundredths in (("median", 50), ("most", 95), ("last", 100))}
+    places = {"median": 50, "most": 95, "last": 100}
+    return {name: numbers[min(len(numbers) * hundredths // 100, len(numbers) - 1)] for name, hundredths in places.items()}
 
 
 def lies_between(least, said, most):
@@ -149,7 +151,8 @@ def wrong_counts(lines, entries, last, status, figures, polled):
     same("flights", int(flights))
     same("forged", int(forged))
     same("events", sum(run.words.values()))
-    same("answers", sorted([list(key) + [count] for key, count in run.words.items()]), sorted([[it["event"], it["answer"], it["count"]] for it in figures["answers"]]))
+    answers = {(it["event"], it["answer"]): it["count"] for it in figures["answers"]}
+    same("answers", dict(run.words), answers)
     if run.clock > figures["until_s"]:
         wrong.append(f"until_s: {figures['until_s']}, and the clock of the line is {run.clock}")
     same("join_tries", sum(count for (kind, _), count in run.words.items() if kind == "join"))
