@@ -135,7 +135,9 @@ def lies_between(least, said, most):
 
 
 def wrong_counts(lines, entries, last, status, figures, polled):
-    """Returns what is wrong with the counts of a run: its script, the entries and the last line of its report, the status of `run`, the figures of `measure`."""
+    """Returns what is wrong with the counts of a run, by its script, the entries and the last line of its report, the status of `run` and the figures of
+    `measure`.
+    """
     run, wrong = Counted(lines, entries, polled), []
 
     def same(name, expected, said=None):
