@@ -1,2 +1,4 @@
 mod Choices
 mod BesideSizes
+mod SealedCame
+mod Datagrams

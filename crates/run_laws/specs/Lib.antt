@@ -1,3 +1,4 @@
 pub mod Choices
 pub mod BesideSizes
+pub mod Datagrams
 pub mod RunLaws
