@@ -162,10 +162,10 @@ module _ (came : DatagramsCame) (flew : SendsFly) (delivered : DeliveriesHaveFat
         let j = still_joined network c.node c.octets c.got c.from false c.key c.path c.accepted in
         let k = keys number j.memory.station (at_station number c.node j.memory c.there j.there) j.granted j.ring in
         let so = comes_so network w x.event number c.octets c.comes c.node c.there (x.after, x.trace) step in
-        subst (λ (r : World × Trace). DeliveryFate network w.flights number u (note_under w x.event number u c) r.1.happenings.answer r.1.happenings.up r.0.flights)
-        so.1
-        (delivered network w number so.0 c.from c.node c.octets c.got j.now j.granted c.key k.0 mesh u (undiscovered c.node c.octets c.got c.accepted) c.accepted
-        c.path c.read of j.runs j.kept k.1)
+        let note = note_under w x.event number u c in
+        subst (λ (r : World × Trace). DeliveryFate network w.flights number u note r.1.happenings.answer r.1.happenings.up r.0.flights) so.1
+        (delivered network w number so.0 c.from c.node c.octets c.got j.now j.granted c.key k.0 mesh u (undiscovered c.node c.octets c.got c.accepted)
+        c.accepted c.path c.read of j.runs j.kept k.1)
 
     piece_moves : (number : ℕ) (mesh : Mesh) (piece : Placed) (c : UnitCame w x.event number (units.Part mesh piece)) → IsAt w number mesh.to
         → ArrivingFate number (begun mesh.origin piece (note_under w x.event number (units.Part mesh piece) c) w.clock) (placed piece) (x.after, x.trace)
@@ -176,8 +176,8 @@ module _ (came : DatagramsCame) (flew : SendsFly) (delivered : DeliveriesHaveFat
         let own : address_of j.now.station ≡ Some mesh.to =
         ap (option_map (λ (g : Granted). g.address)) (j.kept ∙ sym j.ring ∙ ap (λ (s : StationMemory). s.ring) (sym l)) ∙ at.2 in
         let so = comes_so network w x.event number c.octets c.comes c.node c.there (x.after, x.trace) step in
-        subst (λ (r : World × Trace). ArrivingFate number (begun mesh.origin piece (note_under w x.event number (units.Part mesh piece) c) w.clock) (placed piece) r)
-        so.1
+        let note = note_under w x.event number (units.Part mesh piece) c in
+        subst (λ (r : World × Trace). ArrivingFate number (begun mesh.origin piece note w.clock) (placed piece) r) so.1
         (arrive network w number so.0 c.from c.node c.octets c.got j.now c.key mesh piece c.there (undiscovered c.node c.octets c.got c.accepted) c.accepted
         c.path c.read j.runs own)
 

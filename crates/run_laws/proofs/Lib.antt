@@ -2,3 +2,4 @@ mod Choices
 mod BesideSizes
 mod SealedCame
 mod Datagrams
+mod OctetPlaces

@@ -63,7 +63,8 @@ pub record StillJoined (ciphers : Ciphers) (x : Node) (octets : List ℕ) : Type
   pub runs : (accepting ciphers x octets).node.memory ≡ Some now
   pub kept : now.station.ring ≡ Some granted
 
-module _ (ciphers : Ciphers) (x : Node) (octets : List ℕ) (got : Accepted) (from : ℕ) (all : Bool) (key : Key) (path : got.path ≡ paths.Sealed from all key) where
+module _ (ciphers : Ciphers) (x : Node) (octets : List ℕ) (got : Accepted) (from : ℕ) (all : Bool) (key : Key)
+    (path : got.path ≡ paths.Sealed from all key) where
   abbrev plan : Memory → Plan Memory (Result Accepted FrameRefusal)
   plan m = of_station m (accept m.station x.eui (arrived ciphers octets))
 

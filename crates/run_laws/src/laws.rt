@@ -2,9 +2,12 @@
 ghost use Rattle.run_laws.specs.Choices.{EveryChoiceIsRight};
 ghost use Rattle.run_laws.specs.BesideSizes.{TablesBesideKeepTheirSizes};
 ghost use Rattle.run_laws.specs.Datagrams.{EveryDatagramIsMoved};
+ghost use Rattle.run_laws.specs.OctetPlaces.{EveryOctetIsAtOnePlace};
 ghost use Rattle.run_laws.specs.RunLaws.{EveryRunIsLawful};
 
-use line_laws::{every_history_is_kept, every_log_is_kept, every_run_holds};
+use line_laws::{
+    every_history_is_kept, every_log_is_kept, every_run_holds, every_run_holds_throughout,
+};
 use line_progress::{
     datagrams_came, deliveries_have_fates, events_keep_bodies, events_keep_flights,
     events_keep_pieces, pieces_arrive, sends_fly,
@@ -47,6 +50,14 @@ pub fn every_datagram_is_moved()
     events_keep_flights();
 }
 
+/// In every run of the network, before its first forged event, over restarts and failed writes, after each event: no octet of a datagram that was sent is at
+/// two places at once, of those that were handed up, the flights that may still come, what waits for a route, and what is gathered.
+pub fn every_octet_is_at_one_place()
+    ensures { EveryOctetIsAtOnePlace }
+{
+    every_run_holds_throughout();
+}
+
 /// In every run of the network these laws hold.
 pub fn every_run_is_lawful()
     ensures { EveryRunIsLawful }
@@ -54,4 +65,5 @@ pub fn every_run_is_lawful()
     every_choice_is_right();
     tables_beside_keep_their_sizes();
     every_datagram_is_moved();
+    every_octet_is_at_one_place();
 }
