@@ -1,2 +1,5 @@
 mod Choices
 mod BesideSizes
+mod SealedCame
+mod Datagrams
+mod OctetPlaces

@@ -1,3 +1,5 @@
 pub mod Choices
 pub mod BesideSizes
+pub mod Datagrams
+pub mod OctetPlaces
 pub mod RunLaws

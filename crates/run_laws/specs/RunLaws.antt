@@ -2,13 +2,18 @@
 use Rattle.std.specs.Prelude.{All, List, []}
 use Rattle.node_rules.specs.Ciphers.{network}
 use Rattle.line_rules.specs.Runs.{Entry, IsLineRun}
+use Rattle.line_rules.specs.Worlds.{start}
 use Rattle.run_laws.specs.BesideSizes.{IsBesideSized}
 use Rattle.run_laws.specs.Choices.{AreChosenRightAfter}
+use Rattle.run_laws.specs.Datagrams.{MoveDatagrams}
+use Rattle.run_laws.specs.OctetPlaces.{StayAtOnePlaceAfter}
 
 -- What they say of a run, one by one.
 pub record IsLawful (entries : List Entry) : Type 0 where
   pub chosen : AreChosenRightAfter [] entries
   pub beside : All (λ (x : Entry). IsBesideSized x.after) entries
+  pub datagrams : MoveDatagrams start entries
+  pub places : StayAtOnePlaceAfter [] entries
 
 -- so it is of every run of the network
 abbrev pub EveryRunIsLawful : Type 0

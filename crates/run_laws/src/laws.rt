@@ -1,9 +1,17 @@
 //! Laws of runs: each stands as the contract of a function that does nothing.
 ghost use Rattle.run_laws.specs.Choices.{EveryChoiceIsRight};
 ghost use Rattle.run_laws.specs.BesideSizes.{TablesBesideKeepTheirSizes};
+ghost use Rattle.run_laws.specs.Datagrams.{EveryDatagramIsMoved};
+ghost use Rattle.run_laws.specs.OctetPlaces.{EveryOctetIsAtOnePlace};
 ghost use Rattle.run_laws.specs.RunLaws.{EveryRunIsLawful};
 
-use line_laws::{every_history_is_kept, every_log_is_kept};
+use line_laws::{
+    every_history_is_kept, every_log_is_kept, every_run_holds, every_run_holds_throughout,
+};
+use line_progress::{
+    datagrams_came, deliveries_have_fates, events_keep_bodies, events_keep_flights,
+    events_keep_pieces, pieces_arrive, sends_fly,
+};
 use line_rules::it_starts_with_nothing_further;
 use neighbour_checks::laws::at_most_64;
 
@@ -26,10 +34,36 @@ pub fn tables_beside_keep_their_sizes()
     at_most_64();
 }
 
+/// In every run of the network, forged or not, over restarts and failed writes, of each event: what it hands up was in the frame that came in it, and what
+/// it sends is in its flights or waits. A unit that comes is handed up, held, sent on or ends by the answer; what waits or is gathered stays so, goes on, or
+/// ends for a reason of a closed list; and a flight stays as it was, or is lost by `lose`.
+pub fn every_datagram_is_moved()
+    ensures { EveryDatagramIsMoved }
+{
+    every_run_holds();
+    datagrams_came();
+    sends_fly();
+    deliveries_have_fates();
+    pieces_arrive();
+    events_keep_bodies();
+    events_keep_pieces();
+    events_keep_flights();
+}
+
+/// In every run of the network, before its first forged event, over restarts and failed writes, after each event: no octet of a datagram that was sent is at
+/// two places at once, of those that were handed up, the flights that may still come, what waits for a route, and what is gathered.
+pub fn every_octet_is_at_one_place()
+    ensures { EveryOctetIsAtOnePlace }
+{
+    every_run_holds_throughout();
+}
+
 /// In every run of the network these laws hold.
 pub fn every_run_is_lawful()
     ensures { EveryRunIsLawful }
 {
     every_choice_is_right();
     tables_beside_keep_their_sizes();
+    every_datagram_is_moved();
+    every_octet_is_at_one_place();
 }

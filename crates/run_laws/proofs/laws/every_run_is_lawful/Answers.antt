@@ -5,4 +5,6 @@ pub returns : goal.returns
 returns c entries run = record {
   chosen = c.every_choice_is_right.ensures entries run;
   beside = c.tables_beside_keep_their_sizes.ensures entries run;
+  datagrams = c.every_datagram_is_moved.ensures entries run;
+  places = c.every_octet_is_at_one_place.ensures entries run;
 }
