@@ -83,7 +83,7 @@ pub fn kind_word(kind: PayloadKind) -> &'static str
 }
 
 /// Which message of EAP-PSK a packet is, by its type and the two highest bits of its flags (RFC 4764, 5.1).
-pub fn eap_kind(packet: &[u8]) -> PayloadKind
+fn eap_kind(packet: &[u8]) -> PayloadKind
     ensures { result ≡ eap_kind packet.now }
 {
     if packet.len() < 6 {
