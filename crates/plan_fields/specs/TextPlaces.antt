@@ -61,9 +61,9 @@ named name (Some rest) = is_followed name (codes "]") rest
 unfoldable pub names : List ℕ → List ℕ → Bool
 names line name = named name (name_after line)
 
--- whether a line gives a key
+-- whether a line gives a key, or a key of the table of that name
 unfoldable pub is_key : List ℕ → List ℕ → Bool
-is_key line key = is_followed key (codes "=") line
+is_key line key = is_followed key (codes "=") line || is_followed key (codes ".") line
 
 -- # A text
 
@@ -102,11 +102,12 @@ turned finder here is_named =
     let next = entered finder.search is_named in
     record { number = finder.number + 1; search = next; best = if is_inside next then here else finder.best }
 
--- after a line
+-- after a line; where the name is empty, as outside all tables, the key may be that of a table, with a header
 unfoldable pub line_step : List ℕ → List ℕ → Finder → List ℕ → Step
 line_step name key finder line =
     let here : TextPlace = record { line = finder.number; column = indent line + 1 } in
-    if opens (content line) then More (turned finder here (names (content line) name))
+    if opens (content line) then
+    (if length name == 0 && names (content line) key then Found here else More (turned finder here (names (content line) name)))
     else if is_inside finder.search && is_key (content line) key then Found here
     else More (record { number = finder.number + 1; search = finder.search; best = finder.best })
 

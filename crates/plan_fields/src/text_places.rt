@@ -92,13 +92,15 @@ fn names(line: &[u8], name: &[u8]) -> bool
     }
 }
 
-// Whether a line gives a key.
+// Whether a line gives a key, or a key of the table of that name.
 #[tactic(auto, unfolding(crate::specs::TextPlaces::is_key))]
 fn is_key(line: &[u8], key: &[u8]) -> bool
     ensures { result ≡ is_key line.now key.now }
 {
     match after(key, line) {
-        Some(rest) => after(b"=", content(rest)).is_some(),
+        Some(rest) => {
+            after(b"=", content(rest)).is_some() || after(b".", content(rest)).is_some()
+        }
         None => false,
     }
 }
@@ -179,7 +181,7 @@ fn turned(finder: Finder, here: TextPlace, is_named: bool) -> Finder
     }
 }
 
-// After a line.
+// After a line. A table is a key outside all tables, where the name is empty, and its header is the place of this key.
 #[tactic(auto, unfolding(crate::specs::TextPlaces::line_step, crate::specs::TextPlaces::turned))]
 fn line_step(finder: Finder, line: &[u8], name: &[u8], key: &[u8]) -> Step
     requires { finder.number ≤ 2 ^ 63 }
@@ -192,6 +194,9 @@ fn line_step(finder: Finder, line: &[u8], name: &[u8], key: &[u8]) -> Step
     };
     let content = content(line);
     if opens(content) {
+        if name.is_empty() && names(content, key) {
+            return Step::Found(here);
+        }
         return Step::More(turned(finder, here, names(content, name)));
     }
     if is_inside(finder.search) && is_key(content, key) {
@@ -204,8 +209,8 @@ fn line_step(finder: Finder, line: &[u8], name: &[u8], key: &[u8]) -> Step
     })
 }
 
-/// Where a key of a table stands: the first line of the table that gives it. Where there is none, as in a table that is written within a line or
-/// under a key in quotes, the header of the table, or the start of the text.
+/// Where a key of a table stands: the first line of the table that gives it, or of a key outside all tables, the header of a table of that name. Where there
+/// is none, as in a table that is written within a line or under a key in quotes, the header of the table, or the start of the text.
 pub fn place_of(text: &[u8], section: Section, key: &[u8]) -> TextPlace
     ensures { result ≡ place_of text.now section key.now }
 {

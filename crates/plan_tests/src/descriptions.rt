@@ -74,6 +74,18 @@ fn has_the_place_of_a_fault(rt: HostRuntime) -> Result<(), Fail> {
             "line 7, column 1: no key is called costs; the nearest is cost",
         ),
         (
+            "title = \"a\"\n[place]\nmeters = 2\n  [reading]\nevery = 3\n",
+            "line 4, column 3: no key is called reading; the nearest is readings",
+        ),
+        (
+            "title = \"a\"\nreading.every = 3\n[place]\nmeters = 2\n",
+            "line 2, column 1: no key is called reading; the nearest is readings",
+        ),
+        (
+            "[place]\nmeters = 2\n[at]\nat = 3\n",
+            "line 3, column 1: the value of at has to be tables [[at]]",
+        ),
+        (
             "title = \"a\\nb\"\n",
             "line 1, column 1: the value of title has to be one line of at most 200 octets",
         ),
