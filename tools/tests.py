@@ -64,6 +64,128 @@ class Deliveries(unittest.TestCase):
         self.assertNotIn("Traceback", errors)
 
 
+class FromCsv(unittest.TestCase):
+    MAPPING = """zone = "+01:00"
+[log]
+time = "time"
+meter = "meter"
+event = "event"
+detail = "detail"
+[words]
+read = "reading"
+lost = "unread"
+off = "power off"
+on = "power on"
+up = "joins"
+"moved *" = { is = "parent", detail = 'to (?P<node>\\S+) at (?P<lqi>\\d+)' }
+[coordinator]
+names = ["DCU"]
+"""
+    HEAD = "time,meter,event,detail\n"
+    READ = "2026-11-29 01:00:00,A,read,17\n"
+
+    def made(self, log, mapping=MAPPING, words=(), **others):
+        """Runs it over files of these texts. Returns its status, the lines that it wrote, and its errors with the folder taken out."""
+        with tempfile.TemporaryDirectory() as room:
+            for name, text in {"map.toml": mapping, "log.csv": log, **others}.items():
+                with open(f"{room}/{name}", "wb") as file:
+                    file.write(text if isinstance(text, bytes) else text.encode())
+            status, written, errors = ran("tools/from_csv", f"{room}/map.toml", f"{room}/log.csv", *words)
+            return status, written.split("\n")[:-1], errors.replace(f"{room}/", "")
+
+    def lines(self, *made, **others):
+        """What it writes of a log, without comments."""
+        status, written, errors = self.made(*made, **others)
+        self.assertEqual(status, 0, errors)
+        return [it for it in written if not it.startswith("#")]
+
+    def bad(self, said, *made, **others):
+        status, written, errors = self.made(*made, **others)
+        self.assertEqual((status, written), (1, []), errors)
+        self.assertNotIn("Traceback", errors)
+        self.assertIn(said, errors)
+
+    def test_a_log_becomes_a_sketch_that_plays(self):
+        status, written, errors = self.made(self.HEAD + self.READ + "2026-11-29 01:02:00,A,lost,\n")
+        self.assertEqual(status, 0)
+        self.assertIn("#@ clock 2026-11-29T01:00:00+01:00", written)
+        self.assertIn("#@ name 1 A", written)
+        self.assertIn("tick 120", written)
+        told = [it[len("from_csv: - ") :] for it in errors.split("\n") if it.startswith("from_csv: - ")]
+        self.assertEqual([f"# - {it}" for it in told], written[-len(told) :])
+        self.assertTrue(any("hear each other: nothing says who hears whom" in it for it in told))
+        self.assertTrue(any("a meter whose reading did not come sent it all the same" in it for it in told))
+        self.assertEqual(ran("tools/deliveries", text="\n".join(written) + "\n")[::2], (0, ""))
+
+    def test_the_same_log_gives_the_same_sketch(self):
+        self.assertEqual(self.made(self.HEAD + self.READ), self.made(self.HEAD + self.READ))
+
+    def test_joining_links_and_power(self):
+        log = self.HEAD + "2026-11-29 01:00:00,A,moved over,to DCU at 200\n2026-11-29 01:00:01,B,up,\n2026-11-29 01:00:02,B,moved over,to A at 9\n"
+        log += "2026-11-29 01:00:03,B,moved over,to DCU at 200\n2026-11-29 01:00:04,A,off,\n2026-11-29 01:00:05,A,on,\n"
+        lines = [it.rsplit(" ", 1)[0] if it.startswith(("rand", "coord", "meter")) else it for it in self.lines(log)]
+        kept = ["depot 1", "hears 0 1 1", "hears 1 2 1", "allow 2", "rand 0", "rand 2", "join 2 1", "tick 2", "break 2 1", "deaf 2 1", "hears 2 0 1"]
+        self.assertEqual(lines[3:], [*kept, "tick 1", "deaf 1 0", "tick 1", "restart 1", "hears 1 0 1"])
+
+    def test_a_reading_may_be_unheard_or_left_out(self):
+        log = self.HEAD + "2026-11-29 01:00:00,A,lost,\n"
+        unheard = self.lines(log, self.MAPPING + "[assume]\nunread = 'unheard'\n")
+        self.assertEqual([it.split()[0] for it in unheard], ["coordinator", "meter", "depot", "hears", "deaf", "send", "hears"])
+        self.assertEqual(len(self.lines(log, self.MAPPING + "[assume]\nunread = 'left out'\n")), 4)
+
+    def test_costs_follow_from_lqi(self):
+        links = "[links]\nfile = 'links.csv'\nlqi = 'lqi'\n[costs]\nlqi = [[200, 1], [100, 4]]\n"
+        table = {"links.csv": "meter,parent,lqi\nA,DCU,255\nB,A,100\n"}
+        self.assertEqual([it for it in self.lines(self.HEAD + self.READ, self.MAPPING + links, **table) if it[0] == "h"], ["hears 0 1 1", "hears 1 2 4"])
+        table["links.csv"] += "C,A,99\n"
+        self.bad("links.csv:4:3: the table [costs] lqi ends at 100", self.HEAD + self.READ, self.MAPPING + links, **table)
+
+    def test_a_part_of_the_time(self):
+        log = self.HEAD + self.READ + "2026-11-29 02:00:00,A,read,18\n2026-11-29 03:00:00,A,read,19\n"
+        lines = self.lines(log, words=["--from", "2026-11-29 01:30", "--to", "2026-11-29T01:30:00+00:00"])
+        self.assertEqual(len([it for it in lines if it.startswith("send")]), 1)
+
+    def test_rows_out_of_order_and_an_hour_that_is_there_twice(self):
+        log = self.HEAD + "2026-10-25 02:50:00,A,read,1\n2026-10-25 02:10:00,A,read,2\n2026-10-25 03:00:00,A,read,3\n"
+        self.assertEqual([it for it in self.lines(log) if it.startswith("tick")], ["tick 2400", "tick 600"])
+        vienna = self.lines(log, self.MAPPING.replace("+01:00", "Europe/Vienna"))
+        self.assertEqual([it for it in vienna if it.startswith("tick")], ["tick 1200", "tick 3000"])
+
+    def test_what_is_wrong_with_a_log_has_its_place(self):
+        self.bad("log.csv:3:1: `29.11.` is no time", self.HEAD + self.READ + "29.11.,A,read,1\n")
+        self.bad("log.csv:2:3: [words] of the mapping has no `reed`", self.HEAD + self.READ.replace("read", "reed"))
+        self.bad("log.csv:2:2: no meter is named here", self.HEAD + self.READ.replace(",A,", ",,"))
+        self.bad("log.csv:2:2: `reading` is of a meter", self.HEAD + self.READ.replace(",A,", ",DCU,"))
+        self.bad("log.csv:3: 3 fields, and the first row has 4", self.HEAD + self.READ + "2026-11-29 01:00:00,A,read\n")
+        self.bad("log.csv:2:4: `over` has not the form of", self.HEAD + self.READ.replace("read,17", "moved up,over"))
+        self.bad("log.csv:2: no CSV from here on", self.HEAD + '2026-11-29 01:00:00,A,"read,17\n')
+        self.bad("log.csv:2:4: octets that are no utf-8", (self.HEAD + self.READ).encode().replace(b"17", b"\xe4"))
+        self.bad("log.csv:1: it is empty", "")
+        self.bad("log.csv:1: no column is called `time`", "Time;meter;event;detail\n")
+        self.bad("log.csv:3: more than a year", self.HEAD + self.READ + self.READ.replace("2026", "1970"))
+        self.bad("log.csv:1001:2: `M1000` is meter 1000", self.HEAD + "".join(self.READ.replace("A", f"M{it}") for it in range(1, 1001)))
+        self.bad("and 5 more", self.HEAD + self.READ.replace("read", "reed") * 25)
+
+    def test_what_is_wrong_with_a_mapping_has_its_place(self):
+        for said, old, new in (
+            ("map.toml:1:8: ", 'zone = "+01:00"', "zone = +"),
+            ("map.toml:1:1: `Nowhere/There` is no zone", "+01:00", "Nowhere/There"),
+            ("map.toml:3:1: no key of [log] is called `tim`; did you mean `time`?", 'time = "time"', 'tim = "time"'),
+            ("map.toml:2:1: [log] has to name the column of the time", 'time = "time"\n', ""),
+            ("map.toml:8:1: a word is one of: reading,", '"reading"', '"redding"'),
+            ("map.toml:13:1: the pattern of the detail has no meaning", "(?P<node>", "(?P<node"),
+            ("map.toml:14:1: no table or key is called `coordinators`", "[coordinator]", "[coordinators]"),
+            ("map.toml:15:1: `names` is a list", '["DCU"]', '"DCU"'),
+        ):
+            self.assertIn(old, self.MAPPING)
+            self.bad(said, self.HEAD + self.READ, self.MAPPING.replace(old, new))
+
+    def test_files_that_are_not_there_and_other_words(self):
+        status, _, errors = ran("tools/from_csv", "/nowhere/map.toml", "/nowhere/log.csv")
+        self.assertEqual((status, errors), (1, "from_csv: /nowhere/map.toml: No such file or directory\n"))
+        self.assertEqual(ran("tools/from_csv", "one")[0], 2)
+
+
 class Program(unittest.TestCase):
     NAMES = ("line_replay", "line_view", "line_sim")
 
